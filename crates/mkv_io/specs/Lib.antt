@@ -1,0 +1,6 @@
+pub mod Contents
+pub mod Faults
+pub mod Lines
+pub mod LiveFiles
+pub mod Names
+pub mod Told

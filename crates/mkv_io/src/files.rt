@@ -1,0 +1,134 @@
+//! Files that are opened by name, made, and written.
+
+ghost use Rattle.std.specs.Prelude.{◌≡◌, ◌≢◌, ◌⊎◌, ◌↔◌, ℕ, ◌+◌, ◌<◌, ◌≤◌, ◌^◌, Bool, true, false, List, [], length, Option, Some, None, OnOk, OnErr, IfOk, IsErrOf, IsErr, IsTrue};
+ghost use Rattle.mkv_io.specs.Faults.{HasCause, HasMakeCause, HasOpenCause, last_count};
+ghost use Rattle.mkv_io.specs.LiveFiles.{Appends, AppendsPart, KeepsFiles, KeepsHolders, Overwrites, OverwritesWithin};
+ghost use Rattle.mkv_io.specs.Names.{Names, with_change, with_content};
+ghost use Rattle.mkv_io.specs.Told.{Told};
+
+use crate::reads::Reads;
+use mkv_values::{Failed, FileId, MakeFault, OpenFault};
+
+/// Files with names. A name has a content; a live file is one that was opened under a name, and
+/// its content is that name's.
+pub trait Files: Reads {
+    /// The content of every name, where it is told.
+    ghost names: { Self → Names };
+
+    /// The name under which a live file was opened.
+    ghost holder: { Self → ℕ → List ℕ };
+
+    /// Every number below this one was given to a file or passed over, and none is given twice.
+    ghost given: { Self → ℕ };
+
+    /// How often making or writing failed.
+    ghost writing_faults: { Self → ℕ };
+
+    /// Opens the file of a name.
+    fn open_file(&mut self, name: &str) -> Result<FileId, OpenFault>
+        ensures missing { Told (names self.old) (λ world. IsErrOf result OpenFault.Missing ↔ (world name.now ≡ None)) }
+        ensures number { IfOk result (λ file. (given self.old ≤ file.n) × (file.n < given self.new)) }
+        ensures live { IfOk result (λ file. IsTrue (Self.live (Self.standing self.new) file.n)) }
+        ensures holder { IfOk result (λ file. holder self.new file.n ≡ name.now) }
+        ensures content { IfOk result (λ file. Told (names self.old) (λ world. Self.content (Self.standing self.new) file.n ≡ world name.now)) }
+
+        // Names and the other files stay, and a refusal leaves everything but the count of faults.
+        ensures err { OnErr result (Self.standing self.new ≡ Self.standing self.old) }
+        ensures names { names self.new ≡ names self.old }
+        ensures others { KeepsFiles Self.live Self.size_of Self.content (Self.standing self.old) (Self.standing self.new) (λ file. file < given self.old) }
+        ensures holders { KeepsHolders (Self.live (Self.standing self.old)) (holder self.old) (holder self.new) }
+
+        ensures cause { HasOpenCause (Self.reading_faults self.old) (Self.reading_faults self.new) result }
+        ensures writing { writing_faults self.new ≡ writing_faults self.old }
+        ensures octets { Self.octets_read self.new ≡ Self.octets_read self.old };
+
+    /// Makes the content of a name empty, whatever it was, and opens it. After a refusal the
+    /// content is as before or empty.
+    fn create(&mut self, name: &str) -> Result<FileId, MakeFault>
+        ensures number { IfOk result (λ file. (given self.old ≤ file.n) × (file.n < given self.new)) }
+        ensures live { IfOk result (λ file. IsTrue (Self.live (Self.standing self.new) file.n)) }
+        ensures holder { IfOk result (λ file. holder self.new file.n ≡ name.now) }
+        ensures size { IfOk result (λ file. Self.size_of (Self.standing self.new) file.n ≡ 0) }
+        ensures ok { OnOk result (names self.new ≡ with_content (names self.old) name.now []) }
+
+        // After want of memory everything is as before.
+        ensures err { OnErr result ((names self.new ≡ names self.old) ⊎ (names self.new ≡ with_content (names self.old) name.now [])) }
+        ensures memory { IsErrOf result MakeFault.Memory → Self.standing self.new ≡ Self.standing self.old }
+        ensures given { given self.old ≤ given self.new }
+        ensures alive { (file : ℕ) → file < given self.old → Self.live (Self.standing self.new) file ≡ Self.live (Self.standing self.old) file }
+        ensures others { KeepsFiles Self.live Self.size_of Self.content (Self.standing self.old) (Self.standing self.new) (λ file. (file < given self.old) × (holder self.old file ≢ name.now)) }
+        ensures holders { KeepsHolders (Self.live (Self.standing self.old)) (holder self.old) (holder self.new) }
+
+        ensures cause { HasMakeCause (writing_faults self.old) (writing_faults self.new) result }
+        ensures reading { Self.reading_faults self.new ≡ Self.reading_faults self.old }
+        ensures octets { Self.octets_read self.new ≡ Self.octets_read self.old };
+
+    /// Adds octets at the end of a live file. After `Failed` a first part of them is there.
+    fn append(&mut self, file: FileId, bytes: &[u8]) -> Result<(), MakeFault>
+        requires { IsTrue (Self.live (Self.standing self.old) file.n) }
+        ensures ok { OnOk result (Appends Self.size_of Self.content (Self.standing self.old) (Self.standing self.new) (names self.old) (names self.new) file.n (holder self.old file.n) bytes.now) }
+        ensures failed { IsErrOf result MakeFault.Failed → AppendsPart Self.size_of Self.content (Self.standing self.old) (Self.standing self.new) (names self.old) (names self.new) file.n (holder self.old file.n) bytes.now }
+        ensures memory { IsErrOf result MakeFault.Memory → Self.standing self.new ≡ Self.standing self.old }
+
+        // No file grows past 2^48 octets.
+        ensures short { 2 ^ 48 < Self.size_of (Self.standing self.old) file.n + length bytes.now → IsErr result }
+
+        // The live files stay live, and those of other names stay as they were.
+        ensures given { given self.new ≡ given self.old }
+        ensures alive { (other : ℕ) → Self.live (Self.standing self.new) other ≡ Self.live (Self.standing self.old) other }
+        ensures others { KeepsFiles Self.live Self.size_of Self.content (Self.standing self.old) (Self.standing self.new) (λ other. holder self.old other ≢ holder self.old file.n) }
+        ensures holders { KeepsHolders (Self.live (Self.standing self.old)) (holder self.old) (holder self.new) }
+
+        ensures cause { HasMakeCause (writing_faults self.old) (writing_faults self.new) result }
+        ensures reading { Self.reading_faults self.new ≡ Self.reading_faults self.old }
+        ensures octets { Self.octets_read self.new ≡ Self.octets_read self.old };
+
+    /// Writes octets over those of a live file, from `at` octets behind its first on. After
+    /// `Failed` those of the range may be anything.
+    fn overwrite(&mut self, file: FileId, at: u64, bytes: &[u8]) -> Result<(), Failed>
+        requires live { IsTrue (Self.live (Self.standing self.old) file.n) }
+        requires range { at + length bytes.now ≤ Self.size_of (Self.standing self.old) file.n }
+        ensures ok { OnOk result (Overwrites Self.size_of Self.content (Self.standing self.old) (Self.standing self.new) (names self.old) (names self.new) file.n (holder self.old file.n) at bytes.now) }
+        ensures err { OnErr result (OverwritesWithin Self.size_of Self.content (Self.standing self.old) (Self.standing self.new) (names self.old) (names self.new) file.n (holder self.old file.n) at (length bytes.now)) }
+
+        // The live files stay live, and those of other names stay as they were.
+        ensures given { given self.new ≡ given self.old }
+        ensures alive { (other : ℕ) → Self.live (Self.standing self.new) other ≡ Self.live (Self.standing self.old) other }
+        ensures others { KeepsFiles Self.live Self.size_of Self.content (Self.standing self.old) (Self.standing self.new) (λ other. holder self.old other ≢ holder self.old file.n) }
+        ensures holders { KeepsHolders (Self.live (Self.standing self.old)) (holder self.old) (holder self.new) }
+
+        ensures cause { HasCause (writing_faults self.old) (writing_faults self.new) result }
+        ensures reading { Self.reading_faults self.new ≡ Self.reading_faults self.old }
+        ensures octets { Self.octets_read self.new ≡ Self.octets_read self.old };
+
+    /// Ends a live file. The content of its name stays.
+    fn close(&mut self, file: FileId)
+        requires { IsTrue (Self.live (Self.standing self.old) file.n) }
+        ensures ended { Self.live (Self.standing self.new) file.n ≡ false }
+        ensures names { names self.new ≡ names self.old }
+        ensures given { given self.new ≡ given self.old }
+        ensures others { KeepsFiles Self.live Self.size_of Self.content (Self.standing self.old) (Self.standing self.new) (λ other. other ≢ file.n) }
+        ensures holders { KeepsHolders (Self.live (Self.standing self.new)) (holder self.old) (holder self.new) }
+
+        ensures writing { writing_faults self.new ≡ writing_faults self.old }
+        ensures reading { Self.reading_faults self.new ≡ Self.reading_faults self.old }
+        ensures octets { Self.octets_read self.new ≡ Self.octets_read self.old };
+
+    /// Where the names are told, a live file's content is that of the name under which it was opened.
+    ghost held: { (x : Self) (file : ℕ) → Self.Reads.live (Self.Reads.standing x) file ≡ true → Told (names x) (λ world. Self.Reads.content (Self.Reads.standing x) file ≡ world (holder x file)) };
+
+    /// A live file's number was given to it.
+    ghost numbered: { (x : Self) (file : ℕ) → Self.Reads.live (Self.Reads.standing x) file ≡ true → file < given x };
+
+    /// At the last number no file is opened or made any more.
+    ghost last: { (x : Self) → given x ≤ last_count };
+
+    // Names, holders, numbers and writing faults are functions of what reading leaves.
+    ghost names_stand: { (a b : Self) → Self.Reads.standing a ≡ Self.Reads.standing b → names a ≡ names b };
+
+    ghost holders_stand: { (a b : Self) → Self.Reads.standing a ≡ Self.Reads.standing b → (file : ℕ) → holder a file ≡ holder b file };
+
+    ghost given_stands: { (a b : Self) → Self.Reads.standing a ≡ Self.Reads.standing b → given a ≡ given b };
+
+    ghost writing_stands: { (a b : Self) → Self.Reads.standing a ≡ Self.Reads.standing b → writing_faults a ≡ writing_faults b };
+}

@@ -1,0 +1,22 @@
+//! Lines that are told to the user.
+
+ghost use Rattle.std.specs.Prelude.{◌≡◌, ◌⊎◌, ℕ, List, ◌∷◌, [], Option, OnOk, OnErr};
+ghost use Rattle.mkv_io.specs.Faults.{HasCause};
+ghost use Rattle.mkv_io.specs.Lines.{with_lines};
+
+use mkv_values::Failed;
+
+/// A report, to which lines are added. It takes no memory for them.
+pub trait Report {
+    /// The lines so far, each without its line end, where they are told.
+    ghost lines: { Self → Option (List (List ℕ)) };
+
+    /// How often a line couldn't be told.
+    ghost faults: { Self → ℕ };
+
+    /// Adds a line. After a refusal it is there or not.
+    fn say(&mut self, line: &str) -> Result<(), Failed>
+        ensures ok { OnOk result (lines self.new ≡ with_lines (lines self.old) (line.now ∷ [])) }
+        ensures err { OnErr result ((lines self.new ≡ lines self.old) ⊎ (lines self.new ≡ with_lines (lines self.old) (line.now ∷ []))) }
+        ensures cause { HasCause (faults self.old) (faults self.new) result };
+}
