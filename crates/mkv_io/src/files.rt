@@ -28,15 +28,15 @@ pub trait Files: Reads {
     fn open_file(&mut self, name: &str) -> Result<FileId, OpenFault>
         ensures missing { Told (names self.old) (λ world. IsErrOf result OpenFault.Missing ↔ (world name.now ≡ None)) }
         ensures number { IfOk result (λ file. (given self.old ≤ file.n) × (file.n < given self.new)) }
-        ensures live { IfOk result (λ file. IsTrue (Self.live (Self.standing self.new) file.n)) }
+        ensures live { IfOk result (λ file. IsTrue ((Self.files (Self.standing self.new)).live file.n)) }
         ensures holder { IfOk result (λ file. holder self.new file.n ≡ name.now) }
-        ensures content { IfOk result (λ file. Told (names self.old) (λ world. Self.content (Self.standing self.new) file.n ≡ world name.now)) }
+        ensures content { IfOk result (λ file. Told (names self.old) (λ world. (Self.files (Self.standing self.new)).content file.n ≡ world name.now)) }
 
         // Names and the other files stay, and a refusal leaves everything but the count of faults.
         ensures err { OnErr result (Self.standing self.new ≡ Self.standing self.old) }
         ensures names { names self.new ≡ names self.old }
-        ensures others { KeepsFiles Self.live Self.size_of Self.content (Self.standing self.old) (Self.standing self.new) (λ file. file < given self.old) }
-        ensures holders { KeepsHolders (Self.live (Self.standing self.old)) (holder self.old) (holder self.new) }
+        ensures others { KeepsFiles (Self.files (Self.standing self.old)) (Self.files (Self.standing self.new)) (λ file. file < given self.old) }
+        ensures holders { KeepsHolders (Self.files (Self.standing self.old)).live (holder self.old) (holder self.new) }
 
         ensures cause { HasOpenCause (Self.reading_faults self.old) (Self.reading_faults self.new) result }
         ensures writing { writing_faults self.new ≡ writing_faults self.old }
@@ -46,18 +46,18 @@ pub trait Files: Reads {
     /// content is as before or empty.
     fn create(&mut self, name: &str) -> Result<FileId, MakeFault>
         ensures number { IfOk result (λ file. (given self.old ≤ file.n) × (file.n < given self.new)) }
-        ensures live { IfOk result (λ file. IsTrue (Self.live (Self.standing self.new) file.n)) }
+        ensures live { IfOk result (λ file. IsTrue ((Self.files (Self.standing self.new)).live file.n)) }
         ensures holder { IfOk result (λ file. holder self.new file.n ≡ name.now) }
-        ensures size { IfOk result (λ file. Self.size_of (Self.standing self.new) file.n ≡ 0) }
+        ensures size { IfOk result (λ file. (Self.files (Self.standing self.new)).size file.n ≡ 0) }
         ensures ok { OnOk result (names self.new ≡ with_content (names self.old) name.now []) }
 
         // After want of memory everything is as before.
         ensures err { OnErr result ((names self.new ≡ names self.old) ⊎ (names self.new ≡ with_content (names self.old) name.now [])) }
         ensures memory { IsErrOf result MakeFault.Memory → Self.standing self.new ≡ Self.standing self.old }
         ensures given { given self.old ≤ given self.new }
-        ensures alive { (file : ℕ) → file < given self.old → Self.live (Self.standing self.new) file ≡ Self.live (Self.standing self.old) file }
-        ensures others { KeepsFiles Self.live Self.size_of Self.content (Self.standing self.old) (Self.standing self.new) (λ file. (file < given self.old) × (holder self.old file ≢ name.now)) }
-        ensures holders { KeepsHolders (Self.live (Self.standing self.old)) (holder self.old) (holder self.new) }
+        ensures alive { (file : ℕ) → file < given self.old → (Self.files (Self.standing self.new)).live file ≡ (Self.files (Self.standing self.old)).live file }
+        ensures others { KeepsFiles (Self.files (Self.standing self.old)) (Self.files (Self.standing self.new)) (λ file. (file < given self.old) × (holder self.old file ≢ name.now)) }
+        ensures holders { KeepsHolders (Self.files (Self.standing self.old)).live (holder self.old) (holder self.new) }
 
         ensures cause { HasMakeCause (writing_faults self.old) (writing_faults self.new) result }
         ensures reading { Self.reading_faults self.new ≡ Self.reading_faults self.old }
@@ -65,19 +65,19 @@ pub trait Files: Reads {
 
     /// Adds octets at the end of a live file. After `Failed` a first part of them is there.
     fn append(&mut self, file: FileId, bytes: &[u8]) -> Result<(), MakeFault>
-        requires { IsTrue (Self.live (Self.standing self.old) file.n) }
-        ensures ok { OnOk result (Appends Self.size_of Self.content (Self.standing self.old) (Self.standing self.new) (names self.old) (names self.new) file.n (holder self.old file.n) bytes.now) }
-        ensures failed { IsErrOf result MakeFault.Failed → AppendsPart Self.size_of Self.content (Self.standing self.old) (Self.standing self.new) (names self.old) (names self.new) file.n (holder self.old file.n) bytes.now }
+        requires { IsTrue ((Self.files (Self.standing self.old)).live file.n) }
+        ensures ok { OnOk result (Appends (Self.files (Self.standing self.old)) (Self.files (Self.standing self.new)) (names self.old) (names self.new) file.n (holder self.old file.n) bytes.now) }
+        ensures failed { IsErrOf result MakeFault.Failed → AppendsPart (Self.files (Self.standing self.old)) (Self.files (Self.standing self.new)) (names self.old) (names self.new) file.n (holder self.old file.n) bytes.now }
         ensures memory { IsErrOf result MakeFault.Memory → Self.standing self.new ≡ Self.standing self.old }
 
         // No file grows past 2^48 octets.
-        ensures short { 2 ^ 48 < Self.size_of (Self.standing self.old) file.n + length bytes.now → IsErr result }
+        ensures short { 2 ^ 48 < (Self.files (Self.standing self.old)).size file.n + length bytes.now → IsErr result }
 
         // The live files stay live, and those of other names stay as they were.
         ensures given { given self.new ≡ given self.old }
-        ensures alive { (other : ℕ) → Self.live (Self.standing self.new) other ≡ Self.live (Self.standing self.old) other }
-        ensures others { KeepsFiles Self.live Self.size_of Self.content (Self.standing self.old) (Self.standing self.new) (λ other. holder self.old other ≢ holder self.old file.n) }
-        ensures holders { KeepsHolders (Self.live (Self.standing self.old)) (holder self.old) (holder self.new) }
+        ensures alive { (other : ℕ) → (Self.files (Self.standing self.new)).live other ≡ (Self.files (Self.standing self.old)).live other }
+        ensures others { KeepsFiles (Self.files (Self.standing self.old)) (Self.files (Self.standing self.new)) (λ other. holder self.old other ≢ holder self.old file.n) }
+        ensures holders { KeepsHolders (Self.files (Self.standing self.old)).live (holder self.old) (holder self.new) }
 
         ensures cause { HasMakeCause (writing_faults self.old) (writing_faults self.new) result }
         ensures reading { Self.reading_faults self.new ≡ Self.reading_faults self.old }
@@ -86,16 +86,16 @@ pub trait Files: Reads {
     /// Writes octets over those of a live file, from `at` octets behind its first on. After
     /// `Failed` those of the range may be anything.
     fn overwrite(&mut self, file: FileId, at: u64, bytes: &[u8]) -> Result<(), Failed>
-        requires live { IsTrue (Self.live (Self.standing self.old) file.n) }
-        requires range { at + length bytes.now ≤ Self.size_of (Self.standing self.old) file.n }
-        ensures ok { OnOk result (Overwrites Self.size_of Self.content (Self.standing self.old) (Self.standing self.new) (names self.old) (names self.new) file.n (holder self.old file.n) at bytes.now) }
-        ensures err { OnErr result (OverwritesWithin Self.size_of Self.content (Self.standing self.old) (Self.standing self.new) (names self.old) (names self.new) file.n (holder self.old file.n) at (length bytes.now)) }
+        requires live { IsTrue ((Self.files (Self.standing self.old)).live file.n) }
+        requires range { at + length bytes.now ≤ (Self.files (Self.standing self.old)).size file.n }
+        ensures ok { OnOk result (Overwrites (Self.files (Self.standing self.old)) (Self.files (Self.standing self.new)) (names self.old) (names self.new) file.n (holder self.old file.n) at bytes.now) }
+        ensures err { OnErr result (OverwritesWithin (Self.files (Self.standing self.old)) (Self.files (Self.standing self.new)) (names self.old) (names self.new) file.n (holder self.old file.n) at (length bytes.now)) }
 
         // The live files stay live, and those of other names stay as they were.
         ensures given { given self.new ≡ given self.old }
-        ensures alive { (other : ℕ) → Self.live (Self.standing self.new) other ≡ Self.live (Self.standing self.old) other }
-        ensures others { KeepsFiles Self.live Self.size_of Self.content (Self.standing self.old) (Self.standing self.new) (λ other. holder self.old other ≢ holder self.old file.n) }
-        ensures holders { KeepsHolders (Self.live (Self.standing self.old)) (holder self.old) (holder self.new) }
+        ensures alive { (other : ℕ) → (Self.files (Self.standing self.new)).live other ≡ (Self.files (Self.standing self.old)).live other }
+        ensures others { KeepsFiles (Self.files (Self.standing self.old)) (Self.files (Self.standing self.new)) (λ other. holder self.old other ≢ holder self.old file.n) }
+        ensures holders { KeepsHolders (Self.files (Self.standing self.old)).live (holder self.old) (holder self.new) }
 
         ensures cause { HasCause (writing_faults self.old) (writing_faults self.new) result }
         ensures reading { Self.reading_faults self.new ≡ Self.reading_faults self.old }
@@ -103,22 +103,22 @@ pub trait Files: Reads {
 
     /// Ends a live file. The content of its name stays.
     fn close(&mut self, file: FileId)
-        requires { IsTrue (Self.live (Self.standing self.old) file.n) }
-        ensures ended { Self.live (Self.standing self.new) file.n ≡ false }
+        requires { IsTrue ((Self.files (Self.standing self.old)).live file.n) }
+        ensures ended { (Self.files (Self.standing self.new)).live file.n ≡ false }
         ensures names { names self.new ≡ names self.old }
         ensures given { given self.new ≡ given self.old }
-        ensures others { KeepsFiles Self.live Self.size_of Self.content (Self.standing self.old) (Self.standing self.new) (λ other. other ≢ file.n) }
-        ensures holders { KeepsHolders (Self.live (Self.standing self.new)) (holder self.old) (holder self.new) }
+        ensures others { KeepsFiles (Self.files (Self.standing self.old)) (Self.files (Self.standing self.new)) (λ other. other ≢ file.n) }
+        ensures holders { KeepsHolders (Self.files (Self.standing self.new)).live (holder self.old) (holder self.new) }
 
         ensures writing { writing_faults self.new ≡ writing_faults self.old }
         ensures reading { Self.reading_faults self.new ≡ Self.reading_faults self.old }
         ensures octets { Self.octets_read self.new ≡ Self.octets_read self.old };
 
     /// Where the names are told, a live file's content is that of the name under which it was opened.
-    ghost held: { (x : Self) (file : ℕ) → Self.Reads.live (Self.Reads.standing x) file ≡ true → Told (names x) (λ world. Self.Reads.content (Self.Reads.standing x) file ≡ world (holder x file)) };
+    ghost held: { (x : Self) (file : ℕ) → (Self.Reads.files (Self.Reads.standing x)).live file ≡ true → Told (names x) (λ world. (Self.Reads.files (Self.Reads.standing x)).content file ≡ world (holder x file)) };
 
     /// A live file's number was given to it.
-    ghost numbered: { (x : Self) (file : ℕ) → Self.Reads.live (Self.Reads.standing x) file ≡ true → file < given x };
+    ghost numbered: { (x : Self) (file : ℕ) → (Self.Reads.files (Self.Reads.standing x)).live file ≡ true → file < given x };
 
     /// At the last number no file is opened or made any more.
     ghost last: { (x : Self) → given x ≤ last_count };

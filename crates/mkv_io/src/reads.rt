@@ -3,6 +3,7 @@
 ghost use Rattle.std.specs.Prelude.{◌≡◌, ℕ, ◌+◌, ◌≤◌, ◌^◌, Bool, true, List, length, Option, OnOk, IsTrue};
 ghost use Rattle.mkv_io.specs.Contents.{octets_from};
 ghost use Rattle.mkv_io.specs.Faults.{HasCause, counted};
+ghost use Rattle.mkv_io.specs.LiveFiles.{LiveFiles};
 ghost use Rattle.mkv_io.specs.Told.{Told};
 
 use mkv_values::{Failed, FileId};
@@ -18,14 +19,8 @@ pub trait Reads {
 
     ghost standing: { Self → Standing };
 
-    /// Whether the file of a number is live.
-    ghost live: { Standing → ℕ → Bool };
-
-    /// A live file's length in octets.
-    ghost size_of: { Standing → ℕ → ℕ };
-
-    /// A live file's octets, where they are told.
-    ghost content: { Standing → ℕ → Option (List ℕ) };
+    /// Which files are live, their lengths in octets, and their contents where they are told.
+    ghost files: { Standing → LiveFiles };
 
     /// How often opening or reading failed.
     ghost reading_faults: { Self → ℕ };
@@ -35,26 +30,26 @@ pub trait Reads {
 
     /// A live file's length in octets.
     fn size(&self, file: FileId) -> u64
-        requires { IsTrue (live (standing self.now) file.n) }
-        ensures exact { result ≡ size_of (standing self.now) file.n }
+        requires { IsTrue ((files (standing self.now)).live file.n) }
+        ensures exact { result ≡ (files (standing self.now)).size file.n }
         ensures most { result ≤ 2 ^ 48 };
 
     /// Reads as many octets as `into` holds, from `at` octets behind the file's first on.
     fn read_at(&mut self, file: FileId, at: u64, into: &mut [u8]) -> Result<(), Failed>
-        requires live { IsTrue (live (standing self.old) file.n) }
-        requires range { at + length into.old ≤ size_of (standing self.old) file.n }
+        requires live { IsTrue ((files (standing self.old)).live file.n) }
+        requires range { at + length into.old ≤ (files (standing self.old)).size file.n }
         ensures standing { standing self.new ≡ standing self.old }
-        ensures ok { OnOk result (Told (content (standing self.old) file.n) (λ bytes. into.new ≡ octets_from bytes at (length into.old))) }
+        ensures ok { OnOk result (Told ((files (standing self.old)).content file.n) (λ bytes. into.new ≡ octets_from bytes at (length into.old))) }
         ensures cause { HasCause (reading_faults self.old) (reading_faults self.new) result }
 
         // The count of octets never falls, and rises by what was asked for where the content is told.
         ensures octets_least { octets_read self.old ≤ octets_read self.new }
         ensures octets_most { octets_read self.new ≤ octets_read self.old + length into.old }
-        ensures octets { OnOk result (Told (content (standing self.old) file.n) (λ _. octets_read self.new ≡ counted (octets_read self.old) (length into.old))) };
+        ensures octets { OnOk result (Told ((files (standing self.old)).content file.n) (λ _. octets_read self.new ≡ counted (octets_read self.old) (length into.old))) };
 
     /// A content that is told has the file's length.
-    ghost told_size: { (s : Standing) (file : ℕ) → Told (content s file) (λ bytes. length bytes ≡ size_of s file) };
+    ghost told_size: { (s : Standing) (file : ℕ) → Told ((files s).content file) (λ bytes. length bytes ≡ (files s).size file) };
 
     /// No live file is longer than 2^48 octets.
-    ghost short: { (x : Self) (file : ℕ) → live (standing x) file ≡ true → size_of (standing x) file ≤ 2 ^ 48 };
+    ghost short: { (x : Self) (file : ℕ) → (files (standing x)).live file ≡ true → (files (standing x)).size file ≤ 2 ^ 48 };
 }

@@ -1,7 +1,6 @@
 //! Octets and text in memory, which contracts see as lists of octets.
 
-ghost use Rattle.std.specs.Prelude.{◌≡◌, [], ◌++◌, length, OnOk, OnErr, IsTrue, ◌↔◌};
-ghost use Rattle.std.specs.Vec.{vec_capacity};
+ghost use Rattle.std.specs.Prelude.{◌≡◌, ◌+◌, ◌≤◌, [], ◌++◌, length, take, drop, OnOk, OnErr, IsTrue, ◌↔◌};
 ghost use Rattle.std.specs.String.{string_bytes};
 ghost use Rattle.std.specs.Str.{IsUtf8};
 
@@ -70,6 +69,14 @@ impl Bytes {
         ensures err { OnErr result (self.new ≡ self.old) }
     {
         self.octets.extend_from_slice(bytes)
+    }
+
+    /// Writes octets over as many others, from `at` octets behind the first on.
+    pub fn overwrite(&mut self, at: usize, bytes: &[u8])
+        requires { at + length bytes.now ≤ length self.old }
+        ensures { self.new ≡ take at self.old ++ (bytes.now ++ drop (at + length bytes.now) self.old) }
+    {
+        self.octets[at..at + bytes.len()].copy_from_slice(bytes);
     }
 }
 

@@ -1,0 +1,284 @@
+-- One name's content changes: what becomes of the live files, and of what always holds.
+use Rattle.std.proofs.lemmas.Grind.{common_steps}
+use Rattle.mkv_io.specs.Contents.{overwritten, with_appended, with_overwritten}
+use Rattle.std.proofs.Common.{Result, Ok, Err, OnOk, OnErr, length-append, ◌≡◌, ◌≢◌, ℕ, zero, suc, ◌+◌, ◌<◌, ◌≤◌, ◌^◌, List, [], ◌∷◌, ◌++◌, length, take, drop, Option, Some, None, Bool, true, false, is_some, unwrap_or, option_and_then, option_map, if◌then◌else◌, refl, sym, ◌∙◌, ap, subst, get_or, arith}
+use Rattle.std.specs.Str.{bytes_eq}
+use Rattle.std.proofs.lemmas.Slice.Eq.{bytes_eq-Decides}
+use Rattle.std.proofs.lemmas.List.{get_or_append_left, take-append-drop, drop-drop}
+use Rattle.std.proofs.Math.Seq.{get_or-append_seam}
+use Rattle.mkv_io.specs.Names.{changed_at}
+use Rattle.mkv_io.specs.LiveFiles.{IsSameFile, ChangesFile, OverwritesWithin}
+use Rattle.mkv_memory.specs.Held.{Held, World, AreShort, AreThere, ChangesHeld, is_there, files_of, holder_of, content_of_file, name_of_file, held-live}
+use Rattle.mkv_memory.proofs.NamesLemmas.{same_world}
+
+-- ---- a changed name, and the others
+
+-- the content of the name is what the change makes of it
+pub changed_at-same : (world : World) (name : List ℕ) (change : Option (List ℕ) → Option (List ℕ)) → changed_at name change world name ≡ change (world name)
+changed_at-same world name change = step (bytes_eq name name) ((bytes_eq-Decides name name).1 refl)
+  where
+    step : (same : Bool) → same ≡ true → (if same then change (world name) else world name) ≡ change (world name)
+    step true is = refl
+    step false is = cc
+
+-- the content of any other name stays
+pub changed_at-other : (world : World) (name other : List ℕ) (change : Option (List ℕ) → Option (List ℕ)) → other ≢ name → changed_at name change world other ≡ world other
+changed_at-other world name other change differs = step (bytes_eq name other) (bytes_eq-Decides name other).0
+  where
+    step : (same : Bool) → (same ≡ true → name ≡ other) → (if same then change (world other) else world other) ≡ world other
+    step true is = absurd (differs (sym (is refl)))
+    step false is = refl
+
+-- a change that leaves the name's content leaves all
+pub changed_at-nothing : (world : World) (name : List ℕ) (change : Option (List ℕ) → Option (List ℕ)) → change (world name) ≡ world name → changed_at name change world ≡ world
+changed_at-nothing world name change same = same_world _ _ (λ other. step other (bytes_eq name other) (bytes_eq-Decides name other).0)
+  where
+    step : (other : List ℕ) (is_name : Bool) → (is_name ≡ true → name ≡ other) → (if is_name then change (world other) else world other) ≡ world other
+    step other true is = let P : List ℕ → Type 0 = λ each. change (world each) ≡ world each in subst P (is refl) same
+    step other false is = refl
+
+-- ---- what always holds
+
+-- contents stay short where the changed one is
+pub AreShort-changed : (world : World) (name : List ℕ) (change : Option (List ℕ) → Option (List ℕ)) → AreShort world → length (unwrap_or (change (world name)) []) ≤ 2 ^ 48 → AreShort (changed_at name change world)
+AreShort-changed world name change short fits other = step (bytes_eq name other) (bytes_eq-Decides name other).0
+  where
+    step : (same : Bool) → (same ≡ true → name ≡ other) → length (unwrap_or (if same then change (world other) else world other) []) ≤ 2 ^ 48
+    step true is = let P : List ℕ → Type 0 = λ each. length (unwrap_or (change (world each)) []) ≤ 2 ^ 48 in subst P (is refl) fits
+    step false is = short other
+
+-- live files keep a content where the change leaves one there
+pub AreThere-changed : (world : World) (name : List ℕ) (change : Option (List ℕ) → Option (List ℕ)) (opened : List (Option (List ℕ))) → (is_some (world name) ≡ true → is_some (change (world name)) ≡ true) → AreThere world opened → AreThere (changed_at name change world) opened
+AreThere-changed world name change opened stays there file = step (name_of_file opened file) (there file)
+  where
+    at : (other : List ℕ) (same : Bool) → (same ≡ true → name ≡ other) → is_some (world other) ≡ true → is_some (if same then change (world other) else world other) ≡ true
+    at other true is here =
+        let P : List ℕ → Type 0 = λ each. is_some (world each) ≡ true → is_some (change (world each)) ≡ true in
+        subst P (is refl) stays here
+    at other false is here = here
+
+    step : (held : Option (List ℕ)) → is_there world held ≡ true → is_there (changed_at name change world) held ≡ true
+    step None here = refl
+    step (Some other) here = at other (bytes_eq name other) (bytes_eq-Decides name other).0 here
+
+-- a further file is live under a name that has a content
+pub AreThere-pushed : (world : World) (opened : List (Option (List ℕ))) (name : List ℕ) → is_some (world name) ≡ true → AreThere world opened → AreThere world (opened ++ Some name ∷ [])
+AreThere-pushed world [] name here there zero = here
+AreThere-pushed world [] name here there (suc file) = refl
+AreThere-pushed world (held ∷ rest) name here there zero = there zero
+AreThere-pushed world (held ∷ rest) name here there (suc file) = AreThere-pushed world rest name here (λ other. there (suc other)) file
+
+-- ---- the live files
+
+-- the files of other names are as they were
+pub IsSameFile-changed : (old new : Held) (name : List ℕ) (change : Option (List ℕ) → Option (List ℕ)) (file : ℕ) → name_of_file new.opened file ≡ name_of_file old.opened file → new.world ≡ changed_at name change old.world → holder_of old file ≢ name → IsSameFile (files_of old) (files_of new) file
+IsSameFile-changed old new name change file same changed differs = record {
+  alive = ap is_some same;
+  size = λ _. ap (λ content. length (unwrap_or content [])) content;
+  content = λ _. content;
+}
+  where
+    step : (held : Option (List ℕ)) → unwrap_or held [] ≢ name → option_and_then (changed_at name change old.world) held ≡ option_and_then old.world held
+    step None other = refl
+    step (Some holder) other = changed_at-other old.world name holder change other
+
+    content : content_of_file new file ≡ content_of_file old file
+    content =
+        ap (λ (world : World). option_and_then world (name_of_file new.opened file)) changed
+        ∙ ap (option_and_then (changed_at name change old.world)) same
+        ∙ step (name_of_file old.opened file) differs
+
+-- the file of the changed name is changed
+pub ChangesFile-changed : (old new : Held) (name : List ℕ) (change : Option (List ℕ) → Option (List ℕ)) (file size : ℕ) → name_of_file old.opened file ≡ Some name → new.opened ≡ old.opened → new.world ≡ changed_at name change old.world → length (unwrap_or (change (old.world name)) []) ≡ size → ChangesFile (files_of old) (files_of new) (Some old.world) (Some new.world) file (holder_of old file) size change
+ChangesFile-changed old new name change file size holder same changed fits = record {
+  size = ap (λ held. length (unwrap_or held [])) (now ∙ changed_at-same old.world name change) ∙ fits;
+  content = now ∙ changed_at-same old.world name change ∙ sym (ap change before);
+  names = ap Some changed ∙ ap (λ held. Some (changed_at (unwrap_or held []) change old.world)) (sym holder);
+}
+  where
+    before : content_of_file old file ≡ old.world name
+    before = ap (option_and_then old.world) holder
+
+    now : content_of_file new file ≡ changed_at name change old.world name
+    now =
+        ap (λ opened. option_and_then new.world (name_of_file opened file)) same
+        ∙ ap (option_and_then new.world) holder
+        ∙ ap (λ (world : World). world name) changed
+
+-- both of a live file whose name's content is changed
+pub ChangesHeld-changed : (old new : Held) (name : List ℕ) (change : Option (List ℕ) → Option (List ℕ)) (file size : ℕ) → name_of_file old.opened file ≡ Some name → new.opened ≡ old.opened → new.world ≡ changed_at name change old.world → length (unwrap_or (change (old.world name)) []) ≡ size → ChangesHeld old new file size change
+ChangesHeld-changed old new name change file size holder same changed fits = record {
+  opened = same;
+  changed = ChangesFile-changed old new name change file size holder same changed fits;
+  others = λ other differs.
+      IsSameFile-changed old new name change other (ap (λ opened. name_of_file opened other) same) changed
+      (λ is. differs (is ∙ sym (ap (λ held. unwrap_or held []) holder)));
+}
+
+-- ---- both kept through a change
+
+-- contents are short, and live files have one
+pub record IsSound (world : World) (opened : List (Option (List ℕ))) : Type 0 where
+  pub short : AreShort world
+  pub there : AreThere world opened
+
+-- a change keeps both where the changed content is short, and is there if it was
+pub IsSound-changed : (world now : World) (name : List ℕ) (change : Option (List ℕ) → Option (List ℕ)) (opened : List (Option (List ℕ))) → now ≡ changed_at name change world → IsSound world opened → length (unwrap_or (change (world name)) []) ≤ 2 ^ 48 → (is_some (world name) ≡ true → is_some (change (world name)) ≡ true) → IsSound now opened
+IsSound-changed world now name change opened changed sound fits stays =
+    let P : World → Type 0 = λ each. IsSound each opened in
+    subst P (sym changed) (record {
+      short = AreShort-changed world name change sound.short fits;
+      there = AreThere-changed world name change opened stays sound.there;
+    })
+
+-- so does a call that changes or leaves the contents
+pub IsSound-either : {T E : Type 0} (result : Result T E) (world now : World) (name : List ℕ) (change : Option (List ℕ) → Option (List ℕ)) (opened : List (Option (List ℕ))) → OnOk result (now ≡ changed_at name change world) → OnErr result (now ≡ world) → IsSound world opened → length (unwrap_or (change (world name)) []) ≤ 2 ^ 48 → (is_some (world name) ≡ true → is_some (change (world name)) ≡ true) → IsSound now opened
+IsSound-either (Ok value) world now name change opened changed same sound fits stays = IsSound-changed world now name change opened changed sound fits stays
+IsSound-either (Err fault) world now name change opened changed same sound fits stays =
+    let P : World → Type 0 = λ each. IsSound each opened in
+    subst P (sym same) sound
+
+-- ---- what appending and overwriting make of one content
+
+-- a content grows by what is added
+pub length-with_appended : (more : List ℕ) (content : Option (List ℕ)) → is_some content ≡ true → length (unwrap_or (with_appended more content) []) ≡ length (unwrap_or content []) + length more
+length-with_appended more None there = cc
+length-with_appended more (Some bytes) there = length-append bytes more
+
+pub is_some-with_appended : (more : List ℕ) (content : Option (List ℕ)) → is_some content ≡ true → is_some (with_appended more content) ≡ true
+is_some-with_appended more None there = there
+is_some-with_appended more (Some bytes) there = refl
+
+-- a content that is written over keeps its length
+pub length-with_overwritten : (at : ℕ) (now : List ℕ) (content : Option (List ℕ)) → at + length now ≤ length (unwrap_or content []) → length (unwrap_or (with_overwritten at now content) []) ≡ length (unwrap_or content [])
+length-with_overwritten at now None within = refl
+length-with_overwritten at now (Some bytes) within = grind (arith, common_steps)
+
+pub is_some-with_overwritten : (at : ℕ) (now : List ℕ) (content : Option (List ℕ)) → is_some content ≡ true → is_some (with_overwritten at now content) ≡ true
+is_some-with_overwritten at now None there = there
+is_some-with_overwritten at now (Some bytes) there = refl
+
+-- ---- appending to a live file, and overwriting it
+
+-- a live file's name has a content, whose length is the file's
+pub IsThere-live : (old : Held) (file : ℕ) (name : List ℕ) → name_of_file old.opened file ≡ Some name → IsSound old.world old.opened → (is_some (old.world name) ≡ true) × (length (unwrap_or (old.world name) []) ≡ (files_of old).size file)
+IsThere-live old file name holder sound = (
+  ap (is_there old.world) (sym holder) ∙ sound.there file,
+  ap (λ held. length (unwrap_or (option_and_then old.world held) [])) (sym holder),
+)
+
+-- an append that is within the limit keeps contents short and there, whether it finds memory or not
+pub IsSound-appended : {T E : Type 0} (result : Result T E) (old : Held) (now : World) (file : ℕ) (name more : List ℕ) → name_of_file old.opened file ≡ Some name → OnOk result (now ≡ changed_at name (with_appended more) old.world) → OnErr result (now ≡ old.world) → IsSound old.world old.opened → (files_of old).size file + length more ≤ 2 ^ 48 → IsSound now old.opened
+IsSound-appended result old now file name more holder changed same sound room =
+    let here = IsThere-live old file name holder sound in
+    let grown = length-with_appended more (old.world name) here.0 in
+    let size = here.1 in
+    IsSound-either result old.world now name (with_appended more) old.opened changed same sound (omega arith) (is_some-with_appended more (old.world name))
+
+-- and then it changes that file as it says
+pub ChangesHeld-appended : (old new : Held) (file : ℕ) (name more : List ℕ) → name_of_file old.opened file ≡ Some name → new.opened ≡ old.opened → new.world ≡ changed_at name (with_appended more) old.world → IsSound old.world old.opened → ChangesHeld old new file ((files_of old).size file + length more) (with_appended more)
+ChangesHeld-appended old new file name more holder same changed sound =
+    let here = IsThere-live old file name holder sound in
+    ChangesHeld-changed old new name (with_appended more) file _ holder same changed
+    (length-with_appended more (old.world name) here.0 ∙ ap (λ n. n + length more) here.1)
+
+-- overwriting keeps contents short and there
+pub IsSound-overwritten : (old : Held) (world : World) (file : ℕ) (name : List ℕ) (at : ℕ) (now : List ℕ) → name_of_file old.opened file ≡ Some name → world ≡ changed_at name (with_overwritten at now) old.world → IsSound old.world old.opened → at + length now ≤ (files_of old).size file → IsSound world old.opened
+IsSound-overwritten old world file name at now holder changed sound within =
+    let here = IsThere-live old file name holder sound in
+    let size = here.1 in
+    let kept = length-with_overwritten at now (old.world name) (omega arith) in
+    let short = sound.short name in
+    IsSound-changed old.world world name (with_overwritten at now) old.opened changed sound (omega arith) (is_some-with_overwritten at now (old.world name))
+
+-- and changes that file as it says
+pub ChangesHeld-overwritten : (old new : Held) (file : ℕ) (name : List ℕ) (at : ℕ) (now : List ℕ) → name_of_file old.opened file ≡ Some name → new.opened ≡ old.opened → new.world ≡ changed_at name (with_overwritten at now) old.world → IsSound old.world old.opened → at + length now ≤ (files_of old).size file → ChangesHeld old new file ((files_of old).size file) (with_overwritten at now)
+ChangesHeld-overwritten old new file name at now holder same changed sound within =
+    let here = IsThere-live old file name holder sound in
+    let size = here.1 in
+    ChangesHeld-changed old new name (with_overwritten at now) file _ holder same changed
+    (length-with_overwritten at now (old.world name) (omega arith) ∙ size)
+
+-- ---- making a file
+
+-- a name that gets an empty content, and a file that is opened under it, keep contents short and there
+pub IsSound-created : (world now : World) (name : List ℕ) (opened : List (Option (List ℕ))) → now ≡ changed_at name (λ _. Some []) world → IsSound world opened → IsSound now (opened ++ Some name ∷ [])
+IsSound-created world now name opened changed sound =
+    let kept = IsSound-changed world now name (λ _. Some []) opened changed sound (omega arith) (λ _. refl) in
+    let here : now name ≡ Some [] = ap (λ (each : World). each name) changed ∙ changed_at-same world name (λ _. Some []) in
+    record {
+      short = kept.short;
+      there = AreThere-pushed now opened name (ap is_some here) kept.there;
+    }
+
+-- the file that is opened last has the content of its name
+pub content_of_file-pushed : (held : Held) (opened : List (Option (List ℕ))) (name : List ℕ) → held.opened ≡ opened ++ Some name ∷ [] → content_of_file held (length opened) ≡ held.world name
+content_of_file-pushed held opened name pushed =
+    ap (λ names. option_and_then held.world (name_of_file names (length opened))) pushed
+    ∙ ap (option_and_then held.world) (get_or-append_seam opened (Some name) [] None)
+
+-- the file that is made is empty
+pub size-created : (held : Held) (world : World) (opened : List (Option (List ℕ))) (name : List ℕ) → held.world ≡ changed_at name (λ _. Some []) world → held.opened ≡ opened ++ Some name ∷ [] → (files_of held).size (length opened) ≡ 0
+size-created held world opened name changed pushed =
+    ap (λ content. length (unwrap_or content []))
+    (content_of_file-pushed held opened name pushed ∙ ap (λ (each : World). each name) changed
+    ∙ changed_at-same world name (λ _. Some []))
+
+-- the files of other names are as they were
+pub IsSameFile-created : (old new : Held) (name : List ℕ) (file : ℕ) → new.world ≡ changed_at name (λ _. Some []) old.world → new.opened ≡ old.opened ++ Some name ∷ [] → file < length old.opened → holder_of old file ≢ name → IsSameFile (files_of old) (files_of new) file
+IsSameFile-created old new name file changed pushed below differs =
+    IsSameFile-changed old new name (λ _. Some []) file
+    (ap (λ opened. name_of_file opened file) pushed ∙ get_or_append_left old.opened (Some name ∷ []) None file below)
+    changed differs
+
+-- ---- overwriting nothing
+
+-- the octets that stand at a place, written there, change nothing
+pub overwritten-same : (bytes : List ℕ) (at n : ℕ) → at + n ≤ length bytes → overwritten bytes at (take n (drop at bytes)) ≡ bytes
+overwritten-same bytes at n within =
+    let count : length (take n (drop at bytes)) ≡ n = grind (arith, common_steps) in
+    ap (λ k. take at bytes ++ (take n (drop at bytes) ++ drop (at + k) bytes)) count
+    ∙ ap (λ rest. take at bytes ++ (take n (drop at bytes) ++ rest)) (sym (drop-drop n at bytes))
+    ∙ ap (λ rest. take at bytes ++ rest) (take-append-drop n (drop at bytes))
+    ∙ take-append-drop at bytes
+
+-- so a file that stays as it was is one in which some octets of a range were written
+pub OverwritesWithin-nothing : (held : Held) (file at n : ℕ) → (files_of held).live file ≡ true → at + n ≤ (files_of held).size file → OverwritesWithin (files_of held) (files_of held) (Some held.world) (Some held.world) file (holder_of held file) at n
+OverwritesWithin-nothing held file at n live within = record {
+  now = now;
+  count = grind (arith, common_steps);
+  changed = record {
+    size = refl;
+    content = sym (same (content_of_file held file) within);
+    names = ap Some (sym (changed_at-nothing held.world (holder_of held file) (with_overwritten at now) there));
+  };
+}
+  where
+    now : List ℕ
+    now = take n (drop at (unwrap_or (content_of_file held file) []))
+
+    same : (content : Option (List ℕ)) → at + n ≤ length (unwrap_or content []) → with_overwritten at (take n (drop at (unwrap_or content []))) content ≡ content
+    same None fits = refl
+    same (Some bytes) fits = ap Some (overwritten-same bytes at n fits)
+
+    is_content : content_of_file held file ≡ held.world (holder_of held file)
+    is_content = held-live held.world (name_of_file held.opened file) live
+
+    there : with_overwritten at now (held.world (holder_of held file)) ≡ held.world (holder_of held file)
+    there = ap (with_overwritten at now) (sym is_content) ∙ same (content_of_file held file) within ∙ is_content
+
+-- the same contents and the same files are as sound
+pub IsSound-same : (world now : World) (opened names : List (Option (List ℕ))) → now ≡ world → names ≡ opened → IsSound world opened → IsSound now names
+IsSound-same world now opened names same_contents same_names sound =
+    let P : World → Type 0 = λ each. IsSound each names in
+    let Q : List (Option (List ℕ)) → Type 0 = λ each. IsSound world each in
+    subst P (sym same_contents) (subst Q (sym same_names) sound)
+
+-- a file that is opened under a name has the content that the name had
+pub content_of_file-told : (old new : Held) (world : World) (name : List ℕ) (file : ℕ) → new ≡ record { world = old.world; opened = old.opened ++ Some name ∷ [] } → file ≡ length old.opened → Some old.world ≡ Some world → content_of_file new file ≡ world name
+content_of_file-told old new world name file opened number told =
+    let is : old.world ≡ world = cc in
+    let pushed : Held = record { world = old.world; opened = old.opened ++ Some name ∷ [] } in
+    ap (λ (held : Held). content_of_file held file) opened ∙ ap (content_of_file pushed) number
+    ∙ content_of_file-pushed pushed old.opened name refl
+    ∙ ap (λ (each : World). each name) is

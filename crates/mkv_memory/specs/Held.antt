@@ -1,0 +1,94 @@
+-- What files in memory hold.
+use Rattle.std.specs.Prelude.{◌≡◌, ◌≢◌, ℕ, zero, suc, ◌<◌, ◌≤◌, ◌^◌, List, [], ◌∷◌, length, Bool, true, Option, Some, None, is_some, unwrap_or, option_and_then, get_or, String}
+use Rattle.std.specs.declared.alloc.Global.{Global}
+use Rattle.std.specs.BTreeMap.{is_at}
+use Rattle.std.proofs.Common.{ap, sym, ◌∙◌, refl, arith}
+use Rattle.std.specs.Ordering.{nat_cmp}
+use Rattle.std.specs.Cmp.Lexicographic.{slice_cmp}
+use Rattle.std.specs.Map.{lookup}
+use Rattle.std.specs.String.{string_bytes}
+use Rattle.mkv_io.specs.LiveFiles.{LiveFiles, ChangesFile, KeepsFiles}
+
+-- the content of each name, None where there is no file of that name
+abbrev pub World : Type 0
+World = List ℕ → Option (List ℕ)
+
+-- the content of each name in a map of them
+abbrev pub content_of_name : List (String Global × List ℕ) → World
+content_of_name entries name = lookup (is_at (λ key. slice_cmp nat_cmp name (string_bytes key))) entries
+
+-- The names with their contents, and the name under which each file was opened, by its number; a
+-- file that is closed has none.
+pub record Held : Type 0 where
+  pub world : World
+  pub opened : List (Option (List ℕ))
+
+-- the name of a live file
+abbrev pub name_of_file : List (Option (List ℕ)) → ℕ → Option (List ℕ)
+name_of_file opened file = get_or opened file None
+
+abbrev pub content_of_file : Held → ℕ → Option (List ℕ)
+content_of_file held file = option_and_then held.world (name_of_file held.opened file)
+
+abbrev pub files_of : Held → LiveFiles
+files_of held = record {
+  live = λ file. is_some (name_of_file held.opened file);
+  size = λ file. length (unwrap_or (content_of_file held file) []);
+  content = content_of_file held;
+}
+
+-- the name under which a live file was opened
+abbrev pub holder_of : Held → ℕ → List ℕ
+holder_of held file = unwrap_or (name_of_file held.opened file) []
+
+-- ---- what holds of all such files
+
+-- no name has a content of more than 2^48 octets
+abbrev pub AreShort : World → Type 0
+AreShort world = (name : List ℕ) → length (unwrap_or (world name) []) ≤ 2 ^ 48
+
+-- a live file's name has a content
+abbrev pub is_there : World → Option (List ℕ) → Bool
+is_there world None = true
+is_there world (Some name) = is_some (world name)
+
+-- every live file's name has a content
+abbrev pub AreThere : World → List (Option (List ℕ)) → Type 0
+AreThere world opened = (file : ℕ) → is_there world (name_of_file opened file) ≡ true
+
+-- ---- what calls do to them
+
+-- A live file, and the content of its name, is changed; the files of other names stay.
+pub record ChangesHeld (old new : Held) (file new_size : ℕ) (change : Option (List ℕ) → Option (List ℕ)) : Type 0 where
+  pub opened : new.opened ≡ old.opened
+  pub changed : ChangesFile (files_of old) (files_of new) (Some old.world) (Some new.world) file (holder_of old file) new_size change
+  pub others : KeepsFiles (files_of old) (files_of new) (λ other. holder_of old other ≢ holder_of old file)
+
+-- ---- what follows at once
+
+-- a content that is told has the file's size
+pub size-of_told : (held : Held) (file : ℕ) (bytes : List ℕ) → content_of_file held file ≡ Some bytes → length bytes ≡ (files_of held).size file
+size-of_told held file bytes told = sym (ap (λ content. length (unwrap_or content [])) told)
+
+-- where each name's content is short, each live file is
+pub short-of_names : (world : World) (name : Option (List ℕ)) → AreShort world → length (unwrap_or (option_and_then world name) []) ≤ 2 ^ 48
+short-of_names world None short = omega arith
+short-of_names world (Some name) short = short name
+
+-- a live file's content is that of its name
+pub held-live : (world : World) (name : Option (List ℕ)) → is_some name ≡ true → option_and_then world name ≡ world (unwrap_or name [])
+held-live world None live = cc
+held-live world (Some name) live = refl
+
+-- the same of whatever world is told
+pub held-told : (told world : World) (name : Option (List ℕ)) → is_some name ≡ true → Some told ≡ Some world → option_and_then told name ≡ world (unwrap_or name [])
+held-told told world name live same =
+    let is : told ≡ world = cc in
+    held-live told name live ∙ ap (λ (each : World). each (unwrap_or name [])) is
+
+-- a live file has a number below the next one
+pub numbered-live : (opened : List (Option (List ℕ))) (file : ℕ) → is_some (name_of_file opened file) ≡ true → file < length opened
+numbered-live [] zero live = cc
+numbered-live [] (suc file) live = cc
+numbered-live (name ∷ names) zero live = omega arith
+numbered-live (name ∷ names) (suc file) live = let below = numbered-live names file live in omega arith

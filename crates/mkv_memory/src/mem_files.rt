@@ -1,0 +1,199 @@
+//! Files in memory.
+
+ghost use Rattle.std.specs.Prelude.{◌≡◌, ℕ, ◌+◌, ◌-◌, ◌≤◌, ◌^◌, List, length, Option, Some, None, min, OnOk, OnErr};
+ghost use Rattle.std.specs.BTreeMap.{get};
+ghost use Rattle.std.specs.Ordering.{nat_cmp};
+ghost use Rattle.mkv_io.specs.Faults.{last_count};
+
+use crate::store::Store;
+use mkv_io::{Files, Reads};
+use mkv_values::{Bytes, Failed, FileId, MakeFault, OpenFault};
+use std::alloc::{AllocError, Global};
+use std::cmp::min;
+use std::collections::BTreeMap;
+
+/// No file is longer than so many octets.
+const LONGEST: u64 = 1 << 48;
+
+/// Files in memory, which tell names and contents, and fail at the calls that they are told to.
+///
+/// Calls of `open_file`, `create`, `read_at`, `append` and `overwrite` are counted from 0, from the
+/// making on.
+#[derive(Drop)]
+pub struct MemFiles {
+    alloc: Global,
+    store: Store,
+    failing: BTreeMap<u64, u64>,
+    calls: u64,
+    reading_faults: u64,
+    writing_faults: u64,
+    octets_read: u64,
+}
+
+impl MemFiles {
+    /// Files without names, of which no call fails.
+    pub fn new(alloc: Global) -> Result<MemFiles, AllocError> {
+        Ok(MemFiles {
+            alloc,
+            store: Store::new(alloc),
+            failing: BTreeMap::new(alloc),
+            calls: 0,
+            reading_faults: 0,
+            writing_faults: 0,
+            octets_read: 0,
+        })
+    }
+
+    /// Sets a name's content. Where the name has live files, theirs changes with it.
+    pub fn put(&mut self, name: &str, bytes: &[u8]) -> Result<(), AllocError>
+        requires { length bytes.now ≤ 2 ^ 48 }
+    {
+        let mut content = Bytes::new(self.alloc);
+        content.append(bytes)?;
+        self.store.set(name, content)
+    }
+
+    /// Lets the call of a number fail. An `append` then keeps so many octets, or all but the last
+    /// where fewer remain.
+    pub fn fail_at(&mut self, call: u64, kept: u64) -> Result<(), AllocError> {
+        self.failing.insert(call, kept)?;
+        Ok(())
+    }
+
+    /// A name's content, None where there is no file of that name.
+    pub fn bytes(&self, name: &str) -> Option<&[u8]> {
+        self.store.content(name)
+    }
+
+    /// Counts a call, and answers the octets that it keeps where it is to fail.
+    fn next_failure(&mut self) -> Option<u64>
+        ensures kept { result ≡ get nat_cmp self.old.failing self.old.calls }
+        ensures rest { self.new ≡ record self.old { calls = min (self.old.calls + 1) last_count } }
+    {
+        let kept = self.failing.get(&self.calls).copied();
+        self.calls = self.calls.saturating_add(1);
+        kept
+    }
+}
+
+/// How many octets a failing append keeps: as many as it is told to, and never all.
+fn kept_of(len: usize, kept: u64) -> usize
+    ensures { result ≡ min kept (len - 1) }
+{
+    min(kept, (len as u64).saturating_sub(1)) as usize
+}
+
+impl Reads for MemFiles {
+    ghost use Rattle.std.specs.Prelude.{ℕ};
+    ghost use Rattle.mkv_memory.specs.Held.{Held, files_of, content_of_file, name_of_file, size-of_told, short-of_names};
+    ghost use Rattle.mkv_memory.specs.Stored.{held_in};
+
+    ghost Standing = { Held × ℕ };
+
+    ghost standing = { λ m. (held_in m.store, m.writing_faults) };
+
+    ghost files = { λ s. files_of s.0 };
+
+    ghost reading_faults = { λ m. m.reading_faults };
+
+    ghost octets_read = { λ m. m.octets_read };
+
+    ghost told_size = { λ s file bytes told. size-of_told s.0 file bytes told };
+
+    ghost short = { λ m file live. short-of_names (held_in m.store).world (name_of_file (held_in m.store).opened file) m.store.short };
+
+    fn size(&self, file: FileId) -> u64 {
+        self.store.octets(file).len() as u64
+    }
+
+    fn read_at(&mut self, file: FileId, at: u64, into: &mut [u8]) -> Result<(), Failed> {
+        if self.next_failure().is_some() {
+            self.reading_faults = self.reading_faults.saturating_add(1);
+            return Err(Failed);
+        }
+        let start = at as usize;
+        into.copy_from_slice(&self.store.octets(file)[start..start + into.len()]);
+        self.octets_read = self.octets_read.saturating_add(into.len() as u64);
+        Ok(())
+    }
+}
+
+impl Files for MemFiles {
+    ghost use Rattle.std.specs.Prelude.{Some, length, ℕ};
+    ghost use Rattle.std.proofs.Common.{ap};
+    ghost use Rattle.mkv_memory.specs.Held.{Held, holder_of, name_of_file, held-told, numbered-live};
+    ghost use Rattle.mkv_memory.specs.Stored.{held_in};
+
+    ghost names = { λ m. Some (held_in m.store).world };
+
+    ghost holder = { λ m. holder_of (held_in m.store) };
+
+    ghost given = { λ m. length (held_in m.store).opened };
+
+    ghost writing_faults = { λ m. m.writing_faults };
+
+    ghost held = { λ m file live world told. held-told (held_in m.store).world world (name_of_file (held_in m.store).opened file) live told };
+
+    ghost numbered = { λ m file live. numbered-live (held_in m.store).opened file live };
+
+    ghost last = { λ m. m.store.few };
+
+    ghost names_stand = { λ a b same. ap (λ (s : Held × ℕ). Some s.0.world) same };
+
+    ghost holders_stand = { λ a b same file. ap (λ (s : Held × ℕ). holder_of s.0 file) same };
+
+    ghost given_stands = { λ a b same. ap (λ (s : Held × ℕ). length s.0.opened) same };
+
+    ghost writing_stands = { λ a b same. ap (λ (s : Held × ℕ). s.1) same };
+
+    fn open_file(&mut self, name: &str) -> Result<FileId, OpenFault> {
+        let failure = self.next_failure();
+        if self.store.content(name).is_none() {
+            return Err(OpenFault::Missing);
+        }
+        if failure.is_some() || self.store.is_full() {
+            self.reading_faults = self.reading_faults.saturating_add(1);
+            return Err(OpenFault::Failed);
+        }
+        Ok(self.store.open(name)?)
+    }
+
+    fn create(&mut self, name: &str) -> Result<FileId, MakeFault> {
+        let failure = self.next_failure();
+        if failure.is_some() || self.store.is_full() {
+            self.writing_faults = self.writing_faults.saturating_add(1);
+            return Err(MakeFault::Failed);
+        }
+        Ok(self.store.create(name)?)
+    }
+
+    fn append(&mut self, file: FileId, bytes: &[u8]) -> Result<(), MakeFault> {
+        let failure = self.next_failure();
+        if bytes.len() as u64 > LONGEST - self.size(file) {
+            self.writing_faults = self.writing_faults.saturating_add(1);
+            return Err(MakeFault::Failed);
+        }
+        match failure {
+            Some(kept) => {
+                self.store
+                    .append(file, &bytes[..kept_of(bytes.len(), kept)])?;
+                self.writing_faults = self.writing_faults.saturating_add(1);
+                Err(MakeFault::Failed)
+            }
+            None => Ok(self.store.append(file, bytes)?),
+        }
+    }
+
+    fn overwrite(&mut self, file: FileId, at: u64, bytes: &[u8]) -> Result<(), Failed> {
+        if self.next_failure().is_some() {
+            self.writing_faults = self.writing_faults.saturating_add(1);
+            return Err(Failed);
+        }
+        self.store.overwrite(file, at as usize, bytes);
+        Ok(())
+    }
+
+    fn close(&mut self, file: FileId) {
+        self.store.close(file);
+    }
+}

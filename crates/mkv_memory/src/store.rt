@@ -1,0 +1,185 @@
+//! Names with their contents, and the files that are opened under them.
+
+ghost use denote.Ref.{Bor};
+ghost use Rattle.std.specs.Prelude.{slice_set, ◌≡◌, ◌≢◌, ℕ, ◌+◌, ◌-◌, ◌<◌, ◌≤◌, ◌^◌, ◌↔◌, List, [], ◌∷◌, ◌++◌, length, Option, Some, None, is_some, option_map, unwrap_or, OnOk, OnErr, IfOk, IsTrue, IsSome};
+ghost use Rattle.mkv_io.specs.Contents.{with_appended, with_overwritten};
+ghost use Rattle.mkv_io.specs.Names.{changed_at};
+ghost use Rattle.mkv_memory.specs.Held.{AreShort, AreThere, ChangesHeld, content_of_file, content_of_name, files_of, name_of_file};
+
+use mkv_values::{Bytes, FileId, Text};
+use std::alloc::{AllocError, Global};
+use std::collections::BTreeMap;
+
+type Contents = BTreeMap<String, Bytes>;
+
+/// What files in memory hold. The number of a file is its place in `opened`.
+#[derive(Drop)]
+pub struct Store {
+    alloc: Global,
+    pub contents: Contents,
+    pub opened: Vec<Option<Text>>,
+    ghost short: { AreShort (content_of_name contents.entries) },
+    ghost few: { length opened.items ≤ 2 ^ 64 - 1 },
+    ghost there: { AreThere (content_of_name contents.entries) opened.items },
+}
+
+impl Store {
+    ghost use Rattle.mkv_memory.specs.Stored.{held_in};
+
+    pub fn new(alloc: Global) -> Store
+        ensures names { (name : List ℕ) → (held_in result).world name ≡ None }
+        ensures opened { (held_in result).opened ≡ [] }
+    {
+        Store {
+            alloc,
+            contents: BTreeMap::new(alloc),
+            opened: Vec::new(alloc),
+        }
+    }
+
+    /// Whether no number is left for a further file.
+    pub fn is_full(&self) -> bool
+        ensures { IsTrue result ↔ (length (held_in self.now).opened ≡ 2 ^ 64 - 1) }
+    {
+        self.opened.len() as u64 == u64::MAX
+    }
+
+    /// The content of a name.
+    pub fn content(&self, name: &str) -> Option<&[u8]>
+        ensures { option_map (λ (bytes : Bor (List ℕ)). bytes.now) result ≡ (held_in self.now).world name.now }
+    {
+        match self.contents.get(name) {
+            Some(content) => Some(content.as_slice()),
+            None => None,
+        }
+    }
+
+    /// The octets of a live file.
+    pub fn octets(&self, file: FileId) -> &[u8]
+        ensures { result.now ≡ unwrap_or (content_of_file (held_in self.now) file.n) [] }
+    {
+        match self.opened.get(file.n as usize) {
+            Some(Some(name)) => self.content(name.as_str()).unwrap_or(&[]),
+            _ => &[],
+        }
+    }
+
+    /// Gives a name a content.
+    pub fn set(&mut self, name: &str, content: Bytes) -> Result<(), AllocError>
+        requires { length content ≤ 2 ^ 48 }
+        ensures ok { OnOk result ((held_in self.new).world ≡ changed_at name.now (λ _. Some content) (held_in self.old).world) }
+        ensures opened { (held_in self.new).opened ≡ (held_in self.old).opened }
+        ensures err { OnErr result (held_in self.new ≡ held_in self.old) }
+    {
+        set(&mut self.contents, self.alloc, name, content)?;
+        Ok(())
+    }
+
+    /// Opens a file under a name that has a content.
+    pub fn open(&mut self, name: &str) -> Result<FileId, AllocError>
+        requires there { IsSome ((held_in self.old).world name.now) }
+        requires room { length (held_in self.old).opened < 2 ^ 64 - 1 }
+        ensures number { IfOk result (λ file. file.n ≡ length (held_in self.old).opened) }
+        ensures ok { OnOk result (held_in self.new ≡ record { world = (held_in self.old).world; opened = (held_in self.old).opened ++ Some name.now ∷ [] }) }
+        ensures err { OnErr result (held_in self.new ≡ held_in self.old) }
+    {
+        let number = self.opened.len() as u64;
+        let mut holder = Text::new(self.alloc);
+        holder.append(name)?;
+        self.opened.push(Some(holder))?;
+        Ok(FileId { n: number })
+    }
+
+    /// Gives a name an empty content, and opens a file under it.
+    pub fn create(&mut self, name: &str) -> Result<FileId, AllocError>
+        requires { length (held_in self.old).opened < 2 ^ 64 - 1 }
+        ensures number { IfOk result (λ file. file.n ≡ length (held_in self.old).opened) }
+        ensures ok { OnOk result ((held_in self.new).world ≡ changed_at name.now (λ _. Some []) (held_in self.old).world) }
+        ensures opened { OnOk result ((held_in self.new).opened ≡ (held_in self.old).opened ++ Some name.now ∷ []) }
+        ensures err { OnErr result (held_in self.new ≡ held_in self.old) }
+    {
+        let number = self.opened.len() as u64;
+        let mut holder = Text::new(self.alloc);
+        holder.append(name)?;
+        let empty = Bytes::new(self.alloc);
+        self.opened.reserve(1)?;
+        set(&mut self.contents, self.alloc, name, empty)?;
+        self.opened.push(Some(holder)).unwrap();
+        Ok(FileId { n: number })
+    }
+
+    /// Adds octets to a live file.
+    pub fn append(&mut self, file: FileId, more: &[u8]) -> Result<(), AllocError>
+        requires live { IsTrue ((files_of (held_in self.old)).live file.n) }
+        requires room { (files_of (held_in self.old)).size file.n + length more.now ≤ 2 ^ 48 }
+        ensures ok { OnOk result (ChangesHeld (held_in self.old) (held_in self.new) file.n ((files_of (held_in self.old)).size file.n + length more.now) (with_appended more.now)) }
+        ensures err { OnErr result (held_in self.new ≡ held_in self.old) }
+    {
+        let name = holder(&self.opened, file);
+        grow(&mut self.contents, name, more)?;
+        Ok(())
+    }
+
+    /// Writes octets over those of a live file.
+    pub fn overwrite(&mut self, file: FileId, at: usize, bytes: &[u8])
+        requires live { IsTrue ((files_of (held_in self.old)).live file.n) }
+        requires range { at + length bytes.now ≤ (files_of (held_in self.old)).size file.n }
+        ensures { ChangesHeld (held_in self.old) (held_in self.new) file.n ((files_of (held_in self.old)).size file.n) (with_overwritten at bytes.now) }
+    {
+        let name = holder(&self.opened, file);
+        write_over(&mut self.contents, name, at, bytes);
+    }
+
+    /// Ends a live file.
+    pub fn close(&mut self, file: FileId)
+        requires { IsTrue ((files_of (held_in self.old)).live file.n) }
+        ensures { held_in self.new ≡ record { world = (held_in self.old).world; opened = slice_set (held_in self.old).opened file.n None } }
+    {
+        self.opened[file.n as usize] = None;
+    }
+}
+
+/// The name of a live file.
+fn holder<'a>(opened: &'a Vec<Option<Text>>, file: FileId) -> &'a str
+    requires { IsTrue (is_some (name_of_file opened.now.items file.n)) }
+    ensures { name_of_file opened.now.items file.n ≡ Some result.now }
+{
+    match opened.get(file.n as usize) {
+        Some(Some(name)) => name.as_str(),
+        _ => unreachable!(),
+    }
+}
+
+/// Sets the content of a name.
+fn set(contents: &mut Contents, alloc: Global, name: &str, content: Bytes) -> Result<(), AllocError>
+    ensures ok { OnOk result (content_of_name contents.new.entries ≡ changed_at name.now (λ _. Some content) (content_of_name contents.old.entries)) }
+    ensures err { OnErr result (content_of_name contents.new.entries ≡ content_of_name contents.old.entries) }
+{
+    let key = name.to_string(alloc)?;
+    contents.insert(key, content)?;
+    Ok(())
+}
+
+/// Adds octets to the content of a name.
+fn grow(contents: &mut Contents, name: &str, more: &[u8]) -> Result<(), AllocError>
+    ensures ok { OnOk result (content_of_name contents.new.entries ≡ changed_at name.now (with_appended more.now) (content_of_name contents.old.entries)) }
+    ensures err { OnErr result (content_of_name contents.new.entries ≡ content_of_name contents.old.entries) }
+{
+    match contents.get_mut(name) {
+        Some(content) => {
+            content.append(more)?;
+            Ok(())
+        }
+        None => Ok(()),
+    }
+}
+
+/// Writes octets over those of a name's content.
+fn write_over(contents: &mut Contents, name: &str, at: usize, bytes: &[u8])
+    requires { at + length bytes.now ≤ length (unwrap_or (content_of_name contents.old.entries name.now) []) }
+    ensures { content_of_name contents.new.entries ≡ changed_at name.now (with_overwritten at bytes.now) (content_of_name contents.old.entries) }
+{
+    if let Some(content) = contents.get_mut(name) {
+        content.overwrite(at, bytes);
+    }
+}
