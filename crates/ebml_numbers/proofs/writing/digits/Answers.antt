@@ -1,0 +1,10 @@
+-- The digits are those behind the leading zeros of 64.
+use Rattle.std.proofs.Common.{arith}
+use Rattle.ebml_format.proofs.WidthLemmas.{leading_zeros-digits}
+use Rattle.ebml_numbers.proofs.writing.digits.Goals as goal
+
+pub returns-clause-below : goal.returns-clause-below
+returns-clause-below c = (leading_zeros-digits c.args.value (omega arith)).0
+
+pub returns-clause-reaches : goal.returns-clause-reaches
+returns-clause-reaches c = (leading_zeros-digits c.args.value (omega arith)).1

@@ -1,0 +1,40 @@
+//! The octets of a written number.
+ghost use Rattle.std.specs.Prelude.{◌≡◌, ◌≤◌, ◌<◌, ◌^◌};
+ghost use Rattle.byteorder.specs.Endian.{big_bytes};
+
+use byteorder::{BigEndian, ByteOrder};
+
+/// A written number.
+#[derive(Clone, Copy, Debug, PartialEq, Eq)]
+pub struct Octets {
+    /// The number's octets, and zeros behind them.
+    pub bytes: [u8; 8],
+    /// How many octets the number has: 1 to 8.
+    pub len: u8,
+    ghost some: { 1 ≤ len },
+    ghost most: { len ≤ 8 },
+}
+
+impl Octets {
+    ghost use Rattle.ebml_numbers.specs.Octets.{octets_of};
+
+    /// The number's octets alone.
+    pub fn as_slice(&self) -> &[u8]
+        ensures { result.now ≡ octets_of self.now }
+    {
+        &self.bytes[..usize::from(self.len)]
+    }
+
+    /// The number in so many octets, the highest first.
+    pub(crate) fn big_endian(value: u64, width: u8) -> Octets
+        requires some { 1 ≤ width }
+        requires most { width ≤ 8 }
+        requires fits { value < 256 ^ width }
+        ensures octets { octets_of result ≡ big_bytes width value }
+        ensures len { result.len ≡ width }
+    {
+        let mut bytes = [0; 8];
+        BigEndian::write_uint(&mut bytes, value, usize::from(width));
+        Octets { bytes, len: width }
+    }
+}

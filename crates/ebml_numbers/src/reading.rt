@@ -1,0 +1,167 @@
+//! Numbers read from the front of octets: RFC 8794, sections 4 to 7.
+ghost use Rattle.std.specs.Prelude.{◌≡◌, ℕ, ◌%◌, ◌≤◌, ◌<◌, ◌↔◌, ◌++◌, List, Err, ◌^◌, length, IfOk};
+ghost use Rattle.byteorder.specs.Endian.{big_number};
+ghost use Rattle.ebml_format.specs.Number.{IsCut, IsSettled, IsIdWithin, IsSizeWithin, StartsWithZero, width, marker, all_ones, is_id_data, id_of_width, id_at, size_of_data, size_at, uint_of, int_of};
+
+use crate::vint::all_ones;
+use byteorder::{BigEndian, ByteOrder};
+use ebml_format::{IdRead, NumFault, Size, SizeRead};
+
+/// The Element ID at the front: RFC 8794, section 5 (Element ID).
+pub fn read_id(bytes: &[u8]) -> Result<IdRead, NumFault>
+    ensures exact { result ≡ id_at bytes.now }
+    ensures found { IfOk result (IsIdWithin (length bytes.now)) }
+    ensures more { (n : ℕ) → (result ≡ Err (NumFault.More n)) ↔ IsCut 4 n bytes.now }
+
+    // Four octets settle an ID, and none that follow a settled answer change it.
+    ensures four { 4 ≤ length bytes.now → IsSettled result }
+    ensures settled { (rest : List ℕ) → IsSettled result → id_at (bytes.now ++ rest) ≡ result }
+{
+    first_id(bytes)
+}
+
+/// The Element Data Size at the front: RFC 8794, section 6 (Element Data Size).
+pub fn read_size(bytes: &[u8]) -> Result<SizeRead, NumFault>
+    ensures exact { result ≡ size_at bytes.now }
+    ensures found { IfOk result (IsSizeWithin (length bytes.now)) }
+    ensures more { (n : ℕ) → (result ≡ Err (NumFault.More n)) ↔ IsCut 8 n bytes.now }
+    ensures bad { (result ≡ Err NumFault.Bad) ↔ StartsWithZero bytes.now }
+
+    // Eight octets settle a size, and none that follow a settled answer change it.
+    ensures eight { 8 ≤ length bytes.now → IsSettled result }
+    ensures settled { (rest : List ℕ) → IsSettled result → size_at (bytes.now ++ rest) ≡ result }
+{
+    first_size(bytes)
+}
+
+/// The number in all of the octets, 0 where there are none: RFC 8794, section 7.2 (Unsigned
+/// Integer Element).
+pub fn read_uint(bytes: &[u8]) -> u64
+    requires { length bytes.now ≤ 8 }
+    ensures exact { result ≡ uint_of bytes.now }
+{
+    if bytes.is_empty() {
+        0
+    } else {
+        BigEndian::read_uint(bytes, bytes.len())
+    }
+}
+
+/// The octets' two's complement, 0 where there are none: RFC 8794, section 7.1 (Signed Integer
+/// Element).
+pub fn read_int(bytes: &[u8]) -> i64
+    requires { length bytes.now ≤ 8 }
+    ensures exact { result ≡ int_of bytes.now }
+{
+    if bytes.is_empty() {
+        0
+    } else {
+        BigEndian::read_int(bytes, bytes.len())
+    }
+}
+
+#[tactic(auto, unfolding(ebml_format::specs::Number::id_at))]
+fn first_id(bytes: &[u8]) -> Result<IdRead, NumFault>
+    ensures { result ≡ id_at bytes.now }
+{
+    let Some(&first) = bytes.first() else {
+        return Err(NumFault::More(1));
+    };
+    if first < 0x10 {
+        return Err(NumFault::Bad);
+    }
+    let width = width_of(first);
+    if bytes.len() < usize::from(width) {
+        return Err(NumFault::More(width));
+    }
+    id_of_width(bytes, width)
+}
+
+#[tactic(auto, unfolding(ebml_format::specs::Number::size_at))]
+fn first_size(bytes: &[u8]) -> Result<SizeRead, NumFault>
+    ensures { result ≡ size_at bytes.now }
+{
+    let Some(&first) = bytes.first() else {
+        return Err(NumFault::More(1));
+    };
+    if first == 0 {
+        return Err(NumFault::Bad);
+    }
+    let width = width_of(first);
+    if bytes.len() < usize::from(width) {
+        return Err(NumFault::More(width));
+    }
+    let value = without_marker(number(bytes, width), width);
+    Ok(SizeRead {
+        size: size_of_data(width, value),
+        len: width,
+    })
+}
+
+// How many octets the number has that begins so.
+fn width_of(first: u8) -> u8
+    ensures { result ≡ width first }
+{
+    first.leading_zeros() as u8 + 1
+}
+
+// The ID in the first octets, of which it has so many.
+fn id_of_width(bytes: &[u8], width: u8) -> Result<IdRead, NumFault>
+    requires some { 1 ≤ width }
+    requires most { width ≤ 4 }
+    requires inside { width ≤ length bytes.now }
+    ensures { result ≡ id_of_width width bytes.now }
+{
+    let id = number(bytes, width);
+    if !is_id_data(width, without_marker(id, width)) {
+        return Err(NumFault::Bad);
+    }
+    Ok(IdRead {
+        id: id as u32,
+        len: width,
+    })
+}
+
+// Whether an ID of so many octets may have such data, which fewer octets can't hold.
+fn is_id_data(width: u8, value: u64) -> bool
+    requires some { 1 ≤ width }
+    requires most { width ≤ 8 }
+    ensures { result ≡ is_id_data width value }
+{
+    let least = all_ones(width - 1).max(1);
+    (least..all_ones(width)).contains(&value)
+}
+
+fn size_of_data(width: u8, value: u64) -> Size
+    requires { width ≤ 8 }
+    ensures { result ≡ size_of_data width value }
+{
+    if value == all_ones(width) {
+        Size::Unknown
+    } else {
+        Size::Known(value)
+    }
+}
+
+// The data bits of a number of so many octets.
+fn without_marker(number: u64, width: u8) -> u64
+    requires { width ≤ 8 }
+    ensures { result ≡ number % marker width }
+{
+    number & all_ones(width)
+}
+
+// The number in the first octets. Where a whole word is here, it is read as one.
+fn number(bytes: &[u8], width: u8) -> u64
+    requires some { 1 ≤ width }
+    requires most { width ≤ 8 }
+    requires inside { width ≤ length bytes.now }
+    ensures value { result ≡ big_number width bytes.now }
+    ensures fits { result < 256 ^ width }
+{
+    if bytes.len() < 8 {
+        BigEndian::read_uint(bytes, usize::from(width))
+    } else {
+        BigEndian::read_u64(bytes) >> (64 - 8 * width)
+    }
+}
