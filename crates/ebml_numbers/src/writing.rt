@@ -62,6 +62,7 @@ pub fn put_uint(value: u64) -> Octets
 /// Integer Element).
 pub fn put_int(value: i64) -> Octets
     ensures exact { octets_of result ≡ int_octets value }
+    ensures len { result.len ≡ int_width value }
     ensures least { IsLeastWidth (λ w. magnitude value < 2 ^ (8 * w - 1)) result.len }
     ensures read { int_of (octets_of result) ≡ value }
 {
