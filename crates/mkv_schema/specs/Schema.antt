@@ -1,0 +1,78 @@
+-- What the table says of an ID.
+use Rattle.std.specs.Prelude.{ℕ, ◌==◌, Bool, true, false, ◌||◌, Option, Some, None, List, map, find}
+use Rattle.std.specs.Option.{option_map, option_map_or, option_and_then}
+use Rattle.mkv_schema.specs.declared.kind.ElementKind.{ElementKind}
+use Rattle.mkv_schema.specs.declared.kind.ElementKind.TheVariants.{Master}
+use Rattle.mkv_schema.specs.declared.place.Place.{Place}
+use Rattle.mkv_schema.specs.declared.place.Place.TheVariants.{Root, AnyMaster, ChildOf, ChildOfOrItself}
+use Rattle.mkv_schema.specs.declared.ids.TheConstants.{SEGMENT}
+use Rattle.mkv_schema.specs.Table.{Entry, Default, number_value, text_value, table}
+
+-- the IDs of the table, in its order
+abbrev pub table_ids : List ℕ
+table_ids = map (λ e. e.id) table
+
+-- the row of an ID
+unfoldable pub entry_of : ℕ → Option Entry
+entry_of id = find (λ e. e.id == id) table
+
+abbrev pub name_of : ℕ → Option (List ℕ)
+name_of id = option_map (λ e. e.name) (entry_of id)
+
+abbrev pub kind_of : ℕ → Option ElementKind
+kind_of id = option_map (λ e. e.kind) (entry_of id)
+
+abbrev pub is_master_kind : ElementKind → Bool
+is_master_kind Master = true
+is_master_kind _ = false
+
+-- the table has a master of this ID
+abbrev pub is_master : ℕ → Bool
+is_master id = option_map_or (λ e. is_master_kind e.kind) (entry_of id) false
+
+-- ---- Where an Element stands
+
+abbrev pub is_root : Place → Bool
+is_root Root = true
+is_root _ = false
+
+-- an Element of level 0: EBML, or Segment
+abbrev pub is_level0 : ℕ → Bool
+is_level0 id = option_map_or (λ e. is_root e.place) (entry_of id) false
+
+abbrev pub is_child_of : ℕ → Place → Bool
+is_child_of parent (ChildOf own) = parent == own
+is_child_of parent _ = false
+
+-- an Element of level 1: a child of Segment, which no Global Element counts as
+abbrev pub is_level1 : ℕ → Bool
+is_level1 id = option_map_or (λ e. is_child_of SEGMENT e.place) (entry_of id) false
+
+-- the place of the Element id lets it stand under a parent
+abbrev pub allows : Place → ℕ → ℕ → Bool
+allows Root id parent = false
+allows AnyMaster id parent = is_master parent
+allows (ChildOf own) id parent = parent == own
+allows (ChildOfOrItself own) id parent = parent == own || parent == id
+
+-- an Element of the one ID may stand directly under one of the other
+abbrev pub may_stand : ℕ → ℕ → Bool
+may_stand id parent = option_map_or (λ e. allows e.place id parent) (entry_of id) false
+
+-- ---- Defaults
+
+abbrev pub number_in : Default → Option ℕ
+number_in (number_value n) = Some n
+number_in (text_value t) = None
+
+abbrev pub text_in : Default → Option (List ℕ)
+text_in (number_value n) = None
+text_in (text_value t) = Some t
+
+-- the number that stands for an integer Element that is empty or missing
+abbrev pub uint_default : ℕ → Option ℕ
+uint_default id = option_and_then (λ e. option_and_then number_in e.default) (entry_of id)
+
+-- the text that stands for a text Element that is missing
+abbrev pub text_default : ℕ → Option (List ℕ)
+text_default id = option_and_then (λ e. option_and_then text_in e.default) (entry_of id)

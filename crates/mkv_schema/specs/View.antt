@@ -1,0 +1,19 @@
+-- The code's entries as the definition's.
+use Rattle.std.specs.Prelude.{Option}
+use Rattle.std.specs.Option.{option_map}
+use denote.Ref.{Bor}
+use Rattle.mkv_schema.specs.declared.table.Entry.{Entry as CodeEntry}
+use Rattle.mkv_schema.specs.declared.table.DefaultValue.{DefaultValue}
+use Rattle.mkv_schema.specs.declared.table.DefaultValue.TheVariants.{Number, Text}
+use Rattle.mkv_schema.specs.Table.{Entry, Default, number_value, text_value}
+
+abbrev pub shown_default : DefaultValue → Default
+shown_default (Number n) = number_value n
+shown_default (Text t) = text_value t.now
+
+abbrev pub shown : CodeEntry → Entry
+shown e = record { name = e.row.name.now; id = e.row.id; kind = e.row.kind; place = e.place; default = option_map shown_default e.default }
+
+-- what a reference to an entry shows
+abbrev pub seen : Option (Bor CodeEntry) → Option Entry
+seen found = option_map (λ (e : Bor CodeEntry). shown e.now) found
