@@ -1,6 +1,7 @@
 -- The first element that passes a test.
-use Rattle.std.proofs.Common.{◌≡◌, Bool, true, false, List, [], ◌∷◌, map, find, Option, Some, None, if◌then◌else◌, refl}
+use Rattle.std.proofs.Common.{◌≡◌, Bool, true, false, List, [], ◌∷◌, map, find, ◌&&◌, Option, Some, None, if◌then◌else◌, refl}
 use Rattle.std.specs.Option.{option_map}
+use Rattle.std.specs.List.{list_all}
 use denote.Ref.{Bor}
 
 -- What is found among the images is the image of what is found.
@@ -16,3 +17,28 @@ find-map f p (x ∷ xs) =
 pub option_map-map : {A B : Type 0} (f : A → B) (o : Option (Bor A)) → option_map (λ (r : Bor A). f r.now) o ≡ option_map f (option_map (λ (r : Bor A). r.now) o)
 option_map-map f None = refl
 option_map-map f (Some r) = refl
+
+-- What is found passes the test that was asked.
+pub find-passes : {A : Type 0} (p : A → Bool) (xs : List A) (x : A) → find p xs ≡ Some x → p x ≡ true
+find-passes p [] x found = (cc)
+find-passes p (y ∷ ys) x found =
+    let here : (b : Bool) → p y ≡ b → (if b then Some y else find p ys) ≡ Some x → p x ≡ true =
+    λ b. elim b as (λ b. p y ≡ b → (if b then Some y else find p ys) ≡ Some x → p x ≡ true) [
+      | true ↦ λ yes same. (cc)
+      | false ↦ λ no later. find-passes p ys x later
+    ] in
+    here (p y) refl found
+
+-- What is found passes each test that all pass.
+pub find-all_pass : {A : Type 0} (q p : A → Bool) (xs : List A) (x : A) → list_all q xs ≡ true → find p xs ≡ Some x → q x ≡ true
+find-all_pass q p [] x all found = (cc)
+find-all_pass q p (y ∷ ys) x all found =
+    let here : (a b : Bool) → q y ≡ a → (a && list_all q ys) ≡ true → (if b then Some y else find p ys) ≡ Some x → q x ≡ true =
+    λ a b. elim a as (λ a. q y ≡ a → (a && list_all q ys) ≡ true → (if b then Some y else find p ys) ≡ Some x → q x ≡ true) [
+      | false ↦ λ fails all found. (cc)
+      | true ↦ elim b as (λ b. q y ≡ true → list_all q ys ≡ true → (if b then Some y else find p ys) ≡ Some x → q x ≡ true) [
+        | true ↦ λ passes all found. (cc)
+        | false ↦ λ passes all found. find-all_pass q p ys x all found
+      ]
+    ] in
+    here (q y) (p y) refl all found

@@ -7,6 +7,8 @@
 pub mod ids;
 mod kind;
 mod place;
+mod schema;
 mod table;
 
 pub use kind::{ElementKind, Row};
+pub use schema::{is_level0, is_level1, is_master, may_stand, row, text_default, uint_default};

@@ -1,0 +1,97 @@
+//! What the table says of an ID. Each question goes over the 107 rows from the first on, up to the ID's
+//! own: at most about 100 nanoseconds.
+ghost use Rattle.std.specs.Prelude.{◌≡◌, ◌≢◌, ◌<◌, ◌^◌, ◌↔◌, ℕ, nat_eq, false, Some, IsTrue, IsSome, IfSome, All};
+ghost use Rattle.std.specs.Option.{option_map, option_copied};
+ghost use Rattle.std.specs.List.{IsDistinct};
+ghost use Rattle.ebml_format.specs.Number.{is_id};
+ghost use Rattle.mkv_schema.specs.Schema.{table_ids, name_of, kind_of, is_master, is_level0, is_level1, may_stand, uint_default, text_default};
+
+use crate::ids::{CHAPTER_DISPLAY, SEGMENT};
+use crate::kind::{ElementKind, Row};
+use crate::place::Place;
+use crate::table::{DefaultValue, look_up};
+
+/// The row of an ID, which has its marker bit; None where the table doesn't have it.
+#[tactic(auto, using(crate::proofs::SchemaLemmas::laws))]
+pub fn row(id: u32) -> Option<Row>
+    ensures id { IfSome result (λ row. row.id ≡ id) }
+    ensures name { option_map (λ row. row.name.now) result ≡ name_of id }
+    ensures kind { option_map (λ row. row.kind) result ≡ kind_of id }
+
+    // No two rows share an ID, and each ID but ChapterDisplay's is a valid one.
+    ensures distinct { IsDistinct nat_eq table_ids }
+    ensures below { All (λ n. n < 2 ^ 32) table_ids }
+    ensures valid { IsSome result → id ≢ CHAPTER_DISPLAY → IsTrue (is_id id) }
+{
+    look_up(id).map(|entry| entry.row)
+}
+
+/// Whether the table has a master of this ID.
+pub fn is_master(id: u32) -> bool
+    ensures exact { result ≡ is_master id }
+    ensures kind { IsTrue result ↔ (kind_of id ≡ Some ElementKind.Master) }
+{
+    look_up(id).is_some_and(|entry| entry.row.kind == ElementKind::Master)
+}
+
+/// Whether the table has this ID at level 0: EBML, or Segment.
+#[tactic(auto, using(crate::proofs::SchemaLemmas::laws))]
+pub fn is_level0(id: u32) -> bool
+    ensures exact { result ≡ is_level0 id }
+    ensures master { IsTrue result → IsTrue (is_master id) }
+    ensures root { IsTrue result → (parent : ℕ) → may_stand id parent ≡ false }
+{
+    look_up(id).is_some_and(|entry| entry.place == Place::Root)
+}
+
+/// Whether the table has this ID as a child of Segment. Void and CRC-32, which may stand at level 1
+/// as everywhere, are none.
+#[tactic(auto, using(crate::proofs::SchemaLemmas::laws))]
+pub fn is_level1(id: u32) -> bool
+    ensures exact { result ≡ is_level1 id }
+    ensures master { IsTrue result → IsTrue (is_master id) }
+    ensures child { IsTrue result → IsTrue (may_stand id SEGMENT) }
+{
+    look_up(id).is_some_and(|entry| entry.place == Place::ChildOf(SEGMENT))
+}
+
+/// Whether the schema lets an Element stand directly under a parent, by their IDs. Level 0 is no parent.
+#[tactic(auto, using(crate::proofs::SchemaLemmas::laws))]
+pub fn may_stand(id: u32, parent: u32) -> bool
+    ensures exact { result ≡ may_stand id parent }
+    ensures known { IsTrue result → IsSome (kind_of id) }
+    ensures parent { IsTrue result → IsTrue (is_master parent) }
+{
+    look_up(id).is_some_and(|entry| match entry.place {
+        Place::Root => false,
+        Place::AnyMaster => is_master(parent),
+        Place::ChildOf(own) => parent == own,
+        Place::ChildOfOrItself(own) => parent == own || parent == id,
+    })
+}
+
+/// The number that stands for an integer Element that is empty or missing; None where the standards
+/// give none.
+#[tactic(auto, using(crate::proofs::SchemaLemmas::laws))]
+pub fn uint_default(id: u32) -> Option<u64>
+    ensures exact { result ≡ uint_default id }
+    ensures kind { IsSome result → kind_of id ≡ Some ElementKind.Uint }
+{
+    match look_up(id)?.default {
+        Some(DefaultValue::Number(number)) => Some(number),
+        _ => None,
+    }
+}
+
+/// The text that stands for a text Element that is missing: `eng` for Language and ChapLanguage; None
+/// where the standards give none.
+#[tactic(auto, using(crate::proofs::SchemaLemmas::laws))]
+pub fn text_default(id: u32) -> Option<&'static str>
+    ensures exact { option_copied result ≡ text_default id }
+    ensures kind { IsSome result → kind_of id ≡ Some ElementKind.Ascii }
+{
+    match look_up(id)?.default {
+        Some(DefaultValue::Text(text)) => Some(text),
+        _ => None,
+    }
+}
