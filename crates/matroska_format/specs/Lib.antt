@@ -1,0 +1,4 @@
+pub mod Element
+pub mod Elements
+pub mod Value
+pub mod Outline
