@@ -1,1 +1,3 @@
+pub mod ElementLemmas
+pub mod ElementsLemmas
 pub mod OutlineFacts

@@ -12,7 +12,7 @@ use Rattle.mkv_values.specs.declared.damage.Damage.{Damage}
 use Rattle.mkv_values.specs.declared.damage.Kind.{Kind}
 use Rattle.mkv_values.specs.declared.damage.Kind.TheVariants.{NotEbml, BadId, TooLong, Truncated, DocType, NoSegment, UnknownSize}
 use Rattle.matroska_format.specs.declared.element.Header.{Header}
-use Rattle.matroska_format.specs.Element.{element_at, anywhere, in_tree, damage}
+use Rattle.matroska_format.specs.Element.{element_in, element_at, anywhere, in_tree, damage}
 use Rattle.matroska_format.specs.Elements.{elements, elements_within}
 use Rattle.matroska_format.specs.Outline.{Outlined, outline_of, ebml_header, segment_of}
 
@@ -95,7 +95,7 @@ pub record AreOutlines : Type 0 where
   pub streamed_file : outline streamed ≡ whole Unknown (tracks_at 28 ∷ cluster_at 53 Unknown ∷ (0x1C53BB6B, 82, Known 0) ∷ []) 87
 
 pub outlines : AreOutlines
-unfolding is_utf8 chars encode outline_of ebml_header segment_of elements elements_within element_at id_at size_at entry_of table count_leading_zeros
+unfolding is_utf8 chars encode outline_of ebml_header segment_of elements elements_within element_in id_at size_at entry_of table count_leading_zeros
 outlines = record { segment_alone = refl; zeros_behind_text = refl; small_file = refl; streamed_file = refl }
 
 -- the small file with one octet set anew
@@ -119,7 +119,7 @@ pub record AreRefusals : Type 0 where
   pub other_doc_type : outline (with_octet 8 0x78) ≡ refused DocType 0x4282 5
 
 pub refusals : AreRefusals
-unfolding is_utf8 chars encode outline_of ebml_header segment_of elements elements_within element_at id_at size_at entry_of table count_leading_zeros
+unfolding is_utf8 chars encode outline_of ebml_header segment_of elements elements_within element_in id_at size_at entry_of table count_leading_zeros
 refusals = record {
   nothing = refl;
   no_mark = refl;
@@ -146,7 +146,7 @@ pub record AreDamages : Type 0 where
   pub cut_in_cluster : cut 60 ≡ whole (Known 47) (tracks_at 21 ∷ cluster_at 46 (Known 17) ∷ []) 60
 
 pub damages : AreDamages
-unfolding is_utf8 chars encode outline_of ebml_header segment_of elements elements_within element_at id_at size_at entry_of table count_leading_zeros
+unfolding is_utf8 chars encode outline_of ebml_header segment_of elements elements_within element_in id_at size_at entry_of table count_leading_zeros
 damages = record {
   unknown_segment = refl;
   bad_id_first = refl;
@@ -169,7 +169,7 @@ pub record AreElements : Type 0 where
   pub unknown_void : element_at anywhere (0xEC ∷ 0xFF ∷ []) 0 2 ≡ Err (damage UnknownSize 0xEC 0)
 
 pub elements_at : AreElements
-unfolding element_at id_at size_at count_leading_zeros
+unfolding element_in id_at size_at count_leading_zeros
 elements_at = record {
   display = refl;
   no_display = refl;

@@ -49,9 +49,13 @@ anywhere = record { may_open = λ id. id == SEGMENT || id == CLUSTER; display = 
 abbrev pub octets_between : List ℕ → ℕ → ℕ → List ℕ
 octets_between bytes p e = drop p (take e bytes)
 
+-- ChapterDisplay's ID, read from its one octet
+abbrev pub display_read : Result IdRead NumFault
+display_read = Ok (record { id = CHAPTER_DISPLAY; len = 1 })
+
 -- the ID at the front of octets
 abbrev pub id_in : Setting → List ℕ → Result IdRead NumFault
-id_in s octets = if s.display && slice_index octets 0 == CHAPTER_DISPLAY then Ok (record { id = CHAPTER_DISPLAY; len = 1 }) else id_at octets
+id_in s octets = if s.display && slice_index octets 0 == CHAPTER_DISPLAY then display_read else id_at octets
 
 abbrev pub is_unknown : Size → Bool
 is_unknown (Known n) = false
@@ -70,15 +74,15 @@ stated_end h = h.body + known h.size
 abbrev pub end_in : ℕ → Header → ℕ
 end_in e h = min (stated_end h) e
 
--- ---- what is wrong with it
+-- ---- what is wrong with it, in a file of `total` octets
 
 abbrev pub damage : Kind → ℕ → ℕ → Damage
 damage kind id offset = record { kind = kind; id = id; offset = offset }
 
 -- A header up to here passes its parent's end: it passes the end of the file too, or not.
-abbrev pub cut_header : Setting → List ℕ → ℕ → ℕ → ℕ → Damage
-cut_header s bytes id p end =
-    if not s.held && nat_lt (length bytes) end then damage Truncated id p else damage TooLong id p
+abbrev pub cut_header : Setting → ℕ → ℕ → ℕ → ℕ → Damage
+cut_header s total id p end =
+    if not s.held && nat_lt total end then damage Truncated id p else damage TooLong id p
 
 -- a Segment or a Cluster
 abbrev pub may_be_open : ℕ → Bool
@@ -90,43 +94,47 @@ has_unknown_size s h = is_unknown h.size && not (s.may_open h.id)
 
 -- Its body passes the end of the file. A Segment or a Cluster that may be cut there isn't so, nor is
 -- one whose parent ends before the file.
-abbrev pub is_truncated : Setting → List ℕ → ℕ → Header → Bool
-is_truncated s bytes e h =
-    not s.held && nat_lt (length bytes) (stated_end h)
-    && (not (may_be_open h.id) || (not (s.may_open h.id) && e == length bytes))
+abbrev pub is_truncated : Setting → ℕ → ℕ → Header → Bool
+is_truncated s total e h =
+    not s.held && nat_lt total (stated_end h)
+    && (not (may_be_open h.id) || (not (s.may_open h.id) && e == total))
 
 -- Its body passes its parent's end. A Segment or a Cluster that may be cut by the end of the file isn't so there.
-abbrev pub is_too_long : Setting → List ℕ → ℕ → Header → Bool
-is_too_long s bytes e h = nat_lt e (stated_end h) && not (s.may_open h.id && e == length bytes)
+abbrev pub is_too_long : Setting → ℕ → ℕ → Header → Bool
+is_too_long s total e h = nat_lt e (stated_end h) && not (s.may_open h.id && e == total)
 
 -- what is wrong with a body, in the order in which it is told
-abbrev pub body_damage : Setting → List ℕ → ℕ → Header → Option Kind
-body_damage s bytes e h =
+abbrev pub body_damage : Setting → ℕ → ℕ → Header → Option Kind
+body_damage s total e h =
     if has_unknown_size s h then Some UnknownSize else
-    if is_truncated s bytes e h then Some Truncated else
-    if is_too_long s bytes e h then Some TooLong else
+    if is_truncated s total e h then Some Truncated else
+    if is_too_long s total e h then Some TooLong else
     None
 
 -- ---- the Element, or the first damage of its place
 
-abbrev pub with_body : Setting → List ℕ → ℕ → Header → Option Kind → Result Header Damage
-with_body s bytes e h None = Ok h
-with_body s bytes e h (Some kind) = Err (damage kind h.id h.offset)
+abbrev pub with_body : Header → Option Kind → Result Header Damage
+with_body h None = Ok h
+with_body h (Some kind) = Err (damage kind h.id h.offset)
 
-abbrev pub with_size : Setting → List ℕ → ℕ → ℕ → ℕ → ℕ → Result SizeRead NumFault → Result Header Damage
-with_size s bytes p e id at (Err (fault.More n)) = Err (cut_header s bytes id p (at + n))
-with_size s bytes p e id at (Err fault.Bad) = Err (damage BadSize id p)
-with_size s bytes p e id at (Ok size) =
+abbrev pub with_size : Setting → ℕ → ℕ → ℕ → ℕ → ℕ → Result SizeRead NumFault → Result Header Damage
+with_size s total p e id at (Err (fault.More n)) = Err (cut_header s total id p (at + n))
+with_size s total p e id at (Err fault.Bad) = Err (damage BadSize id p)
+with_size s total p e id at (Ok size) =
     let h : Header = record { id = id; offset = p; body = at + size.len; size = size.size } in
-    with_body s bytes e h (body_damage s bytes e h)
+    with_body h (body_damage s total e h)
 
-abbrev pub with_id : Setting → List ℕ → ℕ → ℕ → Result IdRead NumFault → Result Header Damage
-with_id s bytes p e (Err fault.Bad) = Err (damage BadId 0 p)
-with_id s bytes p e (Err (fault.More n)) = Err (cut_header s bytes 0 p (p + n + 1))
-with_id s bytes p e (Ok id) = with_size s bytes p e id.id (p + id.len) (size_at (octets_between bytes (p + id.len) e))
+abbrev pub with_id : Setting → List ℕ → ℕ → ℕ → ℕ → Result IdRead NumFault → Result Header Damage
+with_id s octets total p e (Err fault.Bad) = Err (damage BadId 0 p)
+with_id s octets total p e (Err (fault.More n)) = Err (cut_header s total 0 p (p + n + 1))
+with_id s octets total p e (Ok id) = with_size s total p e id.id (p + id.len) (size_at (drop id.len octets))
 
--- The Element at place p of a content, whose parent ends at e, or what is wrong there. ID and size
--- are read from the octets before e alone; a header that isn't whole there has the octets that its
--- part announces, one for an ID or a size of which nothing is there.
-unfoldable pub element_at : Setting → List ℕ → ℕ → ℕ → Result Header Damage
-element_at s bytes p e = with_id s bytes p e (id_in s (octets_between bytes p e))
+-- The Element that these octets begin, which stand at place p of a file of `total` octets, up to its
+-- parent's end e; or what is wrong there. A header that isn't whole has the octets that its part
+-- announces, one for an ID or a size of which nothing is there.
+unfoldable pub element_in : Setting → List ℕ → ℕ → ℕ → ℕ → Result Header Damage
+element_in s octets total p e = with_id s octets total p e (id_in s octets)
+
+-- The Element at place p of a content, whose parent ends at e: it is read from the octets before e alone.
+abbrev pub element_at : Setting → List ℕ → ℕ → ℕ → Result Header Damage
+element_at s bytes p e = element_in s (octets_between bytes p e) (length bytes) p e
