@@ -2,6 +2,7 @@
 
 ghost use Rattle.std.specs.Prelude.{◌≡◌, ◌≤◌, ◌+◌, ◌^◌, length, drop, nat_lt, IfOk};
 ghost use Rattle.matroska_format.specs.Element.{body_damage, cut_header, element_in, id_in, stated_end, with_size};
+ghost use Rattle.matroska_format.specs.Placed.{IsPlaced};
 ghost use Rattle.ebml_format.specs.Number.{size_at};
 ghost use Rattle.element_headers.specs.Parent.{setting_of};
 
@@ -15,7 +16,6 @@ use mkv_values::{Damage, Kind};
 ///
 /// The octets stand `at` octets behind the start of a file of `total` octets, and reach to `end`, the
 /// parent's end; the first 12 of them are enough.
-#[tactic(auto, unfolding(matroska_format::specs::Element::element_in))]
 pub fn read_header(
     octets: &[u8],
     parent: Parent,
@@ -25,6 +25,21 @@ pub fn read_header(
 ) -> Result<Header, Damage>
     requires { at ≤ 2 ^ 48 }
     ensures exact { result ≡ element_in (setting_of parent) octets.now total at end }
+    ensures placed { at + length octets.now ≤ end → IfOk result (IsPlaced at end) }
+{
+    first_header(octets, parent, total, at, end)
+}
+
+#[tactic(auto, unfolding(matroska_format::specs::Element::element_in))]
+fn first_header(
+    octets: &[u8],
+    parent: Parent,
+    total: u64,
+    at: u64,
+    end: u64,
+) -> Result<Header, Damage>
+    requires { at ≤ 2 ^ 48 }
+    ensures { result ≡ element_in (setting_of parent) octets.now total at end }
 {
     let id = match id_at(octets, parent) {
         Ok(id) => id,

@@ -1,0 +1,20 @@
+-- What a window holds is what the file has there.
+use Rattle.std.proofs.Common.{◌≡◌, ℕ, ◌+◌, ◌-◌, ◌≤◌, min, List, length, take, drop, sym, ◌∙◌, ap, arith}
+use Rattle.std.proofs.lemmas.List.{take-take, drop-take, drop-drop}
+use Rattle.mkv_io.specs.Contents.{octets_from}
+use Rattle.element_window.specs.Window.{Held, Holds, HasRange}
+
+-- a part of what is held is that part of the file
+pub octets_from-held : (bytes : List ℕ) (w : Held) (at len : ℕ) → Holds bytes w → HasRange w at len → octets_from w.octets (at - w.at) len ≡ octets_from bytes at len
+octets_from-held bytes w at len holds range =
+    ap (λ o. octets_from o (at - w.at) len) holds
+    ∙ ap (λ n. take len (drop (at - w.at) (take n (drop w.at bytes)))) count
+    ∙ ap (take len) (drop-take (at - w.at) (length w.octets - (at - w.at)) (drop w.at bytes))
+    ∙ take-take len (length w.octets - (at - w.at)) (drop (at - w.at) (drop w.at bytes)) (omega (arith, range.from, range.to))
+    ∙ ap (take len) (drop-drop (at - w.at) w.at bytes ∙ ap (λ n. drop n bytes) place)
+  where
+    count : length w.octets ≡ (at - w.at) + (length w.octets - (at - w.at))
+    count = omega (arith, range.from, range.to)
+
+    place : w.at + (at - w.at) ≡ at
+    place = omega (arith, range.from)

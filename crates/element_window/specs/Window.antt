@@ -1,0 +1,37 @@
+-- What a window holds of a file.
+use Rattle.std.specs.Prelude.{◌≡◌, ℕ, ◌+◌, ◌*◌, ◌-◌, ◌≤◌, ◌==◌, min, List, length, take, drop, if◌then◌else◌}
+use Rattle.mkv_io.specs.Contents.{octets_from}
+
+-- octets, and the place of the first of them
+pub record Held : Type 0 where
+  pub at : ℕ
+  pub octets : List ℕ
+
+-- the place behind the last
+abbrev pub end_held : Held → ℕ
+end_held w = w.at + length w.octets
+
+-- a window's octets are those of this content
+abbrev pub Holds : List ℕ → Held → Type 0
+Holds bytes w = w.octets ≡ octets_from bytes w.at (length w.octets)
+
+-- the window holds so many octets from a place on
+pub record HasRange (w : Held) (at len : ℕ) : Type 0 where
+  pub from : w.at ≤ at
+  pub to : at + len ≤ end_held w
+
+-- how many octets are read at once, in a file of `size` octets
+abbrev pub WINDOW : ℕ
+WINDOW = 65536
+
+abbrev pub read_from : ℕ → ℕ → ℕ
+read_from size at = min WINDOW (size - at)
+
+-- What a window has cost that was moved forwards through a file of `size` octets: at most two octets
+-- for each that it has passed, and three where it has come to the end.
+abbrev pub cost_of : ℕ → Held → ℕ
+cost_of size w = if end_held w == size then 3 * size else 2 * end_held w
+
+-- What was read since is paid by the way that the window has gone.
+abbrev pub Pays : ℕ → Held → Held → ℕ → ℕ → Type 0
+Pays size old new before now = now + cost_of size old ≤ before + cost_of size new

@@ -1,0 +1,8 @@
+#![tactic(auto)]
+
+//! A window on a file, through which the headers of Elements are read forwards: a read takes 65,536
+//! octets at once, and what the window holds isn't read again.
+
+mod window;
+
+pub use window::{HeadEnd, Window};

@@ -1,0 +1,214 @@
+//! The window.
+
+ghost use Rattle.std.specs.Prelude.{◌≡◌, ◌+◌, ◌-◌, ◌≤◌, ◌<◌, [], List, ℕ, length, take, drop, min, OnOk, OnErr, IsTrue, IsOk, IfOk, ◌↔◌};
+ghost use Rattle.mkv_io.specs.Contents.{octets_from};
+ghost use Rattle.mkv_io.specs.Faults.{HasCause};
+ghost use Rattle.mkv_io.specs.Told.{Told};
+ghost use Rattle.matroska_format.specs.Element.{element_at};
+ghost use Rattle.matroska_format.specs.Placed.{IsPlaced};
+ghost use Rattle.element_headers.specs.Parent.{setting_of};
+ghost use Rattle.element_window.specs.Window.{HasRange, Holds, Pays, end_held, read_from};
+
+use element_headers::{Header, Parent, read_header};
+use mkv_io::Reads;
+use mkv_values::{Damage, Failed, FileId};
+use std::alloc::{AllocError, Global};
+use std::marker::Model;
+
+/// How many octets are read at once.
+const WINDOW: usize = 65536;
+
+/// The octets of the longest header.
+const HEADER: u64 = 12;
+
+/// Why no header is read.
+#[derive(Clone, Copy, Debug, PartialEq, Eq)]
+pub enum HeadEnd {
+    /// What stands there is no Element that the file may have there.
+    Damage(Damage),
+    /// A read failed.
+    ReadFault,
+}
+
+/// Octets of one file, read at once from a place on.
+#[derive(Drop)]
+pub struct Window {
+    buffer: Vec<u8>,
+    at: u64,
+    len: usize,
+}
+
+impl Model for Window {
+    ghost use Rattle.std.specs.Prelude.{take, length, ◌≡◌, ◌≤◌};
+    ghost use Rattle.element_window.specs.Window.{Held};
+
+    ghost Value = { Held };
+
+    ghost view = { λ w. record { at = w.at; octets = take w.len w.buffer.items } };
+
+    ghost invariant = { λ w. (length w.buffer.items ≡ 65536) × (w.len ≤ 65536) };
+}
+
+impl Window {
+    /// A window that holds nothing, with room for 65,536 octets.
+    pub fn new(alloc: Global) -> Result<Window, AllocError>
+        ensures { IfOk result (λ w. w ≡ record { at = 0; octets = [] }) }
+    {
+        Ok(Window {
+            buffer: vec![in alloc; 0; WINDOW]?,
+            at: 0,
+            len: 0,
+        })
+    }
+
+    /// Whether the window holds so many octets from `at` octets behind the file's start on.
+    pub fn has(&self, at: u64, len: usize) -> bool
+        ensures { IsTrue result ↔ HasRange self.now at len }
+    {
+        self.at <= at
+            && at - self.at <= self.len as u64
+            && len <= self.len - (at - self.at) as usize
+    }
+
+    /// Octets that the window holds.
+    pub fn held(&self, at: u64, len: usize) -> &[u8]
+        requires { HasRange self.now at len }
+        ensures { result.now ≡ octets_from self.now.octets (at - self.now.at) len }
+    {
+        let start = (at - self.at) as usize;
+        &self.buffer[start..start + len]
+    }
+
+    /// Makes the window hold so many octets from `at` octets behind the file's start on. It reads
+    /// nothing where it holds them, else 65,536 octets, or those up to the file's end.
+    pub fn hold<R: Reads>(
+        &mut self,
+        src: &mut R,
+        file: FileId,
+        at: u64,
+        len: u16,
+    ) -> Result<(), Failed>
+        requires live { IsTrue ((R.files (R.standing src.old)).live file.n) }
+        requires few { len ≤ 64 }
+        requires range { at + len ≤ (R.files (R.standing src.old)).size file.n }
+        requires holds { Told ((R.files (R.standing src.old)).content file.n) (λ bytes. Holds bytes self.old) }
+        ensures range { OnOk result (HasRange self.new at len) }
+        ensures holds { Told ((R.files (R.standing src.old)).content file.n) (λ bytes. Holds bytes self.new) }
+        ensures err { OnErr result (self.new.octets ≡ []) }
+
+        // What is held isn't read again; else the window then holds exactly what was read.
+        ensures kept { HasRange self.old at len → (self.new ≡ self.old) × (R.octets_read src.new ≡ R.octets_read src.old) × IsOk result }
+        ensures read { (HasRange self.old at len → ⊥) → OnOk result ((self.new.at ≡ at) × (length self.new.octets ≡ read_from ((R.files (R.standing src.old)).size file.n) at)) }
+
+        ensures standing { R.standing src.new ≡ R.standing src.old }
+        ensures cause { HasCause (R.reading_faults src.old) (R.reading_faults src.new) result }
+        ensures octets { R.octets_read src.new ≤ R.octets_read src.old + read_from ((R.files (R.standing src.old)).size file.n) at }
+        ensures pays { self.old.at ≤ at → end_held self.old ≤ (R.files (R.standing src.old)).size file.n
+            → OnOk result (Pays ((R.files (R.standing src.old)).size file.n) self.old self.new (R.octets_read src.old) (R.octets_read src.new)) }
+    {
+        if self.has(at, usize::from(len)) {
+            return Ok(());
+        }
+        let count = (src.size(file) - at).min(WINDOW as u64) as usize;
+        self.len = 0;
+        self.at = at;
+        read_front(src, file, at, &mut self.buffer, count)?;
+        self.len = count;
+        Ok(())
+    }
+
+    /// Octets of the file, from the window.
+    pub fn octets<R: Reads>(
+        &mut self,
+        src: &mut R,
+        file: FileId,
+        at: u64,
+        len: u16,
+    ) -> Result<&[u8], Failed>
+        requires live { IsTrue ((R.files (R.standing src.old)).live file.n) }
+        requires few { len ≤ 64 }
+        requires range { at + len ≤ (R.files (R.standing src.old)).size file.n }
+        requires holds { Told ((R.files (R.standing src.old)).content file.n) (λ bytes. Holds bytes self.old) }
+        ensures ok { IfOk result (λ octets. Told ((R.files (R.standing src.old)).content file.n) (λ bytes. octets.now ≡ octets_from bytes at len)) }
+        ensures standing { R.standing src.new ≡ R.standing src.old }
+        ensures cause { HasCause (R.reading_faults src.old) (R.reading_faults src.new) result }
+        ensures octets { R.octets_read src.new ≤ R.octets_read src.old + read_from ((R.files (R.standing src.old)).size file.n) at }
+    {
+        self.hold(src, file, at, len)?;
+        Ok(self.held(at, usize::from(len)))
+    }
+
+    /// The Element at a place of a file, under a parent that ends at `end`, or what is wrong there.
+    pub fn element<R: Reads>(
+        &mut self,
+        src: &mut R,
+        file: FileId,
+        parent: Parent,
+        at: u64,
+        end: u64,
+    ) -> Result<Result<Header, Damage>, Failed>
+        requires live { IsTrue ((R.files (R.standing src.old)).live file.n) }
+        requires place { at ≤ end }
+        requires inside { end ≤ (R.files (R.standing src.old)).size file.n }
+        requires holds { Told ((R.files (R.standing src.old)).content file.n) (λ bytes. Holds bytes self.old) }
+        ensures ok { IfOk result (λ found. Told ((R.files (R.standing src.old)).content file.n) (λ bytes. found ≡ element_at (setting_of parent) bytes at end)) }
+        ensures placed { IfOk result (λ found. IfOk found (IsPlaced at end)) }
+        ensures holds { Told ((R.files (R.standing src.old)).content file.n) (λ bytes. Holds bytes self.new) }
+        ensures err { OnErr result (self.new.octets ≡ []) }
+        ensures standing { R.standing src.new ≡ R.standing src.old }
+        ensures cause { HasCause (R.reading_faults src.old) (R.reading_faults src.new) result }
+        ensures octets { R.octets_read src.new ≤ R.octets_read src.old + read_from ((R.files (R.standing src.old)).size file.n) at }
+        ensures pays { self.old.at ≤ at → end_held self.old ≤ (R.files (R.standing src.old)).size file.n
+            → OnOk result (Pays ((R.files (R.standing src.old)).size file.n) self.old self.new (R.octets_read src.old) (R.octets_read src.new)) }
+    {
+        let len = (end - at).min(HEADER);
+        self.hold(src, file, at, len as u16)?;
+        let total = src.size(file);
+        Ok(read_header(self.held(at, len as usize), parent, total, at, end))
+    }
+
+    /// Octets of a body, as many as `into` has: from the window where it holds them all, else read.
+    pub fn fill<R: Reads>(
+        &self,
+        src: &mut R,
+        file: FileId,
+        at: u64,
+        into: &mut [u8],
+    ) -> Result<(), Failed>
+        requires live { IsTrue ((R.files (R.standing src.old)).live file.n) }
+        requires range { at + length into.old ≤ (R.files (R.standing src.old)).size file.n }
+        requires holds { Told ((R.files (R.standing src.old)).content file.n) (λ bytes. Holds bytes self.now) }
+        ensures ok { OnOk result (Told ((R.files (R.standing src.old)).content file.n) (λ bytes. into.new ≡ octets_from bytes at (length into.old))) }
+        ensures standing { R.standing src.new ≡ R.standing src.old }
+        ensures cause { HasCause (R.reading_faults src.old) (R.reading_faults src.new) result }
+        ensures octets { R.octets_read src.new ≤ R.octets_read src.old + length into.old }
+        ensures kept { HasRange self.now at (length into.old) → IsOk result × (R.octets_read src.new ≡ R.octets_read src.old) }
+    {
+        if self.has(at, into.len()) {
+            into.copy_from_slice(self.held(at, into.len()));
+            return Ok(());
+        }
+        src.read_at(file, at, into)
+    }
+}
+
+// Reads octets into the front of a buffer.
+#[tactic(auto, using(std::proofs::lemmas::List::take_at))]
+fn read_front<R: Reads>(
+    src: &mut R,
+    file: FileId,
+    at: u64,
+    buffer: &mut [u8],
+    count: usize,
+) -> Result<(), Failed>
+    requires live { IsTrue ((R.files (R.standing src.old)).live file.n) }
+    requires range { at + count ≤ (R.files (R.standing src.old)).size file.n }
+    requires room { count ≤ length buffer.old }
+    ensures ok { OnOk result (Told ((R.files (R.standing src.old)).content file.n) (λ bytes. take count buffer.new ≡ octets_from bytes at count)) }
+    ensures standing { R.standing src.new ≡ R.standing src.old }
+    ensures cause { HasCause (R.reading_faults src.old) (R.reading_faults src.new) result }
+    ensures octets { R.octets_read src.new ≤ R.octets_read src.old + count }
+{
+    src.read_at(file, at, &mut buffer[..count])?;
+    Ok(())
+}
