@@ -4,7 +4,7 @@ ghost use Rattle.std.specs.Prelude.{◌≡◌, ◌≢◌, ◌<◌, ◌^◌, ◌�
 ghost use Rattle.std.specs.Option.{option_map, option_copied};
 ghost use Rattle.std.specs.List.{IsDistinct};
 ghost use Rattle.ebml_format.specs.Number.{is_id};
-ghost use Rattle.mkv_schema.specs.Schema.{table_ids, name_of, kind_of, is_master, is_level0, is_level1, may_stand, uint_default, text_default};
+ghost use Rattle.mkv_schema.specs.Schema.{table_ids, name_of, kind_of, is_master, is_level0, is_level1, allows, may_stand, uint_default, text_default};
 
 use crate::ids::{CHAPTER_DISPLAY, SEGMENT};
 use crate::kind::{ElementKind, Row};
@@ -62,12 +62,19 @@ pub fn may_stand(id: u32, parent: u32) -> bool
     ensures known { IsTrue result → IsSome (kind_of id) }
     ensures parent { IsTrue result → IsTrue (is_master parent) }
 {
-    look_up(id).is_some_and(|entry| match entry.place {
+    look_up(id).is_some_and(|entry| allows(entry.place, id, parent))
+}
+
+/// Whether a place, which is that of an ID, has this parent.
+fn allows(place: Place, id: u32, parent: u32) -> bool
+    ensures { result ≡ allows place id parent }
+{
+    match place {
         Place::Root => false,
         Place::AnyMaster => is_master(parent),
         Place::ChildOf(own) => parent == own,
         Place::ChildOfOrItself(own) => parent == own || parent == id,
-    })
+    }
 }
 
 /// The number that stands for an integer Element that is empty or missing; None where the standards
