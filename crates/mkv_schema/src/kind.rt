@@ -22,7 +22,7 @@ pub enum ElementKind {
 }
 
 /// What the standards say of an Element.
-#[derive(Clone, Copy, Debug)]
+#[derive(Clone, Copy, Debug, PartialEq, Eq)]
 pub struct Row {
     /// The ID with its marker bit, as the standards print it.
     pub id: u32,
