@@ -1,15 +1,29 @@
 -- One name's content changes: what becomes of the live files, and of what always holds.
 use Rattle.std.proofs.lemmas.Grind.{common_steps}
 use Rattle.mkv_io.specs.Contents.{overwritten, with_appended, with_overwritten}
-use Rattle.std.proofs.Common.{Result, Ok, Err, OnOk, OnErr, length-append, ◌≡◌, ◌≢◌, ℕ, zero, suc, ◌+◌, ◌<◌, ◌≤◌, ◌^◌, List, [], ◌∷◌, ◌++◌, length, take, drop, Option, Some, None, Bool, true, false, is_some, unwrap_or, option_and_then, option_map, if◌then◌else◌, refl, sym, ◌∙◌, ap, subst, get_or, arith}
+use Rattle.std.proofs.Common.{Result, Ok, Err, OnOk, OnErr, length-append, ◌≡◌, ◌≢◌, ℕ, zero, suc, ◌+◌, ◌<◌, ◌≤◌, ◌^◌, List, [], ◌∷◌, ◌++◌, length, take, drop, Option, Some, None, Bool, true, false, is_some, unwrap_or, option_and_then, if◌then◌else◌, refl, sym, ◌∙◌, ap, subst, arith}
 use Rattle.std.specs.Str.{bytes_eq}
 use Rattle.std.proofs.lemmas.Slice.Eq.{bytes_eq-Decides}
 use Rattle.std.proofs.lemmas.List.{get_or_append_left, take-append-drop, drop-drop}
 use Rattle.std.proofs.Math.Seq.{get_or-append_seam}
 use Rattle.mkv_io.specs.Names.{changed_at}
 use Rattle.mkv_io.specs.LiveFiles.{IsSameFile, ChangesFile, OverwritesWithin}
-use Rattle.mkv_memory.specs.Held.{Held, World, AreShort, AreThere, ChangesHeld, is_there, files_of, holder_of, content_of_file, name_of_file, held-live}
+use Rattle.mkv_memory.specs.Held.{Held, World, AreShort, AreThere, ChangesHeld, is_there, files_of, holder_of, content_of_file, name_of_file, held-live, with_changed_file}
 use Rattle.mkv_memory.proofs.NamesLemmas.{same_world}
+
+-- ---- what is held, by its parts
+
+pub Held-both : {world now : World} {opened names : List (Option (List ℕ))} → now ≡ world → names ≡ opened → ◌≡◌ {A = Held} (record { world = now; opened = names }) (record { world = world; opened = opened })
+Held-both same_contents same_names i = record { world = same_contents i; opened = same_names i }
+
+-- the same names are open
+pub Held-world : {world now : World} (opened : List (Option (List ℕ))) → now ≡ world → ◌≡◌ {A = Held} (record { world = now; opened = opened }) (record { world = world; opened = opened })
+Held-world opened same i = record { world = same i; opened = opened }
+
+-- a change of the name of a live file is one of that file
+pub Held-changed : (held : Held) (file : ℕ) {name : List ℕ} {now : World} (change : Option (List ℕ) → Option (List ℕ)) → name_of_file held.opened file ≡ Some name → now ≡ changed_at name change held.world → ◌≡◌ {A = Held} (record { world = now; opened = held.opened }) (with_changed_file held file change)
+Held-changed held file change holder changed =
+    Held-world held.opened (changed ∙ ap (λ name. changed_at (unwrap_or name []) change held.world) (sym holder))
 
 -- ---- a changed name, and the others
 

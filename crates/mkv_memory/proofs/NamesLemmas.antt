@@ -1,5 +1,5 @@
 -- One name's content changes in a map of names.
-use Rattle.std.proofs.Common.{◌≡◌, ℕ, List, Result, Ok, Err, OnErr, Option, Some, None, Bool, true, false, cond, if◌then◌else◌, refl, sym, ◌∙◌, ap, String, Global, string_bytes}
+use Rattle.std.proofs.Common.{◌≡◌, ℕ, List, Result, Ok, Err, OnErr, Option, Some, Bool, true, false, cond, if◌then◌else◌, refl, sym, ◌∙◌, ap, String, Global, string_bytes}
 use Rattle.std.specs.BTreeMap.{BTreeMap, UpdatesBy, get_by_text}
 use Rattle.std.specs.Cmp.Lexicographic.{slice_cmp}
 use Rattle.std.specs.Ordering.{nat_cmp}

@@ -1,5 +1,5 @@
 -- What files in memory hold.
-use Rattle.std.specs.Prelude.{◌≡◌, ◌≢◌, ℕ, zero, suc, ◌<◌, ◌≤◌, ◌^◌, List, [], ◌∷◌, length, Bool, true, Option, Some, None, is_some, unwrap_or, option_and_then, get_or, String}
+use Rattle.std.specs.Prelude.{◌≡◌, ◌≢◌, ℕ, zero, suc, ◌<◌, ◌≤◌, ◌^◌, List, [], ◌∷◌, ◌++◌, slice_set, length, Bool, true, Option, Some, None, is_some, unwrap_or, option_and_then, get_or, String}
 use Rattle.std.specs.declared.alloc.Global.{Global}
 use Rattle.std.specs.BTreeMap.{is_at}
 use Rattle.std.proofs.Common.{ap, sym, ◌∙◌, refl, arith}
@@ -7,6 +7,7 @@ use Rattle.std.specs.Ordering.{nat_cmp}
 use Rattle.std.specs.Cmp.Lexicographic.{slice_cmp}
 use Rattle.std.specs.Map.{lookup}
 use Rattle.std.specs.String.{string_bytes}
+use Rattle.mkv_io.specs.Names.{changed_at}
 use Rattle.mkv_io.specs.LiveFiles.{LiveFiles, ChangesFile, KeepsFiles}
 
 -- the content of each name, None where there is no file of that name
@@ -40,6 +41,28 @@ files_of held = record {
 -- the name under which a live file was opened
 abbrev pub holder_of : Held → ℕ → List ℕ
 holder_of held file = unwrap_or (name_of_file held.opened file) []
+
+-- the octets of a live file
+abbrev pub octets_of : Held → ℕ → List ℕ
+octets_of held file = unwrap_or (content_of_file held file) []
+
+-- ---- what becomes of them
+
+-- a name gets a content, whatever it was
+abbrev pub with_content_at : Held → List ℕ → List ℕ → Held
+with_content_at held name bytes = record held { world = changed_at name (λ _. Some bytes) held.world }
+
+-- one more file is opened under a name
+abbrev pub opened_under : Held → List ℕ → Held
+opened_under held name = record held { opened = held.opened ++ Some name ∷ [] }
+
+-- the content of a live file's name is changed
+abbrev pub with_changed_file : Held → ℕ → (Option (List ℕ) → Option (List ℕ)) → Held
+with_changed_file held file change = record held { world = changed_at (holder_of held file) change held.world }
+
+-- a file is closed
+abbrev pub closed : Held → ℕ → Held
+closed held file = record held { opened = slice_set held.opened file None }
 
 -- ---- what holds of all such files
 

@@ -1,2 +1,4 @@
 pub mod Held
+pub mod Seen
+pub mod SeenIn
 pub mod Stored

@@ -1,6 +1,6 @@
 //! Files in memory.
 
-ghost use Rattle.std.specs.Prelude.{◌≡◌, ℕ, ◌+◌, ◌-◌, ◌≤◌, ◌^◌, List, length, Option, Some, None, min, OnOk, OnErr};
+ghost use Rattle.std.specs.Prelude.{◌≡◌, ℕ, ◌+◌, ◌-◌, ◌≤◌, ◌^◌, List, length, Option, Some, None, min, option_map, OnOk, OnErr, IsOkAnd, IsTrue};
 ghost use Rattle.std.specs.BTreeMap.{get};
 ghost use Rattle.std.specs.Ordering.{nat_cmp};
 ghost use Rattle.mkv_io.specs.Faults.{last_count};
@@ -31,8 +31,15 @@ pub struct MemFiles {
 }
 
 impl MemFiles {
+    ghost use denote.Ref.{Bor};
+    ghost use Rattle.mkv_memory.specs.Held.{with_content_at};
+    ghost use Rattle.mkv_memory.specs.Seen.{holding, no_files, with_failure};
+    ghost use Rattle.mkv_memory.specs.SeenIn.{seen};
+
     /// Files without names, of which no call fails.
-    pub fn new(alloc: Global) -> Result<MemFiles, AllocError> {
+    pub fn new(alloc: Global) -> Result<MemFiles, AllocError>
+        ensures { IsOkAnd result (λ files. seen files ≡ no_files) }
+    {
         Ok(MemFiles {
             alloc,
             store: Store::new(alloc),
@@ -47,6 +54,8 @@ impl MemFiles {
     /// Sets a name's content. Where the name has live files, theirs changes with it.
     pub fn put(&mut self, name: &str, bytes: &[u8]) -> Result<(), AllocError>
         requires { length bytes.now ≤ 2 ^ 48 }
+        ensures ok { OnOk result (seen self.new ≡ holding (seen self.old) (with_content_at (seen self.old).held name.now bytes.now)) }
+        ensures err { OnErr result (seen self.new ≡ seen self.old) }
     {
         let mut content = Bytes::new(self.alloc);
         content.append(bytes)?;
@@ -55,13 +64,18 @@ impl MemFiles {
 
     /// Lets the call of a number fail. An `append` then keeps so many octets, or all but the last
     /// where fewer remain.
-    pub fn fail_at(&mut self, call: u64, kept: u64) -> Result<(), AllocError> {
+    pub fn fail_at(&mut self, call: u64, kept: u64) -> Result<(), AllocError>
+        ensures ok { OnOk result (seen self.new ≡ with_failure (seen self.old) call kept) }
+        ensures err { OnErr result (seen self.new ≡ seen self.old) }
+    {
         self.failing.insert(call, kept)?;
         Ok(())
     }
 
     /// A name's content, None where there is no file of that name.
-    pub fn bytes(&self, name: &str) -> Option<&[u8]> {
+    pub fn bytes(&self, name: &str) -> Option<&[u8]>
+        ensures { option_map (λ (bytes : Bor (List ℕ)). bytes.now) result ≡ (seen self.now).held.world name.now }
+    {
         self.store.content(name)
     }
 
@@ -85,6 +99,9 @@ fn kept_of(len: usize, kept: u64) -> usize
 
 impl Reads for MemFiles {
     ghost use Rattle.std.specs.Prelude.{ℕ};
+    ghost use Rattle.mkv_io.specs.Faults.{HasCause};
+    ghost use Rattle.mkv_memory.specs.Seen.{ReadsAt};
+    ghost use Rattle.mkv_memory.specs.SeenIn.{seen};
     ghost use Rattle.mkv_memory.specs.Held.{Held, files_of, content_of_file, name_of_file, size-of_told, short-of_names};
     ghost use Rattle.mkv_memory.specs.Stored.{held_in};
 
@@ -106,7 +123,13 @@ impl Reads for MemFiles {
         self.store.octets(file).len() as u64
     }
 
-    fn read_at(&mut self, file: FileId, at: u64, into: &mut [u8]) -> Result<(), Failed> {
+    fn read_at(&mut self, file: FileId, at: u64, into: &mut [u8]) -> Result<(), Failed>
+        requires live { IsTrue ((files_of (seen self.old).held).live file.n) }
+        requires range { at + length into.old ≤ (files_of (seen self.old).held).size file.n }
+        ensures exact { ReadsAt (seen self.old) file.n at (length into.old) into.new result (seen self.new) }
+        ensures cause { HasCause (seen self.old).reading_faults (seen self.new).reading_faults result }
+        ensures octets_least { (seen self.old).octets_read ≤ (seen self.new).octets_read }
+    {
         if self.next_failure().is_some() {
             self.reading_faults = self.reading_faults.saturating_add(1);
             return Err(Failed);
@@ -121,7 +144,10 @@ impl Reads for MemFiles {
 impl Files for MemFiles {
     ghost use Rattle.std.specs.Prelude.{Some, length, ℕ};
     ghost use Rattle.std.proofs.Common.{ap};
-    ghost use Rattle.mkv_memory.specs.Held.{Held, holder_of, name_of_file, held-told, numbered-live};
+    ghost use Rattle.mkv_io.specs.Faults.{HasCause, HasMakeCause, HasOpenCause};
+    ghost use Rattle.mkv_memory.specs.Seen.{AppendsTo, ClosesFile, CreatesName, OpensName, OverwritesIn};
+    ghost use Rattle.mkv_memory.specs.SeenIn.{seen};
+    ghost use Rattle.mkv_memory.specs.Held.{Held, files_of, holder_of, name_of_file, held-told, numbered-live};
     ghost use Rattle.mkv_memory.specs.Stored.{held_in};
 
     ghost names = { λ m. Some (held_in m.store).world };
@@ -146,7 +172,10 @@ impl Files for MemFiles {
 
     ghost writing_stands = { λ a b same. ap (λ (s : Held × ℕ). s.1) same };
 
-    fn open_file(&mut self, name: &str) -> Result<FileId, OpenFault> {
+    fn open_file(&mut self, name: &str) -> Result<FileId, OpenFault>
+        ensures exact { OpensName (seen self.old) name.now result (seen self.new) }
+        ensures cause { HasOpenCause (seen self.old).reading_faults (seen self.new).reading_faults result }
+    {
         let failure = self.next_failure();
         if self.store.content(name).is_none() {
             return Err(OpenFault::Missing);
@@ -158,7 +187,10 @@ impl Files for MemFiles {
         Ok(self.store.open(name)?)
     }
 
-    fn create(&mut self, name: &str) -> Result<FileId, MakeFault> {
+    fn create(&mut self, name: &str) -> Result<FileId, MakeFault>
+        ensures exact { CreatesName (seen self.old) name.now result (seen self.new) }
+        ensures cause { HasMakeCause (seen self.old).writing_faults (seen self.new).writing_faults result }
+    {
         let failure = self.next_failure();
         if failure.is_some() || self.store.is_full() {
             self.writing_faults = self.writing_faults.saturating_add(1);
@@ -167,7 +199,11 @@ impl Files for MemFiles {
         Ok(self.store.create(name)?)
     }
 
-    fn append(&mut self, file: FileId, bytes: &[u8]) -> Result<(), MakeFault> {
+    fn append(&mut self, file: FileId, bytes: &[u8]) -> Result<(), MakeFault>
+        requires { IsTrue ((files_of (seen self.old).held).live file.n) }
+        ensures exact { AppendsTo (seen self.old) file.n bytes.now result (seen self.new) }
+        ensures cause { HasMakeCause (seen self.old).writing_faults (seen self.new).writing_faults result }
+    {
         let failure = self.next_failure();
         if bytes.len() as u64 > LONGEST - self.size(file) {
             self.writing_faults = self.writing_faults.saturating_add(1);
@@ -184,7 +220,12 @@ impl Files for MemFiles {
         }
     }
 
-    fn overwrite(&mut self, file: FileId, at: u64, bytes: &[u8]) -> Result<(), Failed> {
+    fn overwrite(&mut self, file: FileId, at: u64, bytes: &[u8]) -> Result<(), Failed>
+        requires live { IsTrue ((files_of (seen self.old).held).live file.n) }
+        requires range { at + length bytes.now ≤ (files_of (seen self.old).held).size file.n }
+        ensures exact { OverwritesIn (seen self.old) file.n at bytes.now result (seen self.new) }
+        ensures cause { HasCause (seen self.old).writing_faults (seen self.new).writing_faults result }
+    {
         if self.next_failure().is_some() {
             self.writing_faults = self.writing_faults.saturating_add(1);
             return Err(Failed);
@@ -193,7 +234,10 @@ impl Files for MemFiles {
         Ok(())
     }
 
-    fn close(&mut self, file: FileId) {
+    fn close(&mut self, file: FileId)
+        requires { IsTrue ((files_of (seen self.old).held).live file.n) }
+        ensures { ClosesFile (seen self.old) file.n (seen self.new) }
+    {
         self.store.close(file);
     }
 }

@@ -4,7 +4,7 @@ ghost use denote.Ref.{Bor};
 ghost use Rattle.std.specs.Prelude.{slice_set, ◌≡◌, ◌≢◌, ℕ, ◌+◌, ◌-◌, ◌<◌, ◌≤◌, ◌^◌, ◌↔◌, List, [], ◌∷◌, ◌++◌, length, Option, Some, None, is_some, option_map, unwrap_or, OnOk, OnErr, IfOk, IsTrue, IsSome};
 ghost use Rattle.mkv_io.specs.Contents.{with_appended, with_overwritten};
 ghost use Rattle.mkv_io.specs.Names.{changed_at};
-ghost use Rattle.mkv_memory.specs.Held.{AreShort, AreThere, ChangesHeld, content_of_file, content_of_name, files_of, name_of_file};
+ghost use Rattle.mkv_memory.specs.Held.{AreShort, AreThere, closed, content_of_file, content_of_name, files_of, name_of_file, opened_under, with_changed_file, with_content_at};
 
 use mkv_values::{Bytes, FileId, Text};
 use std::alloc::{AllocError, Global};
@@ -27,8 +27,7 @@ impl Store {
     ghost use Rattle.mkv_memory.specs.Stored.{held_in};
 
     pub fn new(alloc: Global) -> Store
-        ensures names { (name : List ℕ) → (held_in result).world name ≡ None }
-        ensures opened { (held_in result).opened ≡ [] }
+        ensures { held_in result ≡ record { world = λ _. None; opened = [] } }
     {
         Store {
             alloc,
@@ -67,8 +66,7 @@ impl Store {
     /// Gives a name a content.
     pub fn set(&mut self, name: &str, content: Bytes) -> Result<(), AllocError>
         requires { length content ≤ 2 ^ 48 }
-        ensures ok { OnOk result ((held_in self.new).world ≡ changed_at name.now (λ _. Some content) (held_in self.old).world) }
-        ensures opened { (held_in self.new).opened ≡ (held_in self.old).opened }
+        ensures ok { OnOk result (held_in self.new ≡ with_content_at (held_in self.old) name.now content) }
         ensures err { OnErr result (held_in self.new ≡ held_in self.old) }
     {
         set(&mut self.contents, self.alloc, name, content)?;
@@ -80,7 +78,7 @@ impl Store {
         requires there { IsSome ((held_in self.old).world name.now) }
         requires room { length (held_in self.old).opened < 2 ^ 64 - 1 }
         ensures number { IfOk result (λ file. file.n ≡ length (held_in self.old).opened) }
-        ensures ok { OnOk result (held_in self.new ≡ record { world = (held_in self.old).world; opened = (held_in self.old).opened ++ Some name.now ∷ [] }) }
+        ensures ok { OnOk result (held_in self.new ≡ opened_under (held_in self.old) name.now) }
         ensures err { OnErr result (held_in self.new ≡ held_in self.old) }
     {
         let number = self.opened.len() as u64;
@@ -94,8 +92,7 @@ impl Store {
     pub fn create(&mut self, name: &str) -> Result<FileId, AllocError>
         requires { length (held_in self.old).opened < 2 ^ 64 - 1 }
         ensures number { IfOk result (λ file. file.n ≡ length (held_in self.old).opened) }
-        ensures ok { OnOk result ((held_in self.new).world ≡ changed_at name.now (λ _. Some []) (held_in self.old).world) }
-        ensures opened { OnOk result ((held_in self.new).opened ≡ (held_in self.old).opened ++ Some name.now ∷ []) }
+        ensures ok { OnOk result (held_in self.new ≡ opened_under (with_content_at (held_in self.old) name.now []) name.now) }
         ensures err { OnErr result (held_in self.new ≡ held_in self.old) }
     {
         let number = self.opened.len() as u64;
@@ -112,7 +109,7 @@ impl Store {
     pub fn append(&mut self, file: FileId, more: &[u8]) -> Result<(), AllocError>
         requires live { IsTrue ((files_of (held_in self.old)).live file.n) }
         requires room { (files_of (held_in self.old)).size file.n + length more.now ≤ 2 ^ 48 }
-        ensures ok { OnOk result (ChangesHeld (held_in self.old) (held_in self.new) file.n ((files_of (held_in self.old)).size file.n + length more.now) (with_appended more.now)) }
+        ensures ok { OnOk result (held_in self.new ≡ with_changed_file (held_in self.old) file.n (with_appended more.now)) }
         ensures err { OnErr result (held_in self.new ≡ held_in self.old) }
     {
         let name = holder(&self.opened, file);
@@ -124,7 +121,7 @@ impl Store {
     pub fn overwrite(&mut self, file: FileId, at: usize, bytes: &[u8])
         requires live { IsTrue ((files_of (held_in self.old)).live file.n) }
         requires range { at + length bytes.now ≤ (files_of (held_in self.old)).size file.n }
-        ensures { ChangesHeld (held_in self.old) (held_in self.new) file.n ((files_of (held_in self.old)).size file.n) (with_overwritten at bytes.now) }
+        ensures { held_in self.new ≡ with_changed_file (held_in self.old) file.n (with_overwritten at bytes.now) }
     {
         let name = holder(&self.opened, file);
         write_over(&mut self.contents, name, at, bytes);
@@ -133,7 +130,7 @@ impl Store {
     /// Ends a live file.
     pub fn close(&mut self, file: FileId)
         requires { IsTrue ((files_of (held_in self.old)).live file.n) }
-        ensures { held_in self.new ≡ record { world = (held_in self.old).world; opened = slice_set (held_in self.old).opened file.n None } }
+        ensures { held_in self.new ≡ closed (held_in self.old) file.n }
     {
         self.opened[file.n as usize] = None;
     }

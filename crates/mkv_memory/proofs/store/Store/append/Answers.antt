@@ -1,6 +1,6 @@
-use Rattle.std.proofs.Common.{refl}
+use Rattle.mkv_io.specs.Contents.{with_appended}
 use Rattle.mkv_memory.specs.Stored.{held_in}
-use Rattle.mkv_memory.proofs.HeldLemmas.{IsSound-appended, ChangesHeld-appended}
+use Rattle.mkv_memory.proofs.HeldLemmas.{IsSound-appended, Held-changed}
 use Rattle.mkv_memory.proofs.store.Store.append.Goals as goal
 
 -- within the limit contents stay short, and each live file's name keeps one
@@ -11,6 +11,4 @@ invariant_of-self c =
     record { short = sound.short; few = old.few; there = sound.there }
 
 pub returns-clause-ok : goal.returns-clause-ok
-returns-clause-ok c =
-    let old = c.args.self.now in
-    ChangesHeld-appended (held_in old) _ c.args.file.n c.holder-name.result.now c.args.more.now c.holder-name.ensures refl c.in_ok-grow.ensures.ok (record { short = old.short; there = old.there })
+returns-clause-ok c = Held-changed (held_in c.args.self.now) c.args.file.n (with_appended c.args.more.now) c.holder-name.ensures c.in_ok-grow.ensures.ok

@@ -1,6 +1,6 @@
 use Rattle.std.proofs.Common.{◌≡◌, ◌++◌, ◌∷◌, [], Some, refl, arith, rules}
 use Rattle.mkv_memory.specs.Stored.{held_in}
-use Rattle.mkv_memory.proofs.HeldLemmas.{IsSound-created, IsSound-same}
+use Rattle.mkv_memory.proofs.HeldLemmas.{IsSound-created, IsSound-same, Held-both}
 use Rattle.mkv_memory.proofs.store.Store.create.Goals as goal
 
 -- where the name finds no memory, nothing has changed
@@ -20,4 +20,6 @@ invariant_of-self-2 c =
     record { short = sound.short; few = grind arith; there = sound.there }
 
 pub returns-clause-ok : goal.returns-clause-ok
-returns-clause-ok c = rw c.new-empty.ensures at c.in_ok-set.ensures.ok
+returns-clause-ok c =
+    let pushed : c.push.new.self.items ≡ (held_in c.args.self.now).opened ++ Some c.args.name.now ∷ [] = search rules in
+    Held-both (rw c.new-empty.ensures at c.in_ok-set.ensures.ok) pushed

@@ -1,6 +1,6 @@
-use Rattle.std.proofs.Common.{refl}
+use Rattle.mkv_io.specs.Contents.{with_overwritten}
 use Rattle.mkv_memory.specs.Stored.{held_in}
-use Rattle.mkv_memory.proofs.HeldLemmas.{IsSound-overwritten, ChangesHeld-overwritten}
+use Rattle.mkv_memory.proofs.HeldLemmas.{IsSound-overwritten, Held-changed}
 use Rattle.mkv_memory.proofs.store.Store.overwrite.Goals as goal
 
 -- contents keep their lengths, and each live file's name keeps one
@@ -11,6 +11,4 @@ invariant_of-self c =
     record { short = sound.short; few = old.few; there = sound.there }
 
 pub returns : goal.returns
-returns c =
-    let old = c.args.self.now in
-    ChangesHeld-overwritten (held_in old) _ c.args.file.n c.holder-name.result.now c.args.at c.args.bytes.now c.holder-name.ensures refl c.write_over.ensures (record { short = old.short; there = old.there }) c.requires.range
+returns c = Held-changed (held_in c.args.self.now) c.args.file.n (with_overwritten c.args.at c.args.bytes.now) c.holder-name.ensures c.write_over.ensures

@@ -1,0 +1,69 @@
+use Rattle.std.proofs.Common.{arith}
+use Rattle.std.proofs.lemmas.Grind.{common_steps}
+use Rattle.mkv_memory.specs.SeenIn.{seen}
+use Rattle.mkv_memory.proofs.SeenLemmas.{AppendsTo-failed, AppendsTo-ok, AppendsTo-others, CreatesName-others, CreatesName-size, OpensName-content, OverwritesIn-err, OverwritesIn-ok, OverwritesIn-others}
+use Rattle.mkv_memory.proofs.mem_files.MemFilesFiles.TheImpl.Goals as goal
+
+-- What each call does to files in memory is what every such call has to do.
+
+pub open_file-tells : goal.open_file-tells
+open_file-tells c = record {
+  missing = grind (arith, common_steps);
+  number = grind (arith, common_steps);
+  live = grind (arith, common_steps);
+  holder = grind (arith, common_steps);
+  content = OpensName-content (seen c.args.self.now) (seen c.new.self.now) c.args.name.now c.result c.ensures.exact;
+  err = grind (arith, common_steps);
+  names = grind (arith, common_steps);
+  others = grind (arith, common_steps);
+  holders = grind (arith, common_steps);
+  cause = c.ensures.cause;
+  writing = grind (arith, common_steps);
+  octets = grind (arith, common_steps);
+}
+
+pub create-tells : goal.create-tells
+create-tells c = record {
+  number = grind (arith, common_steps);
+  live = grind (arith, common_steps);
+  holder = grind (arith, common_steps);
+  size = CreatesName-size (seen c.args.self.now) (seen c.new.self.now) c.args.name.now c.result c.ensures.exact;
+  ok = grind (arith, common_steps);
+  err = grind (arith, common_steps);
+  memory = grind (arith, common_steps);
+  given = grind (arith, common_steps);
+  alive = grind (arith, common_steps);
+  others = CreatesName-others (seen c.args.self.now) (seen c.new.self.now) c.args.name.now c.result c.ensures.exact;
+  holders = grind (arith, common_steps);
+  cause = c.ensures.cause;
+  reading = grind (arith, common_steps);
+  octets = grind (arith, common_steps);
+}
+
+pub append-tells : goal.append-tells
+append-tells c = record {
+  ok = AppendsTo-ok (seen c.args.self.now) (seen c.new.self.now) c.args.file.n c.args.bytes.now c.result c.requires (record { short = c.args.self.now.store.short; there = c.args.self.now.store.there }) c.ensures.exact;
+  failed = AppendsTo-failed (seen c.args.self.now) (seen c.new.self.now) c.args.file.n c.args.bytes.now c.result c.requires (record { short = c.args.self.now.store.short; there = c.args.self.now.store.there }) c.ensures.exact;
+  memory = grind (arith, common_steps);
+  short = grind (arith, common_steps);
+  given = grind (arith, common_steps);
+  alive = grind (arith, common_steps);
+  others = AppendsTo-others (seen c.args.self.now) (seen c.new.self.now) c.args.file.n c.args.bytes.now c.result c.requires (record { short = c.args.self.now.store.short; there = c.args.self.now.store.there }) c.ensures.exact;
+  holders = grind (arith, common_steps);
+  cause = c.ensures.cause;
+  reading = grind (arith, common_steps);
+  octets = grind (arith, common_steps);
+}
+
+pub overwrite-tells : goal.overwrite-tells
+overwrite-tells c = record {
+  ok = OverwritesIn-ok (seen c.args.self.now) (seen c.new.self.now) c.args.file.n c.args.at c.args.bytes.now c.result c.requires.live (record { short = c.args.self.now.store.short; there = c.args.self.now.store.there }) c.requires.range c.ensures.exact;
+  err = OverwritesIn-err (seen c.args.self.now) (seen c.new.self.now) c.args.file.n c.args.at c.args.bytes.now c.result c.requires.live c.requires.range c.ensures.exact;
+  given = grind (arith, common_steps);
+  alive = grind (arith, common_steps);
+  others = OverwritesIn-others (seen c.args.self.now) (seen c.new.self.now) c.args.file.n c.args.at c.args.bytes.now c.result c.requires.live (record { short = c.args.self.now.store.short; there = c.args.self.now.store.there }) c.requires.range c.ensures.exact;
+  holders = grind (arith, common_steps);
+  cause = c.ensures.cause;
+  reading = grind (arith, common_steps);
+  octets = grind (arith, common_steps);
+}

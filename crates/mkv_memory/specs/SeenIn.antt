@@ -1,0 +1,16 @@
+-- What can be seen of a value of the type for files in memory.
+use Rattle.std.specs.BTreeMap.{get}
+use Rattle.std.specs.Ordering.{nat_cmp}
+use Rattle.mkv_memory.specs.Seen.{Seen}
+use Rattle.mkv_memory.specs.Stored.{held_in}
+use Rattle.mkv_memory.specs.declared.mem_files.MemFiles.{MemFiles}
+
+abbrev pub seen : MemFiles → Seen
+seen files = record {
+  held = held_in files.store;
+  to_fail = get nat_cmp files.failing;
+  calls = files.calls;
+  reading_faults = files.reading_faults;
+  writing_faults = files.writing_faults;
+  octets_read = files.octets_read;
+}
