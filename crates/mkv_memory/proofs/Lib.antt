@@ -1,3 +1,4 @@
+pub mod CutsLemmas
 pub mod HeldLemmas
 pub mod NamesLemmas
-pub mod SeenLemmas
+pub mod SeenFilesLemmas

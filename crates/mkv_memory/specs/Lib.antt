@@ -1,4 +1,7 @@
+pub mod Cuts
+pub mod FilesIn
 pub mod Held
-pub mod Seen
-pub mod SeenIn
+pub mod ReportIn
+pub mod SeenFiles
+pub mod SeenReport
 pub mod Stored

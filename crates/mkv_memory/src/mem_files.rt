@@ -33,8 +33,8 @@ pub struct MemFiles {
 impl MemFiles {
     ghost use denote.Ref.{Bor};
     ghost use Rattle.mkv_memory.specs.Held.{with_content_at};
-    ghost use Rattle.mkv_memory.specs.Seen.{holding, no_files, with_failure};
-    ghost use Rattle.mkv_memory.specs.SeenIn.{seen};
+    ghost use Rattle.mkv_memory.specs.SeenFiles.{holding, no_files, with_failure};
+    ghost use Rattle.mkv_memory.specs.FilesIn.{seen};
 
     /// Files without names, of which no call fails.
     pub fn new(alloc: Global) -> Result<MemFiles, AllocError>
@@ -100,8 +100,8 @@ fn kept_of(len: usize, kept: u64) -> usize
 impl Reads for MemFiles {
     ghost use Rattle.std.specs.Prelude.{ℕ};
     ghost use Rattle.mkv_io.specs.Faults.{HasCause};
-    ghost use Rattle.mkv_memory.specs.Seen.{ReadsAt};
-    ghost use Rattle.mkv_memory.specs.SeenIn.{seen};
+    ghost use Rattle.mkv_memory.specs.SeenFiles.{ReadsAt};
+    ghost use Rattle.mkv_memory.specs.FilesIn.{seen};
     ghost use Rattle.mkv_memory.specs.Held.{Held, files_of, content_of_file, name_of_file, size-of_told, short-of_names};
     ghost use Rattle.mkv_memory.specs.Stored.{held_in};
 
@@ -145,8 +145,8 @@ impl Files for MemFiles {
     ghost use Rattle.std.specs.Prelude.{Some, length, ℕ};
     ghost use Rattle.std.proofs.Common.{ap};
     ghost use Rattle.mkv_io.specs.Faults.{HasCause, HasMakeCause, HasOpenCause};
-    ghost use Rattle.mkv_memory.specs.Seen.{AppendsTo, ClosesFile, CreatesName, OpensName, OverwritesIn};
-    ghost use Rattle.mkv_memory.specs.SeenIn.{seen};
+    ghost use Rattle.mkv_memory.specs.SeenFiles.{AppendsTo, ClosesFile, CreatesName, OpensName, OverwritesIn};
+    ghost use Rattle.mkv_memory.specs.FilesIn.{seen};
     ghost use Rattle.mkv_memory.specs.Held.{Held, files_of, holder_of, name_of_file, held-told, numbered-live};
     ghost use Rattle.mkv_memory.specs.Stored.{held_in};
 

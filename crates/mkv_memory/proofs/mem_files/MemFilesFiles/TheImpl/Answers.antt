@@ -1,7 +1,7 @@
 use Rattle.std.proofs.Common.{arith}
 use Rattle.std.proofs.lemmas.Grind.{common_steps}
-use Rattle.mkv_memory.specs.SeenIn.{seen}
-use Rattle.mkv_memory.proofs.SeenLemmas.{AppendsTo-failed, AppendsTo-ok, AppendsTo-others, CreatesName-others, CreatesName-size, OpensName-content, OverwritesIn-err, OverwritesIn-ok, OverwritesIn-others}
+use Rattle.mkv_memory.specs.FilesIn.{seen}
+use Rattle.mkv_memory.proofs.SeenFilesLemmas.{AppendsTo-failed, AppendsTo-ok, AppendsTo-others, CreatesName-others, CreatesName-size, OpensName-content, OverwritesIn-err, OverwritesIn-ok, OverwritesIn-others}
 use Rattle.mkv_memory.proofs.mem_files.MemFilesFiles.TheImpl.Goals as goal
 
 -- What each call does to files in memory is what every such call has to do.

@@ -9,7 +9,7 @@ use Rattle.mkv_io.specs.Contents.{with_appended, with_overwritten}
 use Rattle.mkv_io.specs.LiveFiles.{Appends, AppendsPart, KeepsFiles, Overwrites, OverwritesWithin}
 use Rattle.mkv_io.specs.Told.{Told}
 use Rattle.mkv_memory.specs.Held.{Held, ChangesHeld, content_of_file, files_of, holder_of, name_of_file, with_changed_file}
-use Rattle.mkv_memory.specs.Seen.{Seen, AppendsTo, CreatesName, OpensName, OverwritesIn, kept_by, is_too_much}
+use Rattle.mkv_memory.specs.SeenFiles.{SeenFiles, AppendsTo, CreatesName, OpensName, OverwritesIn, kept_by, is_too_much}
 use Rattle.mkv_memory.proofs.HeldLemmas.{IsSound, ChangesHeld-appended, ChangesHeld-overwritten, IsSameFile-created, OverwritesWithin-nothing, content_of_file-told, size-created}
 
 -- what is held stays, and every file
@@ -28,25 +28,25 @@ holder-live (Some name) live = refl
 -- ---- opening and making
 
 -- a file that is opened has the content that the name had
-pub OpensName-content : (old new : Seen) (name : List ℕ) (result : Result FileId OpenFault) → OpensName old name result new → IfOk result (λ file. Told (Some old.held.world) (λ world. content_of_file new.held file.n ≡ world name))
+pub OpensName-content : (old new : SeenFiles) (name : List ℕ) (result : Result FileId OpenFault) → OpensName old name result new → IfOk result (λ file. Told (Some old.held.world) (λ world. content_of_file new.held file.n ≡ world name))
 OpensName-content old new name (Ok file) opens =
-    λ world told. content_of_file-told old.held new.held world name file.n (ap (λ (seen : Seen). seen.held) opens.3) opens.2 told
+    λ world told. content_of_file-told old.held new.held world name file.n (ap (λ (seen : SeenFiles). seen.held) opens.3) opens.2 told
 OpensName-content old new name (Err fault) opens = tt
 
 -- a file that is made is empty
-pub CreatesName-size : (old new : Seen) (name : List ℕ) (result : Result FileId MakeFault) → CreatesName old name result new → IfOk result (λ file. (files_of new.held).size file.n ≡ 0)
+pub CreatesName-size : (old new : SeenFiles) (name : List ℕ) (result : Result FileId MakeFault) → CreatesName old name result new → IfOk result (λ file. (files_of new.held).size file.n ≡ 0)
 CreatesName-size old new name (Ok file) creates =
-    let now = ap (λ (seen : Seen). seen.held) creates.2 in
+    let now = ap (λ (seen : SeenFiles). seen.held) creates.2 in
     rw creates.1 (size-created new.held old.held.world old.held.opened name (ap (λ (held : Held). held.world) now) (ap (λ (held : Held). held.opened) now))
 CreatesName-size old new name (Err fault) creates = tt
 
 -- the files of other names stay
-pub CreatesName-others : (old new : Seen) (name : List ℕ) (result : Result FileId MakeFault) → CreatesName old name result new → KeepsFiles (files_of old.held) (files_of new.held) (λ file. (file < length old.held.opened) × (holder_of old.held file ≢ name))
+pub CreatesName-others : (old new : SeenFiles) (name : List ℕ) (result : Result FileId MakeFault) → CreatesName old name result new → KeepsFiles (files_of old.held) (files_of new.held) (λ file. (file < length old.held.opened) × (holder_of old.held file ≢ name))
 CreatesName-others old new name (Ok file) creates = λ other is.
-    let now = ap (λ (seen : Seen). seen.held) creates.2 in
+    let now = ap (λ (seen : SeenFiles). seen.held) creates.2 in
     IsSameFile-created old.held new.held name other (ap (λ (held : Held). held.world) now) (ap (λ (held : Held). held.opened) now) is.0 is.1
-CreatesName-others old new name (Err make_fault.Failed) creates = KeepsFiles-same old.held new.held _ (ap (λ (seen : Seen). seen.held) creates.1)
-CreatesName-others old new name (Err make_fault.Memory) creates = KeepsFiles-same old.held new.held _ (ap (λ (seen : Seen). seen.held) creates.1)
+CreatesName-others old new name (Err make_fault.Failed) creates = KeepsFiles-same old.held new.held _ (ap (λ (seen : SeenFiles). seen.held) creates.1)
+CreatesName-others old new name (Err make_fault.Memory) creates = KeepsFiles-same old.held new.held _ (ap (λ (seen : SeenFiles). seen.held) creates.1)
 
 -- ---- appending
 
@@ -56,13 +56,13 @@ ChangesHeld-file_appended old new file more live sound now =
     ChangesHeld-appended old new file (holder_of old file) more (holder-live (name_of_file old.opened file) live)
     (ap (λ (held : Held). held.opened) now) (ap (λ (held : Held). held.world) now) sound
 
-pub AppendsTo-ok : {T : Type 0} (old new : Seen) (file : ℕ) (more : List ℕ) (result : Result T MakeFault) → (files_of old.held).live file ≡ true → IsSound old.held.world old.held.opened → AppendsTo old file more result new → OnOk result (Appends (files_of old.held) (files_of new.held) (Some old.held.world) (Some new.held.world) file (holder_of old.held file) more)
+pub AppendsTo-ok : {T : Type 0} (old new : SeenFiles) (file : ℕ) (more : List ℕ) (result : Result T MakeFault) → (files_of old.held).live file ≡ true → IsSound old.held.world old.held.opened → AppendsTo old file more result new → OnOk result (Appends (files_of old.held) (files_of new.held) (Some old.held.world) (Some new.held.world) file (holder_of old.held file) more)
 AppendsTo-ok old new file more (Ok value) live sound appends =
-    (ChangesHeld-file_appended old.held new.held file more live sound (ap (λ (seen : Seen). seen.held) appends.1)).changed
+    (ChangesHeld-file_appended old.held new.held file more live sound (ap (λ (seen : SeenFiles). seen.held) appends.1)).changed
 AppendsTo-ok old new file more (Err fault) live sound appends = tt
 
 -- no more is kept than was to be added
-kept_by-within : (old : Seen) (file : ℕ) (more : List ℕ) → kept_by old file more ≤ length more
+kept_by-within : (old : SeenFiles) (file : ℕ) (more : List ℕ) → kept_by old file more ≤ length more
 kept_by-within old file more = step (is_too_much old file more)
   where
     step : (too_much : Bool) → (if too_much then 0 else min (unwrap_or (old.to_fail old.calls) 0) (length more - 1)) ≤ length more
@@ -70,22 +70,22 @@ kept_by-within old file more = step (is_too_much old file more)
     step false = omega arith
 
 -- a failing append adds a first part
-pub AppendsTo-failed : {T : Type 0} (old new : Seen) (file : ℕ) (more : List ℕ) (result : Result T MakeFault) → (files_of old.held).live file ≡ true → IsSound old.held.world old.held.opened → AppendsTo old file more result new → IsErrOf result make_fault.Failed → AppendsPart (files_of old.held) (files_of new.held) (Some old.held.world) (Some new.held.world) file (holder_of old.held file) more
+pub AppendsTo-failed : {T : Type 0} (old new : SeenFiles) (file : ℕ) (more : List ℕ) (result : Result T MakeFault) → (files_of old.held).live file ≡ true → IsSound old.held.world old.held.opened → AppendsTo old file more result new → IsErrOf result make_fault.Failed → AppendsPart (files_of old.held) (files_of new.held) (Some old.held.world) (Some new.held.world) file (holder_of old.held file) more
 AppendsTo-failed old new file more (Ok value) live sound appends is = cc
 AppendsTo-failed old new file more (Err make_fault.Failed) live sound appends is = record {
   kept = kept_by old file more;
   within = kept_by-within old file more;
-  added = (ChangesHeld-file_appended old.held new.held file (take (kept_by old file more) more) live sound (ap (λ (seen : Seen). seen.held) appends.1)).changed;
+  added = (ChangesHeld-file_appended old.held new.held file (take (kept_by old file more) more) live sound (ap (λ (seen : SeenFiles). seen.held) appends.1)).changed;
 }
 AppendsTo-failed old new file more (Err make_fault.Memory) live sound appends is = cc
 
 -- the files of other names stay
-pub AppendsTo-others : {T : Type 0} (old new : Seen) (file : ℕ) (more : List ℕ) (result : Result T MakeFault) → (files_of old.held).live file ≡ true → IsSound old.held.world old.held.opened → AppendsTo old file more result new → KeepsFiles (files_of old.held) (files_of new.held) (λ other. holder_of old.held other ≢ holder_of old.held file)
+pub AppendsTo-others : {T : Type 0} (old new : SeenFiles) (file : ℕ) (more : List ℕ) (result : Result T MakeFault) → (files_of old.held).live file ≡ true → IsSound old.held.world old.held.opened → AppendsTo old file more result new → KeepsFiles (files_of old.held) (files_of new.held) (λ other. holder_of old.held other ≢ holder_of old.held file)
 AppendsTo-others old new file more (Ok value) live sound appends =
-    (ChangesHeld-file_appended old.held new.held file more live sound (ap (λ (seen : Seen). seen.held) appends.1)).others
+    (ChangesHeld-file_appended old.held new.held file more live sound (ap (λ (seen : SeenFiles). seen.held) appends.1)).others
 AppendsTo-others old new file more (Err make_fault.Failed) live sound appends =
-    (ChangesHeld-file_appended old.held new.held file (take (kept_by old file more) more) live sound (ap (λ (seen : Seen). seen.held) appends.1)).others
-AppendsTo-others old new file more (Err make_fault.Memory) live sound appends = KeepsFiles-same old.held new.held _ (ap (λ (seen : Seen). seen.held) appends.1)
+    (ChangesHeld-file_appended old.held new.held file (take (kept_by old file more) more) live sound (ap (λ (seen : SeenFiles). seen.held) appends.1)).others
+AppendsTo-others old new file more (Err make_fault.Memory) live sound appends = KeepsFiles-same old.held new.held _ (ap (λ (seen : SeenFiles). seen.held) appends.1)
 
 -- ---- overwriting
 
@@ -95,19 +95,19 @@ ChangesHeld-file_overwritten old new file at bytes live sound within now =
     ChangesHeld-overwritten old new file (holder_of old file) at bytes (holder-live (name_of_file old.opened file) live)
     (ap (λ (held : Held). held.opened) now) (ap (λ (held : Held). held.world) now) sound within
 
-pub OverwritesIn-ok : {T : Type 0} (old new : Seen) (file at : ℕ) (bytes : List ℕ) (result : Result T Failed) → (files_of old.held).live file ≡ true → IsSound old.held.world old.held.opened → at + length bytes ≤ (files_of old.held).size file → OverwritesIn old file at bytes result new → OnOk result (Overwrites (files_of old.held) (files_of new.held) (Some old.held.world) (Some new.held.world) file (holder_of old.held file) at bytes)
+pub OverwritesIn-ok : {T : Type 0} (old new : SeenFiles) (file at : ℕ) (bytes : List ℕ) (result : Result T Failed) → (files_of old.held).live file ≡ true → IsSound old.held.world old.held.opened → at + length bytes ≤ (files_of old.held).size file → OverwritesIn old file at bytes result new → OnOk result (Overwrites (files_of old.held) (files_of new.held) (Some old.held.world) (Some new.held.world) file (holder_of old.held file) at bytes)
 OverwritesIn-ok old new file at bytes (Ok value) live sound within overwrites =
-    (ChangesHeld-file_overwritten old.held new.held file at bytes live sound within (ap (λ (seen : Seen). seen.held) overwrites.1)).changed
+    (ChangesHeld-file_overwritten old.held new.held file at bytes live sound within (ap (λ (seen : SeenFiles). seen.held) overwrites.1)).changed
 OverwritesIn-ok old new file at bytes (Err fault) live sound within overwrites = tt
 
 -- where nothing is written, the octets of the range are some octets
-pub OverwritesIn-err : {T : Type 0} (old new : Seen) (file at : ℕ) (bytes : List ℕ) (result : Result T Failed) → (files_of old.held).live file ≡ true → at + length bytes ≤ (files_of old.held).size file → OverwritesIn old file at bytes result new → OnErr result (OverwritesWithin (files_of old.held) (files_of new.held) (Some old.held.world) (Some new.held.world) file (holder_of old.held file) at (length bytes))
+pub OverwritesIn-err : {T : Type 0} (old new : SeenFiles) (file at : ℕ) (bytes : List ℕ) (result : Result T Failed) → (files_of old.held).live file ≡ true → at + length bytes ≤ (files_of old.held).size file → OverwritesIn old file at bytes result new → OnErr result (OverwritesWithin (files_of old.held) (files_of new.held) (Some old.held.world) (Some new.held.world) file (holder_of old.held file) at (length bytes))
 OverwritesIn-err old new file at bytes (Ok value) live within overwrites = tt
 OverwritesIn-err old new file at bytes (Err fault) live within overwrites =
     let P : Held → Type 0 = λ held. OverwritesWithin (files_of old.held) (files_of held) (Some old.held.world) (Some held.world) file (holder_of old.held file) at (length bytes) in
-    subst P (sym (ap (λ (seen : Seen). seen.held) overwrites.1)) (OverwritesWithin-nothing old.held file at (length bytes) live within)
+    subst P (sym (ap (λ (seen : SeenFiles). seen.held) overwrites.1)) (OverwritesWithin-nothing old.held file at (length bytes) live within)
 
-pub OverwritesIn-others : {T : Type 0} (old new : Seen) (file at : ℕ) (bytes : List ℕ) (result : Result T Failed) → (files_of old.held).live file ≡ true → IsSound old.held.world old.held.opened → at + length bytes ≤ (files_of old.held).size file → OverwritesIn old file at bytes result new → KeepsFiles (files_of old.held) (files_of new.held) (λ other. holder_of old.held other ≢ holder_of old.held file)
+pub OverwritesIn-others : {T : Type 0} (old new : SeenFiles) (file at : ℕ) (bytes : List ℕ) (result : Result T Failed) → (files_of old.held).live file ≡ true → IsSound old.held.world old.held.opened → at + length bytes ≤ (files_of old.held).size file → OverwritesIn old file at bytes result new → KeepsFiles (files_of old.held) (files_of new.held) (λ other. holder_of old.held other ≢ holder_of old.held file)
 OverwritesIn-others old new file at bytes (Ok value) live sound within overwrites =
-    (ChangesHeld-file_overwritten old.held new.held file at bytes live sound within (ap (λ (seen : Seen). seen.held) overwrites.1)).others
-OverwritesIn-others old new file at bytes (Err fault) live sound within overwrites = KeepsFiles-same old.held new.held _ (ap (λ (seen : Seen). seen.held) overwrites.1)
+    (ChangesHeld-file_overwritten old.held new.held file at bytes live sound within (ap (λ (seen : SeenFiles). seen.held) overwrites.1)).others
+OverwritesIn-others old new file at bytes (Err fault) live sound within overwrites = KeepsFiles-same old.held new.held _ (ap (λ (seen : SeenFiles). seen.held) overwrites.1)

@@ -12,7 +12,7 @@ use Rattle.mkv_memory.specs.Held.{Held, closed, octets_of, opened_under, with_ch
 
 -- What the files hold, which calls are to fail, and the counts. A call is told by its number, from
 -- 0 on; one that is to fail has a number of octets, which it keeps if it is an append.
-pub record Seen : Type 0 where
+pub record SeenFiles : Type 0 where
   pub held : Held
   pub to_fail : ℕ → Option ℕ
   pub calls : ℕ
@@ -21,7 +21,7 @@ pub record Seen : Type 0 where
   pub octets_read : ℕ
 
 -- no names, and no call that is to fail
-abbrev pub no_files : Seen
+abbrev pub no_files : SeenFiles
 no_files = record {
   held = record { world = λ _. None; opened = [] };
   to_fail = λ _. None;
@@ -32,39 +32,39 @@ no_files = record {
 }
 
 -- one more call is to fail, and keeps so many octets
-abbrev pub with_failure : Seen → ℕ → ℕ → Seen
+abbrev pub with_failure : SeenFiles → ℕ → ℕ → SeenFiles
 with_failure old call kept = record old { to_fail = λ other. if other == call then Some kept else old.to_fail other }
 
 -- something else is held
-abbrev pub holding : Seen → Held → Seen
+abbrev pub holding : SeenFiles → Held → SeenFiles
 holding old held = record old { held = held }
 
 -- ---- what counted calls have in common
 
 -- one more call was made
-abbrev pub called : Seen → Seen
+abbrev pub called : SeenFiles → SeenFiles
 called old = record old { calls = counted old.calls 1 }
 
 -- one more call was made, and failed to open or to read
-abbrev pub failed_to_read : Seen → Seen
+abbrev pub failed_to_read : SeenFiles → SeenFiles
 failed_to_read old = record (called old) { reading_faults = counted old.reading_faults 1 }
 
 -- one more call was made, and failed to make or to write
-abbrev pub failed_to_write : Seen → Seen
+abbrev pub failed_to_write : SeenFiles → SeenFiles
 failed_to_write old = record (called old) { writing_faults = counted old.writing_faults 1 }
 
 -- the call that comes next is to fail
-abbrev pub is_to_fail : Seen → Bool
+abbrev pub is_to_fail : SeenFiles → Bool
 is_to_fail old = is_some (old.to_fail old.calls)
 
 -- the call that comes next can open no file: it is to fail, or no number is left
-abbrev pub cannot_open : Seen → Bool
+abbrev pub cannot_open : SeenFiles → Bool
 cannot_open old = is_to_fail old || (length old.held.opened == last_count)
 
 -- ---- what each call does
 
 -- A read fails exactly where it is to. Else it fills what it is given, and counts those octets.
-abbrev pub ReadsAt : {T : Type 0} → Seen → ℕ → ℕ → ℕ → List ℕ → Result T Failed → Seen → Type 0
+abbrev pub ReadsAt : {T : Type 0} → SeenFiles → ℕ → ℕ → ℕ → List ℕ → Result T Failed → SeenFiles → Type 0
 ReadsAt old file at n into (Ok _) new =
     (is_to_fail old ≡ false) × (into ≡ octets_from (octets_of old.held file) at n)
     × (new ≡ record (called old) { octets_read = counted old.octets_read n })
@@ -72,7 +72,7 @@ ReadsAt old file at n into (Err _) new = (is_to_fail old ≡ true) × (new ≡ f
 
 -- A name that isn't there is missing, and no fault. Else opening fails exactly where no file can
 -- be opened, and otherwise the next number is that of a file under the name.
-abbrev pub OpensName : Seen → List ℕ → Result FileId OpenFault → Seen → Type 0
+abbrev pub OpensName : SeenFiles → List ℕ → Result FileId OpenFault → SeenFiles → Type 0
 OpensName old name (Ok file) new =
     (is_some (old.held.world name) ≡ true) × (cannot_open old ≡ false) × (file.n ≡ length old.held.opened)
     × (new ≡ holding (called old) (opened_under old.held name))
@@ -84,7 +84,7 @@ OpensName old name (Err open_fault.Memory) new =
 
 -- Making a file fails exactly where none can be opened. Else the name's content is empty, and the
 -- next number is that of a file under it.
-abbrev pub CreatesName : Seen → List ℕ → Result FileId MakeFault → Seen → Type 0
+abbrev pub CreatesName : SeenFiles → List ℕ → Result FileId MakeFault → SeenFiles → Type 0
 CreatesName old name (Ok file) new =
     (cannot_open old ≡ false) × (file.n ≡ length old.held.opened)
     × (new ≡ holding (called old) (opened_under (with_content_at old.held name []) name))
@@ -92,17 +92,17 @@ CreatesName old name (Err make_fault.Failed) new = (cannot_open old ≡ true) ×
 CreatesName old name (Err make_fault.Memory) new = (cannot_open old ≡ false) × (new ≡ called old)
 
 -- these octets would make a file longer than any may be
-abbrev pub is_too_much : Seen → ℕ → List ℕ → Bool
+abbrev pub is_too_much : SeenFiles → ℕ → List ℕ → Bool
 is_too_much old file more = nat_lt (2 ^ 48) (length (octets_of old.held file) + length more)
 
 -- How many octets a failing append keeps: none of too many, else as many as it is to, or all but
 -- the last where they are fewer.
-abbrev pub kept_by : Seen → ℕ → List ℕ → ℕ
+abbrev pub kept_by : SeenFiles → ℕ → List ℕ → ℕ
 kept_by old file more = if is_too_much old file more then 0 else min (unwrap_or (old.to_fail old.calls) 0) (length more - 1)
 
 -- An append fails exactly where it is to, or where it would add too much, and keeps a part. Else
 -- the octets stand at the end.
-abbrev pub AppendsTo : {T : Type 0} → Seen → ℕ → List ℕ → Result T MakeFault → Seen → Type 0
+abbrev pub AppendsTo : {T : Type 0} → SeenFiles → ℕ → List ℕ → Result T MakeFault → SeenFiles → Type 0
 AppendsTo old file more (Ok _) new =
     ((is_to_fail old || is_too_much old file more) ≡ false)
     × (new ≡ holding (called old) (with_changed_file old.held file (with_appended more)))
@@ -112,12 +112,12 @@ AppendsTo old file more (Err make_fault.Failed) new =
 AppendsTo old file more (Err make_fault.Memory) new = (is_too_much old file more ≡ false) × (new ≡ called old)
 
 -- Overwriting fails exactly where it is to, and then changes nothing.
-abbrev pub OverwritesIn : {T : Type 0} → Seen → ℕ → ℕ → List ℕ → Result T Failed → Seen → Type 0
+abbrev pub OverwritesIn : {T : Type 0} → SeenFiles → ℕ → ℕ → List ℕ → Result T Failed → SeenFiles → Type 0
 OverwritesIn old file at bytes (Ok _) new =
     (is_to_fail old ≡ false)
     × (new ≡ holding (called old) (with_changed_file old.held file (with_overwritten at bytes)))
 OverwritesIn old file at bytes (Err _) new = (is_to_fail old ≡ true) × (new ≡ failed_to_write old)
 
 -- Closing isn't counted, and ends the file alone.
-abbrev pub ClosesFile : Seen → ℕ → Seen → Type 0
+abbrev pub ClosesFile : SeenFiles → ℕ → SeenFiles → Type 0
 ClosesFile old file new = new ≡ holding old (closed old.held file)

@@ -1,11 +1,11 @@
 -- What can be seen of a value of the type for files in memory.
 use Rattle.std.specs.BTreeMap.{get}
 use Rattle.std.specs.Ordering.{nat_cmp}
-use Rattle.mkv_memory.specs.Seen.{Seen}
+use Rattle.mkv_memory.specs.SeenFiles.{SeenFiles}
 use Rattle.mkv_memory.specs.Stored.{held_in}
 use Rattle.mkv_memory.specs.declared.mem_files.MemFiles.{MemFiles}
 
-abbrev pub seen : MemFiles → Seen
+abbrev pub seen : MemFiles → SeenFiles
 seen files = record {
   held = held_in files.store;
   to_fail = get nat_cmp files.failing;
