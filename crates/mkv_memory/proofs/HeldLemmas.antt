@@ -9,7 +9,7 @@ use Rattle.std.proofs.Math.Seq.{get_or-append_seam}
 use Rattle.mkv_io.specs.Names.{changed_at}
 use Rattle.mkv_io.specs.LiveFiles.{IsSameFile, ChangesFile, OverwritesWithin}
 use Rattle.mkv_memory.specs.Held.{Held, World, AreShort, AreThere, ChangesHeld, is_there, files_of, holder_of, content_of_file, name_of_file, held-live, with_changed_file}
-use Rattle.mkv_memory.proofs.NamesLemmas.{same_world}
+use Rattle.mkv_io.proofs.NamesLemmas.{changed_at-nothing, changed_at-other, changed_at-same}
 
 -- ---- what is held, by its parts
 
@@ -24,32 +24,6 @@ Held-world opened same i = record { world = same i; opened = opened }
 pub Held-changed : (held : Held) (file : ℕ) {name : List ℕ} {now : World} (change : Option (List ℕ) → Option (List ℕ)) → name_of_file held.opened file ≡ Some name → now ≡ changed_at name change held.world → ◌≡◌ {A = Held} (record { world = now; opened = held.opened }) (with_changed_file held file change)
 Held-changed held file change holder changed =
     Held-world held.opened (changed ∙ ap (λ name. changed_at (unwrap_or name []) change held.world) (sym holder))
-
--- ---- a changed name, and the others
-
--- the content of the name is what the change makes of it
-pub changed_at-same : (world : World) (name : List ℕ) (change : Option (List ℕ) → Option (List ℕ)) → changed_at name change world name ≡ change (world name)
-changed_at-same world name change = step (bytes_eq name name) ((bytes_eq-Decides name name).1 refl)
-  where
-    step : (same : Bool) → same ≡ true → (if same then change (world name) else world name) ≡ change (world name)
-    step true is = refl
-    step false is = cc
-
--- the content of any other name stays
-pub changed_at-other : (world : World) (name other : List ℕ) (change : Option (List ℕ) → Option (List ℕ)) → other ≢ name → changed_at name change world other ≡ world other
-changed_at-other world name other change differs = step (bytes_eq name other) (bytes_eq-Decides name other).0
-  where
-    step : (same : Bool) → (same ≡ true → name ≡ other) → (if same then change (world other) else world other) ≡ world other
-    step true is = absurd (differs (sym (is refl)))
-    step false is = refl
-
--- a change that leaves the name's content leaves all
-pub changed_at-nothing : (world : World) (name : List ℕ) (change : Option (List ℕ) → Option (List ℕ)) → change (world name) ≡ world name → changed_at name change world ≡ world
-changed_at-nothing world name change same = same_world _ _ (λ other. step other (bytes_eq name other) (bytes_eq-Decides name other).0)
-  where
-    step : (other : List ℕ) (is_name : Bool) → (is_name ≡ true → name ≡ other) → (if is_name then change (world other) else world other) ≡ world other
-    step other true is = let P : List ℕ → Type 0 = λ each. change (world each) ≡ world each in subst P (is refl) same
-    step other false is = refl
 
 -- ---- what always holds
 

@@ -8,14 +8,11 @@ use Rattle.std.specs.String.{string_cmp}
 use Rattle.std.proofs.lemmas.Map.Text.{btree_map_updates_text}
 use Rattle.std.proofs.lemmas.Slice.Eq.{bytes_eq-Decides}
 use Rattle.mkv_io.specs.Names.{changed_at}
+use Rattle.mkv_io.proofs.NamesLemmas.{same_world}
 
 -- the content of each name
 abbrev pub Contents : Type 0
 Contents = BTreeMap (String Global) (List ℕ)
-
--- two worlds with the same content of each name are one
-pub same_world : (f g : List ℕ → Option (List ℕ)) → ((other : List ℕ) → f other ≡ g other) → f ≡ g
-same_world f g each = λ i other. each other i
 
 -- A name whose content was there is given what a change makes of it: the name is changed so.
 pub changed_at-set : (name was now : List ℕ) (old new : Contents) (change : Option (List ℕ) → Option (List ℕ)) → get_by_text old name ≡ Some was → change (Some was) ≡ Some now → UpdatesBy string_cmp (λ key. slice_cmp nat_cmp name (string_bytes key)) old new (Some now) → get_by_text new ≡ changed_at name change (get_by_text old)

@@ -1,5 +1,5 @@
 use Rattle.std.proofs.lemmas.Map.Text.{btree_map_updates_text}
-use Rattle.mkv_memory.proofs.NamesLemmas.{same_world}
+use Rattle.mkv_io.proofs.NamesLemmas.{same_world}
 use Rattle.mkv_memory.proofs.store.set.Goals as goal
 
 -- an insertion at the name's key changes what is found at that name alone

@@ -1,0 +1,55 @@
+-- What a change of one name's content makes of the names: laws for whoever writes files.
+use Rattle.std.proofs.Common.{◌≡◌, ◌≢◌, ℕ, List, ◌++◌, Option, Some, None, Bool, true, false, if◌then◌else◌, refl, sym, ap, subst}
+use Rattle.std.specs.Str.{bytes_eq}
+use Rattle.std.proofs.lemmas.Slice.Eq.{bytes_eq-Decides}
+use Rattle.mkv_io.specs.Contents.{overwritten, with_appended, with_overwritten}
+use Rattle.mkv_io.specs.Names.{Names, changed_at, with_change, with_content}
+
+-- two worlds with the same content of each name are one
+pub same_world : (f g : List ℕ → Option (List ℕ)) → ((other : List ℕ) → f other ≡ g other) → f ≡ g
+same_world f g each = λ i other. each other i
+
+-- the content of the name is what the change makes of it
+pub changed_at-same : (world : List ℕ → Option (List ℕ)) (name : List ℕ) (change : Option (List ℕ) → Option (List ℕ)) → changed_at name change world name ≡ change (world name)
+changed_at-same world name change = step (bytes_eq name name) ((bytes_eq-Decides name name).1 refl)
+  where
+    step : (same : Bool) → same ≡ true → (if same then change (world name) else world name) ≡ change (world name)
+    step true is = refl
+    step false is = cc
+
+-- the content of any other name stays
+pub changed_at-other : (world : List ℕ → Option (List ℕ)) (name other : List ℕ) (change : Option (List ℕ) → Option (List ℕ)) → other ≢ name → changed_at name change world other ≡ world other
+changed_at-other world name other change differs = step (bytes_eq name other) (bytes_eq-Decides name other).0
+  where
+    step : (same : Bool) → (same ≡ true → name ≡ other) → (if same then change (world other) else world other) ≡ world other
+    step true is = absurd (differs (sym (is refl)))
+    step false is = refl
+
+-- a change that leaves the name's content leaves all
+pub changed_at-nothing : (world : List ℕ → Option (List ℕ)) (name : List ℕ) (change : Option (List ℕ) → Option (List ℕ)) → change (world name) ≡ world name → changed_at name change world ≡ world
+changed_at-nothing world name change same = same_world _ _ (λ other. step other (bytes_eq name other) (bytes_eq-Decides name other).0)
+  where
+    step : (other : List ℕ) (is_name : Bool) → (is_name ≡ true → name ≡ other) → (if is_name then change (world other) else world other) ≡ world other
+    step other true is = let P : List ℕ → Type 0 = λ each. change (world each) ≡ world each in subst P (is refl) same
+    step other false is = refl
+
+-- two changes of one name are one
+pub changed_at-twice : (world : List ℕ → Option (List ℕ)) (name : List ℕ) (first next : Option (List ℕ) → Option (List ℕ)) → changed_at name next (changed_at name first world) ≡ changed_at name (λ content. next (first content)) world
+changed_at-twice world name first next = same_world _ _ (λ other. step other (bytes_eq name other))
+  where
+    step : (other : List ℕ) (same : Bool) → (if same then next (if same then first (world other) else world other) else (if same then first (world other) else world other)) ≡ (if same then next (first (world other)) else world other)
+    step other true = refl
+    step other false = refl
+
+-- the same of names that may not be told
+pub with_change-twice : (names : Names) (name : List ℕ) (first next : Option (List ℕ) → Option (List ℕ)) → with_change (with_change names name first) name next ≡ with_change names name (λ content. next (first content))
+with_change-twice None name first next = refl
+with_change-twice (Some world) name first next = ap Some (changed_at-twice world name first next)
+
+-- a name that has a content, and to which octets are added, has them all
+pub with_content-appended : (names : Names) (name bytes more : List ℕ) → with_change (with_content names name bytes) name (with_appended more) ≡ with_content names name (bytes ++ more)
+with_content-appended names name bytes more = with_change-twice names name (λ _. Some bytes) (with_appended more)
+
+-- a name that has a content, and over which octets are written, has what that makes of it
+pub with_content-overwritten : (names : Names) (name bytes : List ℕ) (at : ℕ) (now : List ℕ) → with_change (with_content names name bytes) name (with_overwritten at now) ≡ with_content names name (overwritten bytes at now)
+with_content-overwritten names name bytes at now = with_change-twice names name (λ _. Some bytes) (with_overwritten at now)
