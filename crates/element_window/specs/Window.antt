@@ -27,6 +27,11 @@ WINDOW = 65536
 abbrev pub read_from : ℕ → ℕ → ℕ
 read_from size at = min WINDOW (size - at)
 
+-- The window begins at this place or before it, and ends with a file of `size` octets or before.
+pub record IsBefore (w : Held) (at size : ℕ) : Type 0 where
+  pub from : w.at ≤ at
+  pub within : end_held w ≤ size
+
 -- What a window has cost that was moved forwards through a file of `size` octets: at most two octets
 -- for each that it has passed, and three where it has come to the end.
 abbrev pub cost_of : ℕ → Held → ℕ
@@ -35,3 +40,8 @@ cost_of size w = if end_held w == size then 3 * size else 2 * end_held w
 -- What was read since is paid by the way that the window has gone.
 abbrev pub Pays : ℕ → Held → Held → ℕ → ℕ → Type 0
 Pays size old new before now = now + cost_of size old ≤ before + cost_of size new
+
+-- A window that was before a place is so still, and has paid for what was read.
+pub record MovesTo (size at : ℕ) (old new : Held) (before now : ℕ) : Type 0 where
+  pub place : IsBefore new at size
+  pub pays : Pays size old new before now

@@ -1,0 +1,43 @@
+-- The Elements of level 1, one step at a time.
+use Rattle.std.proofs.Common.{◌≡◌, ℕ, ◌<◌, ◌≤◌, Bool, true, false, if◌then◌else◌, List, Result, Ok, Err, refl, sym, ◌∙◌, ap, subst}
+use Rattle.ebml_format.specs.declared.number.Size.{Size}
+use Rattle.mkv_values.specs.declared.damage.Damage.{Damage}
+use Rattle.matroska_format.specs.declared.element.Header.{Header}
+use Rattle.matroska_format.specs.Element.{in_segment, element_at}
+use Rattle.matroska_format.specs.Elements.{Run, ends_at, breaks_at, behind, step, id_of, elements, ends_segment, behind_in_segment, level_1}
+use Rattle.matroska_format.proofs.ElementsLemmas.{elements-end, elements-more, Advances-segment}
+use Rattle.element_walks.specs.Steps.{StepsOn}
+use Rattle.element_walks.specs.declared.level_one.Step.TheVariants.{Element}
+
+-- at the Segment's bound nothing stands
+pub level_1-end : (bytes : List ℕ) (size : Size) (p e : ℕ) → e ≤ p → level_1 bytes size p e ≡ ends_at p
+level_1-end bytes size p e past = elements-end in_segment (ends_segment size) (behind_in_segment bytes e) bytes p e past
+
+-- before it, what is found there
+at_place : List ℕ → Size → ℕ → ℕ → Result Header Damage → Run
+at_place bytes size p e found = if ends_segment size (id_of found) then ends_at p else step p (behind_in_segment bytes e) found (λ q. level_1 bytes size q e)
+
+level_1-step : (bytes : List ℕ) (size : Size) (p e : ℕ) (found : Result Header Damage) → p < e → found ≡ element_at in_segment bytes p e → level_1 bytes size p e ≡ at_place bytes size p e found
+unfolding at_place
+level_1-step bytes size p e found inside is =
+    elements-more in_segment (ends_segment size) (behind_in_segment bytes e) bytes p e (Advances-segment bytes e) inside
+    ∙ ap (at_place bytes size p e) (sym is)
+
+-- an ID of level 0 ends a Segment of unknown size
+pub level_1-stops : (bytes : List ℕ) (size : Size) (p e : ℕ) (found : Result Header Damage) → p < e → found ≡ element_at in_segment bytes p e → ends_segment size (id_of found) ≡ true → level_1 bytes size p e ≡ ends_at p
+unfolding at_place
+level_1-stops bytes size p e found inside is stops = level_1-step bytes size p e found inside is ∙ rw stops refl
+
+-- a damage breaks it
+pub level_1-breaks : (bytes : List ℕ) (size : Size) (p e : ℕ) (d : Damage) → p < e → Err d ≡ element_at in_segment bytes p e → ends_segment size (id_of (Err d)) ≡ false → level_1 bytes size p e ≡ breaks_at p d
+unfolding at_place
+level_1-breaks bytes size p e d inside is goes = level_1-step bytes size p e (Err d) inside is ∙ rw goes refl
+
+-- an Element stands there, and what is behind it
+pub level_1-goes_on : (bytes : List ℕ) (size : Size) (p e : ℕ) (h : Header) (next : Result ℕ Damage) → p < e → Ok h ≡ element_at in_segment bytes p e → ends_segment size (id_of (Ok h)) ≡ false → next ≡ behind_in_segment bytes e h → StepsOn (Element h next) (level_1 bytes size p e) p (λ q. level_1 bytes size q e)
+unfolding at_place
+level_1-goes_on bytes size p e h next inside is goes behind_it = by_next next (level_1-step bytes size p e (Ok h) inside is ∙ rw goes (ap (λ q. behind p h q (λ k. level_1 bytes size k e)) (sym behind_it)))
+  where
+    by_next : (next : Result ℕ Damage) → level_1 bytes size p e ≡ behind p h next (λ k. level_1 bytes size k e) → StepsOn (Element h next) (level_1 bytes size p e) p (λ q. level_1 bytes size q e)
+    by_next (Ok q) same = same
+    by_next (Err d) same = same

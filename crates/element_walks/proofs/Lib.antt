@@ -1,0 +1,3 @@
+pub mod LevelOneLemmas
+pub mod MoveLemmas
+pub mod WalkLemmas

@@ -1,0 +1,27 @@
+-- What a step over the Elements of a Segment says of those that are left.
+use Rattle.std.specs.Prelude.{◌≡◌, ℕ, ◌<◌, ◌≤◌, ⊤, Result, Ok, Err}
+use Rattle.mkv_values.specs.declared.damage.Damage.{Damage}
+use Rattle.matroska_format.specs.Elements.{Run, before, breaks_at, ends_at}
+use Rattle.element_walks.specs.Walk.{place_or}
+use Rattle.element_walks.specs.declared.level_one.Step.{Step}
+use Rattle.element_walks.specs.declared.level_one.Step.TheVariants.{Element, Damaged, End}
+
+-- the Elements from a place on are what the step says; `from` gives those from a later place on
+abbrev pub StepsOn : Step → Run → ℕ → (ℕ → Run) → Type 0
+StepsOn (Element header (Ok next)) left at from = left ≡ before header (from next)
+StepsOn (Element header (Err d)) left at from = left ≡ before header (breaks_at at d)
+StepsOn (Damaged d) left at from = left ≡ breaks_at at d
+StepsOn End left at from = left ≡ ends_at at
+
+-- an Element's header stands behind the place, and the next Element too, up to the end
+abbrev pub IsFurther : Step → ℕ → ℕ → Type 0
+IsFurther (Element header (Ok next)) at end = (at < next) × (next ≤ end)
+IsFurther (Element header (Err d)) at end = ⊤
+IsFurther (Damaged d) at end = ⊤
+IsFurther End at end = ⊤
+
+-- how far a step has gone
+abbrev pub place_behind : Step → ℕ → ℕ → ℕ
+place_behind (Element header next) at end = place_or next end
+place_behind (Damaged d) at end = at
+place_behind End at end = at

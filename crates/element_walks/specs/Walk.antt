@@ -1,0 +1,17 @@
+-- What a walk over the Elements of a file answers.
+use Rattle.std.specs.Prelude.{ℕ, List, Result, Ok, Err}
+use Rattle.mkv_values.specs.declared.damage.Damage.{Damage}
+use Rattle.matroska_format.specs.Elements.{Run, end_of_run, open_cluster}
+
+-- where a run of Elements ends, or the damage that breaks it
+abbrev pub run_end : Run → Result ℕ Damage
+run_end run = end_of_run run run.damage
+
+-- where the children of a Cluster of unknown size end, from a place on
+abbrev pub cluster_end : List ℕ → ℕ → ℕ → Result ℕ Damage
+cluster_end bytes p e = run_end (open_cluster bytes p e)
+
+-- the place that was found, or the end of the walk where a damage broke it
+abbrev pub place_or : Result ℕ Damage → ℕ → ℕ
+place_or (Ok at) end = at
+place_or (Err d) end = end

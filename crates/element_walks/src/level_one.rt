@@ -1,0 +1,78 @@
+//! The Elements of level 1: RFC 9559, section 5.1 (Segment Element).
+
+ghost use Rattle.std.specs.Prelude.{◌≡◌, ◌+◌, ◌≤◌, ◌<◌, [], List, ℕ, length, IfOk, OnOk, OnErr, IsTrue};
+ghost use Rattle.mkv_io.specs.Faults.{HasCause};
+ghost use Rattle.mkv_io.specs.Told.{Told};
+ghost use Rattle.matroska_format.specs.Elements.{ends_segment, level_1};
+ghost use Rattle.element_window.specs.Window.{Holds, IsBefore, MovesTo};
+ghost use Rattle.element_walks.specs.Steps.{StepsOn, IsFurther, place_behind};
+
+use crate::walk::{behind, id_of};
+use ebml_format::Size;
+use element_headers::{Header, Parent};
+use element_window::Window;
+use mkv_io::Reads;
+use mkv_schema::is_level0;
+use mkv_values::{Damage, Failed, FileId};
+
+/// What stands at a place of a Segment.
+#[derive(Clone, Copy, Debug, PartialEq, Eq)]
+pub enum Step {
+    /// An Element of level 1, and where the one behind it begins, or the damage inside it.
+    Element {
+        header: Header,
+        next: Result<u64, Damage>,
+    },
+    /// What stands there is no Element that a Segment may have.
+    Damaged(Damage),
+    /// Nothing of the Segment stands there any more.
+    End,
+}
+
+/// Whether a Segment ends before an Element of this ID, where its size is unknown.
+pub fn ends_segment(size: Size, id: u32) -> bool
+    ensures { result ≡ ends_segment size id }
+{
+    match size {
+        Size::Known(_) => false,
+        Size::Unknown => is_level0(id),
+    }
+}
+
+/// What stands at a place of a Segment that has this size and may reach up to `end`.
+pub fn next_of_segment<R: Reads>(
+    window: &mut Window,
+    src: &mut R,
+    file: FileId,
+    size: Size,
+    at: u64,
+    end: u64,
+) -> Result<Step, Failed>
+    requires live { IsTrue ((R.files (R.standing src.old)).live file.n) }
+    requires place { at ≤ end }
+    requires inside { end ≤ (R.files (R.standing src.old)).size file.n }
+    requires holds { Told ((R.files (R.standing src.old)).content file.n) (λ bytes. Holds bytes window.old) }
+    ensures ok { IfOk result (λ step. Told ((R.files (R.standing src.old)).content file.n) (λ bytes. StepsOn step (level_1 bytes size at end) at (λ q. level_1 bytes size q end))) }
+    ensures holds { Told ((R.files (R.standing src.old)).content file.n) (λ bytes. Holds bytes window.new) }
+    ensures err { OnErr result (window.new.octets ≡ []) }
+    ensures standing { R.standing src.new ≡ R.standing src.old }
+    ensures cause { HasCause (R.reading_faults src.old) (R.reading_faults src.new) result }
+    ensures place { IfOk result (λ step. IsFurther step at end) }
+    ensures moves { IsBefore window.old at ((R.files (R.standing src.old)).size file.n)
+        → IfOk result (λ step. MovesTo ((R.files (R.standing src.old)).size file.n) (place_behind step at end) window.old window.new (R.octets_read src.old) (R.octets_read src.new)) }
+{
+    if at >= end {
+        return Ok(Step::End);
+    }
+    let found = window.element(src, file, Parent::Segment, at, end)?;
+    if ends_segment(size, id_of(&found)) {
+        return Ok(Step::End);
+    }
+    match found {
+        Ok(header) => {
+            let next = behind(window, src, file, &header, end)?;
+            Ok(Step::Element { header, next })
+        }
+        Err(damage) => Ok(Step::Damaged(damage)),
+    }
+}

@@ -1,0 +1,109 @@
+//! Walks over Elements, forwards through a window.
+
+ghost use Rattle.std.specs.Prelude.{◌≡◌, ◌+◌, ◌≤◌, ◌<◌, ◌^◌, [], List, ℕ, length, IfOk, OnOk, OnErr, IsTrue};
+ghost use Rattle.mkv_io.specs.Faults.{HasCause};
+ghost use Rattle.mkv_io.specs.Told.{Told};
+ghost use Rattle.matroska_format.specs.Elements.{behind_in_segment, ends_cluster, id_of};
+ghost use Rattle.matroska_format.specs.Element.{end_in};
+ghost use Rattle.element_window.specs.Window.{Holds, IsBefore, MovesTo};
+ghost use Rattle.element_walks.specs.Walk.{cluster_end, place_or};
+
+use ebml_format::Size;
+use element_headers::{Header, Parent};
+use element_window::Window;
+use mkv_io::Reads;
+use mkv_schema::{is_level0, is_level1};
+use mkv_values::{Damage, Failed, FileId};
+
+/// The ID at a place where an Element or a damage was found, 0 where it couldn't be read.
+pub fn id_of(found: &Result<Header, Damage>) -> u32
+    ensures { result ≡ id_of found.now }
+{
+    match found {
+        Ok(header) => header.id,
+        Err(damage) => damage.id,
+    }
+}
+
+/// Whether a Cluster of unknown size ends before an Element of this ID.
+pub fn ends_cluster(id: u32) -> bool
+    ensures { result ≡ ends_cluster id }
+{
+    is_level1(id) || is_level0(id)
+}
+
+/// The place behind an Element, which the end of its parent may cut.
+pub fn end_in(header: &Header, end: u64) -> u64
+    ensures { result ≡ end_in end header.now }
+{
+    match header.size {
+        Size::Known(size) => header.body.saturating_add(size).min(end),
+        Size::Unknown => header.body.min(end),
+    }
+}
+
+/// Where the children of a Cluster of unknown size end, from a place on, or the damage among them.
+pub fn cluster_end<R: Reads>(
+    window: &mut Window,
+    src: &mut R,
+    file: FileId,
+    from: u64,
+    end: u64,
+) -> Result<Result<u64, Damage>, Failed>
+    requires live { IsTrue ((R.files (R.standing src.old)).live file.n) }
+    requires place { from ≤ end }
+    requires inside { end ≤ (R.files (R.standing src.old)).size file.n }
+    requires holds { Told ((R.files (R.standing src.old)).content file.n) (λ bytes. Holds bytes window.old) }
+    ensures ok { IfOk result (λ found. Told ((R.files (R.standing src.old)).content file.n) (λ bytes. found ≡ cluster_end bytes from end)) }
+    ensures holds { Told ((R.files (R.standing src.old)).content file.n) (λ bytes. Holds bytes window.new) }
+    ensures err { OnErr result (window.new.octets ≡ []) }
+    ensures standing { R.standing src.new ≡ R.standing src.old }
+    ensures cause { HasCause (R.reading_faults src.old) (R.reading_faults src.new) result }
+    ensures place { IfOk result (λ found. IfOk found (λ at. (from ≤ at) × (at ≤ end))) }
+    ensures moves { IsBefore window.old from ((R.files (R.standing src.old)).size file.n)
+        → IfOk result (λ found. MovesTo ((R.files (R.standing src.old)).size file.n) (place_or found end) window.old window.new (R.octets_read src.old) (R.octets_read src.new)) }
+{
+    let mut at = from;
+    while at < end {
+        let found = window.element(src, file, Parent::Master, at, end)?;
+        if ends_cluster(id_of(&found)) {
+            return Ok(Ok(at));
+        }
+        match found {
+            Ok(header) => at = end_in(&header, end),
+            Err(damage) => return Ok(Err(damage)),
+        }
+    }
+    Ok(Ok(at))
+}
+
+/// Where the Element behind one of a Segment begins, or the damage inside it: a Cluster of unknown
+/// size ends with its children.
+pub fn behind<R: Reads>(
+    window: &mut Window,
+    src: &mut R,
+    file: FileId,
+    header: &Header,
+    end: u64,
+) -> Result<Result<u64, Damage>, Failed>
+    requires live { IsTrue ((R.files (R.standing src.old)).live file.n) }
+    requires place { header.now.body ≤ end }
+    requires inside { end ≤ (R.files (R.standing src.old)).size file.n }
+    requires holds { Told ((R.files (R.standing src.old)).content file.n) (λ bytes. Holds bytes window.old) }
+    ensures ok { IfOk result (λ found. Told ((R.files (R.standing src.old)).content file.n) (λ bytes. found ≡ behind_in_segment bytes end header.now)) }
+    ensures holds { Told ((R.files (R.standing src.old)).content file.n) (λ bytes. Holds bytes window.new) }
+    ensures err { OnErr result (window.new.octets ≡ []) }
+    ensures standing { R.standing src.new ≡ R.standing src.old }
+    ensures cause { HasCause (R.reading_faults src.old) (R.reading_faults src.new) result }
+    ensures place { IfOk result (λ found. IfOk found (λ at. (header.now.body ≤ at) × (at ≤ end))) }
+    ensures moves { IsBefore window.old header.now.body ((R.files (R.standing src.old)).size file.n)
+        → IfOk result (λ found. MovesTo ((R.files (R.standing src.old)).size file.n) (place_or found end) window.old window.new (R.octets_read src.old) (R.octets_read src.new)) }
+{
+    match header.size {
+        Size::Unknown => {
+            let found = cluster_end(window, src, file, header.body, end)?;
+            Ok(found)
+        }
+        Size::Known(_) => Ok(Ok(end_in(header, end))),
+    }
+}
