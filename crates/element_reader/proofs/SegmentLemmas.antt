@@ -1,0 +1,65 @@
+-- The way to the Segment, one step at a time.
+use Rattle.std.proofs.lemmas.Bool.Decides.{nat_tests}
+use Rattle.std.proofs.Common.{eq-eqb, ◌≡◌, ℕ, ◌<◌, ◌≤◌, ◌==◌, nat_lt, Bool, true, false, if◌then◌else◌, List, ◌∷◌, length, Option, Some, None, Result, Ok, Err, refl, sym, ◌∙◌, ap, arith}
+use Rattle.mkv_schema.specs.declared.ids.TheConstants.{SEGMENT}
+use Rattle.mkv_values.specs.declared.damage.Damage.{Damage}
+use Rattle.mkv_values.specs.declared.damage.Kind.TheVariants.{NoSegment}
+use Rattle.matroska_format.specs.declared.element.Header.{Header}
+use Rattle.matroska_format.specs.Element.{at_level_0, element_at, damage, end_in}
+use Rattle.matroska_format.specs.Elements.{Run, ends_at, step, id_of}
+use Rattle.matroska_format.specs.Outline.{before_segment}
+use Rattle.matroska_format.proofs.ElementsLemmas.{elements-end, elements-more, Advances-known}
+use Rattle.element_reader.specs.Segment.{found_behind, segment_from}
+
+-- at the end of the file there is none
+pub segment_from-end : (bytes : List ℕ) (p : ℕ) → length bytes ≤ p → segment_from bytes p ≡ Err (damage NoSegment 0 (length bytes))
+segment_from-end bytes p past =
+    ap (found_behind bytes) (elements-end at_level_0 (λ id. id == SEGMENT) (λ h. Ok (end_in (length bytes) h)) bytes p (length bytes) past)
+    ∙ nothing (nat_lt p (length bytes)) (grind arith)
+  where
+    nothing : (test : Bool) → test ≡ false → (if test then element_at at_level_0 bytes p (length bytes) else Err (damage NoSegment 0 (length bytes))) ≡ Err (damage NoSegment 0 (length bytes))
+    nothing true is = absurd (cc)
+    nothing false is = refl
+
+-- before it, what stands there
+at_place : List ℕ → ℕ → Result Header Damage → Run
+at_place bytes p found = if id_of found == SEGMENT then ends_at p else step p (λ h. Ok (end_in (length bytes) h)) found (λ q. before_segment bytes q)
+
+segment_from-step : (bytes : List ℕ) (p : ℕ) (found : Result Header Damage) → p < length bytes → found ≡ element_at at_level_0 bytes p (length bytes) → segment_from bytes p ≡ found_behind bytes (at_place bytes p found)
+unfolding at_place
+segment_from-step bytes p found inside is =
+    ap (found_behind bytes)
+    (elements-more at_level_0 (λ id. id == SEGMENT) (λ h. Ok (end_in (length bytes) h)) bytes p (length bytes) (Advances-known at_level_0 bytes (length bytes)) inside
+    ∙ ap (at_place bytes p) (sym is))
+
+-- the Segment itself, or what is wrong with it
+pub segment_from-found : (bytes : List ℕ) (p : ℕ) (found : Result Header Damage) → p < length bytes → found ≡ element_at at_level_0 bytes p (length bytes) → id_of found ≡ SEGMENT → segment_from bytes p ≡ found
+unfolding at_place
+segment_from-found bytes p found inside is segment =
+    let test : (id_of found == SEGMENT) ≡ true = eq-eqb (id_of found) SEGMENT segment in
+    segment_from-step bytes p found inside is ∙ rw test (here (nat_lt p (length bytes)) (grind arith)) ∙ sym is
+  where
+    here : (test : Bool) → test ≡ true → (if test then element_at at_level_0 bytes p (length bytes) else Err (damage NoSegment 0 (length bytes))) ≡ element_at at_level_0 bytes p (length bytes)
+    here true is = refl
+    here false is = absurd (cc)
+
+-- a damage before it
+pub segment_from-breaks : (bytes : List ℕ) (p : ℕ) (d : Damage) → p < length bytes → Err d ≡ element_at at_level_0 bytes p (length bytes) → (id_of (Err d) ≡ SEGMENT → ⊥) → segment_from bytes p ≡ Err d
+unfolding at_place
+segment_from-breaks bytes p d inside is other =
+    let test : (d.id == SEGMENT) ≡ false = grind (arith, nat_tests) in
+    segment_from-step bytes p (Err d) inside is ∙ rw test refl
+
+-- another Element, which is skipped
+pub segment_from-goes_on : (bytes : List ℕ) (p : ℕ) (h : Header) → p < length bytes → Ok h ≡ element_at at_level_0 bytes p (length bytes) → (id_of (Ok h) ≡ SEGMENT → ⊥) → segment_from bytes p ≡ segment_from bytes (end_in (length bytes) h)
+unfolding at_place
+segment_from-goes_on bytes p h inside is other =
+    let test : (h.id == SEGMENT) ≡ false = grind (arith, nat_tests) in
+    segment_from-step bytes p (Ok h) inside is ∙ rw test (skipped (before_segment bytes (end_in (length bytes) h)))
+  where
+    skipped : (run : Run) → found_behind bytes (record { list = h ∷ run.list; damage = run.damage; end = run.end }) ≡ found_behind bytes run
+    skipped run = by_damage run.damage
+      where
+        by_damage : (d : Option Damage) → found_behind bytes (record { list = h ∷ run.list; damage = d; end = run.end }) ≡ found_behind bytes (record { list = run.list; damage = d; end = run.end })
+        by_damage None = refl
+        by_damage (Some d) = refl

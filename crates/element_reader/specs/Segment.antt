@@ -1,0 +1,18 @@
+-- The Segment that follows a place of level 0.
+use Rattle.std.specs.Prelude.{ℕ, List, Result, Ok, Err}
+use Rattle.mkv_values.specs.declared.damage.Damage.{Damage}
+use Rattle.matroska_format.specs.declared.element.Header.{Header}
+use Rattle.matroska_format.specs.Elements.{Run}
+use Rattle.matroska_format.specs.Outline.{and_then, unless, before_segment, segment_behind}
+
+-- the Segment behind the Elements that stand before it, or what refuses the file on the way
+abbrev pub found_behind : List ℕ → Run → Result Header Damage
+found_behind bytes run = and_then (unless run.damage run) (segment_behind bytes)
+
+abbrev pub segment_from : List ℕ → ℕ → Result Header Damage
+segment_from bytes from = found_behind bytes (before_segment bytes from)
+
+-- where the body of a Segment begins, or the end of the file where there is none
+abbrev pub body_or : Result Header Damage → ℕ → ℕ
+body_or (Ok h) total = h.body
+body_or (Err d) total = total
