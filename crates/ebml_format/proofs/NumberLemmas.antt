@@ -4,7 +4,7 @@ use Rattle.std.proofs.Math.Nat.{pow-suc, mul-le-mul_right, mod-eq_of_lt, mod-eq-
 use Rattle.std.proofs.Math.Pow.{pow_mono, pow-add}
 use Rattle.std.proofs.lemmas.Nat.{pow_pos, shr_high, le-div, div_below}
 use Rattle.std.proofs.lemmas.Int.{ints}
-use Rattle.std.proofs.lemmas.List.{length-take, length-append}
+use Rattle.std.proofs.lemmas.List.{take-take, length-take, length-append}
 use Rattle.std.proofs.lemmas.Bool.{cases_lt, cases_eq, eq-eqb, ne_eqb, leb-true, le-leb, ltb-true, cond-true, cond-false, lt-ltb, le-ltb}
 use Rattle.std.proofs.lemmas.Bool.Decides.{nat_tests}
 use Rattle.std.specs.Int.{byte_at}
@@ -368,6 +368,13 @@ size_at-front o p r is same =
       inside = length-front r.len o p reads.inside same;
       size = rw number reads.size;
     })
+
+-- a number's own octets alone are read alike
+pub id_at-alone : (o : List ℕ) (r : IdRead) → id_at o ≡ Ok r → id_at (take r.len o) ≡ Ok r
+id_at-alone o r is = id_at-front o (take r.len o) r is (take-take r.len r.len o (omega arith))
+
+pub size_at-alone : (o : List ℕ) (r : SizeRead) → size_at o ≡ Ok r → size_at (take r.len o) ≡ Ok r
+size_at-alone o r is = size_at-front o (take r.len o) r is (take-take r.len r.len o (omega arith))
 
 -- further octets change neither an ID nor that there is none
 pub id_at-append : (o rest : List ℕ) → IsSettled (id_at o) → id_at (o ++ rest) ≡ id_at o

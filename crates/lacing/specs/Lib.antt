@@ -1,0 +1,2 @@
+pub mod Lace
+pub mod Reading

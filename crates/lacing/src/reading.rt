@@ -1,0 +1,236 @@
+//! A lace read from the front: RFC 9559, section 10.3 (Block Lacing).
+ghost use Rattle.std.specs.Prelude.{◌≡◌, ◌+◌, ◌-◌, ◌*◌, ◌^◌, ◌≤◌, ◌<◌, [], Err, None, length, drop, sum, position, not, ◌==◌, ◌≢◌, IfOk, IfSome, OnOk, OnErr};
+ghost use Rattle.smallvec.specs.SmallVec.{HasRoomFor};
+ghost use Rattle.lacing.specs.Lace.{bias, FindsLace, HasNoLace};
+ghost use Rattle.lacing.specs.Reading.{xiph_size, data_of, ebml_size, any_size, size_in, sizes_in, with_last, frames_in, is_frame_count, lace_in, Gives, Splits};
+
+use crate::kind::{Lace, LaceEnd};
+use ebml_numbers::{Size, read_size};
+use smallvec::SmallVec;
+use std::alloc::Global;
+
+/// Splits the octets behind a block's frame count into `count` frames, and answers how many octets
+/// the head of the lace has. The sizes of the frames stand in `sizes` then, in octets.
+pub fn split(
+    kind: Lace,
+    count: u16,
+    bytes: &[u8],
+    sizes: &mut SmallVec<u32, 8, Global>,
+) -> Result<u32, LaceEnd>
+    requires { length bytes.now ≤ 2 ^ 25 }
+
+    // The sizes are those of a lace, and Bad is answered where there is none.
+    ensures found { IfOk result (FindsLace kind count bytes.now sizes.new.items) }
+    ensures bad { result ≡ Err LaceEnd.Bad → HasNoLace kind count bytes.now }
+
+    // What stands afterwards. Up to eight frames take no memory.
+    ensures empty { result ≡ Err LaceEnd.Bad → sizes.new.items ≡ [] }
+    ensures same { result ≡ Err LaceEnd.Memory → sizes.new ≡ sizes.old }
+    ensures memory { result ≡ Err LaceEnd.Memory → 8 < count }
+    ensures capacity { sizes.old.capacity ≤ sizes.new.capacity }
+
+    // The same as a function.
+    ensures read { Splits (lace_in kind count bytes.now) sizes.new.items result }
+{
+    if !is_frame_count(count) {
+        sizes.clear();
+        return Err(LaceEnd::Bad);
+    }
+    let count = usize::from(count);
+    make_room(count, sizes)?;
+    match frames(kind, count, bytes, sizes) {
+        Some(head) => Ok(head),
+        None => {
+            sizes.clear();
+            Err(LaceEnd::Bad)
+        }
+    }
+}
+
+fn is_frame_count(count: u16) -> bool
+    ensures { result ≡ is_frame_count count }
+{
+    (1..=256).contains(&count)
+}
+
+// Drops the sizes, and has room for so many.
+fn make_room(count: usize, sizes: &mut SmallVec<u32, 8, Global>) -> Result<(), LaceEnd>
+    ensures ok { OnOk result ((sizes.new.items ≡ []) × (count ≤ sizes.new.capacity)) }
+    ensures err { OnErr result (sizes.new ≡ sizes.old) }
+    ensures bad { result ≢ Err LaceEnd.Bad }
+    ensures memory { OnErr result (8 < count) }
+    ensures capacity { sizes.old.capacity ≤ sizes.new.capacity }
+{
+    let missing = count.saturating_sub(sizes.len());
+    if count > sizes.capacity() && sizes.reserve(missing).is_err() {
+        return Err(LaceEnd::Memory);
+    }
+    sizes.clear();
+    Ok(())
+}
+
+// The sizes of some frames, for which there is room.
+fn frames(
+    kind: Lace,
+    count: usize,
+    bytes: &[u8],
+    sizes: &mut SmallVec<u32, 8, Global>,
+) -> Option<u32>
+    requires short { length bytes.now ≤ 2 ^ 25 }
+    requires some { 1 ≤ count }
+    requires most { count ≤ 256 }
+    requires empty { sizes.old.items ≡ [] }
+    requires room { count ≤ sizes.old.capacity }
+    ensures read { Gives (frames_in kind count bytes.now) sizes.new.items result }
+    ensures capacity { sizes.new.capacity ≡ sizes.old.capacity }
+{
+    match kind {
+        Lace::None => one_frame(count, bytes, sizes),
+        Lace::Fixed => equal_frames(count, bytes, sizes),
+        Lace::Xiph | Lace::Ebml => spelled_frames(kind, count, bytes, sizes),
+    }
+}
+
+fn one_frame(count: usize, bytes: &[u8], sizes: &mut SmallVec<u32, 8, Global>) -> Option<u32>
+    requires short { length bytes.now ≤ 2 ^ 25 }
+    requires some { 1 ≤ count }
+    requires empty { sizes.old.items ≡ [] }
+    requires room { count ≤ sizes.old.capacity }
+    ensures read { Gives (frames_in Lace.None count bytes.now) sizes.new.items result }
+    ensures capacity { sizes.new.capacity ≡ sizes.old.capacity }
+{
+    if count != 1 {
+        return None;
+    }
+    sizes.push_reserved(bytes.len() as u32);
+    Some(0)
+}
+
+fn equal_frames(count: usize, bytes: &[u8], sizes: &mut SmallVec<u32, 8, Global>) -> Option<u32>
+    requires short { length bytes.now ≤ 2 ^ 25 }
+    requires some { 1 ≤ count }
+    requires empty { sizes.old.items ≡ [] }
+    requires room { count ≤ sizes.old.capacity }
+    ensures read { Gives (frames_in Lace.Fixed count bytes.now) sizes.new.items result }
+    ensures capacity { sizes.new.capacity ≡ sizes.old.capacity }
+{
+    if bytes.len() % count != 0 {
+        return None;
+    }
+    let size = (bytes.len() / count) as u32;
+    while sizes.len() < count {
+        sizes.push_reserved(size);
+    }
+    Some(0)
+}
+
+// All sizes but the last are spelled, and the last is what they leave.
+fn spelled_frames(
+    kind: Lace,
+    count: usize,
+    bytes: &[u8],
+    sizes: &mut SmallVec<u32, 8, Global>,
+) -> Option<u32>
+    requires short { length bytes.now ≤ 2 ^ 25 }
+    requires some { 1 ≤ count }
+    requires most { count ≤ 256 }
+    requires empty { sizes.old.items ≡ [] }
+    requires room { count ≤ sizes.old.capacity }
+    ensures read { Gives (with_last (length bytes.now) (sizes_in kind (count - 1) None bytes.now))
+        sizes.new.items result }
+    ensures capacity { sizes.new.capacity ≡ sizes.old.capacity }
+{
+    let mut head = 0;
+    let mut before = None;
+    let mut total = 0;
+    while sizes.len() < count - 1 {
+        let (size, len) = size_in(kind, before, bytes, head)?;
+        sizes.push_reserved(size);
+        total += u64::from(size);
+        before = Some(size);
+        head += len;
+    }
+    let last = ((bytes.len() - head) as u64).checked_sub(total)?;
+    sizes.push_reserved(last as u32);
+    Some(head as u32)
+}
+
+// The size behind so many octets, whose frame has room behind it, and how many octets spell it.
+#[tactic(auto, unfolding(crate::specs::Reading::size_in))]
+fn size_in(kind: Lace, before: Option<u32>, bytes: &[u8], at: usize) -> Option<(u32, usize)>
+    requires short { length bytes.now ≤ 2 ^ 25 }
+    requires inside { at ≤ length bytes.now }
+    ensures read { result ≡ size_in kind before (drop at bytes.now) }
+    ensures inside { IfSome result (λ front. at + front.0 + front.1 ≤ length bytes.now) }
+{
+    let rest = &bytes[at..];
+    let (size, len) = match kind {
+        Lace::Xiph => xiph_size(rest)?,
+        Lace::Ebml => ebml_size(before, rest)?,
+        Lace::None | Lace::Fixed => return None,
+    };
+    if size + len as u64 <= rest.len() as u64 {
+        Some((size as u32, len))
+    } else {
+        None
+    }
+}
+
+// A run of octets of 255 and the octet behind it add up to the size.
+fn xiph_size(bytes: &[u8]) -> Option<(u64, usize)>
+    requires { length bytes.now ≤ 2 ^ 25 }
+    ensures read { result ≡ xiph_size bytes.now }
+    ensures small { IfSome result (λ front. (front.0 < 2 ^ 57) × (front.1 < 2 ^ 57)) }
+{
+    let run = run_of(bytes)?;
+    Some((255 * run as u64 + u64::from(bytes[run]), run + 1))
+}
+
+// How many octets of 255 stand before another octet.
+fn run_of(bytes: &[u8]) -> Option<usize>
+    ensures read { result ≡ position (λ octet. not (octet == 255)) bytes.now }
+    ensures inside { IfSome result (λ run. run < length bytes.now) }
+{
+    bytes.iter().position(|octet| *octet != 255)
+}
+
+// The first size, or the size before with a difference.
+fn ebml_size(before: Option<u32>, bytes: &[u8]) -> Option<(u64, usize)>
+    ensures read { result ≡ ebml_size before bytes.now }
+    ensures small { IfSome result (λ front. (front.0 < 2 ^ 57) × (front.1 < 2 ^ 57)) }
+{
+    let Ok(read) = read_size(bytes) else {
+        return None;
+    };
+    let len = usize::from(read.len);
+    let Some(before) = before else {
+        return match read.size {
+            Size::Known(size) => Some((size, len)),
+            Size::Unknown => None,
+        };
+    };
+    let sum = u64::from(before) + data_of(read.size, read.len);
+    let size = sum.checked_sub(bias(read.len))?;
+    Some((size, len))
+}
+
+// The data of a variable-size integer that was read as a size.
+fn data_of(size: Size, len: u8) -> u64
+    requires { len ≤ 8 }
+    ensures { result ≡ data_of size len }
+{
+    match size {
+        Size::Known(value) => value,
+        Size::Unknown => (1 << (7 * len)) - 1,
+    }
+}
+
+// The data of a difference of 0 in so many octets.
+fn bias(len: u8) -> u64
+    requires some { 1 ≤ len }
+    requires most { len ≤ 8 }
+    ensures value { result ≡ bias len }
+    ensures small { result < 2 ^ 55 }
+{
+    (1 << (7 * len - 1)) - 1
+}
