@@ -96,7 +96,7 @@ first_of_range p (suc n) a =
     ]
 
 -- where a number fits eight octets, the least width that it fits is one
-least_width-IsLeast : (p : ℕ → Bool) (Fits : ℕ → Type 0) → ((k : ℕ) → p k ≡ true → Fits k) → ((k : ℕ) → Fits k → p k ≡ true) → Fits 8 → IsLeastWidth Fits (least_width p)
+pub least_width-IsLeast : (p : ℕ → Bool) (Fits : ℕ → Type 0) → ((k : ℕ) → p k ≡ true → Fits k) → ((k : ℕ) → Fits k → p k ≡ true) → Fits 8 → IsLeastWidth Fits (least_width p)
 least_width-IsLeast p Fits sound complete eight =
     elim (first_of_range p 8 1) [
       | inl none ↦ (let fails = none 8 (omega arith) (omega arith) in let passes = complete 8 eight in absurd (cc))

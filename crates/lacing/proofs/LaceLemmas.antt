@@ -89,8 +89,10 @@ xiph_size-found o size len octets is =
       | inr outside ↦ (let none = xiph_size-none o outside in absurd (cc))
       | inl inside ↦ (
           let some = xiph_size-at o inside in
-          let same : Some (255 * run_of o + slice_index o (run_of o), run_of o + 1) ≡ Some (size, len) = sym some ∙ is in
-          let pair : (255 * run_of o + slice_index o (run_of o), run_of o + 1) ≡ (size, len) = cc in
+          let read : ℕ × ℕ = (255 * run_of o + slice_index o (run_of o), run_of o + 1) in
+          let given : ℕ × ℕ = (size, len) in
+          let same : Some read ≡ Some given = sym some ∙ is in
+          let pair : read ≡ given = cc in
           let is_size : 255 * run_of o + slice_index o (run_of o) ≡ size = ap (λ (x : ℕ × ℕ). x.0) pair in
           let is_len : suc (run_of o) ≡ len = omega (arith, ap (λ (x : ℕ × ℕ). x.1) pair) in
           let split = run_of-split (run_of o) o refl inside in
@@ -105,7 +107,7 @@ xiph_size-found o size len octets is =
 -- ---- one size: EBML
 
 -- the data that were read as a size
-data_of-size : (w v : ℕ) → data_of (size_of_data w v) w ≡ v
+pub data_of-size : (w v : ℕ) → data_of (size_of_data w v) w ≡ v
 data_of-size w v =
     let P : Size → Type 0 = λ size. data_of size w ≡ v in
     elim (cases_eq v (all_ones w)) [
@@ -303,12 +305,12 @@ but_last-push [] last = refl
 but_last-push (size ∷ []) last = refl
 but_last-push (size ∷ (next ∷ sizes)) last = ap (λ (x : List ℕ). size ∷ x) (but_last-push (next ∷ sizes) last)
 
-last_of : List ℕ → ℕ
+pub last_of : List ℕ → ℕ
 last_of [] = 0
 last_of (size ∷ []) = size
 last_of (size ∷ (next ∷ sizes)) = last_of (next ∷ sizes)
 
-but_last-split : (sizes : List ℕ) → 1 ≤ length sizes → sizes ≡ but_last sizes ++ last_of sizes ∷ []
+pub but_last-split : (sizes : List ℕ) → 1 ≤ length sizes → sizes ≡ but_last sizes ++ last_of sizes ∷ []
 unfolding last_of
 but_last-split [] some = absurd (omega arith)
 but_last-split (size ∷ []) some = refl
@@ -341,8 +343,9 @@ spelled-again kind head sizes rest some spells fits =
     let fewer : length sizes - 1 ≡ length (but_last sizes) = omega arith in
     let read = sizes_in-again kind None (but_last sizes) head rest spells (omega arith) in
     let last : length (head ++ rest) - length head - sum (but_last sizes) ≡ last_of sizes = omega arith in
+    let joined : but_last sizes ++ (length (head ++ rest) - length head - sum (but_last sizes)) ∷ [] ≡ sizes = rw last (sym split) in
     rw (fewer, read) (cond-true (nat_le (length head + sum (but_last sizes)) (length (head ++ rest))) _ _ (le-leb _ _ (omega arith))
-    ∙ ap (λ (x : ℕ). Some (but_last sizes ++ x ∷ [], length head)) last ∙ ap (λ (ss : List ℕ). Some (ss, length head)) (sym split))
+    ∙ ap (λ (ss : List ℕ). Some (ss, length head)) joined)
 
 -- and what is read is spelled
 spelled-found : (kind : Lace) (n : ℕ) (o sizes : List ℕ) (head : ℕ) → AreOctets o → 1 ≤ n → with_last (length o) (sizes_in kind (n - 1) None o) ≡ Some (sizes, head)

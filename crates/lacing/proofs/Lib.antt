@@ -1,1 +1,3 @@
 pub mod LaceLemmas
+pub mod StandardFacts
+pub mod WritingLemmas

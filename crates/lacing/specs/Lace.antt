@@ -76,3 +76,8 @@ pub record FindsLace (kind : Lace) (frames : ℕ) (octets sizes : List ℕ) (hea
 abbrev pub HasNoLace : Lace → ℕ → List ℕ → Type 0
 HasNoLace kind frames octets =
     (head rest sizes : List ℕ) → octets ≡ head ++ rest → length sizes ≡ frames → IsLace kind head sizes (length octets) → ⊥
+
+-- within one kind no two lists of as many sizes have one head and total
+abbrev pub HeadSettlesSizes : Type 0
+HeadSettlesSizes =
+    (kind : Lace) (head a b : List ℕ) (total : ℕ) → length a ≡ length b → IsLace kind head a total → IsLace kind head b total → a ≡ b

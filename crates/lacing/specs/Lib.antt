@@ -1,2 +1,3 @@
 pub mod Lace
 pub mod Reading
+pub mod Writing

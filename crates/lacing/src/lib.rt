@@ -2,8 +2,16 @@
 
 //! The sizes of laced frames, read and written: RFC 9559, section 10.3 (Block Lacing).
 
+mod difference;
 mod kind;
+mod laws;
 mod reading;
+mod writing;
 
 pub use kind::{Lace, LaceEnd};
+pub use laws::head_settles_sizes;
 pub use reading::split;
+pub use writing::{lace_len, put_lace};
+
+#[cfg(test)]
+mod tests;

@@ -1,9 +1,10 @@
 //! A lace read from the front: RFC 9559, section 10.3 (Block Lacing).
 ghost use Rattle.std.specs.Prelude.{◌≡◌, ◌+◌, ◌-◌, ◌*◌, ◌^◌, ◌≤◌, ◌<◌, [], Err, None, length, drop, sum, position, not, ◌==◌, ◌≢◌, IfOk, IfSome, OnOk, OnErr};
 ghost use Rattle.smallvec.specs.SmallVec.{HasRoomFor};
-ghost use Rattle.lacing.specs.Lace.{bias, FindsLace, HasNoLace};
+ghost use Rattle.lacing.specs.Lace.{FindsLace, HasNoLace};
 ghost use Rattle.lacing.specs.Reading.{xiph_size, data_of, ebml_size, any_size, size_in, sizes_in, with_last, frames_in, is_frame_count, lace_in, Gives, Splits};
 
+use crate::difference::bias;
 use crate::kind::{Lace, LaceEnd};
 use ebml_numbers::{Size, read_size};
 use smallvec::SmallVec;
@@ -223,14 +224,4 @@ fn data_of(size: Size, len: u8) -> u64
         Size::Known(value) => value,
         Size::Unknown => (1 << (7 * len)) - 1,
     }
-}
-
-// The data of a difference of 0 in so many octets.
-fn bias(len: u8) -> u64
-    requires some { 1 ≤ len }
-    requires most { len ≤ 8 }
-    ensures value { result ≡ bias len }
-    ensures small { result < 2 ^ 55 }
-{
-    (1 << (7 * len - 1)) - 1
 }

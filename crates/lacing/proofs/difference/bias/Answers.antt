@@ -2,7 +2,7 @@
 use Rattle.std.proofs.Common.{◌-◌, ◌*◌, ◌^◌, ◌≤◌, arith}
 use Rattle.std.proofs.Math.Pow.{pow_mono}
 use Rattle.std.proofs.lemmas.Nat.{shl_whole}
-use Rattle.lacing.proofs.reading.bias.Goals as goal
+use Rattle.lacing.proofs.difference.bias.Goals as goal
 
 pub returns-clause-small : goal.returns-clause-small
 returns-clause-small c =

@@ -1,0 +1,11 @@
+-- What is written is a lace, which is read again.
+use Rattle.lacing.proofs.WritingLemmas.{IsLace-octets, lace_in-octets}
+use Rattle.lacing.proofs.writing.put_lace.Goals as goal
+
+pub returns-clause-lace : goal.returns-clause-lace
+returns-clause-lace c =
+    rw (c.put_spelled.ensures, c.but_last.ensures) (IsLace-octets c.args.kind c.args.sizes.now c.requires.can)
+
+pub returns-clause-read : goal.returns-clause-read
+returns-clause-read c = λ frames fits.
+    rw (c.put_spelled.ensures, c.but_last.ensures) (lace_in-octets c.args.kind c.args.sizes.now frames c.requires.can fits)

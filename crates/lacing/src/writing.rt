@@ -1,0 +1,141 @@
+//! A lace written: RFC 9559, section 10.3 (Block Lacing).
+ghost use Rattle.std.specs.Prelude.{◌≡◌, ℕ, ◌+◌, ◌^◌, ◌<◌, ◌≤◌, ◌++◌, List, Some, None, length, take, drop, sum};
+ghost use Rattle.ebml_numbers.specs.Octets.{octets_of};
+ghost use Rattle.lacing.specs.Lace.{but_last, IsLace};
+ghost use Rattle.lacing.specs.Reading.{lace_in};
+ghost use Rattle.lacing.specs.Writing.{CanLace, difference_octets, ebml_octets, octets_of_size, octets_of_sizes, lace_head};
+
+use crate::difference::{bias, difference_width};
+use crate::kind::Lace;
+use ebml_numbers::{Octets, put_size, size_width};
+
+/// How many octets the head of a lace of these sizes has.
+pub fn lace_len(kind: Lace, sizes: &[u32]) -> u32
+    requires { CanLace kind sizes.now }
+    ensures exact { result ≡ length (lace_head kind sizes.now) }
+{
+    spelled_len(kind, but_last(sizes))
+}
+
+/// Writes the head of a lace of these sizes, in octets, each spelled as short as can be.
+pub fn put_lace(kind: Lace, sizes: &[u32], out: &mut [u8])
+    requires can { CanLace kind sizes.now }
+    requires room { length out.old ≡ length (lace_head kind sizes.now) }
+    ensures exact { out.new ≡ lace_head kind sizes.now }
+
+    // It is the head of a lace, and with the frames behind it is split into the same sizes.
+    ensures lace { IsLace kind out.new sizes.now (length out.new + sum sizes.now) }
+    ensures read { (frames : List ℕ) → length frames ≡ sum sizes.now
+        → lace_in kind (length sizes.now) (out.new ++ frames) ≡ Some (sizes.now, length out.new) }
+{
+    put_spelled(kind, but_last(sizes), out);
+}
+
+// The sizes that a head spells.
+fn but_last(sizes: &[u32]) -> &[u32]
+    requires { 1 ≤ length sizes.now }
+    ensures { result.now ≡ but_last sizes.now }
+{
+    &sizes[..sizes.len() - 1]
+}
+
+fn spelled_len(kind: Lace, sizes: &[u32]) -> u32
+    requires { length (octets_of_sizes kind None sizes.now) < 2 ^ 32 }
+    ensures { result ≡ length (octets_of_sizes kind None sizes.now) }
+{
+    let mut len = 0;
+    let mut before = None;
+    for size in sizes {
+        len += size_len(kind, before, *size);
+        before = Some(*size);
+    }
+    len
+}
+
+fn put_spelled(kind: Lace, sizes: &[u32], out: &mut [u8])
+    requires { length out.old ≡ length (octets_of_sizes kind None sizes.now) }
+    ensures { out.new ≡ octets_of_sizes kind None sizes.now }
+{
+    let mut at = 0;
+    let mut before = None;
+    for size in sizes {
+        at = put_spelling_at(kind, before, *size, at, out);
+        before = Some(*size);
+    }
+}
+
+// How many octets spell a size behind the size before it, if any.
+fn size_len(kind: Lace, before: Option<u32>, size: u32) -> u32
+    ensures { result ≡ length (octets_of_size kind before size) }
+{
+    match kind {
+        Lace::None | Lace::Fixed => 0,
+        Lace::Xiph => size / 255 + 1,
+        Lace::Ebml => u32::from(ebml_octets(before, size).len),
+    }
+}
+
+// Writes the octets of a size at a place, and answers the place behind them.
+fn put_spelling_at(kind: Lace, before: Option<u32>, size: u32, at: usize, out: &mut [u8]) -> usize
+    requires { at + length (octets_of_size kind before size) ≤ length out.old }
+    ensures place { result ≡ at + length (octets_of_size kind before size) }
+    ensures inside { result ≤ length out.new }
+    ensures written { take result out.new ≡ take at out.old ++ octets_of_size kind before size }
+{
+    at + put_spelling(kind, before, size, &mut out[at..])
+}
+
+// Writes the octets of a size to the front, and answers how many they are.
+fn put_spelling(kind: Lace, before: Option<u32>, size: u32, out: &mut [u8]) -> usize
+    requires { length (octets_of_size kind before size) ≤ length out.old }
+    ensures len { result ≡ length (octets_of_size kind before size) }
+    ensures written { out.new ≡ octets_of_size kind before size ++ drop result out.old }
+{
+    match kind {
+        Lace::None | Lace::Fixed => 0,
+        Lace::Xiph => put_xiph(size, out),
+        Lace::Ebml => put_ebml(before, size, out),
+    }
+}
+
+fn put_xiph(size: u32, out: &mut [u8]) -> usize
+    requires { length (octets_of_size Lace.Xiph None size) ≤ length out.old }
+    ensures len { result ≡ length (octets_of_size Lace.Xiph None size) }
+    ensures written { out.new ≡ octets_of_size Lace.Xiph None size ++ drop result out.old }
+{
+    let run = (size / 255) as usize;
+    out[..run].fill(255);
+    out[run] = (size % 255) as u8;
+    run + 1
+}
+
+fn put_ebml(before: Option<u32>, size: u32, out: &mut [u8]) -> usize
+    requires { length (ebml_octets before size) ≤ length out.old }
+    ensures len { result ≡ length (ebml_octets before size) }
+    ensures written { out.new ≡ ebml_octets before size ++ drop result out.old }
+{
+    let octets = ebml_octets(before, size);
+    let len = usize::from(octets.len);
+    out[..len].copy_from_slice(octets.as_slice());
+    len
+}
+
+// The first size, or its difference to the size before, in the fewest octets.
+fn ebml_octets(before: Option<u32>, size: u32) -> Octets
+    ensures octets { octets_of result ≡ ebml_octets before size }
+    ensures len { result.len ≡ length (ebml_octets before size) }
+{
+    match before {
+        None => put_size(u64::from(size), size_width(u64::from(size))),
+        Some(before) => difference_octets(before, size),
+    }
+}
+
+fn difference_octets(before: u32, size: u32) -> Octets
+    ensures octets { octets_of result ≡ difference_octets before size }
+    ensures len { result.len ≡ length (difference_octets before size) }
+{
+    let width = difference_width(before, size);
+    let value = u64::from(size) + bias(width) - u64::from(before);
+    put_size(value, width)
+}
