@@ -54,7 +54,7 @@ returns-clause-read c =
     let total = left.invariant.total in
     let fits : left.head + sum items ≤ length bytes = omega (arith, total, left.invariant.inside, c.in_ok-last.ensures) in
     let last : length bytes - left.head - sum items ≡ c.in_ok-last.last = omega (arith, total, left.invariant.inside, c.in_ok-last.ensures) in
+    let sizes : items ++ (length bytes - left.head - sum items) ∷ [] ≡ c.push_reserved-2.new.self.items = rw last (sym c.push_reserved-2.ensures.items) in
     ap (with_last (length bytes)) (sym left.invariant.read ∙ all)
     ∙ cond-true (nat_le (left.head + sum items) (length bytes)) _ _ (le-leb _ _ fits)
-    ∙ ap (λ (x : ℕ). Some (items ++ x ∷ [], left.head)) last
-    ∙ ap (λ (x : List ℕ). Some (x, left.head)) (sym c.push_reserved-2.ensures.items)
+    ∙ ap (λ (x : List ℕ). Some (x, left.head)) sizes
