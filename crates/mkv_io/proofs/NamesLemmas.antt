@@ -1,5 +1,5 @@
 -- What a change of one name's content makes of the names: laws for whoever writes files.
-use Rattle.std.proofs.Common.{◌≡◌, ◌≢◌, ℕ, List, ◌++◌, Option, Some, None, Bool, true, false, if◌then◌else◌, refl, sym, ap, subst}
+use Rattle.std.proofs.Common.{◌≡◌, ◌≢◌, ℕ, List, ◌++◌, Option, Some, None, option_map, Bool, true, false, if◌then◌else◌, refl, sym, ◌∙◌, ap, subst}
 use Rattle.std.specs.Str.{bytes_eq}
 use Rattle.std.proofs.lemmas.Slice.Eq.{bytes_eq-Decides}
 use Rattle.mkv_io.specs.Contents.{overwritten, with_appended, with_overwritten}
@@ -46,10 +46,23 @@ pub with_change-twice : (names : Names) (name : List ℕ) (first next : Option (
 with_change-twice None name first next = refl
 with_change-twice (Some world) name first next = ap Some (changed_at-twice world name first next)
 
--- a name that has a content, and to which octets are added, has them all
-pub with_content-appended : (names : Names) (name bytes more : List ℕ) → with_change (with_content names name bytes) name (with_appended more) ≡ with_content names name (bytes ++ more)
-with_content-appended names name bytes more = with_change-twice names name (λ _. Some bytes) (with_appended more)
+-- two changes of a content that is there are one
+pub with_change-mapped : (names : Names) (name : List ℕ) (first next : List ℕ → List ℕ) → with_change (with_change names name (option_map first)) name (option_map next) ≡ with_change names name (option_map (λ bytes. next (first bytes)))
+with_change-mapped names name first next =
+    with_change-twice names name (option_map first) (option_map next) ∙ ap (with_change names name) (λ i content. same content i)
+  where
+    same : (content : Option (List ℕ)) → option_map next (option_map first content) ≡ option_map (λ bytes. next (first bytes)) content
+    same None = refl
+    same (Some bytes) = refl
 
--- a name that has a content, and over which octets are written, has what that makes of it
+-- a name that is given a content, which is then changed, has what that makes of it
+pub with_content-mapped : (names : Names) (name bytes : List ℕ) (change : List ℕ → List ℕ) → with_change (with_content names name bytes) name (option_map change) ≡ with_content names name (change bytes)
+with_content-mapped names name bytes change = with_change-twice names name (λ _. Some bytes) (option_map change)
+
+-- to which octets are added
+pub with_content-appended : (names : Names) (name bytes more : List ℕ) → with_change (with_content names name bytes) name (with_appended more) ≡ with_content names name (bytes ++ more)
+with_content-appended names name bytes more = with_content-mapped names name bytes (λ each. each ++ more)
+
+-- over which octets are written
 pub with_content-overwritten : (names : Names) (name bytes : List ℕ) (at : ℕ) (now : List ℕ) → with_change (with_content names name bytes) name (with_overwritten at now) ≡ with_content names name (overwritten bytes at now)
-with_content-overwritten names name bytes at now = with_change-twice names name (λ _. Some bytes) (with_overwritten at now)
+with_content-overwritten names name bytes at now = with_content-mapped names name bytes (λ each. overwritten each at now)

@@ -1,0 +1,12 @@
+pub use Rattle.mkv_values.specs.Kind
+pub use Rattle.mkv_io.specs.Contents
+pub use Rattle.mkv_io.specs.Faults
+pub use Rattle.mkv_io.specs.Lines
+pub use Rattle.mkv_io.specs.LiveFiles
+pub use Rattle.mkv_io.specs.Names
+pub use Rattle.mkv_io.specs.Told
+pub use Rattle.mkv_memory.specs.FilesIn
+pub use Rattle.mkv_memory.specs.Held
+pub use Rattle.mkv_memory.specs.ReportIn
+pub use Rattle.mkv_memory.specs.SeenFiles
+pub use Rattle.mkv_memory.specs.SeenReport

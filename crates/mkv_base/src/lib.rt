@@ -1,0 +1,13 @@
+#![tactic(auto)]
+
+//! What the suite's crates share, for their users: plain values, the outside as traits, and files
+//! and a report in memory.
+
+pub use mkv_io::{Files, Reads, Report};
+pub use mkv_memory::{MemFiles, MemReport};
+pub use mkv_values::{
+    Bytes, Damage, Failed, FileId, Kind, List, MakeFault, OpenFault, ReadEnd, Text,
+};
+
+#[cfg(test)]
+mod tests;

@@ -1,0 +1,4 @@
+//! The traits, used from their clauses alone, and the objects in memory.
+
+mod copying;
+mod memory;
