@@ -1,6 +1,6 @@
 //! Files that are opened by name, made, and written.
 
-ghost use Rattle.std.specs.Prelude.{◌≡◌, ◌≢◌, ◌⊎◌, ◌↔◌, ℕ, ◌+◌, ◌<◌, ◌≤◌, ◌^◌, Bool, true, false, List, [], length, Option, Some, None, OnOk, OnErr, IfOk, IsErrOf, IsErr, IsTrue};
+ghost use Rattle.std.specs.Prelude.{◌≡◌, ◌≢◌, ◌⊎◌, ◌↔◌, ℕ, ◌+◌, ◌<◌, ◌≤◌, ◌^◌, Bool, true, false, List, [], length, Option, Some, None, OnOk, OnErr, IfOk, IsErrOf, IsTrue};
 ghost use Rattle.mkv_io.specs.Faults.{HasCause, HasMakeCause, HasOpenCause, last_count};
 ghost use Rattle.mkv_io.specs.LiveFiles.{Appends, AppendsPart, KeepsFiles, KeepsHolders, Overwrites, OverwritesWithin};
 ghost use Rattle.mkv_io.specs.Names.{Names, with_change, with_content};
@@ -32,6 +32,9 @@ pub trait Files: Reads {
         ensures holder { IfOk result (λ file. holder self.new file.n ≡ name.now) }
         ensures content { IfOk result (λ file. Told (names self.old) (λ world. (Self.files (Self.standing self.new)).content file.n ≡ world name.now)) }
 
+        // At the last number no file is opened.
+        ensures full { given self.old ≡ last_count → IsErrOf result OpenFault.Missing ⊎ IsErrOf result OpenFault.Failed }
+
         // Names and the other files stay, and a refusal leaves everything but the count of faults.
         ensures err { OnErr result (Self.standing self.new ≡ Self.standing self.old) }
         ensures names { names self.new ≡ names self.old }
@@ -50,6 +53,9 @@ pub trait Files: Reads {
         ensures holder { IfOk result (λ file. holder self.new file.n ≡ name.now) }
         ensures size { IfOk result (λ file. (Self.files (Self.standing self.new)).size file.n ≡ 0) }
         ensures ok { OnOk result (names self.new ≡ with_content (names self.old) name.now []) }
+
+        // At the last number no file is made.
+        ensures full { given self.old ≡ last_count → IsErrOf result MakeFault.Failed }
 
         // After want of memory everything is as before.
         ensures err { OnErr result ((names self.new ≡ names self.old) ⊎ (names self.new ≡ with_content (names self.old) name.now [])) }
@@ -71,7 +77,7 @@ pub trait Files: Reads {
         ensures memory { IsErrOf result MakeFault.Memory → Self.standing self.new ≡ Self.standing self.old }
 
         // No file grows past 2^48 octets.
-        ensures short { 2 ^ 48 < (Self.files (Self.standing self.old)).size file.n + length bytes.now → IsErr result }
+        ensures short { 2 ^ 48 < (Self.files (Self.standing self.old)).size file.n + length bytes.now → IsErrOf result MakeFault.Failed }
 
         // The live files stay live, and those of other names stay as they were.
         ensures given { given self.new ≡ given self.old }

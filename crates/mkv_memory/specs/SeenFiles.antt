@@ -63,12 +63,13 @@ cannot_open old = is_to_fail old || (length old.held.opened == last_count)
 
 -- ---- what each call does
 
--- A read fails exactly where it is to. Else it fills what it is given, and counts those octets.
-abbrev pub ReadsAt : {T : Type 0} → SeenFiles → ℕ → ℕ → ℕ → List ℕ → Result T Failed → SeenFiles → Type 0
-ReadsAt old file at n into (Ok _) new =
-    (is_to_fail old ≡ false) × (into ≡ octets_from (octets_of old.held file) at n)
-    × (new ≡ record (called old) { octets_read = counted old.octets_read n })
-ReadsAt old file at n into (Err _) new = (is_to_fail old ≡ true) × (new ≡ failed_to_read old)
+-- A read fails exactly where it is to, and leaves what it was given. Else it fills it, and counts
+-- its octets.
+abbrev pub ReadsAt : {T : Type 0} → SeenFiles → ℕ → ℕ → List ℕ → List ℕ → Result T Failed → SeenFiles → Type 0
+ReadsAt old file at was into (Ok _) new =
+    (is_to_fail old ≡ false) × (into ≡ octets_from (octets_of old.held file) at (length was))
+    × (new ≡ record (called old) { octets_read = counted old.octets_read (length was) })
+ReadsAt old file at was into (Err _) new = (is_to_fail old ≡ true) × (into ≡ was) × (new ≡ failed_to_read old)
 
 -- A name that isn't there is missing, and no fault. Else opening fails exactly where no file can
 -- be opened, and otherwise the next number is that of a file under the name.

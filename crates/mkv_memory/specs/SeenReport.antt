@@ -32,18 +32,20 @@ with_failure old call = record old { is_to_fail = λ other. (other == call) || o
 abbrev pub called : SeenReport → SeenReport
 called old = record old { calls = counted old.calls 1 }
 
+-- one more line, which uses room
+abbrev pub with_line : SeenReport → List ℕ → SeenReport
+with_line old line = record old {
+  lines = old.lines ++ line ∷ [];
+  lines_left = old.lines_left - 1;
+  octets_left = old.octets_left - length line;
+}
+
 -- the call that comes next can't tell a line: it is to fail, or the room for lines or octets is spent
 abbrev pub cannot_say : SeenReport → List ℕ → Bool
 cannot_say old line = old.is_to_fail old.calls || (old.lines_left == 0) || nat_lt old.octets_left (length line)
 
 -- A line fails exactly where it can't be told, and then uses no room. Else it stands after the others.
 abbrev pub SaysLine : {T : Type 0} → SeenReport → List ℕ → Result T Failed → SeenReport → Type 0
-SaysLine old line (Ok _) new =
-    (cannot_say old line ≡ false)
-    × (new ≡ record (called old) {
-      lines = old.lines ++ line ∷ [];
-      lines_left = old.lines_left - 1;
-      octets_left = old.octets_left - length line;
-    })
+SaysLine old line (Ok _) new = (cannot_say old line ≡ false) × (new ≡ with_line (called old) line)
 SaysLine old line (Err _) new =
     (cannot_say old line ≡ true) × (new ≡ record (called old) { faults = counted old.faults 1 })

@@ -126,7 +126,7 @@ impl Reads for MemFiles {
     fn read_at(&mut self, file: FileId, at: u64, into: &mut [u8]) -> Result<(), Failed>
         requires live { IsTrue ((files_of (seen self.old).held).live file.n) }
         requires range { at + length into.old ≤ (files_of (seen self.old).held).size file.n }
-        ensures exact { ReadsAt (seen self.old) file.n at (length into.old) into.new result (seen self.new) }
+        ensures exact { ReadsAt (seen self.old) file.n at into.old into.new result (seen self.new) }
         ensures cause { HasCause (seen self.old).reading_faults (seen self.new).reading_faults result }
         ensures octets_least { (seen self.old).octets_read ≤ (seen self.new).octets_read }
     {

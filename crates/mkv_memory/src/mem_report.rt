@@ -1,7 +1,7 @@
 //! A report in memory.
 
 ghost use denote.Ref.{Bor};
-ghost use Rattle.std.specs.Prelude.{◌≡◌, ℕ, ◌+◌, ◌≤◌, List, length, option_map, slice_get, vec_capacity, OnOk, OnErr, IfOk};
+ghost use Rattle.std.specs.Prelude.{◌≡◌, ℕ, ◌+◌, ◌<◌, ◌≤◌, List, length, option_map, slice_get, vec_capacity, OnOk, OnErr, IfOk};
 ghost use Rattle.std.specs.String.{string_bytes, string_capacity};
 ghost use Rattle.mkv_memory.specs.Cuts.{AreBoundaries, AreOrdered, EndAt};
 
@@ -30,7 +30,7 @@ pub struct MemReport {
 }
 
 impl MemReport {
-    ghost use Rattle.mkv_memory.specs.SeenReport.{no_lines, with_failure};
+    ghost use Rattle.mkv_memory.specs.SeenReport.{no_lines, with_failure, with_line};
     ghost use Rattle.mkv_memory.specs.ReportIn.{seen};
 
     /// A report without lines, with room for so many lines, and octets in all. No call is to fail.
@@ -69,6 +69,18 @@ impl MemReport {
         }
         Some(&self.text.as_str()[self.cuts[k]..self.cuts[k + 1]])
     }
+
+    /// Adds a line for which there is room.
+    fn add_line(&mut self, line: &str)
+        requires lines { 0 < (seen self.old).lines_left }
+        requires octets { length line.now ≤ (seen self.old).octets_left }
+        ensures { seen self.new ≡ with_line (seen self.old) line.now }
+    {
+        self.text.push_str(line).unwrap();
+        self.cuts.push(self.text.len()).unwrap();
+        self.lines_left -= 1;
+        self.octets_left -= line.len() as u64;
+    }
 }
 
 impl Report for MemReport {
@@ -91,10 +103,7 @@ impl Report for MemReport {
             self.faults = self.faults.saturating_add(1);
             return Err(Failed);
         }
-        self.text.push_str(line).unwrap();
-        self.cuts.push(self.text.len()).unwrap();
-        self.lines_left -= 1;
-        self.octets_left -= line.len() as u64;
+        self.add_line(line);
         Ok(())
     }
 }
