@@ -149,6 +149,7 @@ uint_of octets = big_number (length octets) octets
 unfoldable pub uint_width : ℕ → ℕ
 uint_width v = least_width (λ w. nat_lt v (256 ^ w))
 
+-- a number in its fewest octets
 abbrev pub uint_octets : ℕ → List ℕ
 uint_octets v = big_bytes (uint_width v) v
 
@@ -178,5 +179,6 @@ abbrev pub int_octets_in : ℕ → ℤ → List ℕ
 int_octets_in w (pos n) = big_bytes w n
 int_octets_in w (negsuc n) = big_bytes w (256 ^ w - suc n)
 
+-- a signed number in its fewest octets
 abbrev pub int_octets : ℤ → List ℕ
 int_octets z = int_octets_in (int_width z) z

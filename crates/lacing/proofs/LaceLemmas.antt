@@ -19,7 +19,7 @@ use Rattle.ebml_format.proofs.NumberLemmas.{size_at-reads, size_at-read, size_at
 use Rattle.lacing.specs.declared.kind.Lace.{Lace}
 use Rattle.lacing.specs.declared.kind.Lace.TheVariants as lace
 use Rattle.lacing.specs.Lace.{xiph_octets, IsFirstSize, bias, IsDifference, IsSpelling, Spells, but_last, AreEqual, IsHead, IsLace, FindsLace, HasNoLace}
-use Rattle.lacing.specs.Reading.{xiph_size, known_size, first_size, data_of, next_size, any_size, fitting, size_in, with_size, size_then, sizes_in, with_last, frames_in, is_frame_count, lace_in, with_front}
+use Rattle.lacing.specs.Reading.{xiph_size, known_size, first_size, data_of, next_size, any_size, fitting, size_in, with_size, size_then, sizes_in, with_last, frames_in, is_frame_count, lace_in}
 
 -- a pair that is there under a test
 if_some : {T : Type 0} (b : Bool) (x y : T) (m n : ℕ) → cond {A = Option (T × ℕ)} b (Some (x, m)) None ≡ Some (y, n) → (b ≡ true) × (x ≡ y) × (m ≡ n)
@@ -472,6 +472,11 @@ IsLace-unique kind head a b total count one other =
     ap (λ (p : List ℕ × ℕ). p.0) same
 
 -- ---- reading in steps
+
+-- sizes that were read before others, from so many octets
+abbrev pub with_front : List ℕ → ℕ → Option (List ℕ × ℕ) → Option (List ℕ × ℕ)
+with_front front octets None = None
+with_front front octets (Some (sizes, head)) = Some (front ++ sizes, octets + head)
 
 pub lace_in-frames : (kind : Lace) (n : ℕ) (o : List ℕ) → is_frame_count n ≡ true → lace_in kind n o ≡ frames_in kind n o
 unfolding lace_in

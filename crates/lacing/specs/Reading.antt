@@ -18,11 +18,12 @@ use Rattle.lacing.specs.Lace.{bias}
 abbrev pub xiph_size : List ℕ → Option (ℕ × ℕ)
 xiph_size octets = option_map (λ run. (255 * run + slice_index octets run, run + 1)) (position (λ octet. not (octet == 255)) octets)
 
--- a size that is known
+-- a size that is known, with its octets
 abbrev pub known_size : Size → ℕ → Option (ℕ × ℕ)
 known_size (Known size) len = Some (size, len)
 known_size Unknown len = None
 
+-- the first size of a lace, which is known
 abbrev pub first_size : Result SizeRead NumFault → Option (ℕ × ℕ)
 first_size (Ok read) = known_size read.size read.len
 first_size (Err fault) = None
@@ -38,10 +39,12 @@ next_size before (Ok read) =
     if nat_le (bias read.len) (before + data_of read.size read.len) then Some (before + data_of read.size read.len - bias read.len, read.len) else None
 next_size before (Err fault) = None
 
+-- the first size, or one behind another
 abbrev pub ebml_size : Option ℕ → List ℕ → Option (ℕ × ℕ)
 ebml_size None octets = first_size (size_at octets)
 ebml_size (Some before) octets = next_size before (size_at octets)
 
+-- a size as its kind spells it
 abbrev pub any_size : Lace → Option ℕ → List ℕ → Option (ℕ × ℕ)
 any_size lace.None before octets = None
 any_size lace.Xiph before octets = xiph_size octets
@@ -53,6 +56,7 @@ abbrev pub fitting : ℕ → Option (ℕ × ℕ) → Option (ℕ × ℕ)
 fitting total None = None
 fitting total (Some (size, len)) = if nat_le (size + len) total then Some (size, len) else None
 
+-- the size at the front, where its frame has room
 unfoldable pub size_in : Lace → Option ℕ → List ℕ → Option (ℕ × ℕ)
 size_in kind before octets = fitting (length octets) (any_size kind before octets)
 
@@ -63,6 +67,7 @@ abbrev pub with_size : ℕ → ℕ → Option (List ℕ × ℕ) → Option (List
 with_size size len None = None
 with_size size len (Some (sizes, head)) = Some (size ∷ sizes, len + head)
 
+-- a size, and the others that it leaves
 abbrev pub size_then : Option (ℕ × ℕ) → (ℕ → ℕ → Option (List ℕ × ℕ)) → Option (List ℕ × ℕ)
 size_then None others = None
 size_then (Some (size, len)) others = with_size size len (others size len)
@@ -105,8 +110,3 @@ Splits found sizes (Err Memory) = ⊤
 abbrev pub Gives : Option (List ℕ × ℕ) → List ℕ → Option ℕ → Type 0
 Gives found sizes (Some head) = found ≡ Some (sizes, head)
 Gives found sizes None = found ≡ None
-
--- sizes that were read before others, from so many octets
-abbrev pub with_front : List ℕ → ℕ → Option (List ℕ × ℕ) → Option (List ℕ × ℕ)
-with_front front octets None = None
-with_front front octets (Some (sizes, head)) = Some (front ++ sizes, octets + head)

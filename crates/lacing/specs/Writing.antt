@@ -20,11 +20,12 @@ abbrev pub difference_octets : ℕ → ℕ → List ℕ
 difference_octets before size =
     size_octets (size + bias (difference_width before size) - before) (difference_width before size)
 
--- the first size in the fewest octets
+-- the first size in the fewest octets, or a difference
 abbrev pub ebml_octets : Option ℕ → ℕ → List ℕ
 ebml_octets None size = size_octets size (least_size_width size)
 ebml_octets (Some before) size = difference_octets before size
 
+-- a size as its kind spells it
 abbrev pub octets_of_size : Lace → Option ℕ → ℕ → List ℕ
 octets_of_size lace.None before size = []
 octets_of_size lace.Xiph before size = xiph_octets size

@@ -1,6 +1,7 @@
 -- What is left to be read behind what was read is what was to be read at first.
 use Rattle.std.proofs.Common.{◌≡◌, ◌-◌, ◌*◌, ◌^◌, ◌≤◌, length, drop, sum, None}
-use Rattle.lacing.specs.Reading.{sizes_in, with_front}
+use Rattle.lacing.specs.Reading.{sizes_in}
+use Rattle.lacing.proofs.LaceLemmas.{with_front}
 use Rattle.lacing.proofs.reading.spelled_frames.Given as goal
 
 abbrev pub invariant-loop-kind : goal.invariant-loop-kind
