@@ -1,4 +1,3 @@
-use Rattle.std.proofs.Common.{◌∙◌}
 use Rattle.mkv_base.proofs.CopyingLemmas.{OnErr-map, with_content-changed}
 use Rattle.mkv_base.proofs.tests.copying.write_marked.Goals as goal
 
