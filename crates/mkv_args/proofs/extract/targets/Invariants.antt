@@ -1,0 +1,12 @@
+-- What the words from here on say behind the targets so far is what all of them say.
+use Rattle.std.proofs.Common.{◌≡◌, ◌-◌, length, drop, []}
+use Rattle.mkv_args.specs.Place.{texts}
+use Rattle.mkv_args.specs.Extract.{targets_from}
+use Rattle.mkv_args.proofs.extract.targets.Given as goal
+
+abbrev pub invariant-loop-word : goal.invariant-loop-word
+invariant-loop-word l =
+    targets_from l.least l.list l.at (drop l.at (texts l.words)) ≡ targets_from l.least [] l.start (drop l.start (texts l.words))
+
+abbrev pub decreases-loop-word : goal.decreases-loop-word
+decreases-loop-word l = length l.words - l.at

@@ -1,0 +1,96 @@
+-- The words of `extract`.
+use Rattle.std.specs.Prelude.{ℕ, suc, ◌+◌, Bool, true, false, ◌==◌, nat_lt, if◌then◌else◌, List, [], ◌∷◌, ◌++◌, length, drop, codes, Option, Some, None, Result, Ok, Err}
+use Rattle.std.specs.List.{list_any}
+use Rattle.std.specs.Str.{bytes_eq}
+use Rattle.mkv_jobs.specs.declared.job.Job.{Job}
+use Rattle.mkv_jobs.specs.declared.job.Job.TheVariants as jobs
+use Rattle.mkv_jobs.specs.declared.job.Form.{Form}
+use Rattle.mkv_jobs.specs.declared.job.Form.TheVariants as form
+use Rattle.mkv_jobs.specs.declared.job.Target.{Target}
+use Rattle.mkv_args.specs.declared.usage.Usage.{Usage}
+use Rattle.mkv_args.specs.declared.usage.Why.TheVariants.{UnknownCommand, UnknownOption, BadValue, RepeatedOutput}
+use Rattle.mkv_args.specs.declared.command.Command.{Command}
+use Rattle.mkv_args.specs.declared.command.Command.TheVariants as command
+use Rattle.mkv_args.specs.Answers.{wrong, ◌>>=◌}
+use Rattle.mkv_args.specs.Place.{due_at, file_at, end_at}
+use Rattle.mkv_args.specs.Options.{is_option}
+use Rattle.mkv_args.specs.Values.{track_and_rest}
+
+-- a target has this name
+abbrev pub is_taken : List ℕ → List Target → Bool
+is_taken name targets = list_any (λ (t : Target). bytes_eq t.name name) targets
+
+-- `ID:OUT`, with a name that no target before it has
+abbrev pub target_of : ℕ → List Target → ℕ → Option (ℕ × List ℕ) → Result Target Usage
+target_of least before at None = wrong at BadValue
+target_of least before at (Some p) =
+    if nat_lt p.0 least then wrong at BadValue
+    else if is_taken p.1 before then wrong at RepeatedOutput
+    else Ok (record { id = p.0; name = p.1 })
+
+unfoldable pub target : ℕ → List Target → ℕ → List ℕ → Result Target Usage
+target least before at word = target_of least before at (track_and_rest word)
+
+-- the targets that the words from this number on say, each read behind those before it
+abbrev pub targets_from : ℕ → List Target → ℕ → List (List ℕ) → Result (List Target) Usage
+targets_from least before at [] = Ok before
+targets_from least before at (w ∷ ws) = do
+  t ← target least before at w
+  targets_from least (before ++ t ∷ []) (at + 1) ws
+
+-- one or more targets
+unfoldable pub targets : ℕ → List (List ℕ) → ℕ → Result (List Target) Usage
+targets least words start = do
+  _ ← due_at words start
+  targets_from least [] start (drop start words)
+
+abbrev pub tracks_by : Form → List (List ℕ) → ℕ → Result Job Usage
+tracks_by form words start = do
+  list ← targets 0 words start
+  Ok (jobs.Tracks form list)
+
+-- `[--raw or --fullraw] TID:OUT..`
+unfoldable pub tracks : List (List ℕ) → Result Job Usage
+tracks words = do
+  word ← due_at words 3
+  if bytes_eq word (codes "--raw") then tracks_by form.Raw words 4
+      else if bytes_eq word (codes "--fullraw") then tracks_by form.Full words 4
+      else if is_option word then wrong 3 UnknownOption
+      else tracks_by form.SubRip words 3
+
+abbrev pub simple : List (List ℕ) → Result Job Usage
+simple words = do
+  out ← due_at words 4
+  _ ← end_at words 5
+  Ok (jobs.Chapters out)
+
+-- `--simple OUT`
+unfoldable pub chapters : List (List ℕ) → Result Job Usage
+chapters words = do
+  word ← due_at words 3
+  if bytes_eq word (codes "--simple") then simple words
+      else if is_option word then wrong 3 UnknownOption
+      else wrong 3 BadValue
+
+abbrev pub listed : (List Target → Job) → Result (List Target) Usage → Result Job Usage
+listed make said = do
+  list ← said
+  Ok (make list)
+
+-- what the words behind the mode ask for
+unfoldable pub job : List ℕ → List (List ℕ) → Result Job Usage
+job mode words =
+    if bytes_eq mode (codes "tracks") then tracks words
+    else if bytes_eq mode (codes "timestamps_v2") then listed jobs.Timestamps (targets 0 words 3)
+    else if bytes_eq mode (codes "cues") then listed jobs.Cues (targets 0 words 3)
+    else if bytes_eq mode (codes "attachments") then listed jobs.Attachments (targets 1 words 3)
+    else if bytes_eq mode (codes "chapters") then chapters words
+    else wrong 2 UnknownCommand
+
+-- `extract FILE MODE ARGS`
+unfoldable pub extract : List (List ℕ) → Result Command Usage
+extract words = do
+  file ← file_at words 1
+  mode ← due_at words 2
+  work ← job mode words
+  Ok (command.Extract file work)

@@ -1,0 +1,107 @@
+-- Numbers, times and sizes, as they are spelled in words.
+use Rattle.std.specs.Prelude.{ℕ, suc, ℤ, pos, neg_ℤ, ◌+◌, ◌-◌, ◌*◌, ◌^◌, min, Bool, true, false, ◌&&◌, ◌==◌, nat_lt, nat_le, if◌then◌else◌, List, [], ◌∷◌, length, take, drop, slice_index, codes, Option, Some, None, option_map, option_and_then}
+use Rattle.std.specs.List.{list_all, position}
+use Rattle.std.specs.Char.{is_ascii_digit, is_digit}
+use Rattle.std.specs.Str.Parse.{digits_value}
+
+infixl 10 ◌>>=◌
+abbrev pub ◌>>=◌ : {A B : Type 0} → Option A → (A → Option B) → Option B
+o >>= f = option_and_then f o
+
+-- the number, where it is below the limit
+abbrev pub below : ℕ → Option ℕ → Option ℕ
+below limit None = None
+below limit (Some n) = if nat_lt n limit then Some n else None
+
+-- the number, where it is at least the least
+abbrev pub from : ℕ → Option ℕ → Option ℕ
+from least None = None
+from least (Some n) = if nat_le least n then Some n else None
+
+-- what stands before the first such octet, and what behind it
+unfoldable pub cut : ℕ → List ℕ → Option (List ℕ × List ℕ)
+cut octet word = option_map (λ i. (take i word, drop (i + 1) word)) (position (λ b. b == octet) word)
+
+-- one or more decimal digits
+unfoldable pub whole : List ℕ → Option ℕ
+whole word = if nat_lt 0 (length word) && list_all is_ascii_digit word then Some (digits_value 10 word) else None
+
+-- 1 to 18 digits
+unfoldable pub number : List ℕ → Option ℕ
+number word = if nat_le (length word) 18 then whole word else None
+
+-- milliseconds, as nanoseconds below 2^55
+unfoldable pub delay_size : List ℕ → Option ℕ
+delay_size word = below (2 ^ 55) (option_map (λ n. n * 1000000) (number word))
+
+-- milliseconds with or without `-`
+unfoldable pub delay : List ℕ → Option ℤ
+delay word =
+    if slice_index word 0 == 45 then option_map (λ n. neg_ℤ (pos n)) (delay_size (drop 1 word))
+    else option_map pos (delay_size word)
+
+-- two digits, below 60
+unfoldable pub sixtieth : List ℕ → Option ℕ
+sixtieth word = if length word == 2 then below 60 (whole word) else None
+
+-- 1 to 9 digits behind a point, in billionths
+unfoldable pub fraction : List ℕ → Option ℕ
+fraction word = if nat_le (length word) 9 then option_map (λ n. n * 10 ^ (9 - length word)) (whole word) else None
+
+-- SS, or SS.n, in nanoseconds
+abbrev pub second_parts : List ℕ → Option (List ℕ × List ℕ) → Option ℕ
+second_parts word None = option_map (λ n. n * 1000000000) (sixtieth word)
+second_parts word (Some p) = do
+  n ← sixtieth p.0
+  f ← fraction p.1
+  Some (n * 1000000000 + f)
+
+unfoldable pub seconds : List ℕ → Option ℕ
+seconds word = second_parts word (cut 46 word)
+
+-- H:MM:SS, or H:MM:SS.n, in nanoseconds
+unfoldable pub clock : List ℕ → Option ℕ
+clock word = do
+  h ← cut 58 word
+  m ← cut 58 h.1
+  hours ← whole h.0
+  minutes ← sixtieth m.0
+  n ← seconds m.1
+  Some ((hours * 3600 + minutes * 60) * 1000000000 + n)
+
+-- the word ends with this octet
+abbrev pub ends : List ℕ → ℕ → Bool
+ends word octet = nat_lt 0 (length word) && slice_index word (length word - 1) == octet
+
+-- the word without its last octet
+abbrev pub front : List ℕ → List ℕ
+front word = take (length word - 1) word
+
+-- H:MM:SS with or without a fraction, or digits followed by `s`; below 2^63 ns
+unfoldable pub time : List ℕ → Option ℕ
+time word =
+    below (2 ^ 63) (if ends word 115 then option_map (λ n. n * 1000000000) (whole (front word)) else clock word)
+
+-- 1 to 12 digits, at least 1
+unfoldable pub amount : List ℕ → Option ℕ
+amount word = if nat_le (length word) 12 then from 1 (whole word) else None
+
+-- as many times the unit; a product past 2^64 - 1 is 2^64 - 1
+abbrev pub times_unit : ℕ → Option ℕ → Option ℕ
+times_unit unit = option_map (λ n. min (n * unit) (2 ^ 64 - 1))
+
+-- an amount, or one followed by `k`, `m` or `g` for 1024, its square or its cube
+unfoldable pub size : List ℕ → Option ℕ
+size word =
+    if ends word 107 then times_unit 1024 (amount (front word))
+    else if ends word 109 then times_unit 1048576 (amount (front word))
+    else if ends word 103 then times_unit 1073741824 (amount (front word))
+    else amount word
+
+-- a hexadecimal digit
+abbrev pub is_hex : ℕ → Bool
+is_hex b = is_digit b 16
+
+-- 32 hexadecimal digits, the highest first
+unfoldable pub uuid : List ℕ → Option ℕ
+uuid word = if length word == 32 && list_all is_hex word then Some (digits_value 16 word) else None

@@ -1,0 +1,144 @@
+//! The words of `extract`.
+
+ghost use Rattle.std.specs.Prelude.{◌≡◌};
+ghost use Rattle.mkv_args.specs.Answers.{Tells};
+ghost use Rattle.mkv_args.specs.Extract as spec;
+ghost use Rattle.mkv_args.specs.Place.{texts};
+
+use crate::command::Command;
+use crate::options::is_option;
+use crate::usage::{ArgsEnd, Why};
+use crate::values::{name, track_and_rest};
+use crate::words::{due_at, end_at, file_at, refused, word_at};
+use mkv_jobs::{Form, Job, Target};
+use mkv_values::List;
+use std::alloc::Global;
+
+/// `extract FILE MODE ARGS`.
+#[tactic(auto, unfolding(crate::specs::Extract::extract))]
+pub(crate) fn extract(alloc: Global, words: &[String]) -> Result<Command, ArgsEnd>
+    ensures { Tells result (spec.extract (texts words.now)) }
+{
+    let file = file_at(words, 1)?;
+    let mode = due_at(words, 2)?;
+    let job = job(alloc, mode, words)?;
+    Ok(Command::Extract {
+        file: name(alloc, file)?,
+        job,
+    })
+}
+
+/// What the words behind the mode ask for.
+#[tactic(auto, unfolding(crate::specs::Extract::job))]
+fn job(alloc: Global, mode: &str, words: &[String]) -> Result<Job, ArgsEnd>
+    ensures { Tells result (spec.job mode.now (texts words.now)) }
+{
+    match mode {
+        "tracks" => tracks(alloc, words),
+        "timestamps_v2" => Ok(Job::Timestamps {
+            list: targets(alloc, 0, words, 3)?,
+        }),
+        "cues" => Ok(Job::Cues {
+            list: targets(alloc, 0, words, 3)?,
+        }),
+        "attachments" => Ok(Job::Attachments {
+            list: targets(alloc, 1, words, 3)?,
+        }),
+        "chapters" => chapters(alloc, words),
+        _ => refused(2, Why::UnknownCommand),
+    }
+}
+
+/// `[--raw or --fullraw] TID:OUT..`.
+#[tactic(auto, unfolding(crate::specs::Extract::tracks))]
+fn tracks(alloc: Global, words: &[String]) -> Result<Job, ArgsEnd>
+    ensures { Tells result (spec.tracks (texts words.now)) }
+{
+    match due_at(words, 3)? {
+        "--raw" => Ok(Job::Tracks {
+            form: Form::Raw,
+            list: targets(alloc, 0, words, 4)?,
+        }),
+        "--fullraw" => Ok(Job::Tracks {
+            form: Form::Full,
+            list: targets(alloc, 0, words, 4)?,
+        }),
+        word if is_option(word) => refused(3, Why::UnknownOption),
+        _ => Ok(Job::Tracks {
+            form: Form::SubRip,
+            list: targets(alloc, 0, words, 3)?,
+        }),
+    }
+}
+
+/// `--simple OUT`.
+#[tactic(auto, unfolding(crate::specs::Extract::chapters))]
+fn chapters(alloc: Global, words: &[String]) -> Result<Job, ArgsEnd>
+    ensures { Tells result (spec.chapters (texts words.now)) }
+{
+    match due_at(words, 3)? {
+        "--simple" => {
+            let out = due_at(words, 4)?;
+            end_at(words, 5)?;
+            Ok(Job::Chapters {
+                name: name(alloc, out)?,
+            })
+        }
+        word if is_option(word) => refused(3, Why::UnknownOption),
+        _ => refused(3, Why::BadValue),
+    }
+}
+
+/// One or more `ID:OUT`, with IDs from `least` on.
+#[tactic(auto, unfolding(crate::specs::Extract::targets))]
+fn targets(
+    alloc: Global,
+    least: u64,
+    words: &[String],
+    start: usize,
+) -> Result<List<Target>, ArgsEnd>
+    ensures { Tells result (spec.targets least (texts words.now) start) }
+{
+    due_at(words, start)?;
+    let mut list = List::new(alloc);
+    let mut at = start;
+    while let Some(word) = word_at(words, at) {
+        let target = target(alloc, least, at, word, list.as_slice())?;
+        list.push(target)?;
+        at += 1;
+    }
+    Ok(list)
+}
+
+/// `ID:OUT`, with a name that no target before it has.
+#[tactic(auto, unfolding(crate::specs::Extract::target))]
+fn target(
+    alloc: Global,
+    least: u64,
+    at: usize,
+    word: &str,
+    before: &[Target],
+) -> Result<Target, ArgsEnd>
+    ensures { Tells result (spec.target least before.now at word.now) }
+{
+    let Some((id, out)) = track_and_rest(word) else {
+        return refused(at, Why::BadValue);
+    };
+    if id < least {
+        return refused(at, Why::BadValue);
+    }
+    if is_taken(out, before) {
+        return refused(at, Why::RepeatedOutput);
+    }
+    Ok(Target {
+        id,
+        name: name(alloc, out)?,
+    })
+}
+
+/// Whether a target has this name.
+fn is_taken(out: &str, before: &[Target]) -> bool
+    ensures { result ≡ spec.is_taken out.now before.now }
+{
+    before.iter().any(|target| target.name.as_str() == out)
+}

@@ -1,0 +1,51 @@
+//! Lines of words with the answers that they must have, and the texts of the refusals.
+
+mod shown;
+mod table;
+
+use crate::{ArgsEnd, Usage, Why, read_words};
+use shown::shown;
+use std::alloc::{AllocError, Global};
+use std::test::Fail;
+use table::LINES;
+
+/// The words of a line: those between single spaces, so that two spaces hold an empty word.
+fn words_of(alloc: Global, line: &str) -> Result<Vec<String>, AllocError> {
+    let mut words = Vec::new(alloc);
+    for word in line.split(' ') {
+        words.push(String::from_str(alloc, word)?)?;
+    }
+    Ok(words)
+}
+
+#[test]
+fn each_line_of_words_has_its_answer(rt: HostRuntime) -> Result<(), Fail> {
+    for (line, answer) in LINES {
+        let words = words_of(rt.alloc(), line)?;
+        let told = shown(rt.alloc(), read_words(rt.alloc(), &words))?;
+        assert_eq!(rt; told.as_str(), answer, "in {line}");
+    }
+    Ok(())
+}
+
+#[test]
+fn no_words_are_no_command(rt: HostRuntime) -> Result<(), Fail> {
+    let words = Vec::new(rt.alloc());
+    let told = shown(rt.alloc(), read_words(rt.alloc(), &words))?;
+    assert_eq!(rt; told.as_str(), "0 NoCommand");
+    Ok(())
+}
+
+#[test]
+fn a_refusal_is_told_by_its_name(rt: HostRuntime) -> Result<(), Fail> {
+    let usage = ArgsEnd::Usage(Usage {
+        word: 3,
+        why: Why::UnknownOption,
+    });
+    let told = format!(in rt.alloc(); "{usage}")?;
+    assert_eq!(rt; told.as_str(), "Usage");
+    let memory = ArgsEnd::Memory;
+    let told = format!(in rt.alloc(); "{memory}")?;
+    assert_eq!(rt; told.as_str(), "Memory");
+    Ok(())
+}

@@ -1,0 +1,178 @@
+//! The words of a command line, read from left to right.
+
+ghost use Rattle.std.specs.Prelude.{◌≡◌, ◌+◌, ◌<◌, [], ◌∷◌, MatchOption, OnSome, drop, length, slice_get, option_map, map};
+ghost use Rattle.mkv_args.specs.Answers.{Tells, TellsOf, refuses};
+ghost use Rattle.mkv_args.specs.Place as place;
+ghost use Rattle.mkv_args.specs.Place.{texts};
+ghost use Rattle.mkv_args.specs.Words as spec;
+
+use crate::command::Command;
+use crate::extract::extract;
+use crate::merge::merge;
+use crate::numbers::number;
+use crate::options::is_option;
+use crate::propedit::propedit;
+use crate::usage::{ArgsEnd, Usage, Why};
+use crate::values::name;
+use std::alloc::Global;
+
+/// The command that the words ask for, or the first word that is wrong. Words are counted from 0,
+/// and the program's own name is none of them.
+pub fn read_words(alloc: Global, words: &Vec<String>) -> Result<Command, ArgsEnd>
+    ensures { Tells result (spec.command (texts words.now.items)) }
+{
+    command(alloc, words.as_slice())
+}
+
+#[tactic(auto, unfolding(crate::specs::Words::command, crate::specs::Words::command_named))]
+fn command(alloc: Global, words: &[String]) -> Result<Command, ArgsEnd>
+    ensures { Tells result (spec.command (texts words.now)) }
+{
+    let Some(first) = word_at(words, 0) else {
+        return refused(0, Why::NoCommand);
+    };
+    match first {
+        "--help" => alone(words, Command::Help),
+        "--version" => alone(words, Command::Version),
+        "info" => info(alloc, words),
+        "merge" => merge(alloc, words),
+        "extract" => extract(alloc, words),
+        "propedit" => propedit(alloc, words),
+        "recover" => recover(alloc, words),
+        "reindex" => reindex(alloc, words),
+        "generate" => generate(alloc, words),
+        _ => refused(0, Why::UnknownCommand),
+    }
+}
+
+/// A command that is one word.
+#[tactic(auto, unfolding(crate::specs::Words::alone))]
+fn alone(words: &[String], command: Command) -> Result<Command, ArgsEnd>
+    ensures { Tells result (spec.alone command (texts words.now)) }
+{
+    end_at(words, 1)?;
+    Ok(command)
+}
+
+/// `info FILE`.
+#[tactic(auto, unfolding(crate::specs::Words::info))]
+fn info(alloc: Global, words: &[String]) -> Result<Command, ArgsEnd>
+    ensures { Tells result (spec.info (texts words.now)) }
+{
+    let file = only_file(words)?;
+    Ok(Command::Info {
+        file: name(alloc, file)?,
+    })
+}
+
+/// `recover FILE`.
+#[tactic(auto, unfolding(crate::specs::Words::recover))]
+fn recover(alloc: Global, words: &[String]) -> Result<Command, ArgsEnd>
+    ensures { Tells result (spec.recover (texts words.now)) }
+{
+    let file = only_file(words)?;
+    Ok(Command::Recover {
+        file: name(alloc, file)?,
+    })
+}
+
+/// `reindex FILE`.
+#[tactic(auto, unfolding(crate::specs::Words::reindex))]
+fn reindex(alloc: Global, words: &[String]) -> Result<Command, ArgsEnd>
+    ensures { Tells result (spec.reindex (texts words.now)) }
+{
+    let file = only_file(words)?;
+    Ok(Command::Reindex {
+        file: name(alloc, file)?,
+    })
+}
+
+/// `generate N PREFIX`, with N from 1 to 100000.
+#[tactic(auto, unfolding(crate::specs::Words::generate))]
+fn generate(alloc: Global, words: &[String]) -> Result<Command, ArgsEnd>
+    ensures { Tells result (spec.generate (texts words.now)) }
+{
+    let n = blocks_at(words, 1)?;
+    let prefix = due_at(words, 2)?;
+    end_at(words, 3)?;
+    Ok(Command::Generate {
+        n,
+        prefix: name(alloc, prefix)?,
+    })
+}
+
+#[tactic(auto, unfolding(crate::specs::Words::blocks_at))]
+fn blocks_at(words: &[String], at: usize) -> Result<u32, ArgsEnd>
+    ensures { Tells result (spec.blocks_at (texts words.now) at) }
+{
+    match number(due_at(words, at)?.as_bytes()) {
+        Some(n) if 1 <= n && n <= 100_000 => Ok(n as u32),
+        _ => refused(at, Why::BadValue),
+    }
+}
+
+/// A file's name, behind which nothing may stand.
+#[tactic(auto, unfolding(crate::specs::Words::only_file))]
+fn only_file(words: &[String]) -> Result<&str, ArgsEnd>
+    ensures { TellsOf (λ w. w.now) result (spec.only_file (texts words.now)) }
+{
+    let file = file_at(words, 1)?;
+    end_at(words, 2)?;
+    Ok(file)
+}
+
+/// The word at a number, counted from 0.
+pub(crate) fn word_at(words: &[String], at: usize) -> Option<&str>
+    ensures same { option_map (λ w. w.now) result ≡ slice_get (texts words.now) at }
+    ensures rest { MatchOption result (drop at (texts words.now) ≡ []) (λ w. drop at (texts words.now) ≡ w.now ∷ drop (at + 1) (texts words.now)) }
+    ensures within { OnSome result (at < length words.now) }
+{
+    match text_at(words, at) {
+        Some(word) => Some(word),
+        None => None,
+    }
+}
+
+fn text_at(words: &[String], at: usize) -> Option<&str>
+    ensures { option_map (λ w. w.now) result ≡ slice_get (texts words.now) at }
+{
+    Some(words.get(at)?.as_str())
+}
+
+/// The word that is due at a number.
+pub(crate) fn due_at(words: &[String], at: usize) -> Result<&str, ArgsEnd>
+    ensures { TellsOf (λ w. w.now) result (place.due_at (texts words.now) at) }
+{
+    match word_at(words, at) {
+        Some(word) => Ok(word),
+        None => refused(words.len(), Why::MissingValue),
+    }
+}
+
+/// The name of a file that is due at a number, which doesn't look like an option.
+pub(crate) fn file_at(words: &[String], at: usize) -> Result<&str, ArgsEnd>
+    ensures { TellsOf (λ w. w.now) result (place.file_at (texts words.now) at) }
+{
+    let file = due_at(words, at)?;
+    if is_option(file) {
+        return refused(at, Why::UnknownOption);
+    }
+    Ok(file)
+}
+
+/// Refuses a word where none may stand.
+pub(crate) fn end_at(words: &[String], at: usize) -> Result<(), ArgsEnd>
+    ensures { Tells result (place.end_at (texts words.now) at) }
+{
+    if at < words.len() {
+        return refused(at, Why::ExtraWord);
+    }
+    Ok(())
+}
+
+/// Refuses a word.
+pub(crate) fn refused<T>(word: usize, why: Why) -> Result<T, ArgsEnd>
+    ensures { result ≡ refuses word why }
+{
+    Err(ArgsEnd::Usage(Usage { word, why }))
+}
