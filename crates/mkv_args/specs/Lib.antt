@@ -10,3 +10,4 @@ pub mod Merge
 pub mod Extract
 pub mod Propedit
 pub mod Words
+pub mod Why

@@ -70,14 +70,14 @@ meaning r = record { subject = r.subject; scope = r.scope; form = r.form }
 abbrev pub meaning_among : List Row → List ℕ → Option Meaning
 meaning_among rows word = option_map meaning (find (spelled word) rows)
 
+-- a word of two or more characters that begins with `-`
+abbrev pub is_option : List ℕ → Bool
+is_option word = nat_le 2 (length word) && slice_index word 0 == 45
+
 -- what an option of `merge` means
 unfoldable pub meaning_of : List ℕ → Option Meaning
-meaning_of word = meaning_among table word
+meaning_of word = if is_option word then meaning_among table word else None
 
 -- both are about the same
 abbrev pub same : Subject → Subject → Bool
 same a b = sameb the_type a b
-
--- a word of two or more characters that begins with `-`
-abbrev pub is_option : List ℕ → Bool
-is_option word = nat_le 2 (length word) && slice_index word 0 == 45

@@ -253,9 +253,19 @@ pub static MERGE_OPTIONS: [OptionRow; 27] = [
 ];
 
 /// What an option of `merge` means, by either spelling.
-#[tactic(auto, unfolding(crate::specs::Options::meaning_of, crate::specs::Options::table))]
+#[tactic(auto, unfolding(crate::specs::Options::meaning_of))]
 pub(crate) fn meaning_of(word: &str) -> Option<Meaning>
     ensures { result ≡ spec.meaning_of word.now }
+{
+    if !is_option(word) {
+        return None;
+    }
+    meaning_in_table(word)
+}
+
+#[tactic(auto, unfolding(crate::specs::Options::table))]
+fn meaning_in_table(word: &str) -> Option<Meaning>
+    ensures { result ≡ spec.meaning_among spec.table word.now }
 {
     meaning_among(&MERGE_OPTIONS, word)
 }

@@ -6,8 +6,9 @@ mod table;
 use crate::{ArgsEnd, Usage, Why, read_words};
 use shown::shown;
 use std::alloc::{AllocError, Global};
+use std::process::Abort;
 use std::test::Fail;
-use table::LINES;
+use table::{COMMANDS, EDITS, EXTRACTIONS, FILES, IDENTIFIERS, JOINS, OUTPUTS, SPLITS, TRACKS};
 
 /// The words of a line: those between single spaces, so that two spaces hold an empty word.
 fn words_of(alloc: Global, line: &str) -> Result<Vec<String>, AllocError> {
@@ -18,13 +19,27 @@ fn words_of(alloc: Global, line: &str) -> Result<Vec<String>, AllocError> {
     Ok(words)
 }
 
+/// Reads each line, and compares what it says.
+fn compare(rt: &impl Abort, alloc: Global, lines: &[(&str, &str)]) -> Result<(), AllocError> {
+    for (line, answer) in lines {
+        let words = words_of(alloc, line)?;
+        let told = shown(alloc, read_words(alloc, &words))?;
+        assert_eq!(rt; told.as_str(), *answer, "in {line}");
+    }
+    Ok(())
+}
+
 #[test]
 fn each_line_of_words_has_its_answer(rt: HostRuntime) -> Result<(), Fail> {
-    for (line, answer) in LINES {
-        let words = words_of(rt.alloc(), line)?;
-        let told = shown(rt.alloc(), read_words(rt.alloc(), &words))?;
-        assert_eq!(rt; told.as_str(), answer, "in {line}");
-    }
+    compare(&rt, rt.alloc(), &COMMANDS)?;
+    compare(&rt, rt.alloc(), &EXTRACTIONS)?;
+    compare(&rt, rt.alloc(), &EDITS)?;
+    compare(&rt, rt.alloc(), &OUTPUTS)?;
+    compare(&rt, rt.alloc(), &SPLITS)?;
+    compare(&rt, rt.alloc(), &IDENTIFIERS)?;
+    compare(&rt, rt.alloc(), &FILES)?;
+    compare(&rt, rt.alloc(), &TRACKS)?;
+    compare(&rt, rt.alloc(), &JOINS)?;
     Ok(())
 }
 

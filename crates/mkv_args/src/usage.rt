@@ -40,6 +40,33 @@ pub enum Why {
     NeedsUuids,
 }
 
+impl Why {
+    ghost use Rattle.mkv_args.specs.Why.{why_name};
+
+    /// The reason's name, as it stands in a line.
+    #[tactic(auto, unfolding(crate::specs::Why::why_name))]
+    pub fn name(self) -> &'static str
+        ensures { result.now ≡ why_name self }
+    {
+        match self {
+            Why::NoCommand => "NoCommand",
+            Why::UnknownCommand => "UnknownCommand",
+            Why::UnknownOption => "UnknownOption",
+            Why::MissingValue => "MissingValue",
+            Why::BadValue => "BadValue",
+            Why::RepeatedOption => "RepeatedOption",
+            Why::ExtraWord => "ExtraWord",
+            Why::NoOutput => "NoOutput",
+            Why::NoInput => "NoInput",
+            Why::DanglingOption => "DanglingOption",
+            Why::AppendFirst => "AppendFirst",
+            Why::RepeatedOutput => "RepeatedOutput",
+            Why::TooManyInputs => "TooManyInputs",
+            Why::NeedsUuids => "NeedsUuids",
+        }
+    }
+}
+
 /// The first word that is wrong, counted from 0. Where a word is missing, it is the number of words.
 #[derive(Clone, Copy, Debug, PartialEq, Eq)]
 pub struct Usage {

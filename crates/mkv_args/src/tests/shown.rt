@@ -9,7 +9,7 @@ use std::alloc::{AllocError, Global};
 pub(crate) fn shown(alloc: Global, answer: Result<Command, ArgsEnd>) -> Result<String, AllocError> {
     match answer {
         Err(ArgsEnd::Memory) => format!(in alloc; "memory"),
-        Err(ArgsEnd::Usage(usage)) => format!(in alloc; "{} {:?}", usage.word, usage.why),
+        Err(ArgsEnd::Usage(usage)) => format!(in alloc; "{} {}", usage.word, usage.why.name()),
         Ok(command) => command_shown(alloc, &command),
     }
 }

@@ -1,7 +1,9 @@
-//! The lines. Words are those between single spaces. A refusal is the number of the wrong word,
-//! from 0, and the reason; a command is shown with what isn't its default, times in nanoseconds.
+//! Lines of words and what they say, by topic. Words are those between single spaces. A refusal is
+//! the number of the wrong word, from 0, and the reason; a command is shown with what isn't its
+//! default, times in nanoseconds.
 
-pub(crate) static LINES: [(&str, &str); 275] = [
+/// Each command alone, and those that take a name or a number.
+pub(crate) static COMMANDS: [(&str, &str); 38] = [
     ("", "0 UnknownCommand"),
     ("foo", "0 UnknownCommand"),
     ("--foo", "0 UnknownCommand"),
@@ -40,6 +42,10 @@ pub(crate) static LINES: [(&str, &str); 275] = [
     ("generate", "1 MissingValue"),
     ("generate 5 g x", "3 ExtraWord"),
     ("generate 1000000000000000000 g", "1 BadValue"),
+];
+
+/// `extract`.
+pub(crate) static EXTRACTIONS: [(&str, &str); 38] = [
     ("extract", "1 MissingValue"),
     ("extract f", "2 MissingValue"),
     ("extract -f tracks 0:r", "1 UnknownOption"),
@@ -93,6 +99,10 @@ pub(crate) static LINES: [(&str, &str); 275] = [
     ("extract f chapters simple", "3 BadValue"),
     ("extract f chapters --xml", "3 UnknownOption"),
     ("extract f chapters --simple c d", "5 ExtraWord"),
+];
+
+/// `propedit`.
+pub(crate) static EDITS: [(&str, &str); 28] = [
     ("propedit", "1 MissingValue"),
     ("propedit -f", "1 UnknownOption"),
     ("propedit f", "2 MissingValue"),
@@ -139,6 +149,10 @@ pub(crate) static LINES: [(&str, &str); 275] = [
     ("propedit f -e info -s n=v title=x", "6 UnknownOption"),
     ("propedit f -e info -s n=v ", "6 UnknownOption"),
     ("propedit f -e info -s n=v --raw", "6 UnknownOption"),
+];
+
+/// `merge`, for the whole output.
+pub(crate) static OUTPUTS: [(&str, &str); 38] = [
     ("merge", "1 NoOutput"),
     ("merge a", "2 NoOutput"),
     ("merge -o out.mkv", "3 NoInput"),
@@ -148,12 +162,14 @@ pub(crate) static LINES: [(&str, &str); 275] = [
     ("merge s1.mkv --output out.mkv", "merge out.mkv | s1.mkv"),
     ("merge -o  s1.mkv", "merge  | s1.mkv"),
     ("merge -o out.mkv -", "merge out.mkv | -"),
-    ("merge -o -a s1.mkv", "merge -a | s1.mkv"),
+    ("merge -o o  f", "merge o |  | f"),
+    ("merge  -o o", "merge o | "),
+    ("merge -o o --title a\0b f", "4 BadValue"),
+    ("merge -o o --chapters a\0b f", "merge o chapters=a\0b | f"),
     ("merge -o out.mkv --foo s1.mkv", "3 UnknownOption"),
     ("merge -o out.mkv --title=x s1.mkv", "3 UnknownOption"),
     ("merge -o out.mkv -- s1.mkv", "3 UnknownOption"),
     ("merge -o", "2 MissingValue"),
-    ("merge -o a b -y", "5 MissingValue"),
     ("merge -o a -o", "3 RepeatedOption"),
     ("merge -o a -o b c", "3 RepeatedOption"),
     ("merge -o a --output b c", "3 RepeatedOption"),
@@ -190,6 +206,10 @@ pub(crate) static LINES: [(&str, &str); 275] = [
     ("merge -o o --cluster-length 99ms f", "4 BadValue"),
     ("merge -o o --cluster-length 32001ms f", "4 BadValue"),
     ("merge -o o --cluster-length ms f", "4 BadValue"),
+];
+
+/// `merge --split`.
+pub(crate) static SPLITS: [(&str, &str); 46] = [
     (
         "merge -o o --split duration:10s f",
         "merge o every 10000000000 | f",
@@ -287,6 +307,11 @@ pub(crate) static LINES: [(&str, &str); 275] = [
     ("merge -o o --split size:k f", "4 BadValue"),
     ("merge -o o --split 10s f", "4 BadValue"),
     ("merge -o o --split frames:1 f", "4 BadValue"),
+];
+
+/// `merge` with `--segment-uid`, `--link` and `-J`.
+pub(crate) static IDENTIFIERS: [(&str, &str); 22] = [
+    ("merge -o o f -J g", "4 ExtraWord"),
     (
         "merge -o o --segment-uid 00000000000000000000000000000001 f",
         "merge o uuids 1 | f",
@@ -323,6 +348,11 @@ pub(crate) static LINES: [(&str, &str); 275] = [
     ("merge -J -", "identify -"),
     ("merge f -J", "2 ExtraWord"),
     ("merge -o o -J f", "3 ExtraWord"),
+];
+
+/// `merge`, for the next file.
+pub(crate) static FILES: [(&str, &str); 24] = [
+    ("merge -o -a s1.mkv", "merge -a | s1.mkv"),
     ("merge -o o -a 1 f", "merge o | f audio 1 named 1"),
     (
         "merge -o o --audio-tracks !1,02,1 f",
@@ -363,6 +393,17 @@ pub(crate) static LINES: [(&str, &str); 275] = [
     ),
     ("merge -o o -M -M f", "4 RepeatedOption"),
     ("merge -o o -T --no-track-tags f", "4 RepeatedOption"),
+    ("merge -o o f -a 1", "4 DanglingOption"),
+    ("merge -o o -a 1", "3 DanglingOption"),
+    ("merge -a 1 -M", "1 DanglingOption"),
+    ("merge -o o f -w -T --no-chapters", "5 DanglingOption"),
+];
+
+/// `merge`, for one track of the next file.
+pub(crate) static TRACKS: [(&str, &str); 36] = [
+    ("merge -o o --track-name 0:a\0 f", "4 BadValue"),
+    ("merge -o o --language 0:a\0b f", "4 BadValue"),
+    ("merge -o a b -y", "5 MissingValue"),
     (
         "merge -o o -y 0:-10 --sync 1:5 f",
         "merge o | f sync 0:-10000000 sync 1:5000000 named 0 1",
@@ -434,11 +475,12 @@ pub(crate) static LINES: [(&str, &str); 275] = [
         "merge o | f audio not 4 times 1: named 1 4",
     ),
     ("merge -o o --timestamps t.txt f", "4 BadValue"),
-    ("merge -o o f -a 1", "4 DanglingOption"),
-    ("merge -o o -a 1", "3 DanglingOption"),
-    ("merge -a 1 -M", "1 DanglingOption"),
     ("merge -o o f -M -a 1 -y 0:1", "4 DanglingOption"),
-    ("merge -o o f -w -T --no-chapters", "5 DanglingOption"),
+];
+
+/// `merge` with `+`, with options behind the last file, and with many files.
+pub(crate) static JOINS: [(&str, &str); 13] = [
+    ("merge -o o - +", "5 MissingValue"),
     ("merge -o o f + -a 1", "7 MissingValue"),
     ("merge -o o f -a 1 +", "7 MissingValue"),
     ("merge f +", "3 MissingValue"),
