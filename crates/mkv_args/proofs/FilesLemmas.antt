@@ -1,5 +1,5 @@
 -- Numbers that are added, and files with the items before them.
-use Rattle.std.proofs.Common.{◌≡◌, ℕ, zero, suc, ◌+◌, ◌-◌, ◌<◌, ◌≤◌, Bool, true, false, cond, List, [], ◌∷◌, ◌++◌, length, take, drop, get_or, refl, sym, ap, ◌∙◌, arith, drop-cons, append_assoc, add-one, length-drop}
+use Rattle.std.proofs.Common.{◌≡◌, ℕ, suc, ◌+◌, ◌-◌, ◌<◌, ◌≤◌, true, false, List, [], ◌∷◌, ◌++◌, length, take, drop, get_or, refl, sym, ap, ◌∙◌, arith, drop-cons, append_assoc, add-one, length-drop}
 use Rattle.std.proofs.lemmas.Grind.{common_steps}
 use Rattle.mkv_args.specs.declared.item.Item.{Item}
 use Rattle.mkv_args.specs.Items.{is_file}

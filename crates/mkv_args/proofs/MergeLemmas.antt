@@ -1,13 +1,13 @@
 -- The items of a merge, read one at a time.
-use Rattle.std.proofs.Common.{◌≡◌, ℕ, ◌+◌, Bool, true, false, cond, List, [], ◌∷◌, ◌++◌, drop, Option, Some, None, Result, Ok, Err, ◌⊎◌, inl, inr, refl, sym, ap, ◌∙◌, arith}
+use Rattle.std.proofs.Common.{◌≡◌, ℕ, ◌+◌, Bool, true, false, cond, List, [], ◌∷◌, ◌++◌, drop, Option, Some, None, Ok, Err, ◌⊎◌, inl, inr, refl, sym}
 use Rattle.std.proofs.lemmas.List.{drop-drop}
-use Rattle.std.specs.Prelude.{slice_get, ◌==◌, is_none}
+use Rattle.std.specs.Prelude.{slice_get, is_none}
 use Rattle.mkv_args.specs.declared.usage.Usage.{Usage}
 use Rattle.mkv_args.specs.declared.usage.ArgsEnd.{ArgsEnd}
 use Rattle.mkv_args.specs.declared.usage.ArgsEnd.TheVariants as args_end
 use Rattle.mkv_args.specs.declared.item.Item.{Item}
 use Rattle.mkv_args.specs.declared.options.Meaning.{Meaning}
-use Rattle.mkv_args.specs.Answers.{Tells, ◌>>=◌}
+use Rattle.mkv_args.specs.Answers.{Tells}
 use Rattle.mkv_args.specs.Options.{meaning_of}
 use Rattle.mkv_args.specs.Values.{flag_of}
 use Rattle.mkv_args.specs.Items.{item_at}

@@ -1,5 +1,5 @@
 -- What the items of a merge say of the whole output, and of each file.
-use Rattle.std.specs.Prelude.{ℕ, ℤ, Bool, true, false, not, ◌==◌, if◌then◌else◌, List, [], ◌∷◌, ◌++◌, Option, Some, None, unwrap_or, option_map, option_and_then}
+use Rattle.std.specs.Prelude.{ℕ, ℤ, Bool, not, ◌==◌, if◌then◌else◌, List, [], ◌∷◌, ◌++◌, Option, Some, None, unwrap_or, option_map, option_and_then}
 use Rattle.std.specs.List.{find, filter_map, flat_map, list_any}
 use Rattle.mkv_args.specs.declared.command.MergeWords.{MergeWords}
 use Rattle.mkv_args.specs.declared.command.FileWords.{FileWords}
@@ -10,7 +10,7 @@ use Rattle.mkv_args.specs.declared.command.Select.TheVariants.{All, These, AllBu
 use Rattle.mkv_args.specs.declared.options.Subject.{Subject}
 use Rattle.mkv_args.specs.declared.options.Subject.TheVariants as subject
 use Rattle.mkv_args.specs.declared.values.Value.{Value}
-use Rattle.mkv_args.specs.declared.values.Value.TheVariants.{Flag, Name, Scale, Blocks, Span, Split, Uuids, Tracks, TrackDelay, TrackName, TrackFlag, TrackCues}
+use Rattle.mkv_args.specs.declared.values.Value.TheVariants.{Name, Scale, Blocks, Span, Split, Uuids, Tracks, TrackDelay, TrackName, TrackFlag, TrackCues}
 use Rattle.mkv_args.specs.declared.item.Item.{Item}
 use Rattle.mkv_args.specs.Options.{same}
 use Rattle.mkv_args.specs.Items.{is_file, stands, track_in}

@@ -1,5 +1,5 @@
 -- The words of `propedit`.
-use Rattle.std.specs.Prelude.{ℕ, suc, ◌+◌, Bool, true, false, ◌&&◌, ◌||◌, ◌==◌, nat_lt, if◌then◌else◌, List, [], ◌∷◌, ◌++◌, length, drop, slice_get, slice_index, codes, Option, Some, None, option_map, option_and_then, Result, Ok, Err}
+use Rattle.std.specs.Prelude.{ℕ, ◌+◌, ◌||◌, ◌==◌, if◌then◌else◌, List, [], ◌∷◌, ◌++◌, length, drop, slice_index, codes, Option, Some, None, option_map, Result, Ok}
 use Rattle.std.specs.List.{starts_with}
 use Rattle.std.specs.Str.{bytes_eq}
 use Rattle.mkv_jobs.specs.declared.edit.Edit.{Edit}
@@ -17,7 +17,7 @@ use Rattle.mkv_args.specs.declared.command.Command.{Command}
 use Rattle.mkv_args.specs.declared.command.Command.TheVariants as command
 use Rattle.mkv_args.specs.Answers.{wrong, ◌>>=◌}
 use Rattle.mkv_args.specs.Numbers.{cut, from, number}
-use Rattle.mkv_args.specs.Place.{due, due_at, file_at}
+use Rattle.mkv_args.specs.Place.{due, file_at}
 
 -- a place, counted from 1
 unfoldable pub place : List ℕ → Option ℕ

@@ -1,5 +1,5 @@
 -- The words of a command line: a command, or the first word that is wrong and why.
-use Rattle.std.specs.Prelude.{ℕ, Bool, ◌&&◌, ◌==◌, nat_le, if◌then◌else◌, List, [], ◌∷◌, length, codes, Option, Some, None, Result, Ok, Err}
+use Rattle.std.specs.Prelude.{ℕ, if◌then◌else◌, List, [], ◌∷◌, codes, Option, Some, None, Result, Ok}
 use Rattle.std.specs.Str.{bytes_eq}
 use Rattle.mkv_args.specs.declared.usage.Usage.{Usage}
 use Rattle.mkv_args.specs.declared.usage.Why.TheVariants.{NoCommand, UnknownCommand, BadValue}

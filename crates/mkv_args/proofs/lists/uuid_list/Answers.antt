@@ -1,8 +1,7 @@
-use Rattle.std.proofs.Common.{rules, arith, sym, ◌≡◌, Some, None}
+use Rattle.std.proofs.Common.{arith, sym, ◌≡◌, Some, None}
 use Rattle.std.proofs.lemmas.Grind.{common_steps}
 use Rattle.mkv_args.specs.Numbers.{cut}
 use Rattle.mkv_args.specs.Numbers.{uuid}
-use Rattle.mkv_args.specs.Lists.{pieces, each}
 use Rattle.mkv_args.proofs.ListsLemmas.{joined_more, joined_bad, joined_last, joined_last_bad, cut_shorter}
 use Rattle.mkv_args.proofs.lists.uuid_list.Goals as goal
 

@@ -1,4 +1,4 @@
-use Rattle.std.proofs.Common.{rules, arith, ◌≡◌, ◌^◌, ◌+◌, ◌*◌, ◌≤◌, true, get_or}
+use Rattle.std.proofs.Common.{arith, ◌≡◌, ◌^◌, ◌+◌, ◌*◌, ◌≤◌, true, get_or}
 use Rattle.std.proofs.lemmas.Grind.{common_steps}
 use Rattle.std.proofs.lemmas.Bool.Decides.{nat_tests}
 use Rattle.std.specs.Char.{digit_value, is_ascii_digit}
