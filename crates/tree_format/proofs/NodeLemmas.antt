@@ -1,0 +1,22 @@
+-- Trees and lists of trees.
+use Rattle.std.proofs.Common.{◌≡◌, ◌≤◌, ℕ, ◌+◌, max, List, [], ◌∷◌, ◌++◌, length, flat_map, filter, Bool, true, false, cond, not, ◌==◌, take, drop, Option, Some, None, refl, sym, ap, ap₂, ◌∙◌, arith, length-append, append_assoc}
+use Rattle.tree_format.specs.Node.{Node, Nodes, leaf, master, none, node, nodes_of, list_of, id_of, children, with_children, count, count_all, depth, depth_all, is_leaf, IsMaster}
+use Rattle.tree_format.specs.NormalForm.{octets, octets_all, content}
+
+pub list-nodes : (ns : List Node) → list_of (nodes_of ns) ≡ ns
+list-nodes [] = refl
+list-nodes (n ∷ ns) = ap (λ l. n ∷ l) (list-nodes ns)
+
+pub nodes-list : (ns : Nodes) → nodes_of (list_of ns) ≡ ns
+nodes-list none = refl
+nodes-list (node n ns) = ap (node n) (nodes-list ns)
+
+-- what is written of a list of trees, one behind the other
+pub octets_all-flat : (ns : List Node) → octets_all (nodes_of ns) ≡ flat_map octets ns
+octets_all-flat [] = refl
+octets_all-flat (n ∷ ns) = ap (λ l. octets n ++ l) (octets_all-flat ns)
+
+-- trees in a row are as deep as the deepest of them
+pub depth_all-append : (ms ns : List Node) → depth_all (nodes_of (ms ++ ns)) ≡ max (depth_all (nodes_of ms)) (depth_all (nodes_of ns))
+depth_all-append [] ns = omega arith
+depth_all-append (m ∷ ms) ns = let rest = depth_all-append ms ns in omega arith

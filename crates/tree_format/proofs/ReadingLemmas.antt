@@ -1,0 +1,148 @@
+-- The Elements of a body, one step at a time.
+use Rattle.std.proofs.Common.{◌≡◌, ℕ, zero, suc, ◌+◌, ◌-◌, ◌<◌, ◌≤◌, ◌==◌, nat_lt, Bool, true, false, not, ◌&&◌, if◌then◌else◌, List, [], ◌∷◌, length, take, drop, Option, Some, None, Result, Ok, Err, refl, sym, ◌∙◌, ap, ap₂, subst, arith}
+use Rattle.std.proofs.lemmas.List.{length-take, length-drop}
+use Rattle.std.proofs.lemmas.Bool.Decides.{nat_tests}
+use Rattle.ebml_format.specs.declared.number.IdRead.{IdRead}
+use Rattle.ebml_format.specs.declared.number.NumFault.{NumFault}
+use Rattle.ebml_format.specs.declared.number.NumFault.TheVariants as fault
+use Rattle.ebml_format.specs.declared.number.Size.{Size}
+use Rattle.ebml_format.specs.declared.number.SizeRead.{SizeRead}
+use Rattle.ebml_format.specs.Number.{size_at}
+use Rattle.mkv_values.specs.declared.damage.Damage.{Damage}
+use Rattle.mkv_values.specs.declared.damage.Kind.{Kind}
+use Rattle.mkv_values.specs.declared.damage.Kind.TheVariants.{TooMany, BadValue, TooLong, UnknownSize}
+use Rattle.matroska_format.specs.declared.element.Header.{Header}
+use Rattle.matroska_format.specs.Element.{in_tree, element_in, id_in, with_id, with_size, with_body, body_damage, is_unknown, known, stated_end}
+use Rattle.matroska_format.specs.Value.{is_known_value}
+use Rattle.matroska_format.specs.Placed.{IsPlaced}
+use Rattle.matroska_format.proofs.ElementLemmas.{element_in-placed}
+use Rattle.tree_format.specs.Node.{Node, leaf}
+use Rattle.tree_format.specs.Reading.{Reader, Grove, Grown, header_at, inside, behind, is_master_in, refused, and_then, as_master, grown, in_front, first_then, grove_within, grove}
+
+-- ---- where a header stands
+
+-- An Element of a master that is read whole stands where it was looked for; its size is known; and it
+-- doesn't pass the end.
+pub record Fits (p e : ℕ) (h : Header) : Type 0 where
+  pub offset : h.offset ≡ p
+  pub later : p < h.body
+  pub known : is_unknown h.size ≡ false
+  pub ends : stated_end h ≤ e
+
+-- what a body has that isn't damaged
+pub record IsWhole (e : ℕ) (h : Header) : Type 0 where
+  pub known : is_unknown h.size ≡ false
+  pub ends : stated_end h ≤ e
+
+whole-body : (parent total e : ℕ) (made h : Header) → with_body made (body_damage (in_tree parent) total e made) ≡ Ok h → IsWhole e h
+whole-body parent total e made h is = split (is_unknown made.size) (nat_lt e (stated_end made)) refl refl is
+  where
+    split : (unknown passes : Bool) → is_unknown made.size ≡ unknown → nat_lt e (stated_end made) ≡ passes
+        → with_body made (if unknown && true then Some UnknownSize else if passes && true then Some TooLong else None) ≡ Ok h → IsWhole e h
+    split true passes u t is = absurd (cc)
+    split false true u t is = absurd (cc)
+    split false false u t is =
+        let same : made ≡ h = cc in
+        let P : Header → Type 0 = IsWhole e in
+        subst P same (record { known = u; ends = grind (arith, nat_tests) })
+
+whole-size : (parent total p e id at : ℕ) (h : Header) (read : Result SizeRead NumFault) → with_size (in_tree parent) total p e id at read ≡ Ok h → IsWhole e h
+whole-size parent total p e id at h (Err (fault.More n)) is = absurd (cc)
+whole-size parent total p e id at h (Err fault.Bad) is = absurd (cc)
+whole-size parent total p e id at h (Ok size) is =
+    whole-body parent total e (record { id = id; offset = p; body = at + size.len; size = size.size }) h is
+
+whole-id : (parent : ℕ) (octets : List ℕ) (total p e : ℕ) (h : Header) (read : Result IdRead NumFault) → with_id (in_tree parent) octets total p e read ≡ Ok h → IsWhole e h
+whole-id parent octets total p e h (Err fault.Bad) is = absurd (cc)
+whole-id parent octets total p e h (Err (fault.More n)) is = absurd (cc)
+whole-id parent octets total p e h (Ok id) is = whole-size parent total p e id.id (p + id.len) h _ is
+
+pub header_at-fits : (parent p : ℕ) (octets : List ℕ) (h : Header) → header_at parent p octets ≡ Ok h → Fits p (p + length octets) h
+unfolding element_in
+header_at-fits parent p octets h is =
+    let placed = element_in-placed (in_tree parent) octets (p + length octets) p (p + length octets) h (omega arith) is in
+    let whole = whole-id parent octets (p + length octets) p (p + length octets) h _ is in
+    record { offset = placed.offset; later = placed.later; known = whole.known; ends = whole.ends }
+
+-- The length of the file doesn't count in a master that is read whole.
+pub element_in-held : (parent : ℕ) (octets : List ℕ) (total other p e : ℕ) → element_in (in_tree parent) octets total p e ≡ element_in (in_tree parent) octets other p e
+unfolding element_in
+element_in-held parent octets total other p e = of_id (id_in (in_tree parent) octets)
+  where
+    of_size : (id at : ℕ) (read : Result SizeRead NumFault) → with_size (in_tree parent) total p e id at read ≡ with_size (in_tree parent) other p e id at read
+    of_size id at (Err (fault.More n)) = refl
+    of_size id at (Err fault.Bad) = refl
+    of_size id at (Ok size) = refl
+
+    of_id : (read : Result IdRead NumFault) → with_id (in_tree parent) octets total p e read ≡ with_id (in_tree parent) octets other p e read
+    of_id (Err fault.Bad) = refl
+    of_id (Err (fault.More n)) = refl
+    of_id (Ok id) = of_size id.id (p + id.len) (size_at (drop id.len octets))
+
+-- its body and what is behind it are shorter than all
+pub length-inside : (p : ℕ) (octets : List ℕ) (h : Header) → Fits p (p + length octets) h → length (inside p h octets) < length octets
+length-inside p octets h fits =
+    let later = fits.later in let ends = fits.ends in
+    simp (length-take, length-drop) (omega arith)
+
+pub length-inside_is : (p : ℕ) (octets : List ℕ) (h : Header) → Fits p (p + length octets) h → length (inside p h octets) ≡ known h.size
+length-inside_is p octets h fits =
+    let later = fits.later in let ends = fits.ends in
+    simp (length-take, length-drop) (omega arith)
+
+pub length-behind : (p : ℕ) (octets : List ℕ) (h : Header) → Fits p (p + length octets) h → length (behind p h octets) < length octets
+length-behind p octets h fits =
+    let later = fits.later in let ends = fits.ends in
+    simp length-drop (omega arith)
+
+-- ---- more than enough room for Elements changes nothing
+
+pub and_then-same : {A B : Type 0} (r : Result A Damage) (f g : A → Result B Damage) → ((x : A) → r ≡ Ok x → f x ≡ g x) → and_then r f ≡ and_then r g
+and_then-same (Ok x) f g same = same x refl
+and_then-same (Err d) f g same = refl
+
+grown-same : (f g : Reader) (room left parent : ℕ) (h : Header) (body : List ℕ) → f (room - 1) (left - 1) h.id h.body body ≡ g (room - 1) (left - 1) h.id h.body body → grown f room left parent h body ≡ grown g room left parent h body
+grown-same f g room left parent h body same =
+    ap (λ (r : Result Grove Damage). if left == 0 then refused TooMany h.id h.offset else
+    if is_master_in parent h.id then
+    (if room == 0 then refused TooMany h.id h.offset else and_then r (as_master h))
+    else if is_known_value parent h.id body then Ok (record { tree = leaf h.id h.offset body; left = left - 1 })
+    else refused BadValue h.id h.offset) same
+
+-- two readers give the same of every list that is shorter
+SameBelow : ℕ → Reader → Reader → Type 0
+SameBelow n f g = (room left parent p : ℕ) (octets : List ℕ) → length octets < n → f room left parent p octets ≡ g room left parent p octets
+
+first_then-same : (f g : Reader) (room left parent p : ℕ) (octets : List ℕ) (h : Header) → Fits p (p + length octets) h → SameBelow (length octets) f g → first_then f room left parent p octets h ≡ first_then g room left parent p octets h
+unfolding SameBelow
+first_then-same f g room left parent p octets h fits same =
+    ap (λ (r : Result Grown Damage). and_then r (λ x. and_then (f room x.left parent (stated_end h) (behind p h octets)) (in_front x.tree)))
+    (grown-same f g room left parent h (inside p h octets) (same (room - 1) (left - 1) h.id h.body (inside p h octets) (length-inside p octets h fits)))
+    ∙ and_then-same (grown g room left parent h (inside p h octets)) _ _
+    (λ x is. ap (λ r. and_then r (in_front x.tree)) (same room x.left parent (stated_end h) (behind p h octets) (length-behind p octets h fits)))
+
+within-same : (n m : ℕ) (room left parent p : ℕ) (octets : List ℕ) → length octets ≤ n → length octets ≤ m → grove_within n room left parent p octets ≡ grove_within m room left parent p octets
+unfolding grove_within SameBelow
+within-same n m room left parent p [] few enough = refl
+within-same zero m room left parent p (o ∷ octets) few enough = absurd (omega arith)
+within-same (suc n) zero room left parent p (o ∷ octets) few enough = absurd (omega arith)
+within-same (suc n) (suc m) room left parent p (o ∷ octets) few enough =
+    and_then-same (header_at parent p (o ∷ octets)) _ _
+    (λ h is. first_then-same (grove_within n) (grove_within m) room left parent p (o ∷ octets) h (header_at-fits parent p (o ∷ octets) h is)
+    (λ r l q k body shorter. within-same n m r l q k body (omega arith) (omega arith)))
+
+-- ---- the two laws of a body
+
+-- Where no octet is left, no Element stands.
+pub grove-end : (room left parent p : ℕ) → grove room left parent p [] ≡ Ok (record { trees = []; left = left })
+unfolding grove grove_within
+grove-end room left parent p = refl
+
+-- Where some are left, an Element stands, with what is behind it, or a damage.
+pub grove-more : (room left parent p : ℕ) (octets : List ℕ) → 0 < length octets → grove room left parent p octets ≡ and_then (header_at parent p octets) (first_then grove room left parent p octets)
+unfolding grove grove_within SameBelow
+grove-more room left parent p [] some = absurd (omega arith)
+grove-more room left parent p (o ∷ octets) some =
+    and_then-same (header_at parent p (o ∷ octets)) _ _
+    (λ h is. first_then-same (grove_within (length octets)) grove room left parent p (o ∷ octets) h (header_at-fits parent p (o ∷ octets) h is)
+    (λ r l q k body shorter. within-same (length octets) (length body) r l q k body (omega arith) (omega arith)))

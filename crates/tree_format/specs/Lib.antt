@@ -1,0 +1,5 @@
+pub mod Node
+pub mod Stored
+pub mod NormalForm
+pub mod Reading
+pub mod Changes

@@ -1,0 +1,80 @@
+-- A master that is read whole, as a tree of its Elements: RFC 8794, section 7.7 (Master Element).
+use Rattle.std.specs.Prelude.{◌≡◌, ◌<◌, ℕ, ◌+◌, max, Bool, true, false, List, [], ◌∷◌}
+
+-- An Element and what is inside: a leaf has its ID, the place of its header and its octets, a master
+-- its ID, that place and its children. An Element that was made has the place 0.
+mutual
+  pub data Node : Type 0 where
+    leaf : ℕ → ℕ → List ℕ → Node
+    master : ℕ → ℕ → Nodes → Node
+
+  pub data Nodes : Type 0 where
+    none : Nodes
+    node : Node → Nodes → Nodes
+
+abbrev pub nodes_of : List Node → Nodes
+nodes_of [] = none
+nodes_of (n ∷ ns) = node n (nodes_of ns)
+
+abbrev pub list_of : Nodes → List Node
+list_of none = []
+list_of (node n ns) = n ∷ list_of ns
+
+abbrev pub id_of : Node → ℕ
+id_of (leaf id at body) = id
+id_of (master id at kids) = id
+
+abbrev pub offset_of : Node → ℕ
+offset_of (leaf id at body) = at
+offset_of (master id at kids) = at
+
+abbrev pub is_leaf : Node → Bool
+is_leaf (leaf id at body) = true
+is_leaf (master id at kids) = false
+
+-- it has children, or may have some
+abbrev pub IsMaster : Node → Type 0
+IsMaster n = is_leaf n ≡ false
+
+-- a leaf's octets
+abbrev pub body_of : Node → List ℕ
+body_of (leaf id at body) = body
+body_of (master id at kids) = []
+
+-- a master's children
+abbrev pub children : Node → List Node
+children (leaf id at body) = []
+children (master id at kids) = list_of kids
+
+-- a master with other children
+abbrev pub with_children : Node → List Node → Node
+with_children (leaf id at body) ns = leaf id at body
+with_children (master id at kids) ns = master id at (nodes_of ns)
+
+-- how many Elements there are, this one counted
+abbrev mutual
+  pub count : Node → ℕ
+  count (leaf id at body) = 1
+  count (master id at kids) = count_all kids + 1
+
+  pub count_all : Nodes → ℕ
+  count_all none = 0
+  count_all (node n ns) = count n + count_all ns
+
+-- how many masters stand inside one another, this one counted
+abbrev mutual
+  pub depth : Node → ℕ
+  depth (leaf id at body) = 0
+  depth (master id at kids) = depth_all kids + 1
+
+  pub depth_all : Nodes → ℕ
+  depth_all none = 0
+  depth_all (node n ns) = max (depth n) (depth_all ns)
+
+-- the most masters that stand inside one another
+abbrev pub deepest : ℕ
+deepest = 32
+
+-- a tree may be a child: with a master around it, it isn't too deep
+abbrev pub HasRoom : Node → Type 0
+HasRoom n = depth n < deepest

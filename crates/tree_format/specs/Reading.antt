@@ -1,0 +1,93 @@
+-- What the octets of a master that is read whole mean: RFC 8794, section 7.7 (Master Element).
+use Rattle.std.specs.Prelude.{ℕ, zero, suc, ◌+◌, ◌-◌, ◌==◌, Bool, true, false, ◌&&◌, if◌then◌else◌, List, [], ◌∷◌, length, take, drop, Result, Ok, Err}
+use Rattle.mkv_schema.specs.Schema.{is_master, may_stand}
+use Rattle.mkv_values.specs.declared.damage.Damage.{Damage}
+use Rattle.mkv_values.specs.declared.damage.Kind.{Kind}
+use Rattle.mkv_values.specs.declared.damage.Kind.TheVariants.{BadValue, TooMany}
+use Rattle.matroska_format.specs.declared.element.Header.{Header}
+use Rattle.matroska_format.specs.Element.{in_tree, element_in, known, stated_end, damage}
+use Rattle.matroska_format.specs.Value.{is_known_value}
+use Rattle.tree_format.specs.Node.{Node, leaf, master, nodes_of, deepest}
+
+-- The header of the Element that these octets begin, which stand at place p of a file and are all that
+-- is left of a master; or what is wrong there. Nothing of the file outside the master counts.
+abbrev pub header_at : ℕ → ℕ → List ℕ → Result Header Damage
+header_at parent p octets = element_in (in_tree parent) octets (p + length octets) p (p + length octets)
+
+-- the octets of the Element's body, and those behind the Element
+abbrev pub inside : ℕ → Header → List ℕ → List ℕ
+inside p h octets = take (known h.size) (drop (h.body - p) octets)
+
+abbrev pub behind : ℕ → Header → List ℕ → List ℕ
+behind p h octets = drop (stated_end h - p) octets
+
+-- the table has it as a master under this parent: what it doesn't have there is a leaf
+abbrev pub is_master_in : ℕ → ℕ → Bool
+is_master_in parent id = may_stand id parent && is_master id
+
+-- an Element as a tree, and how many more nodes there may be
+pub record Grown : Type 0 where
+  pub tree : Node
+  pub left : ℕ
+
+-- the Elements of a body as trees, and how many more nodes there may be
+pub record Grove : Type 0 where
+  pub trees : List Node
+  pub left : ℕ
+
+abbrev pub refused : {A : Type 0} → Kind → ℕ → ℕ → Result A Damage
+refused kind id p = Err (damage kind id p)
+
+-- the same as long as all is well
+abbrev pub and_then : {A B : Type 0} → Result A Damage → (A → Result B Damage) → Result B Damage
+and_then (Ok x) next = next x
+and_then (Err d) next = Err d
+
+-- how a body is read: how deep masters may stand in it, how many nodes may be there, its master's ID,
+-- its place and its octets
+abbrev pub Reader : Type 0
+Reader = ℕ → ℕ → ℕ → ℕ → List ℕ → Result Grove Damage
+
+abbrev pub as_master : Header → Grove → Result Grown Damage
+as_master h g = Ok (record { tree = master h.id h.offset (nodes_of g.trees); left = g.left })
+
+-- An Element with its body. It is one node; a master needs room for one more inside another; and a leaf
+-- of the table is a value of its kind.
+abbrev pub grown : Reader → ℕ → ℕ → ℕ → Header → List ℕ → Result Grown Damage
+grown read room left parent h body =
+    if left == 0 then refused TooMany h.id h.offset else
+    if is_master_in parent h.id then
+    (if room == 0 then refused TooMany h.id h.offset else and_then (read (room - 1) (left - 1) h.id h.body body) (as_master h))
+    else if is_known_value parent h.id body then Ok (record { tree = leaf h.id h.offset body; left = left - 1 })
+    else refused BadValue h.id h.offset
+
+abbrev pub in_front : Node → Grove → Result Grove Damage
+in_front n g = Ok (record { trees = n ∷ g.trees; left = g.left })
+
+-- an Element, and then what stands behind it
+abbrev pub first_then : Reader → ℕ → ℕ → ℕ → ℕ → List ℕ → Header → Result Grove Damage
+first_then read room left parent p octets h =
+    and_then (grown read room left parent h (inside p h octets)) (λ g.
+    and_then (read room g.left parent (stated_end h) (behind p h octets)) (in_front g.tree))
+
+-- The Elements of a body, one behind the other, or the first damage in the order in which they stand.
+-- (n bounds how many there are.)
+unfoldable pub grove_within : ℕ → Reader
+grove_within n room left parent p [] = Ok (record { trees = []; left = left })
+grove_within zero room left parent p (o ∷ octets) = Ok (record { trees = []; left = left })
+grove_within (suc n) room left parent p (o ∷ octets) =
+    and_then (header_at parent p (o ∷ octets)) (first_then (grove_within n) room left parent p (o ∷ octets))
+
+-- each Element has at least one octet
+unfoldable pub grove : Reader
+grove room left parent p octets = grove_within (length octets) room left parent p octets
+
+abbrev pub as_root : ℕ → ℕ → Grove → Result Node Damage
+as_root id offset g = Ok (master id offset (nodes_of g.trees))
+
+-- The tree of a master with this ID, whose header stands at a place and whose body at another, of at
+-- most so many nodes, its own counted; or the first damage in the order in which the Elements stand.
+abbrev pub tree_of : ℕ → ℕ → List ℕ → ℕ → ℕ → Result Node Damage
+tree_of id offset body base nodes =
+    if nodes == 0 then refused TooMany id offset else
+    and_then (grove (deepest - 1) (nodes - 1) id base body) (as_root id offset)
