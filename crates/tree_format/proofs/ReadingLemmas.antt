@@ -1,5 +1,5 @@
 -- The Elements of a body, one step at a time.
-use Rattle.std.proofs.Common.{◌≡◌, ℕ, zero, suc, ◌+◌, ◌-◌, ◌<◌, ◌≤◌, ◌==◌, nat_lt, Bool, true, false, not, ◌&&◌, if◌then◌else◌, List, [], ◌∷◌, length, take, drop, Option, Some, None, Result, Ok, Err, refl, sym, ◌∙◌, ap, ap₂, subst, arith}
+use Rattle.std.proofs.Common.{◌≡◌, ℕ, zero, suc, ◌+◌, ◌-◌, ◌<◌, ◌≤◌, ◌==◌, nat_lt, Bool, true, false, not, ◌&&◌, if◌then◌else◌, List, [], ◌∷◌, ◌++◌, ◌||◌, slice_index, append-nil, append_assoc, length, take, drop, Option, Some, None, Result, Ok, Err, refl, sym, ◌∙◌, ap, ap₂, subst, arith}
 use Rattle.std.proofs.lemmas.List.{length-take, length-drop}
 use Rattle.std.proofs.lemmas.Bool.Decides.{nat_tests}
 use Rattle.ebml_format.specs.declared.number.IdRead.{IdRead}
@@ -7,27 +7,24 @@ use Rattle.ebml_format.specs.declared.number.NumFault.{NumFault}
 use Rattle.ebml_format.specs.declared.number.NumFault.TheVariants as fault
 use Rattle.ebml_format.specs.declared.number.Size.{Size}
 use Rattle.ebml_format.specs.declared.number.SizeRead.{SizeRead}
-use Rattle.ebml_format.specs.Number.{size_at}
+use Rattle.ebml_format.specs.declared.number.Size.TheVariants.{Known, Unknown}
+use Rattle.ebml_format.specs.Number.{AreOctets, is_id, is_written_id, id_at, size_at}
+use Rattle.ebml_format.proofs.NumberLemmas.{id_at-within}
+use Rattle.mkv_schema.specs.declared.ids.TheConstants.{CHAPTER_ATOM, CHAPTER_DISPLAY}
 use Rattle.mkv_values.specs.declared.damage.Damage.{Damage}
 use Rattle.mkv_values.specs.declared.damage.Kind.{Kind}
 use Rattle.mkv_values.specs.declared.damage.Kind.TheVariants.{TooMany, BadValue, TooLong, UnknownSize}
 use Rattle.matroska_format.specs.declared.element.Header.{Header}
-use Rattle.matroska_format.specs.Element.{in_tree, element_in, id_in, with_id, with_size, with_body, body_damage, is_unknown, known, stated_end}
+use Rattle.matroska_format.specs.Element.{in_tree, element_in, id_in, with_id, with_size, with_body, body_damage, display_read, is_unknown, known, stated_end}
 use Rattle.matroska_format.specs.Value.{is_known_value}
 use Rattle.matroska_format.specs.Placed.{IsPlaced}
 use Rattle.matroska_format.proofs.ElementLemmas.{element_in-placed}
-use Rattle.tree_format.specs.Node.{Node, leaf}
+use Rattle.tree_format.specs.Node.{Node, leaf, nodes_of, depth, depth_all}
+use Rattle.tree_format.proofs.NodeLemmas.{depth_all-append}
+use Rattle.tree_format.specs.Fits.{Fits}
 use Rattle.tree_format.specs.Reading.{Reader, Grove, Grown, header_at, inside, behind, is_master_in, refused, and_then, as_master, grown, in_front, first_then, grove_within, grove}
 
 -- ---- where a header stands
-
--- An Element of a master that is read whole stands where it was looked for; its size is known; and it
--- doesn't pass the end.
-pub record Fits (p e : ℕ) (h : Header) : Type 0 where
-  pub offset : h.offset ≡ p
-  pub later : p < h.body
-  pub known : is_unknown h.size ≡ false
-  pub ends : stated_end h ≤ e
 
 -- what a body has that isn't damaged
 pub record IsWhole (e : ℕ) (h : Header) : Type 0 where
@@ -146,3 +143,110 @@ grove-more room left parent p (o ∷ octets) some =
     and_then-same (header_at parent p (o ∷ octets)) _ _
     (λ h is. first_then-same (grove_within (length octets)) grove room left parent p (o ∷ octets) h (header_at-fits parent p (o ∷ octets) h is)
     (λ r l q k body shorter. within-same (length octets) (length body) r l q k body (omega arith) (omega arith)))
+
+-- ---- the ID that is read
+
+id-of-body : (made h : Header) (found : Option Kind) → with_body made found ≡ Ok h → made.id ≡ h.id
+id-of-body made h None is = let same : made ≡ h = cc in ap (λ (x : Header). x.id) same
+id-of-body made h (Some kind) is = absurd (cc)
+
+pub id-of-size : (parent total p e id at : ℕ) (h : Header) (read : Result SizeRead NumFault) → with_size (in_tree parent) total p e id at read ≡ Ok h → id ≡ h.id
+id-of-size parent total p e id at h (Err (fault.More n)) is = absurd (cc)
+id-of-size parent total p e id at h (Err fault.Bad) is = absurd (cc)
+id-of-size parent total p e id at h (Ok size) is =
+    let made : Header = record { id = id; offset = p; body = at + size.len; size = size.size } in
+    id-of-body made h (body_damage (in_tree parent) total e made) is
+
+or-true : (b : Bool) → (b || true) ≡ true
+or-true true = refl
+or-true false = refl
+
+-- an ID that is read is a valid one, or ChapterDisplay's
+id_in-written : (parent : ℕ) (octets : List ℕ) (read : IdRead) → AreOctets octets → id_in (in_tree parent) octets ≡ Ok read → is_written_id read.id ≡ true
+id_in-written parent octets read bytes is = split (parent == CHAPTER_ATOM && slice_index octets 0 == CHAPTER_DISPLAY) is
+  where
+    split : (display : Bool) → (if display then display_read else id_at octets) ≡ Ok read → is_written_id read.id ≡ true
+    split true found =
+        let id : CHAPTER_DISPLAY ≡ read.id = cc in
+        rw (← id) (or-true (is_id CHAPTER_DISPLAY))
+    split false found =
+        let valid = (id_at-within octets read bytes found).valid in
+        rw valid refl
+
+id-of-id : (parent : ℕ) (octets : List ℕ) (total p e : ℕ) (h : Header) (read : Result IdRead NumFault) → AreOctets octets → id_in (in_tree parent) octets ≡ read → with_id (in_tree parent) octets total p e read ≡ Ok h → is_written_id h.id ≡ true
+id-of-id parent octets total p e h (Err fault.Bad) bytes found is = absurd (cc)
+id-of-id parent octets total p e h (Err (fault.More n)) bytes found is = absurd (cc)
+id-of-id parent octets total p e h (Ok id) bytes found is =
+    let same = id-of-size parent total p e id.id (p + id.len) h _ is in
+    rw (← same) (id_in-written parent octets id bytes found)
+
+pub header_at-id : (parent p : ℕ) (octets : List ℕ) (h : Header) → AreOctets octets → header_at parent p octets ≡ Ok h → is_written_id h.id ≡ true
+unfolding element_in
+header_at-id parent p octets h bytes is = id-of-id parent octets (p + length octets) p (p + length octets) h (id_in (in_tree parent) octets) bytes refl is
+
+-- its size is known
+pub header_at-known : (parent p : ℕ) (octets : List ℕ) (h : Header) → header_at parent p octets ≡ Ok h → h.size ≡ Unknown → ⊥
+header_at-known parent p octets h is open_ =
+    let known : is_unknown h.size ≡ false = (header_at-fits parent p octets h is).known in
+    let never : is_unknown Unknown ≡ false = rw open_ at known in
+    cc
+
+-- ---- reading on
+
+-- what was read before stands in front
+abbrev pub all_in_front : List Node → Grove → Result Grove Damage
+all_in_front ns g = Ok (record { trees = ns ++ g.trees; left = g.left })
+
+-- Trees were read from the front of a body, and what is left of it is read on.
+pub record ReadOn (room before left parent place at : ℕ) (body rest : List ℕ) (trees : List Node) : Type 0 where
+  pub ends : at + length rest ≡ place + length body
+  pub shallow : depth_all (nodes_of trees) ≤ room
+  pub same : grove room before parent place body ≡ and_then (grove room left parent at rest) (all_in_front trees)
+
+front-none : (r : Result Grove Damage) → r ≡ and_then r (all_in_front [])
+front-none (Ok g) = refl
+front-none (Err d) = refl
+
+pub read-start : (room left parent place : ℕ) (body : List ℕ) → ReadOn room left left parent place place body body []
+read-start room left parent place body = record { ends = refl; shallow = omega arith; same = front-none (grove room left parent place body) }
+
+module _ (room before left parent place at : ℕ) (body rest : List ℕ) (trees : List Node) (on : ReadOn room before left parent place at body rest trees) where
+  -- the end is the end of all
+  pub read-all : rest ≡ [] → grove room before parent place body ≡ Ok (record { trees = trees; left = left })
+  read-all none =
+      on.same ∙ ap (λ r. and_then (grove room left parent at r) (all_in_front trees)) none
+      ∙ ap (λ r. and_then r (all_in_front trees)) (grove-end room left parent at)
+      ∙ ap (λ ns. Ok (record { trees = ns; left = left })) (append-nil trees)
+
+  -- a damage is the damage of all
+  pub read-damaged : (d : Damage) → 0 < length rest → header_at parent at rest ≡ Err d → grove room before parent place body ≡ Err d
+  read-damaged d some is =
+      on.same ∙ ap (λ r. and_then r (all_in_front trees)) (grove-more room left parent at rest some ∙ ap (λ r. and_then r (first_then grove room left parent at rest)) is)
+
+  pub read-damaged_inside : (d : Damage) (h : Header) → 0 < length rest → header_at parent at rest ≡ Ok h → grown grove room left parent h (inside at h rest) ≡ Err d → grove room before parent place body ≡ Err d
+  read-damaged_inside d h some is inner =
+      on.same ∙ ap (λ r. and_then r (all_in_front trees)) (grove-more room left parent at rest some ∙ ap (λ r. and_then r (first_then grove room left parent at rest)) is
+      ∙ ap (λ r. and_then r (λ g. and_then (grove room g.left parent (stated_end h) (behind at h rest)) (in_front g.tree))) inner)
+
+  move : (n : Node) (r : Result Grove Damage) → and_then (and_then r (in_front n)) (all_in_front trees) ≡ and_then r (all_in_front (trees ++ n ∷ []))
+  move n (Ok g) = ap (λ ns. Ok (record { trees = ns; left = g.left })) (sym (append_assoc trees (n ∷ []) g.trees))
+  move n (Err d) = refl
+
+  -- an Element that was read stands behind the others
+  pub read-more : (n : Node) (now : ℕ) (h : Header) → 0 < length rest → depth n ≤ room → header_at parent at rest ≡ Ok h → grown grove room left parent h (inside at h rest) ≡ Ok (record { tree = n; left = now })
+      → ReadOn room before now parent place (stated_end h) body (behind at h rest) (trees ++ n ∷ [])
+  read-more n now h some low is inner =
+      let fits = header_at-fits parent at rest h is in
+      let later = fits.later in
+      let fit = fits.ends in
+      let ends = on.ends in
+      let low_all = on.shallow in
+      let left_behind : length (behind at h rest) ≡ length rest - (stated_end h - at) = length-drop (stated_end h - at) rest in
+      record {
+        ends = omega arith;
+        shallow = omega (arith, depth_all-append trees (n ∷ []));
+        same =
+            on.same ∙ ap (λ r. and_then r (all_in_front trees)) (grove-more room left parent at rest some ∙ ap (λ r. and_then r (first_then grove room left parent at rest)) is
+            ∙ ap (λ r. and_then r (λ g. and_then (grove room g.left parent (stated_end h) (behind at h rest)) (in_front g.tree))) inner)
+            ∙ move n (grove room now parent (stated_end h) (behind at h rest));
+      }

@@ -3,3 +3,5 @@ pub mod Stored
 pub mod NormalForm
 pub mod Reading
 pub mod Changes
+pub mod Fits
+pub mod Standing

@@ -1,0 +1,12 @@
+-- Where an Element of a master stands that is read whole.
+use Rattle.std.specs.Prelude.{◌≡◌, ◌<◌, ◌≤◌, ℕ, false}
+use Rattle.matroska_format.specs.declared.element.Header.{Header}
+use Rattle.matroska_format.specs.Element.{is_unknown, stated_end}
+
+-- An Element of a master that is read whole stands where it was looked for; its size is known; and it
+-- doesn't pass the end.
+pub record Fits (p e : ℕ) (h : Header) : Type 0 where
+  pub offset : h.offset ≡ p
+  pub later : p < h.body
+  pub known : is_unknown h.size ≡ false
+  pub ends : stated_end h ≤ e

@@ -1,0 +1,57 @@
+-- Trees that can be written and read again.
+use Rattle.std.specs.Prelude.{◌≡◌, ⊤, ℕ, ◌+◌, Bool, true, false, if◌then◌else◌, List, length}
+use Rattle.ebml_format.specs.Number.{is_id}
+use Rattle.matroska_format.specs.Value.{is_known_value}
+use Rattle.tree_format.specs.Node.{Node, Nodes, leaf, master, none, node, id_of, depth, deepest}
+use Rattle.tree_format.specs.NormalForm.{is_filler, header_octets, octets, octets_all}
+use Rattle.tree_format.specs.Reading.{is_master_in}
+
+-- A leaf stands under a parent: its ID is a valid one; the table has no master of that ID there; and its
+-- octets are a value of its kind.
+pub record IsLeafIn (parent id : ℕ) (body : List ℕ) : Type 0 where
+  pub id_stands : is_id id ≡ true
+  pub no_master : is_master_in parent id ≡ false
+  pub value : is_known_value parent id body ≡ true
+
+-- An Element stands under a parent: a leaf as the table allows, a master where the table has it, and so
+-- what is inside.
+abbrev mutual
+  pub StandsIn : ℕ → Node → Type 0
+  StandsIn parent (leaf id at body) = IsLeafIn parent id body
+  StandsIn parent (master id at kids) = (is_master_in parent id ≡ true) × AllStandIn id kids
+
+  pub AllStandIn : ℕ → Nodes → Type 0
+  AllStandIn parent none = ⊤
+  AllStandIn parent (node n ns) = StandsIn parent n × AllStandIn parent ns
+
+-- What is inside an Element stands there.
+abbrev pub IsSound : Node → Type 0
+IsSound (leaf id at body) = ⊤
+IsSound (master id at kids) = AllStandIn id kids
+
+-- ---- what is read again
+
+-- how many Elements are written
+abbrev mutual
+  pub kept : Node → ℕ
+  kept (leaf id at body) = 1
+  kept (master id at kids) = kept_all kids + 1
+
+  pub kept_all : Nodes → ℕ
+  kept_all none = 0
+  kept_all (node n ns) = if is_filler (id_of n) then kept_all ns else kept n + kept_all ns
+
+-- An Element as it stands once it is written at a place: without what is left out, each at its own place.
+abbrev mutual
+  pub placed : ℕ → Node → Node
+  placed p (leaf id at body) = leaf id p body
+  placed p (master id at kids) = master id p (placed_all (p + length (header_octets id (length (octets_all kids)))) kids)
+
+  pub placed_all : ℕ → Nodes → Nodes
+  placed_all p none = none
+  placed_all p (node n ns) = if is_filler (id_of n) then placed_all p ns else node (placed p n) (placed_all (p + length (octets n)) ns)
+
+-- a master whose header and whose body stand at these places
+abbrev pub placed_in : ℕ → ℕ → Node → Node
+placed_in offset base (leaf id at body) = leaf id offset body
+placed_in offset base (master id at kids) = master id offset (placed_all base kids)
