@@ -1,0 +1,103 @@
+-- A tree's fields, seen as the tree of the definitions.
+use Rattle.std.proofs.Common.{◌≡◌, ◌≤◌, ◌<◌, ℕ, ◌+◌, max, List, [], ◌∷◌, ◌++◌, length, flat_map, Bool, true, false, refl, sym, ap, ap₂, append_assoc, ◌∙◌, arith}
+use Rattle.tree_format.specs.Node.{Node, Nodes, leaf, master, nodes_of, list_of, id_of, children, with_children, body_of, depth, depth_all, deepest, IsMaster, is_leaf, HasRoom}
+use Rattle.tree_format.specs.NormalForm.{octets, octets_all, content, header_octets, kept_octets, is_filler, longest}
+use Rattle.tree_format.specs.Changes.{without, with_child}
+use Rattle.tree_format.proofs.NodeLemmas.{list-nodes, octets_all-flat}
+use Rattle.tree_format.proofs.ChangeLemmas.{long-without, long-with_child, long-push, deep-without, deep-with_child, deep-push}
+use Rattle.tree_format.proofs.WrittenLemmas.{length-kept_octets, length-filler, length-header_octets}
+use Rattle.ebml_tree.specs.declared.tree.content.Content.{Content}
+use Rattle.ebml_tree.specs.declared.tree.content.Content.TheVariants.{Body, Children}
+use Rattle.ebml_tree.specs.View.{node_of, kids_of, content_of, depth_of, octets_in, IsKids, HasKids, IsSame}
+
+-- ---- what the fields show
+
+pub view_kids : (c : Content) (id at : ℕ) (n : Node) → node_of id at c ≡ n → children n ≡ kids_of c
+view_kids (Body b) id at n is = rw (← is) refl
+view_kids (Children v) id at n is = rw (← is) (list-nodes v.items)
+
+pub view_body : (c : Content) (id at : ℕ) (n : Node) → node_of id at c ≡ n → body_of n ≡ octets_in c
+view_body (Body b) id at n is = rw (← is) refl
+view_body (Children v) id at n is = rw (← is) refl
+
+pub view_id : (c : Content) (id at : ℕ) (n : Node) → node_of id at c ≡ n → id_of n ≡ id
+view_id (Body b) id at n is = rw (← is) refl
+view_id (Children v) id at n is = rw (← is) refl
+
+pub view_depth : (c : Content) (id at : ℕ) (n : Node) → node_of id at c ≡ n → depth n ≡ depth_of c
+view_depth (Body b) id at n is = rw (← is) refl
+view_depth (Children v) id at n is = rw (← is) refl
+
+pub view_octets : (c : Content) (id at : ℕ) (n : Node) → node_of id at c ≡ n → octets n ≡ kept_octets id (content_of c)
+view_octets (Body b) id at n is = rw (← is) refl
+view_octets (Children v) id at n is = rw (← is) (ap (kept_octets id) (octets_all-flat v.items))
+
+pub master_kids : (c : Content) (id at : ℕ) (n : Node) → node_of id at c ≡ n → IsMaster n → IsKids c
+master_kids (Body b) id at n is kids = let never : true ≡ false = ap is_leaf is ∙ kids in absurd (cc)
+master_kids (Children v) id at n is kids = tt
+
+-- ---- what they show after a change
+
+pub view_has : (c d : Content) (id at : ℕ) (n : Node) (ns : List Node) → node_of id at c ≡ n → IsMaster n → HasKids d ns → node_of id at d ≡ with_children n ns
+view_has c (Body b) id at n ns is kids has = absurd has
+view_has (Body b) (Children w) id at n ns is kids has = absurd (master_kids (Body b) id at n is kids)
+view_has (Children v) (Children w) id at n ns is kids has = rw (← is, has) refl
+
+pub kept : (c d : Content) (id at : ℕ) (n : Node) → node_of id at c ≡ n → IsMaster n → HasKids d (kids_of c) → node_of id at d ≡ n
+kept c (Body b) id at n is kids has = absurd has
+kept (Body b) (Children w) id at n is kids has = absurd (master_kids (Body b) id at n is kids)
+kept (Children v) (Children w) id at n is kids has = rw has is
+
+pub content_has : (d : Content) (ns : List Node) → HasKids d ns → content_of d ≡ flat_map octets ns
+content_has (Body b) ns has = absurd has
+content_has (Children w) ns has = ap (flat_map octets) has
+
+pub kids_has : (d : Content) (ns : List Node) → HasKids d ns → kids_of d ≡ ns
+kids_has (Body b) ns has = absurd has
+kids_has (Children w) ns has = has
+
+pub depth_has : (d : Content) (ns : List Node) → HasKids d ns → depth_of d ≡ depth_all (nodes_of ns) + 1
+depth_has (Body b) ns has = absurd has
+depth_has (Children w) ns has = ap (λ l. depth_all (nodes_of l) + 1) has
+
+pub content_kids : (c : Content) → IsKids c → content_of c ≡ flat_map octets (kids_of c)
+content_kids (Body b) kids = absurd kids
+content_kids (Children v) kids = refl
+
+pub depth_kids : (c : Content) → IsKids c → depth_of c ≡ depth_all (nodes_of (kids_of c)) + 1
+depth_kids (Body b) kids = absurd kids
+depth_kids (Children v) kids = refl
+
+pub same_node : (c d : Content) (id at : ℕ) → IsSame c d → node_of id at d ≡ node_of id at c
+same_node (Body b) (Body d) id at same = ap (leaf id at) (sym same)
+same_node (Body b) (Children w) id at same = absurd same
+same_node (Children v) (Body b) id at same = absurd same
+same_node (Children v) (Children w) id at same = ap (λ l. master id at (nodes_of l)) (sym same)
+
+pub same_content : (c d : Content) → IsSame c d → content_of d ≡ content_of c
+same_content (Body b) (Body d) same = sym same
+same_content (Body b) (Children w) same = absurd same
+same_content (Children v) (Body b) same = absurd same
+same_content (Children v) (Children w) same = ap (flat_map octets) (sym same)
+
+pub same_depth : (c d : Content) → IsSame c d → depth_of d ≡ depth_of c
+same_depth (Body b) (Body d) same = refl
+same_depth (Body b) (Children w) same = absurd same
+same_depth (Children v) (Body b) same = absurd same
+same_depth (Children v) (Children w) same = ap (λ l. depth_all (nodes_of l) + 1) (sym same)
+
+-- a header and what is behind it are the whole of an Element that isn't left out
+pub written-whole : (c : Content) (id at : ℕ) (n : Node) (before start out : List ℕ) (written : ℕ) (trees : List Node) → node_of id at c ≡ n → is_filler id ≡ false → content_of c ≡ flat_map octets trees → written ≡ length (content_of c)
+    → start ≡ before ++ header_octets id written → out ≡ start ++ flat_map octets trees → out ≡ before ++ octets n
+written-whole c id at n before start out written trees is keeps inside exact header behind =
+    let element : octets n ≡ header_octets id (length (content_of c)) ++ content_of c = view_octets c id at n is ∙ rw keeps refl in
+    behind ∙ ap (λ l. l ++ flat_map octets trees) header ∙ append_assoc before (header_octets id written) (flat_map octets trees)
+    ∙ ap (λ l. before ++ l) (ap₂ (λ k l. header_octets id k ++ l) exact (sym inside) ∙ sym element)
+
+pub ruleset lengths = (length-kept_octets, length-filler, length-header_octets)
+
+pub ruleset changes = (view_kids, view_body, master_kids, view_has, kept, content_has, kids_has, depth_has, content_kids, depth_kids, long-without, long-with_child, long-push, deep-without, deep-with_child, deep-push)
+
+pub ruleset copies = (same_node, same_content, same_depth)
+
+pub ruleset written = (view_octets, view_id, view_depth)

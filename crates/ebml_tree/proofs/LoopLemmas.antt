@@ -1,0 +1,44 @@
+-- Trees, one after the other.
+use Rattle.std.proofs.Common.{◌≡◌, ◌≤◌, ◌<◌, ℕ, zero, suc, ◌+◌, ◌-◌, max, List, [], ◌∷◌, ◌++◌, length, flat_map, filter, cond, Bool, true, false, not, ◌==◌, take, drop, get_or, slice_get, refl, sym, ap, ◌∙◌, arith, add-one, length-append, append_assoc}
+use Rattle.std.proofs.Math.Seq.{drop-cons}
+use Rattle.tree_format.specs.Node.{Node, id_of, nodes_of, depth, depth_all}
+use Rattle.tree_format.specs.NormalForm.{octets}
+
+-- what is left of a list begins with its next item
+next-is : (i : ℕ) (ns : List Node) (n : Node) → i < length ns → n ≡ get_or ns i n → drop i ns ≡ n ∷ drop (i + 1) ns
+next-is i ns n inside is = drop-cons ns i n inside ∙ rw (add-one, ← is) refl
+
+pub octets-next : (i : ℕ) (ns : List Node) (n : Node) → i < length ns → n ≡ get_or ns i n → flat_map octets (drop i ns) ≡ octets n ++ flat_map octets (drop (i + 1) ns)
+octets-next i ns n inside is = ap (flat_map octets) (next-is i ns n inside is)
+
+pub long-next : (i : ℕ) (ns : List Node) (n : Node) → i < length ns → n ≡ get_or ns i n → length (flat_map octets (drop i ns)) ≡ length (octets n) + length (flat_map octets (drop (i + 1) ns))
+long-next i ns n inside is = ap length (octets-next i ns n inside is) ∙ length-append (octets n) (flat_map octets (drop (i + 1) ns))
+
+pub deep-next : (i : ℕ) (ns : List Node) (n : Node) → i < length ns → n ≡ get_or ns i n → depth_all (nodes_of (drop i ns)) ≡ max (depth n) (depth_all (nodes_of (drop (i + 1) ns)))
+deep-next i ns n inside is = ap (λ l. depth_all (nodes_of l)) (next-is i ns n inside is)
+
+-- nothing is left at the end
+none-left : (i : ℕ) (ns : List Node) → length ns ≤ i → drop i ns ≡ []
+none-left zero [] past = refl
+none-left zero (n ∷ ns) past = absurd (omega arith)
+none-left (suc i) [] past = refl
+none-left (suc i) (n ∷ ns) past = none-left i ns (omega arith)
+
+pub octets-none : (i : ℕ) (ns : List Node) → length ns ≤ i → flat_map octets (drop i ns) ≡ []
+octets-none i ns past = ap (flat_map octets) (none-left i ns past)
+
+pub long-none : (i : ℕ) (ns : List Node) → length ns ≤ i → length (flat_map octets (drop i ns)) ≡ 0
+long-none i ns past = ap length (octets-none i ns past)
+
+pub deep-none : (i : ℕ) (ns : List Node) → length ns ≤ i → depth_all (nodes_of (drop i ns)) ≡ 0
+deep-none i ns past = ap (λ l. depth_all (nodes_of l)) (none-left i ns past)
+
+pub ruleset rest = (octets-next, long-next, deep-next, octets-none, long-none, deep-none)
+
+-- the items of an ID that are left
+pub of_id-next : (id i : ℕ) (ns : List Node) (n : Node) → i < length ns → n ≡ get_or ns i n
+    → filter (λ m. id_of m == id) (drop i ns) ≡ cond (id_of n == id) (n ∷ filter (λ m. id_of m == id) (drop (i + 1) ns)) (filter (λ m. id_of m == id) (drop (i + 1) ns))
+of_id-next id i ns n inside is = ap (filter (λ m. id_of m == id)) (next-is i ns n inside is)
+
+pub of_id-none : (id i : ℕ) (ns : List Node) → length ns ≤ i → filter (λ m. id_of m == id) (drop i ns) ≡ []
+of_id-none id i ns past = ap (filter (λ m. id_of m == id)) (none-left i ns past)

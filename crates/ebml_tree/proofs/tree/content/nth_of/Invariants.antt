@@ -1,0 +1,9 @@
+-- The place among what is left is that among all.
+use Rattle.std.proofs.Common.{◌≡◌, ◌≤◌, ◌+◌, ◌-◌, ◌++◌, ◌==◌, max, length, flat_map, filter, slice_get, take, drop}
+use Rattle.tree_format.specs.Node.{id_of, nodes_of, depth_all}
+use Rattle.tree_format.specs.NormalForm.{octets, longest}
+use Rattle.tree_format.specs.Changes.{without}
+use Rattle.ebml_tree.proofs.tree.content.nth_of.Given as goal
+
+abbrev pub invariant-loop-tree : goal.invariant-loop-tree
+invariant-loop-tree l = slice_get (filter (λ n. id_of n == l.id) (drop l.tree-index l.trees)) l.before ≡ slice_get (filter (λ n. id_of n == l.id) l.trees) l.k

@@ -1,0 +1,9 @@
+-- The sum, with what is left, is the whole.
+use Rattle.std.proofs.Common.{◌≡◌, ◌≤◌, ◌+◌, ◌-◌, ◌++◌, ◌==◌, max, length, flat_map, filter, slice_get, take, drop}
+use Rattle.tree_format.specs.Node.{id_of, nodes_of, depth_all}
+use Rattle.tree_format.specs.NormalForm.{octets, longest}
+use Rattle.tree_format.specs.Changes.{without}
+use Rattle.ebml_tree.proofs.tree.content.written_together.Given as goal
+
+abbrev pub invariant-loop-tree : goal.invariant-loop-tree
+invariant-loop-tree l = l.sum + length (flat_map octets (drop l.tree-index l.trees)) ≡ length (flat_map octets l.trees)

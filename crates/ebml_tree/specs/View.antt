@@ -1,0 +1,55 @@
+-- What a tree's fields are, as the tree of the definitions.
+use Rattle.std.specs.Prelude.{◌≡◌, ◌≤◌, ℕ, ◌+◌, [], true, List, length, flat_map}
+use Rattle.ebml_format.specs.Number.{is_written_id}
+use Rattle.tree_format.specs.Node.{Node, leaf, master, nodes_of, depth_all, deepest}
+use Rattle.tree_format.specs.NormalForm.{octets, longest}
+use Rattle.ebml_tree.specs.declared.tree.content.Content.{Content}
+use Rattle.ebml_tree.specs.declared.tree.content.Content.TheVariants.{Body, Children}
+
+abbrev pub node_of : ℕ → ℕ → Content → Node
+node_of id at (Body body) = leaf id at body.items
+node_of id at (Children trees) = master id at (nodes_of trees.items)
+
+abbrev pub kids_of : Content → List Node
+kids_of (Body body) = []
+kids_of (Children trees) = trees.items
+
+-- the octets behind the header in the normal form
+abbrev pub content_of : Content → List ℕ
+content_of (Body body) = body.items
+content_of (Children trees) = flat_map octets trees.items
+
+-- how many masters stand inside one another
+abbrev pub depth_of : Content → ℕ
+depth_of (Body body) = 0
+depth_of (Children trees) = depth_all (nodes_of trees.items) + 1
+
+-- The ID can be written; the number of octets behind the header and the depth are known, and keep their limits.
+pub record Measured (id written' depth' : ℕ) (c : Content) : Type 0 where
+  pub id_stands : is_written_id id ≡ true
+  pub exact : written' ≡ length (content_of c)
+  pub most : written' ≤ longest
+  pub deep : depth' ≡ depth_of c
+  pub not_too_deep : depth' ≤ deepest
+
+-- an Element's inside is children, or may have some
+abbrev pub IsKids : Content → Type 0
+IsKids (Body body) = ⊥
+IsKids (Children trees) = Unit {0}
+
+-- it has just these children
+abbrev pub HasKids : Content → List Node → Type 0
+HasKids (Body body) ns = ⊥
+HasKids (Children trees) ns = trees.items ≡ ns
+
+-- a leaf's octets
+abbrev pub octets_in : Content → List ℕ
+octets_in (Body body) = body.items
+octets_in (Children trees) = []
+
+-- two insides are the same, as they are seen
+abbrev pub IsSame : Content → Content → Type 0
+IsSame (Body a) (Body b) = a.items ≡ b.items
+IsSame (Body a) (Children v) = ⊥
+IsSame (Children v) (Body b) = ⊥
+IsSame (Children v) (Children w) = v.items ≡ w.items

@@ -1,0 +1,43 @@
+//! Why a master isn't read as a tree.
+
+ghost use Rattle.std.specs.Prelude.{◌≡◌};
+ghost use Rattle.ebml_tree.specs.declared.end.TreeEnd.TheVariants as tree_end;
+
+use mkv_values::Damage;
+use std::alloc::{AllocError, AllocFailed};
+use thiserror::Error;
+
+/// Why a master isn't read as a tree.
+#[derive(Debug, Drop, Error)]
+pub enum TreeEnd {
+    /// The master isn't made of valid Elements, or passes a limit.
+    #[error("Damage")]
+    Damage(Damage),
+    /// There is no memory.
+    #[error("Memory")]
+    Memory,
+}
+
+impl From<Damage> for TreeEnd {
+    ghost from_gives = { λ damage end. end ≡ tree_end.Damage damage };
+
+    fn from(damage: Damage) -> TreeEnd {
+        TreeEnd::Damage(damage)
+    }
+}
+
+impl From<AllocError> for TreeEnd {
+    ghost from_gives = { λ _ end. end ≡ tree_end.Memory };
+
+    fn from(_error: AllocError) -> TreeEnd {
+        TreeEnd::Memory
+    }
+}
+
+impl<T: Drop> From<AllocFailed<T>> for TreeEnd {
+    ghost from_gives = { λ _ end. end ≡ tree_end.Memory };
+
+    fn from(_failed: AllocFailed<T>) -> TreeEnd {
+        TreeEnd::Memory
+    }
+}

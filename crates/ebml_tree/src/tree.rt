@@ -1,0 +1,347 @@
+//! An Element that is held whole, with what is inside.
+
+ghost use Rattle.std.specs.Prelude.{◌≡◌, ◌≤◌, ◌<◌, ◌+◌, ◌^◌, ◌==◌, ◌++◌, ◌∷◌, [], ◌↔◌, ℕ, List, Bool, true, false, length, find, filter, take, slice_get, OnOk, OnErr, IfOk, IfErr, IfSome, IsTrue, Some, None};
+ghost use Rattle.std.specs.Option.{option_copied, option_map};
+
+use crate::end::TreeEnd;
+use ebml_numbers::{read_int, read_uint};
+use mkv_schema::uint_default;
+use mkv_values::Bytes;
+use std::alloc::{AllocError, Global};
+use std::marker::Model;
+use std::mem;
+
+mod content;
+mod reading;
+mod writing;
+
+use content::{Content, depth_around, nth_of, written_together, written_within};
+use reading::{before_zero, too_many, trees_in};
+use writing::{LONGEST, element_len, is_filler, write_header};
+
+/// The most masters that stand inside one another.
+pub const DEEPEST: u8 = 32;
+
+/// An Element that is held whole: a leaf with its octets, or a master with its children. No more than 32
+/// masters stand inside one another.
+#[cycle(tree)]
+#[derive(Drop)]
+pub struct Tree {
+    id: u32,
+    offset: u64,
+    // octets that are written behind the header
+    written: u64,
+    depth: u8,
+    content: Content,
+}
+
+impl Model for Tree {
+    ghost use Rattle.std.specs.Prelude.{ℕ};
+    ghost use Rattle.tree_format.specs.Node.{Node, count};
+    ghost use Rattle.tree_format.specs.Stored.{coded_node};
+
+    ghost Value = { Node };
+
+    ghost coded = { coded_node };
+
+    ghost use Rattle.ebml_tree.specs.View.{node_of, Measured};
+
+    ghost view = { λ t. node_of t.id t.offset t.content };
+
+    ghost invariant = { λ t. Measured t.id t.written t.depth t.content };
+
+    ghost size = { count };
+
+    ghost use Rattle.ebml_tree.specs.Falls.{falls};
+
+    ghost size_decreases = { λ t h. falls t.id t.offset t.content };
+}
+
+impl Tree {
+    ghost use Rattle.tree_format.specs.Node.{Node, id_of, offset_of, children, with_children, leaf, master, nodes_of, body_of, depth, depth_all, deepest, HasRoom, IsMaster};
+    ghost use Rattle.tree_format.specs.NormalForm.{octets, longest};
+    ghost use Rattle.tree_format.specs.Changes.{with_child, without};
+    ghost use Rattle.tree_format.specs.Reading.{tree_of};
+    ghost use Rattle.ebml_format.specs.Number.{is_id, is_written_id, int_of};
+    ghost use Rattle.mkv_schema.specs.Schema.{is_master};
+    ghost use Rattle.matroska_format.specs.Value.{uint_value, text_of};
+    ghost use Rattle.ebml_tree.specs.Outcome.{ReadsTree};
+
+    /// The tree of a master, read from its body (RFC 8794, section 7.7, Master Element).
+    ///
+    /// The header stands at `offset`, the body at `base`. The master and what is inside, Void and CRC-32
+    /// too, may be `nodes` Elements, and 32 masters may stand inside one another. A damage is the first
+    /// in the order in which the Elements stand.
+    #[tactic(auto, using(crate::proofs::EndLemmas::masters))]
+    pub fn parse(
+        alloc: Global,
+        id: u32,
+        offset: u64,
+        body: &[u8],
+        base: u64,
+        nodes: u32,
+    ) -> Result<Tree, TreeEnd>
+        requires master { IsTrue (is_master id) }
+        requires places { base + length body.now ≤ 2 ^ 48 }
+        ensures { ReadsTree result (tree_of id offset body.now base nodes) }
+    {
+        if nodes == 0 {
+            return Err(too_many(id, offset));
+        }
+        let mut left = nodes - 1;
+        let trees = trees_in(alloc, DEEPEST - 1, &mut left, id, base, body)?;
+        Tree::of_children(id, offset, trees)
+    }
+
+    /// A leaf with these octets, at the place 0.
+    pub fn leaf(alloc: Global, id: u32, bytes: &[u8]) -> Result<Tree, AllocError>
+        requires { IsTrue (is_id id) }
+        ensures { IfOk result (λ tree. tree ≡ leaf id 0 bytes.now) }
+    {
+        Tree::of_body(alloc, id, 0, bytes)
+    }
+
+    /// The same tree again, with the same places.
+    #[tactic(auto, using(crate::proofs::ContentLemmas::copies))]
+    pub fn copy(&self, alloc: Global) -> Result<Tree, AllocError>
+        ensures { IfOk result (λ copy. copy ≡ self.now) }
+    {
+        let content = match &self.content {
+            Content::Body(body) => Content::Body(body.as_slice().to_vec(alloc)?),
+            Content::Children(trees) => {
+                let mut copies = Vec::new(alloc);
+                for tree in trees {
+                    copies.push(tree.copy(alloc)?)?;
+                }
+                Content::Children(copies)
+            }
+        };
+        Ok(Tree {
+            id: self.id,
+            offset: self.offset,
+            written: self.written,
+            depth: self.depth,
+            content,
+        })
+    }
+
+    /// The Element's ID, with its marker.
+    pub fn id(&self) -> u32
+        ensures { result ≡ id_of self.now }
+    {
+        self.id
+    }
+
+    /// The place of the Element's header, in octets from the start of the file; 0 where the Element was made.
+    pub fn offset(&self) -> u64
+        ensures { result ≡ offset_of self.now }
+    {
+        self.offset
+    }
+
+    /// How many masters stand inside one another, this one counted; 0 of a leaf.
+    pub fn depth(&self) -> u8
+        ensures exact { result ≡ depth self.now }
+        ensures most { result ≤ deepest }
+    {
+        self.depth
+    }
+
+    /// The children; a leaf has none.
+    #[tactic(auto, using(crate::proofs::ContentLemmas::changes))]
+    pub fn children(&self) -> &[Tree]
+        ensures { result.now ≡ children self.now }
+    {
+        self.content.kids()
+    }
+
+    /// The first child of an ID.
+    pub fn child(&self, id: u32) -> Option<&Tree>
+        ensures { option_copied result ≡ find (λ n. id_of n == id) (children self.now) }
+    {
+        self.children().iter().find(|tree| tree.id() == id)
+    }
+
+    /// The child of an ID, counted from 0 among those of that ID.
+    pub fn nth(&self, id: u32, k: usize) -> Option<&Tree>
+        ensures { option_copied result ≡ slice_get (filter (λ n. id_of n == id) (children self.now)) k }
+    {
+        nth_of(self.children(), id, k)
+    }
+
+    /// The child at a place, counted from 0.
+    pub fn at(&self, k: usize) -> Option<&Tree>
+        ensures { option_copied result ≡ slice_get (children self.now) k }
+    {
+        self.children().get(k)
+    }
+
+    /// A leaf's octets; a master has none.
+    #[tactic(auto, using(crate::proofs::ContentLemmas::changes))]
+    pub fn body(&self) -> &[u8]
+        ensures { result.now ≡ body_of self.now }
+    {
+        self.content.body()
+    }
+
+    /// The value of an unsigned integer (RFC 8794, section 7.2, Unsigned Integer Element): where it is
+    /// empty, the table's default, or 0.
+    pub fn uint(&self) -> u64
+        requires { length (body_of self.now) ≤ 8 }
+        ensures { result ≡ uint_value (id_of self.now) (body_of self.now) }
+    {
+        let body = self.body();
+        if body.is_empty() {
+            uint_default(self.id()).unwrap_or(0)
+        } else {
+            read_uint(body)
+        }
+    }
+
+    /// The value of a signed integer, 0 where it is empty (RFC 8794, section 7.1, Signed Integer Element).
+    pub fn int(&self) -> i64
+        requires { length (body_of self.now) ≤ 8 }
+        ensures { result ≡ int_of (body_of self.now) }
+    {
+        read_int(self.body())
+    }
+
+    /// A text's octets, up to its first zero octet (RFC 8794, sections 7.4, String Element, and 7.5, UTF-8
+    /// Element).
+    pub fn text(&self) -> &[u8]
+        ensures { result.now ≡ text_of (body_of self.now) }
+    {
+        before_zero(self.body())
+    }
+
+    /// Puts a child in the place of the first of its ID, and removes the others of that ID; where there is
+    /// none, it comes last. On a refusal the child is dropped.
+    #[tactic(auto, using(crate::proofs::ContentLemmas::changes))]
+    pub fn set(&mut self, child: Tree) -> Result<(), AllocError>
+        requires master { IsMaster self.old }
+        requires room { HasRoom child }
+        ensures ok { OnOk result (self.new ≡ with_children self.old (with_child child (children self.old))) }
+        ensures err { OnErr result (self.new ≡ self.old) }
+    {
+        if self.written + child.written_len() > LONGEST {
+            return Err(AllocError);
+        }
+        self.content.set(child)?;
+        self.written = written_together(self.content.kids());
+        self.depth = depth_around(self.content.kids());
+        Ok(())
+    }
+
+    /// Adds a child behind the others. On a refusal it is dropped.
+    #[tactic(auto, using(crate::proofs::ContentLemmas::changes))]
+    pub fn push(&mut self, child: Tree) -> Result<(), AllocError>
+        requires master { IsMaster self.old }
+        requires room { HasRoom child }
+        ensures ok { OnOk result (self.new ≡ with_children self.old (children self.old ++ child ∷ [])) }
+        ensures err { OnErr result (self.new ≡ self.old) }
+    {
+        let written = self.written + child.written_len();
+        let depth = self.depth.max(child.depth + 1);
+        if written > LONGEST {
+            return Err(AllocError);
+        }
+        self.content.push(child)?;
+        self.written = written;
+        self.depth = depth;
+        Ok(())
+    }
+
+    /// Removes every child of an ID. Takes no memory.
+    #[tactic(auto, using(crate::proofs::ContentLemmas::changes))]
+    pub fn remove(&mut self, id: u32)
+        requires { IsMaster self.old }
+        ensures { self.new ≡ with_children self.old (without id (children self.old)) }
+    {
+        self.content.remove(id);
+        self.written = written_together(self.content.kids());
+        self.depth = depth_around(self.content.kids());
+    }
+
+    /// How many octets the normal form has.
+    #[tactic(auto, using(crate::proofs::ContentLemmas::written))]
+    pub fn written_len(&self) -> u64
+        ensures exact { result ≡ length (octets self.now) }
+        ensures most { result < 2 ^ 57 }
+    {
+        element_len(self.id, self.written)
+    }
+
+    /// Adds the normal form: headers as short as they can be, Void and CRC-32 left out at every depth,
+    /// and other octets as they are. On a refusal nothing is added.
+    pub fn put(&self, out: &mut Bytes) -> Result<(), AllocError>
+        ensures ok { OnOk result (out.new ≡ out.old ++ octets self.now) }
+        ensures err { OnErr result (out.new ≡ out.old) }
+    {
+        let mut octets = mem::replace(out, Bytes::new(self.content.alloc())).into_vec();
+        let before = octets.len();
+        let done = self.write(&mut octets);
+        if done.is_err() {
+            octets.truncate(before);
+        }
+        *out = Bytes::from_vec(octets);
+        done
+    }
+
+    // Adds the normal form; on a refusal, what was there before still stands in front.
+    #[tactic(auto, using(crate::proofs::ContentLemmas::written))]
+    fn write(&self, out: &mut Vec<u8>) -> Result<(), AllocError>
+        ensures ok { OnOk result (out.new.items ≡ out.old.items ++ octets self.now) }
+        ensures err { OnErr result (take (length out.old.items) out.new.items ≡ out.old.items) }
+    {
+        if is_filler(self.id) {
+            return Ok(());
+        }
+        write_header(self.id, self.written, out)?;
+        match &self.content {
+            Content::Body(body) => out.extend_from_slice(body.as_slice()),
+            Content::Children(trees) => {
+                for tree in trees {
+                    tree.write(out)?;
+                }
+                Ok(())
+            }
+        }
+    }
+
+    // A leaf at a place.
+    fn of_body(alloc: Global, id: u32, offset: u64, bytes: &[u8]) -> Result<Tree, AllocError>
+        requires { IsTrue (is_written_id id) }
+        ensures { IfOk result (λ tree. tree ≡ leaf id offset bytes.now) }
+    {
+        let written = bytes.len() as u64;
+        if written > LONGEST {
+            return Err(AllocError);
+        }
+        Ok(Tree {
+            id,
+            offset,
+            written,
+            depth: 0,
+            content: Content::Body(bytes.to_vec(alloc)?),
+        })
+    }
+
+    // A master at a place.
+    fn of_children(id: u32, offset: u64, trees: Vec<Tree>) -> Result<Tree, TreeEnd>
+        requires id { IsTrue (is_written_id id) }
+        requires room { depth_all (nodes_of trees.items) < deepest }
+        ensures ok { IfOk result (λ tree. tree ≡ master id offset (nodes_of trees.items)) }
+        ensures err { IfErr result (λ end. end ≡ TreeEnd.Memory) }
+    {
+        let Some(written) = written_within(trees.as_slice()) else {
+            return Err(TreeEnd::Memory);
+        };
+        Ok(Tree {
+            id,
+            offset,
+            written,
+            depth: depth_around(trees.as_slice()),
+            content: Content::Children(trees),
+        })
+    }
+}

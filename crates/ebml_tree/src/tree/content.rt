@@ -1,0 +1,194 @@
+//! What is inside an Element.
+
+ghost use Rattle.std.specs.Prelude.{◌≡◌, ◌≤◌, ◌<◌, ◌+◌, ◌==◌, ◌++◌, ◌∷◌, [], not, ℕ, List, length, slice_get, flat_map, filter, take, drop, position, OnOk, OnErr, MatchOption, IsTrue, Some};
+ghost use Rattle.std.specs.Option.{option_copied};
+ghost use Rattle.tree_format.specs.Node.{id_of, nodes_of, depth_all, deepest};
+ghost use Rattle.tree_format.specs.NormalForm.{octets, longest};
+ghost use Rattle.tree_format.specs.Changes.{without, with_child, placed_at};
+
+use crate::tree::Tree;
+use crate::tree::writing::LONGEST;
+use std::alloc::{AllocError, Global};
+
+// A leaf's octets, or a master's children.
+#[cycle(tree)]
+#[derive(Drop)]
+pub(super) enum Content {
+    Body(Vec<u8>),
+    Children(Vec<Tree>),
+}
+
+impl Content {
+    ghost use Rattle.ebml_tree.specs.View.{kids_of, octets_in, IsKids, HasKids, IsSame};
+
+    pub(super) fn kids(&self) -> &[Tree]
+        ensures { result.now ≡ kids_of self.now }
+    {
+        match self {
+            Content::Body(_) => &[],
+            Content::Children(trees) => trees.as_slice(),
+        }
+    }
+
+    pub(super) fn body(&self) -> &[u8]
+        ensures { result.now ≡ octets_in self.now }
+    {
+        match self {
+            Content::Body(body) => body.as_slice(),
+            Content::Children(_) => &[],
+        }
+    }
+
+    pub(super) fn alloc(&self) -> Global {
+        match self {
+            Content::Body(body) => *body.allocator(),
+            Content::Children(trees) => *trees.allocator(),
+        }
+    }
+
+    pub(super) fn push(&mut self, child: Tree) -> Result<(), AllocError>
+        requires { IsKids self.old }
+        ensures ok { OnOk result (HasKids self.new (kids_of self.old ++ child ∷ [])) }
+        ensures err { OnErr result (HasKids self.new (kids_of self.old)) }
+    {
+        match self {
+            Content::Body(_) => unreachable!(),
+            Content::Children(trees) => {
+                trees.push(child)?;
+                Ok(())
+            }
+        }
+    }
+
+    pub(super) fn set(&mut self, child: Tree) -> Result<(), AllocError>
+        requires { IsKids self.old }
+        ensures ok { OnOk result (HasKids self.new (with_child child (kids_of self.old))) }
+        ensures err { OnErr result (HasKids self.new (kids_of self.old)) }
+    {
+        match self {
+            Content::Body(_) => unreachable!(),
+            Content::Children(trees) => set_in(trees, child),
+        }
+    }
+
+    pub(super) fn remove(&mut self, id: u32)
+        requires { IsKids self.old }
+        ensures { HasKids self.new (without id (kids_of self.old)) }
+    {
+        match self {
+            Content::Body(_) => unreachable!(),
+            Content::Children(trees) => remove_all(trees, id),
+        }
+    }
+}
+
+// Replaces the first of the child's ID and removes the others, or adds the child.
+fn set_in(trees: &mut Vec<Tree>, child: Tree) -> Result<(), AllocError>
+    ensures ok { OnOk result (trees.new.items ≡ with_child child trees.old.items) }
+    ensures err { OnErr result (trees.new.items ≡ trees.old.items) }
+{
+    match place_of(trees.as_slice(), child.id()) {
+        Some(k) => {
+            put_at(trees, k, child);
+            Ok(())
+        }
+        None => {
+            trees.push(child)?;
+            Ok(())
+        }
+    }
+}
+
+fn place_of(trees: &[Tree], id: u32) -> Option<usize>
+    ensures exact { result ≡ position (λ n. id_of n == id) trees.now }
+    ensures inside { MatchOption result (Unit {0}) (λ k. k < length trees.now) }
+{
+    trees.iter().position(|tree| tree.id() == id)
+}
+
+fn put_at(trees: &mut Vec<Tree>, k: usize, child: Tree)
+    requires { k < length trees.old.items }
+    ensures { trees.new.items ≡ placed_at child trees.old.items (Some k) }
+{
+    let id = child.id();
+    trees[k] = child;
+    remove_from(trees, k + 1, id);
+}
+
+// Removes those of an ID that stand at this place or behind it.
+fn remove_from(trees: &mut Vec<Tree>, from: usize, id: u32)
+    requires { from ≤ length trees.old.items }
+    ensures { trees.new.items ≡ take from trees.old.items ++ without id (drop from trees.old.items) }
+{
+    let mut k = from;
+    while k < trees.len() {
+        if trees[k].id() == id {
+            let _ = trees.remove(k);
+        } else {
+            k += 1;
+        }
+    }
+}
+
+fn remove_all(trees: &mut Vec<Tree>, id: u32)
+    ensures { trees.new.items ≡ without id trees.old.items }
+{
+    trees.retain(|tree| tree.id() != id);
+}
+
+// How many octets trees take that are written one behind the other.
+#[tactic(auto, using(crate::proofs::LoopLemmas::rest))]
+pub(super) fn written_together(trees: &[Tree]) -> u64
+    requires { length (flat_map octets trees.now) ≤ longest }
+    ensures { result ≡ length (flat_map octets trees.now) }
+{
+    let mut sum = 0;
+    for tree in trees {
+        sum += tree.written_len();
+    }
+    sum
+}
+
+// The same, None where they are too many for a body.
+#[tactic(auto, using(crate::proofs::LoopLemmas::rest))]
+pub(super) fn written_within(trees: &[Tree]) -> Option<u64>
+    ensures { MatchOption result (Unit {0}) (λ sum. (sum ≡ length (flat_map octets trees.now)) × (sum ≤ longest)) }
+{
+    let mut sum = 0;
+    for tree in trees {
+        sum += tree.written_len();
+        if sum > LONGEST {
+            return None;
+        }
+    }
+    Some(sum)
+}
+
+// How many masters stand inside one another where one is around these.
+#[tactic(auto, using(crate::proofs::LoopLemmas::rest))]
+pub(super) fn depth_around(trees: &[Tree]) -> u8
+    requires { depth_all (nodes_of trees.now) < deepest }
+    ensures { result ≡ depth_all (nodes_of trees.now) + 1 }
+{
+    let mut most = 0;
+    for tree in trees {
+        most = tree.depth().max(most);
+    }
+    most + 1
+}
+
+// The child of an ID, counted from 0 among those of that ID.
+pub(super) fn nth_of(trees: &[Tree], id: u32, k: usize) -> Option<&Tree>
+    ensures { option_copied result ≡ slice_get (filter (λ n. id_of n == id) trees.now) k }
+{
+    let mut before = k;
+    for tree in trees {
+        if tree.id() == id {
+            if before == 0 {
+                return Some(tree);
+            }
+            before -= 1;
+        }
+    }
+    None
+}

@@ -1,0 +1,175 @@
+//! A master's octets, read as trees.
+
+ghost use Rattle.std.specs.Prelude.{◌≡◌, ◌≤◌, ◌<◌, ◌+◌, ◌^◌, ◌==◌, not, ℕ, List, length, Ok, Err, IfOk, IfErr, IsTrue};
+ghost use Rattle.std.specs.List.{prefix_len};
+ghost use Rattle.ebml_format.specs.Number.{is_written_id};
+ghost use Rattle.mkv_schema.specs.Schema.{is_master, kind_of};
+ghost use Rattle.matroska_format.specs.Element.{stated_end, known, is_unknown};
+ghost use Rattle.matroska_format.specs.Value.{is_value, is_known_value, text_of};
+ghost use Rattle.tree_format.specs.Node.{Node, leaf, master, nodes_of, depth, depth_all, deepest};
+ghost use Rattle.tree_format.specs.Reading.{header_at, inside, behind, is_master_in, grown, grove};
+ghost use Rattle.tree_format.specs.Fits.{Fits};
+ghost use Rattle.ebml_tree.specs.Outcome.{Refuses};
+
+use crate::end::TreeEnd;
+use crate::tree::Tree;
+use element_headers::{Header, Parent, read_header};
+use mkv_schema::{ElementKind, is_master, may_stand, row};
+use ebml_numbers::Size;
+use mkv_values::{Damage, Kind};
+use std::alloc::Global;
+
+pub(super) fn too_many(id: u32, offset: u64) -> TreeEnd
+    ensures { result ≡ TreeEnd.Damage (record { kind = Kind.TooMany; id = id; offset = offset }) }
+{
+    TreeEnd::Damage(Damage {
+        kind: Kind::TooMany,
+        id,
+        offset,
+    })
+}
+
+// A text's octets, up to its first zero octet.
+pub(super) fn before_zero(body: &[u8]) -> &[u8]
+    ensures { result.now ≡ text_of body.now }
+{
+    &body[..text_len(body)]
+}
+
+fn text_len(body: &[u8]) -> usize
+    ensures value { result ≡ prefix_len (λ octet. not (octet == 0)) body.now }
+    ensures within { result ≤ length body.now }
+{
+    body.iter().take_while(|octet| **octet != 0).count()
+}
+
+// Whether the octets are a value of this kind.
+#[tactic(auto, using(crate::proofs::TextLemmas::texts))]
+fn is_value(kind: ElementKind, body: &[u8]) -> bool
+    ensures { result ≡ is_value kind body.now }
+{
+    match kind {
+        ElementKind::Master | ElementKind::Binary => true,
+        ElementKind::Uint | ElementKind::Int => body.len() <= 8,
+        ElementKind::Float => matches!(body.len(), 0 | 4 | 8),
+        ElementKind::Date => matches!(body.len(), 0 | 8),
+        ElementKind::Ascii | ElementKind::Utf8 => str::from_utf8(before_zero(body)).is_ok(),
+    }
+}
+
+// The same of an Element under a parent; one that the table doesn't have there may have any octets.
+fn is_known_value(parent: u32, id: u32, body: &[u8]) -> bool
+    ensures { result ≡ is_known_value parent id body.now }
+{
+    if !may_stand(id, parent) {
+        return true;
+    }
+    match row(id) {
+        Some(row) => is_value(row.kind, body),
+        None => true,
+    }
+}
+
+fn is_master_in(parent: u32, id: u32) -> bool
+    ensures { result ≡ is_master_in parent id }
+{
+    may_stand(id, parent) && is_master(id)
+}
+
+// An Element with its header and the octets of its body, as a tree.
+#[cycle(reading)]
+fn tree_in(
+    alloc: Global,
+    room: u8,
+    left: &mut u32,
+    parent: u32,
+    header: &Header,
+    body: &[u8],
+) -> Result<Tree, TreeEnd>
+    requires id { IsTrue (is_written_id header.now.id) }
+    requires places { header.now.body + length body.now ≤ 2 ^ 48 }
+    requires room { room < deepest }
+    ensures ok { IfOk result (λ tree. grown grove room left.old parent header.now body.now ≡ Ok (record { tree = tree; left = left.new })) }
+    ensures err { IfErr result (λ end. Refuses end (grown grove room left.old parent header.now body.now)) }
+    ensures shallow { IfOk result (λ tree. depth tree ≤ room) }
+{
+    if *left == 0 {
+        return Err(too_many(header.id, header.offset));
+    }
+    *left -= 1;
+    if is_master_in(parent, header.id) {
+        if room == 0 {
+            return Err(too_many(header.id, header.offset));
+        }
+        let trees = trees_in(alloc, room - 1, left, header.id, header.body, body)?;
+        return Tree::of_children(header.id, header.offset, trees);
+    }
+    if !is_known_value(parent, header.id, body) {
+        return Err(TreeEnd::Damage(Damage {
+            kind: Kind::BadValue,
+            id: header.id,
+            offset: header.offset,
+        }));
+    }
+    Ok(Tree::of_body(alloc, header.id, header.offset, body)?)
+}
+
+// The Elements of a body, as trees.
+#[cycle(reading)]
+pub(super) fn trees_in(
+    alloc: Global,
+    room: u8,
+    left: &mut u32,
+    parent: u32,
+    place: u64,
+    body: &[u8],
+) -> Result<Vec<Tree>, TreeEnd>
+    requires places { place + length body.now ≤ 2 ^ 48 }
+    requires room { room < deepest }
+    ensures ok { IfOk result (λ trees. grove room left.old parent place body.now ≡ Ok (record { trees = trees.items; left = left.new })) }
+    ensures err { IfErr result (λ end. Refuses end (grove room left.old parent place body.now)) }
+    ensures shallow { IfOk result (λ trees. depth_all (nodes_of trees.items) ≤ room) }
+{
+    let mut trees = Vec::new(alloc);
+    let mut at = place;
+    let mut rest = body;
+    while !rest.is_empty() {
+        let (header, size) = header_in(parent, at, rest)?;
+        let (inside, behind) = cut(rest, at, &header, size);
+        let tree = tree_in(alloc, room, left, parent, &header, inside)?;
+        trees.push(tree)?;
+        at = header.body + size;
+        rest = behind;
+    }
+    Ok(trees)
+}
+
+// The header of the Element that the octets begin, which are all that is left of a master, and the
+// octets of its body.
+fn header_in(parent: u32, at: u64, rest: &[u8]) -> Result<(Header, u64), Damage>
+    requires { at + length rest.now ≤ 2 ^ 48 }
+    ensures ok { IfOk result (λ found. header_at parent at rest.now ≡ Ok found.0) }
+    ensures err { IfErr result (λ damage. header_at parent at rest.now ≡ Err damage) }
+    ensures size { IfOk result (λ found. found.1 ≡ known found.0.size) }
+    ensures fits { IfOk result (λ found. Fits at (at + length rest.now) found.0) }
+    ensures id { IfOk result (λ found. IsTrue (is_written_id found.0.id)) }
+{
+    let end = at + rest.len() as u64;
+    let header = read_header(rest, Parent::Tree(parent), end, at, end)?;
+    match header.size {
+        Size::Known(size) => Ok((header, size)),
+        Size::Unknown => unreachable!(),
+    }
+}
+
+// The octets of an Element's body, and those behind the Element.
+fn cut<'a>(rest: &'a [u8], at: u64, header: &Header, size: u64) -> (&'a [u8], &'a [u8])
+    requires fits { Fits at (at + length rest.now) header.now }
+    requires size { size ≡ known header.now.size }
+    ensures inside { result.0.now ≡ inside at header.now rest.now }
+    ensures behind { result.1.now ≡ behind at header.now rest.now }
+{
+    let body = (header.body - at) as usize;
+    let end = body + size as usize;
+    (&rest[body..end], &rest[end..])
+}
