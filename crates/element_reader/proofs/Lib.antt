@@ -1,1 +1,2 @@
+pub mod CollectedLemmas
 pub mod SegmentLemmas

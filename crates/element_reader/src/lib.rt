@@ -2,6 +2,7 @@
 
 //! The outline of a Matroska file: its EBML header, its Segment, and the Elements of level 1.
 
+mod collected;
 mod segment;
 
 pub use element_headers::{Header, Parent};

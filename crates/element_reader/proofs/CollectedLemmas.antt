@@ -1,0 +1,103 @@
+-- What is kept of the Elements of level 1, one more at a time.
+use Rattle.std.proofs.Common.{◌≡◌, ℕ, ◌+◌, ◌==◌, nat_lt, Bool, true, false, not, ◌&&◌, ◌||◌, if◌then◌else◌, List, [], ◌∷◌, ◌++◌, length, length-append, Option, Some, None, refl, sym, ◌∙◌, ap, arith}
+use Rattle.std.specs.Option.{option_map, option_or, is_some}
+use Rattle.std.specs.List.{filter, sum_by}
+use Rattle.std.proofs.lemmas.List.Elements.{filter-append}
+use Rattle.std.proofs.lemmas.List.Folds.{find-append}
+use Rattle.std.proofs.lemmas.List.Sums.{sum_by-append, length-filter}
+use Rattle.mkv_schema.specs.declared.ids.TheConstants.{CLUSTER}
+use Rattle.mkv_values.specs.declared.damage.Damage.{Damage}
+use Rattle.matroska_format.specs.declared.element.Header.{Header}
+use Rattle.matroska_format.specs.Element.{known}
+use Rattle.matroska_format.specs.Value.{first_of}
+use Rattle.matroska_format.specs.Outline.{first_damage, where_it, is_described, described, others, passes_size, passes_count, MOST_OF_ONE, MOST_OF_ALL, MOST_ELEMENTS}
+use Rattle.element_reader.specs.Collected.{Keeps, others_of, first_cluster, octets_of}
+use Rattle.element_reader.specs.declared.collected.Collected.{Collected}
+
+-- one more Element that isn't a Cluster
+abbrev pub kept_of : Header → List Header
+kept_of h = if not (h.id == CLUSTER) then h ∷ [] else []
+
+-- one more Cluster
+abbrev pub cluster_of : Header → Option ℕ
+cluster_of h = if h.id == CLUSTER then Some h.offset else None
+
+pub described-more : (list : List Header) (h : Header) → described (list ++ h ∷ []) ≡ described list + octets_of h
+described-more list h =
+    ap (sum_by (λ k. known k.size)) (filter-append (λ k. is_described k.id) list (h ∷ []))
+    ∙ sum_by-append (λ k. known k.size) (filter (λ k. is_described k.id) list) (filter (λ k. is_described k.id) (h ∷ []))
+    ∙ ap (λ n. described list + n) (alone (is_described h.id))
+  where
+    alone : (test : Bool) → sum_by (λ (k : Header). known k.size) (if test then h ∷ [] else []) ≡ (if test then known h.size else 0)
+    alone true = grind arith
+    alone false = refl
+
+pub others-more : (list : List Header) (h : Header) → others_of (list ++ h ∷ []) ≡ others_of list ++ kept_of h
+others-more list h = filter-append (λ k. not (k.id == CLUSTER)) list (h ∷ [])
+
+pub first_cluster-more : (list : List Header) (h : Header) → first_cluster (list ++ h ∷ []) ≡ option_or (first_cluster list) (cluster_of h)
+first_cluster-more list h =
+    ap (option_map (λ k. k.offset)) (find-append (λ k. k.id == CLUSTER) list (h ∷ []))
+    ∙ by_first (first_of CLUSTER list) (h.id == CLUSTER)
+  where
+    by_first : (first : Option Header) (test : Bool) → option_map (λ (k : Header). k.offset) (option_or first (if test then Some h else None)) ≡ option_or (option_map (λ (k : Header). k.offset) first) (if test then Some h.offset else None)
+    by_first (Some k) test = refl
+    by_first None true = refl
+    by_first None false = refl
+
+-- one more Element is kept
+pub Keeps-more : (held : ℕ) (list : List Header) (before after : Collected) (h : Header) → Keeps held list before → after.others.items ≡ before.others.items ++ kept_of h → after.first_cluster ≡ option_or before.first_cluster (cluster_of h) → after.held ≡ before.held + octets_of h → Keeps held (list ++ h ∷ []) after
+Keeps-more held list before after h keeps items first octets =
+    let more = described-more list h in
+    record {
+      others = items ∙ ap (λ l. l ++ kept_of h) keeps.others ∙ sym (others-more list h);
+      first = first ∙ ap (λ o. option_or o (cluster_of h)) keeps.first ∙ sym (first_cluster-more list h);
+      octets = omega (arith, more, octets, keeps.octets);
+    }
+
+-- the first of two, where the second is none
+pub option_or-none : {X : Type 0} (first : Option X) → first ≡ option_or first None
+option_or-none None = refl
+option_or-none (Some x) = refl
+
+-- the first of two, where there is a first
+pub option_or-first : {X : Type 0} (first later : Option X) → is_some first ≡ true → first ≡ option_or first later
+option_or-first None later is = absurd (cc)
+option_or-first (Some x) later is = refl
+
+-- the second, where there is no first
+pub option_or-later : {X : Type 0} (first later : Option X) → is_some first ≡ false → later ≡ option_or first later
+option_or-later None later is = refl
+option_or-later (Some x) later is = absurd (cc)
+
+-- the limits, by what is kept
+pub passes_size-kept : (held : ℕ) (list : List Header) (kept : Collected) (h : Header) → Keeps held list kept → passes_size held list h ≡ (is_described h.id && (nat_lt MOST_OF_ONE (known h.size) || nat_lt MOST_OF_ALL (kept.held + known h.size)))
+passes_size-kept held list kept h keeps = by_id (is_described h.id) refl
+  where
+    by_id : (test : Bool) → is_described h.id ≡ test → (test && (nat_lt MOST_OF_ONE (known h.size) || nat_lt MOST_OF_ALL (held + described (list ++ h ∷ [])))) ≡ (test && (nat_lt MOST_OF_ONE (known h.size) || nat_lt MOST_OF_ALL (kept.held + known h.size)))
+    by_id false is = refl
+    by_id true is =
+        let more : described (list ++ h ∷ []) ≡ described list + known h.size = described-more list h ∙ ap (λ test. described list + (if test then known h.size else 0)) is in
+        let sum : held + described (list ++ h ∷ []) ≡ kept.held + known h.size = omega (arith, more, keeps.octets) in
+        ap (λ n. nat_lt MOST_OF_ONE (known h.size) || nat_lt MOST_OF_ALL n) sum
+
+pub passes_count-kept : (held : ℕ) (list : List Header) (kept : Collected) (h : Header) → Keeps held list kept → passes_count list h ≡ (not (h.id == CLUSTER) && nat_lt MOST_ELEMENTS (length kept.others.items + 1))
+passes_count-kept held list kept h keeps = by_id (not (h.id == CLUSTER)) refl
+  where
+    by_id : (test : Bool) → not (h.id == CLUSTER) ≡ test → (test && nat_lt MOST_ELEMENTS (others (list ++ h ∷ []))) ≡ (test && nat_lt MOST_ELEMENTS (length kept.others.items + 1))
+    by_id false is = refl
+    by_id true is =
+        let all : others (list ++ h ∷ []) ≡ length (others_of list ++ h ∷ []) =
+        sym (length-filter (λ k. not (k.id == CLUSTER)) (list ++ h ∷ []))
+        ∙ ap length (others-more list h ∙ ap (λ test. others_of list ++ (if test then h ∷ [] else [])) is) in
+        ap (nat_lt MOST_ELEMENTS) (all ∙ ap (λ (l : List Header). length (l ++ h ∷ [])) (sym keeps.others) ∙ length-append kept.others.items (h ∷ []))
+
+-- which of the two limits is told
+pub passes-count : (large many : Bool) (a b : Damage) → large ≡ false → many ≡ true → first_damage (where_it large a ∷ where_it many b ∷ []) ≡ Some b
+passes-count false many a b large count = rw count refl
+passes-count true many a b large count = absurd (cc)
+
+pub passes-none : (large many : Bool) (a b : Damage) → large ≡ false → many ≡ false → first_damage (where_it large a ∷ where_it many b ∷ []) ≡ None
+passes-none false false a b large count = refl
+passes-none false true a b large count = absurd (cc)
+passes-none true many a b large count = absurd (cc)

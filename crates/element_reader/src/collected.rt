@@ -1,0 +1,132 @@
+//! What is kept of the Elements of level 1.
+
+ghost use Rattle.std.specs.Prelude.{◌≡◌, ℕ, ◌+◌, ◌^◌, ◌<◌, ◌++◌, ◌∷◌, [], List, IfOk, false};
+ghost use Rattle.matroska_format.specs.declared.element.Header.{Header as Placed};
+ghost use Rattle.matroska_format.specs.Element.{known};
+ghost use Rattle.matroska_format.specs.Outline.{first_damage, is_described, limit_causes, passes_count, passes_size};
+ghost use Rattle.element_reader.specs.Collected.{octets_of};
+
+use ebml_format::Size;
+use element_headers::Header;
+use mkv_schema::ids::{CHAPTERS, CLUSTER, INFO, TAGS, TRACKS};
+use mkv_values::{Damage, Kind};
+use std::alloc::{AllocError, Global};
+
+/// The most octets of one Info, Tracks, Chapters or Tags.
+const MOST_OF_ONE: u64 = 16 << 20;
+
+/// The most octets of all of them, in all inputs.
+const MOST_OF_ALL: u64 = 64 << 20;
+
+/// The most Elements of level 1 besides Clusters.
+const MOST_ELEMENTS: usize = 4096;
+
+/// What is kept of the Elements of level 1 that were met.
+#[derive(Drop)]
+pub struct Collected {
+    /// The Elements other than Clusters, in the order of the file.
+    pub others: Vec<Header>,
+    /// The place of the first Cluster.
+    pub first_cluster: Option<u64>,
+    /// The octets of every Info, Tracks, Chapters and Tags, with those of earlier inputs.
+    pub held: u64,
+}
+
+/// Whether this is the ID of an Info, Tracks, Chapters or Tags.
+pub fn is_described(id: u32) -> bool
+    ensures { result ≡ is_described id }
+{
+    id == INFO || id == TRACKS || id == CHAPTERS || id == TAGS
+}
+
+// The octets of a body whose size is known.
+fn known(size: Size) -> u64
+    ensures { result ≡ known size }
+{
+    match size {
+        Size::Known(octets) => octets,
+        Size::Unknown => 0,
+    }
+}
+
+// The octets of an Info, Tracks, Chapters or Tags.
+fn octets_of(header: &Header) -> u64
+    ensures { result ≡ octets_of header.now }
+{
+    if is_described(header.id) {
+        known(header.size)
+    } else {
+        0
+    }
+}
+
+impl Collected {
+    ghost use Rattle.element_reader.specs.Collected.{Keeps};
+
+    /// Nothing is kept yet, and earlier inputs have held so many octets.
+    pub fn new(alloc: Global, held: u64) -> Collected
+        ensures { Keeps held [] result }
+    {
+        Collected {
+            others: Vec::new(alloc),
+            first_cluster: None,
+            held,
+        }
+    }
+
+    /// Keeps an Element, or answers the limit that it passes.
+    pub fn add(&mut self, header: Header) -> Result<Option<Damage>, AllocError>
+        ensures refusal { IfOk result (λ refusal. (held : ℕ) (list : List Placed) → Keeps held list self.old → refusal ≡ first_damage (limit_causes held list header)) }
+        ensures kept { IfOk result (λ refusal. refusal ≡ None → (held : ℕ) (list : List Placed) → Keeps held list self.old → Keeps held (list ++ header ∷ []) self.new) }
+    {
+        if let Some(damage) = self.refusal(&header) {
+            return Ok(Some(damage));
+        }
+        self.held += octets_of(&header);
+        if header.id != CLUSTER {
+            self.others.push(header)?;
+        } else if self.first_cluster.is_none() {
+            self.first_cluster = Some(header.offset);
+        }
+        Ok(None)
+    }
+
+    // The limit that an Element passes with those before it.
+    fn refusal(&self, header: &Header) -> Option<Damage>
+        ensures exact { (held : ℕ) (list : List Placed) → Keeps held list self.now → result ≡ first_damage (limit_causes held list header.now) }
+        ensures room { result ≡ None → self.now.held + octets_of header.now < 2 ^ 64 }
+    {
+        if self.passes_size(header) {
+            return Some(damage(Kind::HeaderTooLarge, header));
+        }
+        if self.passes_count(header) {
+            return Some(damage(Kind::TooMany, header));
+        }
+        None
+    }
+
+    fn passes_size(&self, header: &Header) -> bool
+        ensures exact { (held : ℕ) (list : List Placed) → Keeps held list self.now → result ≡ passes_size held list header.now }
+        ensures room { result ≡ false → self.now.held + octets_of header.now < 2 ^ 64 }
+    {
+        let size = known(header.size);
+        let held = self.held.saturating_add(size);
+        is_described(header.id) && (size > MOST_OF_ONE || held > MOST_OF_ALL)
+    }
+
+    fn passes_count(&self, header: &Header) -> bool
+        ensures { (held : ℕ) (list : List Placed) → Keeps held list self.now → result ≡ passes_count list header.now }
+    {
+        header.id != CLUSTER && self.others.len() >= MOST_ELEMENTS
+    }
+}
+
+fn damage(kind: Kind, header: &Header) -> Damage
+    ensures { result ≡ record { kind = kind; id = header.now.id; offset = header.now.offset } }
+{
+    Damage {
+        kind,
+        id: header.id,
+        offset: header.offset,
+    }
+}
