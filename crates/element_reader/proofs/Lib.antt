@@ -1,2 +1,3 @@
 pub mod CollectedLemmas
+pub mod LevelLemmas
 pub mod SegmentLemmas

@@ -1,0 +1,103 @@
+//! The Elements of level 1 of a Segment: RFC 9559, section 5.1 (Segment Element).
+
+ghost use Rattle.std.specs.Prelude.{◌≡◌, ℕ, ◌≤◌, List, length, if◌then◌else◌, [], IfOk, IsTrue};
+ghost use Rattle.std.specs.Option.{option_map_or};
+ghost use Rattle.mkv_io.specs.Faults.{HasReadCause};
+ghost use Rattle.mkv_io.specs.Told.{Told};
+ghost use Rattle.matroska_format.specs.Element.{end_in, is_unknown};
+ghost use Rattle.matroska_format.specs.Outline.{segment_run};
+ghost use Rattle.element_window.specs.Window.{Holds, IsBefore, MovesTo};
+ghost use Rattle.element_reader.specs.Level.{HasLevel, IsLevel, IsOnWay, nothing_left};
+
+use crate::collected::Collected;
+use ebml_format::Size;
+use element_headers::Header;
+use element_walks::{Step, end_in, next_of_segment};
+use element_window::Window;
+use mkv_io::Reads;
+use mkv_values::{Damage, FileId, ReadEnd};
+use std::alloc::Global;
+
+/// The Elements of level 1 of a Segment.
+#[derive(Drop)]
+pub struct Level {
+    /// What is kept of them.
+    pub kept: Collected,
+    /// The damage that ends them, if one does.
+    pub damage: Option<Damage>,
+    /// Octets from the start of the file to the Segment's end.
+    pub end: u64,
+}
+
+// Where a Segment ends whose Elements end at a place, by a damage or without one.
+fn segment_end(segment: &Header, total: u64, at: u64, damage: Option<Damage>) -> u64
+    ensures { result ≡ (if is_unknown segment.now.size then option_map_or (λ d. total) damage at else end_in total segment.now) }
+{
+    match segment.size {
+        Size::Known(_) => end_in(segment, total),
+        Size::Unknown if damage.is_some() => total,
+        Size::Unknown => at,
+    }
+}
+
+// What is collected of a Segment whose Elements end at a place, by a damage or without one.
+fn ended(kept: Collected, segment: &Header, total: u64, at: u64, damage: Option<Damage>) -> Level
+    ensures { (held : ℕ) (bytes : List ℕ) → total ≡ length bytes
+        → IsOnWay held (segment_run bytes segment.now) (nothing_left at damage) kept → HasLevel held bytes segment.now result }
+{
+    let end = segment_end(segment, total, at, damage);
+    Level { kept, damage, end }
+}
+
+// The place up to which a Segment may reach.
+fn segment_bound(segment: &Header, total: u64) -> u64
+    ensures { result ≡ (if is_unknown segment.now.size then total else end_in total segment.now) }
+{
+    match segment.size {
+        Size::Known(_) => end_in(segment, total),
+        Size::Unknown => total,
+    }
+}
+
+/// Collects the Elements of level 1 of a Segment, or answers the limit that one passes. The file has
+/// `total` octets, and earlier inputs have held so many octets of Info, Tracks, Chapters and Tags.
+pub fn collect<R: Reads>(
+    alloc: Global,
+    window: &mut Window,
+    src: &mut R,
+    file: FileId,
+    segment: &Header,
+    total: u64,
+    held: u64,
+) -> Result<Result<Level, Damage>, ReadEnd>
+    requires live { IsTrue ((R.files (R.standing src.old)).live file.n) }
+    requires place { segment.now.body ≤ total }
+    requires whole { total ≡ (R.files (R.standing src.old)).size file.n }
+    requires holds { Told ((R.files (R.standing src.old)).content file.n) (λ bytes. Holds bytes window.old) }
+    ensures ok { IfOk result (λ found. Told ((R.files (R.standing src.old)).content file.n) (λ bytes. IsLevel held bytes segment.now found)) }
+    ensures standing { R.standing src.new ≡ R.standing src.old }
+    ensures cause { HasReadCause (R.reading_faults src.old) (R.reading_faults src.new) result }
+    ensures moves { IsBefore window.old segment.now.body total
+        → IfOk result (λ found. MovesTo total total window.old window.new (R.octets_read src.old) (R.octets_read src.new)) }
+{
+    let mut kept = Collected::new(alloc, held);
+    let bound = segment_bound(segment, total);
+    let mut at = segment.body;
+    loop {
+        match next_of_segment(window, src, file, segment.size, at, bound)? {
+            Step::End => return Ok(Ok(ended(kept, segment, total, at, None))),
+            Step::Damaged(damage) => {
+                return Ok(Ok(ended(kept, segment, total, at, Some(damage))));
+            }
+            Step::Element { header, next } => {
+                if let Some(damage) = kept.add(header)? {
+                    return Ok(Err(damage));
+                }
+                match next {
+                    Ok(behind) => at = behind,
+                    Err(damage) => return Ok(Ok(ended(kept, segment, total, at, Some(damage)))),
+                }
+            }
+        }
+    }
+}
