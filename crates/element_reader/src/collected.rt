@@ -39,8 +39,8 @@ pub fn is_described(id: u32) -> bool
     id == INFO || id == TRACKS || id == CHAPTERS || id == TAGS
 }
 
-// The octets of a body whose size is known.
-fn known(size: Size) -> u64
+/// The octets of a body whose size is known.
+pub fn known(size: Size) -> u64
     ensures { result ≡ known size }
 {
     match size {

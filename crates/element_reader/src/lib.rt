@@ -2,10 +2,14 @@
 
 //! The outline of a Matroska file: its EBML header, its Segment, and the Elements of level 1.
 
+mod body;
 mod collected;
+mod head;
 mod level;
 mod segment;
 
+pub use body::{LoadEnd, load};
 pub use element_headers::{Header, Parent};
 pub use element_window::{HeadEnd, Window};
+pub use head::header_at;
 pub use segment::find_segment;

@@ -1,0 +1,84 @@
+//! The body of an Element, read whole.
+
+ghost use Rattle.std.specs.Prelude.{◌≡◌, ◌+◌, ◌≤◌, false, None, IfOk, IsTrue};
+ghost use Rattle.mkv_io.specs.Told.{Told};
+ghost use Rattle.matroska_format.specs.Element.{is_unknown, known, stated_end};
+ghost use Rattle.matroska_format.specs.Value.{body_of};
+ghost use Rattle.element_reader.specs.Head.{HasLoadCause, limit_of, too_large};
+
+use crate::collected::{is_described, known};
+use element_headers::Header;
+use mkv_io::Reads;
+use mkv_schema::ids::{CUES, EBML, SEEK_HEAD};
+use mkv_values::{Bytes, Damage, FileId, Kind};
+use std::alloc::Global;
+use thiserror::Error;
+
+/// Why a body isn't loaded.
+#[derive(Debug, Drop, Error)]
+pub enum LoadEnd {
+    /// It has more octets than are loaded of an Element of its ID.
+    #[error("TooLarge")]
+    TooLarge(Damage),
+    /// A read failed.
+    #[error("ReadFault")]
+    ReadFault,
+    /// There is no memory.
+    #[error("Memory")]
+    Memory,
+}
+
+// The most octets that are loaded of an Element of this ID, where there is a limit.
+fn limit_of(id: u32) -> Option<u64>
+    ensures { result ≡ limit_of id }
+{
+    match id {
+        EBML => Some(65536),
+        SEEK_HEAD => Some(16 << 20),
+        CUES => Some(64 << 20),
+        id if is_described(id) => Some(16 << 20),
+        _ => None,
+    }
+}
+
+fn too_large(header: &Header) -> Option<Damage>
+    ensures { result ≡ too_large header.now }
+{
+    match limit_of(header.id) {
+        Some(limit) if limit < known(header.size) => Some(Damage {
+            kind: Kind::HeaderTooLarge,
+            id: header.id,
+            offset: header.offset,
+        }),
+        _ => None,
+    }
+}
+
+/// The body of an Element whose size is known. It is refused where it has more octets than are loaded of
+/// an Element of its ID: 65,536 of EBML, 64 MiB of Cues, 16 MiB of Info, Tracks, Chapters, Tags and SeekHead.
+pub fn load<R: Reads>(
+    alloc: Global,
+    src: &mut R,
+    file: FileId,
+    header: &Header,
+) -> Result<Bytes, LoadEnd>
+    requires live { IsTrue ((R.files (R.standing src.old)).live file.n) }
+    requires known { is_unknown header.now.size ≡ false }
+    requires inside { stated_end header.now ≤ (R.files (R.standing src.old)).size file.n }
+    ensures ok { IfOk result (λ body. Told ((R.files (R.standing src.old)).content file.n) (λ bytes. body ≡ body_of bytes header.now)) }
+    ensures standing { R.standing src.new ≡ R.standing src.old }
+    ensures cause { HasLoadCause (too_large header.now) (R.reading_faults src.old) (R.reading_faults src.new) result }
+    ensures octets { R.octets_read src.new ≤ R.octets_read src.old + known header.now.size }
+{
+    if let Some(damage) = too_large(header) {
+        return Err(LoadEnd::TooLarge(damage));
+    }
+    let len = known(header.size) as usize;
+    let Ok(mut body) = vec![in alloc; 0; len] else {
+        return Err(LoadEnd::Memory);
+    };
+    let Ok(()) = src.read_at(file, header.body, &mut body) else {
+        return Err(LoadEnd::ReadFault);
+    };
+    Ok(Bytes::from_vec(body))
+}
