@@ -8,7 +8,7 @@ pub(crate) fn bias(len: u8) -> u64
     requires some { 1 ≤ len }
     requires most { len ≤ 8 }
     ensures value { result ≡ bias len }
-    ensures small { result < 2 ^ 55 }
+    ensures small { result ≤ 2 ^ 55 }
 {
     (1 << (7 * len - 1)) - 1
 }
