@@ -7,8 +7,8 @@ use Rattle.std.proofs.lemmas.Slice.Eq.{bytes_eq-Decides}
 use Rattle.std.proofs.lemmas.List.{get_or_append_left, take-append-drop, drop-drop}
 use Rattle.std.proofs.Math.Seq.{get_or-append_seam}
 use Rattle.mkv_io.specs.Names.{changed_at}
-use Rattle.mkv_io.specs.LiveFiles.{IsSameFile, ChangesFile, OverwritesWithin}
-use Rattle.mkv_memory.specs.Held.{Held, World, AreShort, AreThere, ChangesHeld, is_there, files_of, holder_of, content_of_file, name_of_file, held-live, with_changed_file}
+use Rattle.mkv_io.specs.LiveFiles.{IsSameFile, ChangesFile, KeepsFiles, OverwritesWithin}
+use Rattle.mkv_memory.specs.Held.{Held, World, AreShort, AreThere, is_there, files_of, holder_of, content_of_file, name_of_file, held-live, with_changed_file}
 use Rattle.mkv_io.proofs.NamesLemmas.{changed_at-nothing, changed_at-other, changed_at-same}
 
 -- ---- what is held, by its parts
@@ -92,6 +92,12 @@ ChangesFile-changed old new name change file size holder same changed fits = rec
         ap (λ opened. option_and_then new.world (name_of_file opened file)) same
         ∙ ap (option_and_then new.world) holder
         ∙ ap (λ (world : World). world name) changed
+
+-- A live file, and the content of its name, is changed; the files of other names stay.
+pub record ChangesHeld (old new : Held) (file new_size : ℕ) (change : Option (List ℕ) → Option (List ℕ)) : Type 0 where
+  pub opened : new.opened ≡ old.opened
+  pub changed : ChangesFile (files_of old) (files_of new) (Some old.world) (Some new.world) file (holder_of old file) new_size change
+  pub others : KeepsFiles (files_of old) (files_of new) (λ other. holder_of old other ≢ holder_of old file)
 
 -- both of a live file whose name's content is changed
 pub ChangesHeld-changed : (old new : Held) (name : List ℕ) (change : Option (List ℕ) → Option (List ℕ)) (file size : ℕ) → name_of_file old.opened file ≡ Some name → new.opened ≡ old.opened → new.world ≡ changed_at name change old.world → length (unwrap_or (change (old.world name)) []) ≡ size → ChangesHeld old new file size change

@@ -8,9 +8,9 @@ use Rattle.mkv_values.specs.declared.outside.MakeFault.TheVariants as make_fault
 use Rattle.mkv_io.specs.Contents.{with_appended, with_overwritten}
 use Rattle.mkv_io.specs.LiveFiles.{Appends, AppendsPart, KeepsFiles, Overwrites, OverwritesWithin}
 use Rattle.mkv_io.specs.Told.{Told}
-use Rattle.mkv_memory.specs.Held.{Held, ChangesHeld, content_of_file, files_of, holder_of, name_of_file, with_changed_file}
+use Rattle.mkv_memory.specs.Held.{Held, content_of_file, files_of, holder_of, name_of_file, with_changed_file}
 use Rattle.mkv_memory.specs.SeenFiles.{SeenFiles, AppendsTo, CreatesName, OpensName, OverwritesIn, kept_by, is_too_much}
-use Rattle.mkv_memory.proofs.HeldLemmas.{IsSound, ChangesHeld-appended, ChangesHeld-overwritten, IsSameFile-created, OverwritesWithin-nothing, content_of_file-told, size-created}
+use Rattle.mkv_memory.proofs.HeldLemmas.{ChangesHeld, IsSound, ChangesHeld-appended, ChangesHeld-overwritten, IsSameFile-created, OverwritesWithin-nothing, content_of_file-told, size-created}
 
 -- what is held stays, and every file
 KeepsFiles-same : (old new : Held) (Is : ℕ → Type 0) → new ≡ old → KeepsFiles (files_of old) (files_of new) Is

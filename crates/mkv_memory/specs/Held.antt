@@ -1,5 +1,5 @@
 -- What files in memory hold.
-use Rattle.std.specs.Prelude.{◌≡◌, ◌≢◌, ℕ, zero, suc, ◌<◌, ◌≤◌, ◌^◌, List, [], ◌∷◌, ◌++◌, slice_set, length, Bool, true, Option, Some, None, is_some, unwrap_or, option_and_then, get_or, String}
+use Rattle.std.specs.Prelude.{◌≡◌, ℕ, zero, suc, ◌<◌, ◌≤◌, ◌^◌, List, [], ◌∷◌, ◌++◌, slice_set, length, Bool, true, Option, Some, None, is_some, unwrap_or, option_and_then, get_or, String}
 use Rattle.std.specs.declared.alloc.Global.{Global}
 use Rattle.std.specs.BTreeMap.{is_at}
 use Rattle.std.proofs.Common.{ap, sym, ◌∙◌, refl, arith}
@@ -8,7 +8,7 @@ use Rattle.std.specs.Cmp.Lexicographic.{slice_cmp}
 use Rattle.std.specs.Map.{lookup}
 use Rattle.std.specs.String.{string_bytes}
 use Rattle.mkv_io.specs.Names.{changed_at}
-use Rattle.mkv_io.specs.LiveFiles.{LiveFiles, ChangesFile, KeepsFiles}
+use Rattle.mkv_io.specs.LiveFiles.{LiveFiles}
 
 -- the content of each name, None where there is no file of that name
 abbrev pub World : Type 0
@@ -78,14 +78,6 @@ is_there world (Some name) = is_some (world name)
 -- every live file's name has a content
 abbrev pub AreThere : World → List (Option (List ℕ)) → Type 0
 AreThere world opened = (file : ℕ) → is_there world (name_of_file opened file) ≡ true
-
--- ---- what calls do to them
-
--- A live file, and the content of its name, is changed; the files of other names stay.
-pub record ChangesHeld (old new : Held) (file new_size : ℕ) (change : Option (List ℕ) → Option (List ℕ)) : Type 0 where
-  pub opened : new.opened ≡ old.opened
-  pub changed : ChangesFile (files_of old) (files_of new) (Some old.world) (Some new.world) file (holder_of old file) new_size change
-  pub others : KeepsFiles (files_of old) (files_of new) (λ other. holder_of old other ≢ holder_of old file)
 
 -- ---- what follows at once
 
