@@ -1,0 +1,47 @@
+-- What is known of the files of the system that are open.
+use Rattle.std.specs.Prelude.{◌≡◌, ℕ, ◌^◌, ◌≤◌, ◌<◌, zero, suc, List, [], ◌∷◌, length, Bool, true, Option, Some, None, is_some, get_or}
+use Rattle.std.proofs.Common.{arith}
+use Rattle.mkv_io.specs.LiveFiles.{LiveFiles}
+use Rattle.mkv_host.specs.declared.opened.Opened.{Opened}
+
+-- The file of a number, None where it was closed.
+abbrev pub opened_at : List (Option Opened) → ℕ → Option Opened
+opened_at opened file = get_or opened file None
+
+abbrev pub size_of : Option Opened → ℕ
+size_of None = 0
+size_of (Some opened) = opened.size
+
+abbrev pub name_of : Option Opened → List ℕ
+name_of None = []
+name_of (Some opened) = opened.name
+
+-- a file's length in octets
+abbrev pub size_at : List (Option Opened) → ℕ → ℕ
+size_at opened file = size_of (opened_at opened file)
+
+-- Which files are open, with their lengths. Nothing is told of their contents.
+abbrev pub live_in : List (Option Opened) → LiveFiles
+live_in opened = record {
+  live = λ file. is_some (opened_at opened file);
+  size = size_at opened;
+  content = λ _. None;
+}
+
+-- the name under which a file was opened
+abbrev pub holder_in : List (Option Opened) → ℕ → List ℕ
+holder_in opened file = name_of (opened_at opened file)
+
+-- ---- what follows at once
+
+-- no open file is too long
+pub short-of_size : (opened : Option Opened) → size_of opened ≤ 2 ^ 48
+short-of_size None = omega arith
+short-of_size (Some opened) = opened.short
+
+-- an open file has a number below the next one
+pub numbered-live : (opened : List (Option Opened)) (file : ℕ) → is_some (opened_at opened file) ≡ true → file < length opened
+numbered-live [] zero live = cc
+numbered-live [] (suc file) live = cc
+numbered-live (first ∷ rest) zero live = omega arith
+numbered-live (first ∷ rest) (suc file) live = let below = numbered-live rest file live in omega arith

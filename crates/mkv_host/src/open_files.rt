@@ -1,0 +1,62 @@
+//! The files of the system that are open, by their numbers. A number is a place in a list, and a file
+//! that is closed leaves its place empty.
+
+ghost use Rattle.std.specs.Prelude.{◌≡◌, ◌≢◌, ℕ, ◌+◌, ◌<◌, ◌≤◌, ◌^◌, [], ◌∷◌, ◌++◌, length, Some, is_some, vec_capacity, IfOk, OnOk, IsTrue};
+ghost use Rattle.mkv_host.specs.Opened.{holder_in, opened_at, size_at};
+
+use crate::opened::Opened;
+use mkv_values::{FileId, Text};
+use std::alloc::{AllocError, Global};
+
+/// The name of a file that is to be opened, and room for it.
+pub fn prepare(
+    opened: &mut Vec<Option<Opened>>,
+    alloc: Global,
+    name: &str,
+) -> Result<Text, AllocError>
+    ensures same { opened.new.items ≡ opened.old.items }
+    ensures room { OnOk result (length opened.new.items < vec_capacity opened.new) }
+    ensures name { IfOk result (λ holder. holder ≡ name.now) }
+{
+    let mut holder = Text::new(alloc);
+    holder.append(name)?;
+    opened.reserve(1)?;
+    Ok(holder)
+}
+
+/// Adds a file where there is room for it, and answers its number.
+pub fn add(opened: &mut Vec<Option<Opened>>, one: Opened) -> FileId
+    requires { length opened.old.items < vec_capacity opened.old }
+    ensures number { result.n ≡ length opened.old.items }
+    ensures added { opened.new.items ≡ opened.old.items ++ Some one ∷ [] }
+{
+    let number = opened.len() as u64;
+    opened.push(Some(one)).unwrap();
+    FileId { n: number }
+}
+
+/// A file that is open.
+pub fn open_at(opened: &Vec<Option<Opened>>, file: FileId) -> &Opened
+    requires { IsTrue (is_some (opened_at opened.now.items file.n)) }
+    ensures { opened_at opened.now.items file.n ≡ Some result.now }
+{
+    match opened.get(file.n as usize) {
+        Some(Some(open)) => open,
+        _ => unreachable!(),
+    }
+}
+
+/// Notes that an open file is longer by so many octets.
+pub fn lengthen(opened: &mut Vec<Option<Opened>>, file: FileId, count: u64)
+    requires live { IsTrue (is_some (opened_at opened.old.items file.n)) }
+    requires room { size_at opened.old.items file.n + count ≤ 2 ^ 48 }
+    ensures length { length opened.new.items ≡ length opened.old.items }
+    ensures alive { (other : ℕ) → is_some (opened_at opened.new.items other) ≡ is_some (opened_at opened.old.items other) }
+    ensures names { (other : ℕ) → holder_in opened.new.items other ≡ holder_in opened.old.items other }
+    ensures size { size_at opened.new.items file.n ≡ size_at opened.old.items file.n + count }
+    ensures others { (other : ℕ) → other ≢ file.n → size_at opened.new.items other ≡ size_at opened.old.items other }
+{
+    if let Some(open) = &mut opened[file.n as usize] {
+        open.size += count;
+    }
+}

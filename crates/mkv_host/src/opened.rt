@@ -1,0 +1,15 @@
+//! A file of the system that is open.
+
+ghost use Rattle.std.specs.Prelude.{ℕ, ◌≤◌, ◌^◌};
+
+use mkv_values::Text;
+use std::fs::File;
+
+/// An open file, the name under which it was opened, and its length in octets.
+#[derive(Drop)]
+pub struct Opened {
+    pub file: File,
+    pub name: Text,
+    pub size: u64,
+    ghost short: { size ≤ 2 ^ 48 },
+}

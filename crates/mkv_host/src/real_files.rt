@@ -1,0 +1,198 @@
+//! The files of the system.
+
+ghost use Rattle.std.specs.Prelude.{◌≡◌, ◌≢◌, ◌↔◌, ℕ, ◌+◌, ◌-◌, ◌<◌, ◌≤◌, ◌^◌, List, [], ◌∷◌, ◌++◌, length, Option, Some, None, is_some, vec_capacity, IfOk, OnOk, IsTrue};
+ghost use Rattle.mkv_io.specs.Faults.{HasRisen, counted, last_count};
+ghost use Rattle.mkv_host.specs.Opened.{holder_in, opened_at, size_at};
+
+use crate::open_files::{add, lengthen, open_at, prepare};
+use crate::opened::Opened;
+use crate::system::{LONGEST, create, open_to_read, write_from};
+use mkv_io::{Files, Reads};
+use mkv_values::{Failed, FileId, MakeFault, OpenFault};
+use std::alloc::Global;
+use std::fs;
+use std::fs::File;
+use std::io::ErrorKind;
+use std::os::unix::fs::FileExt;
+
+/// The files of the system. A file that is opened is only read; one that is created is written too.
+#[derive(Drop)]
+pub struct RealFiles<'a, R: fs::Files<File = File>> {
+    alloc: Global,
+    system: &'a R,
+    opened: Vec<Option<Opened>>,
+    reading_faults: u64,
+    writing_faults: u64,
+    octets_read: u64,
+    ghost few: { length opened.items ≤ 2 ^ 64 - 1 },
+}
+
+impl<'a, R: fs::Files<File = File>> RealFiles<'a, R> {
+    /// The files of the system, none of them open.
+    pub fn new(alloc: Global, system: &'a R) -> RealFiles<'a, R>
+        ensures { result.opened.items ≡ [] }
+    {
+        RealFiles {
+            alloc,
+            system,
+            opened: Vec::new(alloc),
+            reading_faults: 0,
+            writing_faults: 0,
+            octets_read: 0,
+        }
+    }
+
+    /// Whether no number is left for a further file.
+    fn is_full(&self) -> bool
+        ensures { IsTrue result ↔ (length self.now.opened.items ≡ last_count) }
+    {
+        self.opened.len() as u64 == u64::MAX
+    }
+}
+
+/// Counts a failure.
+fn note_failure(count: &mut u64)
+    ensures exact { count.new ≡ counted count.old 1 }
+    ensures risen { HasRisen count.old count.new }
+{
+    *count = count.saturating_add(1);
+}
+
+impl<'a, R: fs::Files<File = File>> Reads for RealFiles<'a, R> {
+    ghost use Rattle.std.specs.Prelude.{List, Option, ℕ};
+    ghost use Rattle.mkv_host.specs.Opened.{live_in, opened_at, short-of_size};
+    ghost use Rattle.mkv_host.specs.declared.opened.Opened.{Opened};
+
+    ghost Standing = { List (Option Opened) × ℕ };
+
+    ghost standing = { λ files. (files.opened.items, files.writing_faults) };
+
+    ghost files = { λ s. live_in s.0 };
+
+    ghost reading_faults = { λ files. files.reading_faults };
+
+    ghost octets_read = { λ files. files.octets_read };
+
+    ghost told_size = { λ s file bytes told. cc };
+
+    ghost short = { λ files file live. short-of_size (opened_at files.opened.items file) };
+
+    fn size(&self, file: FileId) -> u64 {
+        open_at(&self.opened, file).size
+    }
+
+    fn read_at(&mut self, file: FileId, at: u64, into: &mut [u8]) -> Result<(), Failed> {
+        let length = into.len() as u64;
+        if open_at(&self.opened, file)
+            .file
+            .read_exact_at(into, at)
+            .is_err()
+        {
+            note_failure(&mut self.reading_faults);
+            return Err(Failed);
+        }
+        self.octets_read = self.octets_read.saturating_add(length);
+        Ok(())
+    }
+}
+
+impl<'a, R: fs::Files<File = File>> Files for RealFiles<'a, R> {
+    ghost use Rattle.std.specs.Prelude.{None, List, Option, length, ℕ};
+    ghost use Rattle.std.proofs.Common.{ap};
+    ghost use Rattle.mkv_host.specs.Opened.{holder_in, live_in, opened_at, numbered-live};
+    ghost use Rattle.mkv_host.specs.declared.opened.Opened.{Opened};
+
+    ghost names = { λ _. None };
+
+    ghost holder = { λ files. holder_in files.opened.items };
+
+    ghost given = { λ files. length files.opened.items };
+
+    ghost writing_faults = { λ files. files.writing_faults };
+
+    ghost held = { λ files file live world told. cc };
+
+    ghost numbered = { λ files file live. numbered-live files.opened.items file live };
+
+    ghost last = { λ files. files.few };
+
+    ghost names_stand = { λ a b same. cc };
+
+    ghost holders_stand = { λ a b same file. ap (λ (s : List (Option Opened) × ℕ). holder_in s.0 file) same };
+
+    ghost given_stands = { λ a b same. ap (λ (s : List (Option Opened) × ℕ). length s.0) same };
+
+    ghost writing_stands = { λ a b same. ap (λ (s : List (Option Opened) × ℕ). s.1) same };
+
+    fn open_file(&mut self, name: &str) -> Result<FileId, OpenFault> {
+        if self.is_full() {
+            note_failure(&mut self.reading_faults);
+            return Err(OpenFault::Failed);
+        }
+        let holder = prepare(&mut self.opened, self.alloc, name)?;
+        match open_to_read(self.system, name) {
+            Ok((file, size)) => Ok(add(
+                &mut self.opened,
+                Opened {
+                    file,
+                    name: holder,
+                    size,
+                },
+            )),
+            Err(error) if error.kind() == ErrorKind::NotFound => Err(OpenFault::Missing),
+            Err(_) => {
+                note_failure(&mut self.reading_faults);
+                Err(OpenFault::Failed)
+            }
+        }
+    }
+
+    fn create(&mut self, name: &str) -> Result<FileId, MakeFault> {
+        if self.is_full() {
+            note_failure(&mut self.writing_faults);
+            return Err(MakeFault::Failed);
+        }
+        let holder = prepare(&mut self.opened, self.alloc, name)?;
+        match create(self.system, name) {
+            Ok(file) => Ok(add(
+                &mut self.opened,
+                Opened {
+                    file,
+                    name: holder,
+                    size: 0,
+                },
+            )),
+            Err(_) => {
+                note_failure(&mut self.writing_faults);
+                Err(MakeFault::Failed)
+            }
+        }
+    }
+
+    fn append(&mut self, file: FileId, bytes: &[u8]) -> Result<(), MakeFault> {
+        let open = open_at(&self.opened, file);
+        if bytes.len() as u64 > LONGEST - open.size {
+            note_failure(&mut self.writing_faults);
+            return Err(MakeFault::Failed);
+        }
+        let written = write_from(&open.file, open.size, bytes);
+        lengthen(&mut self.opened, file, written as u64);
+        if written < bytes.len() {
+            note_failure(&mut self.writing_faults);
+            return Err(MakeFault::Failed);
+        }
+        Ok(())
+    }
+
+    fn overwrite(&mut self, file: FileId, at: u64, bytes: &[u8]) -> Result<(), Failed> {
+        if write_from(&open_at(&self.opened, file).file, at, bytes) < bytes.len() {
+            note_failure(&mut self.writing_faults);
+            return Err(Failed);
+        }
+        Ok(())
+    }
+
+    fn close(&mut self, file: FileId) {
+        self.opened[file.n as usize] = None;
+    }
+}

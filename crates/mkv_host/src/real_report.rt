@@ -1,0 +1,39 @@
+//! Standard output.
+
+ghost use Rattle.std.specs.Prelude.{◌≡◌, ℕ};
+
+use mkv_io::Report;
+use mkv_values::Failed;
+use std::io::Print;
+
+/// The lines of standard output. It doesn't tell them, since what becomes of them isn't known.
+#[derive(Drop)]
+pub struct RealReport<'a, R: Print> {
+    system: &'a R,
+    faults: u64,
+}
+
+impl<'a, R: Print> RealReport<'a, R> {
+    /// Standard output, of which no line has failed.
+    pub fn new(system: &'a R) -> RealReport<'a, R>
+        ensures { result.faults ≡ 0 }
+    {
+        RealReport { system, faults: 0 }
+    }
+}
+
+impl<'a, R: Print> Report for RealReport<'a, R> {
+    ghost use Rattle.std.specs.Prelude.{None};
+
+    ghost lines = { λ _. None };
+
+    ghost faults = { λ report. report.faults };
+
+    fn say(&mut self, line: &str) -> Result<(), Failed> {
+        if self.system.println(line).is_err() {
+            self.faults = self.faults.saturating_add(1);
+            return Err(Failed);
+        }
+        Ok(())
+    }
+}
