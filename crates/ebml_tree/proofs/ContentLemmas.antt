@@ -4,6 +4,8 @@ use Rattle.tree_format.specs.Node.{Node, Nodes, leaf, master, nodes_of, list_of,
 use Rattle.tree_format.specs.NormalForm.{octets, octets_all, content, header_octets, kept_octets, is_filler, longest}
 use Rattle.tree_format.specs.Changes.{without, with_child}
 use Rattle.tree_format.proofs.NodeLemmas.{list-nodes, octets_all-flat}
+use Rattle.tree_format.specs.Standing.{IsSound}
+use Rattle.tree_format.proofs.StandingLemmas.{sound-remove}
 use Rattle.tree_format.proofs.ChangeLemmas.{long-without, long-with_child, long-push, deep-without, deep-with_child, deep-push}
 use Rattle.tree_format.proofs.WrittenLemmas.{length-kept_octets, length-filler, length-header_octets}
 use Rattle.ebml_tree.specs.declared.tree.content.Content.{Content}
@@ -28,6 +30,15 @@ pub view_depth : (c : Content) (id at : ℕ) (n : Node) → node_of id at c ≡ 
 view_depth (Body b) id at n is = rw (← is) refl
 view_depth (Children v) id at n is = rw (← is) refl
 
+pub view_content : (c : Content) (id at : ℕ) (n : Node) → node_of id at c ≡ n → content n ≡ content_of c
+view_content (Body b) id at n is = rw (← is) refl
+view_content (Children v) id at n is = rw (← is) (octets_all-flat v.items)
+
+-- a tree that isn't too deep has room for its children
+pub view_low : (c : Content) (depth' : ℕ) → depth' ≡ depth_of c → depth' ≤ deepest → depth_all (nodes_of (kids_of c)) < deepest
+view_low (Body b) depth' is low = omega arith
+view_low (Children v) depth' is low = omega arith
+
 pub view_octets : (c : Content) (id at : ℕ) (n : Node) → node_of id at c ≡ n → octets n ≡ kept_octets id (content_of c)
 view_octets (Body b) id at n is = rw (← is) refl
 view_octets (Children v) id at n is = rw (← is) (ap (kept_octets id) (octets_all-flat v.items))
@@ -47,6 +58,10 @@ pub kept : (c d : Content) (id at : ℕ) (n : Node) → node_of id at c ≡ n �
 kept c (Body b) id at n is kids has = absurd has
 kept (Body b) (Children w) id at n is kids has = absurd (master_kids (Body b) id at n is kids)
 kept (Children v) (Children w) id at n is kids has = rw has is
+
+pub sound-removed : (c d : Content) (id at k : ℕ) (n : Node) → node_of id at c ≡ n → IsMaster n → HasKids d (without k (kids_of c)) → IsSound n → IsSound (node_of id at d)
+sound-removed c d id at k n is kids has sound =
+    rw (view_has c d id at n (without k (kids_of c)) is kids has, ← view_kids c id at n is) (sound-remove n k kids sound)
 
 pub content_has : (d : Content) (ns : List Node) → HasKids d ns → content_of d ≡ flat_map octets ns
 content_has (Body b) ns has = absurd has

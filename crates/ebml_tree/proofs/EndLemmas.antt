@@ -1,5 +1,5 @@
 -- What follows from a refusal, and from an ID.
-use Rattle.std.proofs.Common.{◌≡◌, ◌≢◌, ◌<◌, ℕ, ◌==◌, ◌||◌, Bool, true, false, List, [], ◌∷◌, length, Option, Some, None, IsSome, IsTrue, Result, Ok, Err, refl, sym, ap, arith}
+use Rattle.std.proofs.Common.{◌≡◌, ◌≢◌, ◌<◌, ℕ, ◌==◌, ◌||◌, Bool, true, false, List, [], ◌∷◌, length, Option, Some, None, IsSome, IsTrue, Result, Ok, Err, IfOk, refl, sym, ap, arith}
 use Rattle.std.proofs.lemmas.Bool.Decides.{nat_tests}
 use Rattle.ebml_format.specs.Number.{is_id, is_written_id}
 use Rattle.mkv_schema.specs.declared.ids.TheConstants.{CHAPTER_DISPLAY}
@@ -8,14 +8,20 @@ use Rattle.mkv_schema.specs.declared.kind.ElementKind.TheVariants.{Master}
 use Rattle.mkv_schema.specs.Schema.{is_master, kind_of}
 use Rattle.mkv_schema.proofs.SchemaLemmas.{is_id-kind_of, is_master-kind_of}
 use Rattle.mkv_values.specs.declared.damage.Damage.{Damage as Harm}
+use Rattle.tree_format.specs.Node.{Node}
 use Rattle.ebml_tree.specs.declared.end.TreeEnd.{TreeEnd}
 use Rattle.ebml_tree.specs.declared.end.TreeEnd.TheVariants.{Damage, Memory}
-use Rattle.ebml_tree.specs.Outcome.{Refuses}
+use Rattle.ebml_tree.specs.Outcome.{Refuses, ReadsTree}
 
 -- A refusal is passed on where the damage is that of the whole.
 pub refuses-pass : {A B : Type 0} (end : TreeEnd) (part : Result A Harm) (whole : Result B Harm) → ((d : Harm) → part ≡ Err d → whole ≡ Err d) → Refuses end part → Refuses end whole
 refuses-pass (Damage d) part whole pass refuses = pass d refuses
 refuses-pass Memory part whole pass refuses = tt
+
+-- what holds of each tree that the definition has holds of the answer
+pub reads-holds : (P : Node → Type 0) (result : Result Node TreeEnd) (read : Result Node Harm) → ReadsTree result read → ((n : Node) → read ≡ Ok n → P n) → IfOk result P
+reads-holds P (Ok n) read reads holds = holds n reads
+reads-holds P (Err end) read reads holds = tt
 
 pub none-from_length : (l : List ℕ) → length l ≡ 0 → l ≡ []
 none-from_length [] is = refl

@@ -9,3 +9,6 @@ mod tree;
 
 pub use end::TreeEnd;
 pub use tree::Tree;
+
+#[cfg(test)]
+mod tests;

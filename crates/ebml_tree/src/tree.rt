@@ -1,6 +1,6 @@
 //! An Element that is held whole, with what is inside.
 
-ghost use Rattle.std.specs.Prelude.{◌≡◌, ◌≤◌, ◌<◌, ◌+◌, ◌^◌, ◌==◌, ◌++◌, ◌∷◌, [], ◌↔◌, ℕ, List, Bool, true, false, length, find, filter, take, slice_get, OnOk, OnErr, IfOk, IfErr, IfSome, IsTrue, Some, None};
+ghost use Rattle.std.specs.Prelude.{◌≡◌, ◌≤◌, ◌<◌, ◌+◌, ◌^◌, ◌==◌, ◌++◌, ◌∷◌, [], ◌↔◌, ℕ, List, Bool, true, false, length, find, filter, take, slice_get, OnOk, OnErr, IfOk, IfErr, IfSome, IsTrue, Some, None, Ok, ℤ};
 ghost use Rattle.std.specs.Option.{option_copied, option_map};
 
 use crate::end::TreeEnd;
@@ -15,7 +15,7 @@ mod content;
 mod reading;
 mod writing;
 
-use content::{Content, depth_around, nth_of, written_together, written_within};
+use content::{Content, depth_around, first_of, nth_of, tree_at, written_together, written_within};
 use reading::{before_zero, too_many, trees_in};
 use writing::{LONGEST, element_len, is_filler, write_header};
 
@@ -58,11 +58,13 @@ impl Model for Tree {
 }
 
 impl Tree {
-    ghost use Rattle.tree_format.specs.Node.{Node, id_of, offset_of, children, with_children, leaf, master, nodes_of, body_of, depth, depth_all, deepest, HasRoom, IsMaster};
-    ghost use Rattle.tree_format.specs.NormalForm.{octets, longest};
+    ghost use Rattle.tree_format.specs.Node.{Node, id_of, offset_of, children, with_children, leaf, master, nodes_of, body_of, count, depth, depth_all, deepest, HasRoom, IsMaster};
+    ghost use Rattle.tree_format.specs.NormalForm.{content, octets, longest};
+    ghost use Rattle.tree_format.specs.Standing.{IsSound, StandsIn, kept, placed_in};
+    ghost use Rattle.tree_format.specs.Text.{HasNoZero};
     ghost use Rattle.tree_format.specs.Changes.{with_child, without};
     ghost use Rattle.tree_format.specs.Reading.{tree_of};
-    ghost use Rattle.ebml_format.specs.Number.{is_id, is_written_id, int_of};
+    ghost use Rattle.ebml_format.specs.Number.{is_id, is_written_id, uint_octets, int_of, int_octets, magnitude};
     ghost use Rattle.mkv_schema.specs.Schema.{is_master};
     ghost use Rattle.matroska_format.specs.Value.{uint_value, text_of};
     ghost use Rattle.ebml_tree.specs.Outcome.{ReadsTree};
@@ -72,7 +74,6 @@ impl Tree {
     /// The header stands at `offset`, the body at `base`. The master and what is inside, Void and CRC-32
     /// too, may be `nodes` Elements, and 32 masters may stand inside one another. A damage is the first
     /// in the order in which the Elements stand.
-    #[tactic(auto, using(crate::proofs::EndLemmas::masters))]
     pub fn parse(
         alloc: Global,
         id: u32,
@@ -83,20 +84,27 @@ impl Tree {
     ) -> Result<Tree, TreeEnd>
         requires master { IsTrue (is_master id) }
         requires places { base + length body.now ≤ 2 ^ 48 }
-        ensures { ReadsTree result (tree_of id offset body.now base nodes) }
+        ensures exact { ReadsTree result (tree_of id offset body.now base nodes) }
+
+        // What was read stands where the table allows it, and has no more Elements than are allowed.
+        ensures sound { IfOk result IsSound }
+        ensures count { IfOk result (λ tree. count tree ≤ nodes) }
     {
-        if nodes == 0 {
-            return Err(too_many(id, offset));
-        }
-        let mut left = nodes - 1;
-        let trees = trees_in(alloc, DEEPEST - 1, &mut left, id, base, body)?;
-        Tree::of_children(id, offset, trees)
+        Tree::read(alloc, id, offset, body, base, nodes)
     }
 
     /// A leaf with these octets, at the place 0.
+    #[tactic(auto, using(tree_format::proofs::ValueLemmas::values))]
     pub fn leaf(alloc: Global, id: u32, bytes: &[u8]) -> Result<Tree, AllocError>
         requires { IsTrue (is_id id) }
-        ensures { IfOk result (λ tree. tree ≡ leaf id 0 bytes.now) }
+        ensures exact { IfOk result (λ tree. tree ≡ leaf id 0 bytes.now) }
+
+        // A value that is put is read back.
+        ensures uint { (value : ℕ) → value < 2 ^ 64 → bytes.now ≡ uint_octets value
+            → IfOk result (λ tree. uint_value id (body_of tree) ≡ value) }
+        ensures int { (value : ℤ) → magnitude value < 2 ^ 63 → bytes.now ≡ int_octets value
+            → IfOk result (λ tree. int_of (body_of tree) ≡ value) }
+        ensures text { HasNoZero bytes.now → IfOk result (λ tree. text_of (body_of tree) ≡ bytes.now) }
     {
         Tree::of_body(alloc, id, 0, bytes)
     }
@@ -150,30 +158,34 @@ impl Tree {
     /// The children; a leaf has none.
     #[tactic(auto, using(crate::proofs::ContentLemmas::changes))]
     pub fn children(&self) -> &[Tree]
-        ensures { result.now ≡ children self.now }
+        ensures exact { result.now ≡ children self.now }
+        ensures room { depth_all (nodes_of result.now) < deepest }
     {
         self.content.kids()
     }
 
     /// The first child of an ID.
     pub fn child(&self, id: u32) -> Option<&Tree>
-        ensures { option_copied result ≡ find (λ n. id_of n == id) (children self.now) }
+        ensures exact { option_copied result ≡ find (λ n. id_of n == id) (children self.now) }
+        ensures room { IfSome result (λ tree. HasRoom tree.now) }
     {
-        self.children().iter().find(|tree| tree.id() == id)
+        first_of(self.children(), id)
     }
 
     /// The child of an ID, counted from 0 among those of that ID.
     pub fn nth(&self, id: u32, k: usize) -> Option<&Tree>
-        ensures { option_copied result ≡ slice_get (filter (λ n. id_of n == id) (children self.now)) k }
+        ensures exact { option_copied result ≡ slice_get (filter (λ n. id_of n == id) (children self.now)) k }
+        ensures room { IfSome result (λ tree. HasRoom tree.now) }
     {
         nth_of(self.children(), id, k)
     }
 
     /// The child at a place, counted from 0.
     pub fn at(&self, k: usize) -> Option<&Tree>
-        ensures { option_copied result ≡ slice_get (children self.now) k }
+        ensures exact { option_copied result ≡ slice_get (children self.now) k }
+        ensures room { IfSome result (λ tree. HasRoom tree.now) }
     {
-        self.children().get(k)
+        tree_at(self.children(), k)
     }
 
     /// A leaf's octets; a master has none.
@@ -216,12 +228,15 @@ impl Tree {
 
     /// Puts a child in the place of the first of its ID, and removes the others of that ID; where there is
     /// none, it comes last. On a refusal the child is dropped.
-    #[tactic(auto, using(crate::proofs::ContentLemmas::changes))]
+    #[tactic(auto, using(crate::proofs::ContentLemmas::changes, tree_format::proofs::StandingLemmas::keeps))]
     pub fn set(&mut self, child: Tree) -> Result<(), AllocError>
         requires master { IsMaster self.old }
         requires room { HasRoom child }
         ensures ok { OnOk result (self.new ≡ with_children self.old (with_child child (children self.old))) }
         ensures err { OnErr result (self.new ≡ self.old) }
+
+        // A child that may stand here keeps the tree sound.
+        ensures sound { IsSound self.old → StandsIn (id_of self.old) child → IsSound self.new }
     {
         if self.written + child.written_len() > LONGEST {
             return Err(AllocError);
@@ -233,12 +248,15 @@ impl Tree {
     }
 
     /// Adds a child behind the others. On a refusal it is dropped.
-    #[tactic(auto, using(crate::proofs::ContentLemmas::changes))]
+    #[tactic(auto, using(crate::proofs::ContentLemmas::changes, tree_format::proofs::StandingLemmas::keeps))]
     pub fn push(&mut self, child: Tree) -> Result<(), AllocError>
         requires master { IsMaster self.old }
         requires room { HasRoom child }
         ensures ok { OnOk result (self.new ≡ with_children self.old (children self.old ++ child ∷ [])) }
         ensures err { OnErr result (self.new ≡ self.old) }
+
+        // A child that may stand here keeps the tree sound.
+        ensures sound { IsSound self.old → StandsIn (id_of self.old) child → IsSound self.new }
     {
         let written = self.written + child.written_len();
         let depth = self.depth.max(child.depth + 1);
@@ -252,10 +270,11 @@ impl Tree {
     }
 
     /// Removes every child of an ID. Takes no memory.
-    #[tactic(auto, using(crate::proofs::ContentLemmas::changes))]
+    #[tactic(auto, using(crate::proofs::ContentLemmas::changes, tree_format::proofs::StandingLemmas::keeps))]
     pub fn remove(&mut self, id: u32)
         requires { IsMaster self.old }
-        ensures { self.new ≡ with_children self.old (without id (children self.old)) }
+        ensures exact { self.new ≡ with_children self.old (without id (children self.old)) }
+        ensures sound { IsSound self.old → IsSound self.new }
     {
         self.content.remove(id);
         self.written = written_together(self.content.kids());
@@ -276,6 +295,10 @@ impl Tree {
     pub fn put(&self, out: &mut Bytes) -> Result<(), AllocError>
         ensures ok { OnOk result (out.new ≡ out.old ++ octets self.now) }
         ensures err { OnErr result (out.new ≡ out.old) }
+
+        // A sound tree is read again from what is written behind its header, at the places there.
+        ensures again { (offset base nodes : ℕ) → IsMaster self.now → IsSound self.now → kept self.now ≤ nodes
+            → tree_of (id_of self.now) offset (content self.now) base nodes ≡ Ok (placed_in offset base self.now) }
     {
         let mut octets = mem::replace(out, Bytes::new(self.content.alloc())).into_vec();
         let before = octets.len();
@@ -306,6 +329,28 @@ impl Tree {
                 Ok(())
             }
         }
+    }
+
+    // The tree that the definition has.
+    #[tactic(auto, using(crate::proofs::EndLemmas::masters))]
+    fn read(
+        alloc: Global,
+        id: u32,
+        offset: u64,
+        body: &[u8],
+        base: u64,
+        nodes: u32,
+    ) -> Result<Tree, TreeEnd>
+        requires master { IsTrue (is_master id) }
+        requires places { base + length body.now ≤ 2 ^ 48 }
+        ensures { ReadsTree result (tree_of id offset body.now base nodes) }
+    {
+        if nodes == 0 {
+            return Err(too_many(id, offset));
+        }
+        let mut left = nodes - 1;
+        let trees = trees_in(alloc, DEEPEST - 1, &mut left, id, base, body)?;
+        Tree::of_children(id, offset, trees)
     }
 
     // A leaf at a place.

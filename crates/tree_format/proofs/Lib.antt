@@ -5,3 +5,4 @@ pub mod WrittenLemmas
 pub mod AgainLemmas
 pub mod FoundLemmas
 pub mod StandingLemmas
+pub mod ValueLemmas

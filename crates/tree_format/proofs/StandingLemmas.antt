@@ -1,6 +1,8 @@
 -- Changes of children keep what stands.
-use Rattle.std.proofs.Common.{◌≡◌, ℕ, zero, suc, ◌+◌, ◌==◌, ◌≤◌, ◌<◌, max, Bool, true, false, not, cond, List, [], ◌∷◌, ◌++◌, take, drop, filter, position, find, slice_get, Option, Some, None, IfSome, All, refl, sym, ap, subst, arith}
-use Rattle.tree_format.specs.Node.{Node, Nodes, leaf, master, none, node, nodes_of, list_of, id_of, children, with_children, depth, depth_all, is_leaf, IsMaster}
+use Rattle.std.proofs.Common.{◌≡◌, ℕ, zero, suc, ◌+◌, ◌==◌, ◌≤◌, ◌<◌, max, Bool, true, false, not, cond, List, [], ◌∷◌, ◌++◌, take, drop, filter, position, find, slice_get, Option, Some, None, IfSome, refl, sym, ap, subst, arith}
+use Rattle.std.specs.Option.{option_copied}
+use denote.Ref.{Bor}
+use Rattle.tree_format.specs.Node.{Node, Nodes, leaf, master, none, node, nodes_of, list_of, id_of, children, with_children, depth, depth_all, deepest, is_leaf, IsMaster, HasRoom}
 use Rattle.tree_format.specs.Changes.{without, placed_at, with_child}
 use Rattle.tree_format.specs.Standing.{StandsIn, AllStandIn, IsSound}
 use Rattle.tree_format.proofs.NodeLemmas.{list-nodes, nodes-list}
@@ -57,3 +59,42 @@ sound-push n child is sound stands =
 pub sound-remove : (n : Node) (id : ℕ) → IsMaster n → IsSound n → IsSound (with_children n (without id (children n)))
 sound-remove n id is sound =
     sound-children n (without id (children n)) is (stand-without (id_of n) id (children n) (children-sound n sound))
+
+pub ruleset keeps = (sound-set, sound-push, sound-remove)
+
+-- ---- room
+
+-- what is found among children leaves room for the master around it
+find-low : (p : Node → Bool) (ns : List Node) → depth_all (nodes_of ns) < deepest → IfSome (find p ns) HasRoom
+find-low p [] low = tt
+find-low p (n ∷ ns) low = split (p n) (find-low p ns (omega arith))
+  where
+    split : (passes : Bool) → IfSome (find p ns) HasRoom → IfSome (cond passes (Some n) (find p ns)) HasRoom
+    split true rest = omega arith
+    split false rest = rest
+
+get-low : (ns : List Node) (k : ℕ) → depth_all (nodes_of ns) < deepest → IfSome (slice_get ns k) HasRoom
+get-low [] k low = tt
+get-low (n ∷ ns) zero low = omega arith
+get-low (n ∷ ns) (suc k) low = get-low ns k (omega arith)
+
+filter-low : (p : Node → Bool) (ns : List Node) → depth_all (nodes_of (filter p ns)) ≤ depth_all (nodes_of ns)
+filter-low p [] = omega arith
+filter-low p (n ∷ ns) = split (p n) (filter-low p ns)
+  where
+    split : (passes : Bool) → depth_all (nodes_of (filter p ns)) ≤ depth_all (nodes_of ns) → depth_all (nodes_of (cond passes (n ∷ filter p ns) (filter p ns))) ≤ depth_all (nodes_of (n ∷ ns))
+    split true rest = omega arith
+    split false rest = omega arith
+
+copied-low : (r : Option (Bor Node)) (o : Option Node) → option_copied r ≡ o → IfSome o HasRoom → IfSome r (λ t. HasRoom t.now)
+copied-low None o is low = tt
+copied-low (Some t) o is low = rw (← is) at low
+
+pub room-find : (p : Node → Bool) (ns : List Node) (r : Option (Bor Node)) → option_copied r ≡ find p ns → depth_all (nodes_of ns) < deepest → IfSome r (λ t. HasRoom t.now)
+room-find p ns r is low = copied-low r (find p ns) is (find-low p ns low)
+
+pub room-get : (ns : List Node) (k : ℕ) (r : Option (Bor Node)) → option_copied r ≡ slice_get ns k → depth_all (nodes_of ns) < deepest → IfSome r (λ t. HasRoom t.now)
+room-get ns k r is low = copied-low r (slice_get ns k) is (get-low ns k low)
+
+pub room-nth : (p : Node → Bool) (ns : List Node) (k : ℕ) (r : Option (Bor Node)) → option_copied r ≡ slice_get (filter p ns) k → depth_all (nodes_of ns) < deepest → IfSome r (λ t. HasRoom t.now)
+room-nth p ns k r is low = let fewer = filter-low p ns in room-get (filter p ns) k r is (omega arith)

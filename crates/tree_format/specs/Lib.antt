@@ -5,3 +5,4 @@ pub mod Reading
 pub mod Changes
 pub mod Fits
 pub mod Standing
+pub mod Text

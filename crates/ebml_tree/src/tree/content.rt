@@ -1,6 +1,6 @@
 //! What is inside an Element.
 
-ghost use Rattle.std.specs.Prelude.{◌≡◌, ◌≤◌, ◌<◌, ◌+◌, ◌==◌, ◌++◌, ◌∷◌, [], not, ℕ, List, length, slice_get, flat_map, filter, take, drop, position, OnOk, OnErr, MatchOption, IsTrue, Some};
+ghost use Rattle.std.specs.Prelude.{◌≡◌, ◌≤◌, ◌<◌, ◌+◌, ◌==◌, ◌++◌, ◌∷◌, [], not, ℕ, List, length, slice_get, find, flat_map, filter, take, drop, position, OnOk, OnErr, MatchOption, IsTrue, Some};
 ghost use Rattle.std.specs.Option.{option_copied};
 ghost use Rattle.tree_format.specs.Node.{id_of, nodes_of, depth_all, deepest};
 ghost use Rattle.tree_format.specs.NormalForm.{octets, longest};
@@ -175,6 +175,19 @@ pub(super) fn depth_around(trees: &[Tree]) -> u8
         most = tree.depth().max(most);
     }
     most + 1
+}
+
+// The first of an ID.
+pub(super) fn first_of(trees: &[Tree], id: u32) -> Option<&Tree>
+    ensures { option_copied result ≡ find (λ n. id_of n == id) trees.now }
+{
+    trees.iter().find(|tree| tree.id() == id)
+}
+
+pub(super) fn tree_at(trees: &[Tree], k: usize) -> Option<&Tree>
+    ensures { option_copied result ≡ slice_get trees.now k }
+{
+    trees.get(k)
 }
 
 // The child of an ID, counted from 0 among those of that ID.

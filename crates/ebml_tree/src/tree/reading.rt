@@ -13,9 +13,9 @@ ghost use Rattle.ebml_tree.specs.Outcome.{Refuses};
 
 use crate::end::TreeEnd;
 use crate::tree::Tree;
+use ebml_numbers::Size;
 use element_headers::{Header, Parent, read_header};
 use mkv_schema::{ElementKind, is_master, may_stand, row};
-use ebml_numbers::Size;
 use mkv_values::{Damage, Kind};
 use std::alloc::Global;
 

@@ -1,0 +1,17 @@
+-- What was read is the definition's.
+use Rattle.std.proofs.Common.{◌≤◌, arith}
+use Rattle.ebml_format.specs.Number.{AreOctets}
+use Rattle.tree_format.specs.Node.{count}
+use Rattle.tree_format.specs.Standing.{IsSound}
+use Rattle.tree_format.proofs.FoundLemmas.{tree_of-sound, tree_of-count}
+use Rattle.ebml_tree.proofs.EndLemmas.{reads-holds}
+use Rattle.ebml_tree.proofs.tree.Tree.parse.Goals as goal
+
+pub returns-clause-sound : goal.returns-clause-sound
+returns-clause-sound c =
+    let octets : AreOctets c.args.body.now = λ i. omega (arith, c.type_inv.body i) in
+    reads-holds IsSound c.read.result _ c.read.ensures (λ n is. tree_of-sound c.args.id c.args.offset c.args.base c.args.nodes c.args.body.now n octets is)
+
+pub returns-clause-count : goal.returns-clause-count
+returns-clause-count c =
+    reads-holds (λ tree. count tree ≤ c.args.nodes) c.read.result _ c.read.ensures (λ n is. tree_of-count c.args.id c.args.offset c.args.base c.args.nodes c.args.body.now n is)
