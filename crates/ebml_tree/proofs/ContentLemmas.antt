@@ -59,6 +59,10 @@ kept c (Body b) id at n is kids has = absurd has
 kept (Body b) (Children w) id at n is kids has = absurd (master_kids (Body b) id at n is kids)
 kept (Children v) (Children w) id at n is kids has = rw has is
 
+pub has-master : (d : Content) (ns : List Node) (id at : ℕ) → HasKids d ns → IsMaster (node_of id at d)
+has-master (Body b) ns id at has = absurd has
+has-master (Children v) ns id at has = refl
+
 pub sound-removed : (c d : Content) (id at k : ℕ) (n : Node) → node_of id at c ≡ n → IsMaster n → HasKids d (without k (kids_of c)) → IsSound n → IsSound (node_of id at d)
 sound-removed c d id at k n is kids has sound =
     rw (view_has c d id at n (without k (kids_of c)) is kids has, ← view_kids c id at n is) (sound-remove n k kids sound)
@@ -111,7 +115,7 @@ written-whole c id at n before start out written trees is keeps inside exact hea
 
 pub ruleset lengths = (length-kept_octets, length-filler, length-header_octets)
 
-pub ruleset changes = (view_kids, view_body, master_kids, view_has, kept, content_has, kids_has, depth_has, content_kids, depth_kids, long-without, long-with_child, long-push, deep-without, deep-with_child, deep-push)
+pub ruleset changes = (has-master, view_kids, view_body, master_kids, view_has, kept, content_has, kids_has, depth_has, content_kids, depth_kids, long-without, long-with_child, long-push, deep-without, deep-with_child, deep-push)
 
 pub ruleset copies = (same_node, same_content, same_depth)
 

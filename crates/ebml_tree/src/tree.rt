@@ -86,7 +86,9 @@ impl Tree {
         requires places { base + length body.now ≤ 2 ^ 48 }
         ensures exact { ReadsTree result (tree_of id offset body.now base nodes) }
 
-        // What was read stands where the table allows it, and has no more Elements than are allowed.
+        // It is a master of this ID; what was read stands where the table allows it, and has no more
+        // Elements than are allowed.
+        ensures root { IfOk result (λ tree. IsMaster tree × (id_of tree ≡ id)) }
         ensures sound { IfOk result IsSound }
         ensures count { IfOk result (λ tree. count tree ≤ nodes) }
     {
@@ -235,7 +237,8 @@ impl Tree {
         ensures ok { OnOk result (self.new ≡ with_children self.old (with_child child (children self.old))) }
         ensures err { OnErr result (self.new ≡ self.old) }
 
-        // A child that may stand here keeps the tree sound.
+        // It stays a master, and a child that may stand here keeps it sound.
+        ensures master { IsMaster self.new }
         ensures sound { IsSound self.old → StandsIn (id_of self.old) child → IsSound self.new }
     {
         if self.written + child.written_len() > LONGEST {
@@ -255,7 +258,8 @@ impl Tree {
         ensures ok { OnOk result (self.new ≡ with_children self.old (children self.old ++ child ∷ [])) }
         ensures err { OnErr result (self.new ≡ self.old) }
 
-        // A child that may stand here keeps the tree sound.
+        // It stays a master, and a child that may stand here keeps it sound.
+        ensures master { IsMaster self.new }
         ensures sound { IsSound self.old → StandsIn (id_of self.old) child → IsSound self.new }
     {
         let written = self.written + child.written_len();
@@ -274,6 +278,7 @@ impl Tree {
     pub fn remove(&mut self, id: u32)
         requires { IsMaster self.old }
         ensures exact { self.new ≡ with_children self.old (without id (children self.old)) }
+        ensures master { IsMaster self.new }
         ensures sound { IsSound self.old → IsSound self.new }
     {
         self.content.remove(id);

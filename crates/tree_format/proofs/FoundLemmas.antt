@@ -12,7 +12,7 @@ use Rattle.mkv_values.specs.declared.damage.Kind.TheVariants.{TooMany, BadValue}
 use Rattle.matroska_format.specs.declared.element.Header.{Header}
 use Rattle.matroska_format.specs.Element.{in_tree, element_in, id_in, with_id, display_read, stated_end}
 use Rattle.matroska_format.specs.Value.{is_known_value}
-use Rattle.tree_format.specs.Node.{Node, Nodes, leaf, master, none, node, nodes_of, list_of, id_of, children, with_children, count, count_all, deepest}
+use Rattle.tree_format.specs.Node.{Node, Nodes, leaf, master, none, node, nodes_of, list_of, id_of, children, with_children, is_leaf, IsMaster, count, count_all, deepest}
 use Rattle.tree_format.specs.Changes.{without, placed_at, with_child}
 use Rattle.tree_format.specs.Reading.{Grove, Grown, header_at, inside, behind, is_master_in, refused, and_then, as_master, grown, in_front, first_then, grove, as_root, tree_of}
 use Rattle.tree_format.specs.Standing.{IsLeafIn, StandsIn, AllStandIn, IsSound}
@@ -218,3 +218,19 @@ tree_of-count id offset base nodes body n is = split (nodes == 0) refl is
     split false full is =
         let found = and_then-ok (grove (deepest - 1) (nodes - 1) id base body) (as_root id offset) n is in
         of_grove found.0 full found.1.0 found.1.1
+
+-- It is a master of the ID that was given.
+pub tree_of-root : (id offset base nodes : ℕ) (body : List ℕ) (n : Node) → tree_of id offset body base nodes ≡ Ok n → IsMaster n × (id_of n ≡ id)
+tree_of-root id offset base nodes body n is = split (nodes == 0) is
+  where
+    of_grove : (g : Grove) → as_root id offset g ≡ Ok n → IsMaster n × (id_of n ≡ id)
+    of_grove g made =
+        let same : master id offset (nodes_of g.trees) ≡ n = cc in
+        let P : Node → Type 0 = λ x. IsMaster x × (id_of x ≡ id) in
+        subst P same (refl, refl)
+
+    split : (full : Bool) → (if full then refused TooMany id offset else and_then (grove (deepest - 1) (nodes - 1) id base body) (as_root id offset)) ≡ Ok n → IsMaster n × (id_of n ≡ id)
+    split true is = absurd (cc)
+    split false is =
+        let found = and_then-ok (grove (deepest - 1) (nodes - 1) id base body) (as_root id offset) n is in
+        of_grove found.0 found.1.1

@@ -1,9 +1,9 @@
 -- What was read is the definition's.
-use Rattle.std.proofs.Common.{◌≤◌, arith}
+use Rattle.std.proofs.Common.{◌≡◌, ◌≤◌, arith}
 use Rattle.ebml_format.specs.Number.{AreOctets}
-use Rattle.tree_format.specs.Node.{count}
+use Rattle.tree_format.specs.Node.{count, id_of, IsMaster}
 use Rattle.tree_format.specs.Standing.{IsSound}
-use Rattle.tree_format.proofs.FoundLemmas.{tree_of-sound, tree_of-count}
+use Rattle.tree_format.proofs.FoundLemmas.{tree_of-sound, tree_of-count, tree_of-root}
 use Rattle.ebml_tree.proofs.EndLemmas.{reads-holds}
 use Rattle.ebml_tree.proofs.tree.Tree.parse.Goals as goal
 
@@ -15,3 +15,7 @@ returns-clause-sound c =
 pub returns-clause-count : goal.returns-clause-count
 returns-clause-count c =
     reads-holds (λ tree. count tree ≤ c.args.nodes) c.read.result _ c.read.ensures (λ n is. tree_of-count c.args.id c.args.offset c.args.base c.args.nodes c.args.body.now n is)
+
+pub returns-clause-root : goal.returns-clause-root
+returns-clause-root c =
+    reads-holds (λ tree. IsMaster tree × (id_of tree ≡ c.args.id)) c.read.result _ c.read.ensures (λ n is. tree_of-root c.args.id c.args.offset c.args.base c.args.nodes c.args.body.now n is)

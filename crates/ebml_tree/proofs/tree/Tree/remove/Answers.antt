@@ -1,7 +1,10 @@
 -- The children that stay still stand.
-use Rattle.ebml_tree.proofs.ContentLemmas.{sound-removed}
+use Rattle.ebml_tree.proofs.ContentLemmas.{has-master, sound-removed}
 use Rattle.ebml_tree.proofs.tree.Tree.remove.Goals as goal
 
 pub returns-clause-sound : goal.returns-clause-sound
 returns-clause-sound c = λ sound.
     sound-removed c.self.inside.content c.remove.new.self c.self.inside.id c.self.inside.offset c.args.id c.args.self.now c.self.view_is c.requires c.remove.ensures sound
+
+pub returns-clause-master : goal.returns-clause-master
+returns-clause-master c = has-master c.remove.new.self _ c.self.inside.id c.self.inside.offset c.remove.ensures
