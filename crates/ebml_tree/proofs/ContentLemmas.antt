@@ -1,8 +1,8 @@
 -- A tree's fields, seen as the tree of the definitions.
-use Rattle.std.proofs.Common.{◌≡◌, ◌≤◌, ◌<◌, ℕ, ◌+◌, max, List, [], ◌∷◌, ◌++◌, length, flat_map, Bool, true, false, refl, sym, ap, ap₂, append_assoc, ◌∙◌, arith}
-use Rattle.tree_format.specs.Node.{Node, Nodes, leaf, master, nodes_of, list_of, id_of, children, with_children, body_of, depth, depth_all, deepest, IsMaster, is_leaf, HasRoom}
-use Rattle.tree_format.specs.NormalForm.{octets, octets_all, content, header_octets, kept_octets, is_filler, longest}
-use Rattle.tree_format.specs.Changes.{without, with_child}
+use Rattle.std.proofs.Common.{◌≡◌, ◌≤◌, ◌<◌, ℕ, ◌+◌, List, ◌++◌, length, flat_map, true, false, refl, sym, ap, ap₂, append_assoc, ◌∙◌, arith}
+use Rattle.tree_format.specs.Node.{Node, leaf, master, nodes_of, id_of, children, with_children, body_of, depth, depth_all, deepest, IsMaster, is_leaf}
+use Rattle.tree_format.specs.NormalForm.{octets, content, header_octets, kept_octets, is_filler}
+use Rattle.tree_format.specs.Changes.{without}
 use Rattle.tree_format.proofs.NodeLemmas.{list-nodes, octets_all-flat}
 use Rattle.tree_format.specs.Standing.{IsSound}
 use Rattle.tree_format.proofs.StandingLemmas.{sound-remove}

@@ -1,5 +1,5 @@
 -- Trees, one after the other.
-use Rattle.std.proofs.Common.{◌≡◌, ◌≤◌, ◌<◌, ℕ, zero, suc, ◌+◌, ◌-◌, max, List, [], ◌∷◌, ◌++◌, length, flat_map, filter, cond, Bool, true, false, not, ◌==◌, take, drop, get_or, slice_get, refl, sym, ap, ◌∙◌, arith, add-one, length-append, append_assoc}
+use Rattle.std.proofs.Common.{◌≡◌, ◌≤◌, ◌<◌, ℕ, zero, suc, ◌+◌, max, List, [], ◌∷◌, ◌++◌, length, flat_map, filter, cond, ◌==◌, drop, get_or, refl, ap, ◌∙◌, arith, add-one, length-append}
 use Rattle.std.proofs.Math.Seq.{drop-cons}
 use Rattle.tree_format.specs.Node.{Node, id_of, nodes_of, depth, depth_all}
 use Rattle.tree_format.specs.NormalForm.{octets}

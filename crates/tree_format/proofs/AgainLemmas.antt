@@ -1,18 +1,14 @@
 -- What is written is read again.
-use Rattle.std.proofs.Common.{◌≡◌, ◌≢◌, ◌⊎◌, inl, inr, ℕ, zero, suc, ◌+◌, ◌-◌, ◌^◌, ◌<◌, ◌≤◌, ◌==◌, max, nat_lt, Bool, true, false, not, ◌&&◌, ◌||◌, cond, if◌then◌else◌, List, [], ◌∷◌, ◌++◌, slice_index, append-nil, append_assoc, length, length-append, take, drop, Option, Some, None, IsSome, Result, Ok, Err, refl, sym, ◌∙◌, ap, ap₂, subst, arith}
-use Rattle.std.proofs.lemmas.List.{length-take, length-drop}
-use Rattle.std.proofs.lemmas.Bool.{cond-true, cond-false, lt-ltb, le-ltb}
+use Rattle.std.proofs.Common.{◌≡◌, ◌≢◌, ◌⊎◌, inl, inr, ℕ, ◌+◌, ◌-◌, ◌<◌, ◌≤◌, ◌==◌, nat_lt, Bool, true, false, ◌&&◌, if◌then◌else◌, List, [], ◌∷◌, ◌++◌, slice_index, append-nil, append_assoc, length, length-append, take, drop, Option, Some, None, IsSome, Result, Ok, Err, refl, sym, ◌∙◌, ap, ap₂, arith}
+use Rattle.std.proofs.lemmas.Bool.{le-ltb}
 use Rattle.std.proofs.lemmas.Bool.Decides.{nat_tests}
 use Rattle.std.proofs.Math.Seq.{take-append_seam, drop-append_seam}
 use Rattle.std.specs.Int.Count.{count_leading_zeros}
 use Rattle.ebml_format.specs.declared.number.IdRead.{IdRead}
-use Rattle.ebml_format.specs.declared.number.NumFault.{NumFault}
 use Rattle.ebml_format.specs.declared.number.NumFault.TheVariants as fault
-use Rattle.ebml_format.specs.declared.number.Size.{Size}
-use Rattle.ebml_format.specs.declared.number.Size.TheVariants.{Known, Unknown}
-use Rattle.ebml_format.specs.declared.number.SizeRead.{SizeRead}
-use Rattle.ebml_format.specs.Number.{all_ones, width, is_id, id_at, id_octets, uint_width, size_at, size_octets, least_size_width}
-use Rattle.ebml_format.proofs.NumberLemmas.{id_at-whole, id_at-octets, size_at-octets, length-uint_octets, length-size_octets}
+use Rattle.ebml_format.specs.declared.number.Size.TheVariants.{Known}
+use Rattle.ebml_format.specs.Number.{width, is_id, id_at, id_octets, uint_width, size_at, size_octets, least_size_width}
+use Rattle.ebml_format.proofs.NumberLemmas.{id_at-whole, id_at-octets, size_at-octets, length-uint_octets}
 use Rattle.ebml_format.proofs.WidthLemmas.{least_size_width-IsLeast}
 use Rattle.mkv_schema.specs.declared.kind.ElementKind.{ElementKind}
 use Rattle.mkv_schema.specs.declared.kind.ElementKind.TheVariants.{Master}
@@ -21,15 +17,13 @@ use Rattle.mkv_schema.specs.Schema.{entry_of, kind_of, is_master, may_stand}
 use Rattle.mkv_schema.proofs.SchemaLemmas.{is_id-kind_of, is_master-kind_of}
 use Rattle.mkv_schema.specs.declared.ids.TheConstants.{CHAPTER_ATOM, CHAPTER_DISPLAY}
 use Rattle.mkv_values.specs.declared.damage.Damage.{Damage}
-use Rattle.mkv_values.specs.declared.damage.Kind.{Kind}
-use Rattle.mkv_values.specs.declared.damage.Kind.TheVariants.{TooMany, BadValue, TooLong, UnknownSize}
+use Rattle.mkv_values.specs.declared.damage.Kind.TheVariants.{TooLong}
 use Rattle.matroska_format.specs.declared.element.Header.{Header}
-use Rattle.matroska_format.specs.Element.{in_tree, element_in, id_in, with_id, with_size, with_body, body_damage, display_read, is_unknown, known, stated_end}
-use Rattle.matroska_format.specs.Value.{is_known_value}
-use Rattle.tree_format.specs.Node.{Node, Nodes, leaf, master, none, node, nodes_of, list_of, id_of, is_leaf, IsMaster, count, count_all, depth, depth_all, deepest}
-use Rattle.tree_format.specs.NormalForm.{is_filler, header_octets, element_octets, kept_octets, octets, octets_all, content, longest}
-use Rattle.tree_format.specs.Reading.{Grove, Grown, header_at, inside, behind, is_master_in, and_then, as_master, grown, in_front, first_then, grove, as_root, tree_of}
-use Rattle.tree_format.specs.Standing.{IsLeafIn, StandsIn, AllStandIn, IsSound, kept, kept_all, placed, placed_all, placed_in}
+use Rattle.matroska_format.specs.Element.{in_tree, element_in, id_in, with_id, with_size, with_body, body_damage, display_read, stated_end}
+use Rattle.tree_format.specs.Node.{Node, Nodes, leaf, master, none, node, list_of, id_of, IsMaster, count_all, depth, depth_all, deepest}
+use Rattle.tree_format.specs.NormalForm.{is_filler, header_octets, element_octets, octets, octets_all, content, longest}
+use Rattle.tree_format.specs.Reading.{Grove, header_at, inside, behind, is_master_in, and_then, as_master, grown, in_front, first_then, grove, as_root, tree_of}
+use Rattle.tree_format.specs.Standing.{IsLeafIn, AllStandIn, IsSound, kept, kept_all, placed_all, placed_in}
 use Rattle.tree_format.proofs.NodeLemmas.{nodes-list}
 use Rattle.tree_format.proofs.ReadingLemmas.{grove-more, grove-end}
 use Rattle.tree_format.proofs.WrittenLemmas.{length-header_octets}
@@ -104,7 +98,7 @@ unfolding element_in
 element_in-again parent total e p id size rest reads small fits =
     let apart : header_octets id size ++ rest ≡ id_octets id ++ (size_octets size (least_size_width size) ++ rest) = append_assoc (id_octets id) _ rest in
     let tail : drop (uint_width id) (id_octets id ++ (size_octets size (least_size_width size) ++ rest)) ≡ size_octets size (least_size_width size) ++ rest =
-        ap (λ k. drop k (id_octets id ++ (size_octets size (least_size_width size) ++ rest))) (sym (length-uint_octets id)) ∙ drop-append_seam (id_octets id) _ in
+    ap (λ k. drop k (id_octets id ++ (size_octets size (least_size_width size) ++ rest))) (sym (length-uint_octets id)) ∙ drop-append_seam (id_octets id) _ in
     let place : p + uint_width id + least_size_width size ≡ p + length (header_octets id size) = omega (arith, length-header_octets id size) in
     ap (λ o. with_id (in_tree parent) o total p e (id_in (in_tree parent) o)) apart
     ∙ ap (with_id (in_tree parent) (id_octets id ++ (size_octets size (least_size_width size) ++ rest)) total p e) (id_in-again parent id _ reads)
@@ -118,7 +112,7 @@ pub header_at-again : (parent p id : ℕ) (body rest : List ℕ) → IsReadIn pa
 header_at-again parent p id body rest reads small =
     let apart : element_octets id body ++ rest ≡ header_octets id (length body) ++ (body ++ rest) = append_assoc (header_octets id (length body)) body rest in
     let long : length (header_octets id (length body) ++ (body ++ rest)) ≡ length (header_octets id (length body)) + (length body + length rest) =
-        length-append (header_octets id (length body)) (body ++ rest) ∙ ap (λ n. length (header_octets id (length body)) + n) (length-append body rest) in
+    length-append (header_octets id (length body)) (body ++ rest) ∙ ap (λ n. length (header_octets id (length body)) + n) (length-append body rest) in
     ap (header_at parent p) apart
     ∙ element_in-again parent (p + length (header_octets id (length body) ++ (body ++ rest))) (p + length (header_octets id (length body) ++ (body ++ rest))) p id (length body) (body ++ rest) reads small (omega arith)
 
@@ -145,7 +139,7 @@ grove-again room left parent p id body rest reads small =
     let h : Header = header_of p id (length body) in
     let octets : List ℕ = element_octets id body ++ rest in
     let long : length octets ≡ length (header_octets id (length body)) + length body + length rest =
-        length-append (element_octets id body) rest ∙ ap (λ n. n + length rest) (length-append (header_octets id (length body)) body) in
+    length-append (element_octets id body) rest ∙ ap (λ n. n + length rest) (length-append (header_octets id (length body)) body) in
     let some : 0 < length octets = omega (arith, some-header id (length body) [] small, ap length (append-nil (header_octets id (length body)))) in
     let end : stated_end h ≡ p + length (element_octets id body) = omega (arith, length-append (header_octets id (length body)) body) in
     grove-more room left parent p octets some

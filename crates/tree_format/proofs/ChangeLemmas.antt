@@ -1,5 +1,5 @@
 -- How long and how deep a list of trees is that was changed.
-use Rattle.std.proofs.Common.{◌≡◌, ◌≤◌, ℕ, zero, suc, ◌+◌, max, List, [], ◌∷◌, ◌++◌, length, flat_map, filter, Bool, true, false, cond, not, ◌==◌, take, drop, position, Option, Some, None, refl, sym, ap, ◌∙◌, arith, length-append, add-one}
+use Rattle.std.proofs.Common.{◌≡◌, ◌≤◌, ℕ, zero, suc, ◌+◌, max, List, [], ◌∷◌, ◌++◌, length, flat_map, Bool, true, false, cond, not, ◌==◌, take, drop, position, Option, Some, None, refl, sym, ap, ◌∙◌, arith, length-append, add-one}
 use Rattle.std.proofs.lemmas.List.{take-append-drop}
 use Rattle.std.proofs.lemmas.Grind.{flat_map-append}
 use Rattle.tree_format.specs.Node.{Node, nodes_of, id_of, depth, depth_all}

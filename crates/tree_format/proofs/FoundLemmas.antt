@@ -1,5 +1,5 @@
 -- What was read stands where the table allows it, so it can be written and read again.
-use Rattle.std.proofs.Common.{◌≡◌, ◌⊎◌, inl, inr, ℕ, zero, suc, ◌+◌, ◌-◌, ◌<◌, ◌≤◌, ◌==◌, Bool, true, false, not, ◌&&◌, if◌then◌else◌, List, [], ◌∷◌, ◌++◌, slice_index, length, take, drop, filter, position, cond, Option, Some, None, Result, Ok, Err, refl, sym, ◌∙◌, ap, subst, arith}
+use Rattle.std.proofs.Common.{◌≡◌, inl, inr, ℕ, zero, suc, ◌+◌, ◌-◌, ◌<◌, ◌≤◌, ◌==◌, Bool, true, false, ◌&&◌, if◌then◌else◌, List, [], ◌∷◌, slice_index, length, take, drop, Result, Ok, Err, refl, sym, ◌∙◌, ap, subst, arith}
 use Rattle.std.proofs.lemmas.Bool.Decides.{nat_tests}
 use Rattle.ebml_format.specs.declared.number.IdRead.{IdRead}
 use Rattle.ebml_format.specs.declared.number.NumFault.{NumFault}
@@ -12,11 +12,9 @@ use Rattle.mkv_values.specs.declared.damage.Kind.TheVariants.{TooMany, BadValue}
 use Rattle.matroska_format.specs.declared.element.Header.{Header}
 use Rattle.matroska_format.specs.Element.{in_tree, element_in, id_in, with_id, display_read, stated_end}
 use Rattle.matroska_format.specs.Value.{is_known_value}
-use Rattle.tree_format.specs.Node.{Node, Nodes, leaf, master, none, node, nodes_of, list_of, id_of, children, with_children, is_leaf, IsMaster, count, count_all, deepest}
-use Rattle.tree_format.specs.Changes.{without, placed_at, with_child}
+use Rattle.tree_format.specs.Node.{Node, leaf, master, nodes_of, id_of, IsMaster, count, count_all, deepest}
 use Rattle.tree_format.specs.Reading.{Grove, Grown, header_at, inside, behind, is_master_in, refused, and_then, as_master, grown, in_front, first_then, grove, as_root, tree_of}
-use Rattle.tree_format.specs.Standing.{IsLeafIn, StandsIn, AllStandIn, IsSound}
-use Rattle.tree_format.proofs.NodeLemmas.{list-nodes}
+use Rattle.tree_format.specs.Standing.{StandsIn, AllStandIn, IsSound}
 use Rattle.tree_format.proofs.ReadingLemmas.{grove-more, grove-end, header_at-fits, length-inside, length-behind, id-of-size}
 use Rattle.tree_format.proofs.AgainLemmas.{IsReadIn, display-parent}
 
@@ -124,11 +122,11 @@ grove-stands_within (suc n) room left parent p (o ∷ octets) g few bytes is =
     let within = length-inside p (o ∷ octets) h fits in
     let after = length-behind p (o ∷ octets) h fits in
     let first : StandsIn parent element.0.tree =
-        grown-stands room left parent h (inside p h (o ∷ octets)) element.0 (header_at-reads parent p (o ∷ octets) h bytes head.1.0)
-        (λ inner found. grove-stands_within n (room - 1) (left - 1) h.id h.body (inside p h (o ∷ octets)) inner (omega arith)
-        (AreOctets-take _ _ (AreOctets-drop _ (o ∷ octets) bytes)) found) element.1.0 in
+    grown-stands room left parent h (inside p h (o ∷ octets)) element.0 (header_at-reads parent p (o ∷ octets) h bytes head.1.0)
+    (λ inner found. grove-stands_within n (room - 1) (left - 1) h.id h.body (inside p h (o ∷ octets)) inner (omega arith)
+    (AreOctets-take _ _ (AreOctets-drop _ (o ∷ octets) bytes)) found) element.1.0 in
     let rest : AllStandIn parent (nodes_of others.0.trees) =
-        grove-stands_within n room element.0.left parent (stated_end h) (behind p h (o ∷ octets)) others.0 (omega arith) (AreOctets-drop _ (o ∷ octets) bytes) others.1.0 in
+    grove-stands_within n room element.0.left parent (stated_end h) (behind p h (o ∷ octets)) others.0 (omega arith) (AreOctets-drop _ (o ∷ octets) bytes) others.1.0 in
     let same : record { trees = element.0.tree ∷ others.0.trees; left = others.0.left } ≡ g = (let made = others.1.1 in cc) in
     let P : Grove → Type 0 = λ x. AllStandIn parent (nodes_of x.trees) in
     subst P same (first, rest)
@@ -193,10 +191,10 @@ grove-count_within (suc n) room left parent p (o ∷ octets) g few is =
     let within = length-inside p (o ∷ octets) h fits in
     let after = length-behind p (o ∷ octets) h fits in
     let first : count element.0.tree + element.0.left ≡ left =
-        grown-count room left parent h (inside p h (o ∷ octets)) element.0
-        (λ inner found. grove-count_within n (room - 1) (left - 1) h.id h.body (inside p h (o ∷ octets)) inner (omega arith) found) element.1.0 in
+    grown-count room left parent h (inside p h (o ∷ octets)) element.0
+    (λ inner found. grove-count_within n (room - 1) (left - 1) h.id h.body (inside p h (o ∷ octets)) inner (omega arith) found) element.1.0 in
     let rest : count_all (nodes_of others.0.trees) + others.0.left ≡ element.0.left =
-        grove-count_within n room element.0.left parent (stated_end h) (behind p h (o ∷ octets)) others.0 (omega arith) others.1.0 in
+    grove-count_within n room element.0.left parent (stated_end h) (behind p h (o ∷ octets)) others.0 (omega arith) others.1.0 in
     let same : record { trees = element.0.tree ∷ others.0.trees; left = others.0.left } ≡ g = (let made = others.1.1 in cc) in
     let P : Grove → Type 0 = λ x. count_all (nodes_of x.trees) + x.left ≡ left in
     subst P same (omega arith)

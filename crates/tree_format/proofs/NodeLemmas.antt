@@ -1,7 +1,7 @@
 -- Trees and lists of trees.
-use Rattle.std.proofs.Common.{◌≡◌, ◌≤◌, ℕ, ◌+◌, max, List, [], ◌∷◌, ◌++◌, length, flat_map, filter, Bool, true, false, cond, not, ◌==◌, take, drop, Option, Some, None, refl, sym, ap, ap₂, ◌∙◌, arith, length-append, append_assoc}
-use Rattle.tree_format.specs.Node.{Node, Nodes, leaf, master, none, node, nodes_of, list_of, id_of, children, with_children, count, count_all, depth, depth_all, is_leaf, IsMaster}
-use Rattle.tree_format.specs.NormalForm.{octets, octets_all, content}
+use Rattle.std.proofs.Common.{◌≡◌, max, List, [], ◌∷◌, ◌++◌, flat_map, refl, ap, arith}
+use Rattle.tree_format.specs.Node.{Node, Nodes, none, node, nodes_of, list_of, depth_all}
+use Rattle.tree_format.specs.NormalForm.{octets, octets_all}
 
 pub list-nodes : (ns : List Node) → list_of (nodes_of ns) ≡ ns
 list-nodes [] = refl

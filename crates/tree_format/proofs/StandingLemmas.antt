@@ -1,11 +1,11 @@
 -- Changes of children keep what stands.
-use Rattle.std.proofs.Common.{◌≡◌, ℕ, zero, suc, ◌+◌, ◌==◌, ◌≤◌, ◌<◌, max, Bool, true, false, not, cond, List, [], ◌∷◌, ◌++◌, take, drop, filter, position, find, slice_get, Option, Some, None, IfSome, refl, sym, ap, subst, arith}
+use Rattle.std.proofs.Common.{◌≡◌, ℕ, zero, suc, ◌+◌, ◌==◌, ◌≤◌, ◌<◌, Bool, true, false, not, cond, List, [], ◌∷◌, ◌++◌, take, drop, filter, position, find, slice_get, Option, Some, None, IfSome, sym, subst, arith}
 use Rattle.std.specs.Option.{option_copied}
 use denote.Ref.{Bor}
-use Rattle.tree_format.specs.Node.{Node, Nodes, leaf, master, none, node, nodes_of, list_of, id_of, children, with_children, depth, depth_all, deepest, is_leaf, IsMaster, HasRoom}
+use Rattle.tree_format.specs.Node.{Node, Nodes, leaf, master, nodes_of, id_of, children, with_children, depth_all, deepest, IsMaster, HasRoom}
 use Rattle.tree_format.specs.Changes.{without, placed_at, with_child}
 use Rattle.tree_format.specs.Standing.{StandsIn, AllStandIn, IsSound}
-use Rattle.tree_format.proofs.NodeLemmas.{list-nodes, nodes-list}
+use Rattle.tree_format.proofs.NodeLemmas.{nodes-list}
 
 abbrev Stand : ℕ → List Node → Type 0
 Stand parent ns = AllStandIn parent (nodes_of ns)

@@ -1,5 +1,5 @@
 -- How many octets are written.
-use Rattle.std.proofs.Common.{◌≡◌, ◌≤◌, ◌<◌, ℕ, ◌+◌, List, length, Bool, true, false, if◌then◌else◌, refl, ap, ap₂, ◌∙◌, arith, length-append}
+use Rattle.std.proofs.Common.{◌≡◌, ℕ, ◌+◌, List, length, true, false, refl, ap, ap₂, ◌∙◌, length-append}
 use Rattle.ebml_format.specs.Number.{id_octets, size_octets, least_size_width, uint_width}
 use Rattle.ebml_format.proofs.NumberLemmas.{length-uint_octets, length-size_octets}
 use Rattle.tree_format.specs.NormalForm.{is_filler, header_octets, element_octets, kept_octets}
@@ -13,7 +13,7 @@ length-header_octets id size =
 pub length-kept_octets : (id : ℕ) (body : List ℕ) (size : ℕ) → length body ≡ size → is_filler id ≡ false → length (kept_octets id body) ≡ uint_width id + least_size_width size + size
 length-kept_octets id body size is keeps =
     let whole : length (element_octets id body) ≡ uint_width id + least_size_width size + size =
-        length-append (header_octets id (length body)) body ∙ ap₂ (λ m n. m + n) (ap (λ n. length (header_octets id n)) is ∙ length-header_octets id size) is in
+    length-append (header_octets id (length body)) body ∙ ap₂ (λ m n. m + n) (ap (λ n. length (header_octets id n)) is ∙ length-header_octets id size) is in
     rw keeps whole
 
 -- one that is left out has none

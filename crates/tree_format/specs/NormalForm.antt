@@ -1,8 +1,8 @@
 -- The octets that a tree is written in: RFC 8794, sections 5 (Element ID) and 6 (Element Data Size).
-use Rattle.std.specs.Prelude.{◌≡◌, ◌≤◌, ℕ, ◌+◌, ◌-◌, ◌^◌, ◌==◌, Bool, ◌||◌, if◌then◌else◌, List, [], ◌++◌, length, flat_map}
+use Rattle.std.specs.Prelude.{ℕ, ◌-◌, ◌^◌, ◌==◌, Bool, ◌||◌, if◌then◌else◌, List, [], ◌++◌, length}
 use Rattle.ebml_format.specs.Number.{id_octets, size_octets, least_size_width}
 use Rattle.mkv_schema.specs.declared.ids.TheConstants.{VOID, CRC_32}
-use Rattle.tree_format.specs.Node.{Node, Nodes, leaf, master, none, node, children, is_leaf}
+use Rattle.tree_format.specs.Node.{Node, Nodes, leaf, master, none, node}
 
 -- Void and CRC-32 say nothing of what a master holds, and are left out (section 11.3, Global Elements).
 abbrev pub is_filler : ℕ → Bool

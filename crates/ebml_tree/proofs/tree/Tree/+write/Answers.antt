@@ -1,5 +1,5 @@
 -- Once every child is written, the whole Element is.
-use Rattle.std.proofs.Common.{◌≡◌, ◌++◌, flat_map, drop, append-nil, sym, ap, ◌∙◌, rules}
+use Rattle.std.proofs.Common.{◌≡◌, ◌++◌, flat_map, append-nil, sym, ap, ◌∙◌, rules}
 use Rattle.tree_format.specs.NormalForm.{octets}
 use Rattle.ebml_tree.specs.View.{content_of}
 use Rattle.ebml_tree.proofs.ContentLemmas.{written-whole}

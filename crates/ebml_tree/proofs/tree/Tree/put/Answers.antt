@@ -1,5 +1,5 @@
 -- A tree keeps the limits that the law of the normal form asks for.
-use Rattle.std.proofs.Common.{◌≡◌, ◌≤◌, length, arith}
+use Rattle.std.proofs.Common.{◌≤◌, length, arith}
 use Rattle.tree_format.specs.Node.{depth, deepest}
 use Rattle.tree_format.specs.NormalForm.{content, longest}
 use Rattle.tree_format.proofs.AgainLemmas.{tree_of-content}

@@ -1,8 +1,6 @@
 -- The deepest so far, with what is left, is the deepest of all.
-use Rattle.std.proofs.Common.{◌≡◌, ◌≤◌, ◌+◌, ◌-◌, ◌++◌, ◌==◌, max, length, flat_map, filter, slice_get, take, drop}
-use Rattle.tree_format.specs.Node.{id_of, nodes_of, depth_all}
-use Rattle.tree_format.specs.NormalForm.{octets, longest}
-use Rattle.tree_format.specs.Changes.{without}
+use Rattle.std.proofs.Common.{◌≡◌, max, drop}
+use Rattle.tree_format.specs.Node.{nodes_of, depth_all}
 use Rattle.ebml_tree.proofs.tree.content.depth_around.Given as goal
 
 abbrev pub invariant-loop-tree : goal.invariant-loop-tree

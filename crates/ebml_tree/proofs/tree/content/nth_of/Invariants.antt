@@ -1,8 +1,6 @@
 -- The place among what is left is that among all.
-use Rattle.std.proofs.Common.{◌≡◌, ◌≤◌, ◌+◌, ◌-◌, ◌++◌, ◌==◌, max, length, flat_map, filter, slice_get, take, drop}
-use Rattle.tree_format.specs.Node.{id_of, nodes_of, depth_all}
-use Rattle.tree_format.specs.NormalForm.{octets, longest}
-use Rattle.tree_format.specs.Changes.{without}
+use Rattle.std.proofs.Common.{◌≡◌, ◌==◌, filter, slice_get, drop}
+use Rattle.tree_format.specs.Node.{id_of}
 use Rattle.ebml_tree.proofs.tree.content.nth_of.Given as goal
 
 abbrev pub invariant-loop-tree : goal.invariant-loop-tree

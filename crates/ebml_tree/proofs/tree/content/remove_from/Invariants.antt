@@ -1,7 +1,5 @@
 -- What was looked at has no other of the ID, and what is left is as it was.
-use Rattle.std.proofs.Common.{◌≡◌, ◌≤◌, ◌+◌, ◌-◌, ◌++◌, ◌==◌, max, length, flat_map, filter, slice_get, take, drop}
-use Rattle.tree_format.specs.Node.{id_of, nodes_of, depth_all}
-use Rattle.tree_format.specs.NormalForm.{octets, longest}
+use Rattle.std.proofs.Common.{◌≡◌, ◌≤◌, ◌-◌, ◌++◌, length, take, drop}
 use Rattle.tree_format.specs.Changes.{without}
 use Rattle.ebml_tree.proofs.tree.content.remove_from.Given as goal
 

@@ -1,8 +1,6 @@
 -- The sum, with what is left, is the whole.
-use Rattle.std.proofs.Common.{◌≡◌, ◌≤◌, ◌+◌, ◌-◌, ◌++◌, ◌==◌, max, length, flat_map, filter, slice_get, take, drop}
-use Rattle.tree_format.specs.Node.{id_of, nodes_of, depth_all}
-use Rattle.tree_format.specs.NormalForm.{octets, longest}
-use Rattle.tree_format.specs.Changes.{without}
+use Rattle.std.proofs.Common.{◌≡◌, ◌+◌, length, flat_map, drop}
+use Rattle.tree_format.specs.NormalForm.{octets}
 use Rattle.ebml_tree.proofs.tree.content.written_together.Given as goal
 
 abbrev pub invariant-loop-tree : goal.invariant-loop-tree

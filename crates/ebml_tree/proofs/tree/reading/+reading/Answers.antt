@@ -1,5 +1,5 @@
 -- A body is read one Element at a time, and the first damage is that of all.
-use Rattle.std.proofs.Common.{◌≡◌, ◌<◌, length, sym, arith}
+use Rattle.std.proofs.Common.{◌≡◌, ◌<◌, length, arith}
 use Rattle.std.proofs.lemmas.Result.{err_from_is_err_and}
 use Rattle.std.proofs.lemmas.Bool.Decides.{nat_tests}
 use Rattle.tree_format.proofs.ReadingLemmas.{read-all, read-damaged, read-damaged_inside, read-more}

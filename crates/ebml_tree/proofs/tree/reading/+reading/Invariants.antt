@@ -1,5 +1,5 @@
 -- A master has less room than its parent, and an Element is read from its parent's octets.
-use Rattle.std.proofs.Common.{◌+◌, ◌*◌, ◌≤◌, ◌^◌, length}
+use Rattle.std.proofs.Common.{◌+◌, ◌*◌, length}
 use Rattle.tree_format.proofs.ReadingLemmas.{ReadOn}
 use Rattle.ebml_tree.proofs.tree.reading.+reading.Given as goal
 
