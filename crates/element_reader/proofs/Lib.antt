@@ -1,3 +1,6 @@
+pub mod ChildLemmas
+pub mod ChildrenLemmas
 pub mod CollectedLemmas
 pub mod LevelLemmas
 pub mod SegmentLemmas
+pub mod ValueLemmas

@@ -1,3 +1,4 @@
+pub mod Child
 pub mod Collected
 pub mod Head
 pub mod Level

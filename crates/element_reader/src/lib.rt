@@ -3,10 +3,12 @@
 //! The outline of a Matroska file: its EBML header, its Segment, and the Elements of level 1.
 
 mod body;
+mod child;
 mod collected;
 mod head;
 mod level;
 mod segment;
+mod value;
 
 pub use body::{LoadEnd, load};
 pub use element_headers::{Header, Parent};

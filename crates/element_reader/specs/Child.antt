@@ -1,0 +1,21 @@
+-- The body of a master that is read whole.
+use Rattle.std.specs.Prelude.{◌≡◌, ℕ, ◌+◌, ◌≤◌, List, [], ◌∷◌, length, Option}
+use Rattle.mkv_schema.specs.declared.ids.TheConstants.{EBML}
+use Rattle.mkv_values.specs.declared.damage.Damage.{Damage}
+use Rattle.matroska_format.specs.Element.{octets_between, in_tree}
+use Rattle.matroska_format.specs.Elements.{Run, children_in}
+use Rattle.matroska_format.specs.Outline.{first_damage, bad_value}
+
+-- These octets are a body that begins at a place of a content of `total` octets.
+pub record IsBody (bytes : List ℕ) (base total : ℕ) (body : List ℕ) : Type 0 where
+  pub whole : length bytes ≡ total
+  pub within : base + length body ≤ total
+  pub octets : body ≡ octets_between bytes base (base + length body)
+
+-- the children of the EBML header, from a place on
+abbrev pub children : List ℕ → ℕ → ℕ → Run
+children bytes p e = children_in (in_tree EBML) bytes p e
+
+-- what refuses them: the first that isn't a value of its kind, or the damage among them
+abbrev pub child_refusal : List ℕ → Run → Option Damage
+child_refusal bytes run = first_damage (bad_value bytes EBML run.list ∷ run.damage ∷ [])
