@@ -1,6 +1,7 @@
 pub mod ChildLemmas
 pub mod ChildrenLemmas
 pub mod CollectedLemmas
+pub mod FieldLemmas
 pub mod LevelLemmas
 pub mod SegmentLemmas
 pub mod ValueLemmas

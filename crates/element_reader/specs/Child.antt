@@ -1,9 +1,10 @@
 -- The body of a master that is read whole.
-use Rattle.std.specs.Prelude.{◌≡◌, ℕ, ◌+◌, ◌≤◌, List, [], ◌∷◌, length, Option}
+use Rattle.std.specs.Prelude.{◌≡◌, true, ℕ, ◌+◌, ◌≤◌, List, [], ◌∷◌, length, Option}
 use Rattle.mkv_schema.specs.declared.ids.TheConstants.{EBML}
 use Rattle.mkv_values.specs.declared.damage.Damage.{Damage}
 use Rattle.matroska_format.specs.Element.{octets_between, in_tree}
 use Rattle.matroska_format.specs.Elements.{Run, children_in}
+use Rattle.matroska_format.specs.Value.{is_known_value}
 use Rattle.matroska_format.specs.Outline.{first_damage, bad_value}
 
 -- These octets are a body that begins at a place of a content of `total` octets.
@@ -19,3 +20,7 @@ children bytes p e = children_in (in_tree EBML) bytes p e
 -- what refuses them: the first that isn't a value of its kind, or the damage among them
 abbrev pub child_refusal : List ℕ → Run → Option Damage
 child_refusal bytes run = first_damage (bad_value bytes EBML run.list ∷ run.damage ∷ [])
+
+-- a value of this ID in an EBML header has at most 8 octets
+abbrev pub IsShort : ℕ → Type 0
+IsShort id = (body : List ℕ) → is_known_value EBML id body ≡ true → length body ≤ 8

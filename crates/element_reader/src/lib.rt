@@ -5,6 +5,7 @@
 mod body;
 mod child;
 mod collected;
+mod field;
 mod head;
 mod level;
 mod segment;
