@@ -1,5 +1,5 @@
 -- The values of an EBML header.
-use Rattle.std.proofs.Common.{◌≡◌, ℕ, ◌≤◌, ◌==◌, min, nat_le, Bool, true, false, not, cond, List, [], ◌∷◌, length, take, Option, Some, None, refl, ◌∙◌, ap, subst, arith}
+use Rattle.std.proofs.Common.{◌≡◌, ℕ, ◌≤◌, ◌==◌, min, nat_le, nat_lt, Bool, true, false, not, cond, List, [], ◌∷◌, length, take, Option, Some, None, refl, ◌∙◌, ap, subst, arith}
 use Rattle.std.specs.Option.{option_map, option_map_or, option_or}
 use Rattle.std.specs.List.{find}
 use Rattle.std.proofs.lemmas.Grind.{common_steps}
@@ -9,12 +9,12 @@ use Rattle.mkv_schema.specs.declared.ids.TheConstants.{EBML, EBML_READ_VERSION, 
 use Rattle.mkv_schema.specs.Table.{table}
 use Rattle.mkv_schema.specs.Schema.{entry_of}
 use Rattle.mkv_values.specs.declared.damage.Damage.{Damage}
-use Rattle.mkv_values.specs.declared.damage.Kind.TheVariants.{BadValue}
+use Rattle.mkv_values.specs.declared.damage.Kind.TheVariants.{BadValue, HeaderTooLarge}
 use Rattle.matroska_format.specs.declared.element.Header.{Header}
-use Rattle.matroska_format.specs.Element.{damage}
+use Rattle.matroska_format.specs.Element.{damage, known}
 use Rattle.matroska_format.specs.Elements.{Run}
 use Rattle.matroska_format.specs.Value.{body_of, is_known_value, first_of, uint_value, uint_in}
-use Rattle.matroska_format.specs.Outline.{first_damage, bad_value}
+use Rattle.matroska_format.specs.Outline.{first_damage, bad_value, over, where_it, MOST_OF_HEADER}
 use Rattle.element_reader.specs.Child.{IsShort, child_refusal}
 
 -- where nothing refuses the children, none has a bad value
@@ -62,21 +62,35 @@ uint_in-is bytes id list h value first is =
 -- ---- what refuses an EBML header
 
 -- the children refuse it
-pub refused-by_child : (bad found a b c d e : Option Damage) (refusal : Damage) → first_damage (bad ∷ found ∷ []) ≡ Some refusal → first_damage (None ∷ bad ∷ found ∷ a ∷ b ∷ c ∷ d ∷ e ∷ []) ≡ Some refusal
-refused-by_child (Some x) found a b c d e refusal is = is
-refused-by_child None (Some x) a b c d e refusal is = is
-refused-by_child None None a b c d e refusal is = absurd (cc)
+pub refused-by_child : (large bad found : Option Damage) (values : List (Option Damage)) (refusal : Damage) → large ≡ None → first_damage (bad ∷ found ∷ []) ≡ Some refusal → first_damage (large ∷ bad ∷ found ∷ values) ≡ Some refusal
+refused-by_child (Some x) bad found values refusal few is = absurd (cc)
+refused-by_child None (Some x) found values refusal few is = is
+refused-by_child None None (Some x) values refusal few is = is
+refused-by_child None None None values refusal few is = absurd (cc)
 
--- or their values do, the first in order
-pub refused-by_value : (bad found a b c d e : Option Damage) → first_damage (bad ∷ found ∷ []) ≡ None → first_damage (None ∷ bad ∷ found ∷ a ∷ b ∷ c ∷ d ∷ e ∷ []) ≡ option_or (option_or (option_or (option_or a b) c) d) e
-refused-by_value (Some x) found a b c d e is = absurd (cc)
-refused-by_value None (Some x) a b c d e is = absurd (cc)
-refused-by_value None None (Some a) b c d e is = refl
-refused-by_value None None None (Some b) c d e is = refl
-refused-by_value None None None None (Some c) d e is = refl
-refused-by_value None None None None None (Some d) e is = refl
-refused-by_value None None None None None None (Some e) is = refl
-refused-by_value None None None None None None None is = refl
+-- or their values do
+pub refused-by_value : (large bad found : Option Damage) (values : List (Option Damage)) → large ≡ None → first_damage (bad ∷ found ∷ []) ≡ None → first_damage (large ∷ bad ∷ found ∷ values) ≡ first_damage values
+refused-by_value (Some x) bad found values few is = absurd (cc)
+refused-by_value None (Some x) found values few is = absurd (cc)
+refused-by_value None None (Some x) values few is = absurd (cc)
+refused-by_value None None None values few is = refl
+
+-- the first of five
+pub first-of_five : (a b c d e : Option Damage) → option_or (option_or (option_or (option_or a b) c) d) e ≡ first_damage (a ∷ b ∷ c ∷ d ∷ e ∷ [])
+first-of_five (Some a) b c d e = refl
+first-of_five None (Some b) c d e = refl
+first-of_five None None (Some c) d e = refl
+first-of_five None None None (Some d) e = refl
+first-of_five None None None None (Some e) = refl
+first-of_five None None None None None = refl
+
+-- a header that isn't longer than the limit
+pub over-none : (h : Header) → known h.size ≤ MOST_OF_HEADER → over MOST_OF_HEADER h ≡ None
+over-none h few = split (nat_lt MOST_OF_HEADER (known h.size)) (grind (arith, nat_tests))
+  where
+    split : (test : Bool) → test ≡ false → where_it test (damage HeaderTooLarge h.id h.offset) ≡ None
+    split false is = refl
+    split true is = absurd (cc)
 
 -- ---- the integers of the EBML header
 

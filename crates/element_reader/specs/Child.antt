@@ -1,11 +1,13 @@
 -- The body of a master that is read whole.
 use Rattle.std.specs.Prelude.{◌≡◌, true, ℕ, ◌+◌, ◌≤◌, List, [], ◌∷◌, length, Option}
-use Rattle.mkv_schema.specs.declared.ids.TheConstants.{EBML}
+use Rattle.mkv_schema.specs.declared.ids.TheConstants.{EBML, EBML_READ_VERSION, DOC_TYPE_READ_VERSION, EBML_MAX_ID_LENGTH, EBML_MAX_SIZE_LENGTH}
 use Rattle.mkv_values.specs.declared.damage.Damage.{Damage}
+use Rattle.mkv_values.specs.declared.damage.Kind.TheVariants.{ReadVersion, MaxLengths}
+use Rattle.matroska_format.specs.declared.element.Header.{Header}
 use Rattle.matroska_format.specs.Element.{octets_between, in_tree}
 use Rattle.matroska_format.specs.Elements.{Run, children_in}
 use Rattle.matroska_format.specs.Value.{is_known_value}
-use Rattle.matroska_format.specs.Outline.{first_damage, bad_value}
+use Rattle.matroska_format.specs.Outline.{first_damage, bad_value, wrong_doc_type, above}
 
 -- These octets are a body that begins at a place of a content of `total` octets.
 pub record IsBody (bytes : List ℕ) (base total : ℕ) (body : List ℕ) : Type 0 where
@@ -24,3 +26,13 @@ child_refusal bytes run = first_damage (bad_value bytes EBML run.list ∷ run.da
 -- a value of this ID in an EBML header has at most 8 octets
 abbrev pub IsShort : ℕ → Type 0
 IsShort id = (body : List ℕ) → is_known_value EBML id body ≡ true → length body ≤ 8
+
+-- what refuses the values of an EBML header's children, in the order in which it is told
+abbrev pub value_causes : List ℕ → List Header → List (Option Damage)
+value_causes bytes list =
+    wrong_doc_type bytes list ∷
+    above bytes EBML_READ_VERSION 1 ReadVersion list ∷
+    above bytes DOC_TYPE_READ_VERSION 4 ReadVersion list ∷
+    above bytes EBML_MAX_ID_LENGTH 4 MaxLengths list ∷
+    above bytes EBML_MAX_SIZE_LENGTH 8 MaxLengths list ∷
+    []

@@ -70,7 +70,8 @@ fn place_of(body: &[u8], base: u64, total: u64, id: u32) -> u64
     }
 }
 
-fn wrong_doc_type(body: &[u8], base: u64, total: u64) -> Option<Damage>
+/// What refuses the document type.
+pub fn wrong_doc_type(body: &[u8], base: u64, total: u64) -> Option<Damage>
     requires { base + length body.now ≤ 2 ^ 48 }
     ensures { (bytes : List ℕ) → IsBody bytes base total body.now
         → result ≡ wrong_doc_type bytes (children bytes base (base + length body.now)).list }
@@ -85,7 +86,8 @@ fn wrong_doc_type(body: &[u8], base: u64, total: u64) -> Option<Damage>
     })
 }
 
-fn above(body: &[u8], base: u64, total: u64, id: u32, limit: u64, kind: Kind) -> Option<Damage>
+/// What refuses an integer that is above what is read.
+pub fn above(body: &[u8], base: u64, total: u64, id: u32, limit: u64, kind: Kind) -> Option<Damage>
     requires few { base + length body.now ≤ 2 ^ 48 }
     requires short { IsShort id }
     ensures { (bytes : List ℕ) → IsBody bytes base total body.now

@@ -5,6 +5,7 @@
 mod body;
 mod child;
 mod collected;
+mod ebml;
 mod field;
 mod head;
 mod level;
