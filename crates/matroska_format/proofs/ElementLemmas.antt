@@ -1,5 +1,5 @@
 -- What follows where an Element stands at a place.
-use Rattle.std.proofs.Common.{zero, suc, ap₂, IfOk, ◌≡◌, ◌==◌, ◌&&◌, ◌∷◌, [], slice_index, Bool, true, false, if◌then◌else◌, ℕ, ◌+◌, ◌-◌, ◌<◌, ◌≤◌, min, List, length, take, drop, Option, Some, None, Result, Ok, Err, refl, sym, ◌∙◌, ap, subst, arith}
+use Rattle.std.proofs.Common.{zero, suc, ap₂, IfOk, ◌≡◌, ◌==◌, ◌&&◌, ◌∷◌, [], slice_index, Bool, true, false, if◌then◌else◌, ℕ, ◌+◌, ◌-◌, ◌≤◌, min, List, length, take, drop, Option, Some, None, Result, Ok, Err, refl, sym, ◌∙◌, ap, subst, arith}
 use Rattle.std.proofs.Math.Nat.{min_comm}
 use Rattle.std.proofs.lemmas.List.{length-take, length-drop, drop-take}
 use Rattle.std.proofs.lemmas.Bool.Decides.{nat_tests}

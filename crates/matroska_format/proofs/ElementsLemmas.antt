@@ -1,9 +1,9 @@
 -- The Elements from a place on, one step at a time.
-use Rattle.std.proofs.Common.{◌≡◌, ℕ, zero, suc, ◌+◌, ◌-◌, ◌<◌, ◌≤◌, nat_lt, Bool, true, false, if◌then◌else◌, List, Option, Some, None, Result, Ok, Err, refl, sym, ◌∙◌, ap, arith}
+use Rattle.std.proofs.Common.{◌≡◌, ℕ, zero, suc, ◌-◌, ◌<◌, ◌≤◌, nat_lt, Bool, true, false, if◌then◌else◌, List, Option, Some, None, Result, Ok, Err, refl, sym, ◌∙◌, ap, arith}
 use Rattle.mkv_values.specs.declared.damage.Damage.{Damage}
 use Rattle.matroska_format.specs.declared.element.Header.{Header}
 use Rattle.matroska_format.specs.Element.{Setting, in_segment, in_master, element_at, end_in, is_unknown}
-use Rattle.matroska_format.specs.Elements.{Run, Next, ends_at, breaks_at, before, behind, step, id_of, elements, elements_within}
+use Rattle.matroska_format.specs.Elements.{Run, Next, ends_at, before, behind, step, id_of, elements, elements_within}
 use Rattle.matroska_format.specs.Elements.{open_cluster, ends_cluster, end_of_run, behind_in_segment}
 use Rattle.matroska_format.proofs.ElementLemmas.{element_at-placed}
 

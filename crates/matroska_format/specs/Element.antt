@@ -1,5 +1,5 @@
 -- The Element at a place of a file: RFC 8794, sections 5 (Element ID), 6 (Element Data Size) and 6.2 (Unknown Data Size).
-use Rattle.std.specs.Prelude.{ℕ, ◌+◌, ◌-◌, ◌==◌, nat_lt, min, Bool, true, false, not, ◌&&◌, ◌||◌, if◌then◌else◌, List, [], ◌∷◌, length, take, drop, slice_index, find, Option, Some, None, Result, Ok, Err}
+use Rattle.std.specs.Prelude.{ℕ, ◌+◌, ◌==◌, nat_lt, min, Bool, true, false, not, ◌&&◌, ◌||◌, if◌then◌else◌, List, length, take, drop, slice_index, Option, Some, None, Result, Ok, Err}
 use Rattle.ebml_format.specs.declared.number.IdRead.{IdRead}
 use Rattle.ebml_format.specs.declared.number.NumFault.{NumFault}
 use Rattle.ebml_format.specs.declared.number.NumFault.TheVariants as fault

@@ -1,11 +1,11 @@
 -- The Elements that stand one behind the other: RFC 8794, section 7.7 (Master Element), and section 6.2 (Unknown Data Size).
-use Rattle.std.specs.Prelude.{ℕ, zero, suc, ◌-◌, nat_lt, Bool, true, false, ◌||◌, if◌then◌else◌, List, [], ◌∷◌, Option, Some, None, Result, Ok, Err}
+use Rattle.std.specs.Prelude.{ℕ, zero, suc, ◌-◌, nat_lt, Bool, false, ◌||◌, if◌then◌else◌, List, [], ◌∷◌, Option, Some, None, Result, Ok, Err}
 use Rattle.ebml_format.specs.declared.number.Size.{Size}
 use Rattle.ebml_format.specs.declared.number.Size.TheVariants.{Known, Unknown}
 use Rattle.mkv_schema.specs.Schema.{is_level0, is_level1}
 use Rattle.mkv_values.specs.declared.damage.Damage.{Damage}
 use Rattle.matroska_format.specs.declared.element.Header.{Header}
-use Rattle.matroska_format.specs.Element.{Setting, at_level_0, in_segment, in_master, in_tree, element_at, end_in, is_unknown}
+use Rattle.matroska_format.specs.Element.{Setting, in_segment, in_master, element_at, end_in, is_unknown}
 
 -- The Elements from a place on; the damage that ends them, if one does; and the place where they end.
 pub record Run : Type 0 where

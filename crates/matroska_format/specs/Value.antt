@@ -1,8 +1,8 @@
 -- The values of leaves: RFC 8794, section 7 (EBML Element Types).
-use Rattle.std.specs.Prelude.{ℕ, ◌-◌, ◌==◌, nat_le, Bool, true, false, not, ◌&&◌, ◌||◌, if◌then◌else◌, List, [], ◌∷◌, length, take_while, find, Option, Some, None, unwrap_or, is_none, ℤ, pos}
-use Rattle.std.specs.Option.{option_map, option_map_or}
+use Rattle.std.specs.Prelude.{ℕ, ◌==◌, nat_le, Bool, true, not, ◌||◌, if◌then◌else◌, List, [], ◌∷◌, length, take_while, find, Option, Some, unwrap_or}
+use Rattle.std.specs.Option.{option_map_or}
 use Rattle.std.specs.Str.{is_utf8}
-use Rattle.ebml_format.specs.Number.{uint_of, int_of}
+use Rattle.ebml_format.specs.Number.{uint_of}
 use Rattle.mkv_schema.specs.declared.kind.ElementKind.{ElementKind}
 use Rattle.mkv_schema.specs.declared.kind.ElementKind.TheVariants.{Master, Uint, Int, Float, Ascii, Utf8, Date, Binary}
 use Rattle.mkv_schema.specs.Schema.{kind_of, may_stand, uint_default, text_default}
