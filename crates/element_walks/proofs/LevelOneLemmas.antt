@@ -1,10 +1,10 @@
 -- The Elements of level 1, one step at a time.
-use Rattle.std.proofs.Common.{◌≡◌, ℕ, ◌<◌, ◌≤◌, Bool, true, false, if◌then◌else◌, List, Result, Ok, Err, refl, sym, ◌∙◌, ap, subst}
+use Rattle.std.proofs.Common.{◌≡◌, ℕ, ◌<◌, ◌≤◌, true, false, if◌then◌else◌, List, Result, Ok, Err, refl, sym, ◌∙◌, ap}
 use Rattle.ebml_format.specs.declared.number.Size.{Size}
 use Rattle.mkv_values.specs.declared.damage.Damage.{Damage}
 use Rattle.matroska_format.specs.declared.element.Header.{Header}
 use Rattle.matroska_format.specs.Element.{in_segment, element_at}
-use Rattle.matroska_format.specs.Elements.{Run, ends_at, breaks_at, behind, step, id_of, elements, ends_segment, behind_in_segment, level_1}
+use Rattle.matroska_format.specs.Elements.{Run, ends_at, breaks_at, behind, step, id_of, ends_segment, behind_in_segment, level_1}
 use Rattle.matroska_format.proofs.ElementsLemmas.{elements-end, elements-more, Advances-segment}
 use Rattle.element_walks.specs.Steps.{StepsOn}
 use Rattle.element_walks.specs.declared.level_one.Step.TheVariants.{Element}

@@ -1,5 +1,5 @@
 -- What a walk forwards through a window has read.
-use Rattle.std.proofs.Common.{ℕ, ◌+◌, ◌≤◌, arith}
+use Rattle.std.proofs.Common.{ℕ, ◌≤◌, arith}
 use Rattle.element_window.specs.Window.{Held, IsBefore, MovesTo}
 
 -- a walk that hasn't begun has read nothing

@@ -1,10 +1,9 @@
 -- The children of a Cluster of unknown size, one step at a time.
-use Rattle.std.proofs.Common.{◌≡◌, ℕ, ◌<◌, ◌≤◌, Bool, true, false, ◌||◌, if◌then◌else◌, List, Option, Some, None, Result, Ok, Err, refl, ◌∙◌, ap, subst}
-use Rattle.mkv_schema.specs.Schema.{is_level0, is_level1}
+use Rattle.std.proofs.Common.{◌≡◌, ℕ, ◌<◌, ◌≤◌, true, false, if◌then◌else◌, List, Result, Ok, Err, ◌∙◌, ap, subst}
 use Rattle.mkv_values.specs.declared.damage.Damage.{Damage}
 use Rattle.matroska_format.specs.declared.element.Header.{Header}
 use Rattle.matroska_format.specs.Element.{in_master, element_at, end_in}
-use Rattle.matroska_format.specs.Elements.{Run, ends_at, step, id_of, elements, ends_cluster, open_cluster}
+use Rattle.matroska_format.specs.Elements.{ends_at, step, id_of, ends_cluster, open_cluster}
 use Rattle.matroska_format.proofs.ElementsLemmas.{elements-end, elements-more, Advances-known}
 use Rattle.element_walks.specs.Walk.{run_end, cluster_end}
 

@@ -1,6 +1,5 @@
 -- What a step over the Elements of a Segment says of those that are left.
-use Rattle.std.specs.Prelude.{◌≡◌, ℕ, ◌<◌, ◌≤◌, ⊤, Result, Ok, Err}
-use Rattle.mkv_values.specs.declared.damage.Damage.{Damage}
+use Rattle.std.specs.Prelude.{◌≡◌, ℕ, ◌<◌, ◌≤◌, ⊤, Ok, Err}
 use Rattle.matroska_format.specs.Elements.{Run, before, breaks_at, ends_at}
 use Rattle.element_walks.specs.Walk.{place_or}
 use Rattle.element_walks.specs.declared.level_one.Step.{Step}

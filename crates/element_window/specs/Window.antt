@@ -1,5 +1,5 @@
 -- What a window holds of a file.
-use Rattle.std.specs.Prelude.{◌≡◌, ℕ, ◌+◌, ◌*◌, ◌-◌, ◌≤◌, ◌==◌, min, List, length, take, drop, if◌then◌else◌}
+use Rattle.std.specs.Prelude.{◌≡◌, ℕ, ◌+◌, ◌*◌, ◌-◌, ◌≤◌, ◌==◌, min, List, length, if◌then◌else◌}
 use Rattle.mkv_io.specs.Contents.{octets_from}
 
 -- octets, and the place of the first of them

@@ -1,4 +1,4 @@
-use Rattle.std.proofs.Common.{◌≡◌, ◌≤◌, ℕ, List, Result, Option, Some, sym, ◌∙◌, ap, subst, arith, rules}
+use Rattle.std.proofs.Common.{◌≤◌, sym, ◌∙◌, ap, subst, arith, rules}
 use Rattle.matroska_format.specs.Elements.{ends_cluster, id_of}
 use Rattle.element_window.specs.Window.{IsBefore, MovesTo}
 use Rattle.element_walks.specs.Walk.{cluster_end}

@@ -1,4 +1,4 @@
-use Rattle.std.proofs.Common.{◌≡◌, ◌-◌, ◌≤◌, ℕ}
+use Rattle.std.proofs.Common.{◌≡◌, ◌-◌, ◌≤◌}
 use Rattle.mkv_io.specs.Told.{Told}
 use Rattle.element_window.specs.Window.{Holds, IsBefore, MovesTo}
 use Rattle.element_walks.specs.Walk.{cluster_end}

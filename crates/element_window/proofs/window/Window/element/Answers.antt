@@ -1,4 +1,4 @@
-use Rattle.std.proofs.Common.{◌≡◌, ℕ, List, length, take, drop, ◌∙◌, sym, ap}
+use Rattle.std.proofs.Common.{◌≡◌, length, take, drop, ◌∙◌, sym, ap}
 use Rattle.element_headers.specs.Parent.{setting_of}
 use Rattle.matroska_format.specs.Element.{element_in}
 use Rattle.matroska_format.proofs.ElementLemmas.{element_at-front}
