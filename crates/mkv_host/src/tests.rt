@@ -25,6 +25,7 @@ fn a_file_keeps_what_it_is_given(rt: HostRuntime) -> Result<(), Fail> {
     files.close(made);
 
     let opened = files.open_file(NAME).ok().ok_or("not opened")?;
+    assert_eq!(rt; files.size(opened), 17);
     let mut end = [0; 5];
     assert!(rt; files.read_at(opened, 12, &mut end).is_ok());
     assert_eq!(rt; end, *b" WebM");
