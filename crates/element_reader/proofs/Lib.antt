@@ -1,6 +1,7 @@
 pub mod ChildLemmas
 pub mod ChildrenLemmas
 pub mod CollectedLemmas
+pub mod EbmlLemmas
 pub mod FieldLemmas
 pub mod LevelLemmas
 pub mod SegmentLemmas
