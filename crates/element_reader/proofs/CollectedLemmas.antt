@@ -11,7 +11,7 @@ use Rattle.matroska_format.specs.declared.element.Header.{Header}
 use Rattle.matroska_format.specs.Element.{known}
 use Rattle.matroska_format.specs.Value.{first_of}
 use Rattle.matroska_format.specs.Outline.{first_damage, where_it, is_described, described, others, passes_size, passes_count, MOST_OF_ONE, MOST_OF_ALL, MOST_ELEMENTS}
-use Rattle.element_reader.specs.Collected.{Keeps, others_of, first_cluster, octets_of}
+use Rattle.element_reader.specs.Collected.{Keeps, others_of, octets_of}
 use Rattle.element_reader.specs.declared.collected.Collected.{Collected}
 
 -- one more Element that isn't a Cluster
@@ -19,8 +19,8 @@ abbrev pub kept_of : Header → List Header
 kept_of h = if not (h.id == CLUSTER) then h ∷ [] else []
 
 -- one more Cluster
-abbrev pub cluster_of : Header → Option ℕ
-cluster_of h = if h.id == CLUSTER then Some h.offset else None
+abbrev pub cluster_of : Header → Option Header
+cluster_of h = if h.id == CLUSTER then Some h else None
 
 pub described-more : (list : List Header) (h : Header) → described (list ++ h ∷ []) ≡ described list + octets_of h
 described-more list h =
@@ -35,23 +35,16 @@ described-more list h =
 pub others-more : (list : List Header) (h : Header) → others_of (list ++ h ∷ []) ≡ others_of list ++ kept_of h
 others-more list h = filter-append (λ k. not (k.id == CLUSTER)) list (h ∷ [])
 
-pub first_cluster-more : (list : List Header) (h : Header) → first_cluster (list ++ h ∷ []) ≡ option_or (first_cluster list) (cluster_of h)
-first_cluster-more list h =
-    ap (option_map (λ k. k.offset)) (find-append (λ k. k.id == CLUSTER) list (h ∷ []))
-    ∙ by_first (first_of CLUSTER list) (h.id == CLUSTER)
-  where
-    by_first : (first : Option Header) (test : Bool) → option_map (λ (k : Header). k.offset) (option_or first (if test then Some h else None)) ≡ option_or (option_map (λ (k : Header). k.offset) first) (if test then Some h.offset else None)
-    by_first (Some k) test = refl
-    by_first None true = refl
-    by_first None false = refl
+pub cluster-more : (list : List Header) (h : Header) → first_of CLUSTER (list ++ h ∷ []) ≡ option_or (first_of CLUSTER list) (cluster_of h)
+cluster-more list h = find-append (λ k. k.id == CLUSTER) list (h ∷ [])
 
 -- one more Element is kept
-pub Keeps-more : (held : ℕ) (list : List Header) (before after : Collected) (h : Header) → Keeps held list before → after.others.items ≡ before.others.items ++ kept_of h → after.first_cluster ≡ option_or before.first_cluster (cluster_of h) → after.held ≡ before.held + octets_of h → Keeps held (list ++ h ∷ []) after
+pub Keeps-more : (held : ℕ) (list : List Header) (before after : Collected) (h : Header) → Keeps held list before → after.others.items ≡ before.others.items ++ kept_of h → after.cluster ≡ option_or before.cluster (cluster_of h) → after.held ≡ before.held + octets_of h → Keeps held (list ++ h ∷ []) after
 Keeps-more held list before after h keeps items first octets =
     let more = described-more list h in
     record {
       others = items ∙ ap (λ l. l ++ kept_of h) keeps.others ∙ sym (others-more list h);
-      first = first ∙ ap (λ o. option_or o (cluster_of h)) keeps.first ∙ sym (first_cluster-more list h);
+      first = first ∙ ap (λ o. option_or o (cluster_of h)) keeps.first ∙ sym (cluster-more list h);
       octets = omega (arith, more, octets, keeps.octets);
     }
 

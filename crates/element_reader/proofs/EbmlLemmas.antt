@@ -1,20 +1,26 @@
 -- The Element at the start of a file that begins as an EBML header does.
-use Rattle.std.proofs.Common.{◌≡◌, ℕ, ◌+◌, ◌≤◌, nat_eq, nat_lt, Bool, true, false, not, ◌&&◌, ◌||◌, if◌then◌else◌, List, [], ◌∷◌, length, take, drop, Option, Some, None, Result, Ok, Err, refl, sym, ◌∙◌, ap, subst, arith}
+use Rattle.std.proofs.Common.{◌≡◌, ℕ, ◌+◌, ◌≤◌, nat_eq, nat_lt, Bool, true, false, not, ◌&&◌, ◌||◌, if◌then◌else◌, List, [], ◌∷◌, length, min, take, drop, Option, Some, None, Result, Ok, Err, IfOk, refl, sym, ◌∙◌, ap, subst, arith}
 use Rattle.std.proofs.lemmas.Grind.{common_steps}
+use Rattle.std.proofs.lemmas.Bool.Decides.{Decides-eqb}
+use Rattle.std.proofs.lemmas.Slice.Eq.{starts_is}
 use Rattle.ebml_format.proofs.NumberLemmas.{id_at-take}
 use Rattle.std.specs.Int.Count.{count_leading_zeros}
+use Rattle.std.specs.Cmp.Lexicographic.{pointwise}
 use Rattle.std.specs.List.{starts_with}
 use Rattle.ebml_format.specs.declared.number.IdRead.{IdRead}
 use Rattle.ebml_format.specs.declared.number.NumFault.{NumFault}
 use Rattle.ebml_format.specs.declared.number.NumFault.TheVariants as fault
 use Rattle.ebml_format.specs.declared.number.SizeRead.{SizeRead}
 use Rattle.ebml_format.specs.Number.{id_at, size_at}
-use Rattle.mkv_schema.specs.declared.ids.TheConstants.{EBML}
 use Rattle.mkv_values.specs.declared.damage.Damage.{Damage}
-use Rattle.mkv_values.specs.declared.damage.Kind.TheVariants.{TooLong, Truncated, UnknownSize}
+use Rattle.mkv_values.specs.declared.damage.Kind.TheVariants.{NotEbml, TooLong, Truncated, UnknownSize}
 use Rattle.matroska_format.specs.declared.element.Header.{Header}
-use Rattle.matroska_format.specs.Element.{at_level_0, has_unknown_size, is_truncated, is_too_long, with_body, with_size, with_id, element_in, octets_between, stated_end}
-use Rattle.matroska_format.specs.Outline.{ebml_mark}
+use Rattle.matroska_format.specs.Element.{at_level_0, has_unknown_size, is_truncated, is_too_long, with_body, with_size, with_id, element_at, element_in, damage, stated_end}
+use Rattle.matroska_format.specs.Outline.{ebml_mark, first_element, ebml_header, and_then, unless, over, first_damage, header_causes, header_children, bad_value, MOST_OF_HEADER}
+use Rattle.matroska_format.specs.Elements.{Run}
+use Rattle.mkv_schema.specs.declared.ids.TheConstants.{EBML}
+use Rattle.std.proofs.lemmas.List.{drop-take}
+use Rattle.element_reader.specs.Child.{IsBody, value_causes}
 
 -- its ID, read from its octets
 abbrev pub mark_read : Result IdRead NumFault
@@ -41,14 +47,68 @@ ebml_size total p e at h (Ok size) found =
     let made : Header = record { id = EBML; offset = p; body = at + size.len; size = size.size } in
     ebml_body made h total (has_unknown_size at_level_0 made) (is_truncated at_level_0 total e made) (is_too_long at_level_0 total e made) refl found
 
-take-whole : (bytes : List ℕ) → drop 0 (take (length bytes) bytes) ≡ bytes
-take-whole bytes = grind (arith, common_steps)
+-- octets that begin with the mark
+pub begins : (octets : List ℕ) (test : Bool) → test ≡ starts_with nat_eq octets ebml_mark → test ≡ true → take 4 octets ≡ ebml_mark
+begins octets test is holds = ap (take 4) ((starts_is Decides-eqb octets ebml_mark test is).0 holds)
 
--- the Element at the start of a file that begins with the mark doesn't pass the end of the file
-pub ebml_inside : (bytes : List ℕ) (h : Header) → take 4 bytes ≡ ebml_mark → element_in at_level_0 (octets_between bytes 0 (length bytes)) (length bytes) 0 (length bytes) ≡ Ok h → stated_end h ≤ length bytes
+-- the octets that are read for a header begin so where the content does
+pub starts_with-front : (bytes : List ℕ) (n : ℕ) → n ≡ min (length bytes) 12 → starts_with nat_eq (take n bytes) ebml_mark ≡ starts_with nat_eq bytes ebml_mark
+starts_with-front bytes n most = ap (pointwise nat_eq ebml_mark) (front bytes n most)
+  where
+    front : (l : List ℕ) (m : ℕ) → m ≡ min (length l) 12 → take 4 (take m l) ≡ take 4 l
+    front l m is = grind (arith, common_steps)
+
+-- the Element that octets begin, which begin with the mark, doesn't pass the end of the file
+pub ebml_inside : (octets : List ℕ) (total : ℕ) (h : Header) → take 4 octets ≡ ebml_mark → element_in at_level_0 octets total 0 total ≡ Ok h → stated_end h ≤ total
 unfolding element_in
-ebml_inside bytes h mark found =
-    let octets = octets_between bytes 0 (length bytes) in
-    let read : id_at octets ≡ mark_read = ap id_at (take-whole bytes) ∙ sym (id_at-take 4 bytes (omega arith)) ∙ ap id_at mark ∙ id_at-mark in
-    let made = subst (λ (r : Result IdRead NumFault). with_id at_level_0 octets (length bytes) 0 (length bytes) r ≡ Ok h) read found in
-    ebml_size (length bytes) 0 (length bytes) (0 + 4) h (size_at (drop 4 octets)) made
+ebml_inside octets total h mark found =
+    let read : id_at octets ≡ mark_read = sym (id_at-take 4 octets (omega arith)) ∙ ap id_at mark ∙ id_at-mark in
+    let made = subst (λ (r : Result IdRead NumFault). with_id at_level_0 octets total 0 total r ≡ Ok h) read found in
+    ebml_size total 0 total (0 + 4) h (size_at (drop 4 octets)) made
+
+-- the file begins with the mark, or it is no EBML document
+pub first_element-begins : (bytes : List ℕ) (test : Bool) (found : Result Header Damage) → test ≡ starts_with nat_eq bytes ebml_mark → test ≡ true → found ≡ element_at at_level_0 bytes 0 (length bytes) → found ≡ first_element bytes
+first_element-begins bytes test found is holds same = rw (sym is ∙ holds) same
+
+pub first_element-other : (bytes : List ℕ) (test : Bool) → test ≡ starts_with nat_eq bytes ebml_mark → test ≡ false → Err (damage NotEbml 0 0) ≡ first_element bytes
+first_element-other bytes test is fails = rw (sym is ∙ fails) refl
+
+-- ---- the EBML header, from the Element at the start
+
+-- no Element stands there
+pub ebml_header-none : (bytes : List ℕ) (d : Damage) → Err d ≡ first_element bytes → Err d ≡ ebml_header bytes
+unfolding ebml_header
+ebml_header-none bytes d first = ap (λ (found : Result Header Damage). and_then found (λ h. unless (first_damage (header_causes bytes h (header_children bytes h))) h)) first
+
+-- its causes refuse it, or nothing does
+pub ebml_header-is : (bytes : List ℕ) (h : Header) (refusal : Option Damage) → Ok h ≡ first_element bytes → refusal ≡ first_damage (header_causes bytes h (header_children bytes h)) → unless refusal h ≡ ebml_header bytes
+unfolding ebml_header
+ebml_header-is bytes h refusal first causes =
+    ap (λ (r : Option Damage). unless r h) causes
+    ∙ ap (λ (found : Result Header Damage). and_then found (λ k. unless (first_damage (header_causes bytes k (header_children bytes k))) k)) first
+
+-- the causes behind its size
+children_causes : List ℕ → Header → Run → List (Option Damage)
+children_causes bytes h children = bad_value bytes EBML children.list ∷ children.damage ∷ value_causes bytes children.list
+
+-- its size does
+pub ebml_header-over : (bytes : List ℕ) (h : Header) (d : Damage) → Ok h ≡ first_element bytes → Some d ≡ over MOST_OF_HEADER h → Err d ≡ ebml_header bytes
+unfolding children_causes
+ebml_header-over bytes h d first over_is = ebml_header-is bytes h (Some d) first (rest (over MOST_OF_HEADER h) over_is)
+  where
+    rest : (cause : Option Damage) → Some d ≡ cause → Some d ≡ first_damage (cause ∷ children_causes bytes h (header_children bytes h))
+    rest None is = absurd (cc)
+    rest (Some e) is = is
+
+-- what was read of the file is its body
+pub IsBody-read : (bytes : List ℕ) (base total n : ℕ) (body : List ℕ) → length bytes ≡ total → base + n ≤ total → length body ≡ n → body ≡ take n (drop base bytes) → IsBody bytes base total body
+IsBody-read bytes base total n body whole within count read = record {
+  whole = whole;
+  within = omega (arith, count, within);
+  octets = read ∙ sym (drop-take base n bytes) ∙ ap (λ k. drop base (take (base + k) bytes)) (sym count);
+}
+
+-- what holds of each value that an answer may have
+pub IfOk-each : {X Y : Type 0} (r : Result X Y) (P : X → Type 0) → ((x : X) → r ≡ Ok x → P x) → IfOk r P
+IfOk-each (Ok x) P each = each x refl
+IfOk-each (Err e) P each = tt

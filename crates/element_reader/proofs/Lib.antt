@@ -6,3 +6,4 @@ pub mod FieldLemmas
 pub mod LevelLemmas
 pub mod SegmentLemmas
 pub mod ValueLemmas
+pub mod OutlineLemmas

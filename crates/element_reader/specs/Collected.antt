@@ -12,10 +12,6 @@ use Rattle.element_reader.specs.declared.collected.Collected.{Collected}
 abbrev pub others_of : List Header → List Header
 others_of list = filter (λ h. not (h.id == CLUSTER)) list
 
--- the place of the first Cluster
-abbrev pub first_cluster : List Header → Option ℕ
-first_cluster list = option_map (λ h. h.offset) (first_of CLUSTER list)
-
 -- the octets of an Info, Tracks, Chapters or Tags
 abbrev pub octets_of : Header → ℕ
 octets_of h = if is_described h.id then known h.size else 0
@@ -23,5 +19,5 @@ octets_of h = if is_described h.id then known h.size else 0
 -- This is kept of the Elements of a list, where earlier inputs have held so many octets.
 pub record Keeps (held : ℕ) (list : List Header) (kept : Collected) : Type 0 where
   pub others : kept.others.items ≡ others_of list
-  pub first : kept.first_cluster ≡ first_cluster list
+  pub first : kept.cluster ≡ first_of CLUSTER list
   pub octets : kept.held ≡ held + described list

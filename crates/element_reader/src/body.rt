@@ -6,11 +6,12 @@ ghost use Rattle.matroska_format.specs.Element.{is_unknown, known, stated_end};
 ghost use Rattle.matroska_format.specs.Value.{body_of};
 ghost use Rattle.element_reader.specs.Head.{HasLoadCause, limit_of, too_large};
 
-use crate::collected::{is_described, known};
+use crate::collected::is_described;
+use crate::limits::{MOST_OF_ALL, MOST_OF_HEADER, MOST_OF_ONE, known, over};
 use element_headers::Header;
 use mkv_io::Reads;
 use mkv_schema::ids::{CUES, EBML, SEEK_HEAD};
-use mkv_values::{Bytes, Damage, FileId, Kind};
+use mkv_values::{Bytes, Damage, FileId};
 use std::alloc::Global;
 use thiserror::Error;
 
@@ -33,10 +34,10 @@ fn limit_of(id: u32) -> Option<u64>
     ensures { result ≡ limit_of id }
 {
     match id {
-        EBML => Some(65536),
-        SEEK_HEAD => Some(16 << 20),
-        CUES => Some(64 << 20),
-        id if is_described(id) => Some(16 << 20),
+        EBML => Some(MOST_OF_HEADER),
+        SEEK_HEAD => Some(MOST_OF_ONE),
+        CUES => Some(MOST_OF_ALL),
+        id if is_described(id) => Some(MOST_OF_ONE),
         _ => None,
     }
 }
@@ -44,14 +45,8 @@ fn limit_of(id: u32) -> Option<u64>
 fn too_large(header: &Header) -> Option<Damage>
     ensures { result ≡ too_large header.now }
 {
-    match limit_of(header.id) {
-        Some(limit) if limit < known(header.size) => Some(Damage {
-            kind: Kind::HeaderTooLarge,
-            id: header.id,
-            offset: header.offset,
-        }),
-        _ => None,
-    }
+    let limit = limit_of(header.id)?;
+    over(limit, header)
 }
 
 /// The body of an Element whose size is known. It is refused where it has more octets than are loaded of

@@ -7,7 +7,7 @@ ghost use Rattle.matroska_format.specs.Value.{body_of, first_of};
 ghost use Rattle.mkv_schema.specs.declared.ids.TheConstants.{EBML as EBML_ID};
 ghost use Rattle.element_reader.specs.Child.{IsBody, child_refusal, children};
 
-use crate::collected::known;
+use crate::limits::known;
 use crate::value::is_known_value;
 use element_headers::{Header, Parent, read_header};
 use element_walks::end_in;

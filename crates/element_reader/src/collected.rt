@@ -2,32 +2,24 @@
 
 ghost use Rattle.std.specs.Prelude.{◌≡◌, ℕ, ◌+◌, ◌^◌, ◌<◌, ◌++◌, ◌∷◌, [], List, IfOk, false};
 ghost use Rattle.matroska_format.specs.declared.element.Header.{Header as Placed};
-ghost use Rattle.matroska_format.specs.Element.{known};
 ghost use Rattle.matroska_format.specs.Outline.{first_damage, is_described, limit_causes, passes_count, passes_size};
+ghost use Rattle.matroska_format.specs.Element.{known};
+ghost use Rattle.matroska_format.specs.Value.{first_of};
 ghost use Rattle.element_reader.specs.Collected.{octets_of};
 
-use ebml_format::Size;
+use crate::limits::{MOST_ELEMENTS, MOST_OF_ALL, MOST_OF_ONE, damage, known};
 use element_headers::Header;
 use mkv_schema::ids::{CHAPTERS, CLUSTER, INFO, TAGS, TRACKS};
 use mkv_values::{Damage, Kind};
 use std::alloc::{AllocError, Global};
-
-/// The most octets of one Info, Tracks, Chapters or Tags.
-const MOST_OF_ONE: u64 = 16 << 20;
-
-/// The most octets of all of them, in all inputs.
-const MOST_OF_ALL: u64 = 64 << 20;
-
-/// The most Elements of level 1 besides Clusters.
-const MOST_ELEMENTS: usize = 4096;
 
 /// What is kept of the Elements of level 1 that were met.
 #[derive(Drop)]
 pub struct Collected {
     /// The Elements other than Clusters, in the order of the file.
     pub others: Vec<Header>,
-    /// The place of the first Cluster.
-    pub first_cluster: Option<u64>,
+    /// The first Cluster.
+    pub cluster: Option<Header>,
     /// The octets of every Info, Tracks, Chapters and Tags, with those of earlier inputs.
     pub held: u64,
 }
@@ -39,14 +31,11 @@ pub fn is_described(id: u32) -> bool
     id == INFO || id == TRACKS || id == CHAPTERS || id == TAGS
 }
 
-/// The octets of a body whose size is known.
-pub fn known(size: Size) -> u64
-    ensures { result ≡ known size }
+/// The first Element of an ID.
+pub fn first_of(list: &[Header], id: u32) -> Option<Header>
+    ensures { result ≡ first_of id list.now }
 {
-    match size {
-        Size::Known(octets) => octets,
-        Size::Unknown => 0,
-    }
+    list.iter().copied().find(|header| header.id == id)
 }
 
 // The octets of an Info, Tracks, Chapters or Tags.
@@ -69,7 +58,7 @@ impl Collected {
     {
         Collected {
             others: Vec::new(alloc),
-            first_cluster: None,
+            cluster: None,
             held,
         }
     }
@@ -85,8 +74,8 @@ impl Collected {
         self.held += octets_of(&header);
         if header.id != CLUSTER {
             self.others.push(header)?;
-        } else if self.first_cluster.is_none() {
-            self.first_cluster = Some(header.offset);
+        } else if self.cluster.is_none() {
+            self.cluster = Some(header);
         }
         Ok(None)
     }
@@ -118,15 +107,5 @@ impl Collected {
         ensures { (held : ℕ) (list : List Placed) → Keeps held list self.now → result ≡ passes_count list header.now }
     {
         header.id != CLUSTER && self.others.len() >= MOST_ELEMENTS
-    }
-}
-
-fn damage(kind: Kind, header: &Header) -> Damage
-    ensures { result ≡ record { kind = kind; id = header.now.id; offset = header.now.offset } }
-{
-    Damage {
-        kind,
-        id: header.id,
-        offset: header.offset,
     }
 }

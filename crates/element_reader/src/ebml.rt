@@ -1,17 +1,30 @@
-//! What refuses an EBML header: RFC 8794, section 8.1 (EBML Header).
+//! The EBML header of a file: RFC 8794, section 8.1 (EBML Header).
 
-ghost use Rattle.std.specs.Prelude.{◌≡◌, ℕ, ◌+◌, ◌^◌, ◌≤◌, List, length, None};
-ghost use Rattle.matroska_format.specs.Element.{known};
-ghost use Rattle.matroska_format.specs.Outline.{MOST_OF_HEADER, first_damage, header_causes, header_children};
+ghost use Rattle.std.specs.Prelude.{◌≡◌, ℕ, ◌+◌, ◌^◌, ◌≤◌, [], List, length, None, IfOk, OnErr, IsTrue};
+ghost use Rattle.mkv_io.specs.Faults.{HasCause, HasReadCause};
+ghost use Rattle.mkv_io.specs.Told.{Told};
+ghost use Rattle.matroska_format.specs.Element.{known, stated_end};
+ghost use Rattle.matroska_format.specs.Outline.{MOST_OF_HEADER, ebml_header, first_damage, first_element, header_causes, header_children};
+ghost use Rattle.element_window.specs.Window.{Holds, IsBefore, MovesTo};
 ghost use Rattle.element_reader.specs.Child.{IsBody, child_refusal, children, value_causes};
 
 use crate::child::child_refusal;
 use crate::field::{above, wrong_doc_type};
-use element_headers::Header;
+use crate::limits::{MOST_OF_HEADER, known, over};
+use element_headers::{Header, Parent, read_header};
+use element_window::Window;
+use mkv_io::Reads;
 use mkv_schema::ids::{
     DOC_TYPE_READ_VERSION, EBML_MAX_ID_LENGTH, EBML_MAX_SIZE_LENGTH, EBML_READ_VERSION,
 };
-use mkv_values::{Damage, Kind};
+use mkv_values::{Damage, Failed, FileId, Kind, ReadEnd};
+use std::alloc::Global;
+
+/// The octets of the EBML header's ID, with which a file begins.
+const EBML_MARK: [u8; 4] = [0x1A, 0x45, 0xDF, 0xA3];
+
+/// The octets of the longest header.
+const HEADER: u64 = 12;
 
 // What refuses the values of an EBML header whose body this is.
 fn value_refusal(body: &[u8], base: u64, total: u64) -> Option<Damage>
@@ -51,4 +64,70 @@ pub fn header_refusal(body: &[u8], header: &Header, total: u64) -> Option<Damage
         return Some(damage);
     }
     value_refusal(body, header.body, total)
+}
+
+// The Element at the start of a file of `total` octets that begins as an EBML header does.
+fn first_element<R: Reads>(
+    window: &mut Window,
+    src: &mut R,
+    file: FileId,
+    total: u64,
+) -> Result<Result<Header, Damage>, Failed>
+    requires live { IsTrue ((R.files (R.standing src.old)).live file.n) }
+    requires whole { total ≡ (R.files (R.standing src.old)).size file.n }
+    requires holds { Told ((R.files (R.standing src.old)).content file.n) (λ bytes. Holds bytes window.old) }
+    ensures ok { IfOk result (λ found. Told ((R.files (R.standing src.old)).content file.n) (λ bytes. found ≡ first_element bytes)) }
+    ensures inside { IfOk result (λ found. IfOk found (λ h. stated_end h ≤ total)) }
+    ensures holds { Told ((R.files (R.standing src.old)).content file.n) (λ bytes. Holds bytes window.new) }
+    ensures err { OnErr result (window.new.octets ≡ []) }
+    ensures standing { R.standing src.new ≡ R.standing src.old }
+    ensures cause { HasCause (R.reading_faults src.old) (R.reading_faults src.new) result }
+    ensures moves { IsBefore window.old 0 total
+        → IfOk result (λ found. MovesTo total 0 window.old window.new (R.octets_read src.old) (R.octets_read src.new)) }
+{
+    let len = total.min(HEADER) as u16;
+    window.hold(src, file, 0, len)?;
+    let octets = window.held(0, usize::from(len));
+    if !octets.starts_with(&EBML_MARK) {
+        return Ok(Err(Damage {
+            kind: Kind::NotEbml,
+            id: 0,
+            offset: 0,
+        }));
+    }
+    Ok(read_header(octets, Parent::File, total, 0, total))
+}
+
+/// The EBML header of a file of `total` octets, or what refuses the file there.
+pub fn ebml_header<R: Reads>(
+    alloc: Global,
+    window: &mut Window,
+    src: &mut R,
+    file: FileId,
+    total: u64,
+) -> Result<Result<Header, Damage>, ReadEnd>
+    requires live { IsTrue ((R.files (R.standing src.old)).live file.n) }
+    requires whole { total ≡ (R.files (R.standing src.old)).size file.n }
+    requires holds { Told ((R.files (R.standing src.old)).content file.n) (λ bytes. Holds bytes window.old) }
+    ensures ok { IfOk result (λ found. Told ((R.files (R.standing src.old)).content file.n) (λ bytes. found ≡ ebml_header bytes)) }
+    ensures inside { IfOk result (λ found. IfOk found (λ h. stated_end h ≤ total)) }
+    ensures holds { Told ((R.files (R.standing src.old)).content file.n) (λ bytes. Holds bytes window.new) }
+    ensures standing { R.standing src.new ≡ R.standing src.old }
+    ensures cause { HasReadCause (R.reading_faults src.old) (R.reading_faults src.new) result }
+    ensures moves { IsBefore window.old 0 total
+        → IfOk result (λ found. MovesTo total 0 window.old window.new (R.octets_read src.old + total) (R.octets_read src.new)) }
+{
+    let header = match first_element(window, src, file, total)? {
+        Ok(header) => header,
+        Err(damage) => return Ok(Err(damage)),
+    };
+    if let Some(damage) = over(MOST_OF_HEADER, &header) {
+        return Ok(Err(damage));
+    }
+    let mut body = vec![in alloc; 0; known(header.size) as usize]?;
+    window.fill(src, file, header.body, &mut body)?;
+    match header_refusal(&body, &header, total) {
+        Some(damage) => Ok(Err(damage)),
+        None => Ok(Ok(header)),
+    }
 }

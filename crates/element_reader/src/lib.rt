@@ -9,6 +9,9 @@ mod ebml;
 mod field;
 mod head;
 mod level;
+mod limits;
+mod outline;
+mod outline_end;
 mod segment;
 mod value;
 
@@ -16,4 +19,5 @@ pub use body::{LoadEnd, load};
 pub use element_headers::{Header, Parent};
 pub use element_window::{HeadEnd, Window};
 pub use head::header_at;
-pub use segment::find_segment;
+pub use outline::Outline;
+pub use outline_end::OutlineEnd;

@@ -11,7 +11,7 @@ returns-in_ok-push-clause-kept c = λ _ held list keeps.
     let other : (h.id == CLUSTER) ≡ false = grind (arith, nat_tests, c.if-header-ne-CLUSTER.true) in
     Keeps-more held list c.args.self.now _ h keeps
     (rw other c.in_ok-push.ensures.items)
-    (rw other (option_or-none c.args.self.now.first_cluster))
+    (rw other (option_or-none c.args.self.now.cluster))
     (ap (λ n. c.args.self.now.held + n) c.octets_of.ensures)
 
 -- the first Cluster
@@ -21,7 +21,7 @@ returns-then-is_none-clause-kept c = λ _ held list keeps.
     let cluster : (h.id == CLUSTER) ≡ true = eq-eqb h.id CLUSTER c.if-header-ne-CLUSTER.false in
     Keeps-more held list c.args.self.now _ h keeps
     (rw cluster (sym (append-nil c.args.self.now.others.items)))
-    (rw cluster (option_or-later c.args.self.now.first_cluster (Some h.offset) (c.is_none.ensures ∙ ap not c.if-is_none.true)))
+    (rw cluster (option_or-later c.args.self.now.cluster (Some h) (c.is_none.ensures ∙ ap not c.if-is_none.true)))
     (ap (λ n. c.args.self.now.held + n) c.octets_of.ensures)
 
 -- another Cluster
@@ -31,5 +31,5 @@ returns-else-is_none-clause-kept c = λ _ held list keeps.
     let cluster : (h.id == CLUSTER) ≡ true = eq-eqb h.id CLUSTER c.if-header-ne-CLUSTER.false in
     Keeps-more held list c.args.self.now _ h keeps
     (rw cluster (sym (append-nil c.args.self.now.others.items)))
-    (rw cluster (option_or-first c.args.self.now.first_cluster (Some h.offset) (c.is_none.ensures ∙ ap not c.if-is_none.false)))
+    (rw cluster (option_or-first c.args.self.now.cluster (Some h) (c.is_none.ensures ∙ ap not c.if-is_none.false)))
     (ap (λ n. c.args.self.now.held + n) c.octets_of.ensures)

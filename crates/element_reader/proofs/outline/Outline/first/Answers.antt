@@ -1,0 +1,18 @@
+use Rattle.std.proofs.Common.{◌≡◌, ◌==◌, false, sym, ◌∙◌, ap, arith}
+use Rattle.std.proofs.lemmas.Bool.Decides.{nat_tests}
+use Rattle.mkv_schema.specs.declared.ids.TheConstants.{CLUSTER}
+use Rattle.matroska_format.specs.Value.{first_of}
+use Rattle.element_reader.specs.Outline.{FileOutline}
+use Rattle.element_reader.proofs.OutlineLemmas.{first_in-others}
+use Rattle.element_reader.proofs.outline.Outline.first.Goals as goal
+
+-- the first Cluster is kept
+pub returns-then-id-eq-CLUSTER-clause-exact : goal.returns-then-id-eq-CLUSTER-clause-exact
+returns-then-id-eq-CLUSTER-clause-exact c = λ bytes o same.
+    ap (λ (v : FileOutline). v.cluster) (c.self.view_is ∙ same) ∙ ap (λ id. first_of id o.list) (sym c.if-id-eq-CLUSTER.true)
+
+-- the others are
+pub returns-clause-exact : goal.returns-clause-exact
+returns-clause-exact c = λ bytes o same.
+    let other : (c.args.id == CLUSTER) ≡ false = grind (arith, nat_tests, c.if-id-eq-CLUSTER.false) in
+    c.first_of.ensures ∙ ap (first_of c.args.id) (c.deref.ensures.value ∙ ap (λ (v : FileOutline). v.others) (c.self.view_is ∙ same)) ∙ first_in-others c.args.id o.list other

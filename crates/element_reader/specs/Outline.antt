@@ -1,0 +1,59 @@
+-- What an `Outline` shows of the file from which it was read: RFC 9559, section 4.5 (Data Layout).
+use Rattle.std.specs.Prelude.{◌≡◌, ℕ, ⊤, ◌==◌, if◌then◌else◌, List, length, Option, Result, Ok, Err}
+use Rattle.mkv_io.specs.Faults.{HasRisen}
+use Rattle.mkv_schema.specs.declared.ids.TheConstants.{CLUSTER}
+use Rattle.mkv_values.specs.declared.damage.Damage.{Damage}
+use Rattle.matroska_format.specs.declared.element.Header.{Header}
+use Rattle.matroska_format.specs.Outline.{Outlined, and_then, described, outline_of}
+use Rattle.matroska_format.specs.Value.{first_of}
+use Rattle.element_reader.specs.Collected.{others_of}
+use Rattle.element_reader.specs.declared.outline_end.OutlineEnd.{OutlineEnd}
+use Rattle.element_reader.specs.declared.outline_end.OutlineEnd.TheVariants as outline_end
+
+-- The length of a file, its EBML header and its Segment; the Elements of level 1 other than Clusters, and
+-- the first Cluster; the octets of every Info, Tracks, Chapters and Tags; the damage that ends level 1,
+-- if one does, and where the Segment ends.
+pub record FileOutline : Type 0 where
+  pub total : ℕ
+  pub ebml : Header
+  pub segment : Header
+  pub others : List Header
+  pub cluster : Option Header
+  pub held : ℕ
+  pub damage : Option Damage
+  pub end : ℕ
+
+-- what is shown of an outline
+abbrev pub shown : List ℕ → Outlined → FileOutline
+shown bytes o = record {
+  total = length bytes;
+  ebml = o.ebml;
+  segment = o.segment;
+  others = others_of o.list;
+  cluster = first_of CLUSTER o.list;
+  held = described o.list;
+  damage = o.damage;
+  end = o.end;
+}
+
+-- what is shown of a file, or what refuses it; earlier inputs have held so many octets
+abbrev pub outline_in : ℕ → List ℕ → Result FileOutline Damage
+outline_in held bytes = and_then (outline_of held bytes) (λ o. Ok (shown bytes o))
+
+-- the first Element of level 1 of an ID
+abbrev pub first_in : ℕ → FileOutline → Option Header
+first_in id o = if id == CLUSTER then o.cluster else first_of id o.others
+
+-- the outline of the file, or what refuses it, where the answer is one of these
+abbrev pub IsOutline : Result FileOutline Damage → Result FileOutline OutlineEnd → Type 0
+IsOutline found (Ok o) = found ≡ Ok o
+IsOutline found (Err (outline_end.Refused d)) = found ≡ Err d
+IsOutline found (Err outline_end.ReadFault) = ⊤
+IsOutline found (Err outline_end.Memory) = ⊤
+
+-- A fault of reading is told only where its count rose; every other answer leaves the count.
+abbrev pub HasOutlineCause : {T : Type 0} → ℕ → ℕ → Result T OutlineEnd → Type 0
+HasOutlineCause before now (Ok o) = now ≡ before
+HasOutlineCause before now (Err (outline_end.Refused d)) = now ≡ before
+HasOutlineCause before now (Err outline_end.ReadFault) = HasRisen before now
+HasOutlineCause before now (Err outline_end.Memory) = now ≡ before

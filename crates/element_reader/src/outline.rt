@@ -1,0 +1,167 @@
+//! The outline of a file: RFC 9559, section 4.5 (Data Layout).
+
+ghost use Rattle.std.specs.Prelude.{◌≡◌, ℕ, ◌+◌, ◌*◌, ◌≤◌, ◌<◌, List, length, slice_get, IsTrue, option_map};
+ghost use Rattle.mkv_io.specs.Told.{Told};
+ghost use Rattle.matroska_format.specs.Outline.{Outlined};
+ghost use Rattle.matroska_format.specs.Value.{first_of};
+
+use crate::collected::first_of;
+use crate::ebml::ebml_header;
+use crate::level::{Level, collect};
+use crate::limits::known;
+use crate::outline_end::OutlineEnd;
+use crate::segment::find_segment;
+use element_headers::Header;
+use element_window::Window;
+use mkv_io::Reads;
+use mkv_schema::ids::CLUSTER;
+use mkv_values::{Damage, FileId};
+use std::alloc::Global;
+use std::marker::Model;
+
+/// The EBML header of a file, its Segment, and the Elements of level 1. Of the Clusters it keeps the
+/// first alone.
+#[derive(Drop)]
+pub struct Outline {
+    total: u64,
+    ebml: Header,
+    segment: Header,
+    level: Level,
+    held: u64,
+}
+
+impl Model for Outline {
+    ghost use Rattle.std.specs.Prelude.{◌≤◌};
+    ghost use Rattle.element_reader.specs.Outline.{FileOutline};
+
+    ghost Value = { FileOutline };
+
+    ghost view = { λ o. record {
+      total = o.total;
+      ebml = o.ebml;
+      segment = o.segment;
+      others = o.level.kept.others.items;
+      cluster = o.level.kept.cluster;
+      held = o.held;
+      damage = o.level.damage;
+      end = o.level.end;
+    } };
+
+    ghost invariant = { λ o. o.segment.body ≤ o.total };
+}
+
+impl Outline {
+    ghost use Rattle.element_reader.specs.Outline.{HasOutlineCause, IsOutline, first_in, outline_in, shown};
+
+    /// Reads the outline of a file. It is refused where it isn't a Matroska or WebM file that is read,
+    /// has no Segment, or passes a limit of its level 1: 16 MiB for one Info, Tracks, Chapters or Tags,
+    /// 64 MiB for all of them, 4,096 Elements besides Clusters. What is damaged at level 1 ends the list
+    /// there.
+    pub fn read<R: Reads>(alloc: Global, src: &mut R, file: FileId) -> Result<Outline, OutlineEnd>
+        requires { IsTrue ((R.files (R.standing src.old)).live file.n) }
+        ensures exact { Told ((R.files (R.standing src.old)).content file.n) (λ bytes. IsOutline (outline_in 0 bytes) result) }
+        ensures standing { R.standing src.new ≡ R.standing src.old }
+        ensures cause { HasOutlineCause (R.reading_faults src.old) (R.reading_faults src.new) result }
+    {
+        Outline::read_after(alloc, src, file, 0)
+    }
+
+    /// Reads the outline of a file that comes after other inputs, whose Info, Tracks, Chapters and Tags
+    /// have `held` octets: with this file's they are at most 64 MiB.
+    pub fn read_after<R: Reads>(
+        alloc: Global,
+        src: &mut R,
+        file: FileId,
+        held: u64,
+    ) -> Result<Outline, OutlineEnd>
+        requires { IsTrue ((R.files (R.standing src.old)).live file.n) }
+        ensures exact { Told ((R.files (R.standing src.old)).content file.n) (λ bytes. IsOutline (outline_in held bytes) result) }
+        ensures standing { R.standing src.new ≡ R.standing src.old }
+        ensures cause { HasOutlineCause (R.reading_faults src.old) (R.reading_faults src.new) result }
+    {
+        let total = src.size(file);
+        let mut window = Window::new(alloc)?;
+        let ebml = ebml_header(alloc, &mut window, src, file, total)??;
+        let from = ebml.body + known(ebml.size);
+        let segment = find_segment(&mut window, src, file, from, total)??;
+        let level = collect(alloc, &mut window, src, file, &segment, total, held)??;
+        let held = level.kept.held.saturating_sub(held);
+        Ok(Outline {
+            total,
+            ebml,
+            segment,
+            level,
+            held,
+        })
+    }
+
+    /// The EBML header.
+    pub fn ebml(&self) -> Header
+        ensures { result ≡ self.now.ebml }
+    {
+        self.ebml
+    }
+
+    /// The Segment.
+    pub fn segment(&self) -> Header
+        ensures exact { result ≡ self.now.segment }
+        ensures inside { result.body ≤ self.now.total }
+    {
+        self.segment
+    }
+
+    /// The octets of every Info, Tracks, Chapters and Tags of this file.
+    pub fn held(&self) -> u64
+        ensures { result ≡ self.now.held }
+    {
+        self.held
+    }
+
+    /// How many Elements of level 1 other than Clusters there are.
+    pub fn count(&self) -> usize
+        ensures { result ≡ length self.now.others }
+    {
+        self.level.kept.others.len()
+    }
+
+    /// The Element of level 1 of this number, from 0, in the order of the file. Clusters don't count.
+    pub fn at(&self, k: usize) -> Header
+        requires { k < length self.now.others }
+        ensures { slice_get self.now.others k ≡ Some result }
+    {
+        self.level.kept.others[k]
+    }
+
+    /// The first Element of level 1 of an ID.
+    pub fn first(&self, id: u32) -> Option<Header>
+        ensures kept { result ≡ first_in id self.now }
+        ensures exact { (bytes : List ℕ) (o : Outlined) → self.now ≡ shown bytes o → result ≡ first_of id o.list }
+    {
+        if id == CLUSTER {
+            return self.level.kept.cluster;
+        }
+        first_of(&self.level.kept.others, id)
+    }
+
+    /// The place of the first Cluster, in octets from the start of the file.
+    pub fn first_cluster(&self) -> Option<u64>
+        ensures { result ≡ option_map (λ h. h.offset) self.now.cluster }
+    {
+        self.level.kept.cluster.map(|header| header.offset)
+    }
+
+    /// Octets from the start of the file to the Segment's end. A Segment of unknown size that a damage
+    /// ends reaches to the end of the file.
+    pub fn end(&self) -> u64
+        ensures { result ≡ self.now.end }
+    {
+        self.level.end
+    }
+
+    /// The damage that ends the Elements of level 1, if one does.
+    pub fn damage(&self) -> Option<Damage>
+        ensures { result ≡ self.now.damage }
+    {
+        self.level.damage
+    }
+}
