@@ -1,12 +1,12 @@
 //! The Elements of level 1 of a Segment: RFC 9559, section 5.1 (Segment Element).
 
-ghost use Rattle.std.specs.Prelude.{◌≡◌, ℕ, ◌≤◌, List, length, if◌then◌else◌, [], IfOk, IsTrue};
+ghost use Rattle.std.specs.Prelude.{◌≡◌, ℕ, ◌≤◌, List, length, if◌then◌else◌, [], IfOk, OnErr, IsTrue};
 ghost use Rattle.std.specs.Option.{option_map_or};
 ghost use Rattle.mkv_io.specs.Faults.{HasReadCause};
 ghost use Rattle.mkv_io.specs.Told.{Told};
 ghost use Rattle.matroska_format.specs.Element.{end_in, is_unknown};
 ghost use Rattle.matroska_format.specs.Outline.{segment_run};
-ghost use Rattle.element_window.specs.Window.{Holds, IsBefore, MovesTo};
+ghost use Rattle.element_window.specs.Window.{Holds, IsBefore, MovesTo, Spends};
 ghost use Rattle.element_reader.specs.Level.{HasLevel, IsLevel, IsOnWay, nothing_left};
 
 use crate::collected::Collected;
@@ -79,6 +79,8 @@ pub fn collect<R: Reads>(
     ensures cause { HasReadCause (R.reading_faults src.old) (R.reading_faults src.new) result }
     ensures moves { IsBefore window.old segment.now.body total
         → IfOk result (λ found. MovesTo total total window.old window.new (R.octets_read src.old) (R.octets_read src.new)) }
+    ensures spends { IsBefore window.old segment.now.body total
+        → OnErr result (Spends total window.old (R.octets_read src.old) (R.octets_read src.new)) }
 {
     let mut kept = Collected::new(alloc, held);
     let bound = segment_bound(segment, total);

@@ -4,7 +4,7 @@ ghost use Rattle.std.specs.Prelude.{◌≡◌, ◌+◌, ◌≤◌, ◌<◌, [], 
 ghost use Rattle.mkv_io.specs.Faults.{HasCause};
 ghost use Rattle.mkv_io.specs.Told.{Told};
 ghost use Rattle.matroska_format.specs.Placed.{IsPlaced};
-ghost use Rattle.element_window.specs.Window.{Holds, IsBefore, MovesTo};
+ghost use Rattle.element_window.specs.Window.{Holds, IsBefore, MovesTo, Spends};
 ghost use Rattle.element_reader.specs.Segment.{segment_from, body_or};
 
 use element_headers::{Header, Parent};
@@ -34,6 +34,8 @@ pub fn find_segment<R: Reads>(
     ensures cause { HasCause (R.reading_faults src.old) (R.reading_faults src.new) result }
     ensures moves { IsBefore window.old from total
         → IfOk result (λ found. MovesTo total (body_or found total) window.old window.new (R.octets_read src.old) (R.octets_read src.new)) }
+    ensures spends { IsBefore window.old from total
+        → OnErr result (Spends total window.old (R.octets_read src.old) (R.octets_read src.new)) }
 {
     let mut at = from;
     while at < total {

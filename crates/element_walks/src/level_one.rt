@@ -4,7 +4,7 @@ ghost use Rattle.std.specs.Prelude.{◌≡◌, ◌+◌, ◌≤◌, ◌<◌, [], 
 ghost use Rattle.mkv_io.specs.Faults.{HasCause};
 ghost use Rattle.mkv_io.specs.Told.{Told};
 ghost use Rattle.matroska_format.specs.Elements.{ends_segment, level_1};
-ghost use Rattle.element_window.specs.Window.{Holds, IsBefore, MovesTo};
+ghost use Rattle.element_window.specs.Window.{Holds, IsBefore, MovesTo, Spends};
 ghost use Rattle.element_walks.specs.Steps.{StepsOn, IsFurther, place_behind};
 
 use crate::walk::{behind, id_of};
@@ -60,6 +60,8 @@ pub fn next_of_segment<R: Reads>(
     ensures place { IfOk result (λ step. IsFurther step at end) }
     ensures moves { IsBefore window.old at ((R.files (R.standing src.old)).size file.n)
         → IfOk result (λ step. MovesTo ((R.files (R.standing src.old)).size file.n) (place_behind step at end) window.old window.new (R.octets_read src.old) (R.octets_read src.new)) }
+    ensures spends { IsBefore window.old at ((R.files (R.standing src.old)).size file.n)
+        → OnErr result (Spends ((R.files (R.standing src.old)).size file.n) window.old (R.octets_read src.old) (R.octets_read src.new)) }
 {
     if at >= end {
         return Ok(Step::End);

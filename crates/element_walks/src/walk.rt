@@ -5,7 +5,7 @@ ghost use Rattle.mkv_io.specs.Faults.{HasCause};
 ghost use Rattle.mkv_io.specs.Told.{Told};
 ghost use Rattle.matroska_format.specs.Elements.{behind_in_segment, ends_cluster, id_of};
 ghost use Rattle.matroska_format.specs.Element.{end_in};
-ghost use Rattle.element_window.specs.Window.{Holds, IsBefore, MovesTo};
+ghost use Rattle.element_window.specs.Window.{Holds, IsBefore, MovesTo, Spends};
 ghost use Rattle.element_walks.specs.Walk.{cluster_end, place_or};
 
 use ebml_format::Size;
@@ -62,6 +62,8 @@ pub fn cluster_end<R: Reads>(
     ensures place { IfOk result (λ found. IfOk found (λ at. (from ≤ at) × (at ≤ end))) }
     ensures moves { IsBefore window.old from ((R.files (R.standing src.old)).size file.n)
         → IfOk result (λ found. MovesTo ((R.files (R.standing src.old)).size file.n) (place_or found end) window.old window.new (R.octets_read src.old) (R.octets_read src.new)) }
+    ensures spends { IsBefore window.old from ((R.files (R.standing src.old)).size file.n)
+        → OnErr result (Spends ((R.files (R.standing src.old)).size file.n) window.old (R.octets_read src.old) (R.octets_read src.new)) }
 {
     let mut at = from;
     while at < end {
@@ -98,6 +100,8 @@ pub fn behind<R: Reads>(
     ensures place { IfOk result (λ found. IfOk found (λ at. (header.now.body ≤ at) × (at ≤ end))) }
     ensures moves { IsBefore window.old header.now.body ((R.files (R.standing src.old)).size file.n)
         → IfOk result (λ found. MovesTo ((R.files (R.standing src.old)).size file.n) (place_or found end) window.old window.new (R.octets_read src.old) (R.octets_read src.new)) }
+    ensures spends { IsBefore window.old header.now.body ((R.files (R.standing src.old)).size file.n)
+        → OnErr result (Spends ((R.files (R.standing src.old)).size file.n) window.old (R.octets_read src.old) (R.octets_read src.new)) }
 {
     match header.size {
         Size::Unknown => {

@@ -41,6 +41,10 @@ cost_of size w = if end_held w == size then 3 * size else 2 * end_held w
 abbrev pub Pays : ℕ → Held → Held → ℕ → ℕ → Type 0
 Pays size old new before now = now + cost_of size old ≤ before + cost_of size new
 
+-- What was read since is paid by three octets for each of the file.
+abbrev pub Spends : ℕ → Held → ℕ → ℕ → Type 0
+Spends size old before now = now + cost_of size old ≤ before + 3 * size
+
 -- A window that was before a place is so still, and has paid for what was read.
 pub record MovesTo (size at : ℕ) (old new : Held) (before now : ℕ) : Type 0 where
   pub place : IsBefore new at size

@@ -7,7 +7,7 @@ ghost use Rattle.mkv_io.specs.Told.{Told};
 ghost use Rattle.matroska_format.specs.Element.{element_at};
 ghost use Rattle.matroska_format.specs.Placed.{IsPlaced};
 ghost use Rattle.element_headers.specs.Parent.{setting_of};
-ghost use Rattle.element_window.specs.Window.{HasRange, Holds, IsBefore, MovesTo, read_from};
+ghost use Rattle.element_window.specs.Window.{HasRange, Holds, IsBefore, MovesTo, Spends, read_from};
 
 use element_headers::{Header, Parent, read_header};
 use mkv_io::Reads;
@@ -105,6 +105,8 @@ impl Window {
         ensures octets { R.octets_read src.new ≤ R.octets_read src.old + read_from ((R.files (R.standing src.old)).size file.n) at }
         ensures moves { IsBefore self.old at ((R.files (R.standing src.old)).size file.n)
             → OnOk result (MovesTo ((R.files (R.standing src.old)).size file.n) at self.old self.new (R.octets_read src.old) (R.octets_read src.new)) }
+        ensures spends { IsBefore self.old at ((R.files (R.standing src.old)).size file.n)
+            → OnErr result (Spends ((R.files (R.standing src.old)).size file.n) self.old (R.octets_read src.old) (R.octets_read src.new)) }
     {
         if self.has(at, usize::from(len)) {
             return Ok(());
@@ -160,6 +162,8 @@ impl Window {
         ensures octets { R.octets_read src.new ≤ R.octets_read src.old + read_from ((R.files (R.standing src.old)).size file.n) at }
         ensures moves { IsBefore self.old at ((R.files (R.standing src.old)).size file.n)
             → OnOk result (MovesTo ((R.files (R.standing src.old)).size file.n) at self.old self.new (R.octets_read src.old) (R.octets_read src.new)) }
+        ensures spends { IsBefore self.old at ((R.files (R.standing src.old)).size file.n)
+            → OnErr result (Spends ((R.files (R.standing src.old)).size file.n) self.old (R.octets_read src.old) (R.octets_read src.new)) }
     {
         let len = (end - at).min(HEADER);
         self.hold(src, file, at, len as u16)?;
