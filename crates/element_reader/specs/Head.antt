@@ -1,4 +1,4 @@
--- What `header_at` and `load` answer.
+-- What `load` answers.
 use Rattle.std.specs.Prelude.{◌≡◌, ℕ, ◌==◌, ◌||◌, if◌then◌else◌, ⊤, Option, Some, None, Result, Ok, Err}
 use Rattle.std.specs.Option.{option_map_or}
 use Rattle.mkv_io.specs.Faults.{HasRisen}
@@ -6,26 +6,8 @@ use Rattle.mkv_schema.specs.declared.ids.TheConstants.{EBML, SEEK_HEAD, CUES}
 use Rattle.mkv_values.specs.declared.damage.Damage.{Damage}
 use Rattle.matroska_format.specs.declared.element.Header.{Header}
 use Rattle.matroska_format.specs.Outline.{over, is_described, MOST_OF_HEADER, MOST_OF_ONE, MOST_OF_ALL}
-use Rattle.element_window.specs.declared.window.HeadEnd.{HeadEnd}
-use Rattle.element_window.specs.declared.window.HeadEnd.TheVariants as head_end
 use Rattle.element_reader.specs.declared.body.LoadEnd.{LoadEnd}
 use Rattle.element_reader.specs.declared.body.LoadEnd.TheVariants as load_end
-
--- ---- a header
-
--- the Element that stands there, or what is wrong, where the answer is one of these
-abbrev pub IsHead : Result Header Damage → Result Header HeadEnd → Type 0
-IsHead found (Ok h) = found ≡ Ok h
-IsHead found (Err (head_end.Damage d)) = found ≡ Err d
-IsHead found (Err head_end.ReadFault) = ⊤
-
--- A fault of reading is told only where its count rose; every other answer leaves the count.
-abbrev pub HasHeadCause : ℕ → ℕ → Result Header HeadEnd → Type 0
-HasHeadCause before now (Ok h) = now ≡ before
-HasHeadCause before now (Err (head_end.Damage d)) = now ≡ before
-HasHeadCause before now (Err head_end.ReadFault) = HasRisen before now
-
--- ---- a body
 
 -- the most octets that are loaded of an Element of this ID, where there is a limit
 abbrev pub limit_of : ℕ → Option ℕ

@@ -4,7 +4,7 @@ ghost use Rattle.std.specs.Prelude.{◌≡◌, ◌+◌, ◌≤◌, IfOk, IsTrue}
 ghost use Rattle.mkv_io.specs.Told.{Told};
 ghost use Rattle.matroska_format.specs.Element.{anywhere, element_at};
 ghost use Rattle.matroska_format.specs.Placed.{IsPlaced};
-ghost use Rattle.element_reader.specs.Head.{HasHeadCause, IsHead};
+ghost use Rattle.element_window.specs.Head.{HasHeadCause, IsHead};
 
 use element_headers::{Header, Parent, read_header};
 use element_window::HeadEnd;

@@ -20,6 +20,10 @@ pub record HasRange (w : Held) (at len : ℕ) : Type 0 where
   pub from : w.at ≤ at
   pub to : at + len ≤ end_held w
 
+-- the octets that a header at a place may have, of a parent that ends somewhere
+abbrev pub header_room : ℕ → ℕ → ℕ
+header_room at end = min (end - at) 12
+
 -- how many octets are read at once, in a file of `size` octets
 abbrev pub WINDOW : ℕ
 WINDOW = 65536

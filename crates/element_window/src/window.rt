@@ -1,14 +1,16 @@
 //! The window.
 
-ghost use Rattle.std.specs.Prelude.{◌≡◌, ◌+◌, ◌-◌, ◌≤◌, ◌<◌, [], List, ℕ, length, take, drop, min, OnOk, OnErr, IsTrue, IsOk, IfOk, ◌↔◌};
+ghost use Rattle.std.specs.Prelude.{◌≡◌, ◌+◌, ◌-◌, ◌≤◌, ◌<◌, [], List, ℕ, length, take, drop, min, OnOk, OnErr, IsTrue, IsOk, IfOk, IsErrOf, ◌⊎◌, ◌↔◌};
 ghost use Rattle.mkv_io.specs.Contents.{octets_from};
 ghost use Rattle.mkv_io.specs.Faults.{HasCause};
 ghost use Rattle.mkv_io.specs.Told.{Told};
-ghost use Rattle.matroska_format.specs.Element.{element_at};
+ghost use Rattle.matroska_format.specs.Element.{anywhere, element_at};
 ghost use Rattle.matroska_format.specs.Placed.{IsPlaced};
 ghost use Rattle.element_headers.specs.Parent.{setting_of};
-ghost use Rattle.element_window.specs.Window.{HasRange, Holds, IsBefore, MovesTo, Spends, read_from};
+ghost use Rattle.element_window.specs.Head.{HasHeadCause, IsHead};
+ghost use Rattle.element_window.specs.Window.{HasRange, Holds, IsBefore, MovesTo, Spends, header_room, read_from};
 
+use crate::head_end::HeadEnd;
 use element_headers::{Header, Parent, read_header};
 use mkv_io::Reads;
 use mkv_values::{Damage, Failed, FileId};
@@ -20,15 +22,6 @@ const WINDOW: usize = 65536;
 
 /// The octets of the longest header.
 const HEADER: u64 = 12;
-
-/// Why no header is read.
-#[derive(Clone, Copy, Debug, PartialEq, Eq)]
-pub enum HeadEnd {
-    /// What stands there is no Element that the file may have there.
-    Damage(Damage),
-    /// A read failed.
-    ReadFault,
-}
 
 /// Octets of one file, read at once from a place on.
 #[derive(Drop)]
@@ -132,6 +125,7 @@ impl Window {
         requires range { at + len ≤ (R.files (R.standing src.old)).size file.n }
         requires holds { Told ((R.files (R.standing src.old)).content file.n) (λ bytes. Holds bytes self.old) }
         ensures ok { IfOk result (λ octets. Told ((R.files (R.standing src.old)).content file.n) (λ bytes. octets.now ≡ octets_from bytes at len)) }
+        ensures kept { HasRange self.old at len → (R.octets_read src.new ≡ R.octets_read src.old) × IsOk result }
         ensures standing { R.standing src.new ≡ R.standing src.old }
         ensures cause { HasCause (R.reading_faults src.old) (R.reading_faults src.new) result }
         ensures octets { R.octets_read src.new ≤ R.octets_read src.old + read_from ((R.files (R.standing src.old)).size file.n) at }
@@ -157,6 +151,11 @@ impl Window {
         ensures placed { IfOk result (λ found. IfOk found (IsPlaced at end)) }
         ensures holds { Told ((R.files (R.standing src.old)).content file.n) (λ bytes. Holds bytes self.new) }
         ensures err { OnErr result (self.new.octets ≡ []) }
+
+        // What is held isn't read again; else the window then holds exactly what was read.
+        ensures kept { HasRange self.old at (header_room at end) → (self.new ≡ self.old) × (R.octets_read src.new ≡ R.octets_read src.old) × IsOk result }
+        ensures read { (HasRange self.old at (header_room at end) → ⊥) → OnOk result ((self.new.at ≡ at) × (length self.new.octets ≡ read_from ((R.files (R.standing src.old)).size file.n) at)) }
+
         ensures standing { R.standing src.new ≡ R.standing src.old }
         ensures cause { HasCause (R.reading_faults src.old) (R.reading_faults src.new) result }
         ensures octets { R.octets_read src.new ≤ R.octets_read src.old + read_from ((R.files (R.standing src.old)).size file.n) at }
@@ -169,6 +168,39 @@ impl Window {
         self.hold(src, file, at, len as u16)?;
         let total = src.size(file);
         Ok(read_header(self.held(at, len as usize), parent, total, at, end))
+    }
+
+    /// The header of the Element at `at` octets behind the start of a file, whose parent ends at `end`,
+    /// as if every Segment and every Cluster stood where it may be open.
+    pub fn header_in<R: Reads>(
+        &mut self,
+        src: &mut R,
+        file: FileId,
+        at: u64,
+        end: u64,
+    ) -> Result<Header, HeadEnd>
+        requires live { IsTrue ((R.files (R.standing src.old)).live file.n) }
+        requires place { at ≤ end }
+        requires inside { end ≤ (R.files (R.standing src.old)).size file.n }
+        requires holds { Told ((R.files (R.standing src.old)).content file.n) (λ bytes. Holds bytes self.old) }
+        ensures exact { Told ((R.files (R.standing src.old)).content file.n) (λ bytes. IsHead (element_at anywhere bytes at end) result) }
+        ensures placed { IfOk result (IsPlaced at end) }
+        ensures holds { Told ((R.files (R.standing src.old)).content file.n) (λ bytes. Holds bytes self.new) }
+        ensures fault { IsErrOf result HeadEnd.ReadFault → self.new.octets ≡ [] }
+
+        // What is held isn't read again; else the window then holds exactly what was read.
+        ensures kept { HasRange self.old at (header_room at end) → (self.new ≡ self.old) × (R.octets_read src.new ≡ R.octets_read src.old) × (IsErrOf result HeadEnd.ReadFault → ⊥) }
+        ensures read { (HasRange self.old at (header_room at end) → ⊥) → IsErrOf result HeadEnd.ReadFault ⊎ ((self.new.at ≡ at) × (length self.new.octets ≡ read_from ((R.files (R.standing src.old)).size file.n) at)) }
+
+        ensures standing { R.standing src.new ≡ R.standing src.old }
+        ensures cause { HasHeadCause (R.reading_faults src.old) (R.reading_faults src.new) result }
+        ensures octets { R.octets_read src.new ≤ R.octets_read src.old + read_from ((R.files (R.standing src.old)).size file.n) at }
+    {
+        match self.element(src, file, Parent::Any, at, end) {
+            Ok(Ok(header)) => Ok(header),
+            Ok(Err(damage)) => Err(HeadEnd::Damage(damage)),
+            Err(Failed) => Err(HeadEnd::ReadFault),
+        }
     }
 
     /// Octets of a body, as many as `into` has: from the window where it holds them all, else read.
