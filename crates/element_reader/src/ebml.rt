@@ -5,7 +5,7 @@ ghost use Rattle.mkv_io.specs.Faults.{HasCause, HasReadCause};
 ghost use Rattle.mkv_io.specs.Told.{Told};
 ghost use Rattle.matroska_format.specs.Element.{known, stated_end};
 ghost use Rattle.matroska_format.specs.Outline.{MOST_OF_HEADER, ebml_header, first_damage, first_element, header_causes, header_children};
-ghost use Rattle.element_window.specs.Window.{Holds, IsBefore, MovesTo};
+ghost use Rattle.element_window.specs.Window.{Holds, IsBefore, MovesTo, Spends};
 ghost use Rattle.element_reader.specs.Child.{IsBody, child_refusal, children, value_causes};
 
 use crate::child::child_refusal;
@@ -84,6 +84,8 @@ fn first_element<R: Reads>(
     ensures cause { HasCause (R.reading_faults src.old) (R.reading_faults src.new) result }
     ensures moves { IsBefore window.old 0 total
         → IfOk result (λ found. MovesTo total 0 window.old window.new (R.octets_read src.old) (R.octets_read src.new)) }
+    ensures spends { IsBefore window.old 0 total
+        → OnErr result (Spends total window.old (R.octets_read src.old) (R.octets_read src.new)) }
 {
     let len = total.min(HEADER) as u16;
     window.hold(src, file, 0, len)?;
@@ -116,6 +118,8 @@ pub fn ebml_header<R: Reads>(
     ensures cause { HasReadCause (R.reading_faults src.old) (R.reading_faults src.new) result }
     ensures moves { IsBefore window.old 0 total
         → IfOk result (λ found. MovesTo total 0 window.old window.new (R.octets_read src.old + total) (R.octets_read src.new)) }
+    ensures spends { IsBefore window.old 0 total
+        → OnErr result (Spends total window.old (R.octets_read src.old + total) (R.octets_read src.new)) }
 {
     let header = match first_element(window, src, file, total)? {
         Ok(header) => header,

@@ -62,6 +62,7 @@ impl Outline {
         ensures exact { Told ((R.files (R.standing src.old)).content file.n) (λ bytes. IsOutline (outline_in 0 bytes) result) }
         ensures standing { R.standing src.new ≡ R.standing src.old }
         ensures cause { HasOutlineCause (R.reading_faults src.old) (R.reading_faults src.new) result }
+        ensures octets { R.octets_read src.new ≤ R.octets_read src.old + 4 * (R.files (R.standing src.old)).size file.n }
     {
         Outline::read_after(alloc, src, file, 0)
     }
@@ -78,6 +79,7 @@ impl Outline {
         ensures exact { Told ((R.files (R.standing src.old)).content file.n) (λ bytes. IsOutline (outline_in held bytes) result) }
         ensures standing { R.standing src.new ≡ R.standing src.old }
         ensures cause { HasOutlineCause (R.reading_faults src.old) (R.reading_faults src.new) result }
+        ensures octets { R.octets_read src.new ≤ R.octets_read src.old + 4 * (R.files (R.standing src.old)).size file.n }
     {
         let total = src.size(file);
         let mut window = Window::new(alloc)?;
