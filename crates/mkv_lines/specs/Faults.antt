@@ -1,0 +1,33 @@
+-- The counts of faults of what a run is given, and which of them rose.
+use Rattle.std.specs.Prelude.{◌≡◌, ℕ, ◌⊎◌, Result, Ok, Err}
+use Rattle.mkv_io.specs.Faults.{HasRisen}
+use Rattle.mkv_lines.specs.declared.status.Status.{Status}
+use Rattle.mkv_lines.specs.declared.status.Status.TheVariants as status
+use Rattle.mkv_lines.specs.declared.status.Stop.{Stop}
+use Rattle.mkv_lines.specs.declared.status.Stop.TheVariants as stop
+
+-- how often opening or reading failed, making or writing, and saying a line
+pub record Counts : Type 0 where
+  pub reading : ℕ
+  pub writing : ℕ
+  pub report : ℕ
+
+-- The files failed.
+abbrev pub FilesRose : Counts → Counts → Type 0
+FilesRose old new = HasRisen old.reading new.reading ⊎ HasRisen old.writing new.writing
+
+-- The report failed.
+abbrev pub ReportRose : Counts → Counts → Type 0
+ReportRose old new = HasRisen old.report new.report
+
+-- why a command stops: a fault is told only where its count rose, and no other count does
+abbrev pub HasStopCause : {T : Type 0} → Counts → Counts → Result T Stop → Type 0
+HasStopCause old new (Ok _) = new ≡ old
+HasStopCause old new (Err stop.Memory) = new ≡ old
+HasStopCause old new (Err stop.Files) = FilesRose old new × (new.report ≡ old.report)
+HasStopCause old new (Err stop.Report) = ReportRose old new × (new ≡ record old { report = new.report })
+
+-- A run ends with Outside only where a count rose, and always where one did.
+abbrev pub HasStatusCause : Counts → Counts → Status → Type 0
+HasStatusCause old new status.Outside = FilesRose old new ⊎ ReportRose old new
+HasStatusCause old new _ = new ≡ old

@@ -1,0 +1,6 @@
+pub mod Code
+pub mod Faults
+pub mod Line
+pub mod Said
+pub mod Shown
+pub mod Verdict

@@ -1,0 +1,46 @@
+-- The lines that a user is told, each without its line end.
+use Rattle.std.specs.Prelude.{ℕ, ◌++◌, List, codes}
+use Rattle.std.specs.Fmt.{decimal}
+use Rattle.mkv_values.specs.declared.damage.Damage.{Damage}
+use Rattle.matroska_format.specs.declared.element.Header.{Header}
+use Rattle.mkv_lines.specs.Shown.{damage_text, level_0_name, level_1_name, place_text}
+use Rattle.mkv_lines.specs.declared.line.Line.{Line}
+use Rattle.mkv_lines.specs.declared.line.Line.TheVariants.{Level0, Level1, Refused, Warned, Missing, NotBuilt, FilesFault}
+
+-- an Element at the top of a file
+abbrev pub level_0_line : Header → List ℕ
+level_0_line h = level_0_name h.id ++ place_text h
+
+-- an Element of the Segment
+abbrev pub level_1_line : Header → List ℕ
+level_1_line h = codes "  " ++ (level_1_name h.id ++ place_text h)
+
+-- a file that isn't taken
+abbrev pub refusal_line : List ℕ → Damage → List ℕ
+refusal_line name d = codes "error: " ++ (name ++ (codes ": " ++ damage_text d))
+
+-- a file that is damaged from a place on
+abbrev pub warning_line : List ℕ → Damage → List ℕ
+warning_line name d = codes "warning: " ++ (name ++ (codes ": " ++ damage_text d))
+
+-- a file that isn't there
+abbrev pub missing_line : List ℕ → List ℕ
+missing_line name = codes "error: " ++ (name ++ codes ": Missing")
+
+-- words that ask for what isn't built
+abbrev pub not_built_line : ℕ → List ℕ
+not_built_line word = codes "error: word " ++ (decimal word ++ codes ": NotBuilt")
+
+-- a fault of the files
+abbrev pub files_fault_line : List ℕ
+files_fault_line = codes "fault: files"
+
+-- what a line reads
+abbrev pub text_of : Line → List ℕ
+text_of (Level0 header) = level_0_line header
+text_of (Level1 header) = level_1_line header
+text_of (Refused name damage) = refusal_line name.now damage
+text_of (Warned name damage) = warning_line name.now damage
+text_of (Missing name) = missing_line name.now
+text_of (NotBuilt word) = not_built_line word
+text_of FilesFault = files_fault_line

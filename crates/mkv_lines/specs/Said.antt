@@ -1,0 +1,30 @@
+-- What a report holds after lines were said, where it tells.
+use Rattle.std.specs.Prelude.{◌≡◌, ℕ, ◌++◌, List, Option, Result, Ok, Err}
+use Rattle.mkv_io.specs.Faults.{HasRisen}
+use Rattle.mkv_io.specs.Lines.{with_lines}
+use Rattle.mkv_lines.specs.declared.status.Stop.{Stop}
+use Rattle.mkv_lines.specs.declared.status.Stop.TheVariants as stop
+
+-- what a report holds
+abbrev pub Held : Type 0
+Held = Option (List (List ℕ))
+
+-- The first of these lines, as many as were said, were added.
+pub record SaysPart (old new : Held) (all : List (List ℕ)) : Type 0 where
+  pub said : List (List ℕ)
+  pub left : List (List ℕ)
+  pub whole : all ≡ said ++ left
+  pub added : new ≡ with_lines old said
+
+-- These lines were added, or a first part of them where the call stopped.
+abbrev pub Says : {T : Type 0} → Held → Held → List (List ℕ) → Result T Stop → Type 0
+Says old new all (Ok _) = new ≡ with_lines old all
+Says old new all (Err _) = SaysPart old new all
+
+-- A call that only says lines is stopped by the report only where its count of faults rose; after every
+-- other answer the count stands.
+abbrev pub HasSayCause : {T : Type 0} → ℕ → ℕ → Result T Stop → Type 0
+HasSayCause before now (Ok _) = now ≡ before
+HasSayCause before now (Err stop.Memory) = now ≡ before
+HasSayCause before now (Err stop.Report) = HasRisen before now
+HasSayCause before now (Err stop.Files) = ⊥

@@ -1,0 +1,15 @@
+#![tactic(auto)]
+
+//! What a run tells: the lines that a user reads, and the status with which it ends.
+
+mod line;
+mod saying;
+mod shown;
+mod status;
+
+pub use line::Line;
+pub use saying::{say, say_files_fault};
+pub use status::{Status, Stop};
+
+#[cfg(test)]
+mod tests;

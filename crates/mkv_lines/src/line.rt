@@ -1,0 +1,56 @@
+//! The lines that a user is told.
+
+use crate::shown::{Level0Name, Level1Name, ShownDamage, ShownPlace};
+use matroska_format::Header;
+use mkv_values::Damage;
+use std::fmt;
+
+/// A line that a user is told. Its text, by `Display`, has no line end.
+#[derive(Clone, Copy)]
+pub enum Line<'a> {
+    /// An Element at the top of a file.
+    Level0(Header),
+    /// An Element of the Segment.
+    Level1(Header),
+    /// A file isn't taken.
+    Refused { name: &'a str, damage: Damage },
+    /// A file is damaged from a place on.
+    Warned { name: &'a str, damage: Damage },
+    /// A file isn't there.
+    Missing { name: &'a str },
+    /// The words ask for what isn't built, from this word on.
+    NotBuilt { word: usize },
+    /// The files failed.
+    FilesFault,
+}
+
+impl fmt::Display for Line<'_> {
+    ghost use Rattle.std.specs.Prelude.{Some};
+    ghost use Rattle.mkv_lines.specs.Line.{text_of};
+
+    ghost output = { λ line. Some (text_of line) };
+
+    fn fmt<W: fmt::Write>(&self, f: &mut fmt::Formatter<W>) -> fmt::Result {
+        match *self {
+            Line::Level0(header) => {
+                let (name, place) = (Level0Name(header.id), ShownPlace(header));
+                write!(f, "{name}{place}")
+            }
+            Line::Level1(header) => {
+                let (name, place) = (Level1Name(header.id), ShownPlace(header));
+                write!(f, "  {name}{place}")
+            }
+            Line::Refused { name, damage } => {
+                let damage = ShownDamage(damage);
+                write!(f, "error: {name}: {damage}")
+            }
+            Line::Warned { name, damage } => {
+                let damage = ShownDamage(damage);
+                write!(f, "warning: {name}: {damage}")
+            }
+            Line::Missing { name } => write!(f, "error: {name}: Missing"),
+            Line::NotBuilt { word } => write!(f, "error: word {word}: NotBuilt"),
+            Line::FilesFault => f.write_str("fault: files"),
+        }
+    }
+}

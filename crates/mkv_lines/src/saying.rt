@@ -1,0 +1,37 @@
+//! Lines are said.
+
+ghost use Rattle.std.specs.Prelude.{◌≡◌, ◌∷◌, []};
+ghost use Rattle.mkv_lines.specs.Line.{files_fault_line, text_of};
+ghost use Rattle.mkv_lines.specs.Said.{HasSayCause, Says};
+
+use crate::line::Line;
+use crate::status::Stop;
+use mkv_io::Report;
+use mkv_values::Failed;
+use std::alloc::Global;
+
+/// Says a line. Where the report fails it is there or not.
+pub fn say<R: Report>(alloc: Global, report: &mut R, line: &Line) -> Result<(), Stop>
+    ensures said { Says (R.lines report.old) (R.lines report.new) (text_of line.now ∷ []) result }
+    ensures cause { HasSayCause (R.faults report.old) (R.faults report.new) result }
+{
+    let Ok(text) = format!(in alloc; "{line}") else {
+        return Err(Stop::Memory);
+    };
+    match report.say(&text) {
+        Ok(()) => Ok(()),
+        Err(_) => Err(Stop::Report),
+    }
+}
+
+/// Says that the files failed, which takes no memory.
+pub fn say_files_fault<R: Report>(report: &mut R) -> Result<(), Stop>
+    ensures said { Says (R.lines report.old) (R.lines report.new) (files_fault_line ∷ []) result }
+    ensures memory { result ≡ Err Stop.Memory → ⊥ }
+    ensures cause { HasSayCause (R.faults report.old) (R.faults report.new) result }
+{
+    match report.say("fault: files") {
+        Ok(()) => Ok(()),
+        Err(Failed) => Err(Stop::Report),
+    }
+}

@@ -1,0 +1,118 @@
+//! How Elements, sizes and damages are shown in a line.
+
+use ebml_format::Size;
+use matroska_format::Header;
+use mkv_schema::ids::SEGMENT;
+use mkv_schema::{may_stand, row};
+use mkv_values::Damage;
+use std::fmt;
+
+/// The ID at a place where something is wrong, `-` where there is none.
+#[derive(Clone, Copy)]
+pub struct DamagedId(pub u32);
+
+impl fmt::Display for DamagedId {
+    ghost use Rattle.std.specs.Prelude.{Some};
+    ghost use Rattle.mkv_lines.specs.Shown.{damaged_id};
+
+    ghost output = { λ id. Some (damaged_id id.0) };
+
+    fn fmt<W: fmt::Write>(&self, f: &mut fmt::Formatter<W>) -> fmt::Result {
+        let id = self.0;
+        if id == 0 {
+            return f.write_str("-");
+        }
+        write!(f, "{id:X}")
+    }
+}
+
+/// The name of an Element of level 0.
+#[derive(Clone, Copy)]
+pub struct Level0Name(pub u32);
+
+impl fmt::Display for Level0Name {
+    ghost use Rattle.std.specs.Prelude.{Some};
+    ghost use Rattle.mkv_lines.specs.Shown.{level_0_name};
+
+    ghost output = { λ id. Some (level_0_name id.0) };
+
+    fn fmt<W: fmt::Write>(&self, f: &mut fmt::Formatter<W>) -> fmt::Result {
+        let id = self.0;
+        match row(id) {
+            Some(row) => f.write_str(row.name),
+            None => write!(f, "0x{id:X}"),
+        }
+    }
+}
+
+/// The name of an Element of level 1.
+#[derive(Clone, Copy)]
+pub struct Level1Name(pub u32);
+
+impl fmt::Display for Level1Name {
+    ghost use Rattle.std.specs.Prelude.{Some};
+    ghost use Rattle.mkv_lines.specs.Shown.{level_1_name};
+
+    ghost output = { λ id. Some (level_1_name id.0) };
+
+    fn fmt<W: fmt::Write>(&self, f: &mut fmt::Formatter<W>) -> fmt::Result {
+        let id = self.0;
+        if may_stand(id, SEGMENT) {
+            return Level0Name(id).fmt(f);
+        }
+        write!(f, "0x{id:X}")
+    }
+}
+
+/// A size, in octets.
+#[derive(Clone, Copy)]
+pub struct ShownSize(pub Size);
+
+impl fmt::Display for ShownSize {
+    ghost use Rattle.std.specs.Prelude.{Some};
+    ghost use Rattle.mkv_lines.specs.Shown.{size_text};
+
+    ghost output = { λ size. Some (size_text size.0) };
+
+    fn fmt<W: fmt::Write>(&self, f: &mut fmt::Formatter<W>) -> fmt::Result {
+        match self.0 {
+            Size::Known(octets) => write!(f, "{octets}"),
+            Size::Unknown => f.write_str("unknown"),
+        }
+    }
+}
+
+/// An Element's place in the file, and its size.
+#[derive(Clone, Copy)]
+pub struct ShownPlace(pub Header);
+
+impl fmt::Display for ShownPlace {
+    ghost use Rattle.std.specs.Prelude.{Some};
+    ghost use Rattle.mkv_lines.specs.Shown.{place_text};
+
+    ghost output = { λ header. Some (place_text header.0) };
+
+    fn fmt<W: fmt::Write>(&self, f: &mut fmt::Formatter<W>) -> fmt::Result {
+        let offset = self.0.offset;
+        let size = ShownSize(self.0.size);
+        write!(f, " at {offset} size {size}")
+    }
+}
+
+/// What is wrong with a file, and where.
+#[derive(Clone, Copy)]
+pub struct ShownDamage(pub Damage);
+
+impl fmt::Display for ShownDamage {
+    ghost use Rattle.std.specs.Prelude.{Some};
+    ghost use Rattle.mkv_lines.specs.Shown.{damage_text};
+
+    ghost output = { λ damage. Some (damage_text damage.0) };
+
+    fn fmt<W: fmt::Write>(&self, f: &mut fmt::Formatter<W>) -> fmt::Result {
+        let kind = self.0.kind;
+        let id = DamagedId(self.0.id);
+        let offset = self.0.offset;
+        write!(f, "{kind}, element {id}, offset {offset}")
+    }
+}

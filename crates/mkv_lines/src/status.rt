@@ -1,0 +1,45 @@
+//! How a run ends.
+
+ghost use Rattle.std.specs.Prelude.{◌≡◌};
+ghost use Rattle.mkv_lines.specs.Code.{code_of};
+
+/// How a run ends.
+#[derive(Clone, Copy, Debug, PartialEq, Eq)]
+pub enum Status {
+    /// All is done.
+    Done,
+    /// All is done, and a line warns of what was found on the way.
+    Warned,
+    /// Nothing is done, and a line says why.
+    Refused,
+    /// There was no memory.
+    NoMemory,
+    /// The files or the report failed.
+    Outside,
+}
+
+impl Status {
+    /// The exit status of the program.
+    pub fn code(self) -> u8
+        ensures { result ≡ code_of self }
+    {
+        match self {
+            Status::Done => 0,
+            Status::Warned => 1,
+            Status::Refused => 2,
+            Status::NoMemory => 3,
+            Status::Outside => 4,
+        }
+    }
+}
+
+/// Why a command stops before its end.
+#[derive(Clone, Copy, Debug, PartialEq, Eq)]
+pub enum Stop {
+    /// There is no memory.
+    Memory,
+    /// The files failed.
+    Files,
+    /// The report failed.
+    Report,
+}
