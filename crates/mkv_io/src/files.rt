@@ -29,6 +29,7 @@ pub trait Files: Reads {
         ensures missing { Told (names self.old) (λ world. IsErrOf result OpenFault.Missing ↔ (world name.now ≡ None)) }
         ensures number { IfOk result (λ file. (given self.old ≤ file.n) × (file.n < given self.new)) }
         ensures live { IfOk result (λ file. IsTrue ((Self.files (Self.standing self.new)).live file.n)) }
+        ensures alone { IfOk result (λ file. (other : ℕ) → other ≢ file.n → (Self.files (Self.standing self.new)).live other ≡ (Self.files (Self.standing self.old)).live other) }
         ensures holder { IfOk result (λ file. holder self.new file.n ≡ name.now) }
         ensures content { IfOk result (λ file. Told (names self.old) (λ world. (Self.files (Self.standing self.new)).content file.n ≡ world name.now)) }
 
@@ -50,6 +51,7 @@ pub trait Files: Reads {
     fn create(&mut self, name: &str) -> Result<FileId, MakeFault>
         ensures number { IfOk result (λ file. (given self.old ≤ file.n) × (file.n < given self.new)) }
         ensures live { IfOk result (λ file. IsTrue ((Self.files (Self.standing self.new)).live file.n)) }
+        ensures alone { IfOk result (λ file. (other : ℕ) → other ≢ file.n → (Self.files (Self.standing self.new)).live other ≡ (Self.files (Self.standing self.old)).live other) }
         ensures holder { IfOk result (λ file. holder self.new file.n ≡ name.now) }
         ensures size { IfOk result (λ file. (Self.files (Self.standing self.new)).size file.n ≡ 0) }
         ensures ok { OnOk result (names self.new ≡ with_content (names self.old) name.now []) }

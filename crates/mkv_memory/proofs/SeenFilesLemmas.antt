@@ -1,5 +1,5 @@
 -- What each call makes of files in memory is what the traits for files ask of it.
-use Rattle.std.proofs.Common.{◌≡◌, ◌≢◌, ℕ, ◌+◌, ◌-◌, ◌<◌, ◌≤◌, min, List, [], length, take, Option, Some, None, Bool, true, false, is_some, unwrap_or, if◌then◌else◌, Result, Ok, Err, OnOk, IfOk, IsErrOf, OnErr, refl, sym, ap, subst, arith}
+use Rattle.std.proofs.Common.{◌≡◌, ◌≢◌, ℕ, ◌+◌, ◌-◌, ◌<◌, ◌≤◌, min, List, [], ◌∷◌, ◌++◌, zero, suc, ◌∙◌, length, take, Option, Some, None, Bool, true, false, is_some, unwrap_or, if◌then◌else◌, Result, Ok, Err, OnOk, IfOk, IsErrOf, OnErr, refl, sym, ap, subst, arith}
 use Rattle.mkv_values.specs.declared.outside.FileId.{FileId}
 use Rattle.mkv_values.specs.declared.outside.Failed.{Failed}
 use Rattle.mkv_values.specs.declared.outside.OpenFault.{OpenFault}
@@ -32,6 +32,26 @@ pub OpensName-content : (old new : SeenFiles) (name : List ℕ) (result : Result
 OpensName-content old new name (Ok file) opens =
     λ world told. content_of_file-told old.held new.held world name file.n (ap (λ (seen : SeenFiles). seen.held) opens.3) opens.2 told
 OpensName-content old new name (Err fault) opens = tt
+
+-- one more file is live
+added-elsewhere : (opened : List (Option (List ℕ))) (name : List ℕ) (other : ℕ) → other ≢ length opened → name_of_file (opened ++ Some name ∷ []) other ≡ name_of_file opened other
+added-elsewhere [] name zero differs = absurd (differs refl)
+added-elsewhere [] name (suc other) differs = refl
+added-elsewhere (one ∷ more) name zero differs = refl
+added-elsewhere (one ∷ more) name (suc other) differs = added-elsewhere more name other (λ same. differs (ap suc same))
+
+-- no other file becomes live
+pub OpensName-alone : (old new : SeenFiles) (name : List ℕ) (result : Result FileId OpenFault) → OpensName old name result new → IfOk result (λ file. (other : ℕ) → other ≢ file.n → (files_of new.held).live other ≡ (files_of old.held).live other)
+OpensName-alone old new name (Ok file) opens = λ other differs.
+    ap (λ (seen : SeenFiles). is_some (name_of_file seen.held.opened other)) opens.3
+    ∙ ap is_some (added-elsewhere old.held.opened name other (λ same. differs (same ∙ sym opens.2)))
+OpensName-alone old new name (Err fault) opens = tt
+
+pub CreatesName-alone : (old new : SeenFiles) (name : List ℕ) (result : Result FileId MakeFault) → CreatesName old name result new → IfOk result (λ file. (other : ℕ) → other ≢ file.n → (files_of new.held).live other ≡ (files_of old.held).live other)
+CreatesName-alone old new name (Ok file) creates = λ other differs.
+    ap (λ (seen : SeenFiles). is_some (name_of_file seen.held.opened other)) creates.2
+    ∙ ap is_some (added-elsewhere old.held.opened name other (λ same. differs (same ∙ sym creates.1)))
+CreatesName-alone old new name (Err fault) creates = tt
 
 -- a file that is made is empty
 pub CreatesName-size : (old new : SeenFiles) (name : List ℕ) (result : Result FileId MakeFault) → CreatesName old name result new → IfOk result (λ file. (files_of new.held).size file.n ≡ 0)

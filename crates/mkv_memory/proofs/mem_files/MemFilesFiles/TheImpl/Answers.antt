@@ -1,7 +1,7 @@
 use Rattle.std.proofs.Common.{arith}
 use Rattle.std.proofs.lemmas.Grind.{common_steps}
 use Rattle.mkv_memory.specs.FilesIn.{seen}
-use Rattle.mkv_memory.proofs.SeenFilesLemmas.{AppendsTo-failed, AppendsTo-ok, AppendsTo-others, CreatesName-others, CreatesName-size, OpensName-content, OverwritesIn-err, OverwritesIn-ok, OverwritesIn-others}
+use Rattle.mkv_memory.proofs.SeenFilesLemmas.{AppendsTo-failed, AppendsTo-ok, AppendsTo-others, CreatesName-alone, CreatesName-others, CreatesName-size, OpensName-alone, OpensName-content, OverwritesIn-err, OverwritesIn-ok, OverwritesIn-others}
 use Rattle.mkv_memory.proofs.mem_files.MemFilesFiles.TheImpl.Goals as goal
 
 -- What each call does to files in memory is what every such call has to do.
@@ -11,6 +11,7 @@ open_file-tells c = record {
   missing = grind (arith, common_steps);
   number = grind (arith, common_steps);
   live = grind (arith, common_steps);
+  alone = OpensName-alone (seen c.args.self.now) (seen c.new.self.now) c.args.name.now c.result c.ensures.exact;
   holder = grind (arith, common_steps);
   content = OpensName-content (seen c.args.self.now) (seen c.new.self.now) c.args.name.now c.result c.ensures.exact;
   full = grind (arith, common_steps);
@@ -27,6 +28,7 @@ pub create-tells : goal.create-tells
 create-tells c = record {
   number = grind (arith, common_steps);
   live = grind (arith, common_steps);
+  alone = CreatesName-alone (seen c.args.self.now) (seen c.new.self.now) c.args.name.now c.result c.ensures.exact;
   holder = grind (arith, common_steps);
   size = CreatesName-size (seen c.args.self.now) (seen c.new.self.now) c.args.name.now c.result c.ensures.exact;
   ok = grind (arith, common_steps);
