@@ -24,12 +24,9 @@ pub record HasRange (w : Held) (at len : ℕ) : Type 0 where
 abbrev pub header_room : ℕ → ℕ → ℕ
 header_room at end = min (end - at) 12
 
--- how many octets are read at once, in a file of `size` octets
-abbrev pub WINDOW : ℕ
-WINDOW = 65536
-
-abbrev pub read_from : ℕ → ℕ → ℕ
-read_from size at = min WINDOW (size - at)
+-- how many octets are read at once from a place of a file of `size` octets, where there is room for so many
+abbrev pub read_from : ℕ → ℕ → ℕ → ℕ
+read_from room size at = min room (size - at)
 
 -- The window begins at this place or before it, and ends with a file of `size` octets or before.
 pub record IsBefore (w : Held) (at size : ℕ) : Type 0 where

@@ -1,10 +1,15 @@
 #![tactic(auto)]
 
-//! A window on a file, through which the headers of Elements are read forwards: a read takes 65,536
-//! octets at once, and what the window holds isn't read again.
+//! Windows on a file, through which the headers of Elements are read forwards: a read takes many
+//! octets at once, and what a window holds isn't read again.
 
+mod ahead;
 mod head_end;
+mod lookahead;
+mod small_window;
 mod window;
 
 pub use head_end::HeadEnd;
+pub use lookahead::Lookahead;
+pub use small_window::SmallWindow;
 pub use window::Window;

@@ -10,7 +10,9 @@ ghost use Rattle.element_headers.specs.Parent.{setting_of};
 ghost use Rattle.element_window.specs.Head.{HasHeadCause, IsHead};
 ghost use Rattle.element_window.specs.Window.{HasRange, Holds, IsBefore, MovesTo, Spends, header_room, read_from};
 
+use crate::ahead::{has, read_ahead};
 use crate::head_end::HeadEnd;
+use crate::lookahead::{Lookahead, header_room};
 use element_headers::{Header, Parent, read_header};
 use mkv_io::Reads;
 use mkv_values::{Damage, Failed, FileId};
@@ -19,9 +21,6 @@ use std::marker::Model;
 
 /// How many octets are read at once.
 const WINDOW: usize = 65536;
-
-/// The octets of the longest header.
-const HEADER: u64 = 12;
 
 /// Octets of one file, read at once from a place on.
 #[derive(Drop)]
@@ -58,9 +57,7 @@ impl Window {
     pub fn has(&self, at: u64, len: usize) -> bool
         ensures { IsTrue result ↔ HasRange self.now at len }
     {
-        self.at <= at
-            && at - self.at <= self.len as u64
-            && len <= self.len - (at - self.at) as usize
+        has(self.at, &self.buffer[..self.len], at, len)
     }
 
     /// Octets that the window holds.
@@ -91,11 +88,11 @@ impl Window {
 
         // What is held isn't read again; else the window then holds exactly what was read.
         ensures kept { HasRange self.old at len → (self.new ≡ self.old) × (R.octets_read src.new ≡ R.octets_read src.old) × IsOk result }
-        ensures read { (HasRange self.old at len → ⊥) → OnOk result ((self.new.at ≡ at) × (length self.new.octets ≡ read_from ((R.files (R.standing src.old)).size file.n) at)) }
+        ensures read { (HasRange self.old at len → ⊥) → OnOk result ((self.new.at ≡ at) × (length self.new.octets ≡ read_from WINDOW ((R.files (R.standing src.old)).size file.n) at)) }
 
         ensures standing { R.standing src.new ≡ R.standing src.old }
         ensures cause { HasCause (R.reading_faults src.old) (R.reading_faults src.new) result }
-        ensures octets { R.octets_read src.new ≤ R.octets_read src.old + read_from ((R.files (R.standing src.old)).size file.n) at }
+        ensures octets { R.octets_read src.new ≤ R.octets_read src.old + read_from WINDOW ((R.files (R.standing src.old)).size file.n) at }
         ensures moves { IsBefore self.old at ((R.files (R.standing src.old)).size file.n)
             → OnOk result (MovesTo ((R.files (R.standing src.old)).size file.n) at self.old self.new (R.octets_read src.old) (R.octets_read src.new)) }
         ensures spends { IsBefore self.old at ((R.files (R.standing src.old)).size file.n)
@@ -104,11 +101,9 @@ impl Window {
         if self.has(at, usize::from(len)) {
             return Ok(());
         }
-        let count = (src.size(file) - at).min(WINDOW as u64) as usize;
         self.len = 0;
         self.at = at;
-        read_front(src, file, at, &mut self.buffer, count)?;
-        self.len = count;
+        self.len = read_ahead(src, file, at, &mut self.buffer)?;
         Ok(())
     }
 
@@ -128,7 +123,7 @@ impl Window {
         ensures kept { HasRange self.old at len → (R.octets_read src.new ≡ R.octets_read src.old) × IsOk result }
         ensures standing { R.standing src.new ≡ R.standing src.old }
         ensures cause { HasCause (R.reading_faults src.old) (R.reading_faults src.new) result }
-        ensures octets { R.octets_read src.new ≤ R.octets_read src.old + read_from ((R.files (R.standing src.old)).size file.n) at }
+        ensures octets { R.octets_read src.new ≤ R.octets_read src.old + read_from WINDOW ((R.files (R.standing src.old)).size file.n) at }
     {
         self.hold(src, file, at, len)?;
         Ok(self.held(at, usize::from(len)))
@@ -154,17 +149,17 @@ impl Window {
 
         // What is held isn't read again; else the window then holds exactly what was read.
         ensures kept { HasRange self.old at (header_room at end) → (self.new ≡ self.old) × (R.octets_read src.new ≡ R.octets_read src.old) × IsOk result }
-        ensures read { (HasRange self.old at (header_room at end) → ⊥) → OnOk result ((self.new.at ≡ at) × (length self.new.octets ≡ read_from ((R.files (R.standing src.old)).size file.n) at)) }
+        ensures read { (HasRange self.old at (header_room at end) → ⊥) → OnOk result ((self.new.at ≡ at) × (length self.new.octets ≡ read_from WINDOW ((R.files (R.standing src.old)).size file.n) at)) }
 
         ensures standing { R.standing src.new ≡ R.standing src.old }
         ensures cause { HasCause (R.reading_faults src.old) (R.reading_faults src.new) result }
-        ensures octets { R.octets_read src.new ≤ R.octets_read src.old + read_from ((R.files (R.standing src.old)).size file.n) at }
+        ensures octets { R.octets_read src.new ≤ R.octets_read src.old + read_from WINDOW ((R.files (R.standing src.old)).size file.n) at }
         ensures moves { IsBefore self.old at ((R.files (R.standing src.old)).size file.n)
             → OnOk result (MovesTo ((R.files (R.standing src.old)).size file.n) at self.old self.new (R.octets_read src.old) (R.octets_read src.new)) }
         ensures spends { IsBefore self.old at ((R.files (R.standing src.old)).size file.n)
             → OnErr result (Spends ((R.files (R.standing src.old)).size file.n) self.old (R.octets_read src.old) (R.octets_read src.new)) }
     {
-        let len = (end - at).min(HEADER);
+        let len = header_room(at, end);
         self.hold(src, file, at, len as u16)?;
         let total = src.size(file);
         Ok(read_header(self.held(at, len as usize), parent, total, at, end))
@@ -190,11 +185,11 @@ impl Window {
 
         // What is held isn't read again; else the window then holds exactly what was read.
         ensures kept { HasRange self.old at (header_room at end) → (self.new ≡ self.old) × (R.octets_read src.new ≡ R.octets_read src.old) × (IsErrOf result HeadEnd.ReadFault → ⊥) }
-        ensures read { (HasRange self.old at (header_room at end) → ⊥) → IsErrOf result HeadEnd.ReadFault ⊎ ((self.new.at ≡ at) × (length self.new.octets ≡ read_from ((R.files (R.standing src.old)).size file.n) at)) }
+        ensures read { (HasRange self.old at (header_room at end) → ⊥) → IsErrOf result HeadEnd.ReadFault ⊎ ((self.new.at ≡ at) × (length self.new.octets ≡ read_from WINDOW ((R.files (R.standing src.old)).size file.n) at)) }
 
         ensures standing { R.standing src.new ≡ R.standing src.old }
         ensures cause { HasHeadCause (R.reading_faults src.old) (R.reading_faults src.new) result }
-        ensures octets { R.octets_read src.new ≤ R.octets_read src.old + read_from ((R.files (R.standing src.old)).size file.n) at }
+        ensures octets { R.octets_read src.new ≤ R.octets_read src.old + read_from WINDOW ((R.files (R.standing src.old)).size file.n) at }
     {
         match self.element(src, file, Parent::Any, at, end) {
             Ok(Ok(header)) => Ok(header),
@@ -228,23 +223,17 @@ impl Window {
     }
 }
 
-// Reads octets into the front of a buffer.
-#[tactic(auto, using(std::proofs::lemmas::List::take_at))]
-fn read_front<R: Reads>(
-    src: &mut R,
-    file: FileId,
-    at: u64,
-    buffer: &mut [u8],
-    count: usize,
-) -> Result<(), Failed>
-    requires live { IsTrue ((R.files (R.standing src.old)).live file.n) }
-    requires range { at + count ≤ (R.files (R.standing src.old)).size file.n }
-    requires room { count ≤ length buffer.old }
-    ensures ok { OnOk result (Told ((R.files (R.standing src.old)).content file.n) (λ bytes. take count buffer.new ≡ octets_from bytes at count)) }
-    ensures standing { R.standing src.new ≡ R.standing src.old }
-    ensures cause { HasCause (R.reading_faults src.old) (R.reading_faults src.new) result }
-    ensures octets { R.octets_read src.new ≤ R.octets_read src.old + count }
-{
-    src.read_at(file, at, &mut buffer[..count])?;
-    Ok(())
+impl Lookahead for Window {
+    ghost held = { λ w. w };
+
+    fn element<R: Reads>(
+        &mut self,
+        src: &mut R,
+        file: FileId,
+        parent: Parent,
+        at: u64,
+        end: u64,
+    ) -> Result<Result<Header, Damage>, Failed> {
+        self.element(src, file, parent, at, end)
+    }
 }

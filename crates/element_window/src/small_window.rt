@@ -1,0 +1,107 @@
+//! The window that takes no memory.
+
+ghost use Rattle.std.specs.Prelude.{◌≡◌, ◌+◌, ◌-◌, ◌≤◌, [], OnOk, OnErr, IsTrue, ◌↔◌};
+ghost use Rattle.mkv_io.specs.Contents.{octets_from};
+ghost use Rattle.mkv_io.specs.Faults.{HasCause};
+ghost use Rattle.mkv_io.specs.Told.{Told};
+ghost use Rattle.element_window.specs.Window.{HasRange, Holds, IsBefore, MovesTo, Spends};
+
+use crate::ahead::{has, read_ahead};
+use crate::lookahead::{Lookahead, header_room};
+use element_headers::{Header, Parent, read_header};
+use mkv_io::Reads;
+use mkv_values::{Damage, Failed, FileId};
+use std::marker::Model;
+
+/// How many octets are read at once.
+const SMALL: usize = 1024;
+
+/// Octets of one file, read at once from a place on, as many as a few headers have.
+#[derive(Drop)]
+pub struct SmallWindow {
+    buffer: [u8; SMALL],
+    at: u64,
+    len: usize,
+}
+
+impl Model for SmallWindow {
+    ghost use Rattle.std.specs.Prelude.{take, ◌≤◌};
+    ghost use Rattle.element_window.specs.Window.{Held};
+
+    ghost Value = { Held };
+
+    ghost view = { λ w. record { at = w.at; octets = take w.len w.buffer } };
+
+    ghost invariant = { λ w. w.len ≤ 1024 };
+}
+
+impl SmallWindow {
+    /// A window that holds nothing.
+    pub fn new() -> SmallWindow
+        ensures { result ≡ record { at = 0; octets = [] } }
+    {
+        SmallWindow {
+            buffer: [0; SMALL],
+            at: 0,
+            len: 0,
+        }
+    }
+
+    // Octets that the window holds.
+    fn held(&self, at: u64, len: usize) -> &[u8]
+        requires { HasRange self.now at len }
+        ensures { result.now ≡ octets_from self.now.octets (at - self.now.at) len }
+    {
+        let start = (at - self.at) as usize;
+        &self.buffer[start..start + len]
+    }
+
+    // Makes the window hold so many octets from `at` octets behind the file's start on.
+    fn hold<R: Reads>(
+        &mut self,
+        src: &mut R,
+        file: FileId,
+        at: u64,
+        len: usize,
+    ) -> Result<(), Failed>
+        requires live { IsTrue ((R.files (R.standing src.old)).live file.n) }
+        requires few { len ≤ 64 }
+        requires range { at + len ≤ (R.files (R.standing src.old)).size file.n }
+        requires holds { Told ((R.files (R.standing src.old)).content file.n) (λ bytes. Holds bytes self.old) }
+        ensures range { OnOk result (HasRange self.new at len) }
+        ensures holds { Told ((R.files (R.standing src.old)).content file.n) (λ bytes. Holds bytes self.new) }
+        ensures err { OnErr result (self.new.octets ≡ []) }
+        ensures standing { R.standing src.new ≡ R.standing src.old }
+        ensures cause { HasCause (R.reading_faults src.old) (R.reading_faults src.new) result }
+        ensures moves { IsBefore self.old at ((R.files (R.standing src.old)).size file.n)
+            → OnOk result (MovesTo ((R.files (R.standing src.old)).size file.n) at self.old self.new (R.octets_read src.old) (R.octets_read src.new)) }
+        ensures spends { IsBefore self.old at ((R.files (R.standing src.old)).size file.n)
+            → OnErr result (Spends ((R.files (R.standing src.old)).size file.n) self.old (R.octets_read src.old) (R.octets_read src.new)) }
+    {
+        if has(self.at, &self.buffer[..self.len], at, len) {
+            return Ok(());
+        }
+        self.len = 0;
+        self.at = at;
+        self.len = read_ahead(src, file, at, &mut self.buffer)?;
+        Ok(())
+    }
+}
+
+impl Lookahead for SmallWindow {
+    ghost held = { λ w. w };
+
+    fn element<R: Reads>(
+        &mut self,
+        src: &mut R,
+        file: FileId,
+        parent: Parent,
+        at: u64,
+        end: u64,
+    ) -> Result<Result<Header, Damage>, Failed> {
+        let len = header_room(at, end) as usize;
+        self.hold(src, file, at, len)?;
+        let total = src.size(file);
+        Ok(read_header(self.held(at, len), parent, total, at, end))
+    }
+}
