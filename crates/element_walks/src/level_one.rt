@@ -10,7 +10,7 @@ ghost use Rattle.element_walks.specs.Steps.{StepsOn, IsFurther, place_behind};
 use crate::walk::{behind, id_of};
 use ebml_format::Size;
 use element_headers::{Header, Parent};
-use element_window::Window;
+use element_window::Lookahead;
 use mkv_io::Reads;
 use mkv_schema::is_level0;
 use mkv_values::{Damage, Failed, FileId};
@@ -40,8 +40,8 @@ pub fn ends_segment(size: Size, id: u32) -> bool
 }
 
 /// What stands at a place of a Segment that has this size and may reach up to `end`.
-pub fn next_of_segment<R: Reads>(
-    window: &mut Window,
+pub fn next_of_segment<W: Lookahead, R: Reads>(
+    window: &mut W,
     src: &mut R,
     file: FileId,
     size: Size,
@@ -51,17 +51,17 @@ pub fn next_of_segment<R: Reads>(
     requires live { IsTrue ((R.files (R.standing src.old)).live file.n) }
     requires place { at ≤ end }
     requires inside { end ≤ (R.files (R.standing src.old)).size file.n }
-    requires holds { Told ((R.files (R.standing src.old)).content file.n) (λ bytes. Holds bytes window.old) }
+    requires holds { Told ((R.files (R.standing src.old)).content file.n) (λ bytes. Holds bytes (W.held window.old)) }
     ensures ok { IfOk result (λ step. Told ((R.files (R.standing src.old)).content file.n) (λ bytes. StepsOn step (level_1 bytes size at end) at (λ q. level_1 bytes size q end))) }
-    ensures holds { Told ((R.files (R.standing src.old)).content file.n) (λ bytes. Holds bytes window.new) }
-    ensures err { OnErr result (window.new.octets ≡ []) }
+    ensures holds { Told ((R.files (R.standing src.old)).content file.n) (λ bytes. Holds bytes (W.held window.new)) }
+    ensures err { OnErr result ((W.held window.new).octets ≡ []) }
     ensures standing { R.standing src.new ≡ R.standing src.old }
     ensures cause { HasCause (R.reading_faults src.old) (R.reading_faults src.new) result }
     ensures place { IfOk result (λ step. IsFurther step at end) }
-    ensures moves { IsBefore window.old at ((R.files (R.standing src.old)).size file.n)
-        → IfOk result (λ step. MovesTo ((R.files (R.standing src.old)).size file.n) (place_behind step at end) window.old window.new (R.octets_read src.old) (R.octets_read src.new)) }
-    ensures spends { IsBefore window.old at ((R.files (R.standing src.old)).size file.n)
-        → OnErr result (Spends ((R.files (R.standing src.old)).size file.n) window.old (R.octets_read src.old) (R.octets_read src.new)) }
+    ensures moves { IsBefore (W.held window.old) at ((R.files (R.standing src.old)).size file.n)
+        → IfOk result (λ step. MovesTo ((R.files (R.standing src.old)).size file.n) (place_behind step at end) (W.held window.old) (W.held window.new) (R.octets_read src.old) (R.octets_read src.new)) }
+    ensures spends { IsBefore (W.held window.old) at ((R.files (R.standing src.old)).size file.n)
+        → OnErr result (Spends ((R.files (R.standing src.old)).size file.n) (W.held window.old) (R.octets_read src.old) (R.octets_read src.new)) }
 {
     if at >= end {
         return Ok(Step::End);

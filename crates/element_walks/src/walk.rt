@@ -10,7 +10,7 @@ ghost use Rattle.element_walks.specs.Walk.{cluster_end, place_or};
 
 use ebml_format::Size;
 use element_headers::{Header, Parent};
-use element_window::Window;
+use element_window::Lookahead;
 use mkv_io::Reads;
 use mkv_schema::{is_level0, is_level1};
 use mkv_values::{Damage, Failed, FileId};
@@ -43,8 +43,8 @@ pub fn end_in(header: &Header, end: u64) -> u64
 }
 
 /// Where the children of a Cluster of unknown size end, from a place on, or the damage among them.
-pub fn cluster_end<R: Reads>(
-    window: &mut Window,
+pub fn cluster_end<W: Lookahead, R: Reads>(
+    window: &mut W,
     src: &mut R,
     file: FileId,
     from: u64,
@@ -53,17 +53,17 @@ pub fn cluster_end<R: Reads>(
     requires live { IsTrue ((R.files (R.standing src.old)).live file.n) }
     requires place { from ≤ end }
     requires inside { end ≤ (R.files (R.standing src.old)).size file.n }
-    requires holds { Told ((R.files (R.standing src.old)).content file.n) (λ bytes. Holds bytes window.old) }
+    requires holds { Told ((R.files (R.standing src.old)).content file.n) (λ bytes. Holds bytes (W.held window.old)) }
     ensures ok { IfOk result (λ found. Told ((R.files (R.standing src.old)).content file.n) (λ bytes. found ≡ cluster_end bytes from end)) }
-    ensures holds { Told ((R.files (R.standing src.old)).content file.n) (λ bytes. Holds bytes window.new) }
-    ensures err { OnErr result (window.new.octets ≡ []) }
+    ensures holds { Told ((R.files (R.standing src.old)).content file.n) (λ bytes. Holds bytes (W.held window.new)) }
+    ensures err { OnErr result ((W.held window.new).octets ≡ []) }
     ensures standing { R.standing src.new ≡ R.standing src.old }
     ensures cause { HasCause (R.reading_faults src.old) (R.reading_faults src.new) result }
     ensures place { IfOk result (λ found. IfOk found (λ at. (from ≤ at) × (at ≤ end))) }
-    ensures moves { IsBefore window.old from ((R.files (R.standing src.old)).size file.n)
-        → IfOk result (λ found. MovesTo ((R.files (R.standing src.old)).size file.n) (place_or found end) window.old window.new (R.octets_read src.old) (R.octets_read src.new)) }
-    ensures spends { IsBefore window.old from ((R.files (R.standing src.old)).size file.n)
-        → OnErr result (Spends ((R.files (R.standing src.old)).size file.n) window.old (R.octets_read src.old) (R.octets_read src.new)) }
+    ensures moves { IsBefore (W.held window.old) from ((R.files (R.standing src.old)).size file.n)
+        → IfOk result (λ found. MovesTo ((R.files (R.standing src.old)).size file.n) (place_or found end) (W.held window.old) (W.held window.new) (R.octets_read src.old) (R.octets_read src.new)) }
+    ensures spends { IsBefore (W.held window.old) from ((R.files (R.standing src.old)).size file.n)
+        → OnErr result (Spends ((R.files (R.standing src.old)).size file.n) (W.held window.old) (R.octets_read src.old) (R.octets_read src.new)) }
 {
     let mut at = from;
     while at < end {
@@ -81,8 +81,8 @@ pub fn cluster_end<R: Reads>(
 
 /// Where the Element behind one of a Segment begins, or the damage inside it: a Cluster of unknown
 /// size ends with its children.
-pub fn behind<R: Reads>(
-    window: &mut Window,
+pub fn behind<W: Lookahead, R: Reads>(
+    window: &mut W,
     src: &mut R,
     file: FileId,
     header: &Header,
@@ -91,17 +91,17 @@ pub fn behind<R: Reads>(
     requires live { IsTrue ((R.files (R.standing src.old)).live file.n) }
     requires place { header.now.body ≤ end }
     requires inside { end ≤ (R.files (R.standing src.old)).size file.n }
-    requires holds { Told ((R.files (R.standing src.old)).content file.n) (λ bytes. Holds bytes window.old) }
+    requires holds { Told ((R.files (R.standing src.old)).content file.n) (λ bytes. Holds bytes (W.held window.old)) }
     ensures ok { IfOk result (λ found. Told ((R.files (R.standing src.old)).content file.n) (λ bytes. found ≡ behind_in_segment bytes end header.now)) }
-    ensures holds { Told ((R.files (R.standing src.old)).content file.n) (λ bytes. Holds bytes window.new) }
-    ensures err { OnErr result (window.new.octets ≡ []) }
+    ensures holds { Told ((R.files (R.standing src.old)).content file.n) (λ bytes. Holds bytes (W.held window.new)) }
+    ensures err { OnErr result ((W.held window.new).octets ≡ []) }
     ensures standing { R.standing src.new ≡ R.standing src.old }
     ensures cause { HasCause (R.reading_faults src.old) (R.reading_faults src.new) result }
     ensures place { IfOk result (λ found. IfOk found (λ at. (header.now.body ≤ at) × (at ≤ end))) }
-    ensures moves { IsBefore window.old header.now.body ((R.files (R.standing src.old)).size file.n)
-        → IfOk result (λ found. MovesTo ((R.files (R.standing src.old)).size file.n) (place_or found end) window.old window.new (R.octets_read src.old) (R.octets_read src.new)) }
-    ensures spends { IsBefore window.old header.now.body ((R.files (R.standing src.old)).size file.n)
-        → OnErr result (Spends ((R.files (R.standing src.old)).size file.n) window.old (R.octets_read src.old) (R.octets_read src.new)) }
+    ensures moves { IsBefore (W.held window.old) header.now.body ((R.files (R.standing src.old)).size file.n)
+        → IfOk result (λ found. MovesTo ((R.files (R.standing src.old)).size file.n) (place_or found end) (W.held window.old) (W.held window.new) (R.octets_read src.old) (R.octets_read src.new)) }
+    ensures spends { IsBefore (W.held window.old) header.now.body ((R.files (R.standing src.old)).size file.n)
+        → OnErr result (Spends ((R.files (R.standing src.old)).size file.n) (W.held window.old) (R.octets_read src.old) (R.octets_read src.new)) }
 {
     match header.size {
         Size::Unknown => {

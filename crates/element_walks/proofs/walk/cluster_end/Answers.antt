@@ -45,8 +45,8 @@ loop-at-preserved g c =
           ∙ ap (λ q. cluster_end bytes q c.args.end) (sym c.end_in-at.ensures);
       moves = λ before.
           let size = (g.R.Reads.files (g.R.Reads.standing c.args.src.now)).size c.args.file.n in
-          let P = λ (s : g.R.Reads.Standing). IsBefore c.loop-at.window c.loop-at.at ((g.R.Reads.files s).size c.args.file.n) → MovesTo ((g.R.Reads.files s).size c.args.file.n) c.loop-at.at c.loop-at.window c.element.new.self (g.R.Reads.octets_read c.loop-at.src) (g.R.Reads.octets_read c.element.new.src) in
+          let P = λ (s : g.R.Reads.Standing). IsBefore (g.W.Lookahead.held c.loop-at.window) c.loop-at.at ((g.R.Reads.files s).size c.args.file.n) → MovesTo ((g.R.Reads.files s).size c.args.file.n) c.loop-at.at (g.W.Lookahead.held c.loop-at.window) (g.W.Lookahead.held c.element.new.self) (g.R.Reads.octets_read c.loop-at.src) (g.R.Reads.octets_read c.element.new.src) in
           let next = subst P c.loop-at.invariant.standing c.in_ok-found.ensures.moves in
-          MovesTo-later size c.loop-at.at c.end_in-at.result c.args.window.now c.element.new.self _ _ on
-          (MovesTo-on size c.loop-at.at c.loop-at.at c.args.window.now c.loop-at.window c.element.new.self _ _ _ (omega arith) (c.loop-at.invariant.moves before) next);
+          MovesTo-later size c.loop-at.at c.end_in-at.result (g.W.Lookahead.held c.args.window.now) (g.W.Lookahead.held c.element.new.self) _ _ on
+          (MovesTo-on size c.loop-at.at c.loop-at.at (g.W.Lookahead.held c.args.window.now) (g.W.Lookahead.held c.loop-at.window) (g.W.Lookahead.held c.element.new.self) _ _ _ (omega arith) (c.loop-at.invariant.moves before) next);
     }
