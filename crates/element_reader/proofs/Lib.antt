@@ -4,6 +4,7 @@ pub mod CollectedLemmas
 pub mod EbmlLemmas
 pub mod FieldLemmas
 pub mod LevelLemmas
+pub mod LevelOneLemmas
 pub mod SegmentLemmas
 pub mod ValueLemmas
 pub mod OutlineLemmas

@@ -1,5 +1,5 @@
 -- What `load` answers.
-use Rattle.std.specs.Prelude.{◌≡◌, ℕ, ◌==◌, ◌||◌, if◌then◌else◌, ⊤, Option, Some, None, Result, Ok, Err}
+use Rattle.std.specs.Prelude.{◌≡◌, ℕ, ◌==◌, ◌||◌, if◌then◌else◌, Option, Some, None, Result, Ok, Err}
 use Rattle.std.specs.Option.{option_map_or}
 use Rattle.mkv_io.specs.Faults.{HasRisen}
 use Rattle.mkv_schema.specs.declared.ids.TheConstants.{EBML, SEEK_HEAD, CUES}

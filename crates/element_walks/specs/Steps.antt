@@ -12,10 +12,10 @@ StepsOn (Element header (Err d)) left at from = left ≡ before header (breaks_a
 StepsOn (Damaged d) left at from = left ≡ breaks_at at d
 StepsOn End left at from = left ≡ ends_at at
 
--- an Element's header stands behind the place, and the next Element too, up to the end
+-- an Element stands before the end, and what is behind it stands behind the place, up to the end
 abbrev pub IsFurther : Step → ℕ → ℕ → Type 0
 IsFurther (Element header (Ok next)) at end = (at < next) × (next ≤ end)
-IsFurther (Element header (Err d)) at end = ⊤
+IsFurther (Element header (Err d)) at end = at < end
 IsFurther (Damaged d) at end = ⊤
 IsFurther End at end = ⊤
 

@@ -1,0 +1,55 @@
+-- The Elements of level 1 of a Segment, given one after the other.
+use Rattle.std.specs.Prelude.{◌≡◌, true, ℕ, ◌<◌, ◌≤◌, if◌then◌else◌, List, [], ◌∷◌, Option, Some, None}
+use Rattle.ebml_format.specs.declared.number.Size.{Size}
+use Rattle.mkv_values.specs.declared.outside.FileId.{FileId}
+use Rattle.mkv_io.specs.LiveFiles.{LiveFiles}
+use Rattle.mkv_io.specs.Told.{Told}
+use Rattle.matroska_format.specs.declared.element.Header.{Header}
+use Rattle.matroska_format.specs.Element.{end_in, is_unknown}
+use Rattle.matroska_format.specs.Elements.{level_1}
+use Rattle.element_window.specs.Window.{Held, Holds}
+
+-- A place among the Elements of level 1 of a Segment: its file, the size that the Segment states, the
+-- next Element's place, the place up to which the Segment may reach, and what is held of the file.
+pub record Place : Type 0 where
+  pub file : FileId
+  pub size : Size
+  pub at : ℕ
+  pub end : ℕ
+  pub ahead : Held
+
+-- the Elements that are left
+abbrev pub left : List ℕ → Place → List Header
+left bytes p = (level_1 bytes p.size p.at p.end).list
+
+-- the first place in a Segment of a file of `total` octets, of which nothing is held yet
+abbrev pub first_place : Header → ℕ → FileId → Place
+first_place segment total file = record {
+  file = file;
+  size = segment.size;
+  at = segment.body;
+  end = if is_unknown segment.size then total else end_in total segment;
+  ahead = record { at = 0; octets = [] };
+}
+
+-- The place is in a live file, and what is held is this file's.
+pub record IsIn (files : LiveFiles) (p : Place) : Type 0 where
+  pub live : files.live p.file.n ≡ true
+  pub inside : p.end ≤ files.size p.file.n
+  pub holds : Told (files.content p.file.n) (λ bytes. Holds bytes p.ahead)
+
+-- the first of the Elements that were left, or none, and those that are left then
+abbrev pub Gives : Option Header → List Header → List Header → Type 0
+Gives (Some h) old new = old ≡ h ∷ new
+Gives None old new = (old ≡ []) × (new ≡ [])
+
+-- the place moves on past an Element, and stays where there is none
+abbrev pub GoesOn : Option Header → ℕ → ℕ → Type 0
+GoesOn (Some h) old new = old < new
+GoesOn None old new = new ≡ old
+
+-- The place is another one of the same Segment.
+pub record IsSameSegment (old new : Place) : Type 0 where
+  pub file : new.file ≡ old.file
+  pub size : new.size ≡ old.size
+  pub end : new.end ≡ old.end

@@ -1,0 +1,91 @@
+//! The Elements of level 1, one after the other: RFC 9559, section 5.1 (Segment Element).
+
+ghost use Rattle.std.specs.Prelude.{◌≡◌, ℕ, ◌≤◌, List, length, IfOk, OnErr};
+ghost use Rattle.mkv_io.specs.Faults.{HasCause};
+ghost use Rattle.mkv_io.specs.Told.{Told};
+ghost use Rattle.matroska_format.specs.Outline.{segment_run};
+ghost use Rattle.element_window.specs.Window.{IsBefore, MovesTo, Spends};
+ghost use Rattle.element_reader.specs.LevelOne.{Gives, GoesOn, IsIn, IsSameSegment, first_place, left};
+
+use crate::level::segment_bound;
+use ebml_format::Size;
+use element_headers::Header;
+use element_walks::{Step, next_of_segment};
+use element_window::SmallWindow;
+use mkv_io::Reads;
+use mkv_values::{Failed, FileId};
+use std::marker::Model;
+
+#[cfg(test)]
+mod tests;
+
+/// Gives the Elements of level 1 of a Segment, Clusters too, in the order of the file. It takes no memory.
+#[derive(Drop)]
+pub struct LevelOne {
+    window: SmallWindow,
+    file: FileId,
+    size: Size,
+    at: u64,
+    end: u64,
+}
+
+impl Model for LevelOne {
+    ghost use Rattle.std.specs.Prelude.{◌≤◌};
+    ghost use Rattle.element_reader.specs.LevelOne.{Place};
+
+    ghost Value = { Place };
+
+    ghost view = { λ l. record { file = l.file; size = l.size; at = l.at; end = l.end; ahead = l.window } };
+
+    ghost invariant = { λ l. l.at ≤ l.end };
+}
+
+impl LevelOne {
+    /// The Elements of a Segment in a file of `total` octets.
+    pub(crate) fn over(segment: &Header, total: u64, file: FileId) -> LevelOne
+        requires { segment.now.body ≤ total }
+        ensures place { result ≡ first_place segment.now total file }
+        ensures left { (bytes : List ℕ) → total ≡ length bytes → left bytes result ≡ (segment_run bytes segment.now).list }
+    {
+        LevelOne {
+            window: SmallWindow::new(),
+            file,
+            size: segment.size,
+            at: segment.body,
+            end: segment_bound(segment, total),
+        }
+    }
+
+    /// The next Element. None is answered where no more stand before the Segment's end or a damage, and
+    /// again from then on. After `Failed` the same Element is looked for again.
+    pub fn next<R: Reads>(&mut self, src: &mut R) -> Result<Option<Header>, Failed>
+        requires { IsIn (R.files (R.standing src.old)) self.old }
+        ensures ok { IfOk result (λ found. Told ((R.files (R.standing src.old)).content self.old.file.n) (λ bytes. Gives found (left bytes self.old) (left bytes self.new))) }
+        ensures place { IfOk result (λ found. GoesOn found self.old.at self.new.at) }
+        ensures err { OnErr result (self.new.at ≡ self.old.at) }
+        ensures same { IsSameSegment self.old self.new }
+        ensures inside { self.new.at ≤ self.new.end }
+        ensures stands { IsIn (R.files (R.standing src.new)) self.new }
+        ensures standing { R.standing src.new ≡ R.standing src.old }
+        ensures cause { HasCause (R.reading_faults src.old) (R.reading_faults src.new) result }
+        ensures moves { IsBefore self.old.ahead self.old.at ((R.files (R.standing src.old)).size self.old.file.n)
+            → IfOk result (λ _. MovesTo ((R.files (R.standing src.old)).size self.old.file.n) self.new.at self.old.ahead self.new.ahead (R.octets_read src.old) (R.octets_read src.new)) }
+        ensures spends { IsBefore self.old.ahead self.old.at ((R.files (R.standing src.old)).size self.old.file.n)
+            → OnErr result (Spends ((R.files (R.standing src.old)).size self.old.file.n) self.old.ahead (R.octets_read src.old) (R.octets_read src.new)) }
+    {
+        match next_of_segment(
+            &mut self.window,
+            src,
+            self.file,
+            self.size,
+            self.at,
+            self.end,
+        )? {
+            Step::Element { header, next } => {
+                self.at = next.unwrap_or(self.end);
+                Ok(Some(header))
+            }
+            Step::Damaged(_) | Step::End => Ok(None),
+        }
+    }
+}
