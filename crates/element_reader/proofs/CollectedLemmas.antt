@@ -1,22 +1,19 @@
 -- What is kept of the Elements of level 1, one more at a time.
-use Rattle.std.proofs.Common.{◌≡◌, ℕ, ◌+◌, ◌==◌, nat_lt, Bool, true, false, not, ◌&&◌, ◌||◌, if◌then◌else◌, List, [], ◌∷◌, ◌++◌, length, length-append, Option, Some, None, refl, sym, ◌∙◌, ap, arith}
+use Rattle.std.proofs.Common.{◌≡◌, ℕ, zero, suc, IfSome, ◌≤◌, ◌<◌, ◌+◌, ◌==◌, nat_lt, Bool, true, false, not, ◌&&◌, ◌||◌, if◌then◌else◌, List, [], ◌∷◌, ◌++◌, length, length-append, Option, Some, None, refl, sym, ◌∙◌, ap, arith}
 use Rattle.std.specs.Option.{option_map, option_or, is_some}
-use Rattle.std.specs.List.{filter, sum_by}
-use Rattle.std.proofs.lemmas.List.Elements.{filter-append}
+use Rattle.std.specs.List.{All, filter, find, sum_by}
+use Rattle.std.proofs.lemmas.List.Elements.{All-append, filter-append}
 use Rattle.std.proofs.lemmas.List.Folds.{find-append}
 use Rattle.std.proofs.lemmas.List.Sums.{sum_by-append, length-filter}
 use Rattle.mkv_schema.specs.declared.ids.TheConstants.{CLUSTER}
 use Rattle.mkv_values.specs.declared.damage.Damage.{Damage}
 use Rattle.matroska_format.specs.declared.element.Header.{Header}
-use Rattle.matroska_format.specs.Element.{known}
+use Rattle.matroska_format.specs.Element.{in_segment, known}
+use Rattle.matroska_format.specs.Placed.{IsWhole}
 use Rattle.matroska_format.specs.Value.{first_of}
 use Rattle.matroska_format.specs.Outline.{first_damage, where_it, is_described, described, others, passes_size, passes_count, MOST_OF_ONE, MOST_OF_ALL, MOST_ELEMENTS}
-use Rattle.element_reader.specs.Collected.{Keeps, others_of, octets_of}
+use Rattle.element_reader.specs.Collected.{IsInFile, Keeps, kept_of, others_of, octets_of}
 use Rattle.element_reader.specs.declared.collected.Collected.{Collected}
-
--- one more Element that isn't a Cluster
-abbrev pub kept_of : Header → List Header
-kept_of h = if not (h.id == CLUSTER) then h ∷ [] else []
 
 -- one more Cluster
 abbrev pub cluster_of : Header → Option Header
@@ -94,3 +91,25 @@ pub passes-none : (large many : Bool) (a b : Damage) → large ≡ false → man
 passes-none false false a b large count = refl
 passes-none false true a b large count = absurd (cc)
 passes-none true many a b large count = absurd (cc)
+
+-- what holds of one Element holds of a list of it alone
+All-one : (P : Header → Type 0) (h : Header) → P h → All P (h ∷ [])
+All-one P h holds zero d below = holds
+All-one P h holds (suc k) d below = absurd (omega arith)
+
+-- what holds of each Element holds of the first that is found
+pub All-find : (P : Header → Type 0) (test : Header → Bool) (list : List Header) → All P list → IfSome (find test list) P
+All-find P test [] all = tt
+All-find P test (h ∷ hs) all = here (All-find P test hs (λ k d below. all (suc k) d (omega arith))) (test h)
+  where
+    here : IfSome (find test hs) P → (found : Bool) → IfSome (if found then Some h else find test hs) P
+    here later true = all zero h (omega arith)
+    here later false = later
+
+-- the Elements that are kept can be read, with one more of a Segment that ends within the file
+pub IsInFile-more : (total bound : ℕ) (list : List Header) (h : Header) → bound ≤ total → All (IsInFile total) list → IsWhole in_segment bound h → All (IsInFile total) (list ++ kept_of h)
+IsInFile-more total bound list h within before whole = All-append (IsInFile total) list (kept_of h) before (alone (h.id == CLUSTER) refl)
+  where
+    alone : (cluster : Bool) → (h.id == CLUSTER) ≡ cluster → All (IsInFile total) (if not cluster then h ∷ [] else [])
+    alone true is = λ k d below. absurd (omega arith)
+    alone false is = All-one (IsInFile total) h (record { known = whole.known is; inside = omega (arith, whole.inside is) })

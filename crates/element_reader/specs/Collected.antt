@@ -1,9 +1,9 @@
 -- What is kept of the Elements of level 1 that were met.
-use Rattle.std.specs.Prelude.{◌≡◌, ℕ, ◌+◌, ◌==◌, not, if◌then◌else◌, List, filter, Option}
+use Rattle.std.specs.Prelude.{◌≡◌, ℕ, ◌+◌, ◌≤◌, ◌==◌, not, false, if◌then◌else◌, List, [], ◌∷◌, filter, Option}
 use Rattle.std.specs.Option.{option_map}
 use Rattle.mkv_schema.specs.declared.ids.TheConstants.{CLUSTER}
 use Rattle.matroska_format.specs.declared.element.Header.{Header}
-use Rattle.matroska_format.specs.Element.{known}
+use Rattle.matroska_format.specs.Element.{is_unknown, known, stated_end}
 use Rattle.matroska_format.specs.Value.{first_of}
 use Rattle.matroska_format.specs.Outline.{is_described, described}
 use Rattle.element_reader.specs.declared.collected.Collected.{Collected}
@@ -11,6 +11,15 @@ use Rattle.element_reader.specs.declared.collected.Collected.{Collected}
 -- the Elements other than Clusters
 abbrev pub others_of : List Header → List Header
 others_of list = filter (λ h. not (h.id == CLUSTER)) list
+
+-- an Element, where it isn't a Cluster
+abbrev pub kept_of : Header → List Header
+kept_of h = if not (h.id == CLUSTER) then h ∷ [] else []
+
+-- An Element whose body can be read of a file of `total` octets: its size is known, and it ends within.
+pub record IsInFile (total : ℕ) (h : Header) : Type 0 where
+  pub known : is_unknown h.size ≡ false
+  pub inside : stated_end h ≤ total
 
 -- the octets of an Info, Tracks, Chapters or Tags
 abbrev pub octets_of : Header → ℕ

@@ -50,11 +50,12 @@ fn octets_of(header: &Header) -> u64
 }
 
 impl Collected {
-    ghost use Rattle.element_reader.specs.Collected.{Keeps};
+    ghost use Rattle.element_reader.specs.Collected.{Keeps, kept_of};
 
     /// Nothing is kept yet, and earlier inputs have held so many octets.
     pub fn new(alloc: Global, held: u64) -> Collected
-        ensures { Keeps held [] result }
+        ensures none { result.others.items ≡ [] }
+        ensures kept { Keeps held [] result }
     {
         Collected {
             others: Vec::new(alloc),
@@ -66,6 +67,7 @@ impl Collected {
     /// Keeps an Element, or answers the limit that it passes.
     pub fn add(&mut self, header: Header) -> Result<Option<Damage>, AllocError>
         ensures refusal { IfOk result (λ refusal. (held : ℕ) (list : List Placed) → Keeps held list self.old → refusal ≡ first_damage (limit_causes held list header)) }
+        ensures others { IfOk result (λ refusal. refusal ≡ None → self.new.others.items ≡ self.old.others.items ++ kept_of header) }
         ensures kept { IfOk result (λ refusal. refusal ≡ None → (held : ℕ) (list : List Placed) → Keeps held list self.old → Keeps held (list ++ header ∷ []) self.new) }
     {
         if let Some(damage) = self.refusal(&header) {

@@ -3,7 +3,7 @@
 ghost use Rattle.std.specs.Prelude.{◌≡◌, ◌+◌, ◌≤◌, IfOk, IsTrue};
 ghost use Rattle.mkv_io.specs.Told.{Told};
 ghost use Rattle.matroska_format.specs.Element.{anywhere, element_at};
-ghost use Rattle.matroska_format.specs.Placed.{IsPlaced};
+ghost use Rattle.matroska_format.specs.Placed.{IsPlaced, IsWhole};
 ghost use Rattle.element_window.specs.Head.{HasHeadCause, IsHead};
 
 use element_headers::{Header, Parent, read_header};
@@ -22,6 +22,7 @@ pub fn header_at<R: Reads>(src: &mut R, file: FileId, at: u64, end: u64) -> Resu
     requires inside { end ≤ (R.files (R.standing src.old)).size file.n }
     ensures exact { Told ((R.files (R.standing src.old)).content file.n) (λ bytes. IsHead (element_at anywhere bytes at end) result) }
     ensures placed { IfOk result (IsPlaced at end) }
+    ensures whole { IfOk result (IsWhole anywhere end) }
     ensures standing { R.standing src.new ≡ R.standing src.old }
     ensures cause { HasHeadCause (R.reading_faults src.old) (R.reading_faults src.new) result }
     ensures octets { R.octets_read src.new ≤ R.octets_read src.old + 12 }

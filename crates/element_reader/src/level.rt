@@ -1,12 +1,13 @@
 //! The Elements of level 1 of a Segment: RFC 9559, section 5.1 (Segment Element).
 
-ghost use Rattle.std.specs.Prelude.{◌≡◌, ℕ, ◌≤◌, List, length, if◌then◌else◌, [], IfOk, OnErr, IsTrue};
+ghost use Rattle.std.specs.Prelude.{All, ◌≡◌, ℕ, ◌≤◌, List, length, if◌then◌else◌, [], IfOk, OnErr, IsTrue};
 ghost use Rattle.std.specs.Option.{option_map_or};
 ghost use Rattle.mkv_io.specs.Faults.{HasReadCause};
 ghost use Rattle.mkv_io.specs.Told.{Told};
 ghost use Rattle.matroska_format.specs.Element.{end_in, is_unknown};
 ghost use Rattle.matroska_format.specs.Outline.{segment_run};
 ghost use Rattle.element_window.specs.Window.{Holds, IsBefore, MovesTo, Spends};
+ghost use Rattle.element_reader.specs.Collected.{IsInFile};
 ghost use Rattle.element_reader.specs.Level.{HasLevel, IsLevel, IsOnWay, nothing_left};
 
 use crate::collected::Collected;
@@ -42,7 +43,8 @@ fn segment_end(segment: &Header, total: u64, at: u64, damage: Option<Damage>) ->
 
 // What is collected of a Segment whose Elements end at a place, by a damage or without one.
 fn ended(kept: Collected, segment: &Header, total: u64, at: u64, damage: Option<Damage>) -> Level
-    ensures { (held : ℕ) (bytes : List ℕ) → total ≡ length bytes
+    ensures kept { result.kept ≡ kept }
+    ensures level { (held : ℕ) (bytes : List ℕ) → total ≡ length bytes
         → IsOnWay held (segment_run bytes segment.now) (nothing_left at damage) kept → HasLevel held bytes segment.now result }
 {
     let end = segment_end(segment, total, at, damage);
@@ -75,6 +77,7 @@ pub fn collect<R: Reads>(
     requires whole { total ≡ (R.files (R.standing src.old)).size file.n }
     requires holds { Told ((R.files (R.standing src.old)).content file.n) (λ bytes. Holds bytes window.old) }
     ensures ok { IfOk result (λ found. Told ((R.files (R.standing src.old)).content file.n) (λ bytes. IsLevel held bytes segment.now found)) }
+    ensures whole { IfOk result (λ found. IfOk found (λ level. All (IsInFile total) level.kept.others.items)) }
     ensures standing { R.standing src.new ≡ R.standing src.old }
     ensures cause { HasReadCause (R.reading_faults src.old) (R.reading_faults src.new) result }
     ensures moves { IsBefore window.old segment.now.body total

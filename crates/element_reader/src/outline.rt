@@ -1,6 +1,6 @@
 //! The outline of a file: RFC 9559, section 4.5 (Data Layout).
 
-ghost use Rattle.std.specs.Prelude.{◌≡◌, ℕ, ◌+◌, ◌*◌, ◌≤◌, ◌<◌, List, length, slice_get, IsTrue, option_map};
+ghost use Rattle.std.specs.Prelude.{◌≡◌, ℕ, ◌+◌, ◌*◌, ◌≤◌, ◌<◌, ◌≢◌, List, length, slice_get, IfSome, IsTrue, option_map};
 ghost use Rattle.mkv_io.specs.Told.{Told};
 ghost use Rattle.matroska_format.specs.Outline.{Outlined};
 ghost use Rattle.matroska_format.specs.Value.{first_of};
@@ -31,7 +31,8 @@ pub struct Outline {
 }
 
 impl Model for Outline {
-    ghost use Rattle.std.specs.Prelude.{◌≤◌};
+    ghost use Rattle.std.specs.Prelude.{All, ◌≤◌};
+    ghost use Rattle.element_reader.specs.Collected.{IsInFile};
     ghost use Rattle.element_reader.specs.Outline.{FileOutline};
 
     ghost Value = { FileOutline };
@@ -47,10 +48,12 @@ impl Model for Outline {
       end = o.level.end;
     } };
 
-    ghost invariant = { λ o. o.segment.body ≤ o.total };
+    ghost invariant = { λ o. (o.segment.body ≤ o.total) × All (IsInFile o.total) o.level.kept.others.items };
 }
 
 impl Outline {
+    ghost use Rattle.mkv_schema.specs.declared.ids.TheConstants.{CLUSTER as CLUSTER_ID};
+    ghost use Rattle.element_reader.specs.Collected.{IsInFile};
     ghost use Rattle.element_reader.specs.Outline.{HasOutlineCause, IsOutline, first_in, outline_in, shown};
 
     /// Reads the outline of a file. It is refused where it isn't a Matroska or WebM file that is read,
@@ -129,7 +132,8 @@ impl Outline {
     /// The Element of level 1 of this number, from 0, in the order of the file. Clusters don't count.
     pub fn at(&self, k: usize) -> Header
         requires { k < length self.now.others }
-        ensures { slice_get self.now.others k ≡ Some result }
+        ensures exact { slice_get self.now.others k ≡ Some result }
+        ensures inside { IsInFile self.now.total result }
     {
         self.level.kept.others[k]
     }
@@ -137,6 +141,7 @@ impl Outline {
     /// The first Element of level 1 of an ID.
     pub fn first(&self, id: u32) -> Option<Header>
         ensures kept { result ≡ first_in id self.now }
+        ensures inside { id ≢ CLUSTER_ID → IfSome result (IsInFile self.now.total) }
         ensures exact { (bytes : List ℕ) (o : Outlined) → self.now ≡ shown bytes o → result ≡ first_of id o.list }
     {
         if id == CLUSTER {

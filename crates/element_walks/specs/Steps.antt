@@ -1,6 +1,8 @@
 -- What a step over the Elements of a Segment says of those that are left.
 use Rattle.std.specs.Prelude.{◌≡◌, ℕ, ◌<◌, ◌≤◌, ⊤, Ok, Err}
 use Rattle.matroska_format.specs.Elements.{Run, before, breaks_at, ends_at}
+use Rattle.matroska_format.specs.Element.{in_segment}
+use Rattle.matroska_format.specs.Placed.{IsWhole}
 use Rattle.element_walks.specs.Walk.{place_or}
 use Rattle.element_walks.specs.declared.level_one.Step.{Step}
 use Rattle.element_walks.specs.declared.level_one.Step.TheVariants.{Element, Damaged, End}
@@ -18,6 +20,12 @@ IsFurther (Element header (Ok next)) at end = (at < next) × (next ≤ end)
 IsFurther (Element header (Err d)) at end = at < end
 IsFurther (Damaged d) at end = ⊤
 IsFurther End at end = ⊤
+
+-- an Element that may not be open is whole
+abbrev pub IsWholeStep : Step → ℕ → Type 0
+IsWholeStep (Element header next) end = IsWhole in_segment end header
+IsWholeStep (Damaged d) end = ⊤
+IsWholeStep End end = ⊤
 
 -- how far a step has gone
 abbrev pub place_behind : Step → ℕ → ℕ → ℕ

@@ -5,7 +5,7 @@ ghost use Rattle.mkv_io.specs.Faults.{HasCause};
 ghost use Rattle.mkv_io.specs.Told.{Told};
 ghost use Rattle.matroska_format.specs.Elements.{ends_segment, level_1};
 ghost use Rattle.element_window.specs.Window.{Holds, IsBefore, MovesTo, Spends};
-ghost use Rattle.element_walks.specs.Steps.{StepsOn, IsFurther, place_behind};
+ghost use Rattle.element_walks.specs.Steps.{StepsOn, IsFurther, IsWholeStep, place_behind};
 
 use crate::walk::{behind, id_of};
 use ebml_format::Size;
@@ -58,6 +58,7 @@ pub fn next_of_segment<W: Lookahead, R: Reads>(
     ensures standing { R.standing src.new ≡ R.standing src.old }
     ensures cause { HasCause (R.reading_faults src.old) (R.reading_faults src.new) result }
     ensures place { IfOk result (λ step. IsFurther step at end) }
+    ensures whole { IfOk result (λ step. IsWholeStep step end) }
     ensures moves { IsBefore (W.held window.old) at ((R.files (R.standing src.old)).size file.n)
         → IfOk result (λ step. MovesTo ((R.files (R.standing src.old)).size file.n) (place_behind step at end) (W.held window.old) (W.held window.new) (R.octets_read src.old) (R.octets_read src.new)) }
     ensures spends { IsBefore (W.held window.old) at ((R.files (R.standing src.old)).size file.n)

@@ -4,7 +4,7 @@ ghost use Rattle.std.specs.Prelude.{◌≡◌, ◌-◌, ◌≤◌, [], min, IfOk
 ghost use Rattle.mkv_io.specs.Faults.{HasCause};
 ghost use Rattle.mkv_io.specs.Told.{Told};
 ghost use Rattle.matroska_format.specs.Element.{element_at};
-ghost use Rattle.matroska_format.specs.Placed.{IsPlaced};
+ghost use Rattle.matroska_format.specs.Placed.{IsPlaced, IsWhole};
 ghost use Rattle.element_headers.specs.Parent.{setting_of};
 ghost use Rattle.element_window.specs.Window.{Held, Holds, IsBefore, MovesTo, Spends, header_room};
 
@@ -35,6 +35,7 @@ pub trait Lookahead {
         requires holds { Told ((R.files (R.standing src.old)).content file.n) (λ bytes. Holds bytes (held self.old)) }
         ensures ok { IfOk result (λ found. Told ((R.files (R.standing src.old)).content file.n) (λ bytes. found ≡ element_at (setting_of parent) bytes at end)) }
         ensures placed { IfOk result (λ found. IfOk found (IsPlaced at end)) }
+        ensures whole { IfOk result (λ found. IfOk found (IsWhole (setting_of parent) end)) }
         ensures holds { Told ((R.files (R.standing src.old)).content file.n) (λ bytes. Holds bytes (held self.new)) }
         ensures err { OnErr result ((held self.new).octets ≡ []) }
         ensures standing { R.standing src.new ≡ R.standing src.old }

@@ -5,7 +5,7 @@ ghost use Rattle.mkv_io.specs.Contents.{octets_from};
 ghost use Rattle.mkv_io.specs.Faults.{HasCause};
 ghost use Rattle.mkv_io.specs.Told.{Told};
 ghost use Rattle.matroska_format.specs.Element.{anywhere, element_at};
-ghost use Rattle.matroska_format.specs.Placed.{IsPlaced};
+ghost use Rattle.matroska_format.specs.Placed.{IsPlaced, IsWhole};
 ghost use Rattle.element_headers.specs.Parent.{setting_of};
 ghost use Rattle.element_window.specs.Head.{HasHeadCause, IsHead};
 ghost use Rattle.element_window.specs.Window.{HasRange, Holds, IsBefore, MovesTo, Spends, header_room, read_from};
@@ -144,6 +144,7 @@ impl Window {
         requires holds { Told ((R.files (R.standing src.old)).content file.n) (λ bytes. Holds bytes self.old) }
         ensures ok { IfOk result (λ found. Told ((R.files (R.standing src.old)).content file.n) (λ bytes. found ≡ element_at (setting_of parent) bytes at end)) }
         ensures placed { IfOk result (λ found. IfOk found (IsPlaced at end)) }
+        ensures whole { IfOk result (λ found. IfOk found (IsWhole (setting_of parent) end)) }
         ensures holds { Told ((R.files (R.standing src.old)).content file.n) (λ bytes. Holds bytes self.new) }
         ensures err { OnErr result (self.new.octets ≡ []) }
 
@@ -180,6 +181,7 @@ impl Window {
         requires holds { Told ((R.files (R.standing src.old)).content file.n) (λ bytes. Holds bytes self.old) }
         ensures exact { Told ((R.files (R.standing src.old)).content file.n) (λ bytes. IsHead (element_at anywhere bytes at end) result) }
         ensures placed { IfOk result (IsPlaced at end) }
+        ensures whole { IfOk result (IsWhole anywhere end) }
         ensures holds { Told ((R.files (R.standing src.old)).content file.n) (λ bytes. Holds bytes self.new) }
         ensures fault { IsErrOf result HeadEnd.ReadFault → self.new.octets ≡ [] }
 

@@ -1,5 +1,5 @@
 -- What follows where an Element stands at a place.
-use Rattle.std.proofs.Common.{zero, suc, ap₂, IfOk, ◌≡◌, ◌==◌, ◌&&◌, ◌∷◌, [], slice_index, Bool, true, false, if◌then◌else◌, ℕ, ◌+◌, ◌-◌, ◌≤◌, min, List, length, take, drop, Option, Some, None, Result, Ok, Err, refl, sym, ◌∙◌, ap, subst, arith}
+use Rattle.std.proofs.Common.{zero, suc, ap₂, IfOk, ◌≡◌, ◌==◌, ◌&&◌, ◌∷◌, [], slice_index, nat_lt, not, Bool, true, false, if◌then◌else◌, ℕ, ◌+◌, ◌-◌, ◌≤◌, min, List, length, take, drop, Option, Some, None, Result, Ok, Err, refl, sym, ◌∙◌, ap, subst, arith}
 use Rattle.std.proofs.Math.Nat.{min_comm}
 use Rattle.std.proofs.lemmas.List.{length-take, length-drop, drop-take}
 use Rattle.std.proofs.lemmas.Bool.Decides.{nat_tests}
@@ -12,9 +12,10 @@ use Rattle.ebml_format.proofs.NumberLemmas.{size_at-within, size_at-take, id_at-
 use Rattle.mkv_schema.specs.declared.ids.TheConstants.{CHAPTER_DISPLAY}
 use Rattle.mkv_values.specs.declared.damage.Damage.{Damage}
 use Rattle.mkv_values.specs.declared.damage.Kind.{Kind}
+use Rattle.mkv_values.specs.declared.damage.Kind.TheVariants.{TooLong, Truncated, UnknownSize}
 use Rattle.matroska_format.specs.declared.element.Header.{Header}
-use Rattle.matroska_format.specs.Placed.{IsPlaced}
-use Rattle.matroska_format.specs.Element.{Setting, octets_between, display_read, id_in, with_body, with_size, with_id, body_damage, element_in, element_at}
+use Rattle.matroska_format.specs.Placed.{IsPlaced, IsWhole}
+use Rattle.matroska_format.specs.Element.{Setting, octets_between, display_read, id_in, with_body, with_size, with_id, body_damage, element_in, element_at, has_unknown_size, is_truncated, is_too_long, is_unknown, stated_end}
 
 -- the octets from a place on are as many as stand before the end
 pub length-octets_between : (bytes : List ℕ) (p e : ℕ) → length (octets_between bytes p e) ≡ min e (length bytes) - p
@@ -74,6 +75,53 @@ if_ok P (Err d) holds = tt
 pub element_in-is_placed : (s : Setting) (octets : List ℕ) (total p e : ℕ) → p + length octets ≤ e → IfOk (element_in s octets total p e) (IsPlaced p e)
 element_in-is_placed s octets total p e inside =
     if_ok (IsPlaced p e) (element_in s octets total p e) (λ h found. element_in-placed s octets total p e h inside found)
+
+-- ---- an Element that may not be open is whole
+
+and_not : (a b : Bool) → (a && not b) ≡ false → b ≡ false → a ≡ false
+and_not true true is other = cc
+and_not true false is other = cc
+and_not false b is other = refl
+
+and_neither : (a b c : Bool) → (a && not (b && c)) ≡ false → b ≡ false → a ≡ false
+and_neither true true c is other = cc
+and_neither true false c is other = cc
+and_neither false b c is other = refl
+
+whole_body : (s : Setting) (total e : ℕ) (made h : Header) (unknown truncated long : Bool) → has_unknown_size s made ≡ unknown → is_too_long s total e made ≡ long → with_body made (if unknown then Some UnknownSize else if truncated then Some Truncated else if long then Some TooLong else None) ≡ Ok h → IsWhole s e h
+whole_body s total e made h true truncated long unknown_is long_is found = absurd (cc)
+whole_body s total e made h false true long unknown_is long_is found = absurd (cc)
+whole_body s total e made h false false true unknown_is long_is found = absurd (cc)
+whole_body s total e made h false false false unknown_is long_is found =
+    let same : made ≡ h = cc in
+    let P : Header → Type 0 = IsWhole s e in
+    subst P same (record {
+      known = and_not (is_unknown made.size) (s.may_open made.id) unknown_is;
+      inside = λ closed. below (stated_end made) (and_neither (nat_lt e (stated_end made)) (s.may_open made.id) (e == total) long_is closed);
+    })
+  where
+    below : (end : ℕ) → nat_lt e end ≡ false → end ≤ e
+    below end is = grind arith
+
+whole_size : (s : Setting) (total p e id at : ℕ) (h : Header) (read : Result SizeRead NumFault) → with_size s total p e id at read ≡ Ok h → IsWhole s e h
+whole_size s total p e id at h (Err (fault.More n)) found = absurd (cc)
+whole_size s total p e id at h (Err fault.Bad) found = absurd (cc)
+whole_size s total p e id at h (Ok size) found =
+    let made : Header = record { id = id; offset = p; body = at + size.len; size = size.size } in
+    whole_body s total e made h (has_unknown_size s made) (is_truncated s total e made) (is_too_long s total e made) refl refl found
+
+whole_id : (s : Setting) (octets : List ℕ) (total p e : ℕ) (h : Header) (read : Result IdRead NumFault) → with_id s octets total p e read ≡ Ok h → IsWhole s e h
+whole_id s octets total p e h (Err fault.Bad) found = absurd (cc)
+whole_id s octets total p e h (Err (fault.More n)) found = absurd (cc)
+whole_id s octets total p e h (Ok id) found = whole_size s total p e id.id (p + id.len) h (size_at (drop id.len octets)) found
+
+pub element_in-whole : (s : Setting) (octets : List ℕ) (total p e : ℕ) (h : Header) → element_in s octets total p e ≡ Ok h → IsWhole s e h
+unfolding element_in
+element_in-whole s octets total p e h found = whole_id s octets total p e h (id_in s octets) found
+
+-- the same of whatever stands there
+pub element_in-is_whole : (s : Setting) (octets : List ℕ) (total p e : ℕ) → IfOk (element_in s octets total p e) (IsWhole s e)
+element_in-is_whole s octets total p e = if_ok (IsWhole s e) (element_in s octets total p e) (λ h found. element_in-whole s octets total p e h found)
 
 -- ---- twelve octets settle a header
 

@@ -1,7 +1,12 @@
-use Rattle.std.proofs.Common.{◌≡◌, ◌≤◌, ℕ, length, sym, ◌∙◌, ap, subst, arith, rules}
+use Rattle.std.proofs.Common.{◌≡◌, ◌≤◌, ℕ, List, length, sym, ◌∙◌, ap, subst, arith, rules}
+use Rattle.std.specs.List.{All}
+use Rattle.matroska_format.specs.declared.element.Header.{Header}
 use Rattle.matroska_format.specs.Elements.{level_1, breaks_at}
 use Rattle.element_window.specs.Window.{IsBefore, MovesTo}
 use Rattle.element_walks.specs.declared.level_one.Step.TheVariants.{Element}
+use Rattle.element_reader.specs.Collected.{IsInFile}
+use Rattle.element_reader.specs.declared.collected.Collected.{Collected}
+use Rattle.element_reader.proofs.CollectedLemmas.{IsInFile-more}
 use Rattle.element_reader.proofs.LevelLemmas.{IsOnWay-more, none_where}
 use Rattle.element_reader.proofs.level.collect.Goals as goal
 
@@ -13,10 +18,19 @@ returns-in-Err-clause-ok g c = λ bytes told.
     let step = c.in-Element.is ∙ ap (Element c.in-Element.header) c.in-Err.is in
     let steps = rw step at (c.in_ok-next_of_segment.ensures.ok bytes now) in
     let none = none_where c.in_ok-damage-in-Element.field-0 c.in_default.not-Some in
-    c.ended-in-Err.ensures c.args.held bytes total
+    c.ended-in-Err.ensures.level c.args.held bytes total
     (IsOnWay-more c.args.held _ _ (breaks_at c.loop-kept.at c.in-Err.damage) c.loop-kept.kept c.add.new.self c.in-Element.header c.in_ok-damage-in-Element.field-0
     (c.loop-kept.invariant.way bytes told) steps
     (c.in_ok-damage-in-Element.ensures.refusal c.args.held) none (c.in_ok-damage-in-Element.ensures.kept none c.args.held))
+
+-- the last Element is kept too
+pub returns-in-Err-clause-whole : goal.returns-in-Err-clause-whole
+returns-in-Err-clause-whole g c =
+    let step = c.in-Element.is ∙ ap (Element c.in-Element.header) c.in-Err.is in
+    let none = none_where c.in_ok-damage-in-Element.field-0 c.in_default.not-Some in
+    let kept = ap (λ (k : Collected). k.others.items) c.ended-in-Err.ensures.kept in
+    let more = IsInFile-more c.args.total c.segment_bound-bound.result c.loop-kept.kept.others.items c.in-Element.header c.loop-kept.invariant.within c.loop-kept.invariant.whole (rw step at c.in_ok-next_of_segment.ensures.whole) in
+    subst (λ (l : List Header). All (IsInFile c.args.total) l) (sym (kept ∙ c.in_ok-damage-in-Element.ensures.others none)) more
 
 -- an Element is kept, and the next stands behind it
 pub loop-kept-preserved : goal.loop-kept-preserved
@@ -27,6 +41,7 @@ loop-kept-preserved g c =
     let on : c.loop-kept.at ≤ c.in-Ok.behind = omega (arith, further) in
     record {
       begin = omega (arith, on, c.loop-kept.invariant.begin);
+      whole = subst (λ (l : List Header). All (IsInFile c.args.total) l) (sym (c.in_ok-damage-in-Element.ensures.others none)) (IsInFile-more c.args.total c.segment_bound-bound.result c.loop-kept.kept.others.items c.in-Element.header c.loop-kept.invariant.within c.loop-kept.invariant.whole (rw step at c.in_ok-next_of_segment.ensures.whole));
       place = omega (arith, further);
       within = c.loop-kept.invariant.within;
       standing = search rules;

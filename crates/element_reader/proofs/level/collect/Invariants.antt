@@ -1,8 +1,10 @@
 use Rattle.std.proofs.Common.{◌≡◌, ◌-◌, ◌≤◌}
+use Rattle.std.specs.List.{All}
 use Rattle.mkv_io.specs.Told.{Told}
 use Rattle.matroska_format.specs.Elements.{level_1}
 use Rattle.matroska_format.specs.Outline.{segment_run}
 use Rattle.element_window.specs.Window.{Holds, IsBefore, MovesTo}
+use Rattle.element_reader.specs.Collected.{IsInFile}
 use Rattle.element_reader.specs.Level.{IsOnWay}
 use Rattle.element_reader.proofs.level.collect.Given as goal
 
@@ -11,6 +13,7 @@ invariant-loop-kept g l = record {
   begin : l.fn.segment.body ≤ l.at;
   place : l.at ≤ l.bound;
   within : l.bound ≤ l.total;
+  whole : All (IsInFile l.total) l.kept.others.items;
   standing : g.R.Reads.standing l.src ≡ g.R.Reads.standing l.initial.src;
   faults : g.R.Reads.reading_faults l.src ≡ g.R.Reads.reading_faults l.initial.src;
   holds : Told ((g.R.Reads.files (g.R.Reads.standing l.initial.src)).content l.file.n) (λ bytes. Holds bytes l.window);

@@ -6,8 +6,8 @@ use Rattle.element_reader.proofs.LevelLemmas.{HasLevel-ended}
 use Rattle.element_reader.proofs.level.ended.Goals as goal
 
 -- all Elements were given
-pub returns : goal.returns
-returns c = λ held bytes total way.
+pub returns-clause-level : goal.returns-clause-level
+returns-clause-level c = λ held bytes total way.
     let h = c.args.segment.now in
     HasLevel-ended held bytes h c.args.at c.args.damage _ way refl
     (c.segment_end-end.ensures
