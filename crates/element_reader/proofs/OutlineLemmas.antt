@@ -1,5 +1,5 @@
 -- The outline of a file, one part after the other.
-use Rattle.std.proofs.Common.{eq-eqb, ◌≡◌, ℕ, ◌==◌, Bool, true, false, not, if◌then◌else◌, List, [], ◌∷◌, ◌++◌, length, Option, Some, None, Result, Ok, Err, refl, sym, ◌∙◌, ap, arith}
+use Rattle.std.proofs.Common.{eq-eqb, ◌≡◌, ℕ, ◌==◌, Bool, true, false, not, if◌then◌else◌, List, [], ◌∷◌, ◌++◌, length, Option, Some, None, Result, Ok, Err, refl, sym, ◌∙◌, ap, subst, arith}
 use Rattle.std.proofs.lemmas.Bool.Decides.{nat_tests}
 use Rattle.std.specs.List.{filter, find}
 use Rattle.mkv_schema.specs.declared.ids.TheConstants.{CLUSTER}
@@ -65,3 +65,54 @@ first_in-others id (h ∷ hs) other = by_tests (first_in-others id hs other) (h.
     by_tests later true false is_cluster is_here = later
     by_tests later false true is_cluster is_here = rw is_here refl
     by_tests later false false is_cluster is_here = rw is_here later
+
+-- ---- what an outline that was read says of the file
+
+-- The outline of a file is shown, and its Elements are those of the Segment.
+pub record Outlines (held : ℕ) (bytes : List ℕ) (v : FileOutline) : Type 0 where
+  pub outlined : Outlined
+  pub is : outline_of held bytes ≡ Ok outlined
+  pub shows : v ≡ shown bytes outlined
+  pub list : outlined.list ≡ (segment_run bytes outlined.segment).list
+
+-- a list that was made within the limits is the Segment's
+made_list : (held : ℕ) (bytes : List ℕ) (ebml segment : Header) (o : Outlined) (limits : Option Damage) → unless limits (outlined bytes ebml segment (segment_run bytes segment)) ≡ Ok o → o.list ≡ (segment_run bytes o.segment).list
+made_list held bytes ebml segment o None made =
+    let same : outlined bytes ebml segment (segment_run bytes segment) ≡ o = cc in
+    subst (λ (k : Outlined). k.list ≡ (segment_run bytes k.segment).list) same refl
+made_list held bytes ebml segment o (Some d) made = absurd (cc)
+
+segment_list : (held : ℕ) (bytes : List ℕ) (ebml : Header) (o : Outlined) (found : Result Header Damage) → and_then found (λ segment. within_limits held bytes ebml segment) ≡ Ok o → o.list ≡ (segment_run bytes o.segment).list
+segment_list held bytes ebml o (Ok segment) made = made_list held bytes ebml segment o (limits_from held [] (segment_run bytes segment).list) made
+segment_list held bytes ebml o (Err d) made = absurd (cc)
+
+ebml_list : (held : ℕ) (bytes : List ℕ) (o : Outlined) (found : Result Header Damage) → and_then found (behind_ebml held bytes) ≡ Ok o → o.list ≡ (segment_run bytes o.segment).list
+unfolding behind_ebml
+ebml_list held bytes o (Ok ebml) made = segment_list held bytes ebml o (segment_of bytes ebml) made
+ebml_list held bytes o (Err d) made = absurd (cc)
+
+-- the Elements of an outline are those of its Segment
+pub outline_of-list : (held : ℕ) (bytes : List ℕ) (o : Outlined) → outline_of held bytes ≡ Ok o → o.list ≡ (segment_run bytes o.segment).list
+unfolding outline_of behind_ebml
+outline_of-list held bytes o made = ebml_list held bytes o (ebml_header bytes) made
+
+-- an outline that is shown is the file's
+pub Outlines-shown : (held : ℕ) (bytes : List ℕ) (v : FileOutline) → outline_in held bytes ≡ Ok v → Outlines held bytes v
+Outlines-shown held bytes v found = by_outline (outline_of held bytes) refl found
+  where
+    by_outline : (made : Result Outlined Damage) → outline_of held bytes ≡ made → and_then made (λ o. Ok (shown bytes o)) ≡ Ok v → Outlines held bytes v
+    by_outline (Ok o) is same = record {
+      outlined = o;
+      is = is;
+      shows = cc;
+      list = outline_of-list held bytes o is;
+    }
+    by_outline (Err d) is same = absurd (cc)
+
+-- what refuses a file is its outline's refusal
+pub outline_of-refused : (held : ℕ) (bytes : List ℕ) (d : Damage) → outline_in held bytes ≡ Err d → outline_of held bytes ≡ Err d
+outline_of-refused held bytes d found = by_outline (outline_of held bytes) found
+  where
+    by_outline : (made : Result Outlined Damage) → and_then made (λ o. Ok (shown bytes o)) ≡ Err d → made ≡ Err d
+    by_outline (Ok o) same = absurd (cc)
+    by_outline (Err e) same = cc

@@ -8,6 +8,7 @@ ghost use Rattle.element_window.specs.Window.{IsBefore, MovesTo, Spends};
 ghost use Rattle.element_reader.specs.LevelOne.{Gives, GoesOn, IsIn, IsSameSegment, first_place, left};
 
 use crate::level::segment_bound;
+use crate::outline::Outline;
 use ebml_format::Size;
 use element_headers::Header;
 use element_walks::{Step, next_of_segment};
@@ -41,8 +42,16 @@ impl Model for LevelOne {
 }
 
 impl LevelOne {
-    /// The Elements of a Segment in a file of `total` octets.
-    pub(crate) fn over(segment: &Header, total: u64, file: FileId) -> LevelOne
+    /// The Elements of level 1 of a file whose outline this is.
+    pub fn start(outline: &Outline, file: FileId) -> LevelOne
+        ensures place { result ≡ first_place outline.now.segment outline.now.total file }
+        ensures left { (bytes : List ℕ) → outline.now.total ≡ length bytes → left bytes result ≡ (segment_run bytes outline.now.segment).list }
+    {
+        LevelOne::over(&outline.segment(), outline.total(), file)
+    }
+
+    // The Elements of a Segment in a file of `total` octets.
+    fn over(segment: &Header, total: u64, file: FileId) -> LevelOne
         requires { segment.now.body ≤ total }
         ensures place { result ≡ first_place segment.now total file }
         ensures left { (bytes : List ℕ) → total ≡ length bytes → left bytes result ≡ (segment_run bytes segment.now).list }

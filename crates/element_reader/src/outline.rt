@@ -100,6 +100,13 @@ impl Outline {
         })
     }
 
+    /// The octets of the file.
+    pub fn total(&self) -> u64
+        ensures { result ≡ self.now.total }
+    {
+        self.total
+    }
+
     /// The EBML header.
     pub fn ebml(&self) -> Header
         ensures { result ≡ self.now.ebml }
