@@ -1,6 +1,6 @@
 //! The outline of a file: RFC 9559, section 4.5 (Data Layout).
 
-ghost use Rattle.std.specs.Prelude.{◌≡◌, ℕ, ◌+◌, ◌*◌, ◌≤◌, ◌<◌, ◌≢◌, List, length, slice_get, IfSome, IsTrue, option_map};
+ghost use Rattle.std.specs.Prelude.{◌≡◌, ℕ, ◌+◌, ◌*◌, ◌≤◌, ◌<◌, ◌≢◌, List, length, slice_get, IfOk, IfSome, IsTrue, option_map};
 ghost use Rattle.mkv_io.specs.Told.{Told};
 ghost use Rattle.matroska_format.specs.Outline.{Outlined};
 ghost use Rattle.matroska_format.specs.Value.{first_of};
@@ -63,6 +63,7 @@ impl Outline {
     pub fn read<R: Reads>(alloc: Global, src: &mut R, file: FileId) -> Result<Outline, OutlineEnd>
         requires { IsTrue ((R.files (R.standing src.old)).live file.n) }
         ensures exact { Told ((R.files (R.standing src.old)).content file.n) (λ bytes. IsOutline (outline_in 0 bytes) result) }
+        ensures total { IfOk result (λ outline. outline.total ≡ (R.files (R.standing src.old)).size file.n) }
         ensures standing { R.standing src.new ≡ R.standing src.old }
         ensures cause { HasOutlineCause (R.reading_faults src.old) (R.reading_faults src.new) result }
         ensures octets { R.octets_read src.new ≤ R.octets_read src.old + 4 * (R.files (R.standing src.old)).size file.n }
@@ -80,6 +81,7 @@ impl Outline {
     ) -> Result<Outline, OutlineEnd>
         requires { IsTrue ((R.files (R.standing src.old)).live file.n) }
         ensures exact { Told ((R.files (R.standing src.old)).content file.n) (λ bytes. IsOutline (outline_in held bytes) result) }
+        ensures total { IfOk result (λ outline. outline.total ≡ (R.files (R.standing src.old)).size file.n) }
         ensures standing { R.standing src.new ≡ R.standing src.old }
         ensures cause { HasOutlineCause (R.reading_faults src.old) (R.reading_faults src.new) result }
         ensures octets { R.octets_read src.new ≤ R.octets_read src.old + 4 * (R.files (R.standing src.old)).size file.n }

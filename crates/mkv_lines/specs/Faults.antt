@@ -27,6 +27,13 @@ HasStopCause old new (Err stop.Memory) = new ≡ old
 HasStopCause old new (Err stop.Files) = FilesRose old new × (new.report ≡ old.report)
 HasStopCause old new (Err stop.Report) = ReportRose old new × (new ≡ record old { report = new.report })
 
+-- the same of a call that only reads and says lines, by the counts of reading and of the report
+abbrev pub HasReadStop : {T : Type 0} → ℕ → ℕ → ℕ → ℕ → Result T Stop → Type 0
+HasReadStop reading now report_was report (Ok _) = (now ≡ reading) × (report ≡ report_was)
+HasReadStop reading now report_was report (Err stop.Memory) = (now ≡ reading) × (report ≡ report_was)
+HasReadStop reading now report_was report (Err stop.Files) = HasRisen reading now × (report ≡ report_was)
+HasReadStop reading now report_was report (Err stop.Report) = (now ≡ reading) × HasRisen report_was report
+
 -- A run ends with Outside only where a count rose, and always where one did.
 abbrev pub HasStatusCause : Counts → Counts → Status → Type 0
 HasStatusCause old new status.Outside = FilesRose old new ⊎ ReportRose old new

@@ -1,6 +1,7 @@
 pub mod Code
 pub mod Faults
 pub mod Line
+pub mod Ordinary
 pub mod Said
 pub mod Shown
 pub mod Verdict

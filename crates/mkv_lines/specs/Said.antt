@@ -16,6 +16,12 @@ pub record SaysPart (old new : Held) (all : List (List ℕ)) : Type 0 where
   pub whole : all ≡ said ++ left
   pub added : new ≡ with_lines old said
 
+-- Of all the lines those up to what is left were added.
+pub record SaysUpTo (old new : Held) (all left : List (List ℕ)) : Type 0 where
+  pub said : List (List ℕ)
+  pub whole : all ≡ said ++ left
+  pub added : new ≡ with_lines old said
+
 -- These lines were added, or a first part of them where the call stopped.
 abbrev pub Says : {T : Type 0} → Held → Held → List (List ℕ) → Result T Stop → Type 0
 Says old new all (Ok _) = new ≡ with_lines old all

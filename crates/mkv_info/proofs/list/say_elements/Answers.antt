@@ -1,0 +1,27 @@
+use Rattle.std.proofs.Common.{◌≡◌, length, sym, ◌∙◌, ap}
+use Rattle.std.proofs.lemmas.Result.{err_from_is_err_and}
+use Rattle.element_reader.specs.LevelOne.{Place, left}
+use Rattle.mkv_info.proofs.InfoLemmas.{elements-first, elements-second, elements-all}
+use Rattle.mkv_info.proofs.list.say_elements.Goals as goal
+
+-- the first line couldn't be said
+pub returns-in_err-say-clause-said : goal.returns-in_err-say-clause-said
+returns-in_err-say-clause-said g c = λ bytes told.
+    let p = err_from_is_err_and c.from_residual.result c.from_residual.ensures.1 in
+    rw p.1 (elements-first (g.P.Report.lines c.args.report.now) (g.P.Report.lines c.say.new.report) bytes c.args.outline.now c.ebml.result c.ebml.ensures c.in_err-say.ensures.said)
+
+-- the second couldn't
+pub returns-in_err-say-2-clause-said : goal.returns-in_err-say-2-clause-said
+returns-in_err-say-2-clause-said g c = λ bytes told.
+    let p = err_from_is_err_and c.from_residual-in_err-say-2.result c.from_residual-in_err-say-2.ensures.1 in
+    rw p.1
+    (elements-second (g.P.Report.lines c.args.report.now) (g.P.Report.lines c.say.new.report) (g.P.Report.lines c.say-2.new.report) bytes c.args.outline.now c.ebml.result c.segment.result
+    c.ebml.ensures c.segment.ensures.exact c.in_ok-say.ensures.said c.in_err-say-2.ensures.said)
+
+-- both were said, and then those of level 1
+pub returns-clause-said : goal.returns-clause-said
+returns-clause-said g c = λ bytes told.
+    let total : c.args.outline.now.total ≡ length bytes = c.requires.whole ∙ sym (g.met.R.Reads.told_size (g.R.Reads.standing c.args.src.now) c.args.file.n bytes told) in
+    let here = ap (λ (p : Place). (g.R.Reads.files (g.R.Reads.standing c.args.src.now)).content p.file.n) c.start-elements.ensures.place ∙ told in
+    elements-all (g.P.Report.lines c.args.report.now) (g.P.Report.lines c.say.new.report) (g.P.Report.lines c.say-2.new.report) (g.P.Report.lines c.say_level_1.new.report) bytes c.args.outline.now c.ebml.result c.segment.result (left bytes c.start-elements.result) c.say_level_1.result
+    c.ebml.ensures c.segment.ensures.exact (c.start-elements.ensures.left bytes total) c.in_ok-say.ensures.said c.in_ok-say-2.ensures.said (c.say_level_1.ensures.said bytes here)

@@ -1,0 +1,43 @@
+-- What `info` tells of a file.
+use Rattle.std.specs.Prelude.{ℕ, ◌++◌, List, [], ◌∷◌, map, Option, Some, None, Result, Ok, Err}
+use Rattle.mkv_values.specs.declared.damage.Damage.{Damage}
+use Rattle.matroska_format.specs.Outline.{Outlined, outline_of, segment_run}
+use Rattle.element_reader.specs.Outline.{FileOutline}
+use Rattle.mkv_lines.specs.Line.{level_0_line, level_1_line, missing_line, refusal_line, warning_line}
+use Rattle.mkv_lines.specs.Verdict.{Verdict, refused}
+use Rattle.mkv_lines.specs.declared.status.Status.{Status}
+use Rattle.mkv_lines.specs.declared.status.Status.TheVariants.{Done, Warned}
+
+-- a line for the EBML header, for the Segment, and for each Element of level 1
+abbrev pub element_lines : Outlined → List (List ℕ)
+element_lines o = level_0_line o.ebml ∷ level_0_line o.segment ∷ map level_1_line o.list
+
+-- the same lines, of an outline that was read and the Elements that its Segment has
+abbrev pub shown_lines : List ℕ → FileOutline → List (List ℕ)
+shown_lines bytes o = level_0_line o.ebml ∷ level_0_line o.segment ∷ map level_1_line (segment_run bytes o.segment).list
+
+-- a file that is damaged at level 1 is listed up to there, with a warning behind the list
+abbrev pub warnings : List ℕ → Option Damage → List (List ℕ)
+warnings name None = []
+warnings name (Some d) = warning_line name d ∷ []
+
+abbrev pub status_with : Option Damage → Status
+status_with None = Done
+status_with (Some d) = Warned
+
+abbrev pub listed : List ℕ → Outlined → Verdict
+listed name o = record { status = status_with o.damage; lines = element_lines o ++ warnings name o.damage }
+
+-- a file whose outline is refused isn't listed
+abbrev pub listed_or_refused : List ℕ → Result Outlined Damage → Verdict
+listed_or_refused name (Ok o) = listed name o
+listed_or_refused name (Err d) = refused (refusal_line name d)
+
+-- what is told of a content that bears a name
+abbrev pub content_verdict : List ℕ → List ℕ → Verdict
+content_verdict name bytes = listed_or_refused name (outline_of 0 bytes)
+
+-- what is told of a name, which may have no content
+abbrev pub info_verdict : List ℕ → Option (List ℕ) → Verdict
+info_verdict name None = refused (missing_line name)
+info_verdict name (Some bytes) = content_verdict name bytes

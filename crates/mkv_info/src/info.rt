@@ -1,0 +1,44 @@
+//! A file is opened, listed and closed.
+
+ghost use Rattle.std.specs.Prelude.{◌≡◌, ℕ, IfOk};
+ghost use Rattle.mkv_io.specs.Told.{Told};
+ghost use Rattle.mkv_lines.specs.Faults.{HasStopCause};
+ghost use Rattle.mkv_lines.specs.Ordinary.{IsOrdinary};
+ghost use Rattle.mkv_lines.specs.Verdict.{Reaches};
+ghost use Rattle.mkv_info.specs.Info.{info_verdict};
+
+use crate::list::list_file;
+use mkv_io::{Files, Report};
+use mkv_lines::{Line, Status, Stop, say};
+use mkv_values::OpenFault;
+use std::alloc::Global;
+
+/// Lists the Elements of the file of a name, which is open in the meantime.
+pub fn info_of<F: Files, P: Report>(
+    alloc: Global,
+    name: &str,
+    files: &mut F,
+    report: &mut P,
+) -> Result<Status, Stop>
+    ensures verdict { Told (F.names files.old) (λ world. Reaches (P.lines report.old) (P.lines report.new) result (info_verdict name.now (world name.now))) }
+    ensures ordinary { IfOk result IsOrdinary }
+    ensures names { F.names files.new ≡ F.names files.old }
+    ensures live { (file : ℕ) → (F.files (F.standing files.new)).live file ≡ (F.files (F.standing files.old)).live file }
+    ensures cause { HasStopCause
+        (record { reading = F.reading_faults files.old; writing = F.writing_faults files.old; report = P.faults report.old })
+        (record { reading = F.reading_faults files.new; writing = F.writing_faults files.new; report = P.faults report.new })
+        result }
+{
+    let file = match files.open_file(name) {
+        Ok(file) => file,
+        Err(OpenFault::Missing) => {
+            say(alloc, report, &Line::Missing { name })?;
+            return Ok(Status::Refused);
+        }
+        Err(OpenFault::Failed) => return Err(Stop::Files),
+        Err(OpenFault::Memory) => return Err(Stop::Memory),
+    };
+    let ended = list_file(alloc, name, files, file, report);
+    files.close(file);
+    ended
+}

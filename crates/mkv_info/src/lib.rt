@@ -1,0 +1,8 @@
+#![tactic(auto)]
+
+//! The command `info`, which lists a file's Elements.
+
+mod info;
+mod list;
+
+pub use info::info_of;

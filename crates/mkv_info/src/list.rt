@@ -1,0 +1,110 @@
+//! A file's Elements, a line for each.
+
+ghost use Rattle.std.specs.Prelude.{◌≡◌, ◌++◌, ◌∷◌, [], ℕ, List, Ok, length, map, IfOk, IsTrue};
+ghost use Rattle.mkv_io.specs.Faults.{HasRisen};
+ghost use Rattle.mkv_io.specs.Told.{Told};
+ghost use Rattle.matroska_format.specs.Outline.{outline_of};
+ghost use Rattle.element_reader.specs.LevelOne.{IsIn, left};
+ghost use Rattle.element_reader.specs.Outline.{outline_in};
+ghost use Rattle.mkv_lines.specs.Faults.{HasReadStop};
+ghost use Rattle.mkv_lines.specs.Line.{level_1_line};
+ghost use Rattle.mkv_lines.specs.Ordinary.{IsOrdinary};
+ghost use Rattle.mkv_lines.specs.Said.{HasSayCause, Says};
+ghost use Rattle.mkv_lines.specs.Verdict.{Reaches};
+ghost use Rattle.mkv_info.specs.Info.{content_verdict, shown_lines, status_with, warnings};
+
+use element_reader::{LevelOne, Outline, OutlineEnd};
+use mkv_io::{Reads, Report};
+use mkv_lines::{Line, Status, Stop, say};
+use mkv_values::{Damage, FileId};
+use std::alloc::Global;
+
+/// Lists a live file's Elements, and warns of the damage that ends them. A file whose outline is refused
+/// isn't listed.
+pub fn list_file<R: Reads, P: Report>(
+    alloc: Global,
+    name: &str,
+    src: &mut R,
+    file: FileId,
+    report: &mut P,
+) -> Result<Status, Stop>
+    requires { IsTrue ((R.files (R.standing src.old)).live file.n) }
+    ensures verdict { Told ((R.files (R.standing src.old)).content file.n) (λ bytes. Reaches (P.lines report.old) (P.lines report.new) result (content_verdict name.now bytes)) }
+    ensures ordinary { IfOk result IsOrdinary }
+    ensures standing { R.standing src.new ≡ R.standing src.old }
+    ensures cause { HasReadStop (R.reading_faults src.old) (R.reading_faults src.new) (P.faults report.old) (P.faults report.new) result }
+{
+    match Outline::read(alloc, src, file) {
+        Ok(outline) => {
+            say_elements(alloc, &outline, src, file, report)?;
+            warn(alloc, name, outline.damage(), report)
+        }
+        Err(OutlineEnd::Refused(damage)) => {
+            say(alloc, report, &Line::Refused { name, damage })?;
+            Ok(Status::Refused)
+        }
+        Err(OutlineEnd::ReadFault) => Err(Stop::Files),
+        Err(OutlineEnd::Memory) => Err(Stop::Memory),
+    }
+}
+
+// A line for the EBML header, for the Segment, and for each Element of level 1.
+fn say_elements<R: Reads, P: Report>(
+    alloc: Global,
+    outline: &Outline,
+    src: &mut R,
+    file: FileId,
+    report: &mut P,
+) -> Result<(), Stop>
+    requires live { IsTrue ((R.files (R.standing src.old)).live file.n) }
+    requires whole { outline.now.total ≡ (R.files (R.standing src.old)).size file.n }
+    ensures said { Told ((R.files (R.standing src.old)).content file.n) (λ bytes. Says (P.lines report.old) (P.lines report.new) (shown_lines bytes outline.now) result) }
+    ensures standing { R.standing src.new ≡ R.standing src.old }
+    ensures cause { HasReadStop (R.reading_faults src.old) (R.reading_faults src.new) (P.faults report.old) (P.faults report.new) result }
+{
+    say(alloc, report, &Line::Level0(outline.ebml()))?;
+    say(alloc, report, &Line::Level0(outline.segment()))?;
+    let mut elements = LevelOne::start(outline, file);
+    say_level_1(alloc, &mut elements, src, report)
+}
+
+// A line for each Element of level 1 that is left.
+fn say_level_1<R: Reads, P: Report>(
+    alloc: Global,
+    elements: &mut LevelOne,
+    src: &mut R,
+    report: &mut P,
+) -> Result<(), Stop>
+    requires { IsIn (R.files (R.standing src.old)) elements.old }
+    ensures said { Told ((R.files (R.standing src.old)).content elements.old.file.n) (λ bytes. Says (P.lines report.old) (P.lines report.new) (map level_1_line (left bytes elements.old)) result) }
+    ensures standing { R.standing src.new ≡ R.standing src.old }
+    ensures cause { HasReadStop (R.reading_faults src.old) (R.reading_faults src.new) (P.faults report.old) (P.faults report.new) result }
+{
+    loop {
+        match elements.next(src) {
+            Ok(Some(header)) => say(alloc, report, &Line::Level1(header))?,
+            Ok(None) => return Ok(()),
+            Err(_) => return Err(Stop::Files),
+        }
+    }
+}
+
+// Warns of a damage, if there is one.
+fn warn<P: Report>(
+    alloc: Global,
+    name: &str,
+    damage: Option<Damage>,
+    report: &mut P,
+) -> Result<Status, Stop>
+    ensures said { Says (P.lines report.old) (P.lines report.new) (warnings name.now damage) result }
+    ensures status { IfOk result (λ status. status ≡ status_with damage) }
+    ensures cause { HasSayCause (P.faults report.old) (P.faults report.new) result }
+{
+    match damage {
+        Some(damage) => {
+            say(alloc, report, &Line::Warned { name, damage })?;
+            Ok(Status::Warned)
+        }
+        None => Ok(Status::Done),
+    }
+}
