@@ -29,15 +29,21 @@ unfolding at_place
 level_1-stops bytes size p e found inside is stops = level_1-step bytes size p e found inside is ∙ rw stops refl
 
 -- a damage breaks it
-pub level_1-breaks : (bytes : List ℕ) (size : Size) (p e : ℕ) (d : Damage) → p < e → Err d ≡ element_at in_segment bytes p e → ends_segment size (id_of (Err d)) ≡ false → level_1 bytes size p e ≡ breaks_at p d
+pub level_1-breaks : (bytes : List ℕ) (size : Size) (p e : ℕ) (found : Result Header Damage) (d : Damage) → found ≡ Err d → p < e → found ≡ element_at in_segment bytes p e → ends_segment size (id_of found) ≡ false → level_1 bytes size p e ≡ breaks_at p d
 unfolding at_place
-level_1-breaks bytes size p e d inside is goes = level_1-step bytes size p e (Err d) inside is ∙ rw goes refl
+level_1-breaks bytes size p e found d damaged inside is goes =
+    level_1-step bytes size p e found inside is ∙ rw (goes, damaged) refl
 
 -- an Element stands there, and what is behind it
-pub level_1-goes_on : (bytes : List ℕ) (size : Size) (p e : ℕ) (h : Header) (next : Result ℕ Damage) → p < e → Ok h ≡ element_at in_segment bytes p e → ends_segment size (id_of (Ok h)) ≡ false → next ≡ behind_in_segment bytes e h → StepsOn (Element h next) (level_1 bytes size p e) p (λ q. level_1 bytes size q e)
+pub level_1-goes_on : (bytes : List ℕ) (size : Size) (p e : ℕ) (found : Result Header Damage) (h : Header) (next : Result ℕ Damage) → found ≡ Ok h → p < e → found ≡ element_at in_segment bytes p e → ends_segment size (id_of found) ≡ false → next ≡ behind_in_segment bytes e h → StepsOn (Element h next) (level_1 bytes size p e) p (λ q. level_1 bytes size q e)
 unfolding at_place
-level_1-goes_on bytes size p e h next inside is goes behind_it = by_next next (level_1-step bytes size p e (Ok h) inside is ∙ rw goes (ap (λ q. behind p h q (λ k. level_1 bytes size k e)) (sym behind_it)))
+level_1-goes_on bytes size p e found h next whole inside is goes behind_it =
+    by_next next
+    (level_1-step bytes size p e found inside is ∙ rw (goes, whole) (ap (λ q. behind p h q (λ k. level_1 bytes size k e)) (sym behind_it)))
   where
     by_next : (next : Result ℕ Damage) → level_1 bytes size p e ≡ behind p h next (λ k. level_1 bytes size k e) → StepsOn (Element h next) (level_1 bytes size p e) p (λ q. level_1 bytes size q e)
     by_next (Ok q) same = same
     by_next (Err d) same = same
+
+-- what stands at a place, by what is found there
+pub ruleset steps = (level_1-end, level_1-stops, level_1-breaks, level_1-goes_on)

@@ -36,3 +36,6 @@ cluster_end-goes_on bytes p e h inside is goes =
     cluster_end-step bytes p e inside
     ∙ subst (λ (r : Result Header Damage). run_end (if ends_cluster (id_of r) then ends_at p else step p (λ c. Ok (end_in e c)) r (λ q. open_cluster bytes q e)) ≡ cluster_end bytes (end_in e h) e) is
     (ap (λ stop. run_end (if stop then ends_at p else step p (λ c. Ok (end_in e c)) (Ok h) (λ q. open_cluster bytes q e))) goes)
+
+-- where they end, by what is found at a place
+pub ruleset ends = (cluster_end-at_end, cluster_end-stops, cluster_end-breaks, cluster_end-goes_on)

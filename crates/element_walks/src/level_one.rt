@@ -40,6 +40,7 @@ pub fn ends_segment(size: Size, id: u32) -> bool
 }
 
 /// What stands at a place of a Segment that has this size and may reach up to `end`.
+#[tactic(auto, using(crate::proofs::LevelOneLemmas::steps))]
 pub fn next_of_segment<W: Lookahead, R: Reads>(
     window: &mut W,
     src: &mut R,

@@ -43,6 +43,7 @@ pub fn end_in(header: &Header, end: u64) -> u64
 }
 
 /// Where the children of a Cluster of unknown size end, from a place on, or the damage among them.
+#[tactic(auto, using(crate::proofs::WalkLemmas::ends))]
 pub fn cluster_end<W: Lookahead, R: Reads>(
     window: &mut W,
     src: &mut R,
