@@ -63,3 +63,6 @@ segment_from-goes_on bytes p h inside is other =
         by_damage : (d : Option Damage) → found_behind bytes (record { list = h ∷ run.list; damage = d; end = run.end }) ≡ found_behind bytes (record { list = run.list; damage = d; end = run.end })
         by_damage None = refl
         by_damage (Some d) = refl
+
+-- what stands from a place of level 0 on, by what is found there
+pub ruleset ways = (segment_from-end, segment_from-found, segment_from-breaks, segment_from-goes_on)

@@ -15,6 +15,7 @@ use mkv_schema::ids::SEGMENT;
 use mkv_values::{Damage, Failed, FileId, Kind};
 
 /// The Segment of a file of `total` octets, from a place of level 0 on, or what refuses the file on the way.
+#[tactic(auto, using(crate::proofs::SegmentLemmas::ways))]
 pub fn find_segment<R: Reads>(
     window: &mut Window,
     src: &mut R,
