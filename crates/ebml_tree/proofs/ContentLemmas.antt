@@ -119,4 +119,4 @@ pub ruleset changes = (has-master, view_kids, view_body, master_kids, view_has, 
 
 pub ruleset copies = (same_node, same_content, same_depth)
 
-pub ruleset written = (view_octets, view_id, view_depth)
+pub ruleset written = (view_octets, view_content, view_id, view_depth)

@@ -1,6 +1,6 @@
 //! An Element that is held whole, with what is inside.
 
-ghost use Rattle.std.specs.Prelude.{◌≡◌, ◌≤◌, ◌<◌, ◌+◌, ◌^◌, ◌==◌, ◌++◌, ◌∷◌, [], ◌↔◌, ℕ, List, Bool, true, false, length, find, filter, take, slice_get, OnOk, OnErr, IfOk, IfErr, IfSome, IsTrue, Some, None, Ok, ℤ};
+ghost use Rattle.std.specs.Prelude.{◌≡◌, ◌≤◌, ◌<◌, ◌+◌, ◌^◌, ◌==◌, ◌++◌, ◌∷◌, [], ◌↔◌, ℕ, List, Bool, true, false, length, find, filter, take, slice_get, OnOk, OnErr, IfOk, IfErr, IsErr, IfSome, IsTrue, Some, None, Ok, ℤ};
 ghost use Rattle.std.specs.Option.{option_copied, option_map};
 
 use crate::end::TreeEnd;
@@ -15,7 +15,10 @@ mod content;
 mod reading;
 mod writing;
 
-use content::{Content, depth_around, first_of, nth_of, tree_at, written_together, written_within};
+use content::{
+    Content, depth_around, first_of, nth_of, tree_at, written_together, written_within,
+    written_without,
+};
 use reading::{before_zero, too_many, trees_in};
 use writing::{LONGEST, element_len, is_filler, write_header};
 
@@ -62,7 +65,7 @@ impl Tree {
     ghost use Rattle.tree_format.specs.NormalForm.{content, octets, longest};
     ghost use Rattle.tree_format.specs.Standing.{IsSound, StandsIn, kept, placed_in};
     ghost use Rattle.tree_format.specs.Text.{HasNoZero};
-    ghost use Rattle.tree_format.specs.Changes.{with_child, without};
+    ghost use Rattle.tree_format.specs.Changes.{with_child, without, HasChild, AreTooLong};
     ghost use Rattle.tree_format.specs.Reading.{tree_of};
     ghost use Rattle.ebml_format.specs.Number.{is_id, is_written_id, uint_octets, int_of, int_octets, magnitude};
     ghost use Rattle.mkv_schema.specs.Schema.{is_master};
@@ -100,6 +103,7 @@ impl Tree {
     pub fn leaf(alloc: Global, id: u32, bytes: &[u8]) -> Result<Tree, AllocError>
         requires { IsTrue (is_id id) }
         ensures exact { IfOk result (λ tree. tree ≡ leaf id 0 bytes.now) }
+        ensures full { longest < length bytes.now → IsErr result }
 
         // A value that is put is read back.
         ensures uint { (value : ℕ) → value < 2 ^ 64 → bytes.now ≡ uint_octets value
@@ -237,15 +241,23 @@ impl Tree {
         ensures ok { OnOk result (self.new ≡ with_children self.old (with_child child (children self.old))) }
         ensures err { OnErr result (self.new ≡ self.old) }
 
+        // It is refused where the children would be too long. In another's place it takes no memory, and
+        // is refused only there.
+        ensures full { AreTooLong (with_child child (children self.old)) → IsErr result }
+        ensures replaced { HasChild (id_of child) (children self.old) → IsErr result
+            → AreTooLong (with_child child (children self.old)) }
+
         // It stays a master, and a child that may stand here keeps it sound.
         ensures master { IsMaster self.new }
         ensures sound { IsSound self.old → StandsIn (id_of self.old) child → IsSound self.new }
     {
-        if self.written + child.written_len() > LONGEST {
+        let others = written_without(child.id(), self.content.kids());
+        let written = others + child.written_len();
+        if written > LONGEST {
             return Err(AllocError);
         }
         self.content.set(child)?;
-        self.written = written_together(self.content.kids());
+        self.written = written;
         self.depth = depth_around(self.content.kids());
         Ok(())
     }
@@ -257,6 +269,7 @@ impl Tree {
         requires room { HasRoom child }
         ensures ok { OnOk result (self.new ≡ with_children self.old (children self.old ++ child ∷ [])) }
         ensures err { OnErr result (self.new ≡ self.old) }
+        ensures full { AreTooLong (children self.old ++ child ∷ []) → IsErr result }
 
         // It stays a master, and a child that may stand here keeps it sound.
         ensures master { IsMaster self.new }
@@ -291,6 +304,9 @@ impl Tree {
     pub fn written_len(&self) -> u64
         ensures exact { result ≡ length (octets self.now) }
         ensures most { result < 2 ^ 57 }
+
+        // A body or children are never more octets than a size can tell.
+        ensures behind { length (content self.now) ≤ longest }
     {
         element_len(self.id, self.written)
     }

@@ -1,6 +1,10 @@
 -- How long and how deep a list of trees is that was changed.
-use Rattle.std.proofs.Common.{◌≡◌, ◌≤◌, ℕ, zero, suc, ◌+◌, max, List, [], ◌∷◌, ◌++◌, length, flat_map, Bool, true, false, cond, not, ◌==◌, take, drop, position, Option, Some, None, refl, sym, ap, ◌∙◌, arith, length-append, add-one}
-use Rattle.std.proofs.lemmas.List.{take-append-drop}
+use Rattle.std.proofs.Common.{◌≡◌, ◌≤◌, ℕ, zero, suc, ◌+◌, max, List, [], ◌∷◌, ◌++◌, length, flat_map, Bool, true, false, cond, not, ◌==◌, take, drop, get_or, nat_lt, ◌<◌, position, Option, Some, None, refl, sym, ap, ◌∙◌, arith, length-append, add-one}
+use Rattle.std.proofs.lemmas.Bool.Decides.{nat_tests}
+use Rattle.std.proofs.lemmas.List.{take-append-drop, take_all, drop_all}
+use Rattle.std.proofs.lemmas.List.Sums.{passes_at_first}
+use Rattle.std.proofs.Math.Seq.{drop-cons}
+use Rattle.std.specs.List.{position_or_len}
 use Rattle.std.proofs.lemmas.Grind.{flat_map-append}
 use Rattle.tree_format.specs.Node.{Node, nodes_of, id_of, depth, depth_all}
 use Rattle.tree_format.specs.NormalForm.{octets}
@@ -25,26 +29,49 @@ long-without id (n ∷ ns) = split (not (id_of n == id)) (long-without id ns)
     split true rest = omega (arith, length-append (octets n) (flat_map octets (without id ns)), length-append (octets n) (flat_map octets ns))
     split false rest = omega (arith, length-append (octets n) (flat_map octets ns))
 
-long-drop_one : (k : ℕ) (ns : List Node) → long (drop (suc k) ns) ≤ long (drop k ns)
-long-drop_one zero [] = omega arith
-long-drop_one zero (n ∷ ns) = omega (arith, length-append (octets n) (flat_map octets ns))
-long-drop_one (suc k) [] = omega arith
-long-drop_one (suc k) (n ∷ ns) = long-drop_one k ns
+-- the first of an ID, and none where there is no other
+abbrev first_at : ℕ → List Node → ℕ
+first_at id ns = position_or_len (λ m. id_of m == id) ns
 
-long-take_drop : (k : ℕ) (ns : List Node) → long (take k ns) + long (drop k ns) ≡ long ns
-long-take_drop k ns = sym (long-append (take k ns) (drop k ns)) ∙ ap long (take-append-drop k ns)
+without-other : (id : ℕ) (n : Node) (ns : List Node) → (id_of n == id) ≡ false → without id (n ∷ ns) ≡ n ∷ without id ns
+without-other id n ns other = ap (λ b. cond (not b) (n ∷ without id ns) (without id ns)) other
 
-long-placed_at : (n : Node) (ns : List Node) (o : Option ℕ) → long (placed_at n ns o) ≤ long ns + length (octets n)
-long-placed_at n ns None = omega (arith, long-append ns (n ∷ []), length-append (octets n) [])
-long-placed_at n ns (Some k) =
-    let next : drop (k + 1) ns ≡ drop (suc k) ns = rw add-one refl in
-    let behind = long-without (id_of n) (drop (k + 1) ns) in
-    let fewer : long (drop (k + 1) ns) ≤ long (drop k ns) = rw next (long-drop_one k ns) in
-    omega (arith, behind, fewer, long-append (take k ns) (n ∷ without (id_of n) (drop (k + 1) ns)), length-append (octets n) (flat_map octets (without (id_of n) (drop (k + 1) ns))), long-take_drop k ns)
+without-same : (id : ℕ) (n : Node) (ns : List Node) → (id_of n == id) ≡ true → without id (n ∷ ns) ≡ without id ns
+without-same id n ns same = ap (λ b. cond (not b) (n ∷ without id ns) (without id ns)) same
 
--- with a child in its place they are longer by no more than the child
-pub long-with_child : (n : Node) (ns : List Node) → length (flat_map octets (with_child n ns)) ≤ length (flat_map octets ns) + length (octets n)
-long-with_child n ns = long-placed_at n ns (position (λ m. id_of m == id_of n) ns)
+-- the trees before the first of an ID, and those of other IDs from there on
+long-split : (id : ℕ) (ns : List Node) → long (take (first_at id ns) ns) + long (without id (drop (first_at id ns) ns)) ≡ long (without id ns)
+long-split id [] = omega arith
+long-split id (n ∷ ns) = split (id_of n == id) refl (long-split id ns)
+  where
+    split : (is_id : Bool) → (id_of n == id) ≡ is_id → long (take (first_at id ns) ns) + long (without id (drop (first_at id ns) ns)) ≡ long (without id ns)
+        → long (take (cond (not is_id) (1 + first_at id ns) 0) (n ∷ ns)) + long (without id (drop (cond (not is_id) (1 + first_at id ns) 0) (n ∷ ns))) ≡ long (without id (n ∷ ns))
+    split true is rest = omega arith
+    split false is rest =
+        let more : 1 + first_at id ns ≡ suc (first_at id ns) = omega arith in
+        ap (λ i. long (take i (n ∷ ns)) + long (without id (drop i (n ∷ ns)))) more
+        ∙ omega (arith, rest, length-append (octets n) (flat_map octets (take (first_at id ns) ns)), length-append (octets n) (flat_map octets (without id ns)), ap long (without-other id n ns is))
+
+-- the first of an ID isn't one of another
+long-behind_first : (id : ℕ) (ns : List Node) (d : Node) → first_at id ns < length ns → long (without id (drop (first_at id ns) ns)) ≡ long (without id (drop (first_at id ns + 1) ns))
+long-behind_first id ns d inside =
+    let next : drop (first_at id ns + 1) ns ≡ drop (suc (first_at id ns)) ns = rw add-one refl in
+    ap (λ l. long (without id l)) (drop-cons ns (first_at id ns) d inside)
+    ∙ ap long (without-same id (get_or ns (first_at id ns) d) (drop (suc (first_at id ns)) ns) (passes_at_first (λ m. id_of m == id) ns d inside))
+    ∙ ap (λ l. long (without id l)) (sym next)
+
+-- With a child in its place they are as long as those of other IDs, and the child.
+pub long-with_child : (n : Node) (ns : List Node) → length (flat_map octets (with_child n ns)) ≡ length (flat_map octets (without (id_of n) ns)) + length (octets n)
+long-with_child n ns = split (nat_lt (first_at (id_of n) ns) (length ns)) refl
+  where
+    split : (found : Bool) → nat_lt (first_at (id_of n) ns) (length ns) ≡ found
+        → long (placed_at n ns (cond found (Some (first_at (id_of n) ns)) None)) ≡ long (without (id_of n) ns) + length (octets n)
+    split true is =
+        let inside : first_at (id_of n) ns < length ns = grind (arith, nat_tests) in
+        omega (arith, long-split (id_of n) ns, long-behind_first (id_of n) ns n inside, long-append (take (first_at (id_of n) ns) ns) (n ∷ without (id_of n) (drop (first_at (id_of n) ns + 1) ns)), length-append (octets n) (flat_map octets (without (id_of n) (drop (first_at (id_of n) ns + 1) ns))))
+    split false is =
+        let past : length ns ≤ first_at (id_of n) ns = grind (arith, nat_tests) in
+        omega (arith, long-split (id_of n) ns, long-append ns (n ∷ []), length-append (octets n) [], ap long (take_all (first_at (id_of n) ns) ns past), ap (λ l. long (without (id_of n) l)) (drop_all (first_at (id_of n) ns) ns past))
 
 pub long-push : (n : Node) (ns : List Node) → length (flat_map octets (ns ++ n ∷ [])) ≡ length (flat_map octets ns) + length (octets n)
 long-push n ns = omega (arith, long-append ns (n ∷ []), length-append (octets n) [])

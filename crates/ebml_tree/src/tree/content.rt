@@ -1,10 +1,10 @@
 //! What is inside an Element.
 
-ghost use Rattle.std.specs.Prelude.{◌≡◌, ◌≤◌, ◌<◌, ◌+◌, ◌==◌, ◌++◌, ◌∷◌, [], not, ℕ, List, length, slice_get, find, flat_map, filter, take, drop, position, OnOk, OnErr, MatchOption, IsTrue, Some};
+ghost use Rattle.std.specs.Prelude.{◌≡◌, ◌≤◌, ◌<◌, ◌+◌, ◌==◌, ◌++◌, ◌∷◌, [], not, ℕ, List, length, slice_get, find, flat_map, filter, take, drop, position, OnOk, OnErr, MatchOption, IsTrue, IsOk, Some};
 ghost use Rattle.std.specs.Option.{option_copied};
 ghost use Rattle.tree_format.specs.Node.{id_of, nodes_of, depth_all, deepest};
 ghost use Rattle.tree_format.specs.NormalForm.{octets, longest};
-ghost use Rattle.tree_format.specs.Changes.{without, with_child, placed_at};
+ghost use Rattle.tree_format.specs.Changes.{without, with_child, placed_at, HasChild};
 
 use crate::tree::Tree;
 use crate::tree::writing::LONGEST;
@@ -64,6 +64,7 @@ impl Content {
         requires { IsKids self.old }
         ensures ok { OnOk result (HasKids self.new (with_child child (kids_of self.old))) }
         ensures err { OnErr result (HasKids self.new (kids_of self.old)) }
+        ensures replaced { HasChild (id_of child) (kids_of self.old) → IsOk result }
     {
         match self {
             Content::Body(_) => unreachable!(),
@@ -86,6 +87,7 @@ impl Content {
 fn set_in(trees: &mut Vec<Tree>, child: Tree) -> Result<(), AllocError>
     ensures ok { OnOk result (trees.new.items ≡ with_child child trees.old.items) }
     ensures err { OnErr result (trees.new.items ≡ trees.old.items) }
+    ensures replaced { HasChild (id_of child) trees.old.items → IsOk result }
 {
     match place_of(trees.as_slice(), child.id()) {
         Some(k) => {
@@ -120,14 +122,14 @@ fn remove_from(trees: &mut Vec<Tree>, from: usize, id: u32)
     requires { from ≤ length trees.old.items }
     ensures { trees.new.items ≡ take from trees.old.items ++ without id (drop from trees.old.items) }
 {
-    let mut k = from;
-    while k < trees.len() {
-        if trees[k].id() == id {
-            let _ = trees.remove(k);
-        } else {
-            k += 1;
+    let mut kept = from;
+    for k in from..trees.len() {
+        if trees[k].id() != id {
+            trees.swap(kept, k);
+            kept += 1;
         }
     }
+    trees.truncate(kept);
 }
 
 fn remove_all(trees: &mut Vec<Tree>, id: u32)
@@ -149,7 +151,22 @@ pub(super) fn written_together(trees: &[Tree]) -> u64
     sum
 }
 
-// The same, None where they are too many for a body.
+// The same of those of every other ID.
+#[tactic(auto, using(crate::proofs::LoopLemmas::others))]
+pub(super) fn written_without(id: u32, trees: &[Tree]) -> u64
+    requires { length (flat_map octets trees.now) ≤ longest }
+    ensures { result ≡ length (flat_map octets (without id trees.now)) }
+{
+    let mut sum = 0;
+    for tree in trees {
+        if tree.id() != id {
+            sum += tree.written_len();
+        }
+    }
+    sum
+}
+
+// How many octets trees take that are written one behind the other, None where they are too many for a body.
 #[tactic(auto, using(crate::proofs::LoopLemmas::rest))]
 pub(super) fn written_within(trees: &[Tree]) -> Option<u64>
     ensures { MatchOption result (Unit {0}) (λ sum. (sum ≡ length (flat_map octets trees.now)) × (sum ≤ longest)) }

@@ -1,0 +1,96 @@
+-- Trees of an ID are taken out of a list in one pass.
+use Rattle.std.proofs.Common.{◌≡◌, ◌≤◌, ◌<◌, ◌⊎◌, inl, inr, ℕ, ◌+◌, ◌==◌, not, cond, Bool, true, false, List, [], ◌∷◌, ◌++◌, length, position, None, take, drop, get_or, set, swap, refl, sym, ap, ap₂, ◌∙◌, arith, append-nil, append_assoc}
+use Rattle.std.proofs.lemmas.List.{take-set, take-set-le, take_more_set, drop-set-lt, length-set, drop_all}
+use Rattle.std.proofs.lemmas.List.Edits.{length-swap, swap_is}
+use Rattle.tree_format.specs.Node.{Node, id_of}
+use Rattle.tree_format.specs.Changes.{without, HasChild}
+use Rattle.ebml_tree.proofs.LoopLemmas.{next-is}
+
+-- The trees before `from` stay. Of those from there to k, the ones of other IDs stand before `kept`,
+-- and what is behind k is as it was.
+pub record Compacted (id from kept k : ℕ) (old now : List Node) : Type 0 where
+  pub after : from ≤ kept
+  pub before : kept ≤ k
+  pub long : length now ≡ length old
+  pub same : take kept now ++ without id (drop k now) ≡ take from old ++ without id (drop from old)
+
+-- nothing was looked at
+pub compact-start : (id from : ℕ) (old : List Node) → Compacted id from from from old old
+compact-start id from old = record { after = omega arith; before = omega arith; long = refl; same = refl }
+
+-- ---- one tree more
+
+le-cases : (i j : ℕ) → i ≤ j → (i ≡ j) ⊎ (i < j)
+le-cases i j le = grind arith
+
+-- after the tree at k took the place at `kept`, it stands behind those before that place
+take-swap : (ns : List Node) (kept k : ℕ) (n : Node) → kept ≤ k → k < length ns → n ≡ get_or ns k n → take (kept + 1) (swap ns kept k) ≡ take kept ns ++ n ∷ []
+take-swap ns kept k n before inside is = ap (take (kept + 1)) (sym made) ∙ split (le-cases kept k before)
+  where
+    made : set (set ns kept (get_or ns k n)) k (get_or ns kept n) ≡ swap ns kept k
+    made = swap_is ns kept k n (omega arith) inside
+
+    split : (kept ≡ k) ⊎ (kept < k) → take (kept + 1) (set (set ns kept (get_or ns k n)) k (get_or ns kept n)) ≡ take kept ns ++ n ∷ []
+    split (inl same) =
+        ap (λ i. take (kept + 1) (set (set ns kept (get_or ns k n)) i (get_or ns kept n))) (sym same)
+        ∙ take_more_set (set ns kept (get_or ns k n)) kept (get_or ns kept n) (rw length-set (omega arith))
+        ∙ ap₂ (λ l m. l ++ m ∷ []) (take-set ns kept (get_or ns k n)) (ap (λ i. get_or ns i n) same ∙ sym is)
+    split (inr below) =
+        take-set-le (kept + 1) (set ns kept (get_or ns k n)) k (get_or ns kept n) (omega arith)
+        ∙ take_more_set ns kept (get_or ns k n) (omega arith)
+        ∙ ap (λ m. take kept ns ++ m ∷ []) (sym is)
+
+-- what is behind k is as it was
+drop-swap : (ns : List Node) (kept k : ℕ) (n : Node) → kept ≤ k → k < length ns → drop (k + 1) (swap ns kept k) ≡ drop (k + 1) ns
+drop-swap ns kept k n before inside =
+    ap (drop (k + 1)) (sym (swap_is ns kept k n (omega arith) inside))
+    ∙ drop-set-lt (k + 1) (set ns kept (get_or ns k n)) k (get_or ns kept n) (omega arith)
+    ∙ drop-set-lt (k + 1) ns kept (get_or ns k n) (omega arith)
+
+-- the trees of other IDs from k on
+without-next : (id k : ℕ) (ns : List Node) (n : Node) (is_id : Bool) → k < length ns → n ≡ get_or ns k n → (id_of n == id) ≡ is_id
+    → without id (drop k ns) ≡ cond (not is_id) (n ∷ without id (drop (k + 1) ns)) (without id (drop (k + 1) ns))
+without-next id k ns n is_id inside is tells =
+    ap (without id) (next-is k ns n inside is) ∙ ap (λ b. cond (not b) (n ∷ without id (drop (k + 1) ns)) (without id (drop (k + 1) ns))) tells
+
+module _ (id from kept k : ℕ) (old now : List Node) (n : Node) (so_far : Compacted id from kept k old now) (inside : k < length now) (is : n ≡ get_or now k n) where
+  -- one of another ID is kept
+  pub compact-other : (id_of n == id) ≡ false → Compacted id from (kept + 1) (k + 1) old (swap now kept k)
+  compact-other other =
+      let after = so_far.after in
+      let before = so_far.before in
+      record {
+        after = omega arith;
+        before = omega arith;
+        long = length-swap now kept k ∙ so_far.long;
+        same =
+            ap₂ (λ l m. l ++ without id m) (take-swap now kept k n before inside is) (drop-swap now kept k n before inside)
+            ∙ append_assoc (take kept now) (n ∷ []) (without id (drop (k + 1) now))
+            ∙ ap (λ l. take kept now ++ l) (sym (without-next id k now n false inside is other))
+            ∙ so_far.same;
+      }
+
+  -- one of the ID is passed by
+  pub compact-same : (id_of n == id) ≡ true → Compacted id from kept (k + 1) old now
+  compact-same same =
+      let before = so_far.before in
+      record {
+        after = so_far.after;
+        before = omega arith;
+        long = so_far.long;
+        same = ap (λ l. take kept now ++ l) (sym (without-next id k now n true inside is same)) ∙ so_far.same;
+      }
+
+-- all were looked at
+pub compact-end : (id from kept k : ℕ) (old now : List Node) → Compacted id from kept k old now → length now ≤ k → take kept now ≡ take from old ++ without id (drop from old)
+compact-end id from kept k old now so_far past =
+    sym (append-nil (take kept now)) ∙ ap (λ l. take kept now ++ without id l) (sym (drop_all k now past)) ∙ so_far.same
+
+-- ---- a child of an ID
+
+-- what isn't found isn't there
+pub none-found : (id own : ℕ) (found all : List Node) → None ≡ position (λ n. id_of n == id) found → found ≡ all → id ≡ own → HasChild own all → ⊥
+none-found id own found all none same is has =
+    let no : None ≡ position (λ n. id_of n == own) all = none ∙ ap₂ (λ i l. position (λ n. id_of n == i) l) is same in
+    let h = rw (← no) at has in
+    absurd (cc)
