@@ -1,16 +1,16 @@
 -- A tree's fields, seen as the tree of the definitions.
 use Rattle.std.proofs.Common.{◌≡◌, ◌≤◌, ◌<◌, ℕ, ◌+◌, List, ◌++◌, length, flat_map, true, false, refl, sym, ap, ap₂, append_assoc, ◌∙◌, arith}
 use Rattle.tree_format.specs.Node.{Node, leaf, master, nodes_of, id_of, children, with_children, body_of, depth, depth_all, deepest, IsMaster, is_leaf}
-use Rattle.tree_format.specs.NormalForm.{octets, content, header_octets, kept_octets, is_filler}
+use Rattle.tree_format.specs.NormalForm.{octets, content, header_octets, kept_octets, is_filler, longest}
 use Rattle.tree_format.specs.Changes.{without}
 use Rattle.tree_format.proofs.NodeLemmas.{list-nodes, octets_all-flat}
-use Rattle.tree_format.specs.Standing.{IsSound}
+use Rattle.tree_format.specs.Standing.{IsSound, KeepsLimits}
 use Rattle.tree_format.proofs.StandingLemmas.{sound-remove}
 use Rattle.tree_format.proofs.ChangeLemmas.{long-without, long-with_child, long-push, deep-without, deep-with_child, deep-push}
 use Rattle.tree_format.proofs.WrittenLemmas.{length-kept_octets, length-filler, length-header_octets}
 use Rattle.ebml_tree.specs.declared.tree.content.Content.{Content}
 use Rattle.ebml_tree.specs.declared.tree.content.Content.TheVariants.{Body, Children}
-use Rattle.ebml_tree.specs.View.{node_of, kids_of, content_of, depth_of, octets_in, IsKids, HasKids, IsSame}
+use Rattle.ebml_tree.specs.View.{node_of, kids_of, content_of, depth_of, octets_in, Measured, IsKids, HasKids, IsSame}
 
 -- ---- what the fields show
 
@@ -42,6 +42,22 @@ view_low (Children v) depth' is low = omega arith
 pub view_octets : (c : Content) (id at : ℕ) (n : Node) → node_of id at c ≡ n → octets n ≡ kept_octets id (content_of c)
 view_octets (Body b) id at n is = rw (← is) refl
 view_octets (Children v) id at n is = rw (← is) (ap (kept_octets id) (octets_all-flat v.items))
+
+-- what holds of the fields is that a tree keeps its limits
+pub view_limits : (id at written depth' : ℕ) (c : Content) (n : Node) → node_of id at c ≡ n → Measured id written depth' c → KeepsLimits n
+view_limits id at written depth' c n is measured =
+    let exact = measured.exact in
+    let most = measured.most in
+    let deep = measured.deep in
+    let low = measured.not_too_deep in
+    record { long = rw (view_content c id at n is) (omega arith); deep = rw (view_depth c id at n is) (omega arith) }
+
+-- children that aren't too many or too deep make such a tree
+pub limits-master : (id at sum : ℕ) (own ns : List Node) → own ≡ ns → (sum ≡ length (flat_map octets own)) × (sum ≤ longest) → depth_all (nodes_of ns) < deepest → KeepsLimits (master id at (nodes_of ns))
+limits-master id at sum own ns is long low =
+    let exact = long.0 in
+    let most = long.1 in
+    record { long = rw octets_all-flat (rw (← is) (omega arith)); deep = omega arith }
 
 pub master_kids : (c : Content) (id at : ℕ) (n : Node) → node_of id at c ≡ n → IsMaster n → IsKids c
 master_kids (Body b) id at n is kids = let never : true ≡ false = ap is_leaf is ∙ kids in absurd (cc)

@@ -23,6 +23,11 @@ pub reads-holds : (P : Node → Type 0) (result : Result Node TreeEnd) (read : R
 reads-holds P (Ok n) read reads holds = holds n reads
 reads-holds P (Err end) read reads holds = tt
 
+-- the same, where something more is known of the answer
+pub reads-holds_with : (P Q : Node → Type 0) (result : Result Node TreeEnd) (read : Result Node Harm) → ReadsTree result read → IfOk result Q → ((n : Node) → read ≡ Ok n → Q n → P n) → IfOk result P
+reads-holds_with P Q (Ok n) read reads known holds = holds n reads known
+reads-holds_with P Q (Err end) read reads known holds = tt
+
 pub none-from_length : (l : List ℕ) → length l ≡ 0 → l ≡ []
 none-from_length [] is = refl
 none-from_length (x ∷ l) is = absurd (omega arith)

@@ -1,9 +1,8 @@
 //! An Element that is held whole, with what is inside.
 
-ghost use Rattle.std.specs.Prelude.{◌≡◌, ◌≤◌, ◌<◌, ◌+◌, ◌^◌, ◌==◌, ◌++◌, ◌∷◌, [], ◌↔◌, ℕ, List, Bool, true, false, length, find, filter, take, slice_get, OnOk, OnErr, IfOk, IfErr, IsErr, IfSome, IsTrue, Some, None, Ok, ℤ};
-ghost use Rattle.std.specs.Option.{option_copied, option_map};
+ghost use Rattle.std.specs.Prelude.{◌≡◌, ◌≤◌, ◌<◌, ◌+◌, ◌^◌, ◌==◌, ◌++◌, ◌∷◌, [], ℕ, length, find, filter, take, slice_get, OnOk, OnErr, IfOk, IsErr, IfSome, IsTrue, Ok, ℤ};
+ghost use Rattle.std.specs.Option.{option_copied};
 
-use crate::end::TreeEnd;
 use ebml_numbers::{read_int, read_uint};
 use mkv_schema::uint_default;
 use mkv_values::Bytes;
@@ -16,10 +15,9 @@ mod reading;
 mod writing;
 
 use content::{
-    Content, depth_around, first_of, nth_of, tree_at, written_together, written_within,
-    written_without,
+    Content, depth_around, first_of, nth_of, tree_at, written_together, written_without,
 };
-use reading::{before_zero, too_many, trees_in};
+use reading::before_zero;
 use writing::{LONGEST, element_len, is_filler, write_header};
 
 /// The most masters that stand inside one another.
@@ -63,40 +61,13 @@ impl Model for Tree {
 impl Tree {
     ghost use Rattle.tree_format.specs.Node.{Node, id_of, offset_of, children, with_children, leaf, master, nodes_of, body_of, count, depth, depth_all, deepest, HasRoom, IsMaster};
     ghost use Rattle.tree_format.specs.NormalForm.{content, octets, longest};
-    ghost use Rattle.tree_format.specs.Standing.{IsSound, StandsIn, kept, placed_in};
+    ghost use Rattle.tree_format.specs.Standing.{IsSound, StandsIn, IsReadAgain, kept, placed_in};
     ghost use Rattle.tree_format.specs.Text.{HasNoZero};
     ghost use Rattle.tree_format.specs.Changes.{with_child, without, HasChild, AreTooLong};
-    ghost use Rattle.tree_format.specs.Reading.{tree_of};
-    ghost use Rattle.ebml_format.specs.Number.{is_id, is_written_id, uint_octets, int_of, int_octets, magnitude};
-    ghost use Rattle.mkv_schema.specs.Schema.{is_master};
+    
+    ghost use Rattle.ebml_format.specs.Number.{is_id, uint_octets, int_of, int_octets, magnitude};
+    
     ghost use Rattle.matroska_format.specs.Value.{uint_value, text_of};
-    ghost use Rattle.ebml_tree.specs.Outcome.{ReadsTree};
-
-    /// The tree of a master, read from its body (RFC 8794, section 7.7, Master Element).
-    ///
-    /// The header stands at `offset`, the body at `base`. The master and what is inside, Void and CRC-32
-    /// too, may be `nodes` Elements, and 32 masters may stand inside one another. A damage is the first
-    /// in the order in which the Elements stand.
-    pub fn parse(
-        alloc: Global,
-        id: u32,
-        offset: u64,
-        body: &[u8],
-        base: u64,
-        nodes: u32,
-    ) -> Result<Tree, TreeEnd>
-        requires master { IsTrue (is_master id) }
-        requires places { base + length body.now ≤ 2 ^ 48 }
-        ensures exact { ReadsTree result (tree_of id offset body.now base nodes) }
-
-        // It is a master of this ID; what was read stands where the table allows it, and has no more
-        // Elements than are allowed.
-        ensures root { IfOk result (λ tree. IsMaster tree × (id_of tree ≡ id)) }
-        ensures sound { IfOk result IsSound }
-        ensures count { IfOk result (λ tree. count tree ≤ nodes) }
-    {
-        Tree::read(alloc, id, offset, body, base, nodes)
-    }
 
     /// A leaf with these octets, at the place 0.
     #[tactic(auto, using(tree_format::proofs::ValueLemmas::values))]
@@ -317,9 +288,11 @@ impl Tree {
         ensures ok { OnOk result (out.new ≡ out.old ++ octets self.now) }
         ensures err { OnErr result (out.new ≡ out.old) }
 
-        // A sound tree is read again from what is written behind its header, at the places there.
-        ensures again { (offset base nodes : ℕ) → IsMaster self.now → IsSound self.now → kept self.now ≤ nodes
-            → tree_of (id_of self.now) offset (content self.now) base nodes ≡ Ok (placed_in offset base self.now) }
+        // A sound master is read again from what is written behind its header. Its new places, and what
+        // was left out, are nothing to what is written.
+        ensures again { (nodes : ℕ) → IsMaster self.now → IsSound self.now → kept self.now ≤ nodes
+            → IsReadAgain nodes self.now }
+        ensures stable { (offset base : ℕ) → octets (placed_in offset base self.now) ≡ octets self.now }
     {
         let mut octets = mem::replace(out, Bytes::new(self.content.alloc())).into_vec();
         let before = octets.len();
@@ -350,64 +323,5 @@ impl Tree {
                 Ok(())
             }
         }
-    }
-
-    // The tree that the definition has.
-    #[tactic(auto, using(crate::proofs::EndLemmas::masters))]
-    fn read(
-        alloc: Global,
-        id: u32,
-        offset: u64,
-        body: &[u8],
-        base: u64,
-        nodes: u32,
-    ) -> Result<Tree, TreeEnd>
-        requires master { IsTrue (is_master id) }
-        requires places { base + length body.now ≤ 2 ^ 48 }
-        ensures { ReadsTree result (tree_of id offset body.now base nodes) }
-    {
-        if nodes == 0 {
-            return Err(too_many(id, offset));
-        }
-        let mut left = nodes - 1;
-        let trees = trees_in(alloc, DEEPEST - 1, &mut left, id, base, body)?;
-        Tree::of_children(id, offset, trees)
-    }
-
-    // A leaf at a place.
-    fn of_body(alloc: Global, id: u32, offset: u64, bytes: &[u8]) -> Result<Tree, AllocError>
-        requires { IsTrue (is_written_id id) }
-        ensures { IfOk result (λ tree. tree ≡ leaf id offset bytes.now) }
-    {
-        let written = bytes.len() as u64;
-        if written > LONGEST {
-            return Err(AllocError);
-        }
-        Ok(Tree {
-            id,
-            offset,
-            written,
-            depth: 0,
-            content: Content::Body(bytes.to_vec(alloc)?),
-        })
-    }
-
-    // A master at a place.
-    fn of_children(id: u32, offset: u64, trees: Vec<Tree>) -> Result<Tree, TreeEnd>
-        requires id { IsTrue (is_written_id id) }
-        requires room { depth_all (nodes_of trees.items) < deepest }
-        ensures ok { IfOk result (λ tree. tree ≡ master id offset (nodes_of trees.items)) }
-        ensures err { IfErr result (λ end. end ≡ TreeEnd.Memory) }
-    {
-        let Some(written) = written_within(trees.as_slice()) else {
-            return Err(TreeEnd::Memory);
-        };
-        Ok(Tree {
-            id,
-            offset,
-            written,
-            depth: depth_around(trees.as_slice()),
-            content: Content::Children(trees),
-        })
     }
 }

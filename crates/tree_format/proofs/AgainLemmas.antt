@@ -20,10 +20,10 @@ use Rattle.mkv_values.specs.declared.damage.Damage.{Damage}
 use Rattle.mkv_values.specs.declared.damage.Kind.TheVariants.{TooLong}
 use Rattle.matroska_format.specs.declared.element.Header.{Header}
 use Rattle.matroska_format.specs.Element.{in_tree, element_in, id_in, with_id, with_size, with_body, body_damage, display_read, stated_end}
-use Rattle.tree_format.specs.Node.{Node, Nodes, leaf, master, none, node, list_of, id_of, IsMaster, count_all, depth, depth_all, deepest}
-use Rattle.tree_format.specs.NormalForm.{is_filler, header_octets, element_octets, octets, octets_all, content, longest}
-use Rattle.tree_format.specs.Reading.{Grove, header_at, inside, behind, is_master_in, and_then, as_master, grown, in_front, first_then, grove, as_root, tree_of}
-use Rattle.tree_format.specs.Standing.{IsLeafIn, AllStandIn, IsSound, kept, kept_all, placed_all, placed_in}
+use Rattle.tree_format.specs.Node.{Node, Nodes, leaf, master, none, node, list_of, IsMaster, count, count_all, depth_all, deepest}
+use Rattle.tree_format.specs.NormalForm.{is_filler, header_octets, element_octets, octets, octets_all, longest}
+use Rattle.tree_format.specs.Reading.{Grove, header_at, inside, behind, is_master_in, and_then, as_master, grown, in_front, first_then, grove, as_root}
+use Rattle.tree_format.specs.Standing.{IsLeafIn, AllStandIn, IsSound, KeepsLimits, IsReadAgain, kept, kept_all, placed_all}
 use Rattle.tree_format.proofs.NodeLemmas.{nodes-list}
 use Rattle.tree_format.proofs.ReadingLemmas.{grove-more, grove-end}
 use Rattle.tree_format.proofs.WrittenLemmas.{length-header_octets}
@@ -268,13 +268,14 @@ pub grove-octets : (ns : Nodes) (room left parent p : ℕ) → AllStandIn parent
 unfolding Follows
 grove-octets ns room left parent p stand low small enough = follows-all ns room parent stand low left p small enough
 
--- What is written behind a master's header is read as the tree again, at its places.
-pub tree_of-content : (n : Node) (offset base nodes : ℕ) → IsMaster n → IsSound n → depth n ≤ deepest → length (content n) ≤ longest → kept n ≤ nodes
-    → tree_of (id_of n) offset (content n) base nodes ≡ Ok (placed_in offset base n)
-tree_of-content (leaf id at body) offset base nodes is sound low small enough = absurd (cc)
-tree_of-content (master id at kids) offset base nodes is sound low small enough =
+-- What is written behind a sound master's header is read as the tree again, at its places.
+pub sound-again : (n : Node) (nodes : ℕ) → IsMaster n → IsSound n → KeepsLimits n → kept n ≤ nodes → IsReadAgain nodes n
+sound-again (leaf id at body) nodes is sound within few = λ offset base. absurd (cc)
+sound-again (master id at kids) nodes is sound within few = λ offset base.
     let some : (nodes == 0) ≡ false = grind (arith, nat_tests) in
-    rw some (ap (λ r. and_then r (as_root id offset)) (grove-octets kids (deepest - 1) (nodes - 1) id base sound (omega arith) small (omega arith))
+    let long = within.long in
+    let deep = within.deep in
+    rw some (ap (λ r. and_then r (as_root id offset)) (grove-octets kids (deepest - 1) (nodes - 1) id base sound (omega arith) long (omega arith))
     ∙ ap (λ ns. Ok (master id offset ns)) (nodes-list (placed_all base kids)))
 
 -- no more is written than there is
@@ -290,3 +291,7 @@ kept_all-le (node (master id at kids) ns) = split (is_filler id) (kept_all-le ki
     split : (f : Bool) → kept_all kids ≤ count_all kids → kept_all ns ≤ count_all ns → (if f then kept_all ns else kept_all kids + 1 + kept_all ns) ≤ count_all kids + 1 + count_all ns
     split true inner rest = omega arith
     split false inner rest = omega arith
+
+pub kept-le : (n : Node) → kept n ≤ count n
+kept-le (leaf id at body) = omega arith
+kept-le (master id at kids) = omega (arith, kept_all-le kids)

@@ -14,9 +14,9 @@ use Rattle.matroska_format.specs.Element.{in_tree, element_in, id_in, with_id, d
 use Rattle.matroska_format.specs.Value.{is_known_value}
 use Rattle.tree_format.specs.Node.{Node, leaf, master, nodes_of, id_of, IsMaster, count, count_all, deepest}
 use Rattle.tree_format.specs.Reading.{Grove, Grown, header_at, inside, behind, is_master_in, refused, and_then, as_master, grown, in_front, first_then, grove, as_root, tree_of}
-use Rattle.tree_format.specs.Standing.{StandsIn, AllStandIn, IsSound}
+use Rattle.tree_format.specs.Standing.{StandsIn, AllStandIn, IsSound, KeepsLimits, IsReadAgain}
 use Rattle.tree_format.proofs.ReadingLemmas.{grove-more, grove-end, header_at-fits, length-inside, length-behind, id-of-size}
-use Rattle.tree_format.proofs.AgainLemmas.{IsReadIn, display-parent}
+use Rattle.tree_format.proofs.AgainLemmas.{IsReadIn, display-parent, sound-again, kept-le}
 
 -- ---- octets
 
@@ -232,3 +232,10 @@ tree_of-root id offset base nodes body n is = split (nodes == 0) is
     split false is =
         let found = and_then-ok (grove (deepest - 1) (nodes - 1) id base body) (as_root id offset) n is in
         of_grove found.0 found.1.1
+
+-- What was read, and keeps the limits, is read again from what is written of it.
+pub tree_of-again : (id offset base nodes more : ℕ) (body : List ℕ) (n : Node) → AreOctets body → tree_of id offset body base nodes ≡ Ok n → KeepsLimits n → nodes ≤ more → IsReadAgain more n
+tree_of-again id offset base nodes more body n octets is limits enough =
+    let few = tree_of-count id offset base nodes body n is in
+    let kept_few = kept-le n in
+    sound-again n more (tree_of-root id offset base nodes body n is).0 (tree_of-sound id offset base nodes body n octets is) limits (omega arith)

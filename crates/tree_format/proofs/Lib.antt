@@ -3,6 +3,7 @@ pub mod ReadingLemmas
 pub mod ChangeLemmas
 pub mod WrittenLemmas
 pub mod AgainLemmas
+pub mod PlacedLemmas
 pub mod FoundLemmas
 pub mod StandingLemmas
 pub mod ValueLemmas

@@ -1,10 +1,10 @@
 -- Trees that can be written and read again.
-use Rattle.std.specs.Prelude.{◌≡◌, ⊤, ℕ, ◌+◌, true, false, if◌then◌else◌, List, length}
+use Rattle.std.specs.Prelude.{◌≡◌, ◌≤◌, ⊤, ℕ, ◌+◌, true, false, if◌then◌else◌, List, length, Ok}
 use Rattle.ebml_format.specs.Number.{is_id}
 use Rattle.matroska_format.specs.Value.{is_known_value}
-use Rattle.tree_format.specs.Node.{Node, Nodes, leaf, master, none, node, id_of}
-use Rattle.tree_format.specs.NormalForm.{is_filler, header_octets, octets, octets_all}
-use Rattle.tree_format.specs.Reading.{is_master_in}
+use Rattle.tree_format.specs.Node.{Node, Nodes, leaf, master, none, node, id_of, depth, deepest}
+use Rattle.tree_format.specs.NormalForm.{is_filler, header_octets, octets, octets_all, content, longest}
+use Rattle.tree_format.specs.Reading.{is_master_in, tree_of}
 
 -- A leaf stands under a parent: its ID is a valid one; the table has no master of that ID there; and its
 -- octets are a value of its kind.
@@ -55,3 +55,13 @@ abbrev mutual
 abbrev pub placed_in : ℕ → ℕ → Node → Node
 placed_in offset base (leaf id at body) = leaf id offset body
 placed_in offset base (master id at kids) = master id offset (placed_all base kids)
+
+-- Behind its header a tree is no more octets than a size can tell, and it isn't too deep.
+pub record KeepsLimits (n : Node) : Type 0 where
+  pub long : length (content n) ≤ longest
+  pub deep : depth n ≤ deepest
+
+-- What is written of a master behind its header is read again where so many nodes are allowed: as the
+-- same tree, without what is left out, each Element at its own place.
+abbrev pub IsReadAgain : ℕ → Node → Type 0
+IsReadAgain nodes n = (offset base : ℕ) → tree_of (id_of n) offset (content n) base nodes ≡ Ok (placed_in offset base n)

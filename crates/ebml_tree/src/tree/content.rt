@@ -1,6 +1,6 @@
 //! What is inside an Element.
 
-ghost use Rattle.std.specs.Prelude.{◌≡◌, ◌≤◌, ◌<◌, ◌+◌, ◌==◌, ◌++◌, ◌∷◌, [], not, ℕ, List, length, slice_get, find, flat_map, filter, take, drop, position, OnOk, OnErr, MatchOption, IsTrue, IsOk, Some};
+ghost use Rattle.std.specs.Prelude.{◌≡◌, ◌≤◌, ◌<◌, ◌+◌, ◌==◌, ◌++◌, ◌∷◌, [], length, slice_get, find, flat_map, filter, take, drop, position, OnOk, OnErr, MatchOption, IsOk, Some};
 ghost use Rattle.std.specs.Option.{option_copied};
 ghost use Rattle.tree_format.specs.Node.{id_of, nodes_of, depth_all, deepest};
 ghost use Rattle.tree_format.specs.NormalForm.{octets, longest};
@@ -19,7 +19,7 @@ pub(super) enum Content {
 }
 
 impl Content {
-    ghost use Rattle.ebml_tree.specs.View.{kids_of, octets_in, IsKids, HasKids, IsSame};
+    ghost use Rattle.ebml_tree.specs.View.{kids_of, octets_in, IsKids, HasKids};
 
     pub(super) fn kids(&self) -> &[Tree]
         ensures { result.now ≡ kids_of self.now }

@@ -1,25 +1,130 @@
 //! A master's octets, read as trees.
 
-ghost use Rattle.std.specs.Prelude.{◌≡◌, ◌≤◌, ◌<◌, ◌+◌, ◌^◌, ◌==◌, not, ℕ, List, length, Ok, Err, IfOk, IfErr, IsTrue};
+ghost use Rattle.std.specs.Prelude.{◌≡◌, ◌≤◌, ◌<◌, ◌+◌, ◌^◌, ◌==◌, not, ℕ, length, Ok, Err, IfOk, IfErr, IsTrue};
 ghost use Rattle.std.specs.List.{prefix_len};
 ghost use Rattle.ebml_format.specs.Number.{is_written_id};
-ghost use Rattle.mkv_schema.specs.Schema.{is_master, kind_of};
-ghost use Rattle.matroska_format.specs.Element.{stated_end, known, is_unknown};
+ghost use Rattle.mkv_schema.specs.Schema.{is_master};
+ghost use Rattle.matroska_format.specs.Element.{known};
 ghost use Rattle.matroska_format.specs.Value.{is_value, is_known_value, text_of};
-ghost use Rattle.tree_format.specs.Node.{Node, leaf, master, nodes_of, depth, depth_all, deepest};
+ghost use Rattle.tree_format.specs.Node.{leaf, master, nodes_of, depth, depth_all, deepest};
 ghost use Rattle.tree_format.specs.Reading.{header_at, inside, behind, is_master_in, grown, grove};
 ghost use Rattle.tree_format.specs.Fits.{Fits};
 ghost use Rattle.ebml_tree.specs.Outcome.{Refuses};
 
 use crate::end::TreeEnd;
-use crate::tree::Tree;
+use crate::tree::content::{Content, depth_around, written_within};
+use crate::tree::writing::LONGEST;
+use crate::tree::{DEEPEST, Tree};
 use ebml_numbers::Size;
 use element_headers::{Header, Parent, read_header};
 use mkv_schema::{ElementKind, is_master, may_stand, row};
 use mkv_values::{Damage, Kind};
-use std::alloc::Global;
+use std::alloc::{AllocError, Global};
 
-pub(super) fn too_many(id: u32, offset: u64) -> TreeEnd
+impl Tree {
+    ghost use Rattle.tree_format.specs.Node.{count, id_of, IsMaster};
+    ghost use Rattle.tree_format.specs.Standing.{IsSound, KeepsLimits, IsReadAgain};
+    ghost use Rattle.tree_format.specs.Reading.{tree_of};
+    ghost use Rattle.ebml_tree.specs.Outcome.{ReadsTree};
+
+    /// The tree of a master, read from its body (RFC 8794, section 7.7, Master Element).
+    ///
+    /// The header stands at `offset`, the body at `base`, in octets from the start of the file; as in
+    /// every file, the body ends within 2^48 octets of it. The master and what is inside, Void and CRC-32
+    /// too, may be `nodes` Elements, and 32 masters may stand inside one another. A damage is the first
+    /// in the order in which the Elements stand.
+    pub fn parse(
+        alloc: Global,
+        id: u32,
+        offset: u64,
+        body: &[u8],
+        base: u64,
+        nodes: u32,
+    ) -> Result<Tree, TreeEnd>
+        requires master { IsTrue (is_master id) }
+        requires places { base + length body.now ≤ 2 ^ 48 }
+        ensures exact { ReadsTree result (tree_of id offset body.now base nodes) }
+
+        // It is a master of this ID; what was read stands where the table allows it, and has no more
+        // Elements than are allowed.
+        ensures root { IfOk result (λ tree. IsMaster tree × (id_of tree ≡ id)) }
+        ensures sound { IfOk result IsSound }
+        ensures count { IfOk result (λ tree. count tree ≤ nodes) }
+
+        // What `put` writes of it behind its header is read again as the same tree, at its new places.
+        ensures again { (more : ℕ) → nodes ≤ more → IfOk result (IsReadAgain more) }
+    {
+        Tree::read(alloc, id, offset, body, base, nodes)
+    }
+
+    // The tree that the definition has.
+    #[tactic(auto, using(crate::proofs::EndLemmas::masters))]
+    fn read(
+        alloc: Global,
+        id: u32,
+        offset: u64,
+        body: &[u8],
+        base: u64,
+        nodes: u32,
+    ) -> Result<Tree, TreeEnd>
+        requires master { IsTrue (is_master id) }
+        requires places { base + length body.now ≤ 2 ^ 48 }
+        ensures exact { ReadsTree result (tree_of id offset body.now base nodes) }
+        ensures limits { IfOk result KeepsLimits }
+    {
+        if nodes == 0 {
+            return Err(too_many(id, offset));
+        }
+        let mut left = nodes - 1;
+        let trees = trees_in(alloc, DEEPEST - 1, &mut left, id, base, body)?;
+        Tree::of_children(id, offset, trees)
+    }
+
+    // A leaf at a place.
+    pub(super) fn of_body(
+        alloc: Global,
+        id: u32,
+        offset: u64,
+        bytes: &[u8],
+    ) -> Result<Tree, AllocError>
+        requires { IsTrue (is_written_id id) }
+        ensures { IfOk result (λ tree. tree ≡ leaf id offset bytes.now) }
+    {
+        let written = bytes.len() as u64;
+        if written > LONGEST {
+            return Err(AllocError);
+        }
+        Ok(Tree {
+            id,
+            offset,
+            written,
+            depth: 0,
+            content: Content::Body(bytes.to_vec(alloc)?),
+        })
+    }
+
+    // A master at a place.
+    fn of_children(id: u32, offset: u64, trees: Vec<Tree>) -> Result<Tree, TreeEnd>
+        requires id { IsTrue (is_written_id id) }
+        requires room { depth_all (nodes_of trees.items) < deepest }
+        ensures ok { IfOk result (λ tree. tree ≡ master id offset (nodes_of trees.items)) }
+        ensures limits { IfOk result KeepsLimits }
+        ensures err { IfErr result (λ end. end ≡ TreeEnd.Memory) }
+    {
+        let Some(written) = written_within(trees.as_slice()) else {
+            return Err(TreeEnd::Memory);
+        };
+        Ok(Tree {
+            id,
+            offset,
+            written,
+            depth: depth_around(trees.as_slice()),
+            content: Content::Children(trees),
+        })
+    }
+}
+
+fn too_many(id: u32, offset: u64) -> TreeEnd
     ensures { result ≡ TreeEnd.Damage (record { kind = Kind.TooMany; id = id; offset = offset }) }
 {
     TreeEnd::Damage(Damage {
@@ -116,7 +221,7 @@ fn tree_in(
 
 // The Elements of a body, as trees.
 #[cycle(reading)]
-pub(super) fn trees_in(
+fn trees_in(
     alloc: Global,
     room: u8,
     left: &mut u32,

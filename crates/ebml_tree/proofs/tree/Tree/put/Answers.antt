@@ -1,13 +1,12 @@
 -- A tree keeps the limits that the law of the normal form asks for.
-use Rattle.std.proofs.Common.{◌≤◌, length, arith}
-use Rattle.tree_format.specs.Node.{depth, deepest}
-use Rattle.tree_format.specs.NormalForm.{content, longest}
-use Rattle.tree_format.proofs.AgainLemmas.{tree_of-content}
-use Rattle.ebml_tree.proofs.ContentLemmas.{view_content, view_depth}
+use Rattle.tree_format.proofs.AgainLemmas.{sound-again}
+use Rattle.tree_format.proofs.PlacedLemmas.{octets-placed_in}
+use Rattle.ebml_tree.proofs.ContentLemmas.{view_limits}
 use Rattle.ebml_tree.proofs.tree.Tree.put.Goals as goal
 
 pub returns-clause-again : goal.returns-clause-again
-returns-clause-again c = λ offset base nodes is sound few.
-    let low : depth c.args.self.now ≤ deepest = omega (arith, view_depth c.self.inside.content c.self.inside.id c.self.inside.offset c.args.self.now c.self.view_is, c.self.invariant.deep, c.self.invariant.not_too_deep) in
-    let small : length (content c.args.self.now) ≤ longest = rw (view_content c.self.inside.content c.self.inside.id c.self.inside.offset c.args.self.now c.self.view_is) (omega (arith, c.self.invariant.exact, c.self.invariant.most)) in
-    tree_of-content c.args.self.now offset base nodes is sound low small few
+returns-clause-again c = λ nodes is sound few.
+    sound-again c.args.self.now nodes is sound (view_limits c.self.inside.id c.self.inside.offset c.self.inside.written c.self.inside.depth c.self.inside.content c.args.self.now c.self.view_is c.self.invariant) few
+
+pub returns-clause-stable : goal.returns-clause-stable
+returns-clause-stable c = λ offset base. octets-placed_in offset base c.args.self.now
