@@ -218,7 +218,8 @@ impl Tree {
         ensures replaced { HasChild (id_of child) (children self.old) → IsErr result
             → AreTooLong (with_child child (children self.old)) }
 
-        // It stays a master, and a child that may stand here keeps it sound.
+        // It stays a master, and a child that may stand here keeps it sound: what `put` writes of it is
+        // read again.
         ensures master { IsMaster self.new }
         ensures sound { IsSound self.old → StandsIn (id_of self.old) child → IsSound self.new }
     {
@@ -242,7 +243,8 @@ impl Tree {
         ensures err { OnErr result (self.new ≡ self.old) }
         ensures full { AreTooLong (children self.old ++ child ∷ []) → IsErr result }
 
-        // It stays a master, and a child that may stand here keeps it sound.
+        // It stays a master, and a child that may stand here keeps it sound: what `put` writes of it is
+        // read again.
         ensures master { IsMaster self.new }
         ensures sound { IsSound self.old → StandsIn (id_of self.old) child → IsSound self.new }
     {
@@ -262,6 +264,8 @@ impl Tree {
     pub fn remove(&mut self, id: u32)
         requires { IsMaster self.old }
         ensures exact { self.new ≡ with_children self.old (without id (children self.old)) }
+
+        // It stays a master, and sound: what `put` writes of it is read again.
         ensures master { IsMaster self.new }
         ensures sound { IsSound self.old → IsSound self.new }
     {

@@ -7,3 +7,4 @@ pub mod PlacedLemmas
 pub mod FoundLemmas
 pub mod StandingLemmas
 pub mod ValueLemmas
+pub mod StandardFacts
