@@ -64,9 +64,7 @@ impl Tree {
     ghost use Rattle.tree_format.specs.Standing.{IsSound, StandsIn, IsReadAgain, kept, placed_in};
     ghost use Rattle.tree_format.specs.Text.{HasNoZero};
     ghost use Rattle.tree_format.specs.Changes.{with_child, without, HasChild, AreTooLong};
-    
     ghost use Rattle.ebml_format.specs.Number.{is_id, uint_octets, int_of, int_octets, magnitude};
-    
     ghost use Rattle.matroska_format.specs.Value.{uint_value, text_of};
 
     /// A leaf with these octets, at the place 0.
