@@ -249,8 +249,16 @@ fn trees_in(
     Ok(trees)
 }
 
-// The header of the Element that the octets begin, which are all that is left of a master, and the
-// octets of its body.
+// The header of the Element that the octets begin, which are all that is left of a master.
+fn front_header(parent: u32, at: u64, rest: &[u8]) -> Result<Header, Damage>
+    requires { at + length rest.now ≤ 2 ^ 48 }
+    ensures { result ≡ header_at parent at rest.now }
+{
+    let end = at + rest.len() as u64;
+    read_header(rest, Parent::Tree(parent), end, at, end)
+}
+
+// The same, with the length of its body.
 fn header_in(parent: u32, at: u64, rest: &[u8]) -> Result<(Header, u64), Damage>
     requires { at + length rest.now ≤ 2 ^ 48 }
     ensures ok { IfOk result (λ found. header_at parent at rest.now ≡ Ok found.0) }
@@ -259,8 +267,7 @@ fn header_in(parent: u32, at: u64, rest: &[u8]) -> Result<(Header, u64), Damage>
     ensures fits { IfOk result (λ found. Fits at (at + length rest.now) found.0) }
     ensures id { IfOk result (λ found. IsTrue (is_written_id found.0.id)) }
 {
-    let end = at + rest.len() as u64;
-    let header = read_header(rest, Parent::Tree(parent), end, at, end)?;
+    let header = front_header(parent, at, rest)?;
     match header.size {
         Size::Known(size) => Ok((header, size)),
         Size::Unknown => unreachable!(),
