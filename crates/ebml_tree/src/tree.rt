@@ -60,7 +60,7 @@ impl Model for Tree {
 
 impl Tree {
     ghost use Rattle.tree_format.specs.Node.{Node, id_of, offset_of, children, with_children, leaf, master, nodes_of, body_of, count, depth, depth_all, deepest, HasRoom, IsMaster};
-    ghost use Rattle.tree_format.specs.NormalForm.{content, octets, longest};
+    ghost use Rattle.tree_format.specs.NormalForm.{content, octets, kept_octets, longest};
     ghost use Rattle.tree_format.specs.Standing.{IsSound, StandsIn, IsReadAgain, kept, placed_in};
     ghost use Rattle.tree_format.specs.Text.{HasNoZero};
     ghost use Rattle.tree_format.specs.Changes.{with_child, without, HasChild, AreTooLong};
@@ -289,6 +289,9 @@ impl Tree {
     pub fn put(&self, out: &mut Bytes) -> Result<(), AllocError>
         ensures ok { OnOk result (out.new ≡ out.old ++ octets self.now) }
         ensures err { OnErr result (out.new ≡ out.old) }
+
+        // It is the header and what is behind it, or nothing of a Void or a CRC-32.
+        ensures header { octets self.now ≡ kept_octets (id_of self.now) (content self.now) }
 
         // A sound master is read again from what is written behind its header. Its new places, and what
         // was left out, are nothing to what is written.

@@ -2,7 +2,8 @@
 use Rattle.std.proofs.Common.{◌≡◌, ℕ, ◌+◌, List, length, true, false, refl, ap, ap₂, ◌∙◌, length-append}
 use Rattle.ebml_format.specs.Number.{id_octets, size_octets, least_size_width, uint_width}
 use Rattle.ebml_format.proofs.NumberLemmas.{length-uint_octets, length-size_octets}
-use Rattle.tree_format.specs.NormalForm.{is_filler, header_octets, element_octets, kept_octets}
+use Rattle.tree_format.specs.Node.{Node, leaf, master, id_of}
+use Rattle.tree_format.specs.NormalForm.{is_filler, header_octets, element_octets, kept_octets, octets, content}
 
 pub length-header_octets : (id size : ℕ) → length (header_octets id size) ≡ uint_width id + least_size_width size
 length-header_octets id size =
@@ -19,3 +20,8 @@ length-kept_octets id body size is keeps =
 -- one that is left out has none
 pub length-filler : (id : ℕ) (body : List ℕ) → is_filler id ≡ true → length (kept_octets id body) ≡ 0
 length-filler id body goes = rw goes refl
+
+-- what is written is a header and what is behind it, or nothing
+pub octets-kept : (n : Node) → octets n ≡ kept_octets (id_of n) (content n)
+octets-kept (leaf id at body) = refl
+octets-kept (master id at kids) = refl

@@ -1,8 +1,12 @@
 -- A tree keeps the limits that the law of the normal form asks for.
 use Rattle.tree_format.proofs.AgainLemmas.{sound-again}
 use Rattle.tree_format.proofs.PlacedLemmas.{octets-placed_in}
+use Rattle.tree_format.proofs.WrittenLemmas.{octets-kept}
 use Rattle.ebml_tree.proofs.ContentLemmas.{view_limits}
 use Rattle.ebml_tree.proofs.tree.Tree.put.Goals as goal
+
+pub returns-clause-header : goal.returns-clause-header
+returns-clause-header c = octets-kept c.args.self.now
 
 pub returns-clause-again : goal.returns-clause-again
 returns-clause-again c = λ nodes is sound few.
