@@ -1,0 +1,67 @@
+-- The values of Elements that stand where the table allows them.
+use Rattle.std.proofs.Common.{◌≡◌, ℕ, zero, suc, ◌<◌, ◌==◌, eqb-true, Bool, true, false, cond, List, [], ◌∷◌, length, find, get_or, Some, sym, subst, refl, ap, ◌∙◌, arith}
+use Rattle.std.proofs.lemmas.Str.{IsUtf8-nil, is_utf8-from_IsUtf8}
+use Rattle.mkv_schema.specs.declared.kind.ElementKind.{ElementKind}
+use Rattle.mkv_schema.specs.declared.kind.ElementKind.TheVariants.{Master, Uint, Int, Float, Ascii, Utf8, Date, Binary}
+use Rattle.mkv_schema.specs.Schema.{kind_of, may_stand}
+use Rattle.matroska_format.specs.Value.{is_value}
+use Rattle.tree_format.specs.Node.{Node, Nodes, leaf, master, nodes_of, id_of, body_of, children}
+use Rattle.tree_format.specs.Standing.{StandsIn, AllStandIn, IsSound}
+use Rattle.tree_format.proofs.NodeLemmas.{nodes-list}
+use Rattle.track_format.specs.Value.{first_child}
+
+-- no octets are a value of every kind
+value-nil : (kind : ElementKind) → is_value kind [] ≡ true
+value-nil Master = refl
+value-nil Uint = refl
+value-nil Int = refl
+value-nil Float = refl
+value-nil Ascii = is_utf8-from_IsUtf8 [] IsUtf8-nil
+value-nil Utf8 = is_utf8-from_IsUtf8 [] IsUtf8-nil
+value-nil Date = refl
+value-nil Binary = refl
+
+-- what stands under a parent has a value of the kind that the table has there
+pub stands-value : (parent : ℕ) (kind : ElementKind) (n : Node) → StandsIn parent n → may_stand (id_of n) parent ≡ true → kind_of (id_of n) ≡ Some kind → is_value kind (body_of n) ≡ true
+stands-value parent kind (leaf id at body) stands may is = rw (may, is) at stands.value
+stands-value parent kind (master id at kids) stands may is = value-nil kind
+
+-- what is found among Elements that stand stands
+stand-find : (parent : ℕ) (test : Node → Bool) (ns : List Node) (m : Node) → AllStandIn parent (nodes_of ns) → find test ns ≡ Some m → StandsIn parent m × (test m ≡ true)
+stand-find parent test [] m stand found = absurd (cc)
+stand-find parent test (n ∷ ns) m stand found = split (test n) refl (stand-find parent test ns m stand.1) found
+  where
+    split : (b : Bool) → test n ≡ b → (find test ns ≡ Some m → StandsIn parent m × (test m ≡ true)) → cond b (Some n) (find test ns) ≡ Some m → StandsIn parent m × (test m ≡ true)
+    split true is rest found =
+        let same : n ≡ m = cc in
+        let P : Node → Type 0 = λ k. StandsIn parent k × (test k ≡ true) in
+        subst P same (stand.0, is)
+    split false is rest found = rest found
+
+-- the children of a sound tree stand in it
+sound-stand : (tree : Node) → IsSound tree → AllStandIn (id_of tree) (nodes_of (children tree))
+sound-stand (leaf id at body) sound = tt
+sound-stand (master id at kids) sound = let P : Nodes → Type 0 = AllStandIn id in subst P (sym (nodes-list kids)) sound
+
+stand-get : (parent : ℕ) (ns : List Node) (i : ℕ) (n : Node) → AllStandIn parent (nodes_of ns) → i < length ns → n ≡ get_or ns i n → StandsIn parent n
+stand-get parent [] i n stand inside is = absurd (omega arith)
+stand-get parent (m ∷ ns) zero n stand inside is = let P : Node → Type 0 = StandsIn parent in subst P (sym is) stand.0
+stand-get parent (m ∷ ns) (suc i) n stand inside is = stand-get parent ns i n stand.1 (omega arith) is
+
+-- so does each of them
+pub child-stands : (tree n : Node) (ns : List Node) (i : ℕ) → IsSound tree → ns ≡ children tree → i < length ns → n ≡ get_or ns i n → StandsIn (id_of tree) n
+child-stands tree n ns i sound are inside is =
+    let P : List Node → Type 0 = λ ms. AllStandIn (id_of tree) (nodes_of ms) in
+    stand-get (id_of tree) ns i n (subst P (sym are) (sound-stand tree sound)) inside is
+
+-- what stands is sound
+pub stands-sound : (parent : ℕ) (n : Node) → StandsIn parent n → IsSound n
+stands-sound parent (leaf id at body) stands = tt
+stands-sound parent (master id at kids) stands = stands.1
+
+-- the first child of an ID that the table has in a sound tree has a value of its kind
+pub first_child-value : (tree n : Node) (id : ℕ) (kind : ElementKind) → IsSound tree → may_stand id (id_of tree) ≡ true → kind_of id ≡ Some kind → first_child id tree ≡ Some n → is_value kind (body_of n) ≡ true
+first_child-value tree n id kind sound may is found =
+    let there = stand-find (id_of tree) (λ m. id_of m == id) (children tree) n (sound-stand tree sound) found in
+    let same : id_of n ≡ id = eqb-true (id_of n) id there.1 in
+    stands-value (id_of tree) kind n there.0 (ap (λ k. may_stand k (id_of tree)) same ∙ may) (ap kind_of same ∙ is)

@@ -1,0 +1,4 @@
+pub mod Value
+pub mod Entry
+pub mod Refusal
+pub mod TrackType
