@@ -1,0 +1,16 @@
+-- The TrackEntries among the children of a Tracks Element.
+use Rattle.std.proofs.Common.{◌≡◌, ◌<◌, ℕ, ◌==◌, List, length, filter, drop, get_or}
+use Rattle.mkv_schema.specs.declared.ids.TheConstants.{TRACK_ENTRY}
+use Rattle.tree_format.specs.Node.{Node, id_of, children}
+use Rattle.tree_format.specs.Standing.{IsSound}
+use Rattle.track_format.proofs.ValueLemmas.{child-stands, stands-sound}
+use Rattle.track_records.specs.Sound.{IsEntry}
+
+-- the TrackEntries from an index on
+abbrev pub entries_from : ℕ → List Node → List Node
+entries_from i ns = filter (λ n. id_of n == TRACK_ENTRY) (drop i ns)
+
+-- a TrackEntry in a sound tree is sound
+pub child-entry : (tracks n : Node) (ns : List Node) (i id : ℕ) → IsSound tracks → ns ≡ children tracks → i < length ns → n ≡ get_or ns i n → id ≡ id_of n → id ≡ TRACK_ENTRY → IsEntry n
+child-entry tracks n ns i id sound are inside is of same =
+    record { id = cc; sound = stands-sound (id_of tracks) n (child-stands tracks n ns i sound are inside is) }

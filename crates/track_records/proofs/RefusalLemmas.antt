@@ -1,0 +1,102 @@
+-- What refuses a Tracks Element, one step at a time.
+use Rattle.std.proofs.Common.{◌≡◌, ◌<◌, ℕ, suc, ◌+◌, ◌-◌, ◌==◌, Bool, true, false, not, ◌&&◌, ◌||◌, cond, List, [], ◌∷◌, length, drop, find, get_or, Option, Some, nat_le, refl, sym, ap, ap₂, subst, ◌∙◌, arith, add-one, eqb-true}
+use Rattle.std.proofs.Math.Seq.{drop-cons}
+use Rattle.std.proofs.lemmas.Bool.Decides.{nat_tests}
+use Rattle.std.specs.List.{range_with_len}
+use Rattle.mkv_schema.specs.declared.ids.TheConstants.{TRACK_NUMBER, DEFAULT_DURATION}
+use Rattle.tree_format.specs.Node.{Node, id_of}
+use Rattle.tree_format.specs.Changes.{without}
+use Rattle.track_format.specs.Value.{integer_of}
+use Rattle.track_format.specs.Refusal.{firsts, is_bad, too_long}
+use Rattle.track_records.specs.Met.{is_met}
+
+-- a bad value of an ID that wasn't met
+abbrev pub is_new_bad : Bool → Bool → Node → Bool
+is_new_bad numbered timed n = not (is_met numbered timed (id_of n)) && is_bad n
+
+-- ---- tests
+
+-- a value of the same ID isn't new any more
+same_id : (a b t d z y : Bool) → not (((a || t) && t) || ((b || d) && d)) && ((t && z) || (d && y)) ≡ false
+same_id true b true d z y = refl
+same_id false b true d z y = refl
+same_id true true false true z y = refl
+same_id true false false true z y = refl
+same_id false true false true z y = refl
+same_id false false false true z y = refl
+same_id true true false false z y = refl
+same_id true false false false z y = refl
+same_id false true false false z y = refl
+same_id false false false false z y = refl
+
+-- one of another ID is as new as before
+other_id : (a u t : Bool) → t && u ≡ false → (a || u) && t ≡ a && t
+other_id true u t apart = refl
+other_id false true true apart = absurd (cc)
+other_id false true false apart = refl
+other_id false false t apart = refl
+
+apart_of : (x k c : ℕ) → (x == k) ≡ false → (x == c) && (k == c) ≡ false
+apart_of x k c other = grind (arith, nat_tests)
+
+-- behind an Element the new ones are those of other IDs
+new_next : (a b : Bool) (n m : Node) → not (id_of m == id_of n) && is_new_bad a b m ≡ is_new_bad (a || id_of n == TRACK_NUMBER) (b || id_of n == DEFAULT_DURATION) m
+new_next a b n m = split (id_of m == id_of n) refl
+  where
+    split : (p : Bool) → (id_of m == id_of n) ≡ p → not p && is_new_bad a b m ≡ is_new_bad (a || id_of n == TRACK_NUMBER) (b || id_of n == DEFAULT_DURATION) m
+    split true is =
+        let P : ℕ → Type 0 = λ k. false ≡ not (((a || k == TRACK_NUMBER) && id_of m == TRACK_NUMBER) || ((b || k == DEFAULT_DURATION) && id_of m == DEFAULT_DURATION)) && is_bad m in
+        subst P (eqb-true (id_of m) (id_of n) is) (sym (same_id a b (id_of m == TRACK_NUMBER) (id_of m == DEFAULT_DURATION) (integer_of m == 0) (nat_le too_long (integer_of m))))
+    split false is =
+        ap₂ (λ s t. not (s || t) && is_bad m)
+        (sym (other_id a (id_of n == TRACK_NUMBER) (id_of m == TRACK_NUMBER) (apart_of (id_of m) (id_of n) TRACK_NUMBER is)))
+        (sym (other_id b (id_of n == DEFAULT_DURATION) (id_of m == DEFAULT_DURATION) (apart_of (id_of m) (id_of n) DEFAULT_DURATION is)))
+
+-- ---- the first that passes
+
+find-same : (p q : Node → Bool) → ((m : Node) → p m ≡ q m) → (ns : List Node) → find p ns ≡ find q ns
+find-same p q same [] = refl
+find-same p q same (n ∷ ns) = ap₂ (λ t r. cond t (Some n) r) (same n) (find-same p q same ns)
+
+find-without : (p : Node → Bool) (id : ℕ) (ns : List Node) → find p (without id ns) ≡ find (λ m. not (id_of m == id) && p m) ns
+find-without p id [] = refl
+find-without p id (n ∷ ns) = split (not (id_of n == id)) (find-without p id ns)
+  where
+    split : (keep : Bool) → find p (without id ns) ≡ find (λ m. not (id_of m == id) && p m) ns
+        → find p (cond keep (n ∷ without id ns) (without id ns)) ≡ cond (keep && p n) (Some n) (find (λ m. not (id_of m == id) && p m) ns)
+    split true rest = ap (cond (p n) (Some n)) rest
+    split false rest = rest
+
+-- ---- the first bad value
+
+-- what is left of a list begins with its next item
+next-is : (i : ℕ) (ns : List Node) (n : Node) → i < length ns → n ≡ get_or ns i n → drop i ns ≡ n ∷ drop (i + 1) ns
+next-is i ns n inside is = drop-cons ns i n inside ∙ rw (add-one, ← is) refl
+
+-- behind a child that isn't bad, or not new, what is left tells the same
+pub bad-next : (a b : Bool) (i id : ℕ) (ns : List Node) (n : Node) (all : Option Node) → i < length ns → n ≡ get_or ns i n → id ≡ id_of n → is_new_bad a b n ≡ false → find (is_new_bad a b) (firsts (drop i ns)) ≡ all
+    → find (is_new_bad (a || id == TRACK_NUMBER) (b || id == DEFAULT_DURATION)) (firsts (drop (i + 1) ns)) ≡ all
+bad-next a b i id ns n all inside is of old same =
+    let rest = firsts (drop (i + 1) ns) in
+    let step : find (is_new_bad a b) (firsts (drop i ns)) ≡ find (is_new_bad a b) (without (id_of n) rest) =
+    ap (λ l. find (is_new_bad a b) (firsts l)) (next-is i ns n inside is) ∙ rw old refl in
+    let new = find-same (λ m. not (id_of m == id_of n) && is_new_bad a b m) (is_new_bad (a || id_of n == TRACK_NUMBER) (b || id_of n == DEFAULT_DURATION)) (new_next a b n) rest in
+    rw of (sym new ∙ sym (find-without (is_new_bad a b) (id_of n) rest) ∙ sym step ∙ same)
+
+pub met-old : (a b : Bool) (n : Node) (id : ℕ) (met : Bool) → id ≡ id_of n → met ≡ is_met a b id → met ≡ true → is_new_bad a b n ≡ false
+met-old a b n id met of is yes' = let old : is_met a b (id_of n) ≡ true = rw (← of, ← is) yes' in rw old refl
+
+pub good-old : (a b : Bool) (n : Node) (bad : Bool) → bad ≡ is_bad n → bad ≡ false → is_new_bad a b n ≡ false
+good-old a b n bad is no' = split (not (is_met a b (id_of n))) (sym is ∙ no')
+  where
+    split : (new : Bool) → is_bad n ≡ false → new && is_bad n ≡ false
+    split true good = good
+    split false good = refl
+
+-- ---- the first repeated number
+
+pub range-next : (k n : ℕ) → k < n → range_with_len k (n - k) ≡ k ∷ range_with_len (k + 1) (n - (k + 1))
+range-next k n inside = let more : n - k ≡ suc (n - (k + 1)) = omega arith in ap (range_with_len k) more
+
+pub find-passes : (p : ℕ → Bool) (k n : ℕ) (all : Option ℕ) → k < n → p k ≡ false → find p (range_with_len k (n - k)) ≡ all → find p (range_with_len (k + 1) (n - (k + 1))) ≡ all
+find-passes p k n all inside passes same = sym (ap (find p) (range-next k n inside) ∙ rw passes refl) ∙ same

@@ -1,0 +1,9 @@
+-- What is left tells what all tell, but for what was met.
+use Rattle.std.proofs.Common.{◌≡◌, drop, find}
+use Rattle.tree_format.specs.Node.{children}
+use Rattle.track_format.specs.Refusal.{firsts, is_bad}
+use Rattle.track_records.proofs.RefusalLemmas.{is_new_bad}
+use Rattle.track_records.proofs.refusal.bad_value.Given as goal
+
+abbrev pub invariant-loop-child : goal.invariant-loop-child
+invariant-loop-child l = find (is_new_bad l.numbered l.timed) (firsts (drop l.child-index l.child-items)) ≡ find is_bad (firsts (children l.entry))

@@ -1,0 +1,4 @@
+pub mod Sound
+pub mod Met
+pub mod Track
+pub mod Outcome

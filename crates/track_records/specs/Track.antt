@@ -1,0 +1,25 @@
+-- A Tracks Element's entries as tracks.
+use Rattle.std.specs.Prelude.{List, map, Result}
+use Rattle.mkv_values.specs.declared.damage.Damage.{Damage}
+use Rattle.matroska_format.specs.Outline.{unless}
+use Rattle.tree_format.specs.Node.{Node, offset_of}
+use Rattle.track_format.specs.Entry.{entries_of, number_of, uid_of, type_of, codec_of, language_of, default_duration_of}
+use Rattle.track_format.specs.Refusal.{refusal_of}
+use Rattle.track_records.specs.declared.track.Track.{Track}
+
+-- what an entry says of its track
+abbrev pub track_of : Node → Track
+track_of entry = record {
+  number = number_of entry;
+  uid = uid_of entry;
+  kind = type_of entry;
+  codec = codec_of entry;
+  language = language_of entry;
+  default_duration = default_duration_of entry;
+  offset = offset_of entry;
+  entry = entry;
+}
+
+-- the tracks in the order of the entries, unless something refuses them
+abbrev pub tracks_of : Node → Result (List Track) Damage
+tracks_of tracks = unless (refusal_of tracks) (map track_of (entries_of tracks))

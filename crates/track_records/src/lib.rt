@@ -1,0 +1,15 @@
+#![tactic(auto)]
+
+//! The tracks of a file: the entries of a Tracks Element that is held as a tree, as values, or the first
+//! thing that refuses them (RFC 9559, section 5.1.4, Tracks Element).
+
+mod entry;
+mod refusal;
+mod track;
+mod tracks;
+
+pub use track::Track;
+pub use tracks::read_tracks;
+
+#[cfg(test)]
+mod tests;

@@ -1,0 +1,177 @@
+//! What refuses a Tracks Element: RFC 9559, section 5.1.4 (Tracks Element).
+
+ghost use Rattle.std.specs.Prelude.{◌≡◌, map, IfOk, is_none};
+ghost use Rattle.mkv_schema.specs.declared.ids.TheConstants.{TRACK_ENTRY as ENTRY_ID};
+ghost use Rattle.matroska_format.specs.Element.{damage};
+ghost use Rattle.tree_format.specs.Standing.{IsSound, StandsIn};
+ghost use Rattle.track_format.specs.Value.{first_child};
+ghost use Rattle.track_format.specs.Entry.{entries_of, number_of};
+ghost use Rattle.track_format.specs.Refusal.{is_bad, bad_value, missing_child, first_in, told_at, first_repeated, repeated_number, refusal_of};
+ghost use Rattle.track_records.specs.Sound.{IsEntry};
+ghost use Rattle.track_records.specs.Met.{is_met};
+
+use crate::entry::number_of;
+use ebml_tree::Tree;
+use mkv_schema::ids::{CODEC_ID, DEFAULT_DURATION, TRACK_ENTRY, TRACK_NUMBER, TRACK_TYPE};
+use mkv_values::{Damage, Kind};
+use std::alloc::{AllocError, Global};
+
+/// The least DefaultDuration that is refused, in nanoseconds.
+const TOO_LONG: u64 = 1 << 48;
+
+/// What an entry must have, in the order in which it is missed.
+const MANDATORY: [u32; 3] = [TRACK_NUMBER, TRACK_TYPE, CODEC_ID];
+
+/// The most entries.
+const MOST_TRACKS: usize = 1024;
+
+// A TrackNumber of 0, or a DefaultDuration that is too long.
+fn is_bad(child: &Tree) -> bool
+    requires { StandsIn ENTRY_ID child.now }
+    ensures { result ≡ is_bad child.now }
+{
+    match child.id() {
+        TRACK_NUMBER => child.uint() == 0,
+        DEFAULT_DURATION => child.uint() >= TOO_LONG,
+        _ => false,
+    }
+}
+
+// Whether a value of this ID was met, by which of the two that may be bad were.
+fn is_met(numbered: bool, timed: bool, id: u32) -> bool
+    ensures { result ≡ is_met numbered timed id }
+{
+    numbered && id == TRACK_NUMBER || timed && id == DEFAULT_DURATION
+}
+
+// The first value of an entry that is bad.
+fn bad_value(entry: &Tree) -> Option<Damage>
+    requires { IsEntry entry.now }
+    ensures { result ≡ bad_value entry.now }
+{
+    let mut numbered = false;
+    let mut timed = false;
+    for child in entry.children() {
+        let id = child.id();
+        if !is_met(numbered, timed, id) && is_bad(child) {
+            return Some(Damage {
+                kind: Kind::BadValue,
+                id,
+                offset: child.offset(),
+            });
+        }
+        numbered |= id == TRACK_NUMBER;
+        timed |= id == DEFAULT_DURATION;
+    }
+    None
+}
+
+fn lacks(entry: &Tree, id: u32) -> bool
+    ensures { result ≡ is_none (first_child id entry.now) }
+{
+    entry.child(id).is_none()
+}
+
+// What an entry lacks.
+fn missing_child(entry: &Tree) -> Option<Damage>
+    ensures { result ≡ missing_child entry.now }
+{
+    let id = MANDATORY.iter().find(|id| lacks(entry, **id))?;
+    Some(Damage {
+        kind: Kind::MissingChild,
+        id: *id,
+        offset: entry.offset(),
+    })
+}
+
+// The first bad value of all entries.
+fn first_bad_value(tracks: &Tree) -> Option<Damage>
+    requires { IsSound tracks.now }
+    ensures { result ≡ first_in bad_value (entries_of tracks.now) }
+{
+    for child in tracks.children() {
+        if child.id() == TRACK_ENTRY {
+            if let Some(damage) = bad_value(child) {
+                return Some(damage);
+            }
+        }
+    }
+    None
+}
+
+// What the first entry lacks that lacks something.
+fn first_missing_child(tracks: &Tree) -> Option<Damage>
+    ensures { result ≡ first_in missing_child (entries_of tracks.now) }
+{
+    for child in tracks.children() {
+        if child.id() == TRACK_ENTRY {
+            if let Some(damage) = missing_child(child) {
+                return Some(damage);
+            }
+        }
+    }
+    None
+}
+
+// The TrackNumbers of the entries.
+fn numbers_of(alloc: Global, tracks: &Tree) -> Result<Vec<u64>, AllocError>
+    requires { IsSound tracks.now }
+    ensures { IfOk result (λ numbers. numbers.items ≡ map number_of (entries_of tracks.now)) }
+{
+    let mut numbers = Vec::new(alloc);
+    for child in tracks.children() {
+        if child.id() == TRACK_ENTRY {
+            numbers.push(number_of(child))?;
+        }
+    }
+    Ok(numbers)
+}
+
+// The least index whose number stands before it.
+fn first_repeated(numbers: &[u64]) -> Option<usize>
+    ensures { result ≡ first_repeated numbers.now }
+{
+    for k in 0..numbers.len() {
+        if numbers[..k].contains(&numbers[k]) {
+            return Some(k);
+        }
+    }
+    None
+}
+
+// A damage at the place of an entry, counted from 0.
+fn told_at(tracks: &Tree, kind: Kind, id: u32, k: usize) -> Option<Damage>
+    ensures { result ≡ told_at (entries_of tracks.now) (damage kind id) k }
+{
+    let entry = tracks.nth(TRACK_ENTRY, k)?;
+    Some(Damage {
+        kind,
+        id,
+        offset: entry.offset(),
+    })
+}
+
+// The first entry with the TrackNumber of one before it.
+fn repeated_number(alloc: Global, tracks: &Tree) -> Result<Option<Damage>, AllocError>
+    requires { IsSound tracks.now }
+    ensures { IfOk result (λ damage. damage ≡ repeated_number (entries_of tracks.now)) }
+{
+    let numbers = numbers_of(alloc, tracks)?;
+    match first_repeated(numbers.as_slice()) {
+        Some(k) => Ok(told_at(tracks, Kind::RepeatedTrack, TRACK_NUMBER, k)),
+        None => Ok(None),
+    }
+}
+
+/// What refuses a Tracks Element.
+pub(crate) fn refusal_of(alloc: Global, tracks: &Tree) -> Result<Option<Damage>, AllocError>
+    requires { IsSound tracks.now }
+    ensures { IfOk result (λ damage. damage ≡ refusal_of tracks.now) }
+{
+    let own = first_bad_value(tracks).or(first_missing_child(tracks));
+    if own.is_some() {
+        return Ok(own);
+    }
+    let repeated = repeated_number(alloc, tracks)?;
+    Ok(repeated.or(told_at(tracks, Kind::TooMany, TRACK_ENTRY, MOST_TRACKS)))
+}

@@ -1,0 +1,43 @@
+//! The tracks of a Tracks Element: RFC 9559, section 5.1.4 (Tracks Element).
+
+ghost use Rattle.std.specs.Prelude.{◌≡◌, map, IfOk};
+ghost use Rattle.tree_format.specs.Standing.{IsSound};
+ghost use Rattle.track_format.specs.Entry.{entries_of};
+ghost use Rattle.track_records.specs.Track.{track_of, tracks_of};
+ghost use Rattle.track_records.specs.Outcome.{ReadsTracks};
+
+use crate::entry::track_of;
+use crate::refusal::refusal_of;
+use crate::track::Track;
+use ebml_tree::{Tree, TreeEnd};
+use mkv_schema::ids::TRACK_ENTRY;
+use mkv_values::List;
+use std::alloc::{AllocError, Global};
+
+// The entries as tracks.
+fn tracks_in(alloc: Global, tracks: &Tree) -> Result<List<Track>, AllocError>
+    requires { IsSound tracks.now }
+    ensures { IfOk result (λ list. list ≡ map track_of (entries_of tracks.now)) }
+{
+    let mut list = List::new(alloc);
+    for child in tracks.children() {
+        if child.id() == TRACK_ENTRY {
+            list.push(track_of(alloc, child)?)?;
+        }
+    }
+    Ok(list)
+}
+
+/// The tracks of a Tracks Element in the order of its entries, or what refuses them.
+///
+/// Of all entries the first bad value is told before the first child that is missing, then the first
+/// repeated TrackNumber, then the 1,025th entry.
+pub fn read_tracks(alloc: Global, tracks: &Tree) -> Result<List<Track>, TreeEnd>
+    requires { IsSound tracks.now }
+    ensures { ReadsTracks result (tracks_of tracks.now) }
+{
+    match refusal_of(alloc, tracks)? {
+        Some(damage) => Err(TreeEnd::Damage(damage)),
+        None => Ok(tracks_in(alloc, tracks)?),
+    }
+}
