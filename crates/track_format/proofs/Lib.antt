@@ -1,2 +1,4 @@
 pub mod ValueLemmas
+pub mod FirstLemmas
+pub mod TracksLemmas
 pub mod StandardFacts

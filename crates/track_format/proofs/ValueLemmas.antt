@@ -1,6 +1,8 @@
 -- The values of Elements that stand where the table allows them.
-use Rattle.std.proofs.Common.{◌≡◌, ℕ, zero, suc, ◌<◌, ◌==◌, eqb-true, Bool, true, false, cond, List, [], ◌∷◌, length, find, get_or, Some, sym, subst, refl, ap, ◌∙◌, arith}
+use Rattle.std.proofs.Common.{◌≡◌, ℕ, zero, suc, ◌<◌, ◌==◌, eqb-true, Bool, true, false, cond, List, [], ◌∷◌, length, find, get_or, Some, sym, subst, refl, ap, ◌∙◌, arith, All}
+use Rattle.std.proofs.lemmas.List.Elements.{All-nil, All-cons, All-filter}
 use Rattle.std.proofs.lemmas.Str.{IsUtf8-nil, is_utf8-from_IsUtf8}
+use Rattle.mkv_schema.specs.declared.ids.TheConstants.{TRACK_ENTRY}
 use Rattle.mkv_schema.specs.declared.kind.ElementKind.{ElementKind}
 use Rattle.mkv_schema.specs.declared.kind.ElementKind.TheVariants.{Master, Uint, Int, Float, Ascii, Utf8, Date, Binary}
 use Rattle.mkv_schema.specs.Schema.{kind_of, may_stand}
@@ -9,6 +11,7 @@ use Rattle.tree_format.specs.Node.{Node, Nodes, leaf, master, nodes_of, id_of, b
 use Rattle.tree_format.specs.Standing.{StandsIn, AllStandIn, IsSound}
 use Rattle.tree_format.proofs.NodeLemmas.{nodes-list}
 use Rattle.track_format.specs.Value.{first_child}
+use Rattle.track_format.specs.Entry.{entries_of}
 
 -- no octets are a value of every kind
 value-nil : (kind : ElementKind) → is_value kind [] ≡ true
@@ -65,3 +68,11 @@ first_child-value tree n id kind sound may is found =
     let there = stand-find (id_of tree) (λ m. id_of m == id) (children tree) n (sound-stand tree sound) found in
     let same : id_of n ≡ id = eqb-true (id_of n) id there.1 in
     stands-value (id_of tree) kind n there.0 (ap (λ k. may_stand k (id_of tree)) same ∙ may) (ap kind_of same ∙ is)
+
+-- the children of a sound tree are sound, and so are its TrackEntries
+all-sound : (parent : ℕ) (ns : List Node) → AllStandIn parent (nodes_of ns) → All IsSound ns
+all-sound parent [] stand = All-nil IsSound
+all-sound parent (n ∷ ns) stand = All-cons IsSound n ns (stands-sound parent n stand.0) (all-sound parent ns stand.1)
+
+pub entries-sound : (tracks : Node) → IsSound tracks → All IsSound (entries_of tracks)
+entries-sound tracks sound = All-filter (λ n. id_of n == TRACK_ENTRY) IsSound (children tracks) (all-sound (id_of tracks) (children tracks) (sound-stand tracks sound))

@@ -1,3 +1,4 @@
 pub mod EntryLemmas
 pub mod EntriesLemmas
 pub mod RefusalLemmas
+pub mod TracksLemmas

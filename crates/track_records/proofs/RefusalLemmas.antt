@@ -1,5 +1,5 @@
 -- What refuses a Tracks Element, one step at a time.
-use Rattle.std.proofs.Common.{◌≡◌, ◌<◌, ℕ, suc, ◌+◌, ◌-◌, ◌==◌, Bool, true, false, not, ◌&&◌, ◌||◌, cond, List, [], ◌∷◌, length, drop, find, get_or, Option, Some, nat_le, refl, sym, ap, ap₂, subst, ◌∙◌, arith, add-one, eqb-true}
+use Rattle.std.proofs.Common.{◌≡◌, ◌<◌, ℕ, suc, ◌+◌, ◌-◌, ◌==◌, Bool, true, false, not, ◌&&◌, ◌||◌, List, ◌∷◌, length, drop, find, get_or, Option, nat_le, refl, sym, ap, ap₂, subst, ◌∙◌, arith, add-one, eqb-true}
 use Rattle.std.proofs.Math.Seq.{drop-cons}
 use Rattle.std.proofs.lemmas.Bool.Decides.{nat_tests}
 use Rattle.std.specs.List.{range_with_len}
@@ -8,6 +8,7 @@ use Rattle.tree_format.specs.Node.{Node, id_of}
 use Rattle.tree_format.specs.Changes.{without}
 use Rattle.track_format.specs.Value.{integer_of}
 use Rattle.track_format.specs.Refusal.{firsts, is_bad, too_long}
+use Rattle.track_format.proofs.FirstLemmas.{find-same, find-without}
 use Rattle.track_records.specs.Met.{is_met}
 
 -- a bad value of an ID that wasn't met
@@ -52,21 +53,6 @@ new_next a b n m = split (id_of m == id_of n) refl
         (sym (other_id a (id_of n == TRACK_NUMBER) (id_of m == TRACK_NUMBER) (apart_of (id_of m) (id_of n) TRACK_NUMBER is)))
         (sym (other_id b (id_of n == DEFAULT_DURATION) (id_of m == DEFAULT_DURATION) (apart_of (id_of m) (id_of n) DEFAULT_DURATION is)))
 
--- ---- the first that passes
-
-find-same : (p q : Node → Bool) → ((m : Node) → p m ≡ q m) → (ns : List Node) → find p ns ≡ find q ns
-find-same p q same [] = refl
-find-same p q same (n ∷ ns) = ap₂ (λ t r. cond t (Some n) r) (same n) (find-same p q same ns)
-
-find-without : (p : Node → Bool) (id : ℕ) (ns : List Node) → find p (without id ns) ≡ find (λ m. not (id_of m == id) && p m) ns
-find-without p id [] = refl
-find-without p id (n ∷ ns) = split (not (id_of n == id)) (find-without p id ns)
-  where
-    split : (keep : Bool) → find p (without id ns) ≡ find (λ m. not (id_of m == id) && p m) ns
-        → find p (cond keep (n ∷ without id ns) (without id ns)) ≡ cond (keep && p n) (Some n) (find (λ m. not (id_of m == id) && p m) ns)
-    split true rest = ap (cond (p n) (Some n)) rest
-    split false rest = rest
-
 -- ---- the first bad value
 
 -- what is left of a list begins with its next item
@@ -84,10 +70,10 @@ bad-next a b i id ns n all inside is of old same =
     rw of (sym new ∙ sym (find-without (is_new_bad a b) (id_of n) rest) ∙ sym step ∙ same)
 
 pub met-old : (a b : Bool) (n : Node) (id : ℕ) (met : Bool) → id ≡ id_of n → met ≡ is_met a b id → met ≡ true → is_new_bad a b n ≡ false
-met-old a b n id met of is yes' = let old : is_met a b (id_of n) ≡ true = rw (← of, ← is) yes' in rw old refl
+met-old a b n id met of is holds = let old : is_met a b (id_of n) ≡ true = rw (← of, ← is) holds in rw old refl
 
 pub good-old : (a b : Bool) (n : Node) (bad : Bool) → bad ≡ is_bad n → bad ≡ false → is_new_bad a b n ≡ false
-good-old a b n bad is no' = split (not (is_met a b (id_of n))) (sym is ∙ no')
+good-old a b n bad is fails = split (not (is_met a b (id_of n))) (sym is ∙ fails)
   where
     split : (new : Bool) → is_bad n ≡ false → new && is_bad n ≡ false
     split true good = good
@@ -95,7 +81,7 @@ good-old a b n bad is no' = split (not (is_met a b (id_of n))) (sym is ∙ no')
 
 -- ---- the first repeated number
 
-pub range-next : (k n : ℕ) → k < n → range_with_len k (n - k) ≡ k ∷ range_with_len (k + 1) (n - (k + 1))
+range-next : (k n : ℕ) → k < n → range_with_len k (n - k) ≡ k ∷ range_with_len (k + 1) (n - (k + 1))
 range-next k n inside = let more : n - k ≡ suc (n - (k + 1)) = omega arith in ap (range_with_len k) more
 
 pub find-passes : (p : ℕ → Bool) (k n : ℕ) (all : Option ℕ) → k < n → p k ≡ false → find p (range_with_len k (n - k)) ≡ all → find p (range_with_len (k + 1) (n - (k + 1))) ≡ all

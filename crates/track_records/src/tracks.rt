@@ -1,8 +1,9 @@
 //! The tracks of a Tracks Element: RFC 9559, section 5.1.4 (Tracks Element).
 
-ghost use Rattle.std.specs.Prelude.{◌≡◌, map, IfOk};
+ghost use Rattle.std.specs.Prelude.{◌≡◌, ◌≢◌, map, All, IfOk, IfErr};
 ghost use Rattle.tree_format.specs.Standing.{IsSound};
 ghost use Rattle.track_format.specs.Entry.{entries_of};
+ghost use Rattle.track_format.specs.Tracks.{AreTracks};
 ghost use Rattle.track_records.specs.Track.{track_of, tracks_of};
 ghost use Rattle.track_records.specs.Outcome.{ReadsTracks};
 
@@ -28,11 +29,8 @@ fn tracks_in(alloc: Global, tracks: &Tree) -> Result<List<Track>, AllocError>
     Ok(list)
 }
 
-/// The tracks of a Tracks Element in the order of its entries, or what refuses them.
-///
-/// Of all entries the first bad value is told before the first child that is missing, then the first
-/// repeated TrackNumber, then the 1,025th entry.
-pub fn read_tracks(alloc: Global, tracks: &Tree) -> Result<List<Track>, TreeEnd>
+// The tracks that the definition has.
+fn read(alloc: Global, tracks: &Tree) -> Result<List<Track>, TreeEnd>
     requires { IsSound tracks.now }
     ensures { ReadsTracks result (tracks_of tracks.now) }
 {
@@ -40,4 +38,20 @@ pub fn read_tracks(alloc: Global, tracks: &Tree) -> Result<List<Track>, TreeEnd>
         Some(damage) => Err(TreeEnd::Damage(damage)),
         None => Ok(tracks_in(alloc, tracks)?),
     }
+}
+
+/// The tracks of a Tracks Element in the order of its entries, or what refuses them.
+///
+/// Of all entries the first bad value is told before the first child that is missing, then the first
+/// repeated TrackNumber, then the 1,025th entry.
+pub fn read_tracks(alloc: Global, tracks: &Tree) -> Result<List<Track>, TreeEnd>
+    requires { IsSound tracks.now }
+    ensures exact { ReadsTracks result (tracks_of tracks.now) }
+
+    // The entries are refused exactly where they aren't tracks; those that are given are sound.
+    ensures taken { IfOk result (λ list. AreTracks (entries_of tracks.now)) }
+    ensures refused { IfErr result (λ end. end ≢ TreeEnd.Memory → ¬ AreTracks (entries_of tracks.now)) }
+    ensures sound { IfOk result (All (λ track. IsSound track.entry)) }
+{
+    read(alloc, tracks)
 }
