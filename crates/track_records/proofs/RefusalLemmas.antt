@@ -1,8 +1,11 @@
 -- What refuses a Tracks Element, one step at a time.
-use Rattle.std.proofs.Common.{◌≡◌, ◌<◌, ℕ, suc, ◌+◌, ◌-◌, ◌==◌, Bool, true, false, not, ◌&&◌, ◌||◌, List, ◌∷◌, length, drop, find, get_or, Option, nat_le, refl, sym, ap, ap₂, subst, ◌∙◌, arith, add-one, eqb-true}
+use Rattle.std.proofs.Common.{◌≡◌, ◌<◌, ℕ, suc, ◌+◌, ◌-◌, ◌==◌, Bool, true, false, not, ◌&&◌, ◌||◌, List, ◌∷◌, length, take, drop, find, get_or, Option, cond, nat_le, nat_lt, nat_cmp, refl, sym, ap, ap₂, subst, ◌∙◌, arith, add-one, eqb-true}
 use Rattle.std.proofs.Math.Seq.{drop-cons}
 use Rattle.std.proofs.lemmas.Bool.Decides.{nat_tests}
-use Rattle.std.specs.List.{range_with_len}
+use Rattle.std.specs.List.{list_any, range_with_len}
+use Rattle.std.specs.Ordering.{is_eq}
+use Rattle.std.specs.declared.cmp.Ordering.TheVariants.{Less, Equal, Greater}
+use Rattle.std.proofs.lemmas.List.Folds.{list_any_more}
 use Rattle.mkv_schema.specs.declared.ids.TheConstants.{TRACK_NUMBER, DEFAULT_DURATION}
 use Rattle.tree_format.specs.Node.{Node, id_of}
 use Rattle.tree_format.specs.Changes.{without}
@@ -86,3 +89,31 @@ range-next k n inside = let more : n - k ≡ suc (n - (k + 1)) = omega arith in 
 
 pub find-passes : (p : ℕ → Bool) (k n : ℕ) (all : Option ℕ) → k < n → p k ≡ false → find p (range_with_len k (n - k)) ≡ all → find p (range_with_len (k + 1) (n - (k + 1))) ≡ all
 find-passes p k n all inside passes same = sym (ap (find p) (range-next k n inside) ∙ rw passes refl) ∙ same
+
+-- a number is found exactly at itself
+is_eq-nat_cmp : (x q : ℕ) → is_eq (nat_cmp x q) ≡ (x == q)
+is_eq-nat_cmp x q = split (nat_lt x q) refl (x == q) refl
+  where
+    split : (a : Bool) → nat_lt x q ≡ a → (b : Bool) → (x == q) ≡ b → is_eq (cond a Less (cond b Equal Greater)) ≡ b
+    split true less true same = absurd (grind (arith, nat_tests))
+    split true less false other = refl
+    split false more true same = refl
+    split false more false other = refl
+
+-- with one number more, those are known that stood before and this one
+pub known-next : (numbers : List ℕ) (k q : ℕ) (old new : Bool) → k < length numbers → old ≡ list_any (λ n. n == q) (take k numbers) → new ≡ cond (is_eq (nat_cmp (get_or numbers k 0) q)) true old → new ≡ list_any (λ n. n == q) (take (k + 1) numbers)
+known-next numbers k q old new inside before is =
+    is ∙ ap₂ (λ t o. cond t true o) (is_eq-nat_cmp (get_or numbers k 0) q) before
+    ∙ join (get_or numbers k 0 == q) (list_any (λ n. n == q) (take k numbers))
+    ∙ sym (list_any_more (λ n. n == q) numbers k 0 inside)
+  where
+    join : (t o : Bool) → cond t true o ≡ o || t
+    join true true = refl
+    join true false = refl
+    join false true = refl
+    join false false = refl
+
+-- a number that is added isn't repeated
+pub added-new : (added found : Bool) → added ≡ not found → added ≡ true → found ≡ false
+added-new added true is new = absurd (cc)
+added-new added false is new = refl

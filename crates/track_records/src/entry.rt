@@ -35,8 +35,10 @@ fn uint_in(entry: &Tree, id: u32) -> u64
     requires integer { IsInteger id }
     ensures { result ≡ uint_in id entry.now }
 {
-    let default = uint_default(id).unwrap_or(0);
-    integer_in(entry, id).unwrap_or(default)
+    match integer_in(entry, id) {
+        Some(value) => value,
+        None => uint_default(id).unwrap_or(0),
+    }
 }
 
 // The text of an ID, or the table's default.

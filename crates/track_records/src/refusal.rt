@@ -15,6 +15,7 @@ use ebml_tree::Tree;
 use mkv_schema::ids::{CODEC_ID, DEFAULT_DURATION, TRACK_ENTRY, TRACK_NUMBER, TRACK_TYPE};
 use mkv_values::{Damage, Kind};
 use std::alloc::{AllocError, Global};
+use std::collections::BTreeSet;
 
 /// The least DefaultDuration that is refused, in nanoseconds.
 const TOO_LONG: u64 = 1 << 48;
@@ -128,15 +129,16 @@ fn numbers_of(alloc: Global, tracks: &Tree) -> Result<Vec<u64>, AllocError>
 }
 
 // The least index whose number stands before it.
-fn first_repeated(numbers: &[u64]) -> Option<usize>
-    ensures { result ≡ first_repeated numbers.now }
+fn first_repeated(alloc: Global, numbers: &[u64]) -> Result<Option<usize>, AllocError>
+    ensures { IfOk result (λ place. place ≡ first_repeated numbers.now) }
 {
-    for k in 0..numbers.len() {
-        if numbers[..k].contains(&numbers[k]) {
-            return Some(k);
+    let mut before = BTreeSet::new(alloc);
+    for (k, number) in numbers.iter().enumerate() {
+        if !before.insert(*number)? {
+            return Ok(Some(k));
         }
     }
-    None
+    Ok(None)
 }
 
 // A damage at the place of an entry, counted from 0.
@@ -157,7 +159,7 @@ fn repeated_number(alloc: Global, tracks: &Tree) -> Result<Option<Damage>, Alloc
     ensures { IfOk result (λ damage. damage ≡ repeated_number (entries_of tracks.now)) }
 {
     let numbers = numbers_of(alloc, tracks)?;
-    match first_repeated(numbers.as_slice()) {
+    match first_repeated(alloc, numbers.as_slice())? {
         Some(k) => Ok(told_at(tracks, Kind::RepeatedTrack, TRACK_NUMBER, k)),
         None => Ok(None),
     }

@@ -40,7 +40,8 @@ fn read(alloc: Global, tracks: &Tree) -> Result<List<Track>, TreeEnd>
     }
 }
 
-/// The tracks of a Tracks Element in the order of its entries, or what refuses them.
+/// The tracks of a Tracks Element in the order of its entries, or what refuses them. A tree that was
+/// parsed is sound.
 ///
 /// Of all entries the first bad value is told before the first child that is missing, then the first
 /// repeated TrackNumber, then the 1,025th entry.
