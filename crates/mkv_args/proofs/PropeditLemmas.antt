@@ -3,13 +3,13 @@ use Rattle.std.proofs.Common.{◌≡◌, ℕ, ◌+◌, List, [], ◌∷◌, drop
 use Rattle.std.proofs.lemmas.List.{drop-drop}
 use Rattle.std.specs.Prelude.{slice_get}
 use Rattle.mkv_jobs.specs.declared.edit.Edit.{Edit}
-use Rattle.mkv_args.specs.declared.usage.Usage.{Usage}
+use Rattle.word_values.specs.declared.usage.Usage.{Usage}
 use Rattle.mkv_args.specs.declared.propedit.Stage.{Stage}
-use Rattle.mkv_args.specs.declared.usage.ArgsEnd.{ArgsEnd}
-use Rattle.mkv_args.specs.declared.usage.ArgsEnd.TheVariants as args_end
-use Rattle.mkv_args.specs.Answers.{Tells, TellsOf, ◌>>=◌}
+use Rattle.word_values.specs.declared.usage.ArgsEnd.{ArgsEnd}
+use Rattle.word_values.specs.declared.usage.ArgsEnd.TheVariants as args_end
+use Rattle.word_values.specs.Answers.{Tells, TellsOf, ◌>>=◌}
 use Rattle.mkv_args.specs.Propedit.{edits_from, turn, step_of}
-use Rattle.mkv_args.proofs.PlaceLemmas.{next_is}
+use Rattle.word_values.proofs.PlaceLemmas.{next_is}
 
 edits_at : (count : ℕ) (stage : Stage) (before : List Edit) (at : ℕ) (w : List ℕ) (rest : List (List ℕ)) →
     edits_from count stage before at (w ∷ rest) ≡ (turn stage (step_of w) before at (slice_get rest 0) count >>= (λ behind. edits_from count behind.0 behind.1 (at + 2) (drop 1 rest)))

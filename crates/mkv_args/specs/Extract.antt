@@ -7,14 +7,13 @@ use Rattle.mkv_jobs.specs.declared.job.Job.TheVariants as jobs
 use Rattle.mkv_jobs.specs.declared.job.Form.{Form}
 use Rattle.mkv_jobs.specs.declared.job.Form.TheVariants as form
 use Rattle.mkv_jobs.specs.declared.job.Target.{Target}
-use Rattle.mkv_args.specs.declared.usage.Usage.{Usage}
-use Rattle.mkv_args.specs.declared.usage.Why.TheVariants.{UnknownCommand, UnknownOption, BadValue, RepeatedOutput}
+use Rattle.word_values.specs.declared.usage.Usage.{Usage}
+use Rattle.word_values.specs.declared.usage.Why.TheVariants.{UnknownCommand, UnknownOption, BadValue, RepeatedOutput}
 use Rattle.mkv_args.specs.declared.command.Command.{Command}
 use Rattle.mkv_args.specs.declared.command.Command.TheVariants as command
-use Rattle.mkv_args.specs.Answers.{wrong, ◌>>=◌}
-use Rattle.mkv_args.specs.Place.{due_at, file_at, end_at}
-use Rattle.mkv_args.specs.Options.{is_option}
-use Rattle.mkv_args.specs.Values.{track_and_rest}
+use Rattle.word_values.specs.Answers.{wrong, ◌>>=◌}
+use Rattle.word_values.specs.Place.{due_at, file_at, end_at, is_option}
+use Rattle.word_values.specs.Values.{track_and_rest}
 
 -- a target has this name
 abbrev pub is_taken : List ℕ → List Target → Bool

@@ -1,13 +1,4 @@
-pub mod Answers
-pub mod Numbers
-pub mod Lists
-pub mod Place
-pub mod Options
-pub mod Values
-pub mod Items
-pub mod Files
 pub mod Merge
 pub mod Extract
 pub mod Propedit
 pub mod Words
-pub mod Why

@@ -7,17 +7,17 @@ use Rattle.mkv_jobs.specs.declared.edit.Selector.{Selector}
 use Rattle.mkv_jobs.specs.declared.edit.Selector.TheVariants.{Info, Nth, Typed, Uid, Number}
 use Rattle.mkv_jobs.specs.declared.edit.Change.{Change}
 use Rattle.mkv_jobs.specs.declared.edit.Change.TheVariants.{Set, Add, Delete}
-use Rattle.mkv_args.specs.declared.usage.Usage.{Usage}
-use Rattle.mkv_args.specs.declared.usage.Why.TheVariants.{MissingValue, UnknownOption, BadValue}
+use Rattle.word_values.specs.declared.usage.Usage.{Usage}
+use Rattle.word_values.specs.declared.usage.Why.TheVariants.{MissingValue, UnknownOption, BadValue}
 use Rattle.mkv_args.specs.declared.propedit.Step.{Step}
 use Rattle.mkv_args.specs.declared.propedit.Step.TheVariants as step
 use Rattle.mkv_args.specs.declared.propedit.Stage.{Stage}
 use Rattle.mkv_args.specs.declared.propedit.Stage.TheVariants.{Outside, Opened, Within}
 use Rattle.mkv_args.specs.declared.command.Command.{Command}
 use Rattle.mkv_args.specs.declared.command.Command.TheVariants as command
-use Rattle.mkv_args.specs.Answers.{wrong, ◌>>=◌}
-use Rattle.mkv_args.specs.Numbers.{cut, from, number}
-use Rattle.mkv_args.specs.Place.{due, file_at}
+use Rattle.word_values.specs.Answers.{wrong, ◌>>=◌}
+use Rattle.word_values.specs.Numbers.{cut, from, number}
+use Rattle.word_values.specs.Place.{due, file_at}
 
 -- a place, counted from 1
 unfoldable pub place : List ℕ → Option ℕ

@@ -1,13 +1,13 @@
 -- The words of a command line: a command, or the first word that is wrong and why.
 use Rattle.std.specs.Prelude.{ℕ, if◌then◌else◌, List, [], ◌∷◌, codes, Option, Some, None, Result, Ok}
 use Rattle.std.specs.Str.{bytes_eq}
-use Rattle.mkv_args.specs.declared.usage.Usage.{Usage}
-use Rattle.mkv_args.specs.declared.usage.Why.TheVariants.{NoCommand, UnknownCommand, BadValue}
+use Rattle.word_values.specs.declared.usage.Usage.{Usage}
+use Rattle.word_values.specs.declared.usage.Why.TheVariants.{NoCommand, UnknownCommand, BadValue}
 use Rattle.mkv_args.specs.declared.command.Command.{Command}
 use Rattle.mkv_args.specs.declared.command.Command.TheVariants as commands
-use Rattle.mkv_args.specs.Answers.{wrong, ◌>>=◌}
-use Rattle.mkv_args.specs.Numbers.{below, from, number}
-use Rattle.mkv_args.specs.Place.{due_at, file_at, end_at}
+use Rattle.word_values.specs.Answers.{wrong, ◌>>=◌}
+use Rattle.word_values.specs.Numbers.{below, from, number}
+use Rattle.word_values.specs.Place.{due_at, file_at, end_at}
 use Rattle.mkv_args.specs.Extract.{extract}
 use Rattle.mkv_args.specs.Propedit.{propedit}
 use Rattle.mkv_args.specs.Merge.{merge}

@@ -1,18 +1,17 @@
 //! The words of `extract`.
 
 ghost use Rattle.std.specs.Prelude.{◌≡◌};
-ghost use Rattle.mkv_args.specs.Answers.{Tells};
+ghost use Rattle.word_values.specs.Answers.{Tells};
 ghost use Rattle.mkv_args.specs.Extract as spec;
-ghost use Rattle.mkv_args.specs.Place.{texts};
+ghost use Rattle.word_values.specs.Place.{texts};
 
 use crate::command::Command;
-use crate::options::is_option;
-use crate::usage::{ArgsEnd, Why};
-use crate::values::{name, track_and_rest};
-use crate::words::{due_at, end_at, file_at, refused, word_at};
 use mkv_jobs::{Form, Job, Target};
 use mkv_values::List;
 use std::alloc::Global;
+use word_values::{
+    ArgsEnd, Why, due_at, end_at, file_at, is_option, name, refused, track_and_rest, word_at,
+};
 
 /// `extract FILE MODE ARGS`.
 #[tactic(auto, unfolding(crate::specs::Extract::extract))]

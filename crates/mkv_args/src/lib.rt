@@ -4,21 +4,13 @@
 
 mod command;
 mod extract;
-mod files;
-mod item;
-mod lists;
 mod merge;
-mod numbers;
-mod options;
 mod propedit;
-mod usage;
-mod values;
 mod words;
 
-pub use command::{Command, CueWord, FileWords, MergeWords, Select, SpanWords, SplitWords};
-pub use options::{Form, MERGE_OPTIONS, Meaning, OptionRow, Scope, Subject};
-pub use usage::{ArgsEnd, Usage, Why};
+pub use command::Command;
+pub use merge_words::{
+    FileWords, MERGE_OPTIONS, Meaning, MergeWords, OptionRow, Scope, Subject, meaning_of,
+};
+pub use word_values::{ArgsEnd, CueWord, Select, SpanWords, SplitWords, Usage, ValueForm, Why};
 pub use words::read_words;
-
-#[cfg(test)]
-mod tests;

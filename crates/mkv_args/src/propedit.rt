@@ -1,18 +1,15 @@
 //! The words of `propedit`.
 
 ghost use Rattle.std.specs.Prelude.{◌≡◌, ◌+◌, ◌<◌, length, slice_get};
-ghost use Rattle.mkv_args.specs.Answers.{Tells, TellsOf};
+ghost use Rattle.word_values.specs.Answers.{Tells, TellsOf};
 ghost use Rattle.mkv_args.specs.Propedit as spec;
-ghost use Rattle.mkv_args.specs.Place.{texts};
+ghost use Rattle.word_values.specs.Place.{texts};
 
 use crate::command::Command;
-use crate::numbers::{cut_text, number};
-use crate::usage::{ArgsEnd, Why};
-use crate::values::name;
-use crate::words::{due_at, file_at, refused, word_at};
 use mkv_jobs::{Change, Edit, Selector};
 use mkv_values::{List, Text};
 use std::alloc::Global;
+use word_values::{ArgsEnd, Why, cut_text, due_at, file_at, name, number, refused, word_at};
 
 /// What an option of `propedit` begins.
 #[derive(Clone, Copy, Debug, PartialEq, Eq)]

@@ -1,20 +1,17 @@
 //! The words of a command line, read from left to right.
 
-ghost use Rattle.std.specs.Prelude.{◌≡◌, ◌+◌, ◌<◌, [], ◌∷◌, MatchOption, OnSome, drop, length, slice_get, option_map, map};
-ghost use Rattle.mkv_args.specs.Answers.{Tells, TellsOf, refuses};
-ghost use Rattle.mkv_args.specs.Place as place;
-ghost use Rattle.mkv_args.specs.Place.{texts};
+ghost use Rattle.std.specs.Prelude.{◌≡◌};
+ghost use Rattle.word_values.specs.Answers.{Tells, TellsOf, refuses};
+ghost use Rattle.word_values.specs.Place as place;
+ghost use Rattle.word_values.specs.Place.{texts};
 ghost use Rattle.mkv_args.specs.Words as spec;
 
 use crate::command::Command;
 use crate::extract::extract;
 use crate::merge::merge;
-use crate::numbers::number;
-use crate::options::is_option;
 use crate::propedit::propedit;
-use crate::usage::{ArgsEnd, Usage, Why};
-use crate::values::name;
 use std::alloc::Global;
+use word_values::{ArgsEnd, Why, due_at, end_at, file_at, name, number, refused, word_at};
 
 /// The command that the words ask for, or the first word that is wrong. Words are counted from 0,
 /// and the program's own name is none of them.
@@ -119,60 +116,4 @@ fn only_file(words: &[String]) -> Result<&str, ArgsEnd>
     let file = file_at(words, 1)?;
     end_at(words, 2)?;
     Ok(file)
-}
-
-/// The word at a number, counted from 0.
-pub(crate) fn word_at(words: &[String], at: usize) -> Option<&str>
-    ensures same { option_map (λ w. w.now) result ≡ slice_get (texts words.now) at }
-    ensures rest { MatchOption result (drop at (texts words.now) ≡ []) (λ w. drop at (texts words.now) ≡ w.now ∷ drop (at + 1) (texts words.now)) }
-    ensures within { OnSome result (at < length words.now) }
-{
-    match text_at(words, at) {
-        Some(word) => Some(word),
-        None => None,
-    }
-}
-
-fn text_at(words: &[String], at: usize) -> Option<&str>
-    ensures { option_map (λ w. w.now) result ≡ slice_get (texts words.now) at }
-{
-    Some(words.get(at)?.as_str())
-}
-
-/// The word that is due at a number.
-pub(crate) fn due_at(words: &[String], at: usize) -> Result<&str, ArgsEnd>
-    ensures { TellsOf (λ w. w.now) result (place.due_at (texts words.now) at) }
-{
-    match word_at(words, at) {
-        Some(word) => Ok(word),
-        None => refused(words.len(), Why::MissingValue),
-    }
-}
-
-/// The name of a file that is due at a number, which doesn't look like an option.
-pub(crate) fn file_at(words: &[String], at: usize) -> Result<&str, ArgsEnd>
-    ensures { TellsOf (λ w. w.now) result (place.file_at (texts words.now) at) }
-{
-    let file = due_at(words, at)?;
-    if is_option(file) {
-        return refused(at, Why::UnknownOption);
-    }
-    Ok(file)
-}
-
-/// Refuses a word where none may stand.
-pub(crate) fn end_at(words: &[String], at: usize) -> Result<(), ArgsEnd>
-    ensures { Tells result (place.end_at (texts words.now) at) }
-{
-    if at < words.len() {
-        return refused(at, Why::ExtraWord);
-    }
-    Ok(())
-}
-
-/// Refuses a word.
-pub(crate) fn refused<T>(word: usize, why: Why) -> Result<T, ArgsEnd>
-    ensures { result ≡ refuses word why }
-{
-    Err(ArgsEnd::Usage(Usage { word, why }))
 }

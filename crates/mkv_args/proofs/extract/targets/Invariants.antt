@@ -1,6 +1,6 @@
 -- What the words from here on say behind the targets so far is what all of them say.
 use Rattle.std.proofs.Common.{◌≡◌, ◌-◌, length, drop, []}
-use Rattle.mkv_args.specs.Place.{texts}
+use Rattle.word_values.specs.Place.{texts}
 use Rattle.mkv_args.specs.Extract.{targets_from}
 use Rattle.mkv_args.proofs.extract.targets.Given as goal
 

@@ -1,7 +1,7 @@
 use Rattle.std.proofs.Common.{length, ◌∙◌, sym}
 use Rattle.std.proofs.lemmas.Result.{err_from_is_err_and}
 use Rattle.mkv_args.specs.declared.propedit.Stage.{Stage}
-use Rattle.mkv_args.specs.Place.{texts}
+use Rattle.word_values.specs.Place.{texts}
 use Rattle.mkv_args.proofs.PropeditLemmas.{edits_next, edits_fail}
 use Rattle.mkv_args.proofs.propedit.edits.Goals as goal
 

@@ -1,6 +1,6 @@
 -- What the words from here on say behind the edits so far is what all of them say.
 use Rattle.std.proofs.Common.{◌≡◌, ◌-◌, length, drop}
-use Rattle.mkv_args.specs.Place.{texts}
+use Rattle.word_values.specs.Place.{texts}
 use Rattle.mkv_args.specs.Propedit.{edits, edits_from}
 use Rattle.mkv_args.proofs.propedit.edits.Given as goal
 

@@ -1,0 +1,6 @@
+pub mod Options
+pub mod Items
+pub mod Said
+pub mod Files
+pub mod Output
+pub mod Merge

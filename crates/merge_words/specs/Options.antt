@@ -1,0 +1,80 @@
+-- The options of `merge`.
+use Rattle.std.specs.Prelude.{ℕ, Bool, ◌||◌, if◌then◌else◌, List, [], ◌∷◌, codes, Option, None, option_map}
+use Rattle.std.specs.List.{find}
+use Rattle.std.specs.Str.{bytes_eq}
+use denote.Enum.Bare.{sameb}
+use Rattle.merge_words.specs.contracts.options.Subject.{the_type}
+use Rattle.word_values.specs.Place.{is_option}
+use Rattle.merge_words.specs.declared.options.Subject.{Subject}
+use Rattle.merge_words.specs.declared.options.Subject.TheVariants as s
+use Rattle.merge_words.specs.declared.options.Scope.{Scope}
+use Rattle.merge_words.specs.declared.options.Scope.TheVariants.{Output, File, Track}
+use Rattle.word_values.specs.declared.values.ValueForm.{ValueForm}
+use Rattle.word_values.specs.declared.values.ValueForm.TheVariants as f
+use Rattle.merge_words.specs.declared.options.Meaning.{Meaning}
+use Rattle.merge_words.specs.declared.options.OptionRow.{OptionRow}
+
+-- an option's short and long spelling, what it is about, how often it may stand, its value's form
+pub record Row : Type 0 where
+  pub short : List ℕ
+  pub long : List ℕ
+  pub subject : Subject
+  pub scope : Scope
+  pub form : ValueForm
+
+abbrev pub option : List ℕ → List ℕ → Subject → Scope → ValueForm → Row
+option short long subject scope form = record { short = short; long = long; subject = subject; scope = scope; form = form }
+
+-- the options for the whole output, then those for the next file
+unfoldable pub table : List Row
+table =
+    option (codes "-o") (codes "--output") s.Output Output f.Name ∷
+    option (codes "-w") (codes "--webm") s.Webm Output f.Flag ∷
+    option (codes "") (codes "--title") s.Title Output f.Text ∷
+    option (codes "") (codes "--chapters") s.ChapterFile Output f.Name ∷
+    option (codes "") (codes "--timestamp-scale") s.Scale Output f.Scale ∷
+    option (codes "") (codes "--cluster-length") s.ClusterLength Output f.Length ∷
+    option (codes "") (codes "--split") s.Split Output f.Split ∷
+    option (codes "") (codes "--segment-uid") s.Uuids Output f.Uuids ∷
+    option (codes "") (codes "--link") s.Link Output f.Flag ∷
+    option (codes "-J") (codes "") s.Identify Output f.Flag ∷
+    option (codes "-a") (codes "--audio-tracks") s.Audio File f.Ids ∷
+    option (codes "-A") (codes "--no-audio") s.Audio File f.Exclusion ∷
+    option (codes "-d") (codes "--video-tracks") s.Video File f.Ids ∷
+    option (codes "-D") (codes "--no-video") s.Video File f.Exclusion ∷
+    option (codes "-s") (codes "--subtitle-tracks") s.Subtitles File f.Ids ∷
+    option (codes "-S") (codes "--no-subtitles") s.Subtitles File f.Exclusion ∷
+    option (codes "-M") (codes "--no-attachments") s.Attachments File f.Flag ∷
+    option (codes "-T") (codes "--no-track-tags") s.TrackTags File f.Flag ∷
+    option (codes "") (codes "--no-global-tags") s.GlobalTags File f.Flag ∷
+    option (codes "") (codes "--no-chapters") s.Chapters File f.Flag ∷
+    option (codes "-y") (codes "--sync") s.Sync Track f.TrackDelay ∷
+    option (codes "") (codes "--track-name") s.TrackName Track f.TrackText ∷
+    option (codes "") (codes "--language") s.Language Track f.TrackLanguage ∷
+    option (codes "") (codes "--default-track-flag") s.DefaultFlag Track f.TrackFlag ∷
+    option (codes "") (codes "--forced-display-flag") s.ForcedFlag Track f.TrackFlag ∷
+    option (codes "") (codes "--cues") s.Cues Track f.TrackCues ∷
+    option (codes "") (codes "--timestamps") s.Times Track f.TrackFile ∷ []
+
+-- a row of the code's table
+abbrev pub shown : OptionRow → Row
+shown r = record { short = r.0.now; long = r.1.now; subject = r.2; scope = r.3; form = r.4 }
+
+-- either spelling is the word
+abbrev pub spelled : List ℕ → Row → Bool
+spelled word r = bytes_eq r.short word || bytes_eq r.long word
+
+abbrev pub meaning : Row → Meaning
+meaning r = record { subject = r.subject; scope = r.scope; form = r.form }
+
+-- what the first row with this spelling means
+abbrev pub meaning_among : List Row → List ℕ → Option Meaning
+meaning_among rows word = option_map meaning (find (spelled word) rows)
+
+-- what an option of `merge` means
+unfoldable pub meaning_of : List ℕ → Option Meaning
+meaning_of word = if is_option word then meaning_among table word else None
+
+-- both are about the same
+abbrev pub same : Subject → Subject → Bool
+same a b = sameb the_type a b

@@ -1,0 +1,67 @@
+-- The values of items that are about something.
+use Rattle.std.specs.Prelude.{ℕ, ℤ, Bool, if◌then◌else◌, List, Option, Some, None, option_map, option_and_then}
+use Rattle.std.specs.List.{find}
+use Rattle.word_values.specs.declared.lists.SplitWords.{SplitWords}
+use Rattle.word_values.specs.declared.lists.Select.{Select}
+use Rattle.word_values.specs.declared.values.CueWord.{CueWord}
+use Rattle.word_values.specs.declared.values.Value.{Value}
+use Rattle.word_values.specs.declared.values.Value.TheVariants.{Name, Scale, Blocks, Span, Split, Uuids, Tracks, TrackDelay, TrackName, TrackFlag, TrackCues}
+use Rattle.merge_words.specs.declared.options.Subject.{Subject}
+use Rattle.merge_words.specs.declared.item.Item.{Item}
+use Rattle.merge_words.specs.Options.{same}
+
+-- the value of the item that is about this
+abbrev pub value_in : Subject → List Item → Option Value
+value_in subject items = option_map (λ (i : Item). i.value) (find (λ i. same i.subject subject) items)
+
+-- a value's name, number, split and so on, where it has one
+abbrev pub name_of : Value → Option (List ℕ)
+name_of (Name name) = Some name
+name_of _ = None
+
+abbrev pub scale_of : Value → Option ℕ
+scale_of (Scale scale) = Some scale
+scale_of _ = None
+
+abbrev pub blocks_of : Value → Option ℕ
+blocks_of (Blocks blocks) = Some blocks
+blocks_of _ = None
+
+abbrev pub span_of : Value → Option ℕ
+span_of (Span span) = Some span
+span_of _ = None
+
+abbrev pub split_of : Value → Option SplitWords
+split_of (Split split) = Some split
+split_of _ = None
+
+abbrev pub uuids_of : Value → Option (List ℕ)
+uuids_of (Uuids uuids) = Some uuids
+uuids_of _ = None
+
+abbrev pub tracks_of : Value → Option Select
+tracks_of (Tracks select) = Some select
+tracks_of _ = None
+
+abbrev pub delay_of : Value → Option (ℕ × ℤ)
+delay_of (TrackDelay id delay) = Some (id, delay)
+delay_of _ = None
+
+abbrev pub track_name_of : Value → Option (ℕ × List ℕ)
+track_name_of (TrackName id name) = Some (id, name)
+track_name_of _ = None
+
+abbrev pub track_flag_of : Value → Option (ℕ × Bool)
+track_flag_of (TrackFlag id flag) = Some (id, flag)
+track_flag_of _ = None
+
+abbrev pub track_cues_of : Value → Option (ℕ × CueWord)
+track_cues_of (TrackCues id cues) = Some (id, cues)
+track_cues_of _ = None
+
+abbrev pub name_in : Subject → List Item → Option (List ℕ)
+name_in subject items = option_and_then name_of (value_in subject items)
+
+-- the values of the items that are about this
+abbrev pub value_about : Subject → Item → Option Value
+value_about subject i = if same i.subject subject then Some i.value else None

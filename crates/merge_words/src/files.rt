@@ -1,0 +1,292 @@
+//! What the items of a merge say of each file.
+
+ghost use Rattle.std.specs.Prelude.{◌≡◌, [], IfOk, OnOk};
+ghost use Rattle.merge_words.specs.Files as spec;
+
+use crate::item::{Item, stands, track_in};
+use crate::options::Subject;
+use crate::said::{numbers_copy, value_in};
+use mkv_values::{List, Text};
+use std::alloc::{AllocError, Global};
+use word_values::{CueWord, Select, Value, name};
+
+/// What the words of a merge say of one file. A track is named by its place in Tracks, from 0.
+#[derive(Debug, Drop)]
+pub struct FileWords {
+    pub name: Text,
+    /// Whether the file goes on where the one before it ends.
+    pub appended: bool,
+    pub video: Select,
+    pub audio: Select,
+    pub subtitles: Select,
+    /// Whether the attached files are kept.
+    pub attachments: bool,
+    /// Whether the tags of tracks are kept.
+    pub track_tags: bool,
+    /// Whether the tags of no track are kept.
+    pub global_tags: bool,
+    /// Whether the chapters are kept.
+    pub chapters: bool,
+    /// By how many nanoseconds a track is delayed.
+    pub syncs: List<(u64, i64)>,
+    pub names: List<(u64, Text)>,
+    pub languages: List<(u64, Text)>,
+    pub defaults: List<(u64, bool)>,
+    pub forced: List<(u64, bool)>,
+    pub cues: List<(u64, CueWord)>,
+    /// The names of files with a track's times.
+    pub times: List<(u64, Text)>,
+    /// The tracks that the words name, in their order, each once.
+    pub named: List<u64>,
+}
+
+/// The files, each with what the items behind the file before it say.
+pub(crate) fn files(alloc: Global, items: &[Item]) -> Result<List<FileWords>, AllocError>
+    ensures { IfOk result (λ files. files ≡ spec.files [] items.now) }
+{
+    let mut files = List::new(alloc);
+    let mut start = 0;
+    for (k, item) in items.iter().enumerate() {
+        if item.subject.is(Subject::File) {
+            files.push(file(alloc, &items[start..k], &item.value)?)?;
+            start = k + 1;
+        }
+    }
+    Ok(files)
+}
+
+/// Which tracks of each type are taken.
+#[derive(Drop)]
+struct Choice {
+    video: Select,
+    audio: Select,
+    subtitles: Select,
+}
+
+/// What tracks are called, and where their times stand.
+#[derive(Drop)]
+struct Texts {
+    names: List<(u64, Text)>,
+    languages: List<(u64, Text)>,
+    times: List<(u64, Text)>,
+}
+
+/// The delays of tracks, their flags and their cue points.
+#[derive(Drop)]
+struct Marks {
+    syncs: List<(u64, i64)>,
+    defaults: List<(u64, bool)>,
+    forced: List<(u64, bool)>,
+    cues: List<(u64, CueWord)>,
+}
+
+/// A file, with what the items before it say.
+#[tactic(auto, unfolding(crate::specs::Files::file))]
+fn file(alloc: Global, items: &[Item], name: &Value) -> Result<FileWords, AllocError>
+    ensures { IfOk result (λ file. file ≡ spec.file items.now name.now) }
+{
+    let name = file_name(alloc, name)?;
+    let choice = choice_in(alloc, items)?;
+    let texts = texts_in(alloc, items)?;
+    let marks = marks_in(alloc, items)?;
+    let named = named_in(alloc, items)?;
+    Ok(FileWords {
+        name,
+        appended: stands(Subject::Append, items),
+        video: choice.video,
+        audio: choice.audio,
+        subtitles: choice.subtitles,
+        attachments: !stands(Subject::Attachments, items),
+        track_tags: !stands(Subject::TrackTags, items),
+        global_tags: !stands(Subject::GlobalTags, items),
+        chapters: !stands(Subject::Chapters, items),
+        syncs: marks.syncs,
+        names: texts.names,
+        languages: texts.languages,
+        defaults: marks.defaults,
+        forced: marks.forced,
+        cues: marks.cues,
+        times: texts.times,
+        named,
+    })
+}
+
+fn choice_in(alloc: Global, items: &[Item]) -> Result<Choice, AllocError>
+    ensures { IfOk result (λ c. c ≡ record { video = spec.tracks_in Subject.Video items.now; audio = spec.tracks_in Subject.Audio items.now; subtitles = spec.tracks_in Subject.Subtitles items.now }) }
+{
+    Ok(Choice {
+        video: tracks_in(alloc, Subject::Video, items)?,
+        audio: tracks_in(alloc, Subject::Audio, items)?,
+        subtitles: tracks_in(alloc, Subject::Subtitles, items)?,
+    })
+}
+
+fn texts_in(alloc: Global, items: &[Item]) -> Result<Texts, AllocError>
+    ensures { IfOk result (λ t. t ≡ record { names = spec.names_in Subject.TrackName items.now; languages = spec.names_in Subject.Language items.now; times = spec.names_in Subject.Times items.now }) }
+{
+    Ok(Texts {
+        names: names_in(alloc, Subject::TrackName, items)?,
+        languages: names_in(alloc, Subject::Language, items)?,
+        times: names_in(alloc, Subject::Times, items)?,
+    })
+}
+
+fn marks_in(alloc: Global, items: &[Item]) -> Result<Marks, AllocError>
+    ensures { IfOk result (λ m. m ≡ record { syncs = spec.delays_in items.now; defaults = spec.flags_in Subject.DefaultFlag items.now; forced = spec.flags_in Subject.ForcedFlag items.now; cues = spec.cues_in items.now }) }
+{
+    Ok(Marks {
+        syncs: delays_in(alloc, items)?,
+        defaults: flags_in(alloc, Subject::DefaultFlag, items)?,
+        forced: flags_in(alloc, Subject::ForcedFlag, items)?,
+        cues: cues_in(alloc, items)?,
+    })
+}
+
+fn file_name(alloc: Global, value: &Value) -> Result<Text, AllocError>
+    ensures { IfOk result (λ name. name ≡ spec.file_name value.now) }
+{
+    match value {
+        Value::Name(word) => name(alloc, word.as_str()),
+        _ => Ok(Text::new(alloc)),
+    }
+}
+
+/// Which tracks of a type are taken.
+fn tracks_in(alloc: Global, subject: Subject, items: &[Item]) -> Result<Select, AllocError>
+    ensures { IfOk result (λ select. select ≡ spec.tracks_in subject items.now) }
+{
+    match value_in(subject, items) {
+        Some(Value::Tracks(select)) => select_copy(alloc, select),
+        _ => Ok(Select::All),
+    }
+}
+
+fn select_copy(alloc: Global, select: &Select) -> Result<Select, AllocError>
+    ensures { IfOk result (λ copy. copy ≡ select.now) }
+{
+    match select {
+        Select::All => Ok(Select::All),
+        Select::These { ids } => Ok(Select::These {
+            ids: numbers_copy(alloc, ids)?,
+        }),
+        Select::AllBut { ids } => Ok(Select::AllBut {
+            ids: numbers_copy(alloc, ids)?,
+        }),
+        Select::Off => Ok(Select::Off),
+    }
+}
+
+fn delays_in(alloc: Global, items: &[Item]) -> Result<List<(u64, i64)>, AllocError>
+    ensures { IfOk result (λ list. list ≡ spec.delays_in items.now) }
+{
+    let mut list = List::new(alloc);
+    for item in items {
+        if let Value::TrackDelay(id, delay) = &item.value {
+            list.push((*id, *delay))?;
+        }
+    }
+    Ok(list)
+}
+
+fn names_in(
+    alloc: Global,
+    subject: Subject,
+    items: &[Item],
+) -> Result<List<(u64, Text)>, AllocError>
+    ensures { IfOk result (λ list. list ≡ spec.names_in subject items.now) }
+{
+    let mut list = List::new(alloc);
+    for item in items {
+        if item.subject.is(subject) {
+            if let Value::TrackName(id, word) = &item.value {
+                list.push((*id, name(alloc, word.as_str())?))?;
+            }
+        }
+    }
+    Ok(list)
+}
+
+fn flags_in(
+    alloc: Global,
+    subject: Subject,
+    items: &[Item],
+) -> Result<List<(u64, bool)>, AllocError>
+    ensures { IfOk result (λ list. list ≡ spec.flags_in subject items.now) }
+{
+    let mut list = List::new(alloc);
+    for item in items {
+        if item.subject.is(subject) {
+            if let Value::TrackFlag(id, flag) = &item.value {
+                list.push((*id, *flag))?;
+            }
+        }
+    }
+    Ok(list)
+}
+
+fn cues_in(alloc: Global, items: &[Item]) -> Result<List<(u64, CueWord)>, AllocError>
+    ensures { IfOk result (λ list. list ≡ spec.cues_in items.now) }
+{
+    let mut list = List::new(alloc);
+    for item in items {
+        if let Value::TrackCues(id, cues) = &item.value {
+            list.push((*id, *cues))?;
+        }
+    }
+    Ok(list)
+}
+
+/// The tracks that the items name, in their order, each once.
+#[tactic(auto, unfolding(crate::specs::Files::named_in))]
+fn named_in(alloc: Global, items: &[Item]) -> Result<List<u64>, AllocError>
+    ensures { IfOk result (λ list. list ≡ spec.named_in items.now) }
+{
+    let mut list = List::new(alloc);
+    for item in items {
+        add_named(&mut list, &item.value)?;
+    }
+    Ok(list)
+}
+
+/// Adds the tracks that a value names.
+fn add_named(list: &mut List<u64>, value: &Value) -> Result<(), AllocError>
+    ensures { OnOk result (list.new ≡ spec.once list.old (spec.ids_of value.now)) }
+{
+    match value {
+        Value::Tracks(select) => add_selected(list, select),
+        _ => match track_in(value) {
+            Some(id) => add(list, id),
+            None => Ok(()),
+        },
+    }
+}
+
+/// Adds the tracks that a selection names.
+fn add_selected(list: &mut List<u64>, select: &Select) -> Result<(), AllocError>
+    ensures { OnOk result (list.new ≡ spec.once list.old (spec.ids_of_select select.now)) }
+{
+    match select {
+        Select::These { ids } => add_all(list, ids.as_slice()),
+        Select::AllBut { ids } => add_all(list, ids.as_slice()),
+        Select::All | Select::Off => Ok(()),
+    }
+}
+
+fn add_all(list: &mut List<u64>, ids: &[u64]) -> Result<(), AllocError>
+    ensures { OnOk result (list.new ≡ spec.once list.old ids.now) }
+{
+    for id in ids {
+        add(list, *id)?;
+    }
+    Ok(())
+}
+
+/// Adds a number that isn't there yet.
+fn add(list: &mut List<u64>, id: u64) -> Result<(), AllocError>
+    ensures { OnOk result (list.new ≡ spec.with list.old id) }
+{
+    if list.as_slice().contains(&id) {
+        return Ok(());
+    }
+    list.push(id)
+}

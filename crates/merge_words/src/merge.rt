@@ -1,0 +1,112 @@
+//! The words of a merge: its items, what they lack, and what they say.
+
+ghost use Rattle.std.specs.Prelude.{◌≡◌, ◌≤◌, length};
+ghost use Rattle.merge_words.specs.Merge as spec;
+ghost use Rattle.word_values.specs.Answers.{Tells};
+ghost use Rattle.word_values.specs.Place.{texts};
+
+use crate::item::{Item, files_in, item_at, since_file, stands};
+use crate::options::{Scope, Subject, meaning_of};
+use crate::output::{MergeWords, merge_words};
+use mkv_values::List;
+use std::alloc::Global;
+use word_values::{ArgsEnd, Why, flag_of, refused, word_at};
+
+/// What the words behind `merge` say, or the first that is wrong. Words are counted from `merge`,
+/// which is word 0.
+#[tactic(auto, unfolding(crate::specs::Merge::merged))]
+pub fn read_merge(alloc: Global, words: &[String]) -> Result<MergeWords, ArgsEnd>
+    ensures { Tells result (spec.merged (texts words.now)) }
+{
+    let items = items(alloc, words)?;
+    complete(words.len(), items.as_slice())?;
+    Ok(merge_words(alloc, items.as_slice())?)
+}
+
+/// The items that the words behind `merge` say.
+#[tactic(auto, unfolding(crate::specs::Merge::items))]
+fn items(alloc: Global, words: &[String]) -> Result<List<Item>, ArgsEnd>
+    ensures { Tells result (spec.items (texts words.now)) }
+{
+    let mut items = List::new(alloc);
+    let mut at = 1;
+    while let Some(word) = word_at(words, at) {
+        let item = item_at(alloc, words, at, word, items.as_slice())?;
+        items.push(item)?;
+        at += width(word);
+    }
+    Ok(items)
+}
+
+/// How many words an item takes that begins with this one.
+#[tactic(auto, unfolding(crate::specs::Merge::width))]
+fn width(word: &str) -> usize
+    ensures same { result ≡ spec.width word.now }
+    ensures least { 1 ≤ result }
+    ensures most { result ≤ 2 }
+{
+    match meaning_of(word) {
+        Some(means) if flag_of(means.form).is_none() => 2,
+        _ => 1,
+    }
+}
+
+/// Refuses items that are no whole merge.
+#[tactic(auto, unfolding(crate::specs::Merge::complete))]
+fn complete(count: usize, items: &[Item]) -> Result<(), ArgsEnd>
+    ensures { Tells result (spec.complete count items.now) }
+{
+    let open = since_file(items);
+    refuse_if(stands(Subject::Append, open), count, Why::MissingValue)?;
+    refuse_at(dangling(open), Why::DanglingOption)?;
+    refuse_if(!stands(Subject::Output, items), count, Why::NoOutput)?;
+    refuse_if(files_in(items) == 0, count, Why::NoInput)?;
+    refuse_at(unlinked(items), Why::NeedsUuids)
+}
+
+/// Refuses a word where the test says so.
+fn refuse_if(test: bool, word: usize, why: Why) -> Result<(), ArgsEnd>
+    ensures { Tells result (spec.wrong_if test word why) }
+{
+    if test {
+        return refused(word, why);
+    }
+    Ok(())
+}
+
+/// Refuses the word, where there is one.
+fn refuse_at(word: Option<usize>, why: Why) -> Result<(), ArgsEnd>
+    ensures { Tells result (spec.wrong_at word why) }
+{
+    match word {
+        Some(word) => refused(word, why),
+        None => Ok(()),
+    }
+}
+
+/// The number of the first option for a file.
+fn dangling(items: &[Item]) -> Option<usize>
+    ensures { result ≡ spec.dangling items.now }
+{
+    let item = items.iter().find(|item| item.scope != Scope::Output)?;
+    Some(item.at)
+}
+
+/// The number of the option that links parts.
+fn linking(items: &[Item]) -> Option<usize>
+    ensures { result ≡ spec.linking items.now }
+{
+    let item = items.iter().find(|item| item.subject.is(Subject::Link))?;
+    Some(item.at)
+}
+
+/// The number of the option that links parts, where they have no identifiers.
+fn unlinked(items: &[Item]) -> Option<usize>
+    ensures { result ≡ spec.unlinked items.now }
+{
+    if stands(Subject::Uuids, items) {
+        None
+    } else {
+        linking(items)
+    }
+}

@@ -1,0 +1,143 @@
+//! The options of `merge`.
+
+ghost use Rattle.std.specs.Prelude.{◌≡◌, map};
+ghost use Rattle.merge_words.specs.Options as spec;
+
+use word_values::{ValueForm, is_option};
+
+/// What an option is about. A selection and an exclusion of one type are about the same.
+#[derive(Clone, Copy, Debug, PartialEq, Eq)]
+pub enum Subject {
+    Output,
+    Webm,
+    Title,
+    ChapterFile,
+    Scale,
+    ClusterLength,
+    Split,
+    Uuids,
+    Link,
+    Identify,
+    Audio,
+    Video,
+    Subtitles,
+    Attachments,
+    TrackTags,
+    GlobalTags,
+    Chapters,
+    Sync,
+    TrackName,
+    Language,
+    DefaultFlag,
+    ForcedFlag,
+    Cues,
+    Times,
+    /// The word `+`.
+    Append,
+    /// The name of a file.
+    File,
+}
+
+/// How often an option may stand.
+#[derive(Clone, Copy, Debug, PartialEq, Eq)]
+pub enum Scope {
+    /// Once.
+    Output,
+    /// Once before each file.
+    File,
+    /// Once before each file for one track.
+    Track,
+}
+
+/// What an option means.
+#[derive(Clone, Copy, Debug, PartialEq, Eq)]
+pub struct Meaning {
+    pub subject: Subject,
+    pub scope: Scope,
+    pub form: ValueForm,
+}
+
+/// An option: its short spelling, its long one, what it is about, how often it may stand, and the
+/// form of its value. A spelling is empty where there is none.
+#[derive(Clone, Copy, Debug)]
+pub struct OptionRow(
+    pub &'static str,
+    pub &'static str,
+    pub Subject,
+    pub Scope,
+    pub ValueForm,
+);
+
+/// The options of `merge`: those for the whole output, then those for the next file.
+#[rattlefmt::skip]
+pub static MERGE_OPTIONS: [OptionRow; 27] = [
+    OptionRow("-o", "--output", Subject::Output, Scope::Output, ValueForm::Name),
+    OptionRow("-w", "--webm", Subject::Webm, Scope::Output, ValueForm::Flag),
+    OptionRow("", "--title", Subject::Title, Scope::Output, ValueForm::Text),
+    OptionRow("", "--chapters", Subject::ChapterFile, Scope::Output, ValueForm::Name),
+    OptionRow("", "--timestamp-scale", Subject::Scale, Scope::Output, ValueForm::Scale),
+    OptionRow("", "--cluster-length", Subject::ClusterLength, Scope::Output, ValueForm::Length),
+    OptionRow("", "--split", Subject::Split, Scope::Output, ValueForm::Split),
+    OptionRow("", "--segment-uid", Subject::Uuids, Scope::Output, ValueForm::Uuids),
+    OptionRow("", "--link", Subject::Link, Scope::Output, ValueForm::Flag),
+    OptionRow("-J", "", Subject::Identify, Scope::Output, ValueForm::Flag),
+    OptionRow("-a", "--audio-tracks", Subject::Audio, Scope::File, ValueForm::Ids),
+    OptionRow("-A", "--no-audio", Subject::Audio, Scope::File, ValueForm::Exclusion),
+    OptionRow("-d", "--video-tracks", Subject::Video, Scope::File, ValueForm::Ids),
+    OptionRow("-D", "--no-video", Subject::Video, Scope::File, ValueForm::Exclusion),
+    OptionRow("-s", "--subtitle-tracks", Subject::Subtitles, Scope::File, ValueForm::Ids),
+    OptionRow("-S", "--no-subtitles", Subject::Subtitles, Scope::File, ValueForm::Exclusion),
+    OptionRow("-M", "--no-attachments", Subject::Attachments, Scope::File, ValueForm::Flag),
+    OptionRow("-T", "--no-track-tags", Subject::TrackTags, Scope::File, ValueForm::Flag),
+    OptionRow("", "--no-global-tags", Subject::GlobalTags, Scope::File, ValueForm::Flag),
+    OptionRow("", "--no-chapters", Subject::Chapters, Scope::File, ValueForm::Flag),
+    OptionRow("-y", "--sync", Subject::Sync, Scope::Track, ValueForm::TrackDelay),
+    OptionRow("", "--track-name", Subject::TrackName, Scope::Track, ValueForm::TrackText),
+    OptionRow("", "--language", Subject::Language, Scope::Track, ValueForm::TrackLanguage),
+    OptionRow("", "--default-track-flag", Subject::DefaultFlag, Scope::Track, ValueForm::TrackFlag),
+    OptionRow("", "--forced-display-flag", Subject::ForcedFlag, Scope::Track, ValueForm::TrackFlag),
+    OptionRow("", "--cues", Subject::Cues, Scope::Track, ValueForm::TrackCues),
+    OptionRow("", "--timestamps", Subject::Times, Scope::Track, ValueForm::TrackFile),
+];
+
+/// What an option of `merge` means, by either spelling.
+#[tactic(auto, unfolding(crate::specs::Options::meaning_of))]
+pub fn meaning_of(word: &str) -> Option<Meaning>
+    ensures { result ≡ spec.meaning_of word.now }
+{
+    if !is_option(word) {
+        return None;
+    }
+    meaning_in_table(word)
+}
+
+#[tactic(auto, unfolding(crate::specs::Options::table))]
+fn meaning_in_table(word: &str) -> Option<Meaning>
+    ensures { result ≡ spec.meaning_among spec.table word.now }
+{
+    meaning_among(&MERGE_OPTIONS, word)
+}
+
+fn meaning_among(rows: &[OptionRow], word: &str) -> Option<Meaning>
+    ensures { result ≡ spec.meaning_among (map spec.shown rows.now) word.now }
+{
+    for row in rows {
+        if row.0 == word || row.1 == word {
+            return Some(Meaning {
+                subject: row.2,
+                scope: row.3,
+                form: row.4,
+            });
+        }
+    }
+    None
+}
+
+impl Subject {
+    /// Whether two options are about the same.
+    pub(crate) fn is(self, other: Subject) -> bool
+        ensures { result ≡ spec.same self other }
+    {
+        self == other
+    }
+}

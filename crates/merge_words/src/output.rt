@@ -1,0 +1,133 @@
+//! What the items of a merge say of the whole output.
+
+ghost use Rattle.std.specs.Prelude.{◌≡◌, IfOk};
+ghost use Rattle.merge_words.specs.Output as spec;
+
+use crate::files::{FileWords, files};
+use crate::item::{Item, stands};
+use crate::options::Subject;
+use crate::said::{name_in, numbers_copy, value_in};
+use mkv_values::{List, Text};
+use std::alloc::{AllocError, Global};
+use word_values::{SplitWords, Value};
+
+const DEFAULT_SCALE: u64 = 1_000_000;
+
+const DEFAULT_BLOCKS: u32 = 65_535;
+
+const DEFAULT_SPAN: u64 = 5_000_000_000;
+
+/// What the words of a merge say of the whole output, and of each file.
+#[derive(Debug, Drop)]
+pub struct MergeWords {
+    pub output: Text,
+    pub webm: bool,
+    pub title: Option<Text>,
+    /// The name of a file with chapters.
+    pub chapters: Option<Text>,
+    /// Nanoseconds in one tick of the output.
+    pub scale: u64,
+    /// The most blocks in a Cluster.
+    pub blocks: u32,
+    /// The most nanoseconds from a Cluster's time to its last block's.
+    pub span: u64,
+    pub split: Option<SplitWords>,
+    pub files: List<FileWords>,
+    /// The SegmentUUIDs of the parts, in order, read with the highest octet first.
+    pub uuids: List<u128>,
+    /// Whether each part names the SegmentUUIDs beside its own.
+    pub link: bool,
+}
+
+/// What the items say.
+#[tactic(auto, unfolding(crate::specs::Output::merge_words))]
+pub(crate) fn merge_words(alloc: Global, items: &[Item]) -> Result<MergeWords, AllocError>
+    ensures { IfOk result (λ words. words ≡ spec.merge_words items.now) }
+{
+    Ok(MergeWords {
+        output: output_in(alloc, items)?,
+        webm: stands(Subject::Webm, items),
+        title: name_in(alloc, Subject::Title, items)?,
+        chapters: name_in(alloc, Subject::ChapterFile, items)?,
+        scale: scale_in(items),
+        blocks: blocks_in(items),
+        span: span_in(items),
+        split: split_in(alloc, items)?,
+        files: files(alloc, items)?,
+        uuids: uuids_in(alloc, items)?,
+        link: stands(Subject::Link, items),
+    })
+}
+
+fn output_in(alloc: Global, items: &[Item]) -> Result<Text, AllocError>
+    ensures { IfOk result (λ name. name ≡ spec.output_in items.now) }
+{
+    match name_in(alloc, Subject::Output, items)? {
+        Some(output) => Ok(output),
+        None => Ok(Text::new(alloc)),
+    }
+}
+
+fn scale_in(items: &[Item]) -> u64
+    ensures { result ≡ spec.scale_in items.now }
+{
+    match value_in(Subject::Scale, items) {
+        Some(Value::Scale(scale)) => *scale,
+        _ => DEFAULT_SCALE,
+    }
+}
+
+fn blocks_in(items: &[Item]) -> u32
+    ensures { result ≡ spec.blocks_in items.now }
+{
+    match value_in(Subject::ClusterLength, items) {
+        Some(Value::Blocks(blocks)) => *blocks,
+        _ => DEFAULT_BLOCKS,
+    }
+}
+
+fn span_in(items: &[Item]) -> u64
+    ensures { result ≡ spec.span_in items.now }
+{
+    match value_in(Subject::ClusterLength, items) {
+        Some(Value::Span(span)) => *span,
+        _ => DEFAULT_SPAN,
+    }
+}
+
+fn uuids_in(alloc: Global, items: &[Item]) -> Result<List<u128>, AllocError>
+    ensures { IfOk result (λ uuids. uuids ≡ spec.uuids_in items.now) }
+{
+    match value_in(Subject::Uuids, items) {
+        Some(Value::Uuids(uuids)) => Ok(List::from_vec(Vec::from_slice(alloc, uuids.as_slice())?)),
+        _ => Ok(List::new(alloc)),
+    }
+}
+
+fn split_in(alloc: Global, items: &[Item]) -> Result<Option<SplitWords>, AllocError>
+    ensures { IfOk result (λ split. split ≡ spec.split_in items.now) }
+{
+    match value_in(Subject::Split, items) {
+        Some(Value::Split(split)) => Ok(Some(split_copy(alloc, split)?)),
+        _ => Ok(None),
+    }
+}
+
+fn split_copy(alloc: Global, split: &SplitWords) -> Result<SplitWords, AllocError>
+    ensures { IfOk result (λ copy. copy ≡ split.now) }
+{
+    match split {
+        SplitWords::Duration { by } => Ok(SplitWords::Duration { by: *by }),
+        SplitWords::Times { at } => Ok(SplitWords::Times {
+            at: numbers_copy(alloc, at)?,
+        }),
+        SplitWords::Parts { spans } => Ok(SplitWords::Parts {
+            spans: List::from_vec(Vec::from_slice(alloc, spans.as_slice())?),
+        }),
+        SplitWords::AllChapters => Ok(SplitWords::AllChapters),
+        SplitWords::Chapters { numbers } => Ok(SplitWords::Chapters {
+            numbers: numbers_copy(alloc, numbers)?,
+        }),
+        SplitWords::Size { limit } => Ok(SplitWords::Size { limit: *limit }),
+    }
+}

@@ -1,0 +1,38 @@
+//! The value of an item that is about something.
+
+ghost use Rattle.std.specs.Prelude.{◌≡◌, IfOk};
+ghost use Rattle.std.specs.Option.{option_copied};
+ghost use Rattle.merge_words.specs.Said as spec;
+
+use crate::item::Item;
+use crate::options::Subject;
+use mkv_values::{List, Text};
+use std::alloc::{AllocError, Global};
+use word_values::{Value, name};
+
+/// The value of the item that is about this.
+pub(crate) fn value_in(subject: Subject, items: &[Item]) -> Option<&Value>
+    ensures { option_copied result ≡ spec.value_in subject items.now }
+{
+    let item = items.iter().find(|item| item.subject.is(subject))?;
+    Some(&item.value)
+}
+
+pub(crate) fn name_in(
+    alloc: Global,
+    subject: Subject,
+    items: &[Item],
+) -> Result<Option<Text>, AllocError>
+    ensures { IfOk result (λ name. name ≡ spec.name_in subject items.now) }
+{
+    match value_in(subject, items) {
+        Some(Value::Name(word)) => Ok(Some(name(alloc, word.as_str())?)),
+        _ => Ok(None),
+    }
+}
+
+pub(crate) fn numbers_copy(alloc: Global, numbers: &List<u64>) -> Result<List<u64>, AllocError>
+    ensures { IfOk result (λ copy. copy ≡ numbers.now) }
+{
+    Ok(List::from_vec(Vec::from_slice(alloc, numbers.as_slice())?))
+}

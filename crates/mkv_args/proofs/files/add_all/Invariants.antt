@@ -1,7 +1,0 @@
--- What is there, and then the numbers from here on, is as all of them behind what was there.
-use Rattle.std.proofs.Common.{◌≡◌, drop}
-use Rattle.mkv_args.specs.Files.{once}
-use Rattle.mkv_args.proofs.files.add_all.Given as goal
-
-abbrev pub invariant-loop-id : goal.invariant-loop-id
-invariant-loop-id l = once l.list (drop l.id-index l.ids) ≡ once l.initial.list l.ids

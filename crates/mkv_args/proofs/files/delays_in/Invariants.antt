@@ -1,7 +1,0 @@
--- What was found, and then what the items from here on say, is what all of them say.
-use Rattle.std.proofs.Common.{◌≡◌, ◌++◌, drop}
-use Rattle.mkv_args.specs.Files.{delays_in}
-use Rattle.mkv_args.proofs.files.delays_in.Given as goal
-
-abbrev pub invariant-loop-item : goal.invariant-loop-item
-invariant-loop-item l = l.list ++ delays_in (drop l.item-index l.items) ≡ delays_in l.items

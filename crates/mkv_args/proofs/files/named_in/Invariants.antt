@@ -1,9 +1,0 @@
--- What was named, and then what the items from here on name, is what all of them name.
-use Rattle.std.proofs.Common.{◌≡◌, drop}
-use Rattle.std.specs.List.{flat_map}
-use Rattle.mkv_args.specs.declared.item.Item.{Item}
-use Rattle.mkv_args.specs.Files.{named_in, once, ids_of}
-use Rattle.mkv_args.proofs.files.named_in.Given as goal
-
-abbrev pub invariant-loop-item : goal.invariant-loop-item
-invariant-loop-item l = once l.list (flat_map (λ (i : Item). ids_of i.value) (drop l.item-index l.items)) ≡ named_in l.items

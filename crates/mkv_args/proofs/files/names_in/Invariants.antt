@@ -1,7 +1,0 @@
--- What was found, and then what the items from here on say, is what all of them say.
-use Rattle.std.proofs.Common.{◌≡◌, ◌++◌, drop}
-use Rattle.mkv_args.specs.Files.{names_in}
-use Rattle.mkv_args.proofs.files.names_in.Given as goal
-
-abbrev pub invariant-loop-item : goal.invariant-loop-item
-invariant-loop-item l = l.list ++ names_in l.subject (drop l.item-index l.items) ≡ names_in l.subject l.items

@@ -1,7 +1,0 @@
--- From the time before on it is as from the first on.
-use Rattle.std.proofs.Common.{◌≡◌, ◌-◌, drop}
-use Rattle.mkv_args.specs.Lists.{ascend}
-use Rattle.mkv_args.proofs.lists.ascend.Given as goal
-
-abbrev pub invariant-loop-k : goal.invariant-loop-k
-invariant-loop-k l = ascend (drop (l.k - 1) l.times) ≡ ascend l.times

@@ -1,5 +1,0 @@
-use Rattle.mkv_args.proofs.NumbersLemmas.{cut_split}
-use Rattle.mkv_args.proofs.numbers.cut_text.Goals as goal
-
-pub returns : goal.returns
-returns c = cut_split c.args.mark c.args.word.now c.split_once.result c.split_once.ensures.cases c.requires

@@ -1,0 +1,73 @@
+//! Lines of words with the answers that they must have, and the texts of the refusals.
+
+mod shown;
+mod table;
+
+use mkv_args::{ArgsEnd, Usage, Why, read_words};
+use shown::shown;
+use std::alloc::{AllocError, Global};
+use std::process::Abort;
+use std::test::Fail;
+use table::{COMMANDS, EDITS, EXTRACTIONS, FILES, IDENTIFIERS, JOINS, OUTPUTS, SPLITS, TRACKS};
+
+/// The words of a line: those between single spaces, so that two spaces hold an empty word.
+fn words_of(alloc: Global, line: &str) -> Result<Vec<String>, AllocError> {
+    let mut words = Vec::new(alloc);
+    for word in line.split(' ') {
+        words.push(String::from_str(alloc, word)?)?;
+    }
+    Ok(words)
+}
+
+/// Reads each line, and compares what it says.
+fn compare(rt: &impl Abort, alloc: Global, lines: &[(&str, &str)]) -> Result<(), AllocError> {
+    for (line, due) in lines {
+        let words = words_of(alloc, line)?;
+        let answer = read_words(alloc, &words);
+        let told = shown(alloc, &answer)?;
+        assert_eq!(rt; told.as_str(), *due, "in {line}");
+    }
+    Ok(())
+}
+
+#[test]
+fn each_line_of_words_has_its_answer(rt: HostRuntime) -> Result<(), Fail> {
+    let tables = [
+        COMMANDS.as_slice(),
+        EXTRACTIONS.as_slice(),
+        EDITS.as_slice(),
+        OUTPUTS.as_slice(),
+        SPLITS.as_slice(),
+        IDENTIFIERS.as_slice(),
+        FILES.as_slice(),
+        TRACKS.as_slice(),
+        JOINS.as_slice(),
+    ];
+    for lines in tables {
+        compare(&rt, rt.alloc(), lines)?;
+    }
+    Ok(())
+}
+
+#[test]
+fn no_words_are_no_command(rt: HostRuntime) -> Result<(), Fail> {
+    let words = Vec::new(rt.alloc());
+    let answer = read_words(rt.alloc(), &words);
+    let told = shown(rt.alloc(), &answer)?;
+    assert_eq!(rt; told.as_str(), "0 NoCommand");
+    Ok(())
+}
+
+#[test]
+fn a_refusal_is_told_by_its_name(rt: HostRuntime) -> Result<(), Fail> {
+    let usage = ArgsEnd::Usage(Usage {
+        word: 3,
+        why: Why::UnknownOption,
+    });
+    let told = format!(in rt.alloc(); "{usage}")?;
+    assert_eq!(rt; told.as_str(), "Usage");
+    let memory = ArgsEnd::Memory;
+    let told = format!(in rt.alloc(); "{memory}")?;
+    assert_eq!(rt; told.as_str(), "Memory");
+    Ok(())
+}

@@ -1,0 +1,11 @@
+-- What is read, and then what the pieces from here on say, is what all of them say.
+use Rattle.std.proofs.Common.{◌≡◌, length}
+use Rattle.word_values.specs.Lists.{pieces, each, span}
+use Rattle.word_values.proofs.ListsLemmas.{joined}
+use Rattle.word_values.proofs.lists.span_list.Given as goal
+
+abbrev pub invariant-loop-piece : goal.invariant-loop-piece
+invariant-loop-piece l = joined l.list (each span (pieces l.rest)) ≡ each span (pieces l.word)
+
+abbrev pub decreases-loop-piece : goal.decreases-loop-piece
+decreases-loop-piece l = length l.rest

@@ -1,0 +1,104 @@
+-- Values with commas between them.
+use Rattle.std.specs.Prelude.{ℕ, Bool, true, not, ◌&&◌, ◌==◌, nat_lt, nat_le, if◌then◌else◌, List, [], ◌∷◌, length, drop, slice_index, codes, Option, Some, None, option_map}
+use Rattle.std.specs.List.{slice_split, list_any}
+use Rattle.std.specs.Str.{bytes_eq}
+use Rattle.word_values.specs.declared.lists.Select.{Select}
+use Rattle.word_values.specs.declared.lists.Select.TheVariants.{These, AllBut}
+use Rattle.word_values.specs.declared.lists.SpanWords.{SpanWords}
+use Rattle.word_values.specs.declared.lists.SplitWords.{SplitWords}
+use Rattle.word_values.specs.declared.lists.SplitWords.TheVariants.{Duration, Times, Parts, AllChapters, Chapters, Size}
+use Rattle.word_values.specs.Numbers.{◌>>=◌, cut, from, number, size, time, uuid}
+
+-- what stands between the commas
+abbrev pub pieces : List ℕ → List (List ℕ)
+pieces word = slice_split (λ b. b == 44) word
+
+-- what is first, and what the others are, where all are of the form
+abbrev pub onto : {X : Type 0} → Option X → Option (List X) → Option (List X)
+onto None xs = None
+onto (Some x) None = None
+onto (Some x) (Some xs) = Some (x ∷ xs)
+
+-- what each piece says, where all of them are of the form
+abbrev pub each : {X : Type 0} → (List ℕ → Option X) → List (List ℕ) → Option (List X)
+each read [] = Some []
+each read (p ∷ ps) = onto (read p) (each read ps)
+
+-- the value, where it passes the test
+abbrev pub passing : {X : Type 0} → (X → Bool) → Option X → Option X
+passing test None = None
+passing test (Some x) = if test x then Some x else None
+
+-- numbers, at least one
+unfoldable pub numbers : List ℕ → Option (List ℕ)
+numbers word = each number (pieces word)
+
+-- track IDs, or `!` and the IDs that aren't meant
+unfoldable pub ids : List ℕ → Option Select
+ids word = if slice_index word 0 == 33 then option_map AllBut (numbers (drop 1 word)) else option_map These (numbers word)
+
+-- each time is above the one before
+abbrev pub ascend : List ℕ → Bool
+ascend [] = true
+ascend (t ∷ []) = true
+ascend (t ∷ u ∷ us) = nat_lt t u && ascend (u ∷ us)
+
+-- times, each above the one before
+unfoldable pub times : List ℕ → Option (List ℕ)
+times word = passing ascend (each time (pieces word))
+
+-- `a-b`, or `a-` for a stretch without end
+abbrev pub span_of : List ℕ × List ℕ → Option SpanWords
+span_of (start, []) = option_map (λ s. record { start = s; end = None }) (time start)
+span_of (start, e ∷ es) = do
+  s ← time start
+  t ← time (e ∷ es)
+  Some (record { start = s; end = Some t })
+
+unfoldable pub span : List ℕ → Option SpanWords
+span word = cut 45 word >>= span_of
+
+-- a stretch without an end is the last; an end is above its start, and the others follow it
+abbrev pub ends_before : ℕ → Option ℕ → Bool → (ℕ → Bool) → Bool
+ends_before start None last others = last
+ends_before start (Some e) last others = nat_lt start e && others e
+
+-- each stretch begins at the least or behind it, and the next at its end or behind that
+abbrev pub follow : ℕ → List SpanWords → Bool
+follow least [] = true
+follow least (s ∷ ss) = nat_le least s.start && ends_before s.start s.end (length ss == 0) (λ e. follow e ss)
+
+-- stretches of time, none of which begins before the end of the one before
+unfoldable pub spans : List ℕ → Option (List SpanWords)
+spans word = passing (follow 0) (each span (pieces word))
+
+-- no number stands twice
+abbrev pub differ : List ℕ → Bool
+differ [] = true
+differ (n ∷ ns) = not (list_any (λ m. m == n) ns) && differ ns
+
+-- identifiers, 1 to 1024, all different
+unfoldable pub uuids : List ℕ → Option (List ℕ)
+uuids word = passing (λ us. nat_le (length us) 1024 && differ us) (each uuid (pieces word))
+
+-- a time above 0
+unfoldable pub duration : List ℕ → Option SplitWords
+duration word = option_map Duration (from 1 (time word))
+
+-- `all`, or the numbers of chapters
+unfoldable pub chapters : List ℕ → Option SplitWords
+chapters word = if bytes_eq word (codes "all") then Some AllChapters else option_map Chapters (numbers word)
+
+-- what stands behind the kind of a split
+unfoldable pub split_of : List ℕ → List ℕ → Option SplitWords
+split_of kind rest =
+    if bytes_eq kind (codes "duration") then duration rest
+    else if bytes_eq kind (codes "timestamps") then option_map Times (times rest)
+    else if bytes_eq kind (codes "chapters") then chapters rest
+    else if bytes_eq kind (codes "parts") then option_map Parts (spans rest)
+    else if bytes_eq kind (codes "size") then option_map Size (size rest)
+    else None
+
+-- where an output is split
+unfoldable pub split : List ℕ → Option SplitWords
+split word = cut 58 word >>= (λ p. split_of p.0 p.1)

@@ -1,0 +1,301 @@
+//! Values with commas between them.
+
+ghost use Rattle.std.specs.Prelude.{◌≡◌};
+ghost use Rattle.word_values.specs.Answers.{Reads};
+ghost use Rattle.word_values.specs.Lists as spec;
+ghost use Rattle.word_values.specs.Lists.{pieces, each};
+ghost use Rattle.word_values.specs.Numbers as numbers;
+
+use crate::numbers::{cut, cut_text, number, size, time, uuid};
+use crate::usage::ValueEnd;
+use mkv_values::List;
+use std::alloc::Global;
+
+/// The most identifiers that the parts of an output are given.
+const MOST_UUIDS: usize = 1024;
+
+/// Where an output is split. Times are in nanoseconds.
+#[derive(Debug, Drop)]
+pub enum SplitWords {
+    /// After so much time.
+    Duration { by: u64 },
+    /// At these times, which ascend.
+    Times { at: List<u64> },
+    /// Only these stretches are written, which ascend and don't overlap.
+    Parts { spans: List<SpanWords> },
+    /// At the start of each chapter.
+    AllChapters,
+    /// At the start of these chapters, from 1.
+    Chapters { numbers: List<u64> },
+    /// After so many octets of blocks.
+    Size { limit: u64 },
+}
+
+/// A stretch of time, in nanoseconds, which may have no end.
+#[derive(Clone, Copy, Debug, PartialEq, Eq)]
+pub struct SpanWords {
+    pub start: u64,
+    pub end: Option<u64>,
+}
+
+/// Which tracks of one type are taken.
+#[derive(Debug, Drop)]
+pub enum Select {
+    All,
+    These { ids: List<u64> },
+    AllBut { ids: List<u64> },
+    Off,
+}
+
+/// Numbers, at least one.
+#[tactic(auto, unfolding(crate::specs::Lists::numbers))]
+pub(crate) fn numbers(alloc: Global, word: &[u8]) -> Result<List<u64>, ValueEnd>
+    ensures { Reads result (spec.numbers word.now) }
+{
+    let mut list = List::new(alloc);
+    let mut rest = word;
+    while let Some((piece, after)) = cut(rest, b',') {
+        let Some(value) = number(piece) else {
+            return Err(ValueEnd::Bad);
+        };
+        list.push(value)?;
+        rest = after;
+    }
+    let Some(last) = number(rest) else {
+        return Err(ValueEnd::Bad);
+    };
+    list.push(last)?;
+    Ok(list)
+}
+
+/// Track IDs, or `!` and the IDs that aren't meant.
+#[tactic(auto, unfolding(crate::specs::Lists::ids))]
+pub(crate) fn ids(alloc: Global, word: &[u8]) -> Result<Select, ValueEnd>
+    ensures { Reads result (spec.ids word.now) }
+{
+    match word {
+        [b'!', rest @ ..] => Ok(Select::AllBut {
+            ids: numbers(alloc, rest)?,
+        }),
+        _ => Ok(Select::These {
+            ids: numbers(alloc, word)?,
+        }),
+    }
+}
+
+/// Times, at least one, each above the one before.
+#[tactic(auto, unfolding(crate::specs::Lists::times))]
+fn times(alloc: Global, word: &[u8]) -> Result<List<u64>, ValueEnd>
+    ensures { Reads result (spec.times word.now) }
+{
+    let list = time_list(alloc, word)?;
+    if ascend(list.as_slice()) {
+        Ok(list)
+    } else {
+        Err(ValueEnd::Bad)
+    }
+}
+
+/// Times, at least one.
+fn time_list(alloc: Global, word: &[u8]) -> Result<List<u64>, ValueEnd>
+    ensures { Reads result (each numbers.time (pieces word.now)) }
+{
+    let mut list = List::new(alloc);
+    let mut rest = word;
+    while let Some((piece, after)) = cut(rest, b',') {
+        let Some(value) = time(piece) else {
+            return Err(ValueEnd::Bad);
+        };
+        list.push(value)?;
+        rest = after;
+    }
+    let Some(last) = time(rest) else {
+        return Err(ValueEnd::Bad);
+    };
+    list.push(last)?;
+    Ok(list)
+}
+
+/// Whether each time is above the one before.
+fn ascend(times: &[u64]) -> bool
+    ensures { result ≡ spec.ascend times.now }
+{
+    for k in 1..times.len() {
+        if times[k] <= times[k - 1] {
+            return false;
+        }
+    }
+    true
+}
+
+/// Stretches of time, at least one, none of which begins before the end of the one before.
+#[tactic(auto, unfolding(crate::specs::Lists::spans))]
+fn spans(alloc: Global, word: &[u8]) -> Result<List<SpanWords>, ValueEnd>
+    ensures { Reads result (spec.spans word.now) }
+{
+    let list = span_list(alloc, word)?;
+    if follow(list.as_slice()) {
+        Ok(list)
+    } else {
+        Err(ValueEnd::Bad)
+    }
+}
+
+/// Stretches of time, at least one.
+fn span_list(alloc: Global, word: &[u8]) -> Result<List<SpanWords>, ValueEnd>
+    ensures { Reads result (each spec.span (pieces word.now)) }
+{
+    let mut list = List::new(alloc);
+    let mut rest = word;
+    while let Some((piece, after)) = cut(rest, b',') {
+        let Some(value) = span(piece) else {
+            return Err(ValueEnd::Bad);
+        };
+        list.push(value)?;
+        rest = after;
+    }
+    let Some(last) = span(rest) else {
+        return Err(ValueEnd::Bad);
+    };
+    list.push(last)?;
+    Ok(list)
+}
+
+/// `a-b`, or `a-` for a stretch without end.
+#[tactic(auto, unfolding(crate::specs::Lists::span))]
+fn span(word: &[u8]) -> Option<SpanWords>
+    ensures { result ≡ spec.span word.now }
+{
+    let (start, end) = cut(word, b'-')?;
+    let start = time(start)?;
+    if end.is_empty() {
+        return Some(SpanWords { start, end: None });
+    }
+    let end = time(end)?;
+    Some(SpanWords {
+        start,
+        end: Some(end),
+    })
+}
+
+/// Whether each stretch begins before its end and not before the end of the one before it. Only
+/// the last may have no end.
+fn follow(spans: &[SpanWords]) -> bool
+    ensures { result ≡ spec.follow 0 spans.now }
+{
+    let mut least = 0;
+    for (k, span) in spans.iter().enumerate() {
+        if span.start < least {
+            return false;
+        }
+        match span.end {
+            None => return k + 1 == spans.len(),
+            Some(end) => {
+                if end <= span.start {
+                    return false;
+                }
+                least = end;
+            }
+        }
+    }
+    true
+}
+
+/// Identifiers, 1 to 1024, all different.
+#[tactic(auto, unfolding(crate::specs::Lists::uuids))]
+pub(crate) fn uuids(alloc: Global, word: &[u8]) -> Result<List<u128>, ValueEnd>
+    ensures { Reads result (spec.uuids word.now) }
+{
+    let list = uuid_list(alloc, word)?;
+    if list.len() <= MOST_UUIDS && differ(list.as_slice()) {
+        Ok(list)
+    } else {
+        Err(ValueEnd::Bad)
+    }
+}
+
+/// Identifiers, at least one.
+fn uuid_list(alloc: Global, word: &[u8]) -> Result<List<u128>, ValueEnd>
+    ensures { Reads result (each numbers.uuid (pieces word.now)) }
+{
+    let mut list = List::new(alloc);
+    let mut rest = word;
+    while let Some((piece, after)) = cut(rest, b',') {
+        let Some(value) = uuid(piece) else {
+            return Err(ValueEnd::Bad);
+        };
+        list.push(value)?;
+        rest = after;
+    }
+    let Some(last) = uuid(rest) else {
+        return Err(ValueEnd::Bad);
+    };
+    list.push(last)?;
+    Ok(list)
+}
+
+/// Whether no number stands twice.
+fn differ(numbers: &[u128]) -> bool
+    ensures { result ≡ spec.differ numbers.now }
+{
+    for (k, number) in numbers.iter().enumerate() {
+        if numbers[k + 1..].contains(number) {
+            return false;
+        }
+    }
+    true
+}
+
+/// Where an output is split: `duration:`, `timestamps:`, `chapters:`, `parts:` or `size:`.
+#[tactic(auto, unfolding(crate::specs::Lists::split, crate::specs::Lists::split_of))]
+pub(crate) fn split(alloc: Global, word: &str) -> Result<SplitWords, ValueEnd>
+    ensures { Reads result (spec.split word.now) }
+{
+    let Some((kind, rest)) = cut_text(word, ':') else {
+        return Err(ValueEnd::Bad);
+    };
+    let rest = rest.as_bytes();
+    match kind {
+        "duration" => duration(rest).ok_or(ValueEnd::Bad),
+        "timestamps" => Ok(SplitWords::Times {
+            at: times(alloc, rest)?,
+        }),
+        "chapters" => chapters(alloc, rest),
+        "parts" => Ok(SplitWords::Parts {
+            spans: spans(alloc, rest)?,
+        }),
+        "size" => {
+            let Some(limit) = size(rest) else {
+                return Err(ValueEnd::Bad);
+            };
+            Ok(SplitWords::Size { limit })
+        }
+        _ => Err(ValueEnd::Bad),
+    }
+}
+
+/// A time above 0.
+#[tactic(auto, unfolding(crate::specs::Lists::duration))]
+fn duration(word: &[u8]) -> Option<SplitWords>
+    ensures { result ≡ spec.duration word.now }
+{
+    let by = time(word)?;
+    if by > 0 {
+        Some(SplitWords::Duration { by })
+    } else {
+        None
+    }
+}
+
+/// `all`, or the numbers of chapters.
+#[tactic(auto, unfolding(crate::specs::Lists::chapters))]
+fn chapters(alloc: Global, word: &[u8]) -> Result<SplitWords, ValueEnd>
+    ensures { Reads result (spec.chapters word.now) }
+{
+    if word == b"all".as_slice() {
+        return Ok(SplitWords::AllChapters);
+    }
+    Ok(SplitWords::Chapters {
+        numbers: numbers(alloc, word)?,
+    })
+}

@@ -1,0 +1,200 @@
+//! Numbers, times and sizes, as they are spelled in words.
+
+ghost use Rattle.std.specs.Prelude.{◌≡◌, ◌==◌, ◌^◌, ◌<◌, IfSome, option_map};
+ghost use Rattle.std.specs.List.{position};
+ghost use Rattle.word_values.specs.Numbers as spec;
+ghost use Rattle.word_values.specs.Numbers.{below};
+
+const SECOND: u64 = 1_000_000_000;
+
+const MILLISECOND: u64 = 1_000_000;
+
+/// The least time that is too long, in nanoseconds.
+const TIME_LIMIT: u64 = 1 << 63;
+
+/// The least delay that is too long, in nanoseconds.
+const DELAY_LIMIT: u64 = 1 << 55;
+
+/// What stands before and behind the first such octet.
+#[tactic(auto, unfolding(crate::specs::Numbers::cut))]
+pub(crate) fn cut(word: &[u8], octet: u8) -> Option<(&[u8], &[u8])>
+    ensures { option_map (λ p. (p.0.now, p.1.now)) result ≡ spec.cut octet word.now }
+{
+    let at = place_of(word, octet)?;
+    Some((&word[..at], &word[at + 1..]))
+}
+
+/// The same of text, at an ASCII character.
+pub fn cut_text(word: &str, mark: char) -> Option<(&str, &str)>
+    requires { mark < 128 }
+    ensures { option_map (λ p. (p.0.now, p.1.now)) result ≡ spec.cut mark word.now }
+{
+    word.split_once(mark)
+}
+
+/// Where the first such octet stands.
+fn place_of(word: &[u8], octet: u8) -> Option<usize>
+    ensures { result ≡ position (λ b. b == octet) word.now }
+{
+    word.iter().position(|b| *b == octet)
+}
+
+/// One or more digits, below 2^64.
+#[tactic(auto, unfolding(crate::specs::Numbers::whole))]
+pub(crate) fn whole(word: &[u8]) -> Option<u64>
+    ensures { result ≡ below (2 ^ 64) (spec.whole word.now) }
+{
+    if word.is_empty() {
+        return None;
+    }
+    let mut value: u64 = 0;
+    for octet in word {
+        if !octet.is_ascii_digit() {
+            return None;
+        }
+        let digit = u64::from(*octet - b'0');
+        value = value.checked_mul(10)?.checked_add(digit)?;
+    }
+    Some(value)
+}
+
+/// 1 to 18 digits.
+#[tactic(auto, using(crate::proofs::NumbersLemmas::whole_short), unfolding(crate::specs::Numbers::number))]
+pub fn number(word: &[u8]) -> Option<u64>
+    ensures { result ≡ spec.number word.now }
+{
+    if word.len() > 18 {
+        return None;
+    }
+    whole(word)
+}
+
+/// Milliseconds with or without `-`, as nanoseconds.
+#[tactic(auto, unfolding(crate::specs::Numbers::delay))]
+pub(crate) fn delay(word: &[u8]) -> Option<i64>
+    ensures { result ≡ spec.delay word.now }
+{
+    match word {
+        [b'-', rest @ ..] => Some(-(delay_size(rest)? as i64)),
+        _ => Some(delay_size(word)? as i64),
+    }
+}
+
+#[tactic(auto, unfolding(crate::specs::Numbers::delay_size))]
+fn delay_size(word: &[u8]) -> Option<u64>
+    ensures same { result ≡ spec.delay_size word.now }
+    ensures small { IfSome result (λ n. n < 2 ^ 55) }
+{
+    let time = number(word)?.checked_mul(MILLISECOND)?;
+    if time < DELAY_LIMIT { Some(time) } else { None }
+}
+
+/// `H:MM:SS`, with or without a fraction, or digits followed by `s`, in nanoseconds.
+#[tactic(auto, unfolding(crate::specs::Numbers::time))]
+pub(crate) fn time(word: &[u8]) -> Option<u64>
+    ensures { result ≡ spec.time word.now }
+{
+    let time = match word {
+        [front @ .., b's'] => whole(front)?.checked_mul(SECOND)?,
+        _ => clock(word)?,
+    };
+    if time < TIME_LIMIT { Some(time) } else { None }
+}
+
+#[tactic(auto, unfolding(crate::specs::Numbers::clock))]
+fn clock(word: &[u8]) -> Option<u64>
+    ensures { result ≡ below (2 ^ 64) (spec.clock word.now) }
+{
+    let (hours, rest) = cut(word, b':')?;
+    let (minutes, rest) = cut(rest, b':')?;
+    let hours = whole(hours)?;
+    let minutes = sixtieth(minutes)?;
+    let rest = seconds(rest)?;
+    hours
+        .checked_mul(3600)?
+        .checked_add(minutes * 60)?
+        .checked_mul(SECOND)?
+        .checked_add(rest)
+}
+
+/// Two digits, below 60.
+#[tactic(auto, unfolding(crate::specs::Numbers::sixtieth))]
+fn sixtieth(word: &[u8]) -> Option<u64>
+    ensures same { result ≡ spec.sixtieth word.now }
+    ensures small { IfSome result (λ n. n < 60) }
+{
+    if word.len() != 2 {
+        return None;
+    }
+    let value = whole(word)?;
+    if value < 60 { Some(value) } else { None }
+}
+
+/// `SS`, with or without a fraction, in nanoseconds.
+#[tactic(auto, unfolding(crate::specs::Numbers::seconds))]
+fn seconds(word: &[u8]) -> Option<u64>
+    ensures same { result ≡ spec.seconds word.now }
+    ensures small { IfSome result (λ n. n < 60000000000) }
+{
+    match cut(word, b'.') {
+        None => Some(sixtieth(word)? * SECOND),
+        Some((whole, rest)) => {
+            let seconds = sixtieth(whole)? * SECOND;
+            Some(seconds + fraction(rest)?)
+        }
+    }
+}
+
+/// 1 to 9 digits behind a point, in billionths.
+#[tactic(auto, using(crate::proofs::NumbersLemmas::whole_short, crate::proofs::NumbersLemmas::fraction_small), unfolding(crate::specs::Numbers::fraction))]
+fn fraction(word: &[u8]) -> Option<u64>
+    ensures same { result ≡ spec.fraction word.now }
+    ensures small { IfSome result (λ n. n < 1000000000) }
+{
+    if word.len() > 9 {
+        return None;
+    }
+    let value = whole(word)?;
+    Some(value * 10u64.pow(9 - word.len() as u32))
+}
+
+/// Octets, with or without a unit; a product past the greatest number is that number.
+#[tactic(auto, unfolding(crate::specs::Numbers::size))]
+pub(crate) fn size(word: &[u8]) -> Option<u64>
+    ensures { result ≡ spec.size word.now }
+{
+    match word {
+        [front @ .., b'k'] => Some(amount(front)?.saturating_mul(1 << 10)),
+        [front @ .., b'm'] => Some(amount(front)?.saturating_mul(1 << 20)),
+        [front @ .., b'g'] => Some(amount(front)?.saturating_mul(1 << 30)),
+        _ => amount(word),
+    }
+}
+
+/// 1 to 12 digits, at least 1.
+#[tactic(auto, using(crate::proofs::NumbersLemmas::whole_short), unfolding(crate::specs::Numbers::amount))]
+fn amount(word: &[u8]) -> Option<u64>
+    ensures { result ≡ spec.amount word.now }
+{
+    if word.len() > 12 {
+        return None;
+    }
+    let value = whole(word)?;
+    if value >= 1 { Some(value) } else { None }
+}
+
+/// An identifier of 32 hexadecimal digits.
+#[tactic(auto, using(crate::proofs::NumbersLemmas::hex_more), unfolding(crate::specs::Numbers::uuid))]
+pub(crate) fn uuid(word: &[u8]) -> Option<u128>
+    ensures { result ≡ spec.uuid word.now }
+{
+    if word.len() != 32 {
+        return None;
+    }
+    let mut value: u128 = 0;
+    for octet in word {
+        let digit = char::from(*octet).to_digit(16)?;
+        value = value * 16 + u128::from(digit);
+    }
+    Some(value)
+}

@@ -1,0 +1,71 @@
+//! The words by their numbers, counted from 0, and what is wrong where one is due or too many.
+
+ghost use Rattle.std.specs.Prelude.{◌≡◌, ◌+◌, ◌<◌, [], ◌∷◌, MatchOption, OnSome, drop, length, slice_get, option_map};
+ghost use Rattle.word_values.specs.Answers.{Tells, TellsOf, refuses};
+ghost use Rattle.word_values.specs.Place as place;
+ghost use Rattle.word_values.specs.Place.{texts};
+
+use crate::usage::{ArgsEnd, Usage, Why};
+
+/// The word at a number, counted from 0.
+pub fn word_at(words: &[String], at: usize) -> Option<&str>
+    ensures same { option_map (λ w. w.now) result ≡ slice_get (texts words.now) at }
+    ensures rest { MatchOption result (drop at (texts words.now) ≡ []) (λ w. drop at (texts words.now) ≡ w.now ∷ drop (at + 1) (texts words.now)) }
+    ensures within { OnSome result (at < length words.now) }
+{
+    match text_at(words, at) {
+        Some(word) => Some(word),
+        None => None,
+    }
+}
+
+fn text_at(words: &[String], at: usize) -> Option<&str>
+    ensures { option_map (λ w. w.now) result ≡ slice_get (texts words.now) at }
+{
+    Some(words.get(at)?.as_str())
+}
+
+/// The word that is due at a number.
+pub fn due_at(words: &[String], at: usize) -> Result<&str, ArgsEnd>
+    ensures { TellsOf (λ w. w.now) result (place.due_at (texts words.now) at) }
+{
+    match word_at(words, at) {
+        Some(word) => Ok(word),
+        None => refused(words.len(), Why::MissingValue),
+    }
+}
+
+/// The name of a file that is due at a number, which doesn't look like an option.
+pub fn file_at(words: &[String], at: usize) -> Result<&str, ArgsEnd>
+    ensures { TellsOf (λ w. w.now) result (place.file_at (texts words.now) at) }
+{
+    let file = due_at(words, at)?;
+    if is_option(file) {
+        return refused(at, Why::UnknownOption);
+    }
+    Ok(file)
+}
+
+/// Refuses a word where none may stand.
+pub fn end_at(words: &[String], at: usize) -> Result<(), ArgsEnd>
+    ensures { Tells result (place.end_at (texts words.now) at) }
+{
+    if at < words.len() {
+        return refused(at, Why::ExtraWord);
+    }
+    Ok(())
+}
+
+/// Refuses a word.
+pub fn refused<T>(word: usize, why: Why) -> Result<T, ArgsEnd>
+    ensures { result ≡ refuses word why }
+{
+    Err(ArgsEnd::Usage(Usage { word, why }))
+}
+
+/// Whether a word looks like an option. A lone `-` doesn't.
+pub fn is_option(word: &str) -> bool
+    ensures { result ≡ place.is_option word.now }
+{
+    matches!(word.as_bytes(), [b'-', _, ..])
+}

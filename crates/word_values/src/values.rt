@@ -1,0 +1,251 @@
+//! What the value of an option says.
+
+ghost use Rattle.std.specs.Prelude.{◌≡◌, option_map, OnOk, IfOk};
+ghost use Rattle.std.specs.Char.{is_ascii_lowercase};
+ghost use Rattle.std.specs.List.{list_all};
+ghost use Rattle.word_values.specs.Answers.{Reads};
+ghost use Rattle.word_values.specs.Values as spec;
+
+use crate::lists::{Select, SpanWords, SplitWords, ids, split, uuids};
+use crate::numbers::{cut_text, delay, number};
+use crate::usage::ValueEnd;
+use mkv_values::{List, Text};
+use std::alloc::{AllocError, Global};
+
+/// The form of an option's value. Where a track is named, it is by its ID, with `:` behind it.
+#[derive(Clone, Copy, Debug, PartialEq, Eq)]
+pub enum ValueForm {
+    /// There is none.
+    Flag,
+    /// There is none, and the type is left out.
+    Exclusion,
+    /// The name of a file.
+    Name,
+    /// Any text without a zero octet.
+    Text,
+    /// Nanoseconds in a tick, 1000 to 10000000.
+    Scale,
+    /// Blocks, 1 to 65535, or milliseconds, 100 to 32000, followed by `ms`.
+    Length,
+    /// Where to split.
+    Split,
+    /// Segment identifiers of 32 hexadecimal digits.
+    Uuids,
+    /// Track IDs, with `!` before them for all others.
+    Ids,
+    /// A track and milliseconds.
+    TrackDelay,
+    /// A track and a text without a zero octet.
+    TrackText,
+    /// A track and three lower-case letters.
+    TrackLanguage,
+    /// A track alone, or a track and 0 or 1.
+    TrackFlag,
+    /// A track and `none`, `iframes` or `all`.
+    TrackCues,
+    /// A track and the name of a file.
+    TrackFile,
+}
+
+/// What an option says, with its value.
+#[derive(Drop)]
+pub enum Value {
+    /// That it stands there.
+    Flag,
+    /// The name of a file, or a text.
+    Name(Text),
+    Scale(u64),
+    Blocks(u32),
+    /// Nanoseconds.
+    Span(u64),
+    Split(SplitWords),
+    Uuids(List<u128>),
+    Tracks(Select),
+    /// A track and nanoseconds.
+    TrackDelay(u64, i64),
+    TrackName(u64, Text),
+    TrackFlag(u64, bool),
+    TrackCues(u64, CueWord),
+}
+
+/// Which blocks of a track get a cue point.
+#[derive(Clone, Copy, Debug, PartialEq, Eq)]
+pub enum CueWord {
+    Never,
+    /// Those that can be decoded by themselves.
+    Key,
+    All,
+}
+
+/// What an option without a value says; none where a value is due.
+pub fn flag_of(form: ValueForm) -> Option<Value>
+    ensures { result ≡ spec.flag_of form }
+{
+    match form {
+        ValueForm::Flag => Some(Value::Flag),
+        ValueForm::Exclusion => Some(Value::Tracks(Select::Off)),
+        _ => None,
+    }
+}
+
+/// What an option says with this value.
+#[tactic(auto, unfolding(crate::specs::Values::value_of))]
+pub fn value_of(alloc: Global, form: ValueForm, word: &str) -> Result<Value, ValueEnd>
+    ensures { Reads result (spec.value_of form word.now) }
+{
+    match form {
+        ValueForm::Flag | ValueForm::Exclusion => Err(ValueEnd::Bad),
+        ValueForm::Name => Ok(Value::Name(name(alloc, word)?)),
+        ValueForm::Text => Ok(Value::Name(text(alloc, word)?)),
+        ValueForm::Scale => scale(word.as_bytes()).ok_or(ValueEnd::Bad),
+        ValueForm::Length => cluster_length(word.as_bytes()).ok_or(ValueEnd::Bad),
+        ValueForm::Split => Ok(Value::Split(split(alloc, word)?)),
+        ValueForm::Uuids => Ok(Value::Uuids(uuids(alloc, word.as_bytes())?)),
+        ValueForm::Ids => Ok(Value::Tracks(ids(alloc, word.as_bytes())?)),
+        ValueForm::TrackFlag => track_flag(word).ok_or(ValueEnd::Bad),
+        ValueForm::TrackDelay
+        | ValueForm::TrackText
+        | ValueForm::TrackLanguage
+        | ValueForm::TrackCues
+        | ValueForm::TrackFile => {
+            let (id, rest) = track_and_rest(word).ok_or(ValueEnd::Bad)?;
+            track_value(alloc, form, id, rest)
+        }
+    }
+}
+
+/// What an option says of a track.
+#[tactic(auto, unfolding(crate::specs::Values::track_value))]
+fn track_value(alloc: Global, form: ValueForm, id: u64, rest: &str) -> Result<Value, ValueEnd>
+    ensures { Reads result (spec.track_value form id rest.now) }
+{
+    match form {
+        ValueForm::TrackDelay => {
+            let time = delay(rest.as_bytes()).ok_or(ValueEnd::Bad)?;
+            Ok(Value::TrackDelay(id, time))
+        }
+        ValueForm::TrackText => Ok(Value::TrackName(id, text(alloc, rest)?)),
+        ValueForm::TrackLanguage => Ok(Value::TrackName(id, language(alloc, rest)?)),
+        ValueForm::TrackCues => {
+            let cues = cue_word(rest).ok_or(ValueEnd::Bad)?;
+            Ok(Value::TrackCues(id, cues))
+        }
+        ValueForm::TrackFile => Ok(Value::TrackName(id, name(alloc, rest)?)),
+        _ => Err(ValueEnd::Bad),
+    }
+}
+
+/// A number, and what stands behind the first `:`.
+#[tactic(auto, unfolding(crate::specs::Values::track_and_rest))]
+pub fn track_and_rest(word: &str) -> Option<(u64, &str)>
+    ensures { option_map (λ p. (p.0, p.1.now)) result ≡ spec.track_and_rest word.now }
+{
+    let (id, rest) = cut_text(word, ':')?;
+    let id = number(id.as_bytes())?;
+    Some((id, rest))
+}
+
+/// Any word.
+pub fn name(alloc: Global, word: &str) -> Result<Text, AllocError>
+    ensures { IfOk result (λ name. name ≡ word.now) }
+{
+    let mut name = Text::new(alloc);
+    name.append(word)?;
+    Ok(name)
+}
+
+/// A word without a zero octet.
+#[tactic(auto, unfolding(crate::specs::Values::text))]
+fn text(alloc: Global, word: &str) -> Result<Text, ValueEnd>
+    ensures { Reads result (spec.text word.now) }
+{
+    if word.as_bytes().contains(&0) {
+        return Err(ValueEnd::Bad);
+    }
+    Ok(name(alloc, word)?)
+}
+
+/// Three lower-case letters.
+#[tactic(auto, unfolding(crate::specs::Values::language))]
+fn language(alloc: Global, word: &str) -> Result<Text, ValueEnd>
+    ensures { Reads result (spec.language word.now) }
+{
+    if !is_language(word.as_bytes()) {
+        return Err(ValueEnd::Bad);
+    }
+    Ok(name(alloc, word)?)
+}
+
+fn is_language(word: &[u8]) -> bool
+    ensures { result ≡ spec.is_language word.now }
+{
+    word.len() == 3 && are_lowercase(word)
+}
+
+fn are_lowercase(word: &[u8]) -> bool
+    ensures { result ≡ list_all is_ascii_lowercase word.now }
+{
+    word.iter().all(|b| b.is_ascii_lowercase())
+}
+
+/// Nanoseconds in a tick.
+#[tactic(auto, unfolding(crate::specs::Values::scale))]
+fn scale(word: &[u8]) -> Option<Value>
+    ensures { result ≡ spec.scale word.now }
+{
+    let scale = number(word)?;
+    if 1000 <= scale && scale <= 10_000_000 {
+        Some(Value::Scale(scale))
+    } else {
+        None
+    }
+}
+
+/// Blocks, or milliseconds followed by `ms`.
+#[tactic(auto, unfolding(crate::specs::Values::cluster_length))]
+fn cluster_length(word: &[u8]) -> Option<Value>
+    ensures { result ≡ spec.cluster_length word.now }
+{
+    if let [front @ .., b'm', b's'] = word {
+        let span = number(front)?;
+        return if 100 <= span && span <= 32_000 {
+            Some(Value::Span(span * 1_000_000))
+        } else {
+            None
+        };
+    }
+    let blocks = number(word)?;
+    if 1 <= blocks && blocks <= 65_535 {
+        Some(Value::Blocks(blocks as u32))
+    } else {
+        None
+    }
+}
+
+/// A track alone, or a track and 0 or 1.
+#[tactic(auto, unfolding(crate::specs::Values::track_flag))]
+fn track_flag(word: &str) -> Option<Value>
+    ensures { result ≡ spec.track_flag word.now }
+{
+    match track_and_rest(word) {
+        Some((id, "0")) => Some(Value::TrackFlag(id, false)),
+        Some((id, "1")) => Some(Value::TrackFlag(id, true)),
+        Some(_) => None,
+        None => {
+            let id = number(word.as_bytes())?;
+            Some(Value::TrackFlag(id, true))
+        }
+    }
+}
+
+#[tactic(auto, unfolding(crate::specs::Values::cue_word))]
+fn cue_word(word: &str) -> Option<CueWord>
+    ensures { result ≡ spec.cue_word word.now }
+{
+    match word {
+        "none" => Some(CueWord::Never),
+        "iframes" => Some(CueWord::Key),
+        "all" => Some(CueWord::All),
+        _ => None,
+    }
+}
