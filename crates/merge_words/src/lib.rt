@@ -11,5 +11,5 @@ mod said;
 
 pub use files::FileWords;
 pub use merge::read_merge;
-pub use options::{MERGE_OPTIONS, Meaning, OptionRow, Scope, Subject, meaning_of};
+pub use options::{Meaning, OptionRow, Scope, Subject, meaning_of, merge_options};
 pub use output::MergeWords;

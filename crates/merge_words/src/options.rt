@@ -68,9 +68,8 @@ pub struct OptionRow(
     pub ValueForm,
 );
 
-/// The options of `merge`: those for the whole output, then those for the next file.
 #[rattlefmt::skip]
-pub static MERGE_OPTIONS: [OptionRow; 27] = [
+static MERGE_OPTIONS: [OptionRow; 27] = [
     OptionRow("-o", "--output", Subject::Output, Scope::Output, ValueForm::Name),
     OptionRow("-w", "--webm", Subject::Webm, Scope::Output, ValueForm::Flag),
     OptionRow("", "--title", Subject::Title, Scope::Output, ValueForm::Text),
@@ -100,6 +99,14 @@ pub static MERGE_OPTIONS: [OptionRow; 27] = [
     OptionRow("", "--timestamps", Subject::Times, Scope::Track, ValueForm::TrackFile),
 ];
 
+/// The options of `merge`: those for the whole output, then those for the next file.
+#[tactic(auto, unfolding(crate::specs::Options::table))]
+pub fn merge_options() -> &'static [OptionRow]
+    ensures { map spec.shown result.now ≡ spec.table }
+{
+    &MERGE_OPTIONS
+}
+
 /// What an option of `merge` means, by either spelling.
 #[tactic(auto, unfolding(crate::specs::Options::meaning_of))]
 pub fn meaning_of(word: &str) -> Option<Meaning>
@@ -108,14 +115,7 @@ pub fn meaning_of(word: &str) -> Option<Meaning>
     if !is_option(word) {
         return None;
     }
-    meaning_in_table(word)
-}
-
-#[tactic(auto, unfolding(crate::specs::Options::table))]
-fn meaning_in_table(word: &str) -> Option<Meaning>
-    ensures { result ≡ spec.meaning_among spec.table word.now }
-{
-    meaning_among(&MERGE_OPTIONS, word)
+    meaning_among(merge_options(), word)
 }
 
 fn meaning_among(rows: &[OptionRow], word: &str) -> Option<Meaning>
@@ -135,7 +135,7 @@ fn meaning_among(rows: &[OptionRow], word: &str) -> Option<Meaning>
 
 impl Subject {
     /// Whether two options are about the same.
-    pub(crate) fn is(self, other: Subject) -> bool
+    pub fn is(self, other: Subject) -> bool
         ensures { result ≡ spec.same self other }
     {
         self == other

@@ -11,6 +11,9 @@ use Rattle.word_values.specs.declared.usage.Usage.{Usage}
 use Rattle.word_values.specs.declared.usage.Why.TheVariants.{UnknownCommand, UnknownOption, BadValue, RepeatedOutput}
 use Rattle.mkv_args.specs.declared.command.Command.{Command}
 use Rattle.mkv_args.specs.declared.command.Command.TheVariants as command
+use Rattle.mkv_args.specs.declared.extract.Mode.{Mode}
+use Rattle.mkv_args.specs.declared.extract.Mode.TheVariants as mode
+use Rattle.mkv_args.specs.Entry.{Entry, entry, meant}
 use Rattle.word_values.specs.Answers.{wrong, ◌>>=◌}
 use Rattle.word_values.specs.Place.{due_at, file_at, end_at, is_option}
 use Rattle.word_values.specs.Values.{track_and_rest}
@@ -76,20 +79,31 @@ listed make said = do
   list ← said
   Ok (make list)
 
+-- the modes, with what `--help` says of them
+unfoldable pub modes : List (Entry Mode)
+modes =
+    entry (codes "") (codes "tracks") mode.Tracks (codes "[--raw or --fullraw] ID:FILE..") (codes "frames of tracks") ∷
+    entry (codes "") (codes "timestamps_v2") mode.Timestamps (codes "ID:FILE..") (codes "times of the frames") ∷
+    entry (codes "") (codes "cues") mode.Cues (codes "ID:FILE..") (codes "cue points") ∷
+    entry (codes "") (codes "attachments") mode.Attachments (codes "ID:FILE..") (codes "attached files, from 1") ∷
+    entry (codes "") (codes "chapters") mode.Chapters (codes "--simple FILE") (codes "chapters as text") ∷ []
+
 -- what the words behind the mode ask for
+unfoldable pub job_of : Option Mode → List (List ℕ) → Result Job Usage
+job_of None words = wrong 2 UnknownCommand
+job_of (Some mode.Tracks) words = tracks words
+job_of (Some mode.Timestamps) words = listed jobs.Timestamps (targets 0 words 3)
+job_of (Some mode.Cues) words = listed jobs.Cues (targets 0 words 3)
+job_of (Some mode.Attachments) words = listed jobs.Attachments (targets 1 words 3)
+job_of (Some mode.Chapters) words = chapters words
+
 unfoldable pub job : List ℕ → List (List ℕ) → Result Job Usage
-job mode words =
-    if bytes_eq mode (codes "tracks") then tracks words
-    else if bytes_eq mode (codes "timestamps_v2") then listed jobs.Timestamps (targets 0 words 3)
-    else if bytes_eq mode (codes "cues") then listed jobs.Cues (targets 0 words 3)
-    else if bytes_eq mode (codes "attachments") then listed jobs.Attachments (targets 1 words 3)
-    else if bytes_eq mode (codes "chapters") then chapters words
-    else wrong 2 UnknownCommand
+job word words = job_of (meant modes word) words
 
 -- `extract FILE MODE ARGS`
 unfoldable pub extract : List (List ℕ) → Result Command Usage
 extract words = do
   file ← file_at words 1
-  mode ← due_at words 2
-  work ← job mode words
+  word ← due_at words 2
+  work ← job word words
   Ok (command.Extract file work)

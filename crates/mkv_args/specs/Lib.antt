@@ -1,4 +1,7 @@
+pub mod Entry
+pub mod Commands
 pub mod Merge
 pub mod Extract
 pub mod Propedit
 pub mod Words
+pub mod Help

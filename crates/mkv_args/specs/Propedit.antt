@@ -1,5 +1,5 @@
 -- The words of `propedit`.
-use Rattle.std.specs.Prelude.{ℕ, ◌+◌, ◌||◌, ◌==◌, if◌then◌else◌, List, [], ◌∷◌, ◌++◌, length, drop, slice_index, codes, Option, Some, None, option_map, Result, Ok}
+use Rattle.std.specs.Prelude.{ℕ, ◌+◌, ◌==◌, if◌then◌else◌, List, [], ◌∷◌, ◌++◌, length, drop, slice_index, codes, Option, Some, None, option_map, Result, Ok}
 use Rattle.std.specs.List.{starts_with}
 use Rattle.std.specs.Str.{bytes_eq}
 use Rattle.mkv_jobs.specs.declared.edit.Edit.{Edit}
@@ -15,6 +15,7 @@ use Rattle.mkv_args.specs.declared.propedit.Stage.{Stage}
 use Rattle.mkv_args.specs.declared.propedit.Stage.TheVariants.{Outside, Opened, Within}
 use Rattle.mkv_args.specs.declared.command.Command.{Command}
 use Rattle.mkv_args.specs.declared.command.Command.TheVariants as command
+use Rattle.mkv_args.specs.Entry.{Entry, entry, meant}
 use Rattle.word_values.specs.Answers.{wrong, ◌>>=◌}
 use Rattle.word_values.specs.Numbers.{cut, from, number}
 use Rattle.word_values.specs.Place.{due, file_at}
@@ -44,14 +45,17 @@ selector word =
     else if starts_with (λ a b. a == b) word (codes "track:") then track (drop 6 word)
     else None
 
+-- the options, with what `--help` says of them
+unfoldable pub steps : List (Entry Step)
+steps =
+    entry (codes "-e") (codes "--edit") step.Section (codes "SECTION") (codes "the edits behind it are for this section") ∷
+    entry (codes "-s") (codes "--set") (step.Edit Set) (codes "NAME=VALUE") (codes "set a property, whatever it was") ∷
+    entry (codes "-a") (codes "--add") (step.Edit Add) (codes "NAME=VALUE") (codes "add a property that is not there") ∷
+    entry (codes "-d") (codes "--delete") (step.Edit Delete) (codes "NAME") (codes "delete a property") ∷ []
+
 -- what an option begins
 unfoldable pub step_of : List ℕ → Option Step
-step_of word =
-    if bytes_eq word (codes "-e") || bytes_eq word (codes "--edit") then Some step.Section
-    else if bytes_eq word (codes "-s") || bytes_eq word (codes "--set") then Some (step.Edit Set)
-    else if bytes_eq word (codes "-a") || bytes_eq word (codes "--add") then Some (step.Edit Add)
-    else if bytes_eq word (codes "-d") || bytes_eq word (codes "--delete") then Some (step.Edit Delete)
-    else None
+step_of word = meant steps word
 
 abbrev pub selected : ℕ → Option Selector → Result Selector Usage
 selected at None = wrong at BadValue

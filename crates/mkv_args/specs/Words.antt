@@ -1,10 +1,13 @@
 -- The words of a command line: a command, or the first word that is wrong and why.
-use Rattle.std.specs.Prelude.{ℕ, if◌then◌else◌, List, [], ◌∷◌, codes, Option, Some, None, Result, Ok}
-use Rattle.std.specs.Str.{bytes_eq}
+use Rattle.std.specs.Prelude.{ℕ, List, [], ◌∷◌, Option, Some, None, Result, Ok}
 use Rattle.word_values.specs.declared.usage.Usage.{Usage}
 use Rattle.word_values.specs.declared.usage.Why.TheVariants.{NoCommand, UnknownCommand, BadValue}
 use Rattle.mkv_args.specs.declared.command.Command.{Command}
 use Rattle.mkv_args.specs.declared.command.Command.TheVariants as commands
+use Rattle.mkv_args.specs.declared.commands.Verb.{Verb}
+use Rattle.mkv_args.specs.declared.commands.Verb.TheVariants as verb
+use Rattle.mkv_args.specs.Entry.{meant}
+use Rattle.mkv_args.specs.Commands.{commands as verbs}
 use Rattle.word_values.specs.Answers.{wrong, ◌>>=◌}
 use Rattle.word_values.specs.Numbers.{below, from, number}
 use Rattle.word_values.specs.Place.{due_at, file_at, end_at}
@@ -58,20 +61,19 @@ generate words = do
   Ok (commands.Generate n prefix)
 
 -- the command that the first word names
-unfoldable pub command_named : List ℕ → List (List ℕ) → Result Command Usage
-command_named first words =
-    if bytes_eq first (codes "--help") then alone commands.Help words
-    else if bytes_eq first (codes "--version") then alone commands.Version words
-    else if bytes_eq first (codes "info") then info words
-    else if bytes_eq first (codes "merge") then merge words
-    else if bytes_eq first (codes "extract") then extract words
-    else if bytes_eq first (codes "propedit") then propedit words
-    else if bytes_eq first (codes "recover") then recover words
-    else if bytes_eq first (codes "reindex") then reindex words
-    else if bytes_eq first (codes "generate") then generate words
-    else wrong 0 UnknownCommand
+unfoldable pub command_named : Option Verb → List (List ℕ) → Result Command Usage
+command_named None words = wrong 0 UnknownCommand
+command_named (Some verb.Info) words = info words
+command_named (Some verb.Merge) words = merge words
+command_named (Some verb.Extract) words = extract words
+command_named (Some verb.Propedit) words = propedit words
+command_named (Some verb.Recover) words = recover words
+command_named (Some verb.Reindex) words = reindex words
+command_named (Some verb.Generate) words = generate words
+command_named (Some verb.Help) words = alone commands.Help words
+command_named (Some verb.Version) words = alone commands.Version words
 
 -- the command that the words ask for, or the first word that is wrong
 unfoldable pub command : List (List ℕ) → Result Command Usage
 command [] = wrong 0 NoCommand
-command (first ∷ rest) = command_named first (first ∷ rest)
+command (first ∷ rest) = command_named (meant verbs first) (first ∷ rest)

@@ -1,11 +1,13 @@
 //! The words of `extract`.
 
-ghost use Rattle.std.specs.Prelude.{◌≡◌};
+ghost use Rattle.std.specs.Prelude.{◌≡◌, map};
 ghost use Rattle.word_values.specs.Answers.{Tells};
+ghost use Rattle.mkv_args.specs.Entry as entry;
 ghost use Rattle.mkv_args.specs.Extract as spec;
 ghost use Rattle.word_values.specs.Place.{texts};
 
 use crate::command::Command;
+use crate::entry::{Entry, meant};
 use mkv_jobs::{Form, Job, Target};
 use mkv_values::List;
 use std::alloc::Global;
@@ -27,24 +29,58 @@ pub(crate) fn extract(alloc: Global, words: &[String]) -> Result<Command, ArgsEn
     })
 }
 
+/// What is taken out.
+#[derive(Clone, Copy, PartialEq, Eq)]
+pub(crate) enum Mode {
+    Tracks,
+    Timestamps,
+    Cues,
+    Attachments,
+    Chapters,
+}
+
+#[rattlefmt::skip]
+static MODES: [Entry<Mode>; 5] = [
+    Entry("", "tracks", Mode::Tracks, "[--raw or --fullraw] ID:FILE..", "frames of tracks"),
+    Entry("", "timestamps_v2", Mode::Timestamps, "ID:FILE..", "times of the frames"),
+    Entry("", "cues", Mode::Cues, "ID:FILE..", "cue points"),
+    Entry("", "attachments", Mode::Attachments, "ID:FILE..", "attached files, from 1"),
+    Entry("", "chapters", Mode::Chapters, "--simple FILE", "chapters as text"),
+];
+
+/// The modes of `extract`.
+#[tactic(auto, unfolding(crate::specs::Extract::modes))]
+pub(crate) fn modes() -> &'static [Entry<Mode>]
+    ensures { map entry.shown result.now ≡ spec.modes }
+{
+    &MODES
+}
+
+/// The mode that a word names.
+fn mode_of(word: &str) -> Option<Mode>
+    ensures { result ≡ entry.meant spec.modes word.now }
+{
+    meant(modes(), word)
+}
+
 /// What the words behind the mode ask for.
-#[tactic(auto, unfolding(crate::specs::Extract::job))]
+#[tactic(auto, unfolding(crate::specs::Extract::job, crate::specs::Extract::job_of))]
 fn job(alloc: Global, mode: &str, words: &[String]) -> Result<Job, ArgsEnd>
     ensures { Tells result (spec.job mode.now (texts words.now)) }
 {
-    match mode {
-        "tracks" => tracks(alloc, words),
-        "timestamps_v2" => Ok(Job::Timestamps {
+    match mode_of(mode) {
+        None => refused(2, Why::UnknownCommand),
+        Some(Mode::Tracks) => tracks(alloc, words),
+        Some(Mode::Timestamps) => Ok(Job::Timestamps {
             list: targets(alloc, 0, words, 3)?,
         }),
-        "cues" => Ok(Job::Cues {
+        Some(Mode::Cues) => Ok(Job::Cues {
             list: targets(alloc, 0, words, 3)?,
         }),
-        "attachments" => Ok(Job::Attachments {
+        Some(Mode::Attachments) => Ok(Job::Attachments {
             list: targets(alloc, 1, words, 3)?,
         }),
-        "chapters" => chapters(alloc, words),
-        _ => refused(2, Why::UnknownCommand),
+        Some(Mode::Chapters) => chapters(alloc, words),
     }
 }
 

@@ -3,14 +3,18 @@
 //! The words of a command line: what they ask for, or the first word that is wrong, and why.
 
 mod command;
+mod commands;
+mod entry;
 mod extract;
+mod help;
 mod merge;
 mod propedit;
 mod words;
 
 pub use command::Command;
+pub use help::{usage_lines, version_line};
 pub use merge_words::{
-    FileWords, MERGE_OPTIONS, Meaning, MergeWords, OptionRow, Scope, Subject, meaning_of,
+    FileWords, Meaning, MergeWords, OptionRow, Scope, Subject, meaning_of, merge_options,
 };
 pub use word_values::{ArgsEnd, CueWord, Select, SpanWords, SplitWords, Usage, ValueForm, Why};
 pub use words::read_words;

@@ -1,25 +1,27 @@
 //! The words of `propedit`.
 
-ghost use Rattle.std.specs.Prelude.{◌≡◌, ◌+◌, ◌<◌, length, slice_get};
+ghost use Rattle.std.specs.Prelude.{◌≡◌, ◌+◌, ◌<◌, length, map, slice_get};
 ghost use Rattle.word_values.specs.Answers.{Tells, TellsOf};
+ghost use Rattle.mkv_args.specs.Entry as entry;
 ghost use Rattle.mkv_args.specs.Propedit as spec;
 ghost use Rattle.word_values.specs.Place.{texts};
 
 use crate::command::Command;
+use crate::entry::{Entry, meant};
 use mkv_jobs::{Change, Edit, Selector};
 use mkv_values::{List, Text};
 use std::alloc::Global;
 use word_values::{ArgsEnd, Why, cut_text, due_at, file_at, name, number, refused, word_at};
 
 /// What an option of `propedit` begins.
-#[derive(Clone, Copy, Debug, PartialEq, Eq)]
+#[derive(Clone, Copy, PartialEq, Eq)]
 pub(crate) enum Step {
     Section,
     Edit(Change),
 }
 
 /// Where a word stands among the sections.
-#[derive(Clone, Copy, Debug, PartialEq, Eq)]
+#[derive(Clone, Copy, PartialEq, Eq)]
 pub(crate) enum Stage {
     /// A section is due.
     Outside,
@@ -86,17 +88,27 @@ fn turn(
     }
 }
 
+#[rattlefmt::skip]
+static STEPS: [Entry<Step>; 4] = [
+    Entry("-e", "--edit", Step::Section, "SECTION", "the edits behind it are for this section"),
+    Entry("-s", "--set", Step::Edit(Change::Set), "NAME=VALUE", "set a property, whatever it was"),
+    Entry("-a", "--add", Step::Edit(Change::Add), "NAME=VALUE", "add a property that is not there"),
+    Entry("-d", "--delete", Step::Edit(Change::Delete), "NAME", "delete a property"),
+];
+
+/// The options of `propedit`.
+#[tactic(auto, unfolding(crate::specs::Propedit::steps))]
+pub(crate) fn steps() -> &'static [Entry<Step>]
+    ensures { map entry.shown result.now ≡ spec.steps }
+{
+    &STEPS
+}
+
 #[tactic(auto, unfolding(crate::specs::Propedit::step_of))]
 fn step_of(word: &str) -> Option<Step>
     ensures { result ≡ spec.step_of word.now }
 {
-    match word {
-        "-e" | "--edit" => Some(Step::Section),
-        "-s" | "--set" => Some(Step::Edit(Change::Set)),
-        "-a" | "--add" => Some(Step::Edit(Change::Add)),
-        "-d" | "--delete" => Some(Step::Edit(Change::Delete)),
-        _ => None,
-    }
+    meant(steps(), word)
 }
 
 /// The section that a word names.

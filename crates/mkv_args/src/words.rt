@@ -7,6 +7,7 @@ ghost use Rattle.word_values.specs.Place.{texts};
 ghost use Rattle.mkv_args.specs.Words as spec;
 
 use crate::command::Command;
+use crate::commands::{Verb, verb_of};
 use crate::extract::extract;
 use crate::merge::merge;
 use crate::propedit::propedit;
@@ -28,17 +29,17 @@ fn command(alloc: Global, words: &[String]) -> Result<Command, ArgsEnd>
     let Some(first) = word_at(words, 0) else {
         return refused(0, Why::NoCommand);
     };
-    match first {
-        "--help" => alone(words, Command::Help),
-        "--version" => alone(words, Command::Version),
-        "info" => info(alloc, words),
-        "merge" => merge(alloc, words),
-        "extract" => extract(alloc, words),
-        "propedit" => propedit(alloc, words),
-        "recover" => recover(alloc, words),
-        "reindex" => reindex(alloc, words),
-        "generate" => generate(alloc, words),
-        _ => refused(0, Why::UnknownCommand),
+    match verb_of(first) {
+        None => refused(0, Why::UnknownCommand),
+        Some(Verb::Info) => info(alloc, words),
+        Some(Verb::Merge) => merge(alloc, words),
+        Some(Verb::Extract) => extract(alloc, words),
+        Some(Verb::Propedit) => propedit(alloc, words),
+        Some(Verb::Recover) => recover(alloc, words),
+        Some(Verb::Reindex) => reindex(alloc, words),
+        Some(Verb::Generate) => generate(alloc, words),
+        Some(Verb::Help) => alone(words, Command::Help),
+        Some(Verb::Version) => alone(words, Command::Version),
     }
 }
 

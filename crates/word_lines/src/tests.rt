@@ -3,7 +3,7 @@
 mod shown;
 mod table;
 
-use mkv_args::{ArgsEnd, Usage, Why, read_words};
+use mkv_args::{ArgsEnd, Usage, Why, read_words, usage_lines, version_line};
 use shown::shown;
 use std::alloc::{AllocError, Global};
 use std::process::Abort;
@@ -69,5 +69,35 @@ fn a_refusal_is_told_by_its_name(rt: HostRuntime) -> Result<(), Fail> {
     let memory = ArgsEnd::Memory;
     let told = format!(in rt.alloc(); "{memory}")?;
     assert_eq!(rt; told.as_str(), "Memory");
+    Ok(())
+}
+
+/// Lines of `--help`, by their numbers.
+static HELP: [(usize, &str); 6] = [
+    (0, "usage: mkvsuite COMMAND"),
+    (1, ""),
+    (
+        2,
+        "info FILE                       show the Elements and tracks of a file",
+    ),
+    (4, "  -o, --output FILE             for the whole output"),
+    (
+        26,
+        "  --language ID:LANGUAGE        for a track of the next file",
+    ),
+    (
+        28,
+        "  --forced-display-flag ID[:FLAG]  for a track of the next file",
+    ),
+];
+
+#[test]
+fn the_help_has_a_line_for_each_command_and_option(rt: HostRuntime) -> Result<(), Fail> {
+    let lines = usage_lines(rt.alloc())?;
+    for (k, due) in &HELP {
+        let line = lines.get(*k).ok_or("too few lines")?;
+        assert_eq!(rt; line.as_str(), *due);
+    }
+    assert_eq!(rt; version_line(), "mkvsuite 0.1.0");
     Ok(())
 }
