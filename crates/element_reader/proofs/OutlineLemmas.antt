@@ -75,26 +75,39 @@ pub record Outlines (held : ℕ) (bytes : List ℕ) (v : FileOutline) : Type 0 w
   pub shows : v ≡ shown bytes outlined
   pub list : outlined.list ≡ (segment_run bytes outlined.segment).list
 
--- a list that was made within the limits is the Segment's
-made_list : (held : ℕ) (bytes : List ℕ) (ebml segment : Header) (o : Outlined) (limits : Option Damage) → unless limits (outlined bytes ebml segment (segment_run bytes segment)) ≡ Ok o → o.list ≡ (segment_run bytes o.segment).list
-made_list held bytes ebml segment o None made =
-    let same : outlined bytes ebml segment (segment_run bytes segment) ≡ o = cc in
-    subst (λ (k : Outlined). k.list ≡ (segment_run bytes k.segment).list) same refl
-made_list held bytes ebml segment o (Some d) made = absurd (cc)
+-- what holds of an outline whose list was made within the limits
+IsMade : ℕ → List ℕ → Outlined → Type 0
+IsMade held bytes o = (o.list ≡ (segment_run bytes o.segment).list) × (limits_from held [] o.list ≡ None)
 
-segment_list : (held : ℕ) (bytes : List ℕ) (ebml : Header) (o : Outlined) (found : Result Header Damage) → and_then found (λ segment. within_limits held bytes ebml segment) ≡ Ok o → o.list ≡ (segment_run bytes o.segment).list
-segment_list held bytes ebml o (Ok segment) made = made_list held bytes ebml segment o (limits_from held [] (segment_run bytes segment).list) made
+made_list : (held : ℕ) (bytes : List ℕ) (ebml segment : Header) (o : Outlined) (limits : Option Damage) → limits_from held [] (segment_run bytes segment).list ≡ limits → unless limits (outlined bytes ebml segment (segment_run bytes segment)) ≡ Ok o → IsMade held bytes o
+unfolding IsMade
+made_list held bytes ebml segment o None none made =
+    let same : outlined bytes ebml segment (segment_run bytes segment) ≡ o = cc in
+    subst (λ (k : Outlined). (k.list ≡ (segment_run bytes k.segment).list) × (limits_from held [] k.list ≡ None)) same (refl, none)
+made_list held bytes ebml segment o (Some d) none made = absurd (cc)
+
+segment_list : (held : ℕ) (bytes : List ℕ) (ebml : Header) (o : Outlined) (found : Result Header Damage) → and_then found (λ segment. within_limits held bytes ebml segment) ≡ Ok o → IsMade held bytes o
+segment_list held bytes ebml o (Ok segment) made = made_list held bytes ebml segment o (limits_from held [] (segment_run bytes segment).list) refl made
 segment_list held bytes ebml o (Err d) made = absurd (cc)
 
-ebml_list : (held : ℕ) (bytes : List ℕ) (o : Outlined) (found : Result Header Damage) → and_then found (behind_ebml held bytes) ≡ Ok o → o.list ≡ (segment_run bytes o.segment).list
+ebml_list : (held : ℕ) (bytes : List ℕ) (o : Outlined) (found : Result Header Damage) → and_then found (behind_ebml held bytes) ≡ Ok o → IsMade held bytes o
 unfolding behind_ebml
 ebml_list held bytes o (Ok ebml) made = segment_list held bytes ebml o (segment_of bytes ebml) made
 ebml_list held bytes o (Err d) made = absurd (cc)
 
+made_outline : (held : ℕ) (bytes : List ℕ) (o : Outlined) → outline_of held bytes ≡ Ok o → IsMade held bytes o
+unfolding outline_of behind_ebml
+made_outline held bytes o made = ebml_list held bytes o (ebml_header bytes) made
+
 -- the Elements of an outline are those of its Segment
 pub outline_of-list : (held : ℕ) (bytes : List ℕ) (o : Outlined) → outline_of held bytes ≡ Ok o → o.list ≡ (segment_run bytes o.segment).list
-unfolding outline_of behind_ebml
-outline_of-list held bytes o made = ebml_list held bytes o (ebml_header bytes) made
+unfolding IsMade
+outline_of-list held bytes o made = (made_outline held bytes o made).0
+
+-- none of them passes a limit
+pub outline_of-limits : (held : ℕ) (bytes : List ℕ) (o : Outlined) → outline_of held bytes ≡ Ok o → limits_from held [] o.list ≡ None
+unfolding IsMade
+outline_of-limits held bytes o made = (made_outline held bytes o made).1
 
 -- an outline that is shown is the file's
 pub Outlines-shown : (held : ℕ) (bytes : List ℕ) (v : FileOutline) → outline_in held bytes ≡ Ok v → Outlines held bytes v

@@ -1,6 +1,6 @@
 //! The body of an Element, read whole.
 
-ghost use Rattle.std.specs.Prelude.{◌≡◌, ◌+◌, ◌≤◌, false, None, IfOk, IsTrue};
+ghost use Rattle.std.specs.Prelude.{length, ◌≡◌, ◌+◌, ◌≤◌, false, None, IfOk, IsTrue};
 ghost use Rattle.mkv_io.specs.Told.{Told};
 ghost use Rattle.matroska_format.specs.Element.{is_unknown, known, stated_end};
 ghost use Rattle.matroska_format.specs.Value.{body_of};
@@ -61,6 +61,7 @@ pub fn load<R: Reads>(
     requires known { is_unknown header.now.size ≡ false }
     requires inside { stated_end header.now ≤ (R.files (R.standing src.old)).size file.n }
     ensures ok { IfOk result (λ body. Told ((R.files (R.standing src.old)).content file.n) (λ bytes. body ≡ body_of bytes header.now)) }
+    ensures length { IfOk result (λ body. length body ≡ known header.now.size) }
     ensures standing { R.standing src.new ≡ R.standing src.old }
     ensures cause { HasLoadCause (too_large header.now) (R.reading_faults src.old) (R.reading_faults src.new) result }
     ensures octets { R.octets_read src.new ≤ R.octets_read src.old + known header.now.size }

@@ -11,6 +11,23 @@ const EBML: [u8; 16] = [
     0x1A, 0x45, 0xDF, 0xA3, 0x8B, 0x42, 0x82, 0x88, 0x6D, 0x61, 0x74, 0x72, 0x6F, 0x73, 0x6B, 0x61,
 ];
 
+/// A Segment with an audio track, and a Cluster with two blocks.
+const TRACKED: [u8; 52] = [
+    0x18, 0x53, 0x80, 0x67, 0xAF, 0x16, 0x54, 0xAE, 0x6B, 0x94, 0xAE, 0x92, 0xD7, 0x81, 0x01, 0x73,
+    0xC5, 0x81, 0x05, 0x83, 0x81, 0x02, 0x86, 0x86, 0x41, 0x5F, 0x4F, 0x50, 0x55, 0x53, 0x1F, 0x43,
+    0xB6, 0x75, 0x91, 0xE7, 0x81, 0x00, 0xA3, 0x85, 0x81, 0x00, 0x00, 0x80, 0xAA, 0xA3, 0x85, 0x81,
+    0x00, 0x14, 0x80, 0xBB,
+];
+
+/// The same in a Segment and a Cluster of unknown size, with Cues behind them.
+const OPEN: [u8; 71] = [
+    0x18, 0x53, 0x80, 0x67, 0x01, 0xFF, 0xFF, 0xFF, 0xFF, 0xFF, 0xFF, 0xFF, 0x16, 0x54, 0xAE, 0x6B,
+    0x94, 0xAE, 0x92, 0xD7, 0x81, 0x01, 0x73, 0xC5, 0x81, 0x05, 0x83, 0x81, 0x02, 0x86, 0x86, 0x41,
+    0x5F, 0x4F, 0x50, 0x55, 0x53, 0x1F, 0x43, 0xB6, 0x75, 0x01, 0xFF, 0xFF, 0xFF, 0xFF, 0xFF, 0xFF,
+    0xFF, 0xE7, 0x81, 0x00, 0xA3, 0x85, 0x81, 0x00, 0x00, 0x80, 0xAA, 0xA3, 0x85, 0x81, 0x00, 0x14,
+    0x80, 0xBB, 0x1C, 0x53, 0xBB, 0x6B, 0x80,
+];
+
 /// A Segment of unknown size, a Void, and a Cluster of unknown size with its Timestamp and a block.
 const LIVE: [u8; 28] = [
     0x18, 0x53, 0x80, 0x67, 0x01, 0xFF, 0xFF, 0xFF, 0xFF, 0xFF, 0xFF, 0xFF, 0xEC, 0x80, 0x1F, 0x43,
@@ -44,10 +61,10 @@ fn put_both(
     first: &[u8],
     second: &[u8],
 ) -> Result<(), AllocError> {
-    let mut octets = [0; 64];
+    let mut octets = [0; 160];
     let (first, second) = (
-        &first[..first.len().min(32)],
-        &second[..second.len().min(32)],
+        &first[..first.len().min(80)],
+        &second[..second.len().min(80)],
     );
     let behind = first.len() + second.len();
     octets[..first.len()].copy_from_slice(first);
@@ -75,6 +92,8 @@ fn files_are_listed_warned_of_and_refused(rt: HostRuntime) -> Result<(), Fail> {
     ];
     let empty = [0x18, 0x53, 0x80, 0x67, 0x80];
     let damaged = [0x18, 0x53, 0x80, 0x67, 0x82, 0x00, 0x80];
+    let mut no_number = TRACKED;
+    no_number[14] = 0x00;
     let info: [&str; 2] = ["info", "a.mkv"];
     let rows = [
         Row {
@@ -115,6 +134,40 @@ fn files_are_listed_warned_of_and_refused(rt: HostRuntime) -> Result<(), Fail> {
             second: &empty,
             status: Status::Refused,
             lines: &["error: a.mkv: DocType, element 4282, offset 5"],
+        },
+        Row {
+            words: &info,
+            first: &EBML,
+            second: &TRACKED,
+            status: Status::Done,
+            lines: &[
+                "EBML at 0 size 11",
+                "Segment at 16 size 47",
+                "  Tracks at 21 size 20",
+                "  Cluster at 46 size 17",
+                "track 0: audio A_OPUS number 1 uid 5 language eng",
+            ],
+        },
+        Row {
+            words: &info,
+            first: &EBML,
+            second: &OPEN,
+            status: Status::Done,
+            lines: &[
+                "EBML at 0 size 11",
+                "Segment at 16 size unknown",
+                "  Tracks at 28 size 20",
+                "  Cluster at 53 size unknown",
+                "  Cues at 82 size 0",
+                "track 0: audio A_OPUS number 1 uid 5 language eng",
+            ],
+        },
+        Row {
+            words: &info,
+            first: &EBML,
+            second: &no_number,
+            status: Status::Refused,
+            lines: &["error: a.mkv: BadValue, element D7, offset 28"],
         },
         Row {
             words: &["info", "no.mkv"],

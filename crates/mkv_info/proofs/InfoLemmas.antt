@@ -4,15 +4,18 @@ use Rattle.mkv_io.specs.Lines.{with_lines}
 use Rattle.mkv_values.specs.declared.damage.Damage.{Damage}
 use Rattle.matroska_format.specs.declared.element.Header.{Header}
 use Rattle.matroska_format.specs.Outline.{Outlined, outline_of, segment_run}
-use Rattle.element_reader.specs.Outline.{FileOutline, outline_in, shown}
-use Rattle.element_reader.proofs.OutlineLemmas.{Outlines, Outlines-shown}
-use Rattle.mkv_lines.specs.Line.{level_0_line, level_1_line}
+use Rattle.mkv_schema.specs.declared.ids.TheConstants.{TRACKS}
+use Rattle.element_reader.specs.Outline.{FileOutline, first_in, outline_in, shown}
+use Rattle.element_reader.proofs.OutlineLemmas.{Outlines, Outlines-shown, first_in-others}
+use Rattle.mkv_lines.specs.Line.{level_0_line, level_1_line, refusal_line}
 use Rattle.mkv_lines.specs.Said.{Held, Says, SaysPart}
-use Rattle.mkv_lines.specs.Verdict.{Reaches, Verdict}
+use Rattle.mkv_lines.specs.Verdict.{Reaches, Verdict, refused}
 use Rattle.mkv_lines.specs.declared.status.Status.{Status}
 use Rattle.mkv_lines.specs.declared.status.Stop.{Stop}
-use Rattle.mkv_lines.proofs.SaidLemmas.{SaysPart-before, SaysPart-behind, Says-then}
-use Rattle.mkv_info.specs.Info.{content_verdict, element_lines, listed, listed_or_refused, shown_lines, status_with, warnings}
+use Rattle.mkv_lines.proofs.SaidLemmas.{SaysPart-before, SaysPart-behind, SaysPart-none, Says-then}
+use Rattle.track_records.specs.declared.track.Track.{Track}
+use Rattle.mkv_info.specs.Info.{content_verdict, element_lines, listed, listed_or_refused, shown_lines, status_with, warnings, with_tracks}
+use Rattle.mkv_info.specs.Tracks.{file_tracks, track_lines, tracks_at}
 
 -- ---- the lines of the Elements
 
@@ -47,31 +50,61 @@ shown_lines-is bytes v of =
     ap (shown_lines bytes) of.shows
     ∙ ap (λ (l : List Header). level_0_line of.outlined.ebml ∷ level_0_line of.outlined.segment ∷ map level_1_line l) (sym of.list)
 
--- a file whose outline was read is listed
-verdict-is : (name bytes : List ℕ) (v : FileOutline) (of : Outlines 0 bytes v) → content_verdict name bytes ≡ listed name of.outlined
-verdict-is name bytes v of = ap (listed_or_refused name) of.is
+-- its tracks are the file's
+shown_tracks-are : (bytes : List ℕ) (v : FileOutline) (of : Outlines 0 bytes v) → tracks_at bytes (first_in TRACKS v) ≡ file_tracks bytes of.outlined
+shown_tracks-are bytes v of =
+    ap (λ (w : FileOutline). tracks_at bytes (first_in TRACKS w)) of.shows
+    ∙ ap (tracks_at bytes) (first_in-others TRACKS of.outlined.list refl)
 
--- the list of its Elements was begun
-pub reaches-part : (old new : Held) (name bytes : List ℕ) (v : FileOutline) (why : Stop) → outline_in 0 bytes ≡ Ok v → SaysPart old new (shown_lines bytes v) → Reaches old new (Err why) (content_verdict name bytes)
-reaches-part old new name bytes v why found part =
-    let of = Outlines-shown 0 bytes v found in
-    let lines : SaysPart old new (element_lines of.outlined) = subst (λ (l : List (List ℕ)). SaysPart old new l) (shown_lines-is bytes v of) part in
-    subst (λ (w : Verdict). Reaches old new (Err why) w) (sym (verdict-is name bytes v of))
-    (SaysPart-before old new (element_lines of.outlined) (warnings name of.outlined.damage) lines)
+-- a file whose outline was read is listed, unless its tracks are refused
+verdict-is : (name bytes : List ℕ) (v : FileOutline) (of : Outlines 0 bytes v) (found : Result (List Track) Damage) → found ≡ tracks_at bytes (first_in TRACKS v) → content_verdict name bytes ≡ with_tracks name of.outlined found
+verdict-is name bytes v of found tracks =
+    ap (listed_or_refused name bytes) of.is
+    ∙ ap (with_tracks name of.outlined) (sym (tracks ∙ shown_tracks-are bytes v of))
 
--- it was said, and then the warning
-reaches-listed : (old new : Held) (name : List ℕ) (o : Outlined) (r : Result Status Stop) → Says old new (element_lines o ++ warnings name o.damage) r → IfOk r (λ s. s ≡ status_with o.damage) → Reaches old new r (listed name o)
-reaches-listed old new name o (Ok s) says status = (status, says)
-reaches-listed old new name o (Err why) says status = says
+-- nothing was said yet
+pub reaches-none : (old : Held) (name bytes : List ℕ) (why : Stop) → Reaches old old (Err why) (content_verdict name bytes)
+reaches-none old name bytes why = SaysPart-none old (content_verdict name bytes).lines
 
-pub reaches-warned : (old mid new : Held) (name bytes : List ℕ) (v : FileOutline) (damage : Option Damage) (r : Result Status Stop) → outline_in 0 bytes ≡ Ok v → damage ≡ v.damage → mid ≡ with_lines old (shown_lines bytes v) → Says mid new (warnings name damage) r → IfOk r (λ s. s ≡ status_with damage) → Reaches old new r (content_verdict name bytes)
-reaches-warned old mid new name bytes v damage r found is said says status =
-    let of = Outlines-shown 0 bytes v found in
+-- the tracks refuse the file
+pub reaches-refused : (old new : Held) (name bytes : List ℕ) (v : FileOutline) (found : Result (List Track) Damage) (d : Damage) (r : Result Status Stop) → outline_in 0 bytes ≡ Ok v → found ≡ tracks_at bytes (first_in TRACKS v) → found ≡ Err d → Reaches old new r (refused (refusal_line name d)) → Reaches old new r (content_verdict name bytes)
+reaches-refused old new name bytes v found d r outline tracks is reaches =
+    let of = Outlines-shown 0 bytes v outline in
+    subst (λ (w : Verdict). Reaches old new r w) (sym (verdict-is name bytes v of found tracks ∙ ap (with_tracks name of.outlined) is)) reaches
+
+-- the list was begun
+pub reaches-part : (old new : Held) (name bytes : List ℕ) (v : FileOutline) (found : Result (List Track) Damage) (list : List Track) (why : Stop) → outline_in 0 bytes ≡ Ok v → found ≡ tracks_at bytes (first_in TRACKS v) → found ≡ Ok list → SaysPart old new (shown_lines bytes v) → Reaches old new (Err why) (content_verdict name bytes)
+reaches-part old new name bytes v found list why outline tracks is part =
+    let of = Outlines-shown 0 bytes v outline in
     let o = of.outlined in
-    let same : damage ≡ o.damage = is ∙ ap (λ (w : FileOutline). w.damage) of.shows in
-    subst (λ (w : Verdict). Reaches old new r w) (sym (verdict-is name bytes v of))
-    (reaches-listed old new name o r
-    (Says-then old mid new (element_lines o) (warnings name o.damage) r
+    let lines : SaysPart old new (element_lines o) = subst (λ (l : List (List ℕ)). SaysPart old new l) (shown_lines-is bytes v of) part in
+    subst (λ (w : Verdict). Reaches old new (Err why) w) (sym (verdict-is name bytes v of found tracks ∙ ap (with_tracks name o) is))
+    (SaysPart-before old new (element_lines o) (track_lines 0 list ++ warnings name o.damage) lines)
+
+-- the Elements were said, and the tracks begun
+pub reaches-second : (old mid new : Held) (name bytes : List ℕ) (v : FileOutline) (found : Result (List Track) Damage) (list : List Track) (why : Stop) → outline_in 0 bytes ≡ Ok v → found ≡ tracks_at bytes (first_in TRACKS v) → found ≡ Ok list → mid ≡ with_lines old (shown_lines bytes v) → SaysPart mid new (track_lines 0 list) → Reaches old new (Err why) (content_verdict name bytes)
+reaches-second old mid new name bytes v found list why outline tracks is said part =
+    let of = Outlines-shown 0 bytes v outline in
+    let o = of.outlined in
+    subst (λ (w : Verdict). Reaches old new (Err why) w) (sym (verdict-is name bytes v of found tracks ∙ ap (with_tracks name o) is))
+    (SaysPart-behind old mid new (element_lines o) (track_lines 0 list ++ warnings name o.damage)
     (said ∙ ap (with_lines old) (shown_lines-is bytes v of))
-    (subst (λ (d : Option Damage). Says mid new (warnings name d) r) same says))
-    (subst (λ (d : Option Damage). IfOk r (λ s. s ≡ status_with d)) same status))
+    (SaysPart-before mid new (track_lines 0 list) (warnings name o.damage) part))
+
+-- both were said, and then the warning
+reaches-listed : (old new : Held) (name : List ℕ) (o : Outlined) (list : List Track) (r : Result Status Stop) → Says old new (element_lines o ++ (track_lines 0 list ++ warnings name o.damage)) r → IfOk r (λ s. s ≡ status_with o.damage) → Reaches old new r (listed name o list)
+reaches-listed old new name o list (Ok s) says status = (status, says)
+reaches-listed old new name o list (Err why) says status = says
+
+pub reaches-warned : (old mid late new : Held) (name bytes : List ℕ) (v : FileOutline) (found : Result (List Track) Damage) (list : List Track) (damage : Option Damage) (r : Result Status Stop) → outline_in 0 bytes ≡ Ok v → found ≡ tracks_at bytes (first_in TRACKS v) → found ≡ Ok list → damage ≡ v.damage → mid ≡ with_lines old (shown_lines bytes v) → late ≡ with_lines mid (track_lines 0 list) → Says late new (warnings name damage) r → IfOk r (λ s. s ≡ status_with damage) → Reaches old new r (content_verdict name bytes)
+reaches-warned old mid late new name bytes v found list damage r outline tracks is same said then says status =
+    let of = Outlines-shown 0 bytes v outline in
+    let o = of.outlined in
+    let same_damage : damage ≡ o.damage = same ∙ ap (λ (w : FileOutline). w.damage) of.shows in
+    subst (λ (w : Verdict). Reaches old new r w) (sym (verdict-is name bytes v of found tracks ∙ ap (with_tracks name o) is))
+    (reaches-listed old new name o list r
+    (Says-then old mid new (element_lines o) (track_lines 0 list ++ warnings name o.damage) r
+    (said ∙ ap (with_lines old) (shown_lines-is bytes v of))
+    (Says-then mid late new (track_lines 0 list) (warnings name o.damage) r then
+    (subst (λ (d : Option Damage). Says late new (warnings name d) r) same_damage says)))
+    (subst (λ (d : Option Damage). IfOk r (λ s. s ≡ status_with d)) same_damage status))

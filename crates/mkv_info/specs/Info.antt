@@ -3,10 +3,12 @@ use Rattle.std.specs.Prelude.{ℕ, ◌++◌, List, [], ◌∷◌, map, Option, S
 use Rattle.mkv_values.specs.declared.damage.Damage.{Damage}
 use Rattle.matroska_format.specs.Outline.{Outlined, outline_of, segment_run}
 use Rattle.element_reader.specs.Outline.{FileOutline}
+use Rattle.track_records.specs.declared.track.Track.{Track}
 use Rattle.mkv_lines.specs.Line.{level_0_line, level_1_line, missing_line, refusal_line, warning_line}
 use Rattle.mkv_lines.specs.Verdict.{Verdict, refused}
 use Rattle.mkv_lines.specs.declared.status.Status.{Status}
 use Rattle.mkv_lines.specs.declared.status.Status.TheVariants.{Done, Warned}
+use Rattle.mkv_info.specs.Tracks.{file_tracks, track_lines}
 
 -- a line for the EBML header, for the Segment, and for each Element of level 1
 abbrev pub element_lines : Outlined → List (List ℕ)
@@ -25,17 +27,26 @@ abbrev pub status_with : Option Damage → Status
 status_with None = Done
 status_with (Some d) = Warned
 
-abbrev pub listed : List ℕ → Outlined → Verdict
-listed name o = record { status = status_with o.damage; lines = element_lines o ++ warnings name o.damage }
+-- the Elements, then the tracks, then the warning
+abbrev pub listed : List ℕ → Outlined → List Track → Verdict
+listed name o tracks = record {
+  status = status_with o.damage;
+  lines = element_lines o ++ (track_lines 0 tracks ++ warnings name o.damage);
+}
 
--- a file whose outline is refused isn't listed
-abbrev pub listed_or_refused : List ℕ → Result Outlined Damage → Verdict
-listed_or_refused name (Ok o) = listed name o
-listed_or_refused name (Err d) = refused (refusal_line name d)
+-- a file whose tracks are refused isn't listed
+abbrev pub with_tracks : List ℕ → Outlined → Result (List Track) Damage → Verdict
+with_tracks name o (Ok tracks) = listed name o tracks
+with_tracks name o (Err d) = refused (refusal_line name d)
+
+-- nor is one whose outline is
+abbrev pub listed_or_refused : List ℕ → List ℕ → Result Outlined Damage → Verdict
+listed_or_refused name bytes (Ok o) = with_tracks name o (file_tracks bytes o)
+listed_or_refused name bytes (Err d) = refused (refusal_line name d)
 
 -- what is told of a content that bears a name
 abbrev pub content_verdict : List ℕ → List ℕ → Verdict
-content_verdict name bytes = listed_or_refused name (outline_of 0 bytes)
+content_verdict name bytes = listed_or_refused name bytes (outline_of 0 bytes)
 
 -- what is told of a name, which may have no content
 abbrev pub info_verdict : List ℕ → Option (List ℕ) → Verdict

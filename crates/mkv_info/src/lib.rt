@@ -4,5 +4,6 @@
 
 mod info;
 mod list;
+mod tracks;
 
 pub use info::info_of;

@@ -13,6 +13,7 @@ ghost use Rattle.mkv_lines.specs.Said.{HasSayCause, Says};
 ghost use Rattle.mkv_lines.specs.Verdict.{Reaches};
 ghost use Rattle.mkv_info.specs.Info.{content_verdict, shown_lines, status_with, warnings};
 
+use crate::tracks::{say_tracks, tracks_of};
 use element_reader::{LevelOne, Outline, OutlineEnd};
 use mkv_io::{Reads, Report};
 use mkv_lines::{Line, Status, Stop, say};
@@ -35,16 +36,43 @@ pub fn list_file<R: Reads, P: Report>(
     ensures cause { HasReadStop (R.reading_faults src.old) (R.reading_faults src.new) (P.faults report.old) (P.faults report.new) result }
 {
     match Outline::read(alloc, src, file) {
-        Ok(outline) => {
-            say_elements(alloc, &outline, src, file, report)?;
-            warn(alloc, name, outline.damage(), report)
-        }
+        Ok(outline) => list_outline(alloc, name, &outline, src, file, report),
         Err(OutlineEnd::Refused(damage)) => {
             say(alloc, report, &Line::Refused { name, damage })?;
             Ok(Status::Refused)
         }
         Err(OutlineEnd::ReadFault) => Err(Stop::Files),
         Err(OutlineEnd::Memory) => Err(Stop::Memory),
+    }
+}
+
+// Lists the Elements of a file with this outline and its tracks. A file whose tracks are refused isn't listed.
+fn list_outline<R: Reads, P: Report>(
+    alloc: Global,
+    name: &str,
+    outline: &Outline,
+    src: &mut R,
+    file: FileId,
+    report: &mut P,
+) -> Result<Status, Stop>
+    requires live { IsTrue ((R.files (R.standing src.old)).live file.n) }
+    requires whole { outline.now.total ≡ (R.files (R.standing src.old)).size file.n }
+    ensures verdict { Told ((R.files (R.standing src.old)).content file.n) (λ bytes.
+        outline_in 0 bytes ≡ Ok outline.now → Reaches (P.lines report.old) (P.lines report.new) result (content_verdict name.now bytes)) }
+    ensures ordinary { IfOk result IsOrdinary }
+    ensures standing { R.standing src.new ≡ R.standing src.old }
+    ensures cause { HasReadStop (R.reading_faults src.old) (R.reading_faults src.new) (P.faults report.old) (P.faults report.new) result }
+{
+    match tracks_of(alloc, outline, src, file)? {
+        Ok(tracks) => {
+            say_elements(alloc, outline, src, file, report)?;
+            say_tracks(alloc, &tracks, report)?;
+            warn(alloc, name, outline.damage(), report)
+        }
+        Err(damage) => {
+            say(alloc, report, &Line::Refused { name, damage })?;
+            Ok(Status::Refused)
+        }
     }
 }
 

@@ -1,11 +1,21 @@
--- The exit status of the program.
+-- The exit status of the program, and what stops it.
 use Rattle.std.specs.Prelude.{ℕ}
 use Rattle.mkv_lines.specs.declared.status.Status.{Status}
 use Rattle.mkv_lines.specs.declared.status.Status.TheVariants.{Done, Warned, Refused, NoMemory, Outside}
+use Rattle.mkv_values.specs.declared.outside.ReadEnd.{ReadEnd}
+use Rattle.mkv_values.specs.declared.outside.ReadEnd.TheVariants as read_end
+use Rattle.mkv_lines.specs.declared.status.Stop.{Stop}
+use Rattle.mkv_lines.specs.declared.status.Stop.TheVariants as stop
 
+-- the number with which the program ends
 abbrev pub code_of : Status → ℕ
 code_of Done = 0
 code_of Warned = 1
 code_of Refused = 2
 code_of NoMemory = 3
 code_of Outside = 4
+
+-- a call that read a file ended early
+abbrev pub stop_of : ReadEnd → Stop
+stop_of read_end.ReadFault = stop.Files
+stop_of read_end.Memory = stop.Memory

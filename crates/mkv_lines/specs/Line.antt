@@ -3,9 +3,9 @@ use Rattle.std.specs.Prelude.{ℕ, ◌++◌, List, codes}
 use Rattle.std.specs.Fmt.{decimal}
 use Rattle.mkv_values.specs.declared.damage.Damage.{Damage}
 use Rattle.matroska_format.specs.declared.element.Header.{Header}
-use Rattle.mkv_lines.specs.Shown.{damage_text, level_0_name, level_1_name, place_text}
+use Rattle.mkv_lines.specs.Shown.{damage_text, level_0_name, level_1_name, place_text, track_text}
 use Rattle.mkv_lines.specs.declared.line.Line.{Line}
-use Rattle.mkv_lines.specs.declared.line.Line.TheVariants.{Level0, Level1, Refused, Warned, Missing, NotBuilt, FilesFault}
+use Rattle.mkv_lines.specs.declared.line.Line.TheVariants.{Level0, Level1, Track, Refused, Warned, Missing, NotBuilt, FilesFault}
 
 -- an Element at the top of a file
 abbrev pub level_0_line : Header → List ℕ
@@ -39,6 +39,7 @@ files_fault_line = codes "fault: files"
 abbrev pub text_of : Line → List ℕ
 text_of (Level0 header) = level_0_line header
 text_of (Level1 header) = level_1_line header
+text_of (Track t) = track_text t.index t.type_name.now t.codec.now t.number t.uid t.language.now
 text_of (Refused name damage) = refusal_line name.now damage
 text_of (Warned name damage) = warning_line name.now damage
 text_of (Missing name) = missing_line name.now

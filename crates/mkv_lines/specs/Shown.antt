@@ -39,3 +39,8 @@ place_text h = codes " at " ++ (decimal h.offset ++ (codes " size " ++ size_text
 
 abbrev pub damage_text : Damage → List ℕ
 damage_text d = kind_name d.kind ++ (codes ", element " ++ (damaged_id d.id ++ (codes ", offset " ++ decimal d.offset)))
+
+-- a track, by its number from 0 in the file
+abbrev pub track_text : ℕ → List ℕ → List ℕ → ℕ → ℕ → List ℕ → List ℕ
+track_text index type codec number uid language =
+    codes "track " ++ (decimal index ++ (codes ": " ++ (type ++ (codes " " ++ (codec ++ (codes " number " ++ (decimal number ++ (codes " uid " ++ (decimal uid ++ (codes " language " ++ language))))))))))

@@ -9,6 +9,7 @@ mod status;
 
 pub use line::Line;
 pub use saying::{say, say_files_fault};
+pub use shown::ShownTrack;
 pub use status::{Status, Stop};
 
 #[cfg(test)]

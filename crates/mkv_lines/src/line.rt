@@ -1,6 +1,6 @@
 //! The lines that a user is told.
 
-use crate::shown::{Level0Name, Level1Name, ShownDamage, ShownPlace};
+use crate::shown::{Level0Name, Level1Name, ShownDamage, ShownPlace, ShownTrack};
 use matroska_format::Header;
 use mkv_values::Damage;
 use std::fmt;
@@ -12,6 +12,8 @@ pub enum Line<'a> {
     Level0(Header),
     /// An Element of the Segment.
     Level1(Header),
+    /// A track, by its number from 0 in the file (RFC 9559, section 5.1.4, Tracks Element).
+    Track(ShownTrack<'a>),
     /// A file isn't taken.
     Refused { name: &'a str, damage: Damage },
     /// A file is damaged from a place on.
@@ -40,6 +42,7 @@ impl fmt::Display for Line<'_> {
                 let (name, place) = (Level1Name(header.id), ShownPlace(header));
                 write!(f, "  {name}{place}")
             }
+            Line::Track(track) => write!(f, "{track}"),
             Line::Refused { name, damage } => {
                 let damage = ShownDamage(damage);
                 write!(f, "error: {name}: {damage}")

@@ -116,3 +116,27 @@ impl fmt::Display for ShownDamage {
         write!(f, "{kind}, element {id}, offset {offset}")
     }
 }
+
+/// A track, by its number from 0 in the file.
+#[derive(Clone, Copy)]
+pub struct ShownTrack<'a> {
+    pub index: usize,
+    pub type_name: &'a str,
+    pub codec: &'a str,
+    pub number: u64,
+    pub uid: u64,
+    pub language: &'a str,
+}
+
+impl fmt::Display for ShownTrack<'_> {
+    ghost use Rattle.std.specs.Prelude.{Some};
+    ghost use Rattle.mkv_lines.specs.Shown.{track_text};
+
+    ghost output = { λ t. Some (track_text t.index t.type_name.now t.codec.now t.number t.uid t.language.now) };
+
+    fn fmt<W: fmt::Write>(&self, f: &mut fmt::Formatter<W>) -> fmt::Result {
+        let (index, type_name, codec) = (self.index, self.type_name, self.codec);
+        let (number, uid, language) = (self.number, self.uid, self.language);
+        write!(f, "track {index}: {type_name} {codec} number {number} uid {uid} language {language}")
+    }
+}

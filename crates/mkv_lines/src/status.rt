@@ -3,6 +3,8 @@
 ghost use Rattle.std.specs.Prelude.{◌≡◌};
 ghost use Rattle.mkv_lines.specs.Code.{code_of};
 
+use mkv_values::ReadEnd;
+
 /// How a run ends.
 #[derive(Clone, Copy, Debug, PartialEq, Eq)]
 pub enum Status {
@@ -42,4 +44,17 @@ pub enum Stop {
     Files,
     /// The report failed.
     Report,
+}
+
+impl From<ReadEnd> for Stop {
+    ghost use Rattle.mkv_lines.specs.Code.{stop_of};
+
+    ghost from_gives = { λ why stop. stop ≡ stop_of why };
+
+    fn from(why: ReadEnd) -> Stop {
+        match why {
+            ReadEnd::ReadFault => Stop::Files,
+            ReadEnd::Memory => Stop::Memory,
+        }
+    }
 }

@@ -1,6 +1,6 @@
 //! What lines read.
 
-use crate::Line;
+use crate::{Line, ShownTrack};
 use ebml_format::Size;
 use matroska_format::Header;
 use mkv_values::{Damage, Kind};
@@ -46,6 +46,17 @@ fn lines_read_as_they_are_documented(rt: HostRuntime) -> Result<(), Fail> {
                 damage: nothing,
             },
             "error: e.mkv: NotEbml, element -, offset 0",
+        ),
+        (
+            Line::Track(ShownTrack {
+                index: 0,
+                type_name: "audio",
+                codec: "A_OPUS",
+                number: 1,
+                uid: 5,
+                language: "eng",
+            }),
+            "track 0: audio A_OPUS number 1 uid 5 language eng",
         ),
         (Line::Missing { name: "no.mkv" }, "error: no.mkv: Missing"),
         (Line::NotBuilt { word: 0 }, "error: word 0: NotBuilt"),

@@ -1,0 +1,12 @@
+use Rattle.std.proofs.Common.{◌≡◌, Some, None, sym, ◌∙◌}
+use Rattle.mkv_values.specs.declared.damage.Damage.{Damage}
+use Rattle.mkv_info.proofs.TracksLemmas.{tracks-small}
+use Rattle.mkv_info.proofs.tracks.tracks_of.Goals as goal
+
+-- what an outline keeps isn't too large
+pub returns-in-Err-TooLarge-clause-ok : goal.returns-in-Err-TooLarge-clause-ok
+returns-in-Err-TooLarge-clause-ok g c = λ bytes told outline.
+    let small = tracks-small bytes c.args.outline.now c.in-Some.header outline (sym c.first.ensures.kept ∙ c.in-Some.is) in
+    let cause = rw c.in-Err-TooLarge.field-0-is at c.in-Err-TooLarge.ensures.cause in
+    let both : Some c.in-Err-TooLarge.damage ≡ None = sym cause.0 ∙ small in
+    absurd (cc)

@@ -1,0 +1,99 @@
+//! The tracks of a file, a line for each.
+
+ghost use Rattle.std.specs.Prelude.{◌≡◌, ◌+◌, ◌^◌, ◌≤◌, ℕ, List, Ok, length, IfErr, IfOk, IsTrue};
+ghost use Rattle.mkv_schema.specs.declared.ids.TheConstants.{TRACKS as TRACKS_ID};
+ghost use Rattle.mkv_io.specs.Faults.{HasReadCause};
+ghost use Rattle.mkv_io.specs.Told.{Told};
+ghost use Rattle.element_reader.specs.Outline.{first_in, outline_in};
+ghost use Rattle.mkv_lines.specs.Said.{HasSayCause, Says};
+ghost use Rattle.mkv_lines.specs.Line.{text_of};
+ghost use Rattle.mkv_lines.specs.declared.line.Line.TheVariants as line;
+ghost use Rattle.mkv_info.specs.Tracks.{shown_track, track_lines, tracks_at, tracks_in};
+
+use ebml_tree::{Tree, TreeEnd};
+use element_reader::{Header, LoadEnd, Outline, load};
+use mkv_io::{Reads, Report};
+use mkv_lines::{Line, ShownTrack, Stop, say};
+use mkv_schema::ids::TRACKS;
+use mkv_values::{Damage, FileId, List, ReadEnd};
+use std::alloc::Global;
+use track_records::{Track, read_tracks};
+
+/// The most Elements of a Tracks Element, itself counted.
+const MOST_NODES: u32 = 65536;
+
+/// The tracks of a file with this outline, or what refuses them.
+pub fn tracks_of<R: Reads>(
+    alloc: Global,
+    outline: &Outline,
+    src: &mut R,
+    file: FileId,
+) -> Result<Result<List<Track>, Damage>, ReadEnd>
+    requires live { IsTrue ((R.files (R.standing src.old)).live file.n) }
+    requires whole { outline.now.total ≡ (R.files (R.standing src.old)).size file.n }
+    ensures ok { IfOk result (λ found. Told ((R.files (R.standing src.old)).content file.n) (λ bytes.
+        outline_in 0 bytes ≡ Ok outline.now → found ≡ tracks_at bytes (first_in TRACKS_ID outline.now))) }
+    ensures standing { R.standing src.new ≡ R.standing src.old }
+    ensures cause { HasReadCause (R.reading_faults src.old) (R.reading_faults src.new) result }
+{
+    let Some(header) = outline.first(TRACKS) else {
+        return Ok(Ok(List::new(alloc)));
+    };
+    match load(alloc, src, file, &header) {
+        Ok(body) => parse_tracks(alloc, &header, body.as_slice()),
+        Err(LoadEnd::TooLarge(damage)) => Ok(Err(damage)),
+        Err(LoadEnd::ReadFault) => Err(ReadEnd::ReadFault),
+        Err(LoadEnd::Memory) => Err(ReadEnd::Memory),
+    }
+}
+
+// The tracks of a Tracks Element with this body, or what refuses them.
+fn parse_tracks(
+    alloc: Global,
+    header: &Header,
+    body: &[u8],
+) -> Result<Result<List<Track>, Damage>, ReadEnd>
+    requires { header.now.body + length body.now ≤ 2 ^ 48 }
+    ensures ok { IfOk result (λ found. found ≡ tracks_in header.now body.now) }
+    ensures memory { IfErr result (λ end. end ≡ ReadEnd.Memory) }
+{
+    let tree = match Tree::parse(alloc, TRACKS, header.offset, body, header.body, MOST_NODES) {
+        Ok(tree) => tree,
+        Err(TreeEnd::Damage(damage)) => return Ok(Err(damage)),
+        Err(TreeEnd::Memory) => return Err(ReadEnd::Memory),
+    };
+    match read_tracks(alloc, &tree) {
+        Ok(tracks) => Ok(Ok(tracks)),
+        Err(TreeEnd::Damage(damage)) => Ok(Err(damage)),
+        Err(TreeEnd::Memory) => Err(ReadEnd::Memory),
+    }
+}
+
+// A track, by its number from 0, as its line shows it.
+fn shown<'a>(index: usize, track: &'a Track) -> ShownTrack<'a>
+    ensures { text_of (line.Track result) ≡ shown_track index track.now }
+{
+    ShownTrack {
+        index,
+        type_name: track.type_name(),
+        codec: track.codec.as_str(),
+        number: track.number,
+        uid: track.uid,
+        language: track.language.as_str(),
+    }
+}
+
+/// A line for each track.
+pub fn say_tracks<P: Report>(
+    alloc: Global,
+    tracks: &List<Track>,
+    report: &mut P,
+) -> Result<(), Stop>
+    ensures said { Says (P.lines report.old) (P.lines report.new) (track_lines 0 tracks.now) result }
+    ensures cause { HasSayCause (P.faults report.old) (P.faults report.new) result }
+{
+    for (index, track) in tracks.as_slice().iter().enumerate() {
+        say(alloc, report, &Line::Track(shown(index, track)))?;
+    }
+    Ok(())
+}
