@@ -1,11 +1,13 @@
 -- A tree's fields, seen as the tree of the definitions.
-use Rattle.std.proofs.Common.{◌≡◌, ◌≤◌, ◌<◌, ℕ, ◌+◌, List, ◌++◌, length, flat_map, true, false, refl, sym, ap, ap₂, append_assoc, ◌∙◌, arith}
-use Rattle.tree_format.specs.Node.{Node, leaf, master, nodes_of, id_of, children, with_children, body_of, depth, depth_all, deepest, IsMaster, is_leaf}
+use Rattle.std.proofs.Common.{◌≡◌, ◌≤◌, ◌<◌, ℕ, ◌+◌, List, [], ◌∷◌, ◌++◌, length, flat_map, true, false, refl, sym, ap, ap₂, append_assoc, ◌∙◌, arith}
+use Rattle.tree_format.specs.Node.{Node, leaf, master, nodes_of, id_of, children, with_children, body_of, depth, depth_all, deepest, HasRoom, IsMaster, is_leaf}
 use Rattle.tree_format.specs.NormalForm.{octets, content, header_octets, kept_octets, is_filler, longest}
-use Rattle.tree_format.specs.Changes.{without}
+use Rattle.tree_format.specs.Changes.{without, with_child}
 use Rattle.tree_format.proofs.NodeLemmas.{list-nodes, octets_all-flat}
-use Rattle.tree_format.specs.Standing.{IsSound, KeepsLimits}
-use Rattle.tree_format.proofs.StandingLemmas.{sound-remove}
+use Rattle.tree_format.specs.Standing.{IsSound, KeepsLimits, IsReadAgain, StandsIn}
+use Rattle.tree_format.specs.Standing.{kept as kept_of}
+use Rattle.tree_format.proofs.AgainLemmas.{sound-again}
+use Rattle.tree_format.proofs.StandingLemmas.{sound-remove, sound-set, sound-push}
 use Rattle.tree_format.proofs.ChangeLemmas.{long-without, long-with_child, long-push, deep-without, deep-with_child, deep-push}
 use Rattle.tree_format.proofs.WrittenLemmas.{length-kept_octets, length-filler, length-header_octets}
 use Rattle.ebml_tree.specs.declared.tree.content.Content.{Content}
@@ -83,6 +85,10 @@ pub sound-removed : (c d : Content) (id at k : ℕ) (n : Node) → node_of id at
 sound-removed c d id at k n is kids has sound =
     rw (view_has c d id at n (without k (kids_of c)) is kids has, ← view_kids c id at n is) (sound-remove n k kids sound)
 
+-- a sound tree whose fields keep the limits is read again
+pub again-view : (id at written depth' : ℕ) (c : Content) (n : Node) (nodes : ℕ) → node_of id at c ≡ n → Measured id written depth' c → IsMaster n → IsSound n → kept_of n ≤ nodes → IsReadAgain nodes n
+again-view id at written depth' c n nodes is measured m sound few = sound-again n nodes m sound (view_limits id at written depth' c n is measured) few
+
 pub content_has : (d : Content) (ns : List Node) → HasKids d ns → content_of d ≡ flat_map octets ns
 content_has (Body b) ns has = absurd has
 content_has (Children w) ns has = ap (flat_map octets) has
@@ -128,6 +134,57 @@ written-whole c id at n before start out written trees is keeps inside exact hea
     let element : octets n ≡ header_octets id (length (content_of c)) ++ content_of c = view_octets c id at n is ∙ rw keeps refl in
     behind ∙ ap (λ l. l ++ flat_map octets trees) header ∙ append_assoc before (header_octets id written) (flat_map octets trees)
     ∙ ap (λ l. before ++ l) (ap₂ (λ k l. header_octets id k ++ l) exact (sym inside) ∙ sym element)
+
+-- ---- read again after a change
+
+module _ (c d : Content) (id at : ℕ) (n : Node) (is : node_of id at c ≡ n) (m : IsMaster n) (sound : IsSound n) where
+  -- with other children that stand here
+  pub again-has : (ns : List Node) (nodes : ℕ) → HasKids d ns → length (flat_map octets ns) ≤ longest → depth_all (nodes_of ns) < deepest → IsSound (with_children n ns) → kept_of (node_of id at d) ≤ nodes → IsReadAgain nodes (node_of id at d)
+  again-has ns nodes has long low stands few =
+      let same = view_has c d id at n ns is m has in
+      let content_same : length (content (node_of id at d)) ≡ length (flat_map octets ns) = ap length (view_content d id at (node_of id at d) refl ∙ content_has d ns has) in
+      let depth_same : depth (node_of id at d) ≡ depth_all (nodes_of ns) + 1 = view_depth d id at (node_of id at d) refl ∙ depth_has d ns has in
+      sound-again (node_of id at d) nodes (has-master d ns id at has) (rw same stands) (record { long = omega arith; deep = omega arith }) few
+
+  pub again-set : (child : Node) (own : List Node) (others long key written' depth' nodes : ℕ) → Measured id written' depth' c → own ≡ kids_of c → key ≡ id_of child → others ≡ length (flat_map octets (without key own)) → long ≡ length (octets child) → others + long ≤ longest
+      → HasRoom child → StandsIn (id_of n) child → HasKids d (with_child child (kids_of c)) → kept_of (node_of id at d) ≤ nodes → IsReadAgain nodes (node_of id at d)
+  again-set child own others long key written' depth' nodes measured same_kids same_key rest one fits room stands has few =
+      let deep = measured.deep in
+      let low = measured.not_too_deep in
+      let part : others ≡ length (flat_map octets (without (id_of child) (kids_of c))) = rest ∙ ap₂ (λ k l. length (flat_map octets (without k l))) same_key same_kids in
+      again-has (with_child child (kids_of c)) nodes has
+      (omega (arith, long-with_child child (kids_of c)))
+      (omega (arith, deep-with_child child (kids_of c), depth_kids c (master_kids c id at n is m)))
+      (rw (← view_kids c id at n is) (sound-set n child m sound stands)) few
+
+  pub again-push : (child : Node) (long written' depth' nodes : ℕ) → Measured id written' depth' c → long ≡ length (octets child) → written' + long ≤ longest
+      → HasRoom child → StandsIn (id_of n) child → HasKids d (kids_of c ++ child ∷ []) → kept_of (node_of id at d) ≤ nodes → IsReadAgain nodes (node_of id at d)
+  again-push child long written' depth' nodes measured one fits room stands has few =
+      let exact = measured.exact in
+      let deep = measured.deep in
+      let low = measured.not_too_deep in
+      again-has (kids_of c ++ child ∷ []) nodes has
+      (omega (arith, long-push child (kids_of c), ap length (content_kids c (master_kids c id at n is m))))
+      (omega (arith, deep-push child (kids_of c), depth_kids c (master_kids c id at n is m)))
+      (rw (← view_kids c id at n is) (sound-push n child m sound stands)) few
+
+  pub again-remove : (key written' depth' nodes : ℕ) → Measured id written' depth' c → HasKids d (without key (kids_of c)) → kept_of (node_of id at d) ≤ nodes → IsReadAgain nodes (node_of id at d)
+  again-remove key written' depth' nodes measured has few =
+      let exact = measured.exact in
+      let most = measured.most in
+      let deep = measured.deep in
+      let low = measured.not_too_deep in
+      again-has (without key (kids_of c)) nodes has
+      (omega (arith, long-without key (kids_of c), ap length (content_kids c (master_kids c id at n is m))))
+      (omega (arith, deep-without key (kids_of c), depth_kids c (master_kids c id at n is m)))
+      (rw (← view_kids c id at n is) (sound-remove n key m sound)) few
+
+  -- with the same children
+  pub again-kept : (written' depth' nodes : ℕ) → Measured id written' depth' c → HasKids d (kids_of c) → kept_of (node_of id at d) ≤ nodes → IsReadAgain nodes (node_of id at d)
+  again-kept written' depth' nodes measured has few =
+      let same = kept c d id at n is m has in
+      let fewer = rw same at few in
+      rw same (again-view id at written' depth' c n nodes is measured m sound fewer)
 
 pub ruleset lengths = (length-kept_octets, length-filler, length-header_octets)
 

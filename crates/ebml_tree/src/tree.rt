@@ -216,10 +216,12 @@ impl Tree {
         ensures replaced { HasChild (id_of child) (children self.old) → IsErr result
             → AreTooLong (with_child child (children self.old)) }
 
-        // It stays a master, and a child that may stand here keeps it sound: what `put` writes of it is
+        // It stays a master. A child that may stand here keeps it sound, and what `put` writes of it is
         // read again.
         ensures master { IsMaster self.new }
         ensures sound { IsSound self.old → StandsIn (id_of self.old) child → IsSound self.new }
+        ensures again { (nodes : ℕ) → IsSound self.old → StandsIn (id_of self.old) child
+            → kept self.new ≤ nodes → IsReadAgain nodes self.new }
     {
         let others = written_without(child.id(), self.content.kids());
         let written = others + child.written_len();
@@ -241,10 +243,12 @@ impl Tree {
         ensures err { OnErr result (self.new ≡ self.old) }
         ensures full { AreTooLong (children self.old ++ child ∷ []) → IsErr result }
 
-        // It stays a master, and a child that may stand here keeps it sound: what `put` writes of it is
+        // It stays a master. A child that may stand here keeps it sound, and what `put` writes of it is
         // read again.
         ensures master { IsMaster self.new }
         ensures sound { IsSound self.old → StandsIn (id_of self.old) child → IsSound self.new }
+        ensures again { (nodes : ℕ) → IsSound self.old → StandsIn (id_of self.old) child
+            → kept self.new ≤ nodes → IsReadAgain nodes self.new }
     {
         let written = self.written + child.written_len();
         let depth = self.depth.max(child.depth + 1);
@@ -263,9 +267,10 @@ impl Tree {
         requires { IsMaster self.old }
         ensures exact { self.new ≡ with_children self.old (without id (children self.old)) }
 
-        // It stays a master, and sound: what `put` writes of it is read again.
+        // It stays a master, and sound, and what `put` writes of it is read again.
         ensures master { IsMaster self.new }
         ensures sound { IsSound self.old → IsSound self.new }
+        ensures again { (nodes : ℕ) → IsSound self.old → kept self.new ≤ nodes → IsReadAgain nodes self.new }
     {
         self.content.remove(id);
         self.written = written_together(self.content.kids());

@@ -270,13 +270,16 @@ grove-octets ns room left parent p stand low small enough = follows-all ns room 
 
 -- What is written behind a sound master's header is read as the tree again, at its places.
 pub sound-again : (n : Node) (nodes : ℕ) → IsMaster n → IsSound n → KeepsLimits n → kept n ≤ nodes → IsReadAgain nodes n
-sound-again (leaf id at body) nodes is sound within few = λ offset base. absurd (cc)
-sound-again (master id at kids) nodes is sound within few = λ offset base.
+sound-again (leaf id at body) nodes is sound within few = absurd (cc)
+sound-again (master id at kids) nodes is sound within few =
     let some : (nodes == 0) ≡ false = grind (arith, nat_tests) in
     let long = within.long in
     let deep = within.deep in
-    rw some (ap (λ r. and_then r (as_root id offset)) (grove-octets kids (deepest - 1) (nodes - 1) id base sound (omega arith) long (omega arith))
-    ∙ ap (λ ns. Ok (master id offset ns)) (nodes-list (placed_all base kids)))
+    record {
+      read = λ offset base.
+          rw some (ap (λ r. and_then r (as_root id offset)) (grove-octets kids (deepest - 1) (nodes - 1) id base sound (omega arith) long (omega arith))
+          ∙ ap (λ ns. Ok (master id offset ns)) (nodes-list (placed_all base kids)));
+    }
 
 -- no more is written than there is
 pub kept_all-le : (ns : Nodes) → kept_all ns ≤ count_all ns

@@ -63,5 +63,5 @@ pub record KeepsLimits (n : Node) : Type 0 where
 
 -- What is written of a master behind its header is read again where so many nodes are allowed: as the
 -- same tree, without what is left out, each Element at its own place.
-abbrev pub IsReadAgain : ℕ → Node → Type 0
-IsReadAgain nodes n = (offset base : ℕ) → tree_of (id_of n) offset (content n) base nodes ≡ Ok (placed_in offset base n)
+pub record IsReadAgain (nodes : ℕ) (n : Node) : Type 0 where
+  pub read : (offset base : ℕ) → tree_of (id_of n) offset (content n) base nodes ≡ Ok (placed_in offset base n)
