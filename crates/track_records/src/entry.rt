@@ -1,7 +1,7 @@
 //! The values of a TrackEntry: RFC 9559, section 5.1.4 (Tracks Element).
 
 ghost use Rattle.std.specs.Prelude.{◌≡◌, IfOk};
-ghost use Rattle.std.specs.Option.{option_copied, option_map};
+ghost use Rattle.std.specs.Option.{option_copied};
 ghost use Rattle.std.specs.Str.{IsUtf8};
 ghost use Rattle.matroska_format.specs.Value.{text_of};
 ghost use Rattle.tree_format.specs.Node.{body_of};
