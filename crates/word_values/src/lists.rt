@@ -1,6 +1,6 @@
 //! Values with commas between them.
 
-ghost use Rattle.std.specs.Prelude.{◌≡◌};
+ghost use Rattle.std.specs.Prelude.{◌≡◌, ℕ, List, Option};
 ghost use Rattle.word_values.specs.Answers.{Reads};
 ghost use Rattle.word_values.specs.Lists as spec;
 ghost use Rattle.word_values.specs.Lists.{pieces, each};
@@ -47,25 +47,92 @@ pub enum Select {
     Off,
 }
 
-/// Numbers, at least one.
-#[tactic(auto, unfolding(crate::specs::Lists::numbers))]
-pub(crate) fn numbers(alloc: Global, word: &[u8]) -> Result<List<u64>, ValueEnd>
-    ensures { Reads result (spec.numbers word.now) }
+/// A form of the pieces of a list.
+trait Piece {
+    /// What a piece of this form says.
+    type Value: Drop;
+
+    ghost spelled: { List ℕ → Option Self.Value };
+
+    /// What the piece says, where it is of this form.
+    fn read(word: &[u8]) -> Option<Self::Value>
+        ensures { result ≡ spelled word.now };
+}
+
+struct NumberPiece;
+
+impl Piece for NumberPiece {
+    type Value = u64;
+
+    ghost spelled = { numbers.number };
+
+    fn read(word: &[u8]) -> Option<u64> {
+        number(word)
+    }
+}
+
+struct TimePiece;
+
+impl Piece for TimePiece {
+    type Value = u64;
+
+    ghost spelled = { numbers.time };
+
+    fn read(word: &[u8]) -> Option<u64> {
+        time(word)
+    }
+}
+
+struct UuidPiece;
+
+impl Piece for UuidPiece {
+    type Value = u128;
+
+    ghost spelled = { numbers.uuid };
+
+    fn read(word: &[u8]) -> Option<u128> {
+        uuid(word)
+    }
+}
+
+struct SpanPiece;
+
+impl Piece for SpanPiece {
+    type Value = SpanWords;
+
+    ghost spelled = { spec.span };
+
+    fn read(word: &[u8]) -> Option<SpanWords> {
+        span(word)
+    }
+}
+
+/// What the pieces say, at least one.
+fn list_of<P: Piece>(alloc: Global, word: &[u8]) -> Result<List<P::Value>, ValueEnd>
+    ensures { Reads result (each P.spelled (pieces word.now)) }
 {
     let mut list = List::new(alloc);
     let mut rest = word;
     while let Some((piece, after)) = cut(rest, b',') {
-        let Some(value) = number(piece) else {
+        let Some(value) = P::read(piece) else {
             return Err(ValueEnd::Bad);
         };
         list.push(value)?;
         rest = after;
     }
-    let Some(last) = number(rest) else {
+    let Some(last) = P::read(rest) else {
         return Err(ValueEnd::Bad);
     };
     list.push(last)?;
     Ok(list)
+}
+
+/// Numbers, at least one.
+#[tactic(auto, unfolding(crate::specs::Lists::numbers))]
+pub(crate) fn numbers(alloc: Global, word: &[u8]) -> Result<List<u64>, ValueEnd>
+    ensures { Reads result (spec.numbers word.now) }
+{
+    list_of::<NumberPiece>(alloc, word)
 }
 
 /// Track IDs, or `!` and the IDs that aren't meant.
@@ -88,32 +155,12 @@ pub(crate) fn ids(alloc: Global, word: &[u8]) -> Result<Select, ValueEnd>
 fn times(alloc: Global, word: &[u8]) -> Result<List<u64>, ValueEnd>
     ensures { Reads result (spec.times word.now) }
 {
-    let list = time_list(alloc, word)?;
+    let list = list_of::<TimePiece>(alloc, word)?;
     if ascend(list.as_slice()) {
         Ok(list)
     } else {
         Err(ValueEnd::Bad)
     }
-}
-
-/// Times, at least one.
-fn time_list(alloc: Global, word: &[u8]) -> Result<List<u64>, ValueEnd>
-    ensures { Reads result (each numbers.time (pieces word.now)) }
-{
-    let mut list = List::new(alloc);
-    let mut rest = word;
-    while let Some((piece, after)) = cut(rest, b',') {
-        let Some(value) = time(piece) else {
-            return Err(ValueEnd::Bad);
-        };
-        list.push(value)?;
-        rest = after;
-    }
-    let Some(last) = time(rest) else {
-        return Err(ValueEnd::Bad);
-    };
-    list.push(last)?;
-    Ok(list)
 }
 
 /// Whether each time is above the one before.
@@ -133,32 +180,12 @@ fn ascend(times: &[u64]) -> bool
 fn spans(alloc: Global, word: &[u8]) -> Result<List<SpanWords>, ValueEnd>
     ensures { Reads result (spec.spans word.now) }
 {
-    let list = span_list(alloc, word)?;
+    let list = list_of::<SpanPiece>(alloc, word)?;
     if follow(list.as_slice()) {
         Ok(list)
     } else {
         Err(ValueEnd::Bad)
     }
-}
-
-/// Stretches of time, at least one.
-fn span_list(alloc: Global, word: &[u8]) -> Result<List<SpanWords>, ValueEnd>
-    ensures { Reads result (each spec.span (pieces word.now)) }
-{
-    let mut list = List::new(alloc);
-    let mut rest = word;
-    while let Some((piece, after)) = cut(rest, b',') {
-        let Some(value) = span(piece) else {
-            return Err(ValueEnd::Bad);
-        };
-        list.push(value)?;
-        rest = after;
-    }
-    let Some(last) = span(rest) else {
-        return Err(ValueEnd::Bad);
-    };
-    list.push(last)?;
-    Ok(list)
 }
 
 /// `a-b`, or `a-` for a stretch without end.
@@ -206,32 +233,12 @@ fn follow(spans: &[SpanWords]) -> bool
 pub(crate) fn uuids(alloc: Global, word: &[u8]) -> Result<List<u128>, ValueEnd>
     ensures { Reads result (spec.uuids word.now) }
 {
-    let list = uuid_list(alloc, word)?;
+    let list = list_of::<UuidPiece>(alloc, word)?;
     if list.len() <= MOST_UUIDS && differ(list.as_slice()) {
         Ok(list)
     } else {
         Err(ValueEnd::Bad)
     }
-}
-
-/// Identifiers, at least one.
-fn uuid_list(alloc: Global, word: &[u8]) -> Result<List<u128>, ValueEnd>
-    ensures { Reads result (each numbers.uuid (pieces word.now)) }
-{
-    let mut list = List::new(alloc);
-    let mut rest = word;
-    while let Some((piece, after)) = cut(rest, b',') {
-        let Some(value) = uuid(piece) else {
-            return Err(ValueEnd::Bad);
-        };
-        list.push(value)?;
-        rest = after;
-    }
-    let Some(last) = uuid(rest) else {
-        return Err(ValueEnd::Bad);
-    };
-    list.push(last)?;
-    Ok(list)
 }
 
 /// Whether no number stands twice.

@@ -2,8 +2,23 @@
 //! the number of the wrong word, from 0, and the reason; a command is shown with what isn't its
 //! default, times in nanoseconds.
 
+/// The lines of one topic, of nine.
+pub(crate) fn table(topic: usize) -> &'static [(&'static str, &'static str)] {
+    match topic {
+        0 => &COMMANDS,
+        1 => &EXTRACTIONS,
+        2 => &EDITS,
+        3 => &OUTPUTS,
+        4 => &SPLITS,
+        5 => &IDENTIFIERS,
+        6 => &FILES,
+        7 => &TRACKS,
+        _ => &JOINS,
+    }
+}
+
 /// Each command alone, and those that take a name or a number.
-pub(crate) static COMMANDS: [(&str, &str); 38] = [
+static COMMANDS: [(&str, &str); 38] = [
     ("", "0 UnknownCommand"),
     ("foo", "0 UnknownCommand"),
     ("--foo", "0 UnknownCommand"),
@@ -45,7 +60,7 @@ pub(crate) static COMMANDS: [(&str, &str); 38] = [
 ];
 
 /// `extract`.
-pub(crate) static EXTRACTIONS: [(&str, &str); 38] = [
+static EXTRACTIONS: [(&str, &str); 38] = [
     ("extract", "1 MissingValue"),
     ("extract f", "2 MissingValue"),
     ("extract -f tracks 0:r", "1 UnknownOption"),
@@ -102,7 +117,7 @@ pub(crate) static EXTRACTIONS: [(&str, &str); 38] = [
 ];
 
 /// `propedit`.
-pub(crate) static EDITS: [(&str, &str); 28] = [
+static EDITS: [(&str, &str); 28] = [
     ("propedit", "1 MissingValue"),
     ("propedit -f", "1 UnknownOption"),
     ("propedit f", "2 MissingValue"),
@@ -152,7 +167,7 @@ pub(crate) static EDITS: [(&str, &str); 28] = [
 ];
 
 /// `merge`, for the whole output.
-pub(crate) static OUTPUTS: [(&str, &str); 38] = [
+static OUTPUTS: [(&str, &str); 38] = [
     ("merge", "1 NoOutput"),
     ("merge a", "2 NoOutput"),
     ("merge -o out.mkv", "3 NoInput"),
@@ -209,7 +224,7 @@ pub(crate) static OUTPUTS: [(&str, &str); 38] = [
 ];
 
 /// `merge --split`.
-pub(crate) static SPLITS: [(&str, &str); 46] = [
+static SPLITS: [(&str, &str); 46] = [
     (
         "merge -o o --split duration:10s f",
         "merge o every 10000000000 | f",
@@ -310,7 +325,7 @@ pub(crate) static SPLITS: [(&str, &str); 46] = [
 ];
 
 /// `merge` with `--segment-uid`, `--link` and `-J`.
-pub(crate) static IDENTIFIERS: [(&str, &str); 22] = [
+static IDENTIFIERS: [(&str, &str); 22] = [
     ("merge -o o f -J g", "4 ExtraWord"),
     (
         "merge -o o --segment-uid 00000000000000000000000000000001 f",
@@ -351,7 +366,7 @@ pub(crate) static IDENTIFIERS: [(&str, &str); 22] = [
 ];
 
 /// `merge`, for the next file.
-pub(crate) static FILES: [(&str, &str); 24] = [
+static FILES: [(&str, &str); 24] = [
     ("merge -o -a s1.mkv", "merge -a | s1.mkv"),
     ("merge -o o -a 1 f", "merge o | f audio 1 named 1"),
     (
@@ -400,7 +415,7 @@ pub(crate) static FILES: [(&str, &str); 24] = [
 ];
 
 /// `merge`, for one track of the next file.
-pub(crate) static TRACKS: [(&str, &str); 36] = [
+static TRACKS: [(&str, &str); 36] = [
     ("merge -o o --track-name 0:a\0 f", "4 BadValue"),
     ("merge -o o --language 0:a\0b f", "4 BadValue"),
     ("merge -o a b -y", "5 MissingValue"),
@@ -479,7 +494,7 @@ pub(crate) static TRACKS: [(&str, &str); 36] = [
 ];
 
 /// `merge` with `+`, with options behind the last file, and with many files.
-pub(crate) static JOINS: [(&str, &str); 13] = [
+static JOINS: [(&str, &str); 13] = [
     ("merge -o o - +", "5 MissingValue"),
     ("merge -o o f + -a 1", "7 MissingValue"),
     ("merge -o o f -a 1 +", "7 MissingValue"),

@@ -1,12 +1,11 @@
 -- What is read, and then what the pieces from here on say, is what all of them say.
 use Rattle.std.proofs.Common.{◌≡◌, length}
-use Rattle.word_values.specs.Numbers.{time}
 use Rattle.word_values.specs.Lists.{pieces, each}
 use Rattle.word_values.proofs.ListsLemmas.{joined}
-use Rattle.word_values.proofs.lists.time_list.Given as goal
+use Rattle.word_values.proofs.lists.list_of.Given as goal
 
 abbrev pub invariant-loop-piece : goal.invariant-loop-piece
-invariant-loop-piece l = joined l.list (each time (pieces l.rest)) ≡ each time (pieces l.word)
+invariant-loop-piece g l = joined l.list (each g.P.Piece.spelled (pieces l.rest)) ≡ each g.P.Piece.spelled (pieces l.word)
 
 abbrev pub decreases-loop-piece : goal.decreases-loop-piece
-decreases-loop-piece l = length l.rest
+decreases-loop-piece g l = length l.rest
