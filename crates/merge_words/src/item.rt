@@ -180,16 +180,17 @@ pub(crate) fn files_in(items: &[Item]) -> usize
         .count()
 }
 
-/// The items behind the last file.
+/// The items behind the last file. Only these are looked at.
 #[tactic(auto, unfolding(crate::specs::Items::since_file))]
 pub(crate) fn since_file(items: &[Item]) -> &[Item]
     ensures { result.now ≡ spec.since_file items.now }
 {
-    let mut start = 0;
-    for (k, item) in items.iter().enumerate() {
-        if item.subject.is(Subject::File) {
-            start = k + 1;
+    let mut start = items.len();
+    while start > 0 {
+        if items[start - 1].subject.is(Subject::File) {
+            return &items[start..];
         }
+        start -= 1;
     }
-    &items[start..]
+    items
 }

@@ -1,10 +1,13 @@
--- The items from the last file on, of those so far, and then those that are left.
-use Rattle.std.proofs.Common.{◌≡◌, ◌≤◌, take, drop, []}
+-- No file stands among the items from here on.
+use Rattle.std.proofs.Common.{◌≡◌, ◌≤◌, ◌++◌, take, drop, [], length}
 use Rattle.merge_words.specs.Items.{latest}
 use Rattle.merge_words.proofs.item.since_file.Given as goal
 
-abbrev pub invariant-loop-k : goal.invariant-loop-k
-invariant-loop-k l = record {
-  within : l.start ≤ l.k;
-  left : latest (drop l.start (take l.k l.items)) (drop l.k l.items) ≡ latest [] l.items;
+abbrev pub invariant-loop-start : goal.invariant-loop-start
+invariant-loop-start l = record {
+  within : l.start ≤ length l.items;
+  left : latest [] (take l.start l.items) ++ drop l.start l.items ≡ latest [] l.items;
 }
+
+abbrev pub decreases-loop-start : goal.decreases-loop-start
+decreases-loop-start l = l.start
