@@ -38,18 +38,27 @@ fn command(alloc: Global, words: &[String]) -> Result<Command, ArgsEnd>
         Some(Verb::Recover) => recover(alloc, words),
         Some(Verb::Reindex) => reindex(alloc, words),
         Some(Verb::Generate) => generate(alloc, words),
-        Some(Verb::Help) => alone(words, Command::Help),
-        Some(Verb::Version) => alone(words, Command::Version),
+        Some(Verb::Help) => help(words),
+        Some(Verb::Version) => version(words),
     }
 }
 
-/// A command that is one word.
+/// `--help`.
 #[tactic(auto, unfolding(crate::specs::Words::alone))]
-fn alone(words: &[String], command: Command) -> Result<Command, ArgsEnd>
-    ensures { Tells result (spec.alone command (texts words.now)) }
+fn help(words: &[String]) -> Result<Command, ArgsEnd>
+    ensures { Tells result (spec.alone Command.Help (texts words.now)) }
 {
     end_at(words, 1)?;
-    Ok(command)
+    Ok(Command::Help)
+}
+
+/// `--version`.
+#[tactic(auto, unfolding(crate::specs::Words::alone))]
+fn version(words: &[String]) -> Result<Command, ArgsEnd>
+    ensures { Tells result (spec.alone Command.Version (texts words.now)) }
+{
+    end_at(words, 1)?;
+    Ok(Command::Version)
 }
 
 /// `info FILE`.
