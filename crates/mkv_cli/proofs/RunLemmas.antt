@@ -1,10 +1,11 @@
 -- A run that ends by a fault of the files.
-use Rattle.std.proofs.Common.{◌≡◌, ℕ, List, [], ◌∷◌, ◌++◌, Option, Result, Ok, Err, inl, inr, refl, sym, ◌∙◌, ap, subst}
+use Rattle.std.proofs.Math.Seq.{drop-cons}
+use Rattle.std.proofs.Common.{◌≡◌, ℕ, suc, ◌+◌, ◌<◌, length, drop, get_or, add-one, List, [], ◌∷◌, ◌++◌, Option, Result, Ok, Err, inl, inr, refl, sym, ◌∙◌, ap, subst}
 use Rattle.mkv_io.specs.Faults.{HasRisen}
 use Rattle.mkv_io.specs.Lines.{with_lines}
 use Rattle.mkv_lines.specs.Faults.{Counts, FilesRose}
 use Rattle.mkv_lines.specs.Line.{files_fault_line}
-use Rattle.mkv_lines.specs.Said.{HasSayCause, Held, Says, SaysPart}
+use Rattle.mkv_lines.specs.Said.{HasSayCause, Held, Says, SaysPart, SaysUpTo}
 use Rattle.mkv_lines.specs.Verdict.{EndsOutside, SaysFault}
 use Rattle.mkv_lines.specs.declared.status.Stop.{Stop}
 use Rattle.mkv_lines.specs.declared.status.Stop.TheVariants as stop
@@ -40,3 +41,11 @@ ends-fault before now report old mid new all (Err stop.Memory) files same part s
 ends-fault before now report old mid new all (Err stop.Files) files same part says cause some = absurd cause
 ends-fault before now report old mid new all (Err stop.Report) files same part says cause some =
     fault_or_not before now old mid new all says.said says.left files (subst (λ (n : ℕ). HasRisen n now.report) same cause) part says.whole says.added
+
+-- ---- texts that are said one after the other
+
+-- the next text is the first of those that are left
+pub texts-next : (old now : Held) (all : List (List ℕ)) (k : ℕ) (texts : List (List ℕ)) (t : List ℕ) → k < length texts → t ≡ get_or texts k t → SaysUpTo old now all (drop k texts) → SaysUpTo old now all (t ∷ drop (k + 1) texts)
+texts-next old now all k texts t below is way =
+    subst (λ (lines : List (List ℕ)). SaysUpTo old now all lines)
+    (drop-cons texts k t below ∙ ap (λ (one : List ℕ). one ∷ drop (suc k) texts) (sym is) ∙ rw add-one refl) way

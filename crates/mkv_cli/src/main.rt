@@ -2,10 +2,10 @@
 
 //! The program: its words, the files and the output of the system, and the status with which it ends.
 
+mod help;
 mod run;
 #[cfg(test)]
 mod tests;
-mod words;
 
 use mkv_host::{RealFiles, RealReport};
 use run::run;

@@ -1,13 +1,17 @@
 //! A run, from the words of its command line to its status.
 
-ghost use Rattle.std.specs.Prelude.{◌≡◌, ℕ, map, string_bytes, IfOk};
+ghost use Rattle.std.specs.Prelude.{◌≡◌, ℕ, IfOk};
 ghost use Rattle.mkv_io.specs.Told.{Told};
 ghost use Rattle.mkv_lines.specs.Faults.{HasStatusCause, HasStopCause};
 ghost use Rattle.mkv_lines.specs.Ordinary.{IsOrdinary};
-ghost use Rattle.mkv_lines.specs.Verdict.{Ends, Reaches};
-ghost use Rattle.mkv_cli.specs.Run.{verdict_in};
+ghost use Rattle.mkv_lines.specs.Line.{word_line};
+ghost use Rattle.mkv_lines.specs.Said.{HasSayCause};
+ghost use Rattle.mkv_lines.specs.Verdict.{Ends, Reaches, refused};
+ghost use Rattle.word_values.specs.Place.{texts};
+ghost use Rattle.mkv_cli.specs.Run.{verdict_in, verdict_of};
 
-use crate::words::file_named;
+use crate::help::{help, version};
+use mkv_args::{ArgsEnd, Command, read_words};
 use mkv_info::info_of;
 use mkv_io::{Files, Report};
 use mkv_lines::{Line, Status, Stop, say, say_files_fault};
@@ -20,7 +24,7 @@ pub fn run<F: Files, R: Report>(
     files: &mut F,
     report: &mut R,
 ) -> Status
-    ensures verdict { Told (verdict_in (F.names files.old) (map string_bytes words.now.items)) (λ verdict. Ends
+    ensures verdict { Told (verdict_in (F.names files.old) (texts words.now.items)) (λ verdict. Ends
         (record { reading = F.reading_faults files.old; writing = F.writing_faults files.old; report = R.faults report.old })
         (record { reading = F.reading_faults files.new; writing = F.writing_faults files.new; report = R.faults report.new })
         (R.lines report.old) (R.lines report.new) result verdict) }
@@ -49,7 +53,7 @@ fn carry_out<F: Files, R: Report>(
     files: &mut F,
     report: &mut R,
 ) -> Result<Status, Stop>
-    ensures verdict { Told (verdict_in (F.names files.old) (map string_bytes words.now.items)) (λ verdict. Reaches (R.lines report.old) (R.lines report.new) result verdict) }
+    ensures verdict { Told (verdict_in (F.names files.old) (texts words.now.items)) (λ verdict. Reaches (R.lines report.old) (R.lines report.new) result verdict) }
     ensures ordinary { IfOk result IsOrdinary }
     ensures cause { HasStopCause
         (record { reading = F.reading_faults files.old; writing = F.writing_faults files.old; report = R.faults report.old })
@@ -58,11 +62,43 @@ fn carry_out<F: Files, R: Report>(
     ensures names { F.names files.new ≡ F.names files.old }
     ensures closed { (file : ℕ) → (F.files (F.standing files.new)).live file ≡ (F.files (F.standing files.old)).live file }
 {
-    match file_named(words) {
-        Some(name) => info_of(alloc, name, files, report),
-        None => {
-            say(alloc, report, &Line::NotBuilt { word: 0 })?;
-            Ok(Status::Refused)
-        }
+    match read_words(alloc, words) {
+        Ok(command) => obey(alloc, &command, files, report),
+        Err(ArgsEnd::Usage(usage)) => refuse(alloc, usage.word, usage.why.name(), report),
+        Err(ArgsEnd::Memory) => Err(Stop::Memory),
     }
+}
+
+// Does what a command asks for.
+fn obey<F: Files, R: Report>(
+    alloc: Global,
+    command: &Command,
+    files: &mut F,
+    report: &mut R,
+) -> Result<Status, Stop>
+    ensures verdict { Told (verdict_of (F.names files.old) command.now) (λ verdict. Reaches (R.lines report.old) (R.lines report.new) result verdict) }
+    ensures ordinary { IfOk result IsOrdinary }
+    ensures cause { HasStopCause
+        (record { reading = F.reading_faults files.old; writing = F.writing_faults files.old; report = R.faults report.old })
+        (record { reading = F.reading_faults files.new; writing = F.writing_faults files.new; report = R.faults report.new })
+        result }
+    ensures names { F.names files.new ≡ F.names files.old }
+    ensures closed { (file : ℕ) → (F.files (F.standing files.new)).live file ≡ (F.files (F.standing files.old)).live file }
+{
+    match command {
+        Command::Help => help(alloc, report),
+        Command::Version => version(report),
+        Command::Info { file } => info_of(alloc, file.as_str(), files, report),
+        _ => refuse(alloc, 0, "NotBuilt", report),
+    }
+}
+
+// Words that aren't obeyed.
+fn refuse<R: Report>(alloc: Global, word: usize, why: &str, report: &mut R) -> Result<Status, Stop>
+    ensures verdict { Reaches (R.lines report.old) (R.lines report.new) result (refused (word_line word why.now)) }
+    ensures ordinary { IfOk result IsOrdinary }
+    ensures cause { HasSayCause (R.faults report.old) (R.faults report.new) result }
+{
+    say(alloc, report, &Line::Word { word, why })?;
+    Ok(Status::Refused)
 }

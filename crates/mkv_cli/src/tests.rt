@@ -181,14 +181,28 @@ fn files_are_listed_warned_of_and_refused(rt: HostRuntime) -> Result<(), Fail> {
             first: &EBML,
             second: &empty,
             status: Status::Refused,
+            lines: &["error: word 1: UnknownOption"],
+        },
+        Row {
+            words: &["recover", "a.mkv"],
+            first: &EBML,
+            second: &empty,
+            status: Status::Refused,
             lines: &["error: word 0: NotBuilt"],
+        },
+        Row {
+            words: &["--version"],
+            first: &EBML,
+            second: &empty,
+            status: Status::Done,
+            lines: &["mkvsuite 0.1.0"],
         },
         Row {
             words: &[],
             first: &EBML,
             second: &empty,
             status: Status::Refused,
-            lines: &["error: word 0: NotBuilt"],
+            lines: &["error: word 0: NoCommand"],
         },
     ];
     for row in &rows {

@@ -5,7 +5,7 @@ use Rattle.mkv_values.specs.declared.damage.Damage.{Damage}
 use Rattle.matroska_format.specs.declared.element.Header.{Header}
 use Rattle.mkv_lines.specs.Shown.{damage_text, level_0_name, level_1_name, place_text, track_text}
 use Rattle.mkv_lines.specs.declared.line.Line.{Line}
-use Rattle.mkv_lines.specs.declared.line.Line.TheVariants.{Level0, Level1, Track, Refused, Warned, Missing, NotBuilt, FilesFault}
+use Rattle.mkv_lines.specs.declared.line.Line.TheVariants.{Level0, Level1, Track, Refused, Warned, Missing, Word, FilesFault}
 
 -- an Element at the top of a file
 abbrev pub level_0_line : Header → List ℕ
@@ -27,9 +27,13 @@ warning_line name d = codes "warning: " ++ (name ++ (codes ": " ++ damage_text d
 abbrev pub missing_line : List ℕ → List ℕ
 missing_line name = codes "error: " ++ (name ++ codes ": Missing")
 
+-- words that aren't obeyed, from this one on
+abbrev pub word_line : ℕ → List ℕ → List ℕ
+word_line word why = codes "error: word " ++ (decimal word ++ (codes ": " ++ why))
+
 -- words that ask for what isn't built
-abbrev pub not_built_line : ℕ → List ℕ
-not_built_line word = codes "error: word " ++ (decimal word ++ codes ": NotBuilt")
+abbrev pub not_built_line : List ℕ
+not_built_line = word_line 0 (codes "NotBuilt")
 
 -- a fault of the files
 abbrev pub files_fault_line : List ℕ
@@ -43,5 +47,5 @@ text_of (Track t) = track_text t.index t.type_name.now t.codec.now t.number t.ui
 text_of (Refused name damage) = refusal_line name.now damage
 text_of (Warned name damage) = warning_line name.now damage
 text_of (Missing name) = missing_line name.now
-text_of (NotBuilt word) = not_built_line word
+text_of (Word word why) = word_line word why.now
 text_of FilesFault = files_fault_line

@@ -12,6 +12,10 @@ pub record Verdict : Type 0 where
   pub status : Status
   pub lines : List (List ℕ)
 
+-- all is done, and these lines tell of it
+abbrev pub done : List (List ℕ) → Verdict
+done lines = record { status = status.Done; lines = lines }
+
 -- a refusal is told by one line
 abbrev pub refused : List ℕ → Verdict
 refused line = record { status = status.Refused; lines = line ∷ [] }

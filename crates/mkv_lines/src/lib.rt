@@ -8,7 +8,7 @@ mod shown;
 mod status;
 
 pub use line::Line;
-pub use saying::{say, say_files_fault};
+pub use saying::{say, say_files_fault, say_text};
 pub use shown::ShownTrack;
 pub use status::{Status, Stop};
 

@@ -20,8 +20,8 @@ pub enum Line<'a> {
     Warned { name: &'a str, damage: Damage },
     /// A file isn't there.
     Missing { name: &'a str },
-    /// The words ask for what isn't built, from this word on.
-    NotBuilt { word: usize },
+    /// The words aren't obeyed, from this one on, counted from 0.
+    Word { word: usize, why: &'a str },
     /// The files failed.
     FilesFault,
 }
@@ -52,7 +52,7 @@ impl fmt::Display for Line<'_> {
                 write!(f, "warning: {name}: {damage}")
             }
             Line::Missing { name } => write!(f, "error: {name}: Missing"),
-            Line::NotBuilt { word } => write!(f, "error: word {word}: NotBuilt"),
+            Line::Word { word, why } => write!(f, "error: word {word}: {why}"),
             Line::FilesFault => f.write_str("fault: files"),
         }
     }

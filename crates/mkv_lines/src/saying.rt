@@ -24,14 +24,23 @@ pub fn say<R: Report>(alloc: Global, report: &mut R, line: &Line) -> Result<(), 
     }
 }
 
+/// Says a text as a line, which takes no memory.
+pub fn say_text<R: Report>(report: &mut R, text: &str) -> Result<(), Stop>
+    ensures said { Says (R.lines report.old) (R.lines report.new) (text.now ∷ []) result }
+    ensures memory { result ≡ Err Stop.Memory → ⊥ }
+    ensures cause { HasSayCause (R.faults report.old) (R.faults report.new) result }
+{
+    match report.say(text) {
+        Ok(()) => Ok(()),
+        Err(Failed) => Err(Stop::Report),
+    }
+}
+
 /// Says that the files failed, which takes no memory.
 pub fn say_files_fault<R: Report>(report: &mut R) -> Result<(), Stop>
     ensures said { Says (R.lines report.old) (R.lines report.new) (files_fault_line ∷ []) result }
     ensures memory { result ≡ Err Stop.Memory → ⊥ }
     ensures cause { HasSayCause (R.faults report.old) (R.faults report.new) result }
 {
-    match report.say("fault: files") {
-        Ok(()) => Ok(()),
-        Err(Failed) => Err(Stop::Report),
-    }
+    say_text(report, "fault: files")
 }

@@ -137,6 +137,9 @@ impl fmt::Display for ShownTrack<'_> {
     fn fmt<W: fmt::Write>(&self, f: &mut fmt::Formatter<W>) -> fmt::Result {
         let (index, type_name, codec) = (self.index, self.type_name, self.codec);
         let (number, uid, language) = (self.number, self.uid, self.language);
-        write!(f, "track {index}: {type_name} {codec} number {number} uid {uid} language {language}")
+        write!(
+            f,
+            "track {index}: {type_name} {codec} number {number} uid {uid} language {language}"
+        )
     }
 }

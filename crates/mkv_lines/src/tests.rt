@@ -59,7 +59,13 @@ fn lines_read_as_they_are_documented(rt: HostRuntime) -> Result<(), Fail> {
             "track 0: audio A_OPUS number 1 uid 5 language eng",
         ),
         (Line::Missing { name: "no.mkv" }, "error: no.mkv: Missing"),
-        (Line::NotBuilt { word: 0 }, "error: word 0: NotBuilt"),
+        (
+            Line::Word {
+                word: 3,
+                why: "UnknownOption",
+            },
+            "error: word 3: UnknownOption",
+        ),
         (Line::FilesFault, "fault: files"),
     ];
     for (line, text) in &cases {
