@@ -1,5 +1,6 @@
 //! Lines of words with the answers that they must have, and the texts of the refusals.
 
+mod merges;
 mod shown;
 mod table;
 
