@@ -23,3 +23,6 @@ pub use head::header_at;
 pub use level_one::LevelOne;
 pub use outline::Outline;
 pub use outline_end::OutlineEnd;
+
+#[cfg(test)]
+mod tests;
