@@ -1,6 +1,6 @@
 -- What is kept of the Elements of level 1, one more at a time.
-use Rattle.std.proofs.Common.{◌≡◌, ℕ, zero, suc, IfSome, ◌≤◌, ◌<◌, ◌+◌, ◌==◌, nat_lt, Bool, true, false, not, ◌&&◌, ◌||◌, if◌then◌else◌, List, [], ◌∷◌, ◌++◌, length, length-append, Option, Some, None, refl, sym, ◌∙◌, ap, arith}
-use Rattle.std.specs.Option.{option_map, option_or, is_some}
+use Rattle.std.proofs.Common.{◌≡◌, ℕ, zero, suc, IfSome, ◌≤◌, ◌+◌, ◌==◌, nat_lt, Bool, true, false, not, ◌&&◌, ◌||◌, if◌then◌else◌, List, [], ◌∷◌, ◌++◌, length, length-append, Option, Some, None, refl, sym, ◌∙◌, ap, arith}
+use Rattle.std.specs.Option.{option_or, is_some}
 use Rattle.std.specs.List.{All, filter, find, sum_by}
 use Rattle.std.proofs.lemmas.List.Elements.{All-append, filter-append}
 use Rattle.std.proofs.lemmas.List.Folds.{find-append}

@@ -3,9 +3,9 @@ use Rattle.std.proofs.Common.{◌≡◌, ℕ, List, [], ◌∷◌, ◌++◌, map
 use Rattle.mkv_io.specs.Lines.{with_lines}
 use Rattle.mkv_values.specs.declared.damage.Damage.{Damage}
 use Rattle.matroska_format.specs.declared.element.Header.{Header}
-use Rattle.matroska_format.specs.Outline.{Outlined, outline_of, segment_run}
+use Rattle.matroska_format.specs.Outline.{Outlined, segment_run}
 use Rattle.mkv_schema.specs.declared.ids.TheConstants.{TRACKS}
-use Rattle.element_reader.specs.Outline.{FileOutline, first_in, outline_in, shown}
+use Rattle.element_reader.specs.Outline.{FileOutline, first_in, outline_in}
 use Rattle.element_reader.proofs.OutlineLemmas.{Outlines, Outlines-shown, first_in-others}
 use Rattle.mkv_lines.specs.Line.{level_0_line, level_1_line, refusal_line}
 use Rattle.mkv_lines.specs.Said.{Held, Says, SaysPart}

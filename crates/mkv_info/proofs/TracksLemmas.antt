@@ -1,5 +1,5 @@
 -- The Tracks of an outline, and the lines of tracks.
-use Rattle.std.proofs.Common.{◌≡◌, ℕ, ◌+◌, ◌<◌, ◌≤◌, ◌==◌, nat_lt, Bool, true, false, ◌&&◌, ◌||◌, if◌then◌else◌, List, [], ◌∷◌, ◌++◌, length, drop, get_or, suc, Option, Some, None, Result, Ok, refl, sym, ◌∙◌, ap, subst, arith, add-one}
+use Rattle.std.proofs.Common.{◌≡◌, ℕ, ◌+◌, ◌<◌, ◌≤◌, ◌==◌, nat_lt, Bool, true, false, ◌&&◌, ◌||◌, if◌then◌else◌, List, [], ◌∷◌, ◌++◌, length, drop, get_or, suc, Option, Some, None, Ok, refl, sym, ◌∙◌, ap, subst, arith, add-one}
 use Rattle.std.proofs.Math.Seq.{drop-cons}
 use Rattle.std.proofs.lemmas.Bool.Decides.{nat_tests}
 use Rattle.mkv_schema.specs.Schema.{entry_of, is_master}
@@ -9,11 +9,11 @@ use Rattle.mkv_values.specs.declared.damage.Damage.{Damage}
 use Rattle.mkv_values.specs.declared.damage.Kind.TheVariants.{HeaderTooLarge}
 use Rattle.matroska_format.specs.declared.element.Header.{Header}
 use Rattle.matroska_format.specs.Element.{damage, known}
-use Rattle.matroska_format.specs.Outline.{Outlined, described, first_damage, first_refusal, is_described, limit_causes, limits_from, outline_of, over, passes_count, passes_size, where_it, MOST_OF_ALL, MOST_OF_ONE}
+use Rattle.matroska_format.specs.Outline.{described, first_damage, first_refusal, is_described, limits_from, passes_count, passes_size, where_it, MOST_OF_ALL, MOST_OF_ONE}
 use Rattle.matroska_format.specs.Value.{first_of}
-use Rattle.element_reader.specs.Head.{limit_of, too_large}
+use Rattle.element_reader.specs.Head.{too_large}
 use Rattle.element_reader.specs.Outline.{FileOutline, first_in, outline_in}
-use Rattle.element_reader.proofs.OutlineLemmas.{Outlines, Outlines-shown, first_in-others, outline_of-limits}
+use Rattle.element_reader.proofs.OutlineLemmas.{Outlines-shown, first_in-others, outline_of-limits}
 use Rattle.mkv_lines.specs.Said.{Held, SaysUpTo}
 use Rattle.track_records.specs.declared.track.Track.{Track}
 use Rattle.mkv_info.specs.Tracks.{shown_track, track_lines}

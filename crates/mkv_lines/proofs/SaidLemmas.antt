@@ -1,5 +1,5 @@
 -- Lines that are said one after the other.
-use Rattle.std.proofs.Common.{◌≡◌, ℕ, List, [], ◌∷◌, ◌++◌, append_assoc, append-nil, Option, Some, None, Result, Ok, Err, refl, sym, ◌∙◌, ap}
+use Rattle.std.proofs.Common.{◌≡◌, ℕ, List, [], ◌++◌, append_assoc, append-nil, Some, None, Result, Ok, Err, refl, sym, ◌∙◌, ap}
 use Rattle.mkv_io.specs.Lines.{with_lines}
 use Rattle.mkv_lines.specs.Said.{Held, Says, SaysPart, SaysUpTo}
 use Rattle.mkv_lines.specs.declared.status.Stop.{Stop}

@@ -3,7 +3,7 @@ use Rattle.std.specs.Prelude.{◌≡◌, ℕ, ◌⊎◌, ◌++◌, List, [], ◌
 use Rattle.mkv_io.specs.Lines.{with_lines}
 use Rattle.mkv_lines.specs.Faults.{Counts, FilesRose, ReportRose}
 use Rattle.mkv_lines.specs.Line.{files_fault_line}
-use Rattle.mkv_lines.specs.Said.{Held, Says, SaysPart}
+use Rattle.mkv_lines.specs.Said.{Held, SaysPart}
 use Rattle.mkv_lines.specs.declared.status.Status.{Status}
 use Rattle.mkv_lines.specs.declared.status.Status.TheVariants as status
 use Rattle.mkv_lines.specs.declared.status.Stop.{Stop}

@@ -1,7 +1,7 @@
-use Rattle.std.proofs.Common.{◌≡◌, ℕ, ◌-◌, ◌≤◌, arith, min, nat_eq, List, length, take, drop, sym, ◌∙◌, ap, refl}
+use Rattle.std.proofs.Common.{◌≡◌, ℕ, ◌-◌, ◌≤◌, arith, min, nat_eq, List, length, take, drop, sym, ◌∙◌, ap}
 use Rattle.std.specs.List.{starts_with}
 use Rattle.mkv_io.specs.Contents.{octets_from}
-use Rattle.matroska_format.specs.Element.{at_level_0, element_in, element_at, stated_end}
+use Rattle.matroska_format.specs.Element.{at_level_0, element_in, stated_end}
 use Rattle.matroska_format.specs.Outline.{ebml_mark}
 use Rattle.matroska_format.proofs.ElementLemmas.{element_at-front}
 use Rattle.element_window.proofs.WindowLemmas.{octets_from-held}

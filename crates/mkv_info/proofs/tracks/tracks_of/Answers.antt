@@ -1,5 +1,4 @@
 use Rattle.std.proofs.Common.{◌≡◌, Some, None, sym, ◌∙◌}
-use Rattle.mkv_values.specs.declared.damage.Damage.{Damage}
 use Rattle.mkv_info.proofs.TracksLemmas.{tracks-small}
 use Rattle.mkv_info.proofs.tracks.tracks_of.Goals as goal
 
