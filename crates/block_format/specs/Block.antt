@@ -1,0 +1,65 @@
+-- A block of a Cluster, and its times: RFC 9559, sections 10 (Cluster Blocks) and 11 (Timestamps).
+use Rattle.std.specs.Prelude.{ℕ, nat_le, nat_abs, Bool, false, ◌||◌, ℤ, pos, ◌+ℤ◌, ◌*ℤ◌, List, [], Option, None}
+use Rattle.std.specs.List.{list_any}
+use Rattle.std.specs.Option.{option_map_or}
+use Rattle.lacing.specs.declared.kind.Lace.{Lace}
+use Rattle.block_format.specs.declared.limits.TheConstants.{TOO_LARGE_TIME}
+use Rattle.block_format.specs.Content.{Content, is_key, is_invisible, is_discardable, lace_of}
+
+-- A SimpleBlock or a BlockGroup: the number of its track; its time in nanoseconds; whether it can be decoded
+-- without another block, isn't to be shown, may be left out, and is a group; the kind of its lacing and
+-- its frames; its duration, where it has one, and the times of the blocks that it refers to less its own,
+-- in nanoseconds; the octets of what else is kept of its group, in their order; and the place of its
+-- header in the file.
+pub record Block : Type 0 where
+  pub track : ℕ
+  pub time : ℤ
+  pub key : Bool
+  pub invisible : Bool
+  pub discardable : Bool
+  pub group : Bool
+  pub lace : Lace
+  pub frames : List (List ℕ)
+  pub duration : Option ℕ
+  pub references : List ℤ
+  pub kept : List ℕ
+  pub offset : ℕ
+
+-- ---- times
+
+-- so many ticks, of `scale` nanoseconds each
+abbrev pub nanoseconds : ℕ → ℤ → ℤ
+nanoseconds scale ticks = ticks *ℤ pos scale
+
+-- the time of a block is the Cluster's Timestamp and its own, which counts from there
+abbrev pub time_of : ℕ → ℕ → Content → ℤ
+time_of scale timestamp content = nanoseconds scale (pos timestamp +ℤ content.relative)
+
+abbrev pub is_too_large : ℤ → Bool
+is_too_large time = nat_le TOO_LARGE_TIME (nat_abs time)
+
+-- its time, its duration or a reference is too large
+abbrev pub has_too_large_time : Block → Bool
+has_too_large_time block =
+    is_too_large block.time
+    || option_map_or (λ duration. is_too_large (pos duration)) block.duration false
+    || list_any is_too_large block.references
+
+-- ---- what an Element's content makes of a block
+
+-- a SimpleBlock with this content
+abbrev pub simple_block_with : ℕ → ℕ → ℕ → Content → Block
+simple_block_with scale timestamp offset content = record {
+  track = content.track;
+  time = time_of scale timestamp content;
+  key = is_key content.flags;
+  invisible = is_invisible content.flags;
+  discardable = is_discardable content.flags;
+  group = false;
+  lace = lace_of content.flags;
+  frames = content.frames;
+  duration = None;
+  references = [];
+  kept = [];
+  offset = offset;
+}

@@ -1,0 +1,141 @@
+-- A SimpleBlock and a BlockGroup as a block, or the first thing that is wrong: RFC 9559, sections 5.1.3 (Cluster Element), 10.1 (Block Structure) and 10.2 (SimpleBlock Structure). The kinds, their order and the limits are this project's.
+use Rattle.std.specs.Prelude.{ℕ, ◌*◌, ◌==◌, nat_lt, Bool, true, false, not, ◌&&◌, if◌then◌else◌, ℤ, List, [], ◌∷◌, length, map, filter, slice_get, flat_map, Option, Some, None, Result, Ok, Err}
+use Rattle.std.specs.List.{list_any}
+use Rattle.std.specs.Option.{option_map}
+use Rattle.ebml_format.specs.Number.{uint_of, int_of}
+use Rattle.mkv_schema.specs.declared.ids.TheConstants.{BLOCK_GROUP, BLOCK, BLOCK_DURATION, REFERENCE_BLOCK, VOID, CRC_32}
+use Rattle.mkv_values.specs.declared.damage.Damage.{Damage}
+use Rattle.mkv_values.specs.declared.damage.Kind.{Kind}
+use Rattle.mkv_values.specs.declared.damage.Kind.TheVariants.{MissingChild, BlockTooLarge, TimeTooLarge, NoTimestamp, TooMany}
+use Rattle.matroska_format.specs.declared.element.Header.{Header}
+use Rattle.matroska_format.specs.Element.{in_master, octets_between, known, stated_end, damage}
+use Rattle.matroska_format.specs.Elements.{Run, children_in}
+use Rattle.matroska_format.specs.Value.{body_of, first_of}
+use Rattle.matroska_format.specs.Outline.{first_damage, unless, and_then, where_it, bad_value}
+use Rattle.block_format.specs.declared.limits.TheConstants.{SLICES, MOST_OF_BLOCK, MOST_REFERENCES}
+use Rattle.block_format.specs.Content.{Content, content_in, is_invisible, lace_of}
+use Rattle.block_format.specs.Block.{Block, nanoseconds, time_of, has_too_large_time, simple_block_with}
+
+-- How blocks are read: with the limits of a reader or without, and how many nanoseconds a tick has.
+pub record Rules : Type 0 where
+  pub limits : Bool
+  pub scale : ℕ
+
+abbrev pub reader : ℕ → Rules
+reader scale = record { limits = true; scale = scale }
+
+-- what is written is read back without a reader's limits
+abbrev pub free : ℕ → Rules
+free scale = record { limits = false; scale = scale }
+
+-- ---- of every block
+
+-- its body is longer than a reader takes
+abbrev pub too_long : Rules → Header → Option Damage
+too_long r h = where_it (r.limits && nat_lt MOST_OF_BLOCK (known h.size)) (damage BlockTooLarge h.id h.offset)
+
+-- the Timestamp that stands before it
+abbrev pub timestamp_or : Header → Option ℕ → Result ℕ Damage
+timestamp_or h None = Err (damage NoTimestamp h.id h.offset)
+timestamp_or h (Some timestamp) = Ok timestamp
+
+-- the Timestamp of a block that isn't too long
+abbrev pub timestamp_for : Rules → Option ℕ → Header → Result ℕ Damage
+timestamp_for r timestamp h = and_then (unless (too_long r h) timestamp) (timestamp_or h)
+
+-- a kind of damage is told with an ID and a place
+abbrev pub told_of : {A : Type 0} → ℕ → ℕ → Result A Kind → Result A Damage
+told_of id offset (Ok x) = Ok x
+told_of id offset (Err kind) = Err (damage kind id offset)
+
+-- a block whose times aren't too large for a reader
+abbrev pub in_time : Rules → ℕ → Block → Result Block Damage
+in_time r id block = unless (where_it (r.limits && has_too_large_time block) (damage TimeTooLarge id block.offset)) block
+
+-- ---- a SimpleBlock
+
+-- The block of a SimpleBlock behind this Timestamp of its Cluster, or the first thing that is wrong.
+unfoldable pub simple_block : Rules → List ℕ → Option ℕ → Header → Result Block Damage
+simple_block r bytes timestamp h =
+    and_then (timestamp_for r timestamp h) (λ time.
+    and_then (told_of h.id h.offset (content_in (body_of bytes h))) (λ content.
+    in_time r h.id (simple_block_with r.scale time h.offset content)))
+
+-- ---- a BlockGroup
+
+abbrev pub group_run : List ℕ → Header → Run
+group_run bytes h = children_in in_master bytes h.body (stated_end h)
+
+-- The first child that isn't a value of its kind, or the damage that ends the children.
+abbrev pub group_refusal : List ℕ → Run → Option Damage
+group_refusal bytes run = first_damage (bad_value bytes BLOCK_GROUP run.list ∷ run.damage ∷ [])
+
+abbrev pub group_children : List ℕ → Header → Result (List Header) Damage
+group_children bytes h = unless (group_refusal bytes (group_run bytes h)) (group_run bytes h).list
+
+-- the Block of a group, of several the first
+abbrev pub block_or : Header → Option Header → Result Header Damage
+block_or h None = Err (damage MissingChild BLOCK h.offset)
+block_or h (Some block) = Ok block
+
+-- every ReferenceBlock counts
+abbrev pub references_among : List Header → List Header
+references_among children = filter (λ c. c.id == REFERENCE_BLOCK) children
+
+-- the first ReferenceBlock that is one too many for a reader
+abbrev pub too_many_references : Rules → List Header → Option Damage
+too_many_references r children =
+    if r.limits then option_map (λ (c : Header). damage TooMany c.id c.offset) (slice_get (references_among children) MOST_REFERENCES) else None
+
+-- the BlockDuration, of several the first
+abbrev pub duration_of : ℕ → List ℕ → List Header → Option ℕ
+duration_of scale bytes children = option_map (λ (c : Header). uint_of (body_of bytes c) * scale) (first_of BLOCK_DURATION children)
+
+abbrev pub references_of : ℕ → List ℕ → List Header → List ℤ
+references_of scale bytes children = map (λ (c : Header). nanoseconds scale (int_of (body_of bytes c))) (references_among children)
+
+-- what a block says by itself, or what says nothing of it
+abbrev pub left_out : List ℕ
+left_out = BLOCK ∷ BLOCK_DURATION ∷ REFERENCE_BLOCK ∷ VOID ∷ CRC_32 ∷ SLICES ∷ []
+
+abbrev pub is_kept : ℕ → Bool
+is_kept id = not (list_any (λ other. id == other) left_out)
+
+-- an Element's octets, its header's and its body's
+abbrev pub octets_of : List ℕ → Header → List ℕ
+octets_of bytes h = octets_between bytes h.offset (stated_end h)
+
+-- all else of a group is kept, in its order
+abbrev pub kept_of : List ℕ → List Header → List ℕ
+kept_of bytes children = flat_map (λ (c : Header). octets_of bytes c) (filter (λ (c : Header). is_kept c.id) children)
+
+-- A group with these children and this content of its Block, which is key where nothing is referred to.
+abbrev pub group_with : ℕ → List ℕ → ℕ → ℕ → List Header → Content → Block
+group_with scale bytes timestamp offset children content = record {
+  track = content.track;
+  time = time_of scale timestamp content;
+  key = length (references_among children) == 0;
+  invisible = is_invisible content.flags;
+  discardable = false;
+  group = true;
+  lace = lace_of content.flags;
+  frames = content.frames;
+  duration = duration_of scale bytes children;
+  references = references_of scale bytes children;
+  kept = kept_of bytes children;
+  offset = offset;
+}
+
+-- the block of a group with these children, of which one is its Block
+abbrev pub group_among : Rules → List ℕ → ℕ → ℕ → List Header → Header → Result Block Damage
+group_among r bytes timestamp offset children block =
+    and_then (told_of BLOCK offset (content_in (body_of bytes block))) (λ content.
+    and_then (unless (too_many_references r children) content) (λ content.
+    in_time r BLOCK (group_with r.scale bytes timestamp offset children content)))
+
+-- The block of a BlockGroup behind this Timestamp of its Cluster, or the first thing that is wrong.
+unfoldable pub block_group : Rules → List ℕ → Option ℕ → Header → Result Block Damage
+block_group r bytes timestamp h =
+    and_then (timestamp_for r timestamp h) (λ time.
+    and_then (group_children bytes h) (λ children.
+    and_then (block_or h (first_of BLOCK children)) (group_among r bytes time h.offset children)))

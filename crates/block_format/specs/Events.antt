@@ -1,0 +1,128 @@
+-- The blocks and the damages of a file: RFC 9559, sections 5.1 (Segment Element) and 5.1.3 (Cluster Element).
+use Rattle.std.specs.Prelude.{ℕ, ◌==◌, nat_lt, nat_le, Bool, not, ◌&&◌, if◌then◌else◌, List, [], ◌∷◌, ◌++◌, length, Option, Some, None, Result, Ok, Err}
+use Rattle.ebml_format.specs.Number.{uint_of}
+use Rattle.mkv_schema.specs.declared.ids.TheConstants.{CLUSTER, TIMESTAMP, SIMPLE_BLOCK, BLOCK_GROUP}
+use Rattle.mkv_values.specs.declared.damage.Damage.{Damage}
+use Rattle.mkv_values.specs.declared.damage.Kind.TheVariants.{BadValue}
+use Rattle.matroska_format.specs.declared.element.Header.{Header}
+use Rattle.matroska_format.specs.Element.{in_master, is_unknown, known, stated_end, end_in, damage}
+use Rattle.matroska_format.specs.Elements.{Run, children_in, open_cluster}
+use Rattle.matroska_format.specs.Value.{body_of}
+use Rattle.matroska_format.specs.Outline.{segment_bound, segment_run}
+use Rattle.block_format.specs.declared.limits.TheConstants.{MOST_TIMESTAMP}
+use Rattle.block_format.specs.Block.{Block}
+use Rattle.block_format.specs.Elements.{Rules, simple_block, block_group}
+
+-- ---- inside a Cluster
+
+-- a block, or something that is wrong
+abbrev pub Found : Type 0
+Found = Result Block Damage
+
+-- a Timestamp of more octets than an integer has
+abbrev pub found_in_timestamp : Header → List Found
+found_in_timestamp h = if nat_lt MOST_TIMESTAMP (known h.size) then Err (damage BadValue h.id h.offset) ∷ [] else []
+
+-- what a child of a Cluster gives, where this Timestamp stands before it
+abbrev pub found_at : Rules → List ℕ → Option ℕ → Header → List Found
+found_at r bytes timestamp h =
+    if h.id == TIMESTAMP then found_in_timestamp h else
+    if h.id == SIMPLE_BLOCK then simple_block r bytes timestamp h ∷ [] else
+    if h.id == BLOCK_GROUP then block_group r bytes timestamp h ∷ [] else
+    []
+
+-- The Timestamp that stands before the next child: of several the first counts.
+abbrev pub timestamp_behind : List ℕ → Option ℕ → Header → Option ℕ
+timestamp_behind bytes (Some timestamp) h = Some timestamp
+timestamp_behind bytes None h = if h.id == TIMESTAMP then Some (uint_of (body_of bytes h)) else None
+
+-- what children give, one after the other, where this Timestamp stands before them
+abbrev pub found_among : Rules → List ℕ → Option ℕ → List Header → List Found
+found_among r bytes timestamp [] = []
+found_among r bytes timestamp (h ∷ hs) =
+    found_at r bytes timestamp h ++ found_among r bytes (timestamp_behind bytes timestamp h) hs
+
+-- the damage that ends the children
+abbrev pub found_behind : Option Damage → List Found
+found_behind None = []
+found_behind (Some d) = Err d ∷ []
+
+abbrev pub found_in_run : Rules → List ℕ → Option ℕ → Run → List Found
+found_in_run r bytes timestamp run = found_among r bytes timestamp run.list ++ found_behind run.damage
+
+-- the children of a Cluster, whose Segment reaches up to e
+abbrev pub cluster_run : List ℕ → ℕ → Header → Run
+cluster_run bytes e h = if is_unknown h.size then open_cluster bytes h.body e else children_in in_master bytes h.body (end_in e h)
+
+-- what a Cluster gives
+abbrev pub found_in : Rules → List ℕ → ℕ → Header → List Found
+found_in r bytes e h = found_in_run r bytes None (cluster_run bytes e h)
+
+-- the first damage of a list, a Cluster's inner damage
+abbrev pub first_wrong : List Found → Option Damage
+first_wrong [] = None
+first_wrong (Ok block ∷ found) = first_wrong found
+first_wrong (Err d ∷ found) = Some d
+
+-- ---- the whole file
+
+-- A block; a damage behind which reading goes on, or one that ends what is read.
+pub data Event : Type 0 where
+  block : Block → Event
+  damaged : Damage → Event
+  stopped : Damage → Event
+
+-- A Cluster is closed: its size is known, and it ends within a file of `total` octets.
+abbrev pub is_closed : ℕ → Header → Bool
+is_closed total h = not (is_unknown h.size) && nat_le (stated_end h) total
+
+-- What was found in a Cluster, up to and with its first damage, and then what stands behind the Cluster: behind
+-- a damage only where the Cluster is closed.
+abbrev pub events_then : Bool → List Found → List Event → List Event
+events_then closed [] rest = rest
+events_then closed (Ok b ∷ found) rest = block b ∷ events_then closed found rest
+events_then closed (Err d ∷ found) rest = if closed then damaged d ∷ rest else stopped d ∷ []
+
+-- the blocks and damages of the Clusters among Elements of level 1, which this damage ends, if one does
+abbrev pub events_among : Rules → List ℕ → ℕ → List Header → Option Damage → List Event
+events_among r bytes e [] None = []
+events_among r bytes e [] (Some d) = stopped d ∷ []
+events_among r bytes e (h ∷ hs) wrong =
+    if h.id == CLUSTER then events_then (is_closed (length bytes) h) (found_in r bytes e h) (events_among r bytes e hs wrong)
+    else events_among r bytes e hs wrong
+
+abbrev pub events_in_run : Rules → List ℕ → ℕ → Run → List Event
+events_in_run r bytes e run = events_among r bytes e run.list run.damage
+
+-- The blocks and the damages of a file with this Segment, in the order of the file.
+unfoldable pub events_of : Rules → List ℕ → Header → List Event
+events_of r bytes segment = events_in_run r bytes (segment_bound bytes segment) (segment_run bytes segment)
+
+-- ---- what is seen of them
+
+abbrev pub block_in : Event → List Block
+block_in (block b) = b ∷ []
+block_in (damaged d) = []
+block_in (stopped d) = []
+
+abbrev pub damage_in : Event → List Damage
+damage_in (block b) = []
+damage_in (damaged d) = d ∷ []
+damage_in (stopped d) = d ∷ []
+
+-- the blocks
+abbrev pub blocks_of : List Event → List Block
+blocks_of [] = []
+blocks_of (event ∷ events) = block_in event ++ blocks_of events
+
+-- every damage that is told
+abbrev pub damages_of : List Event → List Damage
+damages_of [] = []
+damages_of (event ∷ events) = damage_in event ++ damages_of events
+
+-- the damage that ends what is read, if one does
+abbrev pub last_of : List Event → Option Damage
+last_of [] = None
+last_of (block b ∷ events) = last_of events
+last_of (damaged d ∷ events) = last_of events
+last_of (stopped d ∷ events) = Some d

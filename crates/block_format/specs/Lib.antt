@@ -1,0 +1,4 @@
+pub mod Block
+pub mod Content
+pub mod Elements
+pub mod Events

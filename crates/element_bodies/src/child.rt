@@ -1,0 +1,52 @@
+//! The children of a master: RFC 8794, section 7.7 (Master Element).
+
+ghost use Rattle.std.specs.Prelude.{◌≡◌, ℕ, ◌+◌, ◌^◌, ◌<◌, ◌≤◌, List, length, IfOk};
+ghost use Rattle.matroska_format.specs.Element.{element_at, known, stated_end};
+ghost use Rattle.matroska_format.specs.Placed.{IsPlaced, IsWhole};
+ghost use Rattle.matroska_format.specs.Value.{body_of};
+ghost use Rattle.element_headers.specs.Parent.{setting_of};
+ghost use Rattle.element_bodies.specs.Body.{IsBody};
+
+use ebml_format::Size;
+use element_headers::{Header, Parent, read_header};
+use mkv_values::Damage;
+
+/// The child at `at` octets behind the start of a file of `total` octets, of a master whose body begins at
+/// `base` and is these octets; or what is wrong there.
+pub fn child_at(
+    parent: Parent,
+    body: &[u8],
+    base: u64,
+    total: u64,
+    at: u64,
+) -> Result<Header, Damage>
+    requires from { base ≤ at }
+    requires inside { at < base + length body.now }
+    requires short { base + length body.now ≤ 2 ^ 48 }
+    ensures exact { (bytes : List ℕ) → IsBody bytes base total body.now → result ≡ element_at (setting_of parent) bytes at (base + length body.now) }
+    ensures placed { IfOk result (IsPlaced at (base + length body.now)) }
+    ensures whole { IfOk result (IsWhole (setting_of parent) (base + length body.now)) }
+{
+    let end = base + body.len() as u64;
+    read_header(&body[(at - base) as usize..], parent, total, at, end)
+}
+
+/// The octets of a child's body, of a master whose body begins at `base` and is these octets.
+pub fn octets_of<'a>(body: &'a [u8], base: u64, child: &Header) -> &'a [u8]
+    requires from { base ≤ child.now.body }
+    requires inside { stated_end child.now ≤ base + length body.now }
+    ensures { (bytes : List ℕ) (total : ℕ) → IsBody bytes base total body.now → result.now ≡ body_of bytes child.now }
+{
+    let start = (child.body - base) as usize;
+    &body[start..start + known(child.size) as usize]
+}
+
+/// The octets of a body whose size is known, else 0.
+pub fn known(size: Size) -> u64
+    ensures { result ≡ known size }
+{
+    match size {
+        Size::Known(octets) => octets,
+        Size::Unknown => 0,
+    }
+}
