@@ -70,7 +70,8 @@ impl Window {
     }
 
     /// Makes the window hold so many octets from `at` octets behind the file's start on. It reads
-    /// nothing where it holds them, else 65,536 octets, or those up to the file's end.
+    /// nothing where it holds them, else 65,536 octets, or those up to the file's end. After a failed read it
+    /// stands at that place and holds nothing.
     pub fn hold<R: Reads>(
         &mut self,
         src: &mut R,
@@ -84,7 +85,7 @@ impl Window {
         requires holds { Told ((R.files (R.standing src.old)).content file.n) (λ bytes. Holds bytes self.old) }
         ensures range { OnOk result (HasRange self.new at len) }
         ensures holds { Told ((R.files (R.standing src.old)).content file.n) (λ bytes. Holds bytes self.new) }
-        ensures err { OnErr result (self.new.octets ≡ []) }
+        ensures err { OnErr result (self.new ≡ record { at = at; octets = [] }) }
 
         // What is held isn't read again; else the window then holds exactly what was read.
         ensures kept { HasRange self.old at len → (self.new ≡ self.old) × (R.octets_read src.new ≡ R.octets_read src.old) × IsOk result }
@@ -146,7 +147,7 @@ impl Window {
         ensures placed { IfOk result (λ found. IfOk found (IsPlaced at end)) }
         ensures whole { IfOk result (λ found. IfOk found (IsWhole (setting_of parent) end)) }
         ensures holds { Told ((R.files (R.standing src.old)).content file.n) (λ bytes. Holds bytes self.new) }
-        ensures err { OnErr result (self.new.octets ≡ []) }
+        ensures err { OnErr result (self.new ≡ record { at = at; octets = [] }) }
 
         // What is held isn't read again; else the window then holds exactly what was read.
         ensures kept { HasRange self.old at (header_room at end) → (self.new ≡ self.old) × (R.octets_read src.new ≡ R.octets_read src.old) × IsOk result }
@@ -183,7 +184,7 @@ impl Window {
         ensures placed { IfOk result (IsPlaced at end) }
         ensures whole { IfOk result (IsWhole anywhere end) }
         ensures holds { Told ((R.files (R.standing src.old)).content file.n) (λ bytes. Holds bytes self.new) }
-        ensures fault { IsErrOf result HeadEnd.ReadFault → self.new.octets ≡ [] }
+        ensures fault { IsErrOf result HeadEnd.ReadFault → self.new ≡ record { at = at; octets = [] } }
 
         // What is held isn't read again; else the window then holds exactly what was read.
         ensures kept { HasRange self.old at (header_room at end) → (self.new ≡ self.old) × (R.octets_read src.new ≡ R.octets_read src.old) × (IsErrOf result HeadEnd.ReadFault → ⊥) }

@@ -1,0 +1,188 @@
+//! The buffer of a block.
+
+ghost use Rattle.std.specs.Prelude.{◌≡◌, ◌+◌, ◌^◌, ◌≤◌, [], ℕ, List, length, sum, false, Some, OnOk, IfOk, IsTrue, IsErrOf};
+ghost use Rattle.mkv_io.specs.Faults.{HasReadCause};
+ghost use Rattle.mkv_io.specs.Told.{Told};
+ghost use Rattle.matroska_format.specs.Element.{is_unknown, known, stated_end};
+ghost use Rattle.matroska_format.specs.Value.{body_of};
+ghost use Rattle.element_window.specs.Window.{Holds};
+ghost use Rattle.block_format.specs.Elements.{reader, simple_block, block_group};
+ghost use Rattle.block_records.specs.Buffered.{Makes};
+
+use crate::head::BlockHead;
+use arrayvec::ArrayVec;
+use block_format::MOST_OF_BLOCK;
+use element_bodies::known;
+use element_headers::Header;
+use element_window::Window;
+use lacing::Lace;
+use mkv_io::Reads;
+use mkv_values::{Damage, FileId, ReadEnd};
+use smallvec::SmallVec;
+use std::alloc::{AllocError, Global};
+use std::marker::Model;
+
+/// One block: the octets of its Element's body, and what they spell. The buffer is used again for the next
+/// one, and grows where that is longer than each before.
+#[derive(Drop)]
+pub struct BlockBuffer {
+    octets: Vec<u8>,
+    // how many octets the body has that was read last
+    len: usize,
+    head: BlockHead,
+    // where the frames stand among them
+    start: usize,
+    end: usize,
+    sizes: SmallVec<u32, 8, Global>,
+    references: ArrayVec<i64, 64>,
+    kept: Vec<u8>,
+}
+
+impl Model for BlockBuffer {
+    ghost use Rattle.std.specs.Prelude.{◌≡◌, ◌+◌, ◌-◌, ◌≤◌, length, take, drop, sum};
+    ghost use Rattle.block_records.specs.Buffered.{Buffered};
+
+    ghost Value = { Buffered };
+
+    ghost view = { λ b. record {
+      octets = take b.len b.octets.items;
+      head = b.head;
+      body = take (b.end - b.start) (drop b.start b.octets.items);
+      sizes = b.sizes.items;
+      references = b.references.items;
+      kept = b.kept.items;
+    } };
+
+    ghost invariant = { λ b. (b.len ≤ length b.octets.items) × (length b.octets.items ≤ 33554432)
+        × (b.start ≤ b.end) × (b.end ≤ length b.octets.items) × (sum b.sizes.items ≡ b.end - b.start)
+        × (length b.sizes.items ≤ 256) × (length b.references.items ≤ 64) × (length b.kept.items ≤ 33554432) };
+}
+
+impl BlockBuffer {
+    /// A buffer with no block. It takes no memory.
+    pub fn new(alloc: Global) -> BlockBuffer
+        ensures { result.octets ≡ [] }
+    {
+        BlockBuffer {
+            octets: Vec::new(alloc),
+            len: 0,
+            head: BlockHead {
+                track: 0,
+                time: 0,
+                key: false,
+                invisible: false,
+                discardable: false,
+                group: false,
+                lace: Lace::None,
+                duration: None,
+                offset: 0,
+            },
+            start: 0,
+            end: 0,
+            sizes: SmallVec::new(alloc),
+            references: ArrayVec::new(),
+            kept: Vec::new(alloc),
+        }
+    }
+
+    /// Reads the body of a SimpleBlock or a BlockGroup, from what a window holds or from the file. What
+    /// the block before spelled isn't lent any more.
+    pub fn read<R: Reads>(
+        &mut self,
+        window: &Window,
+        src: &mut R,
+        file: FileId,
+        header: &Header,
+    ) -> Result<(), ReadEnd>
+        requires live { IsTrue ((R.files (R.standing src.old)).live file.n) }
+        requires whole { is_unknown header.now.size ≡ false }
+        requires few { known header.now.size ≤ MOST_OF_BLOCK }
+        requires inside { stated_end header.now ≤ (R.files (R.standing src.old)).size file.n }
+        requires holds { Told ((R.files (R.standing src.old)).content file.n) (λ bytes. Holds bytes window.now) }
+        ensures ok { OnOk result (Told ((R.files (R.standing src.old)).content file.n) (λ bytes. self.new.octets ≡ body_of bytes header.now)) }
+        ensures length { OnOk result (length self.new.octets ≡ known header.now.size) }
+        ensures standing { R.standing src.new ≡ R.standing src.old }
+        ensures cause { HasReadCause (R.reading_faults src.old) (R.reading_faults src.new) result }
+        ensures octets { R.octets_read src.new ≤ R.octets_read src.old + known header.now.size }
+        ensures memory { IsErrOf result ReadEnd.Memory → R.octets_read src.new ≡ R.octets_read src.old }
+    {
+        Err(ReadEnd::Memory)
+    }
+
+    /// What the octets spell of a SimpleBlock with this header, in a Cluster whose Timestamp is so many
+    /// ticks, of `scale` nanoseconds each; or the first thing that is wrong.
+    pub fn spell_simple(
+        &mut self,
+        scale: u64,
+        timestamp: u64,
+        header: &Header,
+    ) -> Result<Result<(), Damage>, AllocError>
+        requires scale { 1 ≤ scale }
+        requires few { known header.now.size ≤ MOST_OF_BLOCK }
+        requires length { length self.old.octets ≡ known header.now.size }
+        ensures exact { IfOk result (λ found. (bytes : List ℕ) → self.old.octets ≡ body_of bytes header.now
+            → Makes found self.new (simple_block (reader scale) bytes (Some timestamp) header.now)) }
+    {
+        Err(AllocError)
+    }
+
+    /// What the octets spell of a BlockGroup with this header, in a file of `total` octets and a Cluster
+    /// whose Timestamp is so many ticks, of `scale` nanoseconds each; or the first thing that is wrong.
+    pub fn spell_group(
+        &mut self,
+        scale: u64,
+        timestamp: u64,
+        header: &Header,
+        total: u64,
+    ) -> Result<Result<(), Damage>, AllocError>
+        requires scale { 1 ≤ scale }
+        requires few { known header.now.size ≤ MOST_OF_BLOCK }
+        requires length { length self.old.octets ≡ known header.now.size }
+        requires inside { stated_end header.now ≤ total }
+        requires short { total ≤ 2 ^ 48 }
+        ensures exact { IfOk result (λ found. (bytes : List ℕ) → length bytes ≡ total → self.old.octets ≡ body_of bytes header.now
+            → Makes found self.new (block_group (reader scale) bytes (Some timestamp) header.now)) }
+    {
+        Err(AllocError)
+    }
+
+    /// What the block says of itself.
+    pub fn head(&self) -> &BlockHead
+        ensures { result.now ≡ self.now.head }
+    {
+        &self.head
+    }
+
+    /// The octets of its frames, one behind the other.
+    pub fn body(&self) -> &[u8]
+        ensures exact { result.now ≡ self.now.body }
+        ensures most { length result.now ≤ MOST_OF_BLOCK }
+    {
+        &self.octets[self.start..self.end]
+    }
+
+    /// How many octets each frame has.
+    pub fn sizes(&self) -> &[u32]
+        ensures exact { result.now ≡ self.now.sizes }
+        ensures sum { sum result.now ≡ length self.now.body }
+        ensures most { length result.now ≤ 256 }
+    {
+        self.sizes.as_slice()
+    }
+
+    /// The times of the blocks that it refers to less its own, in nanoseconds.
+    pub fn references(&self) -> &[i64]
+        ensures exact { result.now ≡ self.now.references }
+        ensures most { length result.now ≤ 64 }
+    {
+        self.references.as_slice()
+    }
+
+    /// The octets of what is kept of its group, one Element behind the other, as they were found.
+    pub fn kept(&self) -> &[u8]
+        ensures exact { result.now ≡ self.now.kept }
+        ensures most { length result.now ≤ MOST_OF_BLOCK }
+    {
+        self.kept.as_slice()
+    }
+}

@@ -1,0 +1,12 @@
+#![tactic(auto)]
+
+//! One block of a Cluster: the octets of a SimpleBlock or a BlockGroup, read once into a buffer that is used
+//! again, and what they spell (RFC 9559, section 10, Cluster Blocks).
+
+mod buffer;
+mod head;
+
+pub use block_format::MOST_OF_BLOCK;
+pub use buffer::BlockBuffer;
+pub use head::BlockHead;
+pub use lacing::Lace;
