@@ -1,0 +1,38 @@
+-- The blocks and the damages that are left of a file, from a place on.
+use Rattle.std.specs.Prelude.{ℕ, Bool, true, false, if◌then◌else◌, List, Option, Some, None, Ok}
+use Rattle.ebml_format.specs.declared.number.Size.{Size}
+use Rattle.matroska_format.specs.Element.{in_master, end_in}
+use Rattle.matroska_format.specs.Elements.{Run, elements, never, ends_cluster, level_1}
+use Rattle.block_format.specs.Elements.{Rules}
+use Rattle.block_format.specs.Events.{Event, found_in_run, events_then, events_in_run}
+use Rattle.cluster_reader.specs.declared.place.Place.{Place}
+use Rattle.cluster_reader.specs.declared.place.Inside.{Inside}
+
+-- the IDs that end the children of a Cluster: those of level 1 and 0 where its size is unknown, else none
+abbrev pub ends_children : Bool → ℕ → Bool
+ends_children true = ends_cluster
+ends_children false = never
+
+-- the children of a Cluster, from a place on
+abbrev pub children_from : List ℕ → ℕ → Inside → Run
+children_from bytes at c = elements in_master (ends_children c.unknown) (λ h. Ok (end_in c.end h)) bytes at c.end
+
+-- what is left from an Element of level 1 on
+abbrev pub left_at_level_1 : Rules → List ℕ → Size → ℕ → ℕ → List Event
+left_at_level_1 r bytes size at end = events_in_run r bytes end (level_1 bytes size at end)
+
+-- where the Element behind a Cluster stands: one of unknown size ends with its children
+abbrev pub place_behind : Inside → Run → ℕ
+place_behind c children = if c.unknown then children.end else c.end
+
+abbrev pub left_inside : Rules → List ℕ → Size → ℕ → Inside → Run → List Event
+left_inside r bytes size end c children =
+    events_then c.closed (found_in_run r bytes c.timestamp children) (left_at_level_1 r bytes size (place_behind c children) end)
+
+abbrev pub left_in : Rules → List ℕ → Place → Option Inside → List Event
+left_in r bytes p None = left_at_level_1 r bytes p.size p.at p.end
+left_in r bytes p (Some c) = left_inside r bytes p.size p.end c (children_from bytes p.at c)
+
+-- what is left from a place on: inside a Cluster its own blocks and damages first
+unfoldable pub left : Rules → List ℕ → Place → List Event
+left r bytes p = left_in r bytes p p.cluster

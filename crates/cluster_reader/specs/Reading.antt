@@ -1,0 +1,113 @@
+-- A file's blocks as they are read, one after the other.
+use Rattle.std.specs.Prelude.{◌≡◌, ◌≤◌, ◌⊎◌, ⊤, ℕ, ◌+◌, ◌*◌, true, false, Bool, if◌then◌else◌, List, [], ◌∷◌, length, Option, None, Result, Ok, Err}
+use Rattle.mkv_values.specs.declared.outside.FileId.{FileId}
+use Rattle.mkv_values.specs.declared.outside.ReadEnd.{ReadEnd}
+use Rattle.mkv_values.specs.declared.damage.Damage.{Damage}
+use Rattle.mkv_io.specs.Faults.{counted}
+use Rattle.mkv_io.specs.LiveFiles.{LiveFiles}
+use Rattle.mkv_io.specs.Told.{Told}
+use Rattle.matroska_format.specs.declared.element.Header.{Header}
+use Rattle.matroska_format.specs.Element.{end_in, is_unknown}
+use Rattle.element_window.specs.Window.{Held, Holds, IsBefore, cost_of, end_held}
+use Rattle.block_format.specs.Elements.{reader}
+use Rattle.block_format.specs.Events.{Event, block, damaged, stopped}
+use Rattle.block_records.specs.Buffered.{Buffered, block_of}
+use Rattle.cluster_reader.specs.Left.{left}
+use Rattle.cluster_reader.specs.declared.place.Place.{Place}
+use Rattle.cluster_reader.specs.declared.step.Step.{Step}
+use Rattle.cluster_reader.specs.declared.step.Step.TheVariants.{Block, Damaged, End}
+
+-- The file and its scale; the place of what is looked at next; what is held of the file; the block that was
+-- given last; how many blocks and damages were given; and whether the damage that was given last ends
+-- what is read.
+pub record Reading : Type 0 where
+  pub file : FileId
+  pub scale : ℕ
+  pub place : Place
+  pub ahead : Held
+  pub block : Buffered
+  pub blocks : ℕ
+  pub damages : ℕ
+  pub stopped : Bool
+
+-- what is left of the file
+abbrev pub left_of : List ℕ → Reading → List Event
+left_of bytes c = left (reader c.scale) bytes c.place
+
+-- ---- what a call gives
+
+-- a damage, told as the one that ends what is read or as another
+abbrev pub told : Bool → Damage → Event
+told true d = stopped d
+told false d = damaged d
+
+-- The first of what was left is given: a block, a damage, or none. After a read that failed or want of
+-- memory the same is left.
+abbrev pub Gives : List ℕ → Reading → Reading → Result Step ReadEnd → Type 0
+Gives bytes old new (Ok Block) = left_of bytes old ≡ block (block_of new.block) ∷ left_of bytes new
+Gives bytes old new (Ok (Damaged d)) = left_of bytes old ≡ told new.stopped d ∷ left_of bytes new
+Gives bytes old new (Ok End) = (left_of bytes old ≡ []) × (left_of bytes new ≡ [])
+Gives bytes old new (Err end) = left_of bytes new ≡ left_of bytes old
+
+-- the blocks and the damages that were given
+pub record HasGiven (old new : Reading) (more_blocks more_damages : ℕ) : Type 0 where
+  pub blocks : new.blocks ≡ counted old.blocks more_blocks
+  pub damages : new.damages ≡ counted old.damages more_damages
+
+abbrev pub Counts : Reading → Reading → Result Step ReadEnd → Type 0
+Counts old new (Ok Block) = HasGiven old new 1 0
+Counts old new (Ok (Damaged d)) = HasGiven old new 0 1
+Counts old new (Ok End) = HasGiven old new 0 0
+Counts old new (Err end) = HasGiven old new 0 0
+
+-- ---- where it stands
+
+-- It reads the same Segment of the same file.
+pub record IsSameSegment (old new : Reading) : Type 0 where
+  pub file : new.file ≡ old.file
+  pub scale : new.scale ≡ old.scale
+  pub end : new.place.end ≡ old.place.end
+
+-- What is held has been read as far as one read goes: nothing, or up to the file's end, or 65,536 octets.
+abbrev pub IsFull : ℕ → Held → Type 0
+IsFull size w = (w.octets ≡ []) ⊎ (end_held w ≡ size) ⊎ (65536 ≤ length w.octets)
+
+-- The place is in a live file, and what is held is this file's and not behind the place.
+pub record IsIn (files : LiveFiles) (c : Reading) : Type 0 where
+  pub live : files.live c.file.n ≡ true
+  pub inside : c.place.end ≤ files.size c.file.n
+  pub holds : Told (files.content c.file.n) (λ bytes. Holds bytes c.ahead)
+  pub before : IsBefore c.ahead c.place.at (files.size c.file.n)
+  pub full : IsFull (files.size c.file.n) c.ahead
+
+-- the first place of a Segment in a file of `total` octets
+abbrev pub first_place : Header → ℕ → Place
+first_place segment total = record {
+  size = segment.size;
+  at = segment.body;
+  end = if is_unknown segment.size then total else end_in total segment;
+  cluster = None;
+}
+
+-- Nothing was given yet, and nothing is held.
+pub record Begins (opened : FileId) (tick : ℕ) (segment : Header) (total : ℕ) (c : Reading) : Type 0 where
+  pub file : c.file ≡ opened
+  pub scale : c.scale ≡ tick
+  pub place : c.place ≡ first_place segment total
+  pub ahead : c.ahead ≡ record { at = 0; octets = [] }
+  pub blocks : c.blocks ≡ 0
+  pub damages : c.damages ≡ 0
+  pub stopped : c.stopped ≡ false
+
+-- ---- how much is read
+
+-- What the way to a place has paid for: at most three octets for each of the file for what was held, and
+-- one for each that was passed for the blocks.
+abbrev pub paid : ℕ → Reading → ℕ
+paid size c = cost_of size c.ahead + c.place.at
+
+-- What a call reads is paid by the way that it goes. One that a failed read or want of memory ends may
+-- read two octets besides for each of the file.
+abbrev pub Pays : ℕ → Reading → Reading → ℕ → ℕ → Result Step ReadEnd → Type 0
+Pays size old new before now (Ok step) = now + paid size old ≤ before + paid size new
+Pays size old new before now (Err end) = now + paid size old ≤ before + paid size new + 2 * size

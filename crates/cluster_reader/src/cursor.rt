@@ -1,0 +1,149 @@
+//! The cursor.
+
+ghost use Rattle.std.specs.Prelude.{◌≡◌, ◌+◌, ◌*◌, ◌≤◌, ℕ, List, length, sum, IfOk};
+ghost use Rattle.mkv_io.specs.Faults.{HasReadCause};
+ghost use Rattle.mkv_io.specs.Told.{Told};
+ghost use Rattle.block_format.specs.Elements.{reader};
+ghost use Rattle.block_format.specs.Events.{events_of};
+ghost use Rattle.cluster_reader.specs.Reading.{Begins, Counts, Gives, IsIn, IsSameSegment, Pays, left_of, paid};
+
+use crate::place::Place;
+use crate::step::Step;
+use block_records::{BlockBuffer, BlockHead, MOST_OF_BLOCK};
+use element_reader::Outline;
+use element_window::Window;
+use mkv_io::Reads;
+use mkv_values::{FileId, ReadEnd};
+use std::alloc::{AllocError, Global};
+use std::marker::Model;
+
+/// Gives the blocks of a file and its damages, in the order of the file. It keeps one block.
+#[derive(Drop)]
+pub struct Cursor {
+    window: Window,
+    file: FileId,
+    scale: u64,
+    place: Place,
+    block: BlockBuffer,
+    blocks: u64,
+    damages: u64,
+    stopped: bool,
+}
+
+impl Model for Cursor {
+    ghost use Rattle.std.specs.Prelude.{◌≤◌};
+    ghost use Rattle.cluster_reader.specs.Reading.{Reading};
+
+    ghost Value = { Reading };
+
+    ghost view = { λ c. record {
+      file = c.file;
+      scale = c.scale;
+      place = c.place;
+      ahead = c.window;
+      block = c.block;
+      blocks = c.blocks;
+      damages = c.damages;
+      stopped = c.stopped;
+    } };
+
+    ghost invariant = { λ c. 1 ≤ c.scale };
+}
+
+impl Cursor {
+    /// The blocks of a file whose outline this is, and whose TimestampScale is so many nanoseconds a tick.
+    pub fn start(
+        alloc: Global,
+        outline: &Outline,
+        file: FileId,
+        scale: u64,
+    ) -> Result<Cursor, AllocError>
+        requires { 1 ≤ scale }
+        ensures begins { IfOk result (Begins file scale outline.now.segment outline.now.total) }
+        ensures left { (bytes : List ℕ) → outline.now.total ≡ length bytes
+            → IfOk result (λ c. left_of bytes c ≡ events_of (reader scale) bytes outline.now.segment) }
+    {
+        Err(AllocError)
+    }
+
+    /// Gives the next block or damage. `End` is answered where none is left, and again from then on. After
+    /// a refusal the same block is looked for again.
+    pub fn advance<R: Reads>(&mut self, src: &mut R) -> Result<Step, ReadEnd>
+        requires { IsIn (R.files (R.standing src.old)) self.old }
+        ensures gives { Told ((R.files (R.standing src.old)).content self.old.file.n) (λ bytes. Gives bytes self.old self.new result) }
+        ensures counts { Counts self.old self.new result }
+
+        // It stays ready for the next call, in the same file.
+        ensures same { IsSameSegment self.old self.new }
+        ensures stands { IsIn (R.files (R.standing src.new)) self.new }
+        ensures standing { R.standing src.new ≡ R.standing src.old }
+        ensures cause { HasReadCause (R.reading_faults src.old) (R.reading_faults src.new) result }
+
+        // What is read adds up to at most four octets for each of the file.
+        ensures pays { Pays ((R.files (R.standing src.old)).size self.old.file.n) self.old self.new (R.octets_read src.old) (R.octets_read src.new) result }
+        ensures most { paid ((R.files (R.standing src.old)).size self.old.file.n) self.new ≤ 4 * (R.files (R.standing src.old)).size self.old.file.n }
+    {
+        Err(ReadEnd::Memory)
+    }
+
+    /// What the block says of itself.
+    pub fn head(&self) -> &BlockHead
+        ensures { result.now ≡ self.now.block.head }
+    {
+        self.block.head()
+    }
+
+    /// The octets of its frames, one behind the other.
+    pub fn body(&self) -> &[u8]
+        ensures exact { result.now ≡ self.now.block.body }
+        ensures most { length result.now ≤ MOST_OF_BLOCK }
+    {
+        self.block.body()
+    }
+
+    /// How many octets each frame has.
+    pub fn sizes(&self) -> &[u32]
+        ensures exact { result.now ≡ self.now.block.sizes }
+        ensures sum { sum result.now ≡ length self.now.block.body }
+        ensures most { length result.now ≤ 256 }
+    {
+        self.block.sizes()
+    }
+
+    /// The octets of what else its group has, one Element behind the other, as they were found.
+    pub fn extra(&self) -> &[u8]
+        ensures exact { result.now ≡ self.now.block.kept }
+        ensures most { length result.now ≤ MOST_OF_BLOCK }
+    {
+        self.block.kept()
+    }
+
+    /// The times of the blocks that it refers to less its own, in nanoseconds.
+    pub fn refs(&self) -> &[i64]
+        ensures exact { result.now ≡ self.now.block.references }
+        ensures most { length result.now ≤ 64 }
+    {
+        self.block.references()
+    }
+
+    /// How many blocks were given.
+    pub fn blocks(&self) -> u64
+        ensures { result ≡ self.now.blocks }
+    {
+        self.blocks
+    }
+
+    /// How many damages were given.
+    pub fn damages(&self) -> u64
+        ensures { result ≡ self.now.damages }
+    {
+        self.damages
+    }
+
+    /// Whether the damage that was given last ends what is read of the file.
+    pub fn stopped(&self) -> bool
+        ensures { result ≡ self.now.stopped }
+    {
+        self.stopped
+    }
+}

@@ -1,0 +1,16 @@
+#![tactic(auto)]
+
+//! The blocks of a file and its damages, one after the other: RFC 9559, section 5.1.3 (Cluster Element).
+//! A cursor goes forwards through the file, reads headers through a window and each block once into one
+//! buffer, skips what is no block without reading it, and lends what it has read.
+
+mod cursor;
+mod damages;
+mod place;
+mod step;
+mod turn;
+
+pub use block_records::{BlockHead, Lace};
+pub use cursor::Cursor;
+pub use damages::Damages;
+pub use step::Step;
