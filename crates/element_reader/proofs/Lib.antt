@@ -1,4 +1,3 @@
-pub mod ChildLemmas
 pub mod ChildrenLemmas
 pub mod CollectedLemmas
 pub mod EbmlLemmas
@@ -6,5 +5,4 @@ pub mod FieldLemmas
 pub mod LevelLemmas
 pub mod LevelOneLemmas
 pub mod SegmentLemmas
-pub mod ValueLemmas
 pub mod OutlineLemmas

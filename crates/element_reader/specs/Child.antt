@@ -4,16 +4,10 @@ use Rattle.mkv_schema.specs.declared.ids.TheConstants.{EBML, EBML_READ_VERSION, 
 use Rattle.mkv_values.specs.declared.damage.Damage.{Damage}
 use Rattle.mkv_values.specs.declared.damage.Kind.TheVariants.{ReadVersion, MaxLengths}
 use Rattle.matroska_format.specs.declared.element.Header.{Header}
-use Rattle.matroska_format.specs.Element.{octets_between, in_tree}
+use Rattle.matroska_format.specs.Element.{in_tree}
 use Rattle.matroska_format.specs.Elements.{Run, children_in}
 use Rattle.matroska_format.specs.Value.{is_known_value}
 use Rattle.matroska_format.specs.Outline.{first_damage, bad_value, wrong_doc_type, above}
-
--- These octets are a body that begins at a place of a content of `total` octets.
-pub record IsBody (bytes : List ℕ) (base total : ℕ) (body : List ℕ) : Type 0 where
-  pub whole : length bytes ≡ total
-  pub within : base + length body ≤ total
-  pub octets : body ≡ octets_between bytes base (base + length body)
 
 -- the children of the EBML header, from a place on
 abbrev pub children : List ℕ → ℕ → ℕ → Run

@@ -7,7 +7,8 @@ ghost use Rattle.matroska_format.specs.Value.{body_of};
 ghost use Rattle.element_reader.specs.Head.{HasLoadCause, limit_of, too_large};
 
 use crate::collected::is_described;
-use crate::limits::{MOST_OF_ALL, MOST_OF_HEADER, MOST_OF_ONE, known, over};
+use crate::limits::{MOST_OF_ALL, MOST_OF_HEADER, MOST_OF_ONE, over};
+use element_bodies::known;
 use element_headers::Header;
 use mkv_io::Reads;
 use mkv_schema::ids::{CUES, EBML, SEEK_HEAD};

@@ -7,7 +7,8 @@ ghost use Rattle.matroska_format.specs.Element.{known};
 ghost use Rattle.matroska_format.specs.Value.{first_of};
 ghost use Rattle.element_reader.specs.Collected.{octets_of};
 
-use crate::limits::{MOST_ELEMENTS, MOST_OF_ALL, MOST_OF_ONE, damage, known};
+use crate::limits::{MOST_ELEMENTS, MOST_OF_ALL, MOST_OF_ONE, damage};
+use element_bodies::known;
 use element_headers::Header;
 use mkv_schema::ids::{CHAPTERS, CLUSTER, INFO, TAGS, TRACKS};
 use mkv_values::{Damage, Kind};

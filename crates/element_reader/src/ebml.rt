@@ -6,11 +6,13 @@ ghost use Rattle.mkv_io.specs.Told.{Told};
 ghost use Rattle.matroska_format.specs.Element.{known, stated_end};
 ghost use Rattle.matroska_format.specs.Outline.{MOST_OF_HEADER, ebml_header, first_damage, first_element, header_causes, header_children};
 ghost use Rattle.element_window.specs.Window.{Holds, IsBefore, MovesTo, Spends};
-ghost use Rattle.element_reader.specs.Child.{IsBody, child_refusal, children, value_causes};
+ghost use Rattle.element_bodies.specs.Body.{IsBody};
+ghost use Rattle.element_reader.specs.Child.{child_refusal, children, value_causes};
 
 use crate::child::child_refusal;
 use crate::field::{above, wrong_doc_type};
-use crate::limits::{MOST_OF_HEADER, known, over};
+use crate::limits::{MOST_OF_HEADER, over};
+use element_bodies::known;
 use element_headers::{Header, Parent, read_header};
 use element_window::Window;
 use mkv_io::Reads;

@@ -5,11 +5,12 @@ ghost use Rattle.std.specs.Option.{option_map};
 ghost use Rattle.matroska_format.specs.Outline.{above, is_doc_type, place_of, wrong_doc_type};
 ghost use Rattle.matroska_format.specs.Value.{text_in, uint_in};
 ghost use Rattle.mkv_schema.specs.declared.ids.TheConstants.{DOC_TYPE as DOC_TYPE_ID};
-ghost use Rattle.element_reader.specs.Child.{IsBody, IsShort, child_refusal, children};
+ghost use Rattle.element_bodies.specs.Body.{IsBody};
+ghost use Rattle.element_reader.specs.Child.{IsShort, child_refusal, children};
 
-use crate::child::{first_child, octets_of};
-use crate::value::text_of;
+use crate::child::first_child;
 use ebml_numbers::read_uint;
+use element_bodies::{octets_of, text_of};
 use mkv_schema::ids::DOC_TYPE;
 use mkv_schema::{text_default, uint_default};
 use mkv_values::{Damage, Kind};

@@ -14,7 +14,6 @@ mod limits;
 mod outline;
 mod outline_end;
 mod segment;
-mod value;
 
 pub use body::{LoadEnd, load};
 pub use element_headers::{Header, Parent};

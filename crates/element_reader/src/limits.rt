@@ -1,10 +1,9 @@
 //! The most octets and Elements that are read of a file.
 
 ghost use Rattle.std.specs.Prelude.{◌≡◌};
-ghost use Rattle.matroska_format.specs.Element.{known};
 ghost use Rattle.matroska_format.specs.Outline.{over};
 
-use ebml_format::Size;
+use element_bodies::known;
 use element_headers::Header;
 use mkv_values::{Damage, Kind};
 
@@ -19,16 +18,6 @@ pub const MOST_OF_ALL: u64 = 64 << 20;
 
 /// The most Elements of level 1 besides Clusters.
 pub const MOST_ELEMENTS: usize = 4096;
-
-/// The octets of a body whose size is known.
-pub fn known(size: Size) -> u64
-    ensures { result ≡ known size }
-{
-    match size {
-        Size::Known(octets) => octets,
-        Size::Unknown => 0,
-    }
-}
 
 /// What is wrong with an Element.
 pub fn damage(kind: Kind, header: &Header) -> Damage

@@ -1,5 +1,6 @@
 use Rattle.std.proofs.Common.{◌≡◌, ◌-◌, ◌≤◌, ℕ, List}
-use Rattle.element_reader.specs.Child.{IsBody, children, child_refusal}
+use Rattle.element_bodies.specs.Body.{IsBody}
+use Rattle.element_reader.specs.Child.{children, child_refusal}
 use Rattle.element_reader.proofs.child.child_refusal.Given as goal
 
 abbrev pub invariant-loop-at : goal.invariant-loop-at

@@ -1,6 +1,7 @@
 use Rattle.std.proofs.Common.{◌≡◌, ◌-◌, ◌≤◌, ℕ, List}
 use Rattle.matroska_format.specs.Value.{first_of}
-use Rattle.element_reader.specs.Child.{IsBody, children}
+use Rattle.element_bodies.specs.Body.{IsBody}
+use Rattle.element_reader.specs.Child.{children}
 use Rattle.element_reader.proofs.child.first_child.Given as goal
 
 abbrev pub invariant-loop-at : goal.invariant-loop-at
