@@ -1,5 +1,4 @@
 pub mod ContentLemmas
 pub mod LoopLemmas
-pub mod TextLemmas
 pub mod EndLemmas
 pub mod CompactLemmas

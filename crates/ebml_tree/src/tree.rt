@@ -4,6 +4,7 @@ ghost use Rattle.std.specs.Prelude.{◌≡◌, ◌≤◌, ◌<◌, ◌+◌, ◌^
 ghost use Rattle.std.specs.Option.{option_copied};
 
 use ebml_numbers::{read_int, read_uint};
+use element_bodies::text_of;
 use mkv_schema::uint_default;
 use mkv_values::Bytes;
 use std::alloc::{AllocError, Global};
@@ -17,7 +18,6 @@ mod writing;
 use content::{
     Content, depth_around, first_of, nth_of, tree_at, written_together, written_without,
 };
-use reading::before_zero;
 use writing::{LONGEST, element_len, is_filler, write_header};
 
 /// The most masters that stand inside one another.
@@ -198,7 +198,7 @@ impl Tree {
     pub fn text(&self) -> &[u8]
         ensures { result.now ≡ text_of (body_of self.now) }
     {
-        before_zero(self.body())
+        text_of(self.body())
     }
 
     /// Puts a child in the place of the first of its ID, and removes the others of that ID; where there is

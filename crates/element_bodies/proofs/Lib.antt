@@ -1,2 +1,2 @@
 pub mod BodyLemmas
-pub mod ValueLemmas
+pub mod TextLemmas

@@ -1,7 +1,7 @@
 //! The values of leaves: RFC 8794, section 7 (EBML Element Types).
 
-ghost use Rattle.std.specs.Prelude.{◌≡◌, ◌==◌, position};
-ghost use Rattle.std.specs.Str.{is_utf8};
+ghost use Rattle.std.specs.Prelude.{◌≡◌, ◌≤◌, ◌==◌, not, length};
+ghost use Rattle.std.specs.List.{prefix_len};
 ghost use Rattle.matroska_format.specs.Value.{is_known_value, is_value, text_of};
 
 use mkv_schema::{ElementKind, may_stand, row};
@@ -10,38 +10,27 @@ use mkv_schema::{ElementKind, may_stand, row};
 pub fn text_of(body: &[u8]) -> &[u8]
     ensures { result.now ≡ text_of body.now }
 {
-    match zero_at(body) {
-        Some(len) => &body[..len],
-        None => body,
-    }
+    &body[..text_len(body)]
 }
 
-// The place of the first zero octet.
-fn zero_at(body: &[u8]) -> Option<usize>
-    ensures { result ≡ position (λ octet. octet == 0) body.now }
+fn text_len(body: &[u8]) -> usize
+    ensures value { result ≡ prefix_len (λ octet. not (octet == 0)) body.now }
+    ensures within { result ≤ length body.now }
 {
-    body.iter().position(|octet| *octet == 0)
-}
-
-fn is_utf8(octets: &[u8]) -> bool
-    ensures { result ≡ is_utf8 octets.now }
-{
-    match std::str::from_utf8(octets) {
-        Ok(_) => true,
-        Err(_) => false,
-    }
+    body.iter().take_while(|octet| **octet != 0).count()
 }
 
 /// Whether octets are a value of this kind.
+#[tactic(auto, using(crate::proofs::TextLemmas::texts))]
 pub fn is_value(kind: ElementKind, body: &[u8]) -> bool
     ensures { result ≡ is_value kind body.now }
 {
     match kind {
         ElementKind::Master | ElementKind::Binary => true,
         ElementKind::Uint | ElementKind::Int => body.len() <= 8,
-        ElementKind::Float => body.is_empty() || body.len() == 4 || body.len() == 8,
-        ElementKind::Ascii | ElementKind::Utf8 => is_utf8(text_of(body)),
-        ElementKind::Date => body.is_empty() || body.len() == 8,
+        ElementKind::Float => matches!(body.len(), 0 | 4 | 8),
+        ElementKind::Date => matches!(body.len(), 0 | 8),
+        ElementKind::Ascii | ElementKind::Utf8 => str::from_utf8(text_of(body)).is_ok(),
     }
 }
 

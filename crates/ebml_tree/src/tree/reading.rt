@@ -1,11 +1,10 @@
 //! A master's octets, read as trees.
 
 ghost use Rattle.std.specs.Prelude.{◌≡◌, ◌≤◌, ◌<◌, ◌+◌, ◌^◌, ◌==◌, not, ℕ, length, Ok, Err, IfOk, IfErr, IsTrue};
-ghost use Rattle.std.specs.List.{prefix_len};
 ghost use Rattle.ebml_format.specs.Number.{is_written_id};
 ghost use Rattle.mkv_schema.specs.Schema.{is_master};
 ghost use Rattle.matroska_format.specs.Element.{known};
-ghost use Rattle.matroska_format.specs.Value.{is_value, is_known_value, text_of};
+ghost use Rattle.matroska_format.specs.Value.{is_known_value};
 ghost use Rattle.tree_format.specs.Node.{leaf, master, nodes_of, depth, depth_all, deepest};
 ghost use Rattle.tree_format.specs.Reading.{header_at, inside, behind, is_master_in, grown, grove};
 ghost use Rattle.tree_format.specs.Fits.{Fits};
@@ -16,8 +15,9 @@ use crate::tree::content::{Content, depth_around, written_within};
 use crate::tree::writing::LONGEST;
 use crate::tree::{DEEPEST, Tree};
 use ebml_numbers::Size;
+use element_bodies::is_known_value;
 use element_headers::{Header, Parent, read_header};
-use mkv_schema::{ElementKind, is_master, may_stand, row};
+use mkv_schema::{is_master, may_stand};
 use mkv_values::{Damage, Kind};
 use std::alloc::{AllocError, Global};
 
@@ -132,47 +132,6 @@ fn too_many(id: u32, offset: u64) -> TreeEnd
         id,
         offset,
     })
-}
-
-// A text's octets, up to its first zero octet.
-pub(super) fn before_zero(body: &[u8]) -> &[u8]
-    ensures { result.now ≡ text_of body.now }
-{
-    &body[..text_len(body)]
-}
-
-fn text_len(body: &[u8]) -> usize
-    ensures value { result ≡ prefix_len (λ octet. not (octet == 0)) body.now }
-    ensures within { result ≤ length body.now }
-{
-    body.iter().take_while(|octet| **octet != 0).count()
-}
-
-// Whether the octets are a value of this kind.
-#[tactic(auto, using(crate::proofs::TextLemmas::texts))]
-fn is_value(kind: ElementKind, body: &[u8]) -> bool
-    ensures { result ≡ is_value kind body.now }
-{
-    match kind {
-        ElementKind::Master | ElementKind::Binary => true,
-        ElementKind::Uint | ElementKind::Int => body.len() <= 8,
-        ElementKind::Float => matches!(body.len(), 0 | 4 | 8),
-        ElementKind::Date => matches!(body.len(), 0 | 8),
-        ElementKind::Ascii | ElementKind::Utf8 => str::from_utf8(before_zero(body)).is_ok(),
-    }
-}
-
-// The same of an Element under a parent; one that the table doesn't have there may have any octets.
-fn is_known_value(parent: u32, id: u32, body: &[u8]) -> bool
-    ensures { result ≡ is_known_value parent id body.now }
-{
-    if !may_stand(id, parent) {
-        return true;
-    }
-    match row(id) {
-        Some(row) => is_value(row.kind, body),
-        None => true,
-    }
 }
 
 fn is_master_in(parent: u32, id: u32) -> bool
