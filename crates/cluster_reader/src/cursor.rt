@@ -1,7 +1,8 @@
 //! The cursor.
 
-ghost use Rattle.std.specs.Prelude.{◌≡◌, ◌+◌, ◌*◌, ◌≤◌, ℕ, List, length, sum, IfOk};
+ghost use Rattle.std.specs.Prelude.{◌≡◌, ◌+◌, ◌*◌, ◌≤◌, ℕ, List, true, length, sum, IfOk};
 ghost use Rattle.mkv_io.specs.Faults.{HasReadCause};
+ghost use Rattle.mkv_io.specs.LiveFiles.{LiveFiles};
 ghost use Rattle.mkv_io.specs.Told.{Told};
 ghost use Rattle.block_format.specs.Elements.{reader};
 ghost use Rattle.block_format.specs.Events.{events_of};
@@ -62,6 +63,7 @@ impl Cursor {
         ensures begins { IfOk result (Begins file scale outline.now.segment outline.now.total) }
         ensures left { (bytes : List ℕ) → outline.now.total ≡ length bytes
             → IfOk result (λ c. left_of bytes c ≡ events_of (reader scale) bytes outline.now.segment) }
+        ensures ready { (files : LiveFiles) → files.live file.n ≡ true → outline.now.total ≡ files.size file.n → IfOk result (IsIn files) }
     {
         Err(AllocError)
     }
