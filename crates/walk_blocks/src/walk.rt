@@ -1,0 +1,44 @@
+//! A walk over the blocks of a file.
+
+ghost use Rattle.std.specs.Prelude.{IfOk};
+ghost use Rattle.mkv_io.specs.Told.{Told};
+ghost use Rattle.cluster_reader.specs.Reading.{IsIn};
+ghost use Rattle.walk_blocks.specs.Walked.{IsWalked};
+
+use cluster_reader::{Cursor, Damages, Step};
+use mkv_io::Reads;
+use mkv_values::ReadEnd;
+use std::alloc::Global;
+
+/// What was met on the way.
+#[derive(Debug, Drop)]
+pub struct Walked {
+    /// How many blocks there are.
+    pub blocks: u64,
+    /// The octets of their frames.
+    pub octets: u64,
+    /// The damages.
+    pub damages: Damages,
+}
+
+/// Goes over all that is left of a file.
+pub fn walk<R: Reads>(alloc: Global, cursor: &mut Cursor, src: &mut R) -> Result<Walked, ReadEnd>
+    requires { IsIn (R.files (R.standing src.old)) cursor.old }
+    ensures { IfOk result (λ walked. Told ((R.files (R.standing src.old)).content cursor.old.file.n) (λ bytes. IsWalked bytes cursor.old walked)) }
+{
+    let mut walked = Walked {
+        blocks: 0,
+        octets: 0,
+        damages: Damages::new(alloc),
+    };
+    loop {
+        match cursor.advance(src)? {
+            Step::Block => {
+                walked.blocks = walked.blocks.saturating_add(1);
+                walked.octets = walked.octets.saturating_add(cursor.body().len() as u64);
+            }
+            Step::Damaged(damage) => walked.damages.add(damage).or(Err(ReadEnd::Memory))?,
+            Step::End => return Ok(walked),
+        }
+    }
+}
