@@ -1,5 +1,5 @@
 -- Blocks of small files, computed, so that a wrong definition does not check.
-use Rattle.std.proofs.Common.{◌≡◌, ℕ, ◌+◌, ◌-◌, ◌*◌, ◌/◌, ◌%◌, ◌^◌, true, false, List, [], ◌∷◌, ◌++◌, length, take, slice_set, replicate, map, flat_map, Some, None, Result, Ok, Err, refl}
+use Rattle.std.proofs.Common.{◌≡◌, ℕ, ◌+◌, ◌-◌, ◌*◌, ◌/◌, ◌%◌, ◌^◌, true, false, List, [], ◌∷◌, ◌++◌, length, take, drop, slice_set, replicate, map, flat_map, Some, None, Result, Ok, Err, refl}
 use Rattle.std.specs.Prelude.{ℤ, pos, negsuc}
 use Rattle.std.specs.Int.Count.{count_leading_zeros}
 use Rattle.ebml_format.specs.declared.number.Size.{Size}
@@ -33,6 +33,7 @@ pub record AreContents : Type 0 where
   pub all_ones : content_in (0xFF ∷ 0xFF ∷ 0xFF ∷ 0 ∷ []) ≡ spelled 127 (negsuc 0) 0 ([] ∷ [])
   pub wide_track : content_in (0x40 ∷ 0x81 ∷ 0x80 ∷ 0 ∷ 8 ∷ 0xAA ∷ []) ≡ spelled 129 (negsuc 32767) 8 ((0xAA ∷ []) ∷ [])
   pub no_track : content_in (0 ∷ 0 ∷ 0 ∷ 0x80 ∷ []) ≡ Err ShortBlock
+  pub no_width : content_in (replicate 20 0) ≡ Err ShortBlock
   pub no_flags : content_in (0x81 ∷ 0 ∷ 0 ∷ []) ≡ Err ShortBlock
   pub nothing : content_in [] ≡ Err ShortBlock
   pub xiph : laced 2 (1 ∷ 4 ∷ replicate 4 0xAA ++ replicate 6 0xBB) ≡ spelled 1 (pos 0) 2 (replicate 4 0xAA ∷ replicate 6 0xBB ∷ [])
@@ -51,6 +52,7 @@ contents = record {
   all_ones = refl;
   wide_track = refl;
   no_track = refl;
+  no_width = refl;
   no_flags = refl;
   nothing = refl;
   xiph = refl;
@@ -184,9 +186,11 @@ pub record AreWhole : Type 0 where
   pub streamed_file : given_by 28 Unknown streamed ≡ simple 0 0xAA 68 ∷ simple 20 0xBB 75 ∷ []
   pub bad_size_behind : given_by 28 Unknown (slice_set streamed 86 0) ≡ simple 0 0xAA 68 ∷ simple 20 0xBB 75 ∷ ends BadSize 0x1C53BB6B 82 ∷ []
   pub unknown_behind : given_by 28 Unknown (slice_set streamed 82 0x1D) ≡ simple 0 0xAA 68 ∷ simple 20 0xBB 75 ∷ []
+  pub block_behind : given_by 28 Unknown (streamed ++ drop 10 (cluster_body 0)) ≡ simple 0 0xAA 68 ∷ simple 20 0xBB 75 ∷ []
   pub file_behind : given_by 28 Unknown (take 82 streamed ++ small) ≡ simple 0 0xAA 68 ∷ simple 20 0xBB 75 ∷ []
   pub open_segment : given_by 21 Unknown (slice_set small 20 0xFF) ≡ first ∷ second ∷ []
   pub open_cluster : with_octet 50 0xFF ≡ first ∷ second ∷ []
+  pub open_before_another : given_by 21 (Known 69) (slice_set two_clusters 50 0xFF) ≡ first ∷ second ∷ simple 40 0xAA 76 ∷ simple 60 0xBB 83 ∷ []
 
 pub whole_files : AreWhole
 unfolding events_of elements elements_within element_in id_at size_at simple_block block_group content_in entry_of table count_leading_zeros
@@ -196,9 +200,11 @@ whole_files = record {
   streamed_file = refl;
   bad_size_behind = refl;
   unknown_behind = refl;
+  block_behind = refl;
   file_behind = refl;
   open_segment = refl;
   open_cluster = refl;
+  open_before_another = refl;
 }
 
 -- ---- what is wrong with a file
@@ -263,17 +269,25 @@ cuts = record {
   in_second = refl;
 }
 
--- two Clusters, the second block of the first cut short, where the size of the first is known or not
+-- two Clusters, with something wrong in the first, whose size is known or not, or behind both
 pub record AreBehindDamages : Type 0 where
   pub closed : given_by 21 (Known 69) (slice_set two_clusters 62 0x82) ≡ first ∷ goes_on ShortBlock 0xA3 61 ∷ simple 40 0xAA 76 ∷ simple 60 0xBB 83 ∷ []
   pub not_closed : given_by 21 (Known 69) (slice_set (slice_set two_clusters 62 0x82) 50 0xFF) ≡ first ∷ ends ShortBlock 0xA3 61 ∷ []
   pub child_of_closed : given_by 21 (Known 69) (slice_set two_clusters 61 0) ≡ first ∷ goes_on BadId 0 61 ∷ simple 40 0xAA 76 ∷ simple 60 0xBB 83 ∷ []
   pub child_of_not_closed : given_by 21 (Known 69) (slice_set (slice_set two_clusters 61 0) 50 0xFF) ≡ first ∷ ends BadId 0 61 ∷ []
+  pub behind_not_closed : given_by 21 (Known 70) (slice_set two_clusters 50 0xFF ++ 0 ∷ []) ≡ first ∷ second ∷ simple 40 0xAA 76 ∷ simple 60 0xBB 83 ∷ ends BadId 0 90 ∷ []
   pub in_both : given_by 21 (Known 69) (slice_set (slice_set two_clusters 62 0x82) 84 0x82) ≡ first ∷ goes_on ShortBlock 0xA3 61 ∷ simple 40 0xAA 76 ∷ goes_on ShortBlock 0xA3 83 ∷ []
 
 pub behind_damages : AreBehindDamages
 unfolding events_of elements elements_within element_in id_at size_at simple_block block_group content_in entry_of table count_leading_zeros
-behind_damages = record { closed = refl; not_closed = refl; child_of_closed = refl; child_of_not_closed = refl; in_both = refl }
+behind_damages = record {
+  closed = refl;
+  not_closed = refl;
+  child_of_closed = refl;
+  child_of_not_closed = refl;
+  behind_not_closed = refl;
+  in_both = refl;
+}
 
 -- ---- a Cluster of a Segment that begins a file: its children stand at 12
 
