@@ -1,4 +1,3 @@
-pub mod ValueLemmas
 pub mod FirstLemmas
 pub mod TracksLemmas
 pub mod StandardFacts

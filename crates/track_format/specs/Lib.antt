@@ -1,4 +1,3 @@
-pub mod Value
 pub mod Entry
 pub mod Refusal
 pub mod Tracks

@@ -10,8 +10,8 @@ use Rattle.mkv_schema.specs.Schema.{entry_of, may_stand}
 use Rattle.matroska_format.specs.Value.{is_value, text_of}
 use Rattle.tree_format.specs.Node.{Node, id_of, body_of}
 use Rattle.tree_format.specs.Standing.{StandsIn}
-use Rattle.track_format.specs.Value.{first_child}
-use Rattle.track_format.proofs.ValueLemmas.{stands-value, first_child-value}
+use Rattle.tree_format.specs.Values.{first_child}
+use Rattle.tree_format.proofs.ChildLemmas.{stands-value, first_child-value}
 use Rattle.track_records.specs.Sound.{IsEntry, IsInteger, IsText}
 
 -- ---- what the table has in a TrackEntry

@@ -10,7 +10,7 @@ use Rattle.tree_format.specs.Standing.{IsSound}
 use Rattle.track_format.specs.Entry.{entries_of}
 use Rattle.track_format.specs.Refusal.{refusal_of}
 use Rattle.track_format.specs.Tracks.{AreTracks}
-use Rattle.track_format.proofs.ValueLemmas.{entries-sound}
+use Rattle.track_records.proofs.EntriesLemmas.{entries-sound}
 use Rattle.track_format.proofs.TracksLemmas.{refusal-none}
 use Rattle.track_records.specs.declared.track.Track.{Track}
 use Rattle.track_records.specs.Track.{track_of, tracks_of}

@@ -5,7 +5,7 @@ ghost use Rattle.std.specs.Option.{option_copied};
 ghost use Rattle.std.specs.Str.{IsUtf8};
 ghost use Rattle.matroska_format.specs.Value.{text_of};
 ghost use Rattle.tree_format.specs.Node.{body_of};
-ghost use Rattle.track_format.specs.Value.{integer_in, uint_in, text_in};
+ghost use Rattle.tree_format.specs.Values.{integer_in, uint_in, text_in};
 ghost use Rattle.track_format.specs.Entry.{number_of};
 ghost use Rattle.track_records.specs.Track.{track_of};
 ghost use Rattle.track_records.specs.Sound.{IsEntry, IsInteger, IsText};

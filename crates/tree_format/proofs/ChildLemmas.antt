@@ -1,8 +1,7 @@
--- The values of Elements that stand where the table allows them.
+-- The children of a sound tree, and the values of those that stand where the table allows them.
 use Rattle.std.proofs.Common.{◌≡◌, ℕ, zero, suc, ◌<◌, ◌==◌, eqb-true, Bool, true, false, cond, List, [], ◌∷◌, length, find, get_or, Some, sym, subst, refl, ap, ◌∙◌, arith, All}
-use Rattle.std.proofs.lemmas.List.Elements.{All-nil, All-cons, All-filter}
+use Rattle.std.proofs.lemmas.List.Elements.{All-nil, All-cons}
 use Rattle.std.proofs.lemmas.Str.{IsUtf8-nil, is_utf8-from_IsUtf8}
-use Rattle.mkv_schema.specs.declared.ids.TheConstants.{TRACK_ENTRY}
 use Rattle.mkv_schema.specs.declared.kind.ElementKind.{ElementKind}
 use Rattle.mkv_schema.specs.declared.kind.ElementKind.TheVariants.{Master, Uint, Int, Float, Ascii, Utf8, Date, Binary}
 use Rattle.mkv_schema.specs.Schema.{kind_of, may_stand}
@@ -10,8 +9,7 @@ use Rattle.matroska_format.specs.Value.{is_value}
 use Rattle.tree_format.specs.Node.{Node, Nodes, leaf, master, nodes_of, id_of, body_of, children}
 use Rattle.tree_format.specs.Standing.{StandsIn, AllStandIn, IsSound}
 use Rattle.tree_format.proofs.NodeLemmas.{nodes-list}
-use Rattle.track_format.specs.Value.{first_child}
-use Rattle.track_format.specs.Entry.{entries_of}
+use Rattle.tree_format.specs.Values.{first_child}
 
 -- no octets are a value of every kind
 value-nil : (kind : ElementKind) → is_value kind [] ≡ true
@@ -69,10 +67,10 @@ first_child-value tree n id kind sound may is found =
     let same : id_of n ≡ id = eqb-true (id_of n) id there.1 in
     stands-value (id_of tree) kind n there.0 (ap (λ k. may_stand k (id_of tree)) same ∙ may) (ap kind_of same ∙ is)
 
--- the children of a sound tree are sound, and so are its TrackEntries
+-- the children of a sound tree are sound
 all-sound : (parent : ℕ) (ns : List Node) → AllStandIn parent (nodes_of ns) → All IsSound ns
 all-sound parent [] stand = All-nil IsSound
 all-sound parent (n ∷ ns) stand = All-cons IsSound n ns (stands-sound parent n stand.0) (all-sound parent ns stand.1)
 
-pub entries-sound : (tracks : Node) → IsSound tracks → All IsSound (entries_of tracks)
-entries-sound tracks sound = All-filter (λ n. id_of n == TRACK_ENTRY) IsSound (children tracks) (all-sound (id_of tracks) (children tracks) (sound-stand tracks sound))
+pub children-sound : (tree : Node) → IsSound tree → All IsSound (children tree)
+children-sound tree sound = all-sound (id_of tree) (children tree) (sound-stand tree sound)
