@@ -1,3 +1,4 @@
 pub mod FirstLemmas
+pub mod EncodingLemmas
 pub mod TracksLemmas
 pub mod StandardFacts

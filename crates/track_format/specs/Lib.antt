@@ -2,3 +2,4 @@ pub mod Entry
 pub mod Refusal
 pub mod Tracks
 pub mod TrackType
+pub mod Encoding

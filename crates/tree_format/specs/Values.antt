@@ -1,7 +1,8 @@
 -- The values among the children of a master that is held as a tree: RFC 8794, section 7 (EBML Element Types).
-use Rattle.std.specs.Prelude.{ℕ, ◌==◌, List, Option, Some, find, unwrap_or}
+use Rattle.std.specs.Prelude.{◌≡◌, ℕ, ◌==◌, true, List, Option, Some, find, unwrap_or}
 use Rattle.std.specs.Option.{option_map, option_map_or}
-use Rattle.mkv_schema.specs.Schema.{uint_default, text_default}
+use Rattle.mkv_schema.specs.declared.kind.ElementKind.TheVariants.{Uint}
+use Rattle.mkv_schema.specs.Schema.{kind_of, may_stand, uint_default, text_default}
 use Rattle.matroska_format.specs.Value.{uint_value, text_of}
 use Rattle.tree_format.specs.Node.{Node, id_of, body_of, children}
 
@@ -24,3 +25,8 @@ uint_in id tree = unwrap_or (integer_in id tree) (unwrap_or (uint_default id) 0)
 -- the text of an ID among the children, up to its first zero octet, or the table's default
 abbrev pub text_in : ℕ → Node → Option (List ℕ)
 text_in id tree = option_map_or (λ n. Some (text_of (body_of n))) (first_child id tree) (text_default id)
+
+-- the table has an unsigned integer of an ID under this parent
+pub record HasUint (parent id : ℕ) : Type 0 where
+  pub stands : may_stand id parent ≡ true
+  pub kind : kind_of id ≡ Some Uint
