@@ -1,6 +1,6 @@
 -- The TrackEntries among the children of a Tracks Element.
-use Rattle.std.proofs.Common.{◌≡◌, ◌<◌, ℕ, ◌==◌, List, length, filter, drop, get_or, All}
-use Rattle.std.proofs.lemmas.List.Elements.{All-filter}
+use Rattle.std.proofs.Common.{◌≡◌, ◌<◌, ℕ, ◌==◌, eqb-true, List, length, filter, drop, get_or, All}
+use Rattle.std.proofs.lemmas.List.Elements.{All-filter, filter_passes}
 use Rattle.mkv_schema.specs.declared.ids.TheConstants.{TRACK_ENTRY}
 use Rattle.tree_format.specs.Node.{Node, id_of, children}
 use Rattle.tree_format.specs.Standing.{IsSound}
@@ -18,5 +18,8 @@ child-entry tracks n ns i id sound are inside is of same =
     record { id = cc; sound = stands-sound (id_of tracks) n (child-stands tracks n ns i sound are inside is) }
 
 -- the TrackEntries of a sound tree are sound
-pub entries-sound : (tracks : Node) → IsSound tracks → All IsSound (entries_of tracks)
-entries-sound tracks sound = All-filter (λ n. id_of n == TRACK_ENTRY) IsSound (children tracks) (children-sound tracks sound)
+pub entries-sound : (tracks : Node) → IsSound tracks → All IsEntry (entries_of tracks)
+entries-sound tracks sound = λ k d inside. record {
+  id = eqb-true _ _ (filter_passes (λ n. id_of n == TRACK_ENTRY) (children tracks) k d inside);
+  sound = All-filter (λ n. id_of n == TRACK_ENTRY) IsSound (children tracks) (children-sound tracks sound) k d inside;
+}
