@@ -1,15 +1,13 @@
 -- Whether a track's frames can be used, and what was taken from the front of each: RFC 9559, section 5.1.4 (Tracks Element), ContentEncodings and TrackTimestampScale. The kinds, their order and the limit are this project's.
-use Rattle.std.specs.Prelude.{ℕ, ◌==◌, nat_le, Bool, true, false, not, ◌&&◌, ◌||◌, List, [], ◌∷◌, length, filter, Option, Result}
+use Rattle.std.specs.Prelude.{ℕ, ◌==◌, nat_le, Bool, true, false, ◌&&◌, ◌||◌, List, [], ◌∷◌, length, filter, Option, Result}
 use Rattle.std.specs.Option.{option_map_or, option_and_then}
 use Rattle.std.specs.Str.{bytes_eq}
 use Rattle.mkv_schema.specs.declared.ids.TheConstants.{TRACK_TIMESTAMP_SCALE, CONTENT_ENCODINGS, CONTENT_ENCODING, CONTENT_ENCODING_SCOPE, CONTENT_ENCODING_TYPE, CONTENT_COMPRESSION, CONTENT_COMP_ALGO, CONTENT_COMP_SETTINGS}
 use Rattle.mkv_values.specs.declared.damage.Damage.{Damage}
-use Rattle.mkv_values.specs.declared.damage.Kind.{Kind}
 use Rattle.mkv_values.specs.declared.damage.Kind.TheVariants.{Encoding, TrackScale}
-use Rattle.matroska_format.specs.Element.{damage}
-use Rattle.matroska_format.specs.Outline.{first_damage, unless, where_it}
-use Rattle.tree_format.specs.Node.{Node, id_of, offset_of, body_of, children}
-use Rattle.tree_format.specs.Values.{first_child, uint_in}
+use Rattle.matroska_format.specs.Outline.{first_damage, unless}
+use Rattle.tree_format.specs.Node.{Node, id_of, body_of, children}
+use Rattle.tree_format.specs.Values.{first_child, uint_in, failing_child}
 
 -- ---- one ContentEncoding
 
@@ -55,11 +53,6 @@ is_one octets =
     bytes_eq octets []
     || bytes_eq octets (0x3F ∷ 0x80 ∷ 0 ∷ 0 ∷ [])
     || bytes_eq octets (0x3F ∷ 0xF0 ∷ 0 ∷ 0 ∷ 0 ∷ 0 ∷ 0 ∷ 0 ∷ [])
-
--- the first child of an ID, where it fails a test, told at its own place
-abbrev pub failing_child : Kind → ℕ → (Node → Bool) → Node → Option Damage
-failing_child kind id passes entry =
-    option_and_then (λ n. where_it (not (passes n)) (damage kind id (offset_of n))) (first_child id entry)
 
 -- the first ContentEncodings, where it can't be undone
 abbrev pub bad_encoding : Node → Option Damage

@@ -1,10 +1,14 @@
 -- The values among the children of a master that is held as a tree: RFC 8794, section 7 (EBML Element Types).
-use Rattle.std.specs.Prelude.{◌≡◌, ℕ, ◌==◌, true, List, Option, Some, find, unwrap_or}
-use Rattle.std.specs.Option.{option_map, option_map_or}
+use Rattle.std.specs.Prelude.{◌≡◌, ℕ, ◌==◌, Bool, true, not, List, Option, Some, find, unwrap_or}
+use Rattle.std.specs.Option.{option_map, option_map_or, option_and_then}
 use Rattle.mkv_schema.specs.declared.kind.ElementKind.TheVariants.{Uint}
 use Rattle.mkv_schema.specs.Schema.{kind_of, may_stand, uint_default, text_default}
+use Rattle.mkv_values.specs.declared.damage.Damage.{Damage}
+use Rattle.mkv_values.specs.declared.damage.Kind.{Kind}
+use Rattle.matroska_format.specs.Element.{damage}
+use Rattle.matroska_format.specs.Outline.{where_it}
 use Rattle.matroska_format.specs.Value.{uint_value, text_of}
-use Rattle.tree_format.specs.Node.{Node, id_of, body_of, children}
+use Rattle.tree_format.specs.Node.{Node, id_of, offset_of, body_of, children}
 
 -- the first child of an ID, which gives the value
 abbrev pub first_child : ℕ → Node → Option Node
@@ -25,6 +29,11 @@ uint_in id tree = unwrap_or (integer_in id tree) (unwrap_or (uint_default id) 0)
 -- the text of an ID among the children, up to its first zero octet, or the table's default
 abbrev pub text_in : ℕ → Node → Option (List ℕ)
 text_in id tree = option_map_or (λ n. Some (text_of (body_of n))) (first_child id tree) (text_default id)
+
+-- the first child of an ID, where it fails a test, told at its own place
+abbrev pub failing_child : Kind → ℕ → (Node → Bool) → Node → Option Damage
+failing_child kind id passes tree =
+    option_and_then (λ n. where_it (not (passes n)) (damage kind id (offset_of n))) (first_child id tree)
 
 -- the table has an unsigned integer of an ID under this parent
 pub record HasUint (parent id : ℕ) : Type 0 where
