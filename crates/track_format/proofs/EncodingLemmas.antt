@@ -1,16 +1,16 @@
 -- When the encodings of a track can be undone.
 use Rattle.std.proofs.Common.{◌≡◌, ◌≤◌, ℕ, ◌==◌, Bool, true, false, not, ◌&&◌, cond, List, [], ◌∷◌, length, filter, find, Option, Some, None, is_none, refl, sym, subst, ap, ◌∙◌, arith}
 use Rattle.std.specs.Prelude.{slice_get}
-use Rattle.std.specs.Option.{option_map_or, option_and_then, option_or}
+use Rattle.std.specs.Option.{option_map_or, option_and_then}
 use Rattle.std.proofs.lemmas.Bool.Decides.{nat_tests}
 use Rattle.mkv_schema.specs.declared.ids.TheConstants.{CONTENT_ENCODINGS, CONTENT_ENCODING}
 use Rattle.mkv_values.specs.declared.damage.Damage.{Damage}
 use Rattle.mkv_values.specs.declared.damage.Kind.TheVariants.{Encoding}
 use Rattle.matroska_format.specs.Element.{damage}
-use Rattle.matroska_format.specs.Outline.{where_it}
+use Rattle.matroska_format.specs.Outline.{first_damage, where_it}
 use Rattle.tree_format.specs.Node.{Node, id_of, offset_of, children}
 use Rattle.tree_format.specs.Values.{first_child}
-use Rattle.track_format.specs.Encoding.{settings_of, most_stripped, strips_headers, encodings_of, can_be_undone, bad_encoding, prefix_of}
+use Rattle.track_format.specs.Encoding.{settings_of, most_stripped, strips_headers, encodings_of, can_be_undone, bad_encoding, usable_causes, prefix_of}
 
 -- ---- the ContentEncoding Elements among others
 
@@ -45,11 +45,9 @@ undone-some encodings n found =
     alone [] = refl
     alone (m ∷ rest) = refl
 
+-- there is one alone
 pub undone-one : (encodings n : Node) → first_child CONTENT_ENCODING encodings ≡ Some n → slice_get (encodings_of encodings) 1 ≡ None → can_be_undone (encodings_of encodings) ≡ strips_headers n
 undone-one encodings n found alone = undone-some encodings n found ∙ ap (λ o. is_none o && strips_headers n) alone
-
-pub undone-more : (encodings n m : Node) → first_child CONTENT_ENCODING encodings ≡ Some n → slice_get (encodings_of encodings) 1 ≡ Some m → can_be_undone (encodings_of encodings) ≡ false
-undone-more encodings n m found more = undone-some encodings n found ∙ ap (λ o. is_none o && strips_headers n) more
 
 -- ---- how much is put back
 
@@ -64,8 +62,8 @@ passes-none false d is = absurd (cc)
 settings-few : (n : Node) → strips_headers n ≡ true → length (settings_of n) ≤ most_stripped
 settings-few n strips = grind (arith, nat_tests)
 
--- What is put back in front of each frame keeps the limit, where the encodings can be undone.
-pub prefix-few : (entry : Node) → bad_encoding entry ≡ None → length (prefix_of entry) ≤ most_stripped
+-- with the first ContentEncodings that can be undone
+prefix-few : (entry : Node) → bad_encoding entry ≡ None → length (prefix_of entry) ≤ most_stripped
 prefix-few entry none = of_encodings (first_child CONTENT_ENCODINGS entry) none
   where
     of_encoding : (e : Node) (o : Option Node) → first_child CONTENT_ENCODING e ≡ o → can_be_undone (encodings_of e) ≡ true → length (option_map_or settings_of o []) ≤ most_stripped
@@ -77,12 +75,12 @@ prefix-few entry none = of_encodings (first_child CONTENT_ENCODINGS entry) none
     of_encodings None none = omega arith
     of_encodings (Some e) none = of_encoding e (first_child CONTENT_ENCODING e) refl (passes-none _ _ none)
 
-none-of : (a b : Option Damage) → option_or a b ≡ None → a ≡ None
-none-of None b is = refl
-none-of (Some d) b is = absurd (cc)
+first-none : (a b : Option Damage) → first_damage (a ∷ b ∷ []) ≡ None → a ≡ None
+first-none None b is = refl
+first-none (Some d) b is = absurd (cc)
 
--- the same, where nothing keeps the track from being used
-pub usable-few : (entry : Node) (a b both : Option Damage) (prefix : List ℕ) → a ≡ bad_encoding entry → both ≡ option_or a b → both ≡ None → prefix ≡ prefix_of entry → length prefix ≤ most_stripped
-usable-few entry a b both prefix a_is both_is none is =
+-- What is put back in front of each frame keeps the limit, where nothing keeps the track from being used.
+pub usable-few : (entry : Node) (cause : Option Damage) (prefix : List ℕ) → cause ≡ first_damage (usable_causes entry) → cause ≡ None → prefix ≡ prefix_of entry → length prefix ≤ most_stripped
+usable-few entry cause prefix found none is =
     let P : List ℕ → Type 0 = λ l. length l ≤ most_stripped in
-    subst P (sym is) (prefix-few entry (sym a_is ∙ none-of a b (sym both_is ∙ none)))
+    subst P (sym is) (prefix-few entry (first-none _ _ (sym found ∙ none)))

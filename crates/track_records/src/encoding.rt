@@ -3,8 +3,9 @@
 
 ghost use Rattle.std.specs.Prelude.{◌≡◌, ◌≤◌, length, IfOk};
 ghost use Rattle.mkv_schema.specs.declared.ids.TheConstants.{CONTENT_ENCODINGS as ENCODINGS_ID, CONTENT_ENCODING as ENCODING_ID};
+ghost use Rattle.matroska_format.specs.Outline.{first_damage};
 ghost use Rattle.tree_format.specs.Standing.{IsSoundOf};
-ghost use Rattle.track_format.specs.Encoding.{algorithm_of, settings_of, most_stripped, strips_headers, encodings_of, can_be_undone, is_one, bad_encoding, bad_scale, prefix_of, usable_prefix};
+ghost use Rattle.track_format.specs.Encoding.{algorithm_of, settings_of, most_stripped, strips_headers, encodings_of, can_be_undone, is_one, bad_encoding, bad_scale, usable_causes, prefix_of, usable_prefix};
 ghost use Rattle.track_records.specs.Sound.{IsEntry};
 ghost use Rattle.track_records.specs.Outcome.{lent};
 
@@ -126,6 +127,14 @@ fn bad_scale(entry: &Tree) -> Option<Damage>
     })
 }
 
+// What keeps a track's frames from being used.
+fn cause_of(entry: &Tree) -> Option<Damage>
+    requires { IsEntry entry.now }
+    ensures { result ≡ first_damage (usable_causes entry.now) }
+{
+    bad_encoding(entry).or(bad_scale(entry))
+}
+
 // What header stripping took from the front of each frame.
 fn prefix_of(entry: &Tree) -> &[u8]
     ensures { result.now ≡ prefix_of entry.now }
@@ -150,9 +159,8 @@ pub fn usable(track: &Track) -> Result<&[u8], Damage>
     ensures exact { lent result ≡ usable_prefix track.now.entry }
     ensures most { IfOk result (λ prefix. length prefix.now ≤ most_stripped) }
 {
-    let entry = &track.entry;
-    match bad_encoding(entry).or(bad_scale(entry)) {
+    match cause_of(&track.entry) {
         Some(damage) => Err(damage),
-        None => Ok(prefix_of(entry)),
+        None => Ok(prefix_of(&track.entry)),
     }
 }

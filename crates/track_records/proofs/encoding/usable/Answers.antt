@@ -3,4 +3,4 @@ use Rattle.track_format.proofs.EncodingLemmas.{usable-few}
 use Rattle.track_records.proofs.encoding.usable.Goals as goal
 
 pub returns-in-None-clause-most : goal.returns-in-None-clause-most
-returns-in-None-clause-most c = usable-few c.args.track.now.entry _ _ _ _ c.bad_encoding.ensures c.or.ensures c.in-None.is c.prefix_of.ensures
+returns-in-None-clause-most c = usable-few c.args.track.now.entry _ _ c.cause_of.ensures c.in-None.is c.prefix_of.ensures
