@@ -1,4 +1,4 @@
-pub mod ValueLemmas
 pub mod FirstLemmas
+pub mod EncodingLemmas
 pub mod TracksLemmas
 pub mod StandardFacts

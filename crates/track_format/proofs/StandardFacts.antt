@@ -1,5 +1,5 @@
--- The tracks of small Tracks Elements, computed, so that a wrong definition does not check.
-use Rattle.std.proofs.Common.{◌≡◌, ℕ, ◌+◌, ◌-◌, ◌^◌, length, List, [], ◌∷◌, ◌++◌, map, codes, replicate, Option, Some, None, Result, Ok, Err, refl}
+-- The tracks of small Tracks Elements, and which can be used, computed, so that a wrong definition does not check.
+use Rattle.std.proofs.Common.{◌≡◌, ℕ, ◌+◌, ◌-◌, ◌^◌, true, false, length, List, [], ◌∷◌, ◌++◌, map, codes, replicate, Option, Some, None, Result, Ok, Err, refl}
 use Rattle.std.specs.Int.Count.{count_leading_zeros}
 use Rattle.std.specs.Str.{is_utf8, chars}
 use lib.Utf8.{encode}
@@ -8,13 +8,14 @@ use Rattle.mkv_schema.specs.Table.{table}
 use Rattle.mkv_schema.specs.Schema.{entry_of}
 use Rattle.mkv_values.specs.declared.damage.Damage.{Damage}
 use Rattle.mkv_values.specs.declared.damage.Kind.{Kind}
-use Rattle.mkv_values.specs.declared.damage.Kind.TheVariants.{BadValue, MissingChild, RepeatedTrack, TooMany}
+use Rattle.mkv_values.specs.declared.damage.Kind.TheVariants.{BadValue, MissingChild, RepeatedTrack, TooMany, Encoding, TrackScale}
 use Rattle.matroska_format.specs.Element.{element_in, damage}
 use Rattle.matroska_format.specs.Outline.{and_then, unless}
-use Rattle.tree_format.specs.Node.{Node, master, nodes_of, offset_of}
+use Rattle.tree_format.specs.Node.{Node, leaf, master, nodes_of, offset_of}
 use Rattle.tree_format.specs.Reading.{tree_of, grove, grove_within}
 use Rattle.track_format.specs.Entry.{entries_of, number_of, uid_of, type_of, codec_of, language_of, default_duration_of}
 use Rattle.track_format.specs.Refusal.{refusal_of, too_many}
+use Rattle.track_format.specs.Encoding.{strips_headers, usable_prefix}
 use Rattle.track_format.specs.TrackType.{type_name}
 
 -- what an entry says
@@ -180,6 +181,126 @@ refuses = record {
   repeated = refl;
   repeated_later = refl;
 }
+
+-- ---- which frames can be used
+
+-- an Element with an ID of two octets, and fewer than 127 octets inside
+abbrev element : ℕ → ℕ → List ℕ → List ℕ
+element first second body = first ∷ second ∷ (0x80 + length body) ∷ body
+
+-- a ContentEncodings with these Elements inside
+abbrev all_encodings : List ℕ → List ℕ
+all_encodings body = element 0x6D 0x80 body
+
+abbrev encoding : List ℕ → List ℕ
+encoding body = element 0x62 0x40 body
+
+abbrev scope : ℕ → List ℕ
+scope n = element 0x50 0x32 (n ∷ [])
+
+abbrev encoding_type : ℕ → List ℕ
+encoding_type n = element 0x50 0x33 (n ∷ [])
+
+abbrev compression : List ℕ → List ℕ
+compression body = element 0x50 0x34 body
+
+abbrev algorithm : ℕ → List ℕ
+algorithm n = element 0x42 0x54 (n ∷ [])
+
+abbrev settings : List ℕ → List ℕ
+settings octets = element 0x42 0x55 octets
+
+-- header stripping of one octet
+abbrev stripping : List ℕ
+stripping = compression (algorithm 3 ++ settings (7 ∷ []))
+
+-- a TrackTimestampScale
+abbrev scale : List ℕ → List ℕ
+scale octets = 0x23 ∷ 0x31 ∷ 0x4F ∷ (0x80 + length octets) ∷ octets
+
+abbrev two : List ℕ
+two = 0x40 ∷ 0 ∷ 0 ∷ 0 ∷ []
+
+-- what is to be put back in front of the frames of an audio track, whose entry stands at 26, with these
+-- Elements from 46 on
+abbrev usable : List ℕ → Result (List ℕ) Damage
+usable more = and_then (tree_of 0xAE 26 (opus ++ more) 28 65536) usable_prefix
+
+abbrev bad_encoding : ℕ → Result (List ℕ) Damage
+bad_encoding offset = Err (damage Encoding 0x6D80 offset)
+
+abbrev bad_scale : ℕ → Result (List ℕ) Damage
+bad_scale offset = Err (damage TrackScale 0x23314F offset)
+
+pub record AreUsable : Type 0 where
+  pub plain : usable [] ≡ Ok []
+  pub two_octets : usable encodings ≡ Ok (0x0B ∷ 0x77 ∷ [])
+  pub in_words : usable (all_encodings (encoding (scope 1 ++ encoding_type 0 ++ stripping))) ≡ Ok (7 ∷ [])
+  pub no_settings : usable (all_encodings (encoding (compression (algorithm 3)))) ≡ Ok []
+  pub no_encoding : usable (all_encodings []) ≡ Ok []
+  pub second_encodings : usable (all_encodings [] ++ all_encodings (encoding [])) ≡ Ok []
+  pub second_settings : usable (all_encodings (encoding (compression (algorithm 3 ++ settings (7 ∷ []) ++ settings (8 ∷ []))))) ≡ Ok (7 ∷ [])
+  pub empty_scale : usable (scale []) ≡ Ok []
+  pub scale_of_4 : usable (scale (0x3F ∷ 0x80 ∷ 0 ∷ 0 ∷ [])) ≡ Ok []
+  pub scale_of_8 : usable (scale (0x3F ∷ 0xF0 ∷ replicate 6 0) ++ encodings) ≡ Ok (0x0B ∷ 0x77 ∷ [])
+  pub second_scale : usable (scale [] ++ scale two) ≡ Ok []
+
+pub usables : AreUsable
+unfolding is_utf8 chars encode element_in id_at size_at entry_of table count_leading_zeros grove grove_within
+usables = record {
+  plain = refl;
+  two_octets = refl;
+  in_words = refl;
+  no_settings = refl;
+  no_encoding = refl;
+  second_encodings = refl;
+  second_settings = refl;
+  empty_scale = refl;
+  scale_of_4 = refl;
+  scale_of_8 = refl;
+  second_scale = refl;
+}
+
+pub record AreUnusable : Type 0 where
+  pub no_compression : usable (all_encodings (encoding [])) ≡ bad_encoding 46
+  pub zlib_by_default : usable (all_encodings (encoding (compression []))) ≡ bad_encoding 46
+  pub zlib : usable (all_encodings (encoding (compression (algorithm 0)))) ≡ bad_encoding 46
+  pub encrypted : usable (all_encodings (encoding (encoding_type 1 ++ stripping))) ≡ bad_encoding 46
+  pub scope_of_private : usable (all_encodings (encoding (scope 2 ++ stripping))) ≡ bad_encoding 46
+  pub scope_of_both : usable (all_encodings (encoding (scope 3 ++ stripping))) ≡ bad_encoding 46
+  pub two_encodings : usable (all_encodings (encoding stripping ++ encoding stripping)) ≡ bad_encoding 46
+  pub doubled : usable (scale two) ≡ bad_scale 46
+  pub one_of_another_width : usable (scale (0x3F ∷ 0xF0 ∷ 0 ∷ 0 ∷ [])) ≡ bad_scale 46
+  pub encoding_first : usable (scale two ++ all_encodings (encoding [])) ≡ bad_encoding 54
+  pub scale_behind : usable (encodings ++ scale two) ≡ bad_scale 64
+
+pub unusables : AreUnusable
+unfolding is_utf8 chars encode element_in id_at size_at entry_of table count_leading_zeros grove grove_within
+unusables = record {
+  no_compression = refl;
+  zlib_by_default = refl;
+  zlib = refl;
+  encrypted = refl;
+  scope_of_private = refl;
+  scope_of_both = refl;
+  two_encodings = refl;
+  doubled = refl;
+  one_of_another_width = refl;
+  encoding_first = refl;
+  scale_behind = refl;
+}
+
+-- a ContentEncoding that strips so many octets
+abbrev stripped : ℕ → Node
+stripped n = master 0x6240 70 (nodes_of (master 0x5034 73 (nodes_of (leaf 0x4254 76 (3 ∷ []) ∷ leaf 0x4255 80 (replicate n 7) ∷ [])) ∷ []))
+
+pub record AreLimits : Type 0 where
+  pub most : strips_headers (stripped 4096) ≡ true
+  pub one_more : strips_headers (stripped 4097) ≡ false
+
+pub limits : AreLimits
+unfolding entry_of table
+limits = record { most = refl; one_more = refl }
 
 -- ---- how many there may be
 

@@ -13,7 +13,7 @@ use Rattle.mkv_values.specs.declared.damage.Kind.TheVariants.{BadValue, MissingC
 use Rattle.matroska_format.specs.Element.{damage}
 use Rattle.matroska_format.specs.Outline.{first_damage}
 use Rattle.tree_format.specs.Node.{Node, id_of, offset_of, children}
-use Rattle.track_format.specs.Value.{first_child, integer_of}
+use Rattle.tree_format.specs.Values.{first_child, integer_of}
 use Rattle.track_format.specs.Entry.{entries_of, number_of, default_duration_of}
 use Rattle.track_format.specs.Refusal.{firsts, is_bad, too_long, bad_value, missing_child, first_in, told_at, is_repeated, first_repeated, repeated_number, most_tracks, too_many, causes, refusal_of}
 use Rattle.track_format.specs.Tracks.{IsTrack, AreTracks}

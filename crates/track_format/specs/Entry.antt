@@ -2,7 +2,7 @@
 use Rattle.std.specs.Prelude.{ℕ, ◌==◌, List, [], Option, filter, unwrap_or}
 use Rattle.mkv_schema.specs.declared.ids.TheConstants.{TRACK_ENTRY, TRACK_NUMBER, TRACK_UID, TRACK_TYPE, CODEC_ID, LANGUAGE, LANGUAGE_BCP47, DEFAULT_DURATION}
 use Rattle.tree_format.specs.Node.{Node, id_of, children}
-use Rattle.track_format.specs.Value.{integer_in, uint_in, text_in}
+use Rattle.tree_format.specs.Values.{integer_in, uint_in, text_in}
 
 -- the TrackEntries of a Tracks Element, in its order
 abbrev pub entries_of : Node → List Node

@@ -1,5 +1,5 @@
-pub mod Value
 pub mod Entry
 pub mod Refusal
 pub mod Tracks
 pub mod TrackType
+pub mod Encoding

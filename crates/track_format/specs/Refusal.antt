@@ -9,7 +9,7 @@ use Rattle.matroska_format.specs.Element.{damage}
 use Rattle.matroska_format.specs.Outline.{first_damage}
 use Rattle.tree_format.specs.Node.{Node, id_of, offset_of, children}
 use Rattle.tree_format.specs.Changes.{without}
-use Rattle.track_format.specs.Value.{first_child, integer_of}
+use Rattle.tree_format.specs.Values.{first_child, integer_of}
 use Rattle.track_format.specs.Entry.{entries_of, number_of}
 
 -- ---- of one entry

@@ -3,7 +3,7 @@ use Rattle.std.specs.Prelude.{◌≢◌, ◌<◌, ◌≤◌, List, length, map, 
 use Rattle.std.specs.List.{AllPairs}
 use Rattle.mkv_schema.specs.declared.ids.TheConstants.{TRACK_TYPE, CODEC_ID}
 use Rattle.tree_format.specs.Node.{Node}
-use Rattle.track_format.specs.Value.{first_child}
+use Rattle.tree_format.specs.Values.{first_child}
 use Rattle.track_format.specs.Entry.{number_of, default_duration_of}
 use Rattle.track_format.specs.Refusal.{too_long, most_tracks}
 

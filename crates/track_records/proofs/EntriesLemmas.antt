@@ -1,9 +1,11 @@
 -- The TrackEntries among the children of a Tracks Element.
-use Rattle.std.proofs.Common.{◌≡◌, ◌<◌, ℕ, ◌==◌, List, length, filter, drop, get_or}
+use Rattle.std.proofs.Common.{◌≡◌, ◌<◌, ℕ, ◌==◌, eqb-true, List, length, filter, drop, get_or, All}
+use Rattle.std.proofs.lemmas.List.Elements.{All-filter, filter_passes}
 use Rattle.mkv_schema.specs.declared.ids.TheConstants.{TRACK_ENTRY}
 use Rattle.tree_format.specs.Node.{Node, id_of, children}
 use Rattle.tree_format.specs.Standing.{IsSound}
-use Rattle.track_format.proofs.ValueLemmas.{child-stands, stands-sound}
+use Rattle.tree_format.proofs.ChildLemmas.{child-stands, children-sound, stands-sound}
+use Rattle.track_format.specs.Entry.{entries_of}
 use Rattle.track_records.specs.Sound.{IsEntry}
 
 -- the TrackEntries from an index on
@@ -14,3 +16,10 @@ entries_from i ns = filter (λ n. id_of n == TRACK_ENTRY) (drop i ns)
 pub child-entry : (tracks n : Node) (ns : List Node) (i id : ℕ) → IsSound tracks → ns ≡ children tracks → i < length ns → n ≡ get_or ns i n → id ≡ id_of n → id ≡ TRACK_ENTRY → IsEntry n
 child-entry tracks n ns i id sound are inside is of same =
     record { id = cc; sound = stands-sound (id_of tracks) n (child-stands tracks n ns i sound are inside is) }
+
+-- the TrackEntries of a sound tree are sound
+pub entries-sound : (tracks : Node) → IsSound tracks → All IsEntry (entries_of tracks)
+entries-sound tracks sound = λ k d inside. record {
+  id = eqb-true _ _ (filter_passes (λ n. id_of n == TRACK_ENTRY) (children tracks) k d inside);
+  sound = All-filter (λ n. id_of n == TRACK_ENTRY) IsSound (children tracks) (children-sound tracks sound) k d inside;
+}

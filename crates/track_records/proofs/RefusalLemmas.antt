@@ -9,7 +9,7 @@ use Rattle.std.proofs.lemmas.List.Folds.{list_any_more}
 use Rattle.mkv_schema.specs.declared.ids.TheConstants.{TRACK_NUMBER, DEFAULT_DURATION}
 use Rattle.tree_format.specs.Node.{Node, id_of}
 use Rattle.tree_format.specs.Changes.{without}
-use Rattle.track_format.specs.Value.{integer_of}
+use Rattle.tree_format.specs.Values.{integer_of}
 use Rattle.track_format.specs.Refusal.{firsts, is_bad, too_long}
 use Rattle.track_format.proofs.FirstLemmas.{find-same, find-without}
 use Rattle.track_records.specs.Met.{is_met}

@@ -10,9 +10,10 @@ use Rattle.tree_format.specs.Standing.{IsSound}
 use Rattle.track_format.specs.Entry.{entries_of}
 use Rattle.track_format.specs.Refusal.{refusal_of}
 use Rattle.track_format.specs.Tracks.{AreTracks}
-use Rattle.track_format.proofs.ValueLemmas.{entries-sound}
+use Rattle.track_records.proofs.EntriesLemmas.{entries-sound}
 use Rattle.track_format.proofs.TracksLemmas.{refusal-none}
 use Rattle.track_records.specs.declared.track.Track.{Track}
+use Rattle.track_records.specs.Sound.{IsEntry}
 use Rattle.track_records.specs.Track.{track_of, tracks_of}
 use Rattle.track_records.specs.Outcome.{ReadsTracks}
 
@@ -37,8 +38,8 @@ refused (Err (Damage d)) tracks reads = λ other are.
     let none = (refusal-none tracks).1 are in
     absurd (cc)
 
-pub sound : (r : Result (List Track) TreeEnd) (tracks : Node) → IsSound tracks → ReadsTracks r (tracks_of tracks) → IfOk r (λ list. All (λ (t : Track). IsSound t.entry) list)
+pub sound : (r : Result (List Track) TreeEnd) (tracks : Node) → IsSound tracks → ReadsTracks r (tracks_of tracks) → IfOk r (λ list. All (λ (t : Track). IsEntry t.entry) list)
 sound (Ok list) tracks whole reads =
-    let P : List Track → Type 0 = λ ts. All (λ (t : Track). IsSound t.entry) ts in
-    subst P (taken-is (refusal_of tracks) (map track_of (entries_of tracks)) list reads).1 (All-map (λ (t : Track). IsSound t.entry) track_of (entries_of tracks) (entries-sound tracks whole))
+    let P : List Track → Type 0 = λ ts. All (λ (t : Track). IsEntry t.entry) ts in
+    subst P (taken-is (refusal_of tracks) (map track_of (entries_of tracks)) list reads).1 (All-map (λ (t : Track). IsEntry t.entry) track_of (entries_of tracks) (entries-sound tracks whole))
 sound (Err end) tracks whole reads = tt

@@ -1,5 +1,6 @@
 -- What the crate's calls answer.
-use Rattle.std.specs.Prelude.{◌≡◌, List, Result, Ok, Err}
+use Rattle.std.specs.Prelude.{◌≡◌, ℕ, List, Result, Ok, Err}
+use denote.Ref.{Bor}
 use Rattle.mkv_values.specs.declared.damage.Damage.{Damage}
 use Rattle.ebml_tree.specs.declared.end.TreeEnd.{TreeEnd}
 use Rattle.ebml_tree.specs.Outcome.{Refuses}
@@ -9,3 +10,8 @@ use Rattle.track_records.specs.declared.track.Track.{Track}
 abbrev pub ReadsTracks : Result (List Track) TreeEnd → Result (List Track) Damage → Type 0
 ReadsTracks (Ok tracks) read = read ≡ Ok tracks
 ReadsTracks (Err end) read = Refuses end read
+
+-- what is lent, or the damage
+abbrev pub lent : Result (Bor (List ℕ)) Damage → Result (List ℕ) Damage
+lent (Ok octets) = Ok octets.now
+lent (Err damage) = Err damage

@@ -4,11 +4,12 @@ ghost use Rattle.std.specs.Prelude.{◌≡◌, IfOk};
 ghost use Rattle.std.specs.Option.{option_copied};
 ghost use Rattle.std.specs.Str.{IsUtf8};
 ghost use Rattle.matroska_format.specs.Value.{text_of};
-ghost use Rattle.tree_format.specs.Node.{body_of};
-ghost use Rattle.track_format.specs.Value.{integer_in, uint_in, text_in};
+ghost use Rattle.tree_format.specs.Node.{id_of, body_of};
+ghost use Rattle.tree_format.specs.Standing.{IsSound};
+ghost use Rattle.tree_format.specs.Values.{integer_in, uint_in, text_in, HasUint};
 ghost use Rattle.track_format.specs.Entry.{number_of};
 ghost use Rattle.track_records.specs.Track.{track_of};
-ghost use Rattle.track_records.specs.Sound.{IsEntry, IsInteger, IsText};
+ghost use Rattle.track_records.specs.Sound.{IsEntry, IsText};
 
 use crate::track::Track;
 use ebml_tree::Tree;
@@ -20,22 +21,22 @@ use mkv_values::Text;
 use std::alloc::{AllocError, Global};
 
 // The unsigned integer of an ID, where it stands.
-fn integer_in(entry: &Tree, id: u32) -> Option<u64>
-    requires entry { IsEntry entry.now }
-    requires integer { IsInteger id }
-    ensures { result ≡ integer_in id entry.now }
+fn integer_in(tree: &Tree, id: u32) -> Option<u64>
+    requires sound { IsSound tree.now }
+    requires uint { HasUint (id_of tree.now) id }
+    ensures { result ≡ integer_in id tree.now }
 {
-    let child = entry.child(id)?;
+    let child = tree.child(id)?;
     Some(child.uint())
 }
 
-// The same, or the table's default, or 0.
-fn uint_in(entry: &Tree, id: u32) -> u64
-    requires entry { IsEntry entry.now }
-    requires integer { IsInteger id }
-    ensures { result ≡ uint_in id entry.now }
+/// The same, or the table's default, or 0.
+pub(crate) fn uint_in(tree: &Tree, id: u32) -> u64
+    requires sound { IsSound tree.now }
+    requires uint { HasUint (id_of tree.now) id }
+    ensures { result ≡ uint_in id tree.now }
 {
-    match integer_in(entry, id) {
+    match integer_in(tree, id) {
         Some(value) => value,
         None => uint_default(id).unwrap_or(0),
     }

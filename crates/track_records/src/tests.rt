@@ -3,7 +3,7 @@
 ghost use Rattle.std.specs.Prelude.{IfOk};
 ghost use Rattle.tree_format.specs.Standing.{IsSound};
 
-use crate::{Track, read_tracks};
+use crate::{Track, read_tracks, usable};
 use ebml_tree::{Tree, TreeEnd};
 use mkv_schema::ids::TRACKS;
 use mkv_schema::is_master;
@@ -87,6 +87,74 @@ const REFUSED: [(&[u8], Kind, u32, u64); 4] = [
     ),
 ];
 
+// Bodies at place 26 of one track, and what is put back in front of its frames.
+const USABLE: [(&[u8], &[u8]); 3] = [
+    // no encoding
+    (&[0xAE, 0x88, 0xD7, 0x81, 1, 0x83, 0x81, 2, 0x86, 0x80], &[]),
+    // two octets were stripped
+    (
+        &[
+            0xAE, 0xA4, 0xD7, 0x81, 1, 0x73, 0xC5, 0x81, 5, 0x83, 0x81, 2, 0x86, 0x86, 0x41, 0x5F,
+            0x4F, 0x50, 0x55, 0x53, 0x6D, 0x80, 0x8F, 0x62, 0x40, 0x8C, 0x50, 0x34, 0x89, 0x42,
+            0x54, 0x81, 3, 0x42, 0x55, 0x82, 0x0B, 0x77,
+        ],
+        &[0x0B, 0x77],
+    ),
+    // a scale of 1.0 in eight octets
+    (
+        &[
+            0xAE, 0x94, 0xD7, 0x81, 1, 0x83, 0x81, 2, 0x86, 0x80, 0x23, 0x31, 0x4F, 0x88, 0x3F,
+            0xF0, 0, 0, 0, 0, 0, 0,
+        ],
+        &[],
+    ),
+];
+
+// Bodies at place 26 of one track whose frames can't be used: by which kind, with which ID and place.
+const UNUSABLE: [(&[u8], Kind, u32, u64); 4] = [
+    // an encoding without a compression
+    (
+        &[
+            0xAE, 0x8E, 0xD7, 0x81, 1, 0x83, 0x81, 2, 0x86, 0x80, 0x6D, 0x80, 0x83, 0x62, 0x40,
+            0x80,
+        ],
+        Kind::Encoding,
+        0x6D80,
+        36,
+    ),
+    // headers are stripped twice
+    (
+        &[
+            0xAE, 0x9F, 0xD7, 0x81, 1, 0x83, 0x81, 2, 0x86, 0x80, 0x6D, 0x80, 0x94, 0x62, 0x40,
+            0x87, 0x50, 0x34, 0x84, 0x42, 0x54, 0x81, 3, 0x62, 0x40, 0x87, 0x50, 0x34, 0x84, 0x42,
+            0x54, 0x81, 3,
+        ],
+        Kind::Encoding,
+        0x6D80,
+        36,
+    ),
+    // a scale of 2.0
+    (
+        &[
+            0xAE, 0x90, 0xD7, 0x81, 1, 0x83, 0x81, 2, 0x86, 0x80, 0x23, 0x31, 0x4F, 0x84, 0x40, 0,
+            0, 0,
+        ],
+        Kind::TrackScale,
+        0x23314F,
+        36,
+    ),
+    // the same before an encoding
+    (
+        &[
+            0xAE, 0x96, 0xD7, 0x81, 1, 0x83, 0x81, 2, 0x86, 0x80, 0x23, 0x31, 0x4F, 0x84, 0x40, 0,
+            0, 0, 0x6D, 0x80, 0x83, 0x62, 0x40, 0x80,
+        ],
+        Kind::Encoding,
+        0x6D80,
+        44,
+    ),
+];
+
 // The tree of a Tracks Element whose header stands at place 21, and its body at 26.
 fn tracks_of(alloc: Global, body: &[u8]) -> Result<Tree, TreeEnd>
     ensures { IfOk result IsSound }
@@ -128,6 +196,30 @@ fn refusals_are_told(rt: HostRuntime) -> Result<(), Fail> {
         let damage = match read_tracks(rt.alloc(), &tree) {
             Err(TreeEnd::Damage(damage)) => Some((damage.kind, damage.id, damage.offset)),
             _ => None,
+        };
+        assert_eq!(rt; damage, Some((kind, id, offset)));
+    }
+    Ok(())
+}
+
+#[test]
+fn prefixes_are_told(rt: HostRuntime) -> Result<(), Fail> {
+    for (body, prefix) in USABLE {
+        let tracks = read_tracks(rt.alloc(), &tracks_of(rt.alloc(), body)?)?;
+        let track = tracks.get(0).ok_or("the first")?;
+        assert_eq!(rt; usable(track).ok(), Some(prefix));
+    }
+    Ok(())
+}
+
+#[test]
+fn unusable_tracks_are_told(rt: HostRuntime) -> Result<(), Fail> {
+    for (body, kind, id, offset) in UNUSABLE {
+        let tracks = read_tracks(rt.alloc(), &tracks_of(rt.alloc(), body)?)?;
+        let track = tracks.get(0).ok_or("the first")?;
+        let damage = match usable(track) {
+            Err(damage) => Some((damage.kind, damage.id, damage.offset)),
+            Ok(_) => None,
         };
         assert_eq!(rt; damage, Some((kind, id, offset)));
     }

@@ -6,6 +6,7 @@ ghost use Rattle.track_format.specs.Entry.{entries_of};
 ghost use Rattle.track_format.specs.Tracks.{AreTracks};
 ghost use Rattle.track_records.specs.Track.{track_of, tracks_of};
 ghost use Rattle.track_records.specs.Outcome.{ReadsTracks};
+ghost use Rattle.track_records.specs.Sound.{IsEntry};
 
 use crate::entry::track_of;
 use crate::refusal::refusal_of;
@@ -52,7 +53,7 @@ pub fn read_tracks(alloc: Global, tracks: &Tree) -> Result<List<Track>, TreeEnd>
     // The entries are refused exactly where they aren't tracks; those that are given are sound.
     ensures taken { IfOk result (λ list. AreTracks (entries_of tracks.now)) }
     ensures refused { IfErr result (λ end. end ≢ TreeEnd.Memory → ¬ AreTracks (entries_of tracks.now)) }
-    ensures sound { IfOk result (All (λ track. IsSound track.entry)) }
+    ensures sound { IfOk result (All (λ track. IsEntry track.entry)) }
 {
     read(alloc, tracks)
 }

@@ -7,4 +7,5 @@ pub mod PlacedLemmas
 pub mod FoundLemmas
 pub mod StandingLemmas
 pub mod ValueLemmas
+pub mod ChildLemmas
 pub mod StandardFacts

@@ -1,4 +1,5 @@
 pub mod Node
+pub mod Values
 pub mod Stored
 pub mod NormalForm
 pub mod Reading

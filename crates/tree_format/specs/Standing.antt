@@ -29,6 +29,11 @@ abbrev pub IsSound : Node → Type 0
 IsSound (leaf id at body) = ⊤
 IsSound (master id at kids) = AllStandIn id kids
 
+-- an Element of an ID, whose children stand in it
+pub record IsSoundOf (own : ℕ) (n : Node) : Type 0 where
+  pub id : id_of n ≡ own
+  pub sound : IsSound n
+
 -- ---- what is read again
 
 -- how many Elements are written

@@ -1,7 +1,7 @@
 -- A child stands in the entry, and is new or was met.
 use Rattle.std.proofs.Common.{◌≡◌, false, subst, ℕ}
 use Rattle.tree_format.specs.Standing.{StandsIn}
-use Rattle.track_format.proofs.ValueLemmas.{child-stands}
+use Rattle.tree_format.proofs.ChildLemmas.{child-stands}
 use Rattle.track_records.proofs.RefusalLemmas.{is_new_bad, bad-next, met-old, good-old}
 use Rattle.track_records.proofs.refusal.bad_value.Goals as goal
 use Rattle.track_records.proofs.refusal.bad_value.Goals.{else-not-is_met-via-then-not-is_met+else-is_bad, else-not-is_met-via-else-not-is_met}

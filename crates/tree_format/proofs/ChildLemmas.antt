@@ -1,17 +1,16 @@
--- The values of Elements that stand where the table allows them.
-use Rattle.std.proofs.Common.{◌≡◌, ℕ, zero, suc, ◌<◌, ◌==◌, eqb-true, Bool, true, false, cond, List, [], ◌∷◌, length, find, get_or, Some, sym, subst, refl, ap, ◌∙◌, arith, All}
-use Rattle.std.proofs.lemmas.List.Elements.{All-nil, All-cons, All-filter}
+-- The children of a sound tree, and the values of those that stand where the table allows them.
+use Rattle.std.proofs.Common.{◌≡◌, ℕ, zero, suc, ◌<◌, ◌≤◌, ◌==◌, eqb-true, Bool, true, false, cond, List, [], ◌∷◌, length, find, get_or, Some, sym, subst, refl, ap, ◌∙◌, arith, All}
+use Rattle.std.proofs.lemmas.Bool.Decides.{nat_tests}
+use Rattle.std.proofs.lemmas.List.Elements.{All-nil, All-cons}
 use Rattle.std.proofs.lemmas.Str.{IsUtf8-nil, is_utf8-from_IsUtf8}
-use Rattle.mkv_schema.specs.declared.ids.TheConstants.{TRACK_ENTRY}
 use Rattle.mkv_schema.specs.declared.kind.ElementKind.{ElementKind}
 use Rattle.mkv_schema.specs.declared.kind.ElementKind.TheVariants.{Master, Uint, Int, Float, Ascii, Utf8, Date, Binary}
 use Rattle.mkv_schema.specs.Schema.{kind_of, may_stand}
 use Rattle.matroska_format.specs.Value.{is_value}
 use Rattle.tree_format.specs.Node.{Node, Nodes, leaf, master, nodes_of, id_of, body_of, children}
-use Rattle.tree_format.specs.Standing.{StandsIn, AllStandIn, IsSound}
+use Rattle.tree_format.specs.Standing.{StandsIn, AllStandIn, IsSound, IsSoundOf}
 use Rattle.tree_format.proofs.NodeLemmas.{nodes-list}
-use Rattle.track_format.specs.Value.{first_child}
-use Rattle.track_format.specs.Entry.{entries_of}
+use Rattle.tree_format.specs.Values.{first_child, HasUint}
 
 -- no octets are a value of every kind
 value-nil : (kind : ElementKind) → is_value kind [] ≡ true
@@ -62,17 +61,38 @@ pub stands-sound : (parent : ℕ) (n : Node) → StandsIn parent n → IsSound n
 stands-sound parent (leaf id at body) stands = tt
 stands-sound parent (master id at kids) stands = stands.1
 
--- the first child of an ID that the table has in a sound tree has a value of its kind
+-- the first child of an ID stands in a sound tree
+first_child-stands : (tree n : Node) (id : ℕ) → IsSound tree → first_child id tree ≡ Some n → StandsIn (id_of tree) n × (id_of n ≡ id)
+first_child-stands tree n id sound found =
+    let there = stand-find (id_of tree) (λ m. id_of m == id) (children tree) n (sound-stand tree sound) found in
+    (there.0, eqb-true (id_of n) id there.1)
+
+-- so it is sound
+pub first_child-sound : (tree n : Node) (id : ℕ) → IsSound tree → first_child id tree ≡ Some n → IsSoundOf id n
+first_child-sound tree n id sound found =
+    let there = first_child-stands tree n id sound found in
+    record { id = there.1; sound = stands-sound (id_of tree) n there.0 }
+
+-- where the table has its ID, it has a value of its kind
 pub first_child-value : (tree n : Node) (id : ℕ) (kind : ElementKind) → IsSound tree → may_stand id (id_of tree) ≡ true → kind_of id ≡ Some kind → first_child id tree ≡ Some n → is_value kind (body_of n) ≡ true
 first_child-value tree n id kind sound may is found =
-    let there = stand-find (id_of tree) (λ m. id_of m == id) (children tree) n (sound-stand tree sound) found in
-    let same : id_of n ≡ id = eqb-true (id_of n) id there.1 in
-    stands-value (id_of tree) kind n there.0 (ap (λ k. may_stand k (id_of tree)) same ∙ may) (ap kind_of same ∙ is)
+    let there = first_child-stands tree n id sound found in
+    stands-value (id_of tree) kind n there.0 (ap (λ k. may_stand k (id_of tree)) there.1 ∙ may) (ap kind_of there.1 ∙ is)
 
--- the children of a sound tree are sound, and so are its TrackEntries
+-- a parent is told by its ID
+pub HasUint-of : (parent id : ℕ) (n : Node) → IsSoundOf parent n → HasUint parent id → HasUint (id_of n) id
+HasUint-of parent id n is uint = let P : ℕ → Type 0 = λ p. HasUint p id in subst P (sym is.id) uint
+
+-- an unsigned integer has at most eight octets
+pub first_child-short : (tree n : Node) (id : ℕ) → IsSound tree → HasUint (id_of tree) id → first_child id tree ≡ Some n → length (body_of n) ≤ 8
+first_child-short tree n id sound uint found =
+    let value : is_value Uint (body_of n) ≡ true = first_child-value tree n id Uint sound uint.stands uint.kind found in
+    grind (arith, nat_tests)
+
+-- the children of a sound tree are sound
 all-sound : (parent : ℕ) (ns : List Node) → AllStandIn parent (nodes_of ns) → All IsSound ns
 all-sound parent [] stand = All-nil IsSound
 all-sound parent (n ∷ ns) stand = All-cons IsSound n ns (stands-sound parent n stand.0) (all-sound parent ns stand.1)
 
-pub entries-sound : (tracks : Node) → IsSound tracks → All IsSound (entries_of tracks)
-entries-sound tracks sound = All-filter (λ n. id_of n == TRACK_ENTRY) IsSound (children tracks) (all-sound (id_of tracks) (children tracks) (sound-stand tracks sound))
+pub children-sound : (tree : Node) → IsSound tree → All IsSound (children tree)
+children-sound tree sound = all-sound (id_of tree) (children tree) (sound-stand tree sound)

@@ -1,0 +1,56 @@
+-- Where the scale of an Info and that of its file come from.
+use Rattle.std.proofs.Common.{◌≡◌, ◌<◌, ℕ, ◌==◌, Bool, true, false, not, List, Option, Some, None, Ok, refl, ap, ◌∙◌, arith, unwrap_or}
+use Rattle.std.specs.Option.{option_map, option_and_then}
+use Rattle.std.proofs.lemmas.Bool.Decides.{nat_tests}
+use Rattle.mkv_schema.specs.declared.ids.TheConstants.{INFO, TIMESTAMP_SCALE}
+use Rattle.mkv_schema.specs.Table.{table}
+use Rattle.mkv_schema.specs.Schema.{entry_of, uint_default}
+use Rattle.mkv_values.specs.declared.damage.Damage.{Damage}
+use Rattle.mkv_values.specs.declared.damage.Kind.TheVariants.{BadValue}
+use Rattle.matroska_format.specs.declared.element.Header.{Header}
+use Rattle.matroska_format.specs.Element.{damage}
+use Rattle.matroska_format.specs.Outline.{segment_run, where_it}
+use Rattle.matroska_format.specs.Value.{first_of}
+use Rattle.tree_format.specs.Node.{Node, offset_of}
+use Rattle.tree_format.specs.Values.{first_child, integer_of, HasUint}
+use Rattle.meta_format.specs.Info.{scale_of, info_refusal, default_scale, info_tree, scale_in, file_scale}
+
+-- ---- what the table has in an Info
+
+pub default : unwrap_or (uint_default TIMESTAMP_SCALE) 0 ≡ default_scale
+unfolding entry_of table
+default = refl
+
+pub timestamp_scale : HasUint INFO TIMESTAMP_SCALE
+unfolding entry_of table
+timestamp_scale = record { stands = refl; kind = refl }
+
+-- ---- an Info
+
+pub scale-none : (info : Node) → first_child TIMESTAMP_SCALE info ≡ None → scale_of info ≡ default_scale
+scale-none info found = ap (λ o. unwrap_or (option_map integer_of o) (unwrap_or (uint_default TIMESTAMP_SCALE) 0)) found ∙ default
+
+-- a scale that isn't refused isn't 0
+pub scale-some : (info : Node) → info_refusal info ≡ None → 0 < scale_of info
+scale-some info none = split (first_child TIMESTAMP_SCALE info) none
+  where
+    passes : (b : Bool) (d : Damage) → where_it (not b) d ≡ None → b ≡ true
+    passes true d is = refl
+    passes false d is = absurd (cc)
+
+    split : (o : Option Node) → option_and_then (λ n. where_it (not (not (integer_of n == 0))) (damage BadValue TIMESTAMP_SCALE (offset_of n))) o ≡ None
+        → 0 < unwrap_or (option_map integer_of o) (unwrap_or (uint_default TIMESTAMP_SCALE) 0)
+    split None none = rw default (omega arith)
+    split (Some n) none =
+        let is : not (integer_of n == 0) ≡ true = passes _ _ none in
+        grind (arith, nat_tests)
+
+-- ---- a file
+
+pub file_scale-none : (bytes : List ℕ) (segment : Header) → first_of INFO (segment_run bytes segment).list ≡ None → file_scale bytes segment ≡ default_scale
+unfolding file_scale
+file_scale-none bytes segment none = rw none refl
+
+pub file_scale-some : (bytes : List ℕ) (segment h : Header) (info : Node) → first_of INFO (segment_run bytes segment).list ≡ Some h → info_tree bytes h ≡ Ok info → file_scale bytes segment ≡ scale_of info
+unfolding file_scale
+file_scale-some bytes segment h info first tree = rw first (ap scale_in tree)

@@ -1,0 +1,4 @@
+#![tactic(auto)]
+
+//! What describes a file: its Info, as RFC 9559, section 5.1.2 (Info Element), has it. The definitions,
+//! which the crates above cite, stand in `specs/`.

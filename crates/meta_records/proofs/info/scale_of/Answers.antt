@@ -1,0 +1,11 @@
+-- A scale is an integer of the table.
+use Rattle.std.proofs.Common.{sym}
+use Rattle.tree_format.proofs.ChildLemmas.{HasUint-of, first_child-short}
+use Rattle.meta_format.proofs.InfoLemmas.{timestamp_scale, scale-none}
+use Rattle.meta_records.proofs.info.scale_of.Goals as goal
+
+pub uint-requires : goal.uint-requires
+uint-requires c = first_child-short _ _ _ c.requires.sound (HasUint-of _ _ _ c.requires timestamp_scale) (sym c.in-Some.ensures.exact)
+
+pub returns-in-None : goal.returns-in-None
+returns-in-None c = sym (scale-none c.args.info.now (sym c.in-None.ensures.exact))

@@ -1,0 +1,71 @@
+//! The values of an Info: RFC 9559, section 5.1.2 (Info Element).
+
+ghost use Rattle.std.specs.Prelude.{◌≡◌, ◌<◌, ℕ, List, Some, Ok, IfOk};
+ghost use Rattle.mkv_schema.specs.declared.ids.TheConstants.{INFO as INFO_ID};
+ghost use Rattle.matroska_format.specs.declared.element.Header.{Header};
+ghost use Rattle.matroska_format.specs.Outline.{segment_run};
+ghost use Rattle.matroska_format.specs.Value.{first_of};
+ghost use Rattle.tree_format.specs.Standing.{IsSoundOf};
+ghost use Rattle.meta_format.specs.Info.{scale_of, info_refusal, info_tree, file_scale};
+ghost use Rattle.meta_records.specs.Info.{info_of};
+
+use ebml_tree::Tree;
+use mkv_schema::ids::TIMESTAMP_SCALE;
+use mkv_values::{Damage, Kind};
+
+/// The TimestampScale that stands for one that is missing.
+const DEFAULT_SCALE: u64 = 1_000_000;
+
+/// What an Info says of its file (RFC 9559, section 5.1.2, Info Element).
+#[derive(Clone, Copy, Debug, PartialEq, Eq)]
+pub struct Info {
+    /// Nanoseconds a tick, at least 1.
+    pub scale: u64,
+}
+
+// Nanoseconds a tick.
+fn scale_of(info: &Tree) -> u64
+    requires { IsSoundOf INFO_ID info.now }
+    ensures { result ≡ scale_of info.now }
+{
+    match info.child(TIMESTAMP_SCALE) {
+        Some(scale) => scale.uint(),
+        None => DEFAULT_SCALE,
+    }
+}
+
+// A TimestampScale of 0.
+fn refusal_of(info: &Tree) -> Option<Damage>
+    requires { IsSoundOf INFO_ID info.now }
+    ensures { result ≡ info_refusal info.now }
+{
+    let scale = info.child(TIMESTAMP_SCALE)?;
+    if scale.uint() > 0 {
+        return None;
+    }
+    Some(Damage {
+        kind: Kind::BadValue,
+        id: TIMESTAMP_SCALE,
+        offset: scale.offset(),
+    })
+}
+
+/// The values of an Info, whose tree is sound where it was parsed; or `BadValue` at its TimestampScale,
+/// where that is 0. An empty one is 1,000,000, as one that is missing.
+pub fn read_info(info: &Tree) -> Result<Info, Damage>
+    requires { IsSoundOf INFO_ID info.now }
+    ensures exact { result ≡ info_of info.now }
+    ensures some { IfOk result (λ values. 0 < values.scale) }
+
+    // The scale of the first Info of a file is the file's.
+    ensures file { (bytes : List ℕ) (segment h : Header)
+        → first_of INFO_ID (segment_run bytes segment).list ≡ Some h → info_tree bytes h ≡ Ok info.now
+        → IfOk result (λ values. values.scale ≡ file_scale bytes segment) }
+{
+    match refusal_of(info) {
+        Some(damage) => Err(damage),
+        None => Ok(Info {
+            scale: scale_of(info),
+        }),
+    }
+}

@@ -1,0 +1,166 @@
+//! Whether a track's frames can be used: RFC 9559, section 5.1.4 (Tracks Element), ContentEncodings and
+//! TrackTimestampScale.
+
+ghost use Rattle.std.specs.Prelude.{◌≡◌, ◌≤◌, length, IfOk};
+ghost use Rattle.mkv_schema.specs.declared.ids.TheConstants.{CONTENT_ENCODINGS as ENCODINGS_ID, CONTENT_ENCODING as ENCODING_ID};
+ghost use Rattle.matroska_format.specs.Outline.{first_damage};
+ghost use Rattle.tree_format.specs.Standing.{IsSoundOf};
+ghost use Rattle.track_format.specs.Encoding.{algorithm_of, settings_of, most_stripped, strips_headers, encodings_of, can_be_undone, is_one, bad_encoding, bad_scale, usable_causes, prefix_of, usable_prefix};
+ghost use Rattle.track_records.specs.Sound.{IsEntry};
+ghost use Rattle.track_records.specs.Outcome.{lent};
+
+use crate::entry::uint_in;
+use crate::track::Track;
+use ebml_tree::Tree;
+use mkv_schema::ids::{
+    CONTENT_COMP_ALGO, CONTENT_COMP_SETTINGS, CONTENT_COMPRESSION, CONTENT_ENCODING,
+    CONTENT_ENCODING_SCOPE, CONTENT_ENCODING_TYPE, CONTENT_ENCODINGS, TRACK_TIMESTAMP_SCALE,
+};
+use mkv_values::{Damage, Kind};
+
+/// The ContentEncodingScope of what encodes frames and nothing else.
+const FRAMES: u64 = 1;
+
+/// The ContentEncodingType of compression.
+const COMPRESSION: u64 = 0;
+
+/// The ContentCompAlgo of zlib, which stands for one that is missing.
+const ZLIB: u64 = 0;
+
+/// The ContentCompAlgo of header stripping.
+const HEADER_STRIPPING: u64 = 3;
+
+/// The most octets that are put back in front of a frame.
+const MOST_STRIPPED: usize = 4096;
+
+/// 1.0 as a float of four and of eight octets (RFC 8794, section 7.3, Float Element).
+const ONE_IN_4: [u8; 4] = [0x3F, 0x80, 0, 0];
+
+const ONE_IN_8: [u8; 8] = [0x3F, 0xF0, 0, 0, 0, 0, 0, 0];
+
+// ---- one ContentEncoding
+
+fn algorithm_of(encoding: &Tree) -> u64
+    requires { IsSoundOf ENCODING_ID encoding.now }
+    ensures { result ≡ algorithm_of encoding.now }
+{
+    match encoding.child(CONTENT_COMPRESSION) {
+        Some(compression) => uint_in(compression, CONTENT_COMP_ALGO),
+        None => ZLIB,
+    }
+}
+
+fn settings_of(encoding: &Tree) -> &[u8]
+    ensures { result.now ≡ settings_of encoding.now }
+{
+    let Some(compression) = encoding.child(CONTENT_COMPRESSION) else {
+        return &[];
+    };
+    match compression.child(CONTENT_COMP_SETTINGS) {
+        Some(settings) => settings.body(),
+        None => &[],
+    }
+}
+
+// Frames alone are compressed, by header stripping, and not too many octets were taken.
+#[tactic(auto, using(crate::proofs::EntryLemmas::known))]
+fn strips_headers(encoding: &Tree) -> bool
+    requires { IsSoundOf ENCODING_ID encoding.now }
+    ensures { result ≡ strips_headers encoding.now }
+{
+    uint_in(encoding, CONTENT_ENCODING_SCOPE) == FRAMES
+        && uint_in(encoding, CONTENT_ENCODING_TYPE) == COMPRESSION
+        && algorithm_of(encoding) == HEADER_STRIPPING
+        && settings_of(encoding).len() <= MOST_STRIPPED
+}
+
+// ---- a track
+
+fn can_be_undone(encodings: &Tree) -> bool
+    requires { IsSoundOf ENCODINGS_ID encodings.now }
+    ensures { result ≡ can_be_undone (encodings_of encodings.now) }
+{
+    match encodings.child(CONTENT_ENCODING) {
+        None => true,
+        Some(encoding) => match encodings.nth(CONTENT_ENCODING, 1) {
+            None => strips_headers(encoding),
+            Some(_) => false,
+        },
+    }
+}
+
+// The first ContentEncodings, where it can't be undone.
+fn bad_encoding(entry: &Tree) -> Option<Damage>
+    requires { IsEntry entry.now }
+    ensures { result ≡ bad_encoding entry.now }
+{
+    let encodings = entry.child(CONTENT_ENCODINGS)?;
+    if can_be_undone(encodings) {
+        return None;
+    }
+    Some(Damage {
+        kind: Kind::Encoding,
+        id: CONTENT_ENCODINGS,
+        offset: encodings.offset(),
+    })
+}
+
+// An empty float, or 1.0.
+fn is_one(octets: &[u8]) -> bool
+    ensures { result ≡ is_one octets.now }
+{
+    octets.is_empty() || octets == ONE_IN_4.as_slice() || octets == ONE_IN_8.as_slice()
+}
+
+// The first TrackTimestampScale, where it isn't 1.
+fn bad_scale(entry: &Tree) -> Option<Damage>
+    ensures { result ≡ bad_scale entry.now }
+{
+    let scale = entry.child(TRACK_TIMESTAMP_SCALE)?;
+    if is_one(scale.body()) {
+        return None;
+    }
+    Some(Damage {
+        kind: Kind::TrackScale,
+        id: TRACK_TIMESTAMP_SCALE,
+        offset: scale.offset(),
+    })
+}
+
+// What keeps a track's frames from being used.
+fn cause_of(entry: &Tree) -> Option<Damage>
+    requires { IsEntry entry.now }
+    ensures { result ≡ first_damage (usable_causes entry.now) }
+{
+    bad_encoding(entry).or(bad_scale(entry))
+}
+
+// What header stripping took from the front of each frame.
+fn prefix_of(entry: &Tree) -> &[u8]
+    ensures { result.now ≡ prefix_of entry.now }
+{
+    let Some(encodings) = entry.child(CONTENT_ENCODINGS) else {
+        return &[];
+    };
+    match encodings.child(CONTENT_ENCODING) {
+        Some(encoding) => settings_of(encoding),
+        None => &[],
+    }
+}
+
+/// The octets to put back in front of each frame of a track, none where nothing was taken; or what keeps
+/// its frames from being used. A track that was read has a sound entry.
+///
+/// `Encoding` is told at the first ContentEncodings, where it holds anything but one header stripping of
+/// frames by at most 4,096 octets; `TrackScale` behind it, at the first TrackTimestampScale, where it is
+/// neither empty nor 1.
+pub fn usable(track: &Track) -> Result<&[u8], Damage>
+    requires { IsEntry track.now.entry }
+    ensures exact { lent result ≡ usable_prefix track.now.entry }
+    ensures most { IfOk result (λ prefix. length prefix.now ≤ most_stripped) }
+{
+    match cause_of(&track.entry) {
+        Some(damage) => Err(damage),
+        None => Ok(prefix_of(&track.entry)),
+    }
+}
