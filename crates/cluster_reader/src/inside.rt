@@ -4,7 +4,6 @@ ghost use Rattle.std.specs.Prelude.{◌≡◌, ◌≤◌, ◌<◌, Some, Ok, fal
 ghost use Rattle.mkv_io.specs.Faults.{HasReadCause};
 ghost use Rattle.mkv_io.specs.Told.{Told};
 ghost use Rattle.matroska_format.specs.Element.{element_at, in_master, is_unknown, stated_end};
-ghost use Rattle.matroska_format.specs.Elements.{id_of};
 ghost use Rattle.cluster_reader.specs.Left.{ends_children};
 ghost use Rattle.cluster_reader.specs.Walks.{GoesOn, IsReady, IsSameWalk, OrSame, PaysFor, Turns};
 
@@ -14,9 +13,16 @@ use crate::step::Step;
 use crate::turn::{Child, Turn};
 use crate::walk::Walk;
 use element_headers::{Header, Parent};
-use element_walks::{end_in, ends_cluster, id_of};
+use element_walks::{ends_cluster, id_of};
 use mkv_io::Reads;
 use mkv_values::ReadEnd;
+
+// Whether the children of a Cluster end before an Element of this ID.
+fn ends_children(unknown: bool, id: u32) -> bool
+    ensures { result ≡ ends_children unknown id }
+{
+    unknown && ends_cluster(id)
+}
 
 /// What the child of a Cluster at the place makes of a walk.
 pub fn turn_inside<R: Reads>(
@@ -36,11 +42,11 @@ pub fn turn_inside<R: Reads>(
 {
     let at = walk.place.at;
     if at >= cluster.end {
-        walk.place = walk.place.outside(at);
+        walk.place = walk.place.outside(cluster.end);
         return Ok(Turn::Passed);
     }
     let found = walk.element(src, Parent::Master, cluster.end)?;
-    if cluster.unknown && ends_cluster(id_of(&found)) {
+    if ends_children(cluster.unknown, id_of(&found)) {
         walk.place = walk.place.outside(at);
         return Ok(Turn::Passed);
     }
