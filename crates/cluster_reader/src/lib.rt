@@ -8,6 +8,7 @@ mod child;
 mod cursor;
 mod damages;
 mod inside;
+mod next_step;
 mod outside;
 mod place;
 mod step;
