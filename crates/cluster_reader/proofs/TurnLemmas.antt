@@ -1,18 +1,23 @@
 -- What one turn of a walk leaves of a file's blocks and damages.
-use Rattle.std.proofs.Common.{◌≡◌, ℕ, ◌<◌, ◌≤◌, Bool, true, false, not, if◌then◌else◌, List, [], ◌∷◌, Option, Some, None, Result, Ok, Err, refl, sym, ◌∙◌, ap, arith}
+use Rattle.std.proofs.Common.{◌≡◌, ℕ, ◌<◌, ◌≤◌, Bool, true, false, not, if◌then◌else◌, List, [], ◌∷◌, length, Option, Some, None, Result, Ok, Err, refl, sym, ◌∙◌, ap, arith}
 use Rattle.std.proofs.lemmas.Bool.{cond-true, cond-false}
 use Rattle.mkv_values.specs.declared.damage.Damage.{Damage}
 use Rattle.matroska_format.specs.declared.element.Header.{Header}
 use Rattle.matroska_format.specs.Element.{in_master, element_at}
 use Rattle.matroska_format.specs.Elements.{id_of, ends_cluster}
 use Rattle.block_format.specs.Elements.{Rules}
-use Rattle.block_format.specs.Events.{Event, damaged, stopped, found_at}
-use Rattle.cluster_reader.specs.Left.{left, ends_children}
-use Rattle.cluster_reader.specs.Places.{IsInCluster, behind_damage}
+use Rattle.block_format.specs.Events.{Event, damaged, stopped, found_at, events_of}
+use Rattle.cluster_reader.specs.Left.{left, left_in, ends_children}
+use Rattle.cluster_reader.specs.Places.{first_place, IsInCluster, behind_damage}
 use Rattle.cluster_reader.specs.Reading.{told}
 use Rattle.cluster_reader.specs.declared.place.Place.{Place}
 use Rattle.cluster_reader.specs.declared.place.Inside.{Inside}
 use Rattle.cluster_reader.proofs.LeftLemmas.{left-end, left-gives_way, left-child_breaks, left-child_stops, left-bad, left-bad_stops}
+
+-- at the first place of a Segment all blocks and damages are left
+pub left-first : (r : Rules) (bytes : List ℕ) (segment : Header) (total : ℕ) → total ≡ length bytes → left r bytes (first_place segment total) ≡ events_of r bytes segment
+unfolding left events_of
+left-first r bytes segment total whole = ap (λ n. left_in r bytes (first_place segment n) None) whole
 
 -- the children end before an ID that ends them, where the size is unknown
 ended : (unknown : Bool) (id : ℕ) → ends_children unknown id ≡ true → (unknown ≡ true) × (ends_cluster id ≡ true)

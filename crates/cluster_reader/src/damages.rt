@@ -36,9 +36,10 @@ impl Damages {
         ensures err { OnErr result (self.new ≡ self.old) }
     {
         if self.first.len() < MOST_TOLD {
-            return self.first.push(damage);
+            self.first.push(damage)?;
+        } else {
+            self.more = self.more.saturating_add(1);
         }
-        self.more = self.more.saturating_add(1);
         Ok(())
     }
 }

@@ -25,11 +25,7 @@ fn ends_children(unknown: bool, id: u32) -> bool
 }
 
 /// What the child of a Cluster at the place makes of a walk.
-pub fn turn_inside<R: Reads>(
-    walk: &mut Walk,
-    src: &mut R,
-    cluster: Inside,
-) -> Result<Turn, ReadEnd>
+pub fn turn_inside<R: Reads>(walk: &mut Walk, src: &mut R, cluster: Inside) -> Result<Turn, ReadEnd>
     requires ready { IsReady (R.files (R.standing src.old)) walk.old }
     requires inside { walk.old.place.cluster ≡ Some cluster }
     ensures gives { Told ((R.files (R.standing src.old)).content walk.old.file.n) (λ bytes. OrSame bytes walk.old walk.new (Turns bytes walk.old walk.new) result) }

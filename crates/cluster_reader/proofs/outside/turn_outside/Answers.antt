@@ -25,9 +25,10 @@ returns-then-ends_segment-clause-gives g c = λ bytes told.
     let kept = ap (λ (w : Walk). w.place) c.element.ensures.only in
     let stops : ends_segment p.size (id_of c.in_ok-found.found) ≡ true = cc (c.ends_segment.ensures, c.id_of.ensures, c.if-ends_segment.true, kept) in
     let moved = c.outside-walk.ensures in
-    let past : c.outside-walk.result.end ≤ c.outside-walk.result.at = omega (arith, ap (λ (q : Place). q.end) moved, ap (λ (q : Place). q.at) moved, ap (λ (q : Place). q.end) kept) in
-    (left-stops (reader c.args.walk.now.scale) bytes p c.in_ok-found.found c.requires.outside c.if-walk.false (c.in_ok-found.ensures.ok bytes told) stops,
-     left-end (reader c.element.new.self.scale) bytes c.outside-walk.result (ap (λ (q : Place). q.cluster) moved) past)
+    let past : c.outside-walk.result.end ≤ c.outside-walk.result.at = omega (arith, ap (λ (q : Place). q.end) moved, ap (λ (q : Place). q.at) moved, ap (λ (q : Place). q.end) kept) in (
+      left-stops (reader c.args.walk.now.scale) bytes p c.in_ok-found.found c.requires.outside c.if-walk.false (c.in_ok-found.ensures.ok bytes told) stops,
+      left-end (reader c.element.new.self.scale) bytes c.outside-walk.result (ap (λ (q : Place). q.cluster) moved) past,
+    )
 
 -- a Cluster is entered
 pub returns-then-header-eq-CLUSTER-clause-gives : goal.returns-then-header-eq-CLUSTER-clause-gives
