@@ -1,5 +1,5 @@
 -- What a child of a Cluster gives, by its ID and what stands before it.
-use Rattle.std.proofs.Common.{◌≡◌, ℕ, ◌+◌, ◌≤◌, ◌==◌, nat_lt, Bool, true, false, ◌&&◌, if◌then◌else◌, List, [], ◌∷◌, ◌++◌, length, take, drop, Option, Some, None, Result, Ok, Err, refl, sym, ◌∙◌, ap, subst, arith}
+use Rattle.std.proofs.Common.{◌≡◌, ℕ, ◌==◌, nat_lt, Bool, true, false, if◌then◌else◌, List, [], ◌∷◌, Option, Some, None, Result, Ok, Err, refl, sym, ◌∙◌, ap, arith}
 use Rattle.std.proofs.lemmas.Bool.{cond-true, cond-false}
 use Rattle.std.proofs.lemmas.Bool.Decides.{nat_tests}
 use Rattle.std.proofs.lemmas.List.{drop-take}
@@ -14,7 +14,7 @@ use Rattle.matroska_format.specs.Outline.{unless, and_then}
 use Rattle.block_format.specs.declared.limits.TheConstants.{MOST_TIMESTAMP}
 use Rattle.block_format.specs.Block.{Block}
 use Rattle.block_format.specs.Elements.{Rules, too_long, timestamp_or, timestamp_for, simple_block, block_group}
-use Rattle.block_format.specs.Events.{Found, found_at, timestamp_behind}
+use Rattle.block_format.specs.Events.{found_at, timestamp_behind}
 use Rattle.cluster_reader.specs.Walks.{block_found}
 
 -- ---- blocks

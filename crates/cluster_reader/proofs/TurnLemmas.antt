@@ -1,12 +1,12 @@
 -- What one turn of a walk leaves of a file's blocks and damages.
-use Rattle.std.proofs.Common.{◌≡◌, ℕ, ◌<◌, ◌≤◌, Bool, true, false, not, if◌then◌else◌, List, [], ◌∷◌, length, Option, Some, None, Result, Ok, Err, refl, sym, ◌∙◌, ap, arith}
+use Rattle.std.proofs.Common.{◌≡◌, ℕ, ◌<◌, Bool, true, false, not, List, [], ◌∷◌, length, Some, None, Result, Ok, Err, refl, sym, ◌∙◌, ap, arith}
 use Rattle.std.proofs.lemmas.Bool.{cond-true, cond-false}
 use Rattle.mkv_values.specs.declared.damage.Damage.{Damage}
 use Rattle.matroska_format.specs.declared.element.Header.{Header}
 use Rattle.matroska_format.specs.Element.{in_master, element_at}
 use Rattle.matroska_format.specs.Elements.{id_of, ends_cluster}
 use Rattle.block_format.specs.Elements.{Rules}
-use Rattle.block_format.specs.Events.{Event, damaged, stopped, found_at, events_of}
+use Rattle.block_format.specs.Events.{damaged, stopped, found_at, events_of}
 use Rattle.cluster_reader.specs.Left.{left, left_in, ends_children}
 use Rattle.cluster_reader.specs.Places.{first_place, IsInCluster, behind_damage}
 use Rattle.cluster_reader.specs.Reading.{told}

@@ -1,5 +1,5 @@
 -- Places among the Elements of a Segment, and how a walk over them moves.
-use Rattle.std.specs.Prelude.{◌≡◌, ◌≤◌, ⊤, ℕ, ◌+◌, ◌*◌, ◌-◌, Bool, true, false, if◌then◌else◌, Option, Some, None}
+use Rattle.std.specs.Prelude.{◌≡◌, ◌≤◌, ⊤, ℕ, ◌+◌, ◌*◌, ◌-◌, true, false, if◌then◌else◌, Option, Some, None}
 use Rattle.matroska_format.specs.declared.element.Header.{Header}
 use Rattle.matroska_format.specs.Element.{end_in, is_unknown}
 use Rattle.block_format.specs.Events.{is_closed}

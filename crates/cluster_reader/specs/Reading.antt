@@ -1,5 +1,5 @@
 -- A file's blocks as they are read, one after the other.
-use Rattle.std.specs.Prelude.{◌≡◌, ◌≤◌, ◌⊎◌, ⊤, ℕ, ◌+◌, ◌*◌, true, false, Bool, List, [], ◌∷◌, length, Result, Ok, Err}
+use Rattle.std.specs.Prelude.{◌≡◌, ◌≤◌, ◌⊎◌, ℕ, ◌+◌, ◌*◌, true, false, Bool, List, [], ◌∷◌, length, Result, Ok, Err}
 use Rattle.mkv_values.specs.declared.outside.FileId.{FileId}
 use Rattle.mkv_values.specs.declared.outside.ReadEnd.{ReadEnd}
 use Rattle.mkv_values.specs.declared.damage.Damage.{Damage}

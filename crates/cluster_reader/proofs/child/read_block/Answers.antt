@@ -1,4 +1,4 @@
-use Rattle.std.proofs.Common.{◌≡◌, Some, sym, ◌∙◌, ap, subst}
+use Rattle.std.proofs.Common.{sym, ◌∙◌, ap, subst}
 use Rattle.block_format.specs.Elements.{reader, simple_block, block_group}
 use Rattle.block_records.specs.Buffered.{Makes}
 use Rattle.cluster_reader.proofs.ChildLemmas.{block_found-refused, block_found-simple, block_found-group, timestamp_for-is}

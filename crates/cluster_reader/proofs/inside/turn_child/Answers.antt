@@ -1,4 +1,4 @@
-use Rattle.std.proofs.Common.{◌≡◌, ◌<◌, false, not, ◌∷◌, Some, None, Ok, sym, ◌∙◌, ap, arith}
+use Rattle.std.proofs.Common.{◌<◌, not, ◌∷◌, Some, sym, ◌∙◌, ap, arith}
 use Rattle.matroska_format.specs.Element.{end_in}
 use Rattle.block_format.specs.Elements.{reader}
 use Rattle.block_format.specs.Events.{block}
@@ -7,8 +7,6 @@ use Rattle.cluster_reader.specs.Left.{left}
 use Rattle.cluster_reader.specs.Places.{IsInCluster, behind_damage}
 use Rattle.cluster_reader.specs.Reading.{told}
 use Rattle.cluster_reader.specs.Walks.{left_of_walk}
-use Rattle.cluster_reader.specs.declared.place.Place.{Place}
-use Rattle.cluster_reader.specs.declared.place.Inside.{Inside}
 use Rattle.cluster_reader.specs.declared.walk.Walk.{Walk}
 use Rattle.cluster_reader.proofs.ChildLemmas.{block-no_timestamp}
 use Rattle.cluster_reader.proofs.LeftLemmas.{left-passes, left-block}

@@ -1,4 +1,4 @@
-use Rattle.std.proofs.Common.{◌≡◌, ℕ, true, false, not, ◌∷◌, Some, None, Ok, Err, sym, ◌∙◌, ap, arith}
+use Rattle.std.proofs.Common.{◌≡◌, true, false, not, ◌∷◌, None, Err, sym, ◌∙◌, ap, arith}
 use Rattle.matroska_format.specs.Elements.{id_of}
 use Rattle.block_format.specs.Elements.{reader}
 use Rattle.cluster_reader.specs.Left.{left, ends_children}
