@@ -1,5 +1,5 @@
 -- A file's blocks as they are read, one after the other.
-use Rattle.std.specs.Prelude.{◌≡◌, ◌≤◌, ◌⊎◌, ℕ, ◌+◌, ◌*◌, true, false, Bool, List, [], ◌∷◌, length, Result, Ok, Err}
+use Rattle.std.specs.Prelude.{◌≡◌, ◌<◌, ◌≤◌, ◌⊎◌, ℕ, ◌+◌, ◌*◌, true, false, Bool, List, [], ◌∷◌, length, Result, Ok, Err}
 use Rattle.mkv_values.specs.declared.outside.FileId.{FileId}
 use Rattle.mkv_values.specs.declared.outside.ReadEnd.{ReadEnd}
 use Rattle.mkv_values.specs.declared.damage.Damage.{Damage}
@@ -48,6 +48,12 @@ Gives bytes old new (Ok Block) = left_of bytes old ≡ block (block_of new.block
 Gives bytes old new (Ok (Damaged d)) = left_of bytes old ≡ told new.stopped d ∷ left_of bytes new
 Gives bytes old new (Ok End) = (left_of bytes old ≡ []) × (left_of bytes new ≡ [])
 Gives bytes old new (Err end) = left_of bytes new ≡ left_of bytes old
+
+-- The place goes on past what is given.
+abbrev pub GoesOn : Step → ℕ → ℕ → Type 0
+GoesOn Block old new = old < new
+GoesOn (Damaged d) old new = old < new
+GoesOn End old new = old ≤ new
 
 -- the blocks and the damages that were given
 pub record HasGiven (old new : Reading) (more_blocks more_damages : ℕ) : Type 0 where

@@ -7,13 +7,12 @@ use Rattle.mkv_io.specs.LiveFiles.{LiveFiles}
 use Rattle.mkv_io.specs.Told.{Told}
 use Rattle.matroska_format.specs.declared.element.Header.{Header}
 use Rattle.element_window.specs.Window.{Holds, IsBefore, cost_of}
-use Rattle.block_format.specs.Block.{Block as ABlock}
 use Rattle.block_format.specs.Elements.{Rules, reader, simple_block, block_group}
-use Rattle.block_format.specs.Events.{Event, block, found_at, timestamp_behind}
+use Rattle.block_format.specs.Events.{Event, Found, block, found_at, timestamp_behind}
 use Rattle.block_records.specs.Buffered.{Buffered, block_of}
 use Rattle.cluster_reader.specs.Left.{left}
 use Rattle.cluster_reader.specs.Places.{IsPlace, turns_left}
-use Rattle.cluster_reader.specs.Reading.{IsFull, told}
+use Rattle.cluster_reader.specs.Reading.{GoesOn, IsFull, told}
 use Rattle.cluster_reader.specs.declared.place.Place.{Place}
 use Rattle.cluster_reader.specs.declared.step.Step.{Step}
 use Rattle.cluster_reader.specs.declared.step.Step.TheVariants.{Block, Damaged, End}
@@ -30,7 +29,7 @@ left_of_walk bytes w = left (reader w.scale) bytes w.place
 -- ---- what a child gives
 
 -- what a SimpleBlock or a BlockGroup gives
-abbrev pub block_found : Rules → List ℕ → Option ℕ → Header → Result ABlock Damage
+abbrev pub block_found : Rules → List ℕ → Option ℕ → Header → Found
 block_found r bytes timestamp h =
     if h.id == SIMPLE_BLOCK then simple_block r bytes timestamp h else block_group r bytes timestamp h
 
@@ -55,10 +54,10 @@ abbrev pub Turns : List ℕ → Walk → Walk → Turn → Type 0
 Turns bytes old new Passed = left_of_walk bytes new ≡ left_of_walk bytes old
 Turns bytes old new (Gives step) = GivesStep bytes old new step
 
--- where an Element is passed, fewer turns are left
-abbrev pub GoesOn : Place → Place → Turn → Type 0
-GoesOn old new Passed = turns_left new < turns_left old
-GoesOn old new (Gives step) = ⊤
+-- The place goes on; where an Element is passed, fewer turns are left.
+abbrev pub TurnsOn : Place → Place → Turn → Type 0
+TurnsOn old new Passed = (turns_left new < turns_left old) × (old.at ≤ new.at)
+TurnsOn old new (Gives step) = GoesOn step old.at new.at
 
 -- what is answered stands; after a failed read or want of memory the same is left
 abbrev pub OrSame : {T : Type 0} → List ℕ → Walk → Walk → (T → Type 0) → Result T ReadEnd → Type 0

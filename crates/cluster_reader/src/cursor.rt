@@ -1,11 +1,12 @@
 //! The cursor.
 
-ghost use Rattle.std.specs.Prelude.{◌≡◌, ◌+◌, ◌*◌, ◌≤◌, ℕ, List, length, sum, IfOk};
+ghost use Rattle.std.specs.Prelude.{◌≡◌, ◌*◌, ◌≤◌, true, ℕ, List, length, sum, IfOk};
 ghost use Rattle.mkv_io.specs.Faults.{HasReadCause};
+ghost use Rattle.mkv_io.specs.LiveFiles.{LiveFiles};
 ghost use Rattle.mkv_io.specs.Told.{Told};
 ghost use Rattle.block_format.specs.Elements.{reader};
 ghost use Rattle.block_format.specs.Events.{events_of};
-ghost use Rattle.cluster_reader.specs.Reading.{Begins, Counts, Gives, IsIn, IsSameSegment, Pays, left_of, paid};
+ghost use Rattle.cluster_reader.specs.Reading.{Begins, Counts, Gives, GoesOn, IsIn, IsSameSegment, Pays, left_of, paid};
 
 use crate::next_step::next_step;
 use crate::place::Place;
@@ -60,6 +61,7 @@ impl Cursor {
         ensures begins { IfOk result (Begins file scale outline.now.segment outline.now.total) }
         ensures left { (bytes : List ℕ) → outline.now.total ≡ length bytes
             → IfOk result (λ c. left_of bytes c ≡ events_of (reader scale) bytes outline.now.segment) }
+        ensures stands { (files : LiveFiles) → files.live file.n ≡ true → files.size file.n ≡ outline.now.total → IfOk result (IsIn files) }
     {
         let walk = Walk {
             window: Window::new(alloc)?,
@@ -83,7 +85,9 @@ impl Cursor {
         ensures gives { Told ((R.files (R.standing src.old)).content self.old.file.n) (λ bytes. Gives bytes self.old self.new result) }
         ensures counts { Counts self.old self.new result }
 
-        // It stays ready for the next call, in the same file.
+        // It goes on in the same file, and stays ready for the next call.
+        ensures on { IfOk result (λ step. GoesOn step self.old.place.at self.new.place.at) }
+        ensures inside { self.new.place.at ≤ self.new.place.end }
         ensures same { IsSameSegment self.old self.new }
         ensures stands { IsIn (R.files (R.standing src.new)) self.new }
         ensures standing { R.standing src.new ≡ R.standing src.old }

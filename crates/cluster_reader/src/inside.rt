@@ -5,7 +5,7 @@ ghost use Rattle.mkv_io.specs.Faults.{HasReadCause};
 ghost use Rattle.mkv_io.specs.Told.{Told};
 ghost use Rattle.matroska_format.specs.Element.{element_at, in_master, is_unknown, stated_end};
 ghost use Rattle.cluster_reader.specs.Left.{ends_children};
-ghost use Rattle.cluster_reader.specs.Walks.{GoesOn, IsReady, IsSameWalk, OrSame, PaysFor, Turns};
+ghost use Rattle.cluster_reader.specs.Walks.{TurnsOn, IsReady, IsSameWalk, OrSame, PaysFor, Turns};
 
 use crate::child::read_child;
 use crate::place::Inside;
@@ -29,7 +29,7 @@ pub fn turn_inside<R: Reads>(walk: &mut Walk, src: &mut R, cluster: Inside) -> R
     requires ready { IsReady (R.files (R.standing src.old)) walk.old }
     requires inside { walk.old.place.cluster ≡ Some cluster }
     ensures gives { Told ((R.files (R.standing src.old)).content walk.old.file.n) (λ bytes. OrSame bytes walk.old walk.new (Turns bytes walk.old walk.new) result) }
-    ensures on { IfOk result (GoesOn walk.old.place walk.new.place) }
+    ensures on { IfOk result (TurnsOn walk.old.place walk.new.place) }
     ensures same { IsSameWalk walk.old walk.new }
     ensures ready { IsReady (R.files (R.standing src.new)) walk.new }
     ensures standing { R.standing src.new ≡ R.standing src.old }
@@ -70,7 +70,7 @@ fn turn_child<R: Reads>(
     requires found { Told ((R.files (R.standing src.old)).content walk.old.file.n) (λ bytes. Ok header.now ≡ element_at in_master bytes walk.old.place.at cluster.end) }
     requires goes { ends_children cluster.unknown header.now.id ≡ false }
     ensures gives { Told ((R.files (R.standing src.old)).content walk.old.file.n) (λ bytes. OrSame bytes walk.old walk.new (Turns bytes walk.old walk.new) result) }
-    ensures on { IfOk result (GoesOn walk.old.place walk.new.place) }
+    ensures on { IfOk result (TurnsOn walk.old.place walk.new.place) }
     ensures same { IsSameWalk walk.old walk.new }
     ensures ready { IsReady (R.files (R.standing src.new)) walk.new }
     ensures standing { R.standing src.new ≡ R.standing src.old }

@@ -3,7 +3,8 @@
 ghost use Rattle.std.specs.Prelude.{◌≡◌, IfOk};
 ghost use Rattle.mkv_io.specs.Faults.{HasReadCause};
 ghost use Rattle.mkv_io.specs.Told.{Told};
-ghost use Rattle.cluster_reader.specs.Walks.{GivesStep, GoesOn, IsReady, IsSameWalk, OrSame, PaysFor, Turns};
+ghost use Rattle.cluster_reader.specs.Reading.{GoesOn};
+ghost use Rattle.cluster_reader.specs.Walks.{GivesStep, IsReady, IsSameWalk, OrSame, PaysFor, Turns, TurnsOn};
 
 use crate::inside::turn_inside;
 use crate::outside::turn_outside;
@@ -17,6 +18,7 @@ use mkv_values::ReadEnd;
 pub fn next_step<R: Reads>(walk: &mut Walk, src: &mut R) -> Result<Step, ReadEnd>
     requires { IsReady (R.files (R.standing src.old)) walk.old }
     ensures gives { Told ((R.files (R.standing src.old)).content walk.old.file.n) (λ bytes. OrSame bytes walk.old walk.new (GivesStep bytes walk.old walk.new) result) }
+    ensures on { IfOk result (λ step. GoesOn step walk.old.place.at walk.new.place.at) }
     ensures same { IsSameWalk walk.old walk.new }
     ensures ready { IsReady (R.files (R.standing src.new)) walk.new }
     ensures standing { R.standing src.new ≡ R.standing src.old }
@@ -35,7 +37,7 @@ pub fn next_step<R: Reads>(walk: &mut Walk, src: &mut R) -> Result<Step, ReadEnd
 fn turn<R: Reads>(walk: &mut Walk, src: &mut R) -> Result<Turn, ReadEnd>
     requires { IsReady (R.files (R.standing src.old)) walk.old }
     ensures gives { Told ((R.files (R.standing src.old)).content walk.old.file.n) (λ bytes. OrSame bytes walk.old walk.new (Turns bytes walk.old walk.new) result) }
-    ensures on { IfOk result (GoesOn walk.old.place walk.new.place) }
+    ensures on { IfOk result (TurnsOn walk.old.place walk.new.place) }
     ensures same { IsSameWalk walk.old walk.new }
     ensures ready { IsReady (R.files (R.standing src.new)) walk.new }
     ensures standing { R.standing src.new ≡ R.standing src.old }
