@@ -4,7 +4,9 @@
 //! again, and what they spell (RFC 9559, section 10, Cluster Blocks).
 
 mod buffer;
+mod content;
 mod head;
+mod time;
 
 pub use block_format::MOST_OF_BLOCK;
 pub use buffer::BlockBuffer;
