@@ -1,1 +1,3 @@
 pub mod ContentLemmas
+pub mod GroupLemmas
+pub mod RunLemmas

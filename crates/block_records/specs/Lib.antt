@@ -1,3 +1,4 @@
 pub mod Buffered
+pub mod Group
 pub mod Spelled
 pub mod Time

@@ -5,6 +5,7 @@
 
 mod buffer;
 mod content;
+mod gathered;
 mod head;
 mod time;
 
