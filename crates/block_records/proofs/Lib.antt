@@ -1,3 +1,4 @@
 pub mod ContentLemmas
 pub mod GroupLemmas
 pub mod RunLemmas
+pub mod TimeLemmas

@@ -24,16 +24,11 @@ abbrev pub Cuts : List ℕ → List ℕ → Result (List (List ℕ)) Kind → Re
 Cuts octets sizes found (Ok start) = (found ≡ Ok (frames_cut sizes (drop start octets))) × AreFrames octets sizes start
 Cuts octets sizes found (Err kind) = found ≡ Err kind
 
--- a header and frames as a content
-abbrev pub content_of : Spelled → List ℕ → List ℕ → Content
-content_of s octets sizes = record {
-  track = s.track;
-  relative = s.relative;
-  flags = s.flags;
-  frames = frames_cut sizes (drop s.start octets);
-}
+-- what was read, and frames, as a content
+abbrev pub content_of : Spelled → List (List ℕ) → Content
+content_of s frames = record { track = s.track; relative = s.relative; flags = s.flags; frames = frames }
 
 -- what octets spell, or why they are no block
 abbrev pub Spells : List ℕ → List ℕ → Result Spelled Kind → Type 0
-Spells octets sizes (Ok s) = (content_in octets ≡ Ok (content_of s octets sizes)) × AreFrames octets sizes s.start
+Spells octets sizes (Ok s) = (content_in octets ≡ Ok (content_of s (frames_cut sizes (drop s.start octets)))) × AreFrames octets sizes s.start
 Spells octets sizes (Err kind) = content_in octets ≡ Err kind

@@ -3,6 +3,7 @@
 //! One block of a Cluster: the octets of a SimpleBlock or a BlockGroup, read once into a buffer that is used
 //! again, and what they spell (RFC 9559, section 10, Cluster Blocks).
 
+mod block;
 mod buffer;
 mod content;
 mod gathered;
