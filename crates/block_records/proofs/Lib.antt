@@ -1,4 +1,5 @@
 pub mod ContentLemmas
 pub mod GroupLemmas
+pub mod MadeLemmas
 pub mod RunLemmas
 pub mod TimeLemmas
