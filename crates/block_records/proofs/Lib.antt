@@ -1,3 +1,4 @@
+pub mod BufferLemmas
 pub mod ContentLemmas
 pub mod GroupLemmas
 pub mod MadeLemmas

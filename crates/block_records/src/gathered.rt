@@ -75,7 +75,8 @@ fn part_of(id: u32) -> Part
 impl Gathered {
     /// Nothing. It takes no memory.
     pub fn new(alloc: Global) -> Gathered
-        ensures { (bytes : List ℕ) → Gathers bytes [] result }
+        ensures exact { (bytes : List ℕ) → Gathers bytes [] result }
+        ensures kept { result.kept.items ≡ [] }
     {
         Gathered {
             block: None,
@@ -90,6 +91,7 @@ impl Gathered {
     pub fn clear(&mut self)
         ensures exact { (bytes : List ℕ) → Gathers bytes [] self.new }
         ensures block { self.new.block ≡ None }
+        ensures references { self.new.references.items ≡ [] }
         ensures kept { self.new.kept.items ≡ [] }
     {
         self.block = None;

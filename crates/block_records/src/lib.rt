@@ -4,6 +4,7 @@
 //! again, and what they spell (RFC 9559, section 10, Cluster Blocks).
 
 mod block;
+mod body;
 mod buffer;
 mod content;
 mod gathered;
