@@ -1,5 +1,5 @@
 -- A block as its buffer has it.
-use Rattle.std.proofs.Common.{◌≡◌, ℕ, ◌+◌, ◌-◌, ◌<◌, ◌≤◌, nat_lt, Bool, true, false, ℤ, List, [], ◌∷◌, length, take, drop, Option, Some, None, Result, Ok, Err, refl, sym, ◌∙◌, ap, ap₂, arith}
+use Rattle.std.proofs.Common.{◌≡◌, ℕ, ◌+◌, ◌-◌, ◌<◌, ◌≤◌, nat_lt, Bool, true, false, ℤ, List, [], ◌∷◌, length, take, drop, Option, Some, None, Result, Ok, Err, refl, sym, ◌∙◌, ap, ap₂, subst, arith}
 use Rattle.std.proofs.lemmas.Bool.Decides.{nat_tests}
 use Rattle.std.proofs.lemmas.List.{drop-drop, drop-take, take-take}
 use Rattle.mkv_schema.specs.declared.ids.TheConstants.{BLOCK}
@@ -7,14 +7,19 @@ use Rattle.mkv_values.specs.declared.damage.Damage.{Damage}
 use Rattle.mkv_values.specs.declared.damage.Kind.{Kind}
 use Rattle.mkv_values.specs.declared.damage.Kind.TheVariants.{BlockTooLarge, MissingChild}
 use Rattle.matroska_format.specs.declared.element.Header.{Header}
-use Rattle.matroska_format.specs.Element.{known, stated_end, damage, octets_between}
+use Rattle.matroska_format.specs.Element.{in_master, known, stated_end, damage, octets_between}
+use Rattle.matroska_format.specs.Elements.{children_in}
 use Rattle.matroska_format.specs.Outline.{and_then, unless, where_it}
 use Rattle.matroska_format.specs.Value.{body_of, first_of}
+use Rattle.element_bodies.specs.Body.{IsBody}
+use Rattle.element_bodies.proofs.BodyLemmas.{IsBody-part}
 use Rattle.block_format.specs.declared.limits.TheConstants.{MOST_OF_BLOCK}
 use Rattle.block_format.specs.Content.{Content, content_in, frames_cut}
 use Rattle.block_format.specs.Block.{Block, simple_block_with}
 use Rattle.block_format.specs.Elements.{reader, told_of, in_time, simple_block, block_group, group_run, group_refusal, group_among, block_or, group_with, too_many_references, timestamp_or}
 use Rattle.block_records.specs.declared.head.BlockHead.{BlockHead}
+use Rattle.block_records.specs.declared.gathered.Gathered.{Gathered}
+use Rattle.block_records.specs.Group.{GathersRun}
 use Rattle.block_records.specs.Made.{block_with}
 
 -- ---- a SimpleBlock that isn't too long
@@ -95,3 +100,24 @@ pub same-block : (head : BlockHead) (sizes body octets : List ℕ) (references r
 same-block head sizes body octets references refs kept keeps same_body same_references same_kept =
     ap (λ o. Ok (block_with head (frames_cut sizes o) references kept)) same_body
     ∙ ap₂ (λ r k. Ok (block_with head (frames_cut sizes octets) r k)) same_references same_kept
+
+-- ---- the body of a group
+
+-- octets that are a group's body
+pub IsBody-held : (bytes : List ℕ) (total : ℕ) (h : Header) (body : List ℕ) → length bytes ≡ total → body ≡ body_of bytes h → length body ≡ known h.size → stated_end h ≤ total → IsBody bytes h.body total body
+IsBody-held bytes total h body whole is count within =
+    let end : stated_end h ≡ h.body + length body = omega arith in
+    record { whole = whole; within = omega arith; octets = is ∙ ap (octets_between bytes h.body) end }
+
+-- what is gathered of it is what is gathered of the group's children
+pub GathersRun-held : (bytes : List ℕ) (h : Header) (body : List ℕ) (g : Gathered) (found : Result (Unit {0}) Damage) → length body ≡ known h.size → GathersRun bytes (children_in in_master bytes h.body (h.body + length body)) g found → GathersRun bytes (group_run bytes h) g found
+GathersRun-held bytes h body g found count gathers =
+    let end : h.body + length body ≡ stated_end h = omega arith in
+    subst (λ (e : ℕ). GathersRun bytes (children_in in_master bytes h.body e) g found) end gathers
+
+-- the octets of a Block's body
+pub Block-held : (bytes : List ℕ) (base total : ℕ) (body : List ℕ) (block : Header) (start end : ℕ) → IsBody bytes base total body → base ≤ block.body → stated_end block ≤ base + length body → start ≡ block.body - base → end ≡ start + known block.size → take (end - start) (drop start body) ≡ body_of bytes block
+Block-held bytes base total body block start end is from within start_is end_is =
+    let count : end - start ≡ known block.size = omega arith in
+    ap (λ n. take n (drop start body)) count ∙ ap (λ n. take (known block.size) (drop n body)) start_is
+    ∙ IsBody-part bytes base total body block is from within
