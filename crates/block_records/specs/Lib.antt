@@ -1,1 +1,5 @@
 pub mod Buffered
+pub mod Group
+pub mod Made
+pub mod Spelled
+pub mod Time

@@ -9,15 +9,19 @@ ghost use Rattle.element_window.specs.Window.{Holds};
 ghost use Rattle.block_format.specs.Elements.{reader, simple_block, block_group};
 ghost use Rattle.block_records.specs.Buffered.{Makes};
 
+use crate::block::{group_head, simple_head};
+use crate::body::read_body;
+use crate::content::spell;
+use crate::gathered::Gathered;
 use crate::head::BlockHead;
-use arrayvec::ArrayVec;
 use block_format::MOST_OF_BLOCK;
 use element_bodies::known;
 use element_headers::Header;
 use element_window::Window;
 use lacing::Lace;
 use mkv_io::Reads;
-use mkv_values::{Damage, FileId, ReadEnd};
+use mkv_schema::ids::BLOCK;
+use mkv_values::{Damage, FileId, Kind, ReadEnd};
 use smallvec::SmallVec;
 use std::alloc::{AllocError, Global};
 use std::marker::Model;
@@ -34,8 +38,8 @@ pub struct BlockBuffer {
     start: usize,
     end: usize,
     sizes: SmallVec<u32, 8, Global>,
-    references: ArrayVec<i64, 64>,
-    kept: Vec<u8>,
+    // what a group's children say besides; of a SimpleBlock nothing
+    gathered: Gathered,
 }
 
 impl Model for BlockBuffer {
@@ -49,13 +53,13 @@ impl Model for BlockBuffer {
       head = b.head;
       body = take (b.end - b.start) (drop b.start b.octets.items);
       sizes = b.sizes.items;
-      references = b.references.items;
-      kept = b.kept.items;
+      references = b.gathered.references.items;
+      kept = b.gathered.kept.items;
     } };
 
     ghost invariant = { λ b. (b.len ≤ length b.octets.items) × (length b.octets.items ≤ 33554432)
         × (b.start ≤ b.end) × (b.end ≤ length b.octets.items) × (sum b.sizes.items ≡ b.end - b.start)
-        × (length b.sizes.items ≤ 256) × (length b.references.items ≤ 64) × (length b.kept.items ≤ 33554432) };
+        × (length b.sizes.items ≤ 256) × (length b.gathered.kept.items ≤ 33554432) };
 }
 
 impl BlockBuffer {
@@ -80,8 +84,7 @@ impl BlockBuffer {
             start: 0,
             end: 0,
             sizes: SmallVec::new(alloc),
-            references: ArrayVec::new(),
-            kept: Vec::new(alloc),
+            gathered: Gathered::new(alloc),
         }
     }
 
@@ -106,7 +109,28 @@ impl BlockBuffer {
         ensures octets { R.octets_read src.new ≤ R.octets_read src.old + known header.now.size }
         ensures memory { IsErrOf result ReadEnd.Memory → R.octets_read src.new ≡ R.octets_read src.old }
     {
-        Err(ReadEnd::Memory)
+        self.forget();
+        self.len = 0;
+        let len = known(header.size) as usize;
+        if self.octets.len() < len {
+            self.octets.resize(len, 0)?;
+        }
+        read_body(window, src, file, header, &mut self.octets)?;
+        self.len = len;
+        Ok(())
+    }
+
+    // What the block before spelled isn't lent any more. The memory stays.
+    fn forget(&mut self)
+        ensures octets { self.new.octets ≡ self.old.octets }
+        ensures sizes { self.new.sizes ≡ [] }
+        ensures references { self.new.references ≡ [] }
+        ensures kept { self.new.kept ≡ [] }
+    {
+        self.start = 0;
+        self.end = 0;
+        self.sizes.clear();
+        self.gathered.clear();
     }
 
     /// What the octets spell of a SimpleBlock with this header, in a Cluster whose Timestamp is so many
@@ -123,7 +147,26 @@ impl BlockBuffer {
         ensures exact { IfOk result (λ found. (bytes : List ℕ) → self.old.octets ≡ body_of bytes header.now
             → Makes found self.new (simple_block (reader scale) bytes (Some timestamp) header.now)) }
     {
-        Err(AllocError)
+        self.forget();
+        let spelled = match spell(&self.octets[..self.len], &mut self.sizes)? {
+            Ok(spelled) => spelled,
+            Err(kind) => {
+                return Ok(Err(Damage {
+                    kind,
+                    id: header.id,
+                    offset: header.offset,
+                }));
+            }
+        };
+        self.start = spelled.start;
+        self.end = self.len;
+        match simple_head(scale, timestamp, header, &spelled) {
+            Ok(head) => {
+                self.head = head;
+                Ok(Ok(()))
+            }
+            Err(damage) => Ok(Err(damage)),
+        }
     }
 
     /// What the octets spell of a BlockGroup with this header, in a file of `total` octets and a Cluster
@@ -143,7 +186,39 @@ impl BlockBuffer {
         ensures exact { IfOk result (λ found. (bytes : List ℕ) → length bytes ≡ total → self.old.octets ≡ body_of bytes header.now
             → Makes found self.new (block_group (reader scale) bytes (Some timestamp) header.now)) }
     {
-        Err(AllocError)
+        self.forget();
+        let body = &self.octets[..self.len];
+        if let Err(damage) = self.gathered.gather(body, header.body, total)? {
+            return Ok(Err(damage));
+        }
+        let Some(block) = self.gathered.block else {
+            return Ok(Err(Damage {
+                kind: Kind::MissingChild,
+                id: BLOCK,
+                offset: header.offset,
+            }));
+        };
+        let start = (block.body - header.body) as usize;
+        let end = start + known(block.size) as usize;
+        let spelled = match spell(&body[start..end], &mut self.sizes)? {
+            Ok(spelled) => spelled,
+            Err(kind) => {
+                return Ok(Err(Damage {
+                    kind,
+                    id: BLOCK,
+                    offset: header.offset,
+                }));
+            }
+        };
+        self.start = start + spelled.start;
+        self.end = end;
+        match group_head(scale, timestamp, header.offset, &spelled, &mut self.gathered) {
+            Ok(head) => {
+                self.head = head;
+                Ok(Ok(()))
+            }
+            Err(damage) => Ok(Err(damage)),
+        }
     }
 
     /// What the block says of itself.
@@ -175,7 +250,7 @@ impl BlockBuffer {
         ensures exact { result.now ≡ self.now.references }
         ensures most { length result.now ≤ 64 }
     {
-        self.references.as_slice()
+        self.gathered.references.as_slice()
     }
 
     /// The octets of what is kept of its group, one Element behind the other, as they were found.
@@ -183,6 +258,6 @@ impl BlockBuffer {
         ensures exact { result.now ≡ self.now.kept }
         ensures most { length result.now ≤ MOST_OF_BLOCK }
     {
-        self.kept.as_slice()
+        self.gathered.kept.as_slice()
     }
 }

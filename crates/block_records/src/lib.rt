@@ -3,8 +3,13 @@
 //! One block of a Cluster: the octets of a SimpleBlock or a BlockGroup, read once into a buffer that is used
 //! again, and what they spell (RFC 9559, section 10, Cluster Blocks).
 
+mod block;
+mod body;
 mod buffer;
+mod content;
+mod gathered;
 mod head;
+mod time;
 
 pub use block_format::MOST_OF_BLOCK;
 pub use buffer::BlockBuffer;

@@ -1,0 +1,6 @@
+pub mod BufferLemmas
+pub mod ContentLemmas
+pub mod GroupLemmas
+pub mod MadeLemmas
+pub mod RunLemmas
+pub mod TimeLemmas

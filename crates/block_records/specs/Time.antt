@@ -1,0 +1,15 @@
+-- Times of blocks in nanoseconds.
+use Rattle.std.specs.Prelude.{ℕ, ◌*◌, Bool, if◌then◌else◌, ℤ, pos, Option, Some, None}
+use Rattle.block_format.specs.Block.{nanoseconds, is_too_large}
+
+-- so many ticks of `scale` nanoseconds are too large
+abbrev pub is_too_large_at : ℕ → ℤ → Bool
+is_too_large_at scale ticks = is_too_large (nanoseconds scale ticks)
+
+-- so many ticks of `scale` nanoseconds, unless that is too large
+abbrev pub scaled : ℕ → ℤ → Option ℤ
+scaled scale ticks = if is_too_large_at scale ticks then None else Some (nanoseconds scale ticks)
+
+-- the same of a duration, which has no sign
+abbrev pub scaled_duration : ℕ → ℕ → Option ℕ
+scaled_duration scale ticks = if is_too_large (pos (ticks * scale)) then None else Some (ticks * scale)
