@@ -2,3 +2,4 @@ pub mod Block
 pub mod Content
 pub mod Elements
 pub mod Events
+pub mod File

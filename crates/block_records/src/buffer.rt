@@ -231,6 +231,7 @@ impl BlockBuffer {
     /// The octets of its frames, one behind the other.
     pub fn body(&self) -> &[u8]
         ensures exact { result.now ≡ self.now.body }
+        ensures cut { sum self.now.sizes ≡ length result.now }
         ensures most { length result.now ≤ MOST_OF_BLOCK }
     {
         &self.octets[self.start..self.end]

@@ -1,4 +1,4 @@
-//! The children of a BlockGroup: RFC 9559, section 5.1.3.5 (BlockGroup Element).
+//! The children of a BlockGroup: RFC 9559, section 5.1.3 (Cluster Element).
 
 ghost use Rattle.std.specs.Prelude.{◌≡◌, ◌+◌, ◌-◌, ◌^◌, ◌≤◌, ◌⊎◌, ℕ, List, [], ◌∷◌, ◌++◌, length, true, None, Some, IfOk, IfSome, OnOk, OnErr};
 ghost use Rattle.ebml_format.specs.Number.{int_of};

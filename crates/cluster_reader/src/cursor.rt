@@ -4,8 +4,10 @@ ghost use Rattle.std.specs.Prelude.{◌≡◌, ◌*◌, ◌≤◌, true, ℕ, Li
 ghost use Rattle.mkv_io.specs.Faults.{HasReadCause};
 ghost use Rattle.mkv_io.specs.LiveFiles.{LiveFiles};
 ghost use Rattle.mkv_io.specs.Told.{Told};
+ghost use Rattle.meta_format.specs.Info.{file_scale};
 ghost use Rattle.block_format.specs.Elements.{reader};
 ghost use Rattle.block_format.specs.Events.{events_of};
+ghost use Rattle.block_format.specs.File.{file_events};
 ghost use Rattle.cluster_reader.specs.Reading.{Begins, Counts, Gives, GoesOn, IsIn, IsSameSegment, Pays, left_of, paid};
 
 use crate::next_step::next_step;
@@ -61,6 +63,12 @@ impl Cursor {
         ensures begins { IfOk result (Begins file scale outline.now.segment outline.now.total) }
         ensures left { (bytes : List ℕ) → outline.now.total ≡ length bytes
             → IfOk result (λ c. left_of bytes c ≡ events_of (reader scale) bytes outline.now.segment) }
+
+        // Where the scale is the file's, these are the file's blocks and damages.
+        ensures file { (bytes : List ℕ) → outline.now.total ≡ length bytes → scale ≡ file_scale bytes outline.now.segment
+            → IfOk result (λ c. left_of bytes c ≡ file_events true bytes outline.now.segment) }
+
+        // It may be advanced in a live file of that length.
         ensures stands { (files : LiveFiles) → files.live file.n ≡ true → files.size file.n ≡ outline.now.total → IfOk result (IsIn files) }
     {
         let walk = Walk {
@@ -116,6 +124,7 @@ impl Cursor {
     /// The octets of its frames, one behind the other.
     pub fn body(&self) -> &[u8]
         ensures exact { result.now ≡ self.now.block.body }
+        ensures cut { sum self.now.block.sizes ≡ length result.now }
         ensures most { length result.now ≤ MOST_OF_BLOCK }
     {
         self.walk.block.body()

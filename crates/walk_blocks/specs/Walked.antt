@@ -11,7 +11,8 @@ use Rattle.walk_blocks.specs.declared.walk.Walked.{Walked}
 abbrev pub octets_in : Block → ℕ
 octets_in b = sum (map (λ (frame : List ℕ). length frame) b.frames)
 
--- These are the numbers of the blocks that were left and of their octets, up to 2^64 - 1, and the damages.
+-- These are the numbers of the blocks that were left and of the octets of their frames, up to 2^64 - 1,
+-- and the damages.
 pub record IsWalked (bytes : List ℕ) (start : Reading) (walked : Walked) : Type 0 where
   pub blocks : walked.blocks ≡ counted 0 (length (blocks_of (left_of bytes start)))
   pub octets : walked.octets ≡ counted 0 (sum (map octets_in (blocks_of (left_of bytes start))))

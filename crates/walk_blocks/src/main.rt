@@ -15,9 +15,8 @@ use mkv_io::{Files, Reads};
 use mkv_values::FileId;
 use scale::scale_of;
 use std::alloc::Global;
-use std::env;
-use std::io;
 use std::process::ExitCode;
+use std::{env, io};
 use walk::{Walked, walk};
 
 /// The blocks of a live file, where its outline and its scale can be read.

@@ -17,7 +17,7 @@ pub struct Walked {
     pub blocks: u64,
     /// The octets of their frames.
     pub octets: u64,
-    /// The damages.
+    /// What is wrong with the file.
     pub damages: Damages,
 }
 
@@ -31,13 +31,17 @@ pub fn walk<R: Reads>(alloc: Global, cursor: &mut Cursor, src: &mut R) -> Result
         octets: 0,
         damages: Damages::new(alloc),
     };
-    loop {
+    'steps: loop {
         match cursor.advance(src)? {
             Step::Block => {
                 walked.blocks = walked.blocks.saturating_add(1);
                 walked.octets = walked.octets.saturating_add(cursor.body().len() as u64);
             }
-            Step::Damaged(damage) => walked.damages.add(damage).or(Err(ReadEnd::Memory))?,
+            Step::Damaged(damage) => {
+                let Ok(()) = walked.damages.add(damage) else {
+                    return Err(ReadEnd::Memory);
+                };
+            }
             Step::End => return Ok(walked),
         }
     }

@@ -1,5 +1,6 @@
 use Rattle.std.proofs.Common.{◌∙◌, ap}
 use Rattle.block_format.specs.Elements.{reader}
+use Rattle.block_format.specs.Events.{events_of}
 use Rattle.cluster_reader.specs.Left.{left}
 use Rattle.cluster_reader.specs.Places.{first_place}
 use Rattle.cluster_reader.proofs.TurnLemmas.{left-first}
@@ -11,3 +12,8 @@ returns-clause-left c = λ bytes whole.
     let segment = c.args.outline.now.segment in
     ap (left (reader c.args.scale) bytes) (c.first.ensures ∙ ap (λ h. first_place h c.total.result) c.segment.ensures.exact)
     ∙ left-first (reader c.args.scale) bytes segment c.total.result (c.total.ensures ∙ whole)
+
+-- where the scale is the file's, these are the file's
+pub returns-clause-file : goal.returns-clause-file
+returns-clause-file c = λ bytes whole is.
+    returns-clause-left c bytes whole ∙ ap (λ s. events_of (reader s) bytes c.args.outline.now.segment) is
