@@ -1,5 +1,5 @@
 -- Where the scale of an Info and that of its file come from.
-use Rattle.std.proofs.Common.{◌≡◌, ◌<◌, ℕ, ◌==◌, Bool, true, false, not, List, Option, Some, None, Ok, refl, ap, ◌∙◌, arith, unwrap_or}
+use Rattle.std.proofs.Common.{◌≡◌, ◌<◌, ℕ, ◌==◌, Bool, true, false, not, cond, eqb-true, List, [], ◌∷◌, Option, Some, None, Ok, refl, subst, ap, ◌∙◌, arith, unwrap_or}
 use Rattle.std.specs.Option.{option_map, option_and_then}
 use Rattle.std.proofs.lemmas.Bool.Decides.{nat_tests}
 use Rattle.mkv_schema.specs.declared.ids.TheConstants.{INFO, TIMESTAMP_SCALE}
@@ -46,6 +46,18 @@ scale-some info none = split (first_child TIMESTAMP_SCALE info) none
         grind (arith, nat_tests)
 
 -- ---- a file
+
+-- the first Element of an ID has that ID
+pub first_of-id : (id : ℕ) (list : List Header) (h : Header) → first_of id list ≡ Some h → h.id ≡ id
+first_of-id id [] h first = absurd (cc)
+first_of-id id (k ∷ ks) h first = split (k.id == id) refl first (first_of-id id ks h)
+  where
+    split : (same : Bool) → (k.id == id) ≡ same → cond same (Some k) (first_of id ks) ≡ Some h → (first_of id ks ≡ Some h → h.id ≡ id) → h.id ≡ id
+    split true is found rest =
+        let found_is : k ≡ h = cc in
+        let P : Header → Type 0 = λ x. x.id ≡ id in
+        subst P found_is (eqb-true k.id id is)
+    split false is found rest = rest found
 
 pub file_scale-none : (bytes : List ℕ) (segment : Header) → first_of INFO (segment_run bytes segment).list ≡ None → file_scale bytes segment ≡ default_scale
 unfolding file_scale
