@@ -1,6 +1,6 @@
 //! The damages of a file that are told.
 
-ghost use Rattle.std.specs.Prelude.{[], ◌++◌, ◌∷◌, ◌≡◌, List, OnOk, OnErr};
+ghost use Rattle.std.specs.Prelude.{[], ◌++◌, ◌∷◌, ◌≡◌, List as AList, OnOk, OnErr};
 ghost use Rattle.mkv_values.specs.declared.damage.Damage.{Damage as ADamage};
 ghost use Rattle.cluster_reader.specs.Told.{AreThose};
 
@@ -32,13 +32,14 @@ impl Damages {
 
     /// Keeps a damage, or counts it where a hundred are kept. Only one that is kept may want memory.
     pub fn add(&mut self, damage: Damage) -> Result<(), AllocError>
-        ensures ok { (list : List ADamage) → AreThose list self.old → OnOk result (AreThose (list ++ damage ∷ []) self.new) }
+        ensures ok { (list : AList ADamage) → AreThose list self.old → OnOk result (AreThose (list ++ damage ∷ []) self.new) }
         ensures err { OnErr result (self.new ≡ self.old) }
     {
         if self.first.len() < MOST_TOLD {
-            return self.first.push(damage);
+            self.first.push(damage)?;
+        } else {
+            self.more = self.more.saturating_add(1);
         }
-        self.more = self.more.saturating_add(1);
         Ok(())
     }
 }
