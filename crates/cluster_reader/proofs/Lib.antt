@@ -1,2 +1,4 @@
+pub mod ChildLemmas
 pub mod LeftLemmas
 pub mod ToldLemmas
+pub mod TurnLemmas

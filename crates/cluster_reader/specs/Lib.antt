@@ -1,3 +1,5 @@
 pub mod Left
+pub mod Places
 pub mod Reading
 pub mod Told
+pub mod Walks

@@ -1,5 +1,5 @@
 -- A file's blocks as they are read, one after the other.
-use Rattle.std.specs.Prelude.{◌≡◌, ◌≤◌, ◌⊎◌, ⊤, ℕ, ◌+◌, ◌*◌, true, false, Bool, if◌then◌else◌, List, [], ◌∷◌, length, Option, None, Result, Ok, Err}
+use Rattle.std.specs.Prelude.{◌≡◌, ◌<◌, ◌≤◌, ◌⊎◌, ℕ, ◌+◌, ◌*◌, true, false, Bool, List, [], ◌∷◌, length, Result, Ok, Err}
 use Rattle.mkv_values.specs.declared.outside.FileId.{FileId}
 use Rattle.mkv_values.specs.declared.outside.ReadEnd.{ReadEnd}
 use Rattle.mkv_values.specs.declared.damage.Damage.{Damage}
@@ -7,12 +7,12 @@ use Rattle.mkv_io.specs.Faults.{counted}
 use Rattle.mkv_io.specs.LiveFiles.{LiveFiles}
 use Rattle.mkv_io.specs.Told.{Told}
 use Rattle.matroska_format.specs.declared.element.Header.{Header}
-use Rattle.matroska_format.specs.Element.{end_in, is_unknown}
 use Rattle.element_window.specs.Window.{Held, Holds, IsBefore, cost_of, end_held}
 use Rattle.block_format.specs.Elements.{reader}
 use Rattle.block_format.specs.Events.{Event, block, damaged, stopped}
 use Rattle.block_records.specs.Buffered.{Buffered, block_of}
 use Rattle.cluster_reader.specs.Left.{left}
+use Rattle.cluster_reader.specs.Places.{first_place}
 use Rattle.cluster_reader.specs.declared.place.Place.{Place}
 use Rattle.cluster_reader.specs.declared.step.Step.{Step}
 use Rattle.cluster_reader.specs.declared.step.Step.TheVariants.{Block, Damaged, End}
@@ -49,6 +49,12 @@ Gives bytes old new (Ok (Damaged d)) = left_of bytes old ≡ told new.stopped d 
 Gives bytes old new (Ok End) = (left_of bytes old ≡ []) × (left_of bytes new ≡ [])
 Gives bytes old new (Err end) = left_of bytes new ≡ left_of bytes old
 
+-- The place goes on past what is given.
+abbrev pub GoesOn : Step → ℕ → ℕ → Type 0
+GoesOn Block old new = old < new
+GoesOn (Damaged d) old new = old < new
+GoesOn End old new = old ≤ new
+
 -- the blocks and the damages that were given
 pub record HasGiven (old new : Reading) (more_blocks more_damages : ℕ) : Type 0 where
   pub blocks : new.blocks ≡ counted old.blocks more_blocks
@@ -80,15 +86,6 @@ pub record IsIn (files : LiveFiles) (c : Reading) : Type 0 where
   pub before : IsBefore c.ahead c.place.at (files.size c.file.n)
   pub full : IsFull (files.size c.file.n) c.ahead
 
--- the first place of a Segment in a file of `total` octets
-abbrev pub first_place : Header → ℕ → Place
-first_place segment total = record {
-  size = segment.size;
-  at = segment.body;
-  end = if is_unknown segment.size then total else end_in total segment;
-  cluster = None;
-}
-
 -- Nothing was given yet, and nothing is held.
 pub record Begins (opened : FileId) (tick : ℕ) (segment : Header) (total : ℕ) (c : Reading) : Type 0 where
   pub file : c.file ≡ opened
@@ -108,6 +105,6 @@ paid size c = cost_of size c.ahead + c.place.at
 
 -- What a call reads is paid by the way that it goes. One that a failed read or want of memory ends may
 -- read two octets besides for each of the file.
-abbrev pub Pays : ℕ → Reading → Reading → ℕ → ℕ → Result Step ReadEnd → Type 0
-Pays size old new before now (Ok step) = now + paid size old ≤ before + paid size new
+abbrev pub Pays : {T : Type 0} → ℕ → Reading → Reading → ℕ → ℕ → Result T ReadEnd → Type 0
+Pays size old new before now (Ok answer) = now + paid size old ≤ before + paid size new
 Pays size old new before now (Err end) = now + paid size old ≤ before + paid size new + 2 * size

@@ -1,5 +1,5 @@
 -- The damages of a file that are told one by one, and the number of the others.
-use Rattle.std.specs.Prelude.{◌≡◌, ℕ, ◌+◌, ◌-◌, ◌^◌, nat_lt, min, if◌then◌else◌, List, [], ◌∷◌, ◌++◌, length, take}
+use Rattle.std.specs.Prelude.{◌≡◌, ℕ, ◌-◌, ◌^◌, min, List, length, take}
 use Rattle.mkv_values.specs.declared.damage.Damage.{Damage}
 use Rattle.cluster_reader.specs.declared.damages.Damages.{Damages}
 

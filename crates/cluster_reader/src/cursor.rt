@@ -1,14 +1,17 @@
 //! The cursor.
 
-ghost use Rattle.std.specs.Prelude.{◌≡◌, ◌+◌, ◌*◌, ◌≤◌, ℕ, List, length, sum, IfOk};
+ghost use Rattle.std.specs.Prelude.{◌≡◌, ◌*◌, ◌≤◌, true, ℕ, List, length, sum, IfOk};
 ghost use Rattle.mkv_io.specs.Faults.{HasReadCause};
+ghost use Rattle.mkv_io.specs.LiveFiles.{LiveFiles};
 ghost use Rattle.mkv_io.specs.Told.{Told};
 ghost use Rattle.block_format.specs.Elements.{reader};
 ghost use Rattle.block_format.specs.Events.{events_of};
-ghost use Rattle.cluster_reader.specs.Reading.{Begins, Counts, Gives, IsIn, IsSameSegment, Pays, left_of, paid};
+ghost use Rattle.cluster_reader.specs.Reading.{Begins, Counts, Gives, GoesOn, IsIn, IsSameSegment, Pays, left_of, paid};
 
+use crate::next_step::next_step;
 use crate::place::Place;
 use crate::step::Step;
+use crate::walk::Walk;
 use block_records::{BlockBuffer, BlockHead, MOST_OF_BLOCK};
 use element_reader::Outline;
 use element_window::Window;
@@ -20,34 +23,30 @@ use std::marker::Model;
 /// Gives the blocks of a file and its damages, in the order of the file. It keeps one block.
 #[derive(Drop)]
 pub struct Cursor {
-    window: Window,
-    file: FileId,
-    scale: u64,
-    place: Place,
-    block: BlockBuffer,
+    walk: Walk,
     blocks: u64,
     damages: u64,
-    stopped: bool,
 }
 
 impl Model for Cursor {
     ghost use Rattle.std.specs.Prelude.{◌≤◌};
+    ghost use Rattle.cluster_reader.specs.Places.{IsPlace};
     ghost use Rattle.cluster_reader.specs.Reading.{Reading};
 
     ghost Value = { Reading };
 
     ghost view = { λ c. record {
-      file = c.file;
-      scale = c.scale;
-      place = c.place;
-      ahead = c.window;
-      block = c.block;
+      file = c.walk.file;
+      scale = c.walk.scale;
+      place = c.walk.place;
+      ahead = c.walk.window;
+      block = c.walk.block;
       blocks = c.blocks;
       damages = c.damages;
-      stopped = c.stopped;
+      stopped = c.walk.stopped;
     } };
 
-    ghost invariant = { λ c. 1 ≤ c.scale };
+    ghost invariant = { λ c. (1 ≤ c.walk.scale) × IsPlace c.walk.place };
 }
 
 impl Cursor {
@@ -62,8 +61,21 @@ impl Cursor {
         ensures begins { IfOk result (Begins file scale outline.now.segment outline.now.total) }
         ensures left { (bytes : List ℕ) → outline.now.total ≡ length bytes
             → IfOk result (λ c. left_of bytes c ≡ events_of (reader scale) bytes outline.now.segment) }
+        ensures stands { (files : LiveFiles) → files.live file.n ≡ true → files.size file.n ≡ outline.now.total → IfOk result (IsIn files) }
     {
-        Err(AllocError)
+        let walk = Walk {
+            window: Window::new(alloc)?,
+            file,
+            scale,
+            place: Place::first(&outline.segment(), outline.total()),
+            block: BlockBuffer::new(alloc),
+            stopped: false,
+        };
+        Ok(Cursor {
+            walk,
+            blocks: 0,
+            damages: 0,
+        })
     }
 
     /// Gives the next block or damage. `End` is answered where none is left, and again from then on. After
@@ -73,7 +85,9 @@ impl Cursor {
         ensures gives { Told ((R.files (R.standing src.old)).content self.old.file.n) (λ bytes. Gives bytes self.old self.new result) }
         ensures counts { Counts self.old self.new result }
 
-        // It stays ready for the next call, in the same file.
+        // It goes on in the same file, and stays ready for the next call.
+        ensures on { IfOk result (λ step. GoesOn step self.old.place.at self.new.place.at) }
+        ensures inside { self.new.place.at ≤ self.new.place.end }
         ensures same { IsSameSegment self.old self.new }
         ensures stands { IsIn (R.files (R.standing src.new)) self.new }
         ensures standing { R.standing src.new ≡ R.standing src.old }
@@ -83,14 +97,20 @@ impl Cursor {
         ensures pays { Pays ((R.files (R.standing src.old)).size self.old.file.n) self.old self.new (R.octets_read src.old) (R.octets_read src.new) result }
         ensures most { paid ((R.files (R.standing src.old)).size self.old.file.n) self.new ≤ 4 * (R.files (R.standing src.old)).size self.old.file.n }
     {
-        Err(ReadEnd::Memory)
+        let step = next_step(&mut self.walk, src)?;
+        match step {
+            Step::Block => self.blocks = self.blocks.saturating_add(1),
+            Step::Damaged(_) => self.damages = self.damages.saturating_add(1),
+            Step::End => {}
+        }
+        Ok(step)
     }
 
     /// What the block says of itself.
     pub fn head(&self) -> &BlockHead
         ensures { result.now ≡ self.now.block.head }
     {
-        self.block.head()
+        self.walk.block.head()
     }
 
     /// The octets of its frames, one behind the other.
@@ -98,7 +118,7 @@ impl Cursor {
         ensures exact { result.now ≡ self.now.block.body }
         ensures most { length result.now ≤ MOST_OF_BLOCK }
     {
-        self.block.body()
+        self.walk.block.body()
     }
 
     /// How many octets each frame has.
@@ -107,7 +127,7 @@ impl Cursor {
         ensures sum { sum result.now ≡ length self.now.block.body }
         ensures most { length result.now ≤ 256 }
     {
-        self.block.sizes()
+        self.walk.block.sizes()
     }
 
     /// The octets of what else its group has, one Element behind the other, as they were found.
@@ -115,7 +135,7 @@ impl Cursor {
         ensures exact { result.now ≡ self.now.block.kept }
         ensures most { length result.now ≤ MOST_OF_BLOCK }
     {
-        self.block.kept()
+        self.walk.block.kept()
     }
 
     /// The times of the blocks that it refers to less its own, in nanoseconds.
@@ -123,7 +143,7 @@ impl Cursor {
         ensures exact { result.now ≡ self.now.block.references }
         ensures most { length result.now ≤ 64 }
     {
-        self.block.references()
+        self.walk.block.references()
     }
 
     /// How many blocks were given.
@@ -144,6 +164,6 @@ impl Cursor {
     pub fn stopped(&self) -> bool
         ensures { result ≡ self.now.stopped }
     {
-        self.stopped
+        self.walk.stopped
     }
 }

@@ -4,11 +4,17 @@
 //! A cursor goes forwards through the file, reads headers through a window and each block once into one
 //! buffer, skips what is no block without reading it, and lends what it has read.
 
+mod child;
 mod cursor;
 mod damages;
+mod inside;
+mod next_step;
+mod outside;
 mod place;
 mod step;
+mod timestamp;
 mod turn;
+mod walk;
 
 pub use block_records::{BlockHead, Lace};
 pub use cursor::Cursor;

@@ -1,6 +1,13 @@
 //! A place among the Elements of a file.
 
+ghost use Rattle.std.specs.Prelude.{◌≡◌, ◌≤◌, ◌^◌, Some, None};
+ghost use Rattle.matroska_format.specs.Element.{end_in};
+ghost use Rattle.block_format.specs.Events.{is_closed};
+ghost use Rattle.cluster_reader.specs.Places.{bound_in, cluster_in, first_place};
+
 use ebml_format::Size;
+use element_headers::Header;
+use element_walks::end_in;
 
 /// A place among the Elements of a Segment, in octets from the start of the file.
 #[derive(Clone, Copy)]
@@ -26,4 +33,92 @@ pub struct Inside {
     pub unknown: bool,
     /// Its Timestamp in ticks, as far as it was met.
     pub timestamp: Option<u64>,
+}
+
+impl Place {
+    /// The first place of a Segment in a file of `total` octets.
+    pub fn first(segment: &Header, total: u64) -> Place
+        ensures { result ≡ first_place segment.now total }
+    {
+        Place {
+            size: segment.size,
+            at: segment.body,
+            end: bound_in(segment, total),
+            cluster: None,
+        }
+    }
+
+    /// The place behind an Element that isn't entered.
+    pub fn behind(self, header: &Header) -> Place
+        ensures { result ≡ record self { at = end_in self.end header.now } }
+    {
+        Place {
+            at: end_in(header, self.end),
+            ..self
+        }
+    }
+
+    /// The place of the first child of a Cluster in a file of `total` octets.
+    pub fn entered(self, header: &Header, total: u64) -> Place
+        requires { total ≤ 2 ^ 48 }
+        ensures { result ≡ record self { at = header.now.body; cluster = Some (cluster_in total self.end header.now) } }
+    {
+        let cluster = Inside {
+            end: bound_in(header, self.end),
+            closed: is_closed(header, total),
+            unknown: header.size == Size::Unknown,
+            timestamp: None,
+        };
+        Place {
+            at: header.body,
+            cluster: Some(cluster),
+            ..self
+        }
+    }
+
+    /// The place behind a child of a Cluster, where this Timestamp then stands before the next one.
+    pub fn passed(self, cluster: Inside, child: &Header, timestamp: Option<u64>) -> Place
+        ensures { result ≡ record self { at = end_in cluster.end child.now; cluster = Some (record cluster { timestamp = timestamp }) } }
+    {
+        Place {
+            at: end_in(child, cluster.end),
+            cluster: Some(Inside {
+                timestamp,
+                ..cluster
+            }),
+            ..self
+        }
+    }
+
+    /// This or a later place, outside of the Cluster.
+    pub fn outside(self, at: u64) -> Place
+        ensures { result ≡ record self { at = at; cluster = None } }
+    {
+        Place {
+            at,
+            cluster: None,
+            ..self
+        }
+    }
+}
+
+// Up to where an Element may reach whose parent ends at `end`.
+fn bound_in(header: &Header, end: u64) -> u64
+    ensures { result ≡ bound_in end header.now }
+{
+    match header.size {
+        Size::Known(_) => end_in(header, end),
+        Size::Unknown => end,
+    }
+}
+
+// Whether a Cluster's size is known, and it ends within a file of `total` octets.
+fn is_closed(header: &Header, total: u64) -> bool
+    requires { total ≤ 2 ^ 48 }
+    ensures { result ≡ is_closed total header.now }
+{
+    match header.size {
+        Size::Known(size) => header.body.saturating_add(size) <= total,
+        Size::Unknown => false,
+    }
 }

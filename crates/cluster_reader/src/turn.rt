@@ -1,16 +1,24 @@
-//! What one Element makes of a cursor's way.
+//! What one Element makes of a walk.
 
+use crate::step::Step;
 use mkv_values::Damage;
 
-/// What one Element makes of a cursor's way.
-#[derive(Clone, Copy, Debug, PartialEq, Eq)]
+/// What one Element makes of a walk.
+#[derive(Clone, Copy)]
 pub enum Turn {
     /// It was passed, entered or left.
     Passed,
-    /// It is a block, which was read.
+    /// It gives something, or nothing is left.
+    Gives(Step),
+}
+
+/// What a child of a Cluster gives.
+#[derive(Clone, Copy)]
+pub enum Child {
+    /// Nothing; this Timestamp then stands before the next child.
+    Passed(Option<u64>),
+    /// A block, which was read.
     Block,
-    /// Something is wrong, and reading goes on behind it or ends.
-    Damaged { damage: Damage, stops: bool },
-    /// Nothing is left.
-    End,
+    /// Something is wrong with it.
+    Damaged(Damage),
 }

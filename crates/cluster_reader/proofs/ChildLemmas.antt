@@ -1,0 +1,97 @@
+-- What a child of a Cluster gives, by its ID and what stands before it.
+use Rattle.std.proofs.Common.{◌≡◌, ℕ, ◌==◌, nat_lt, Bool, true, false, if◌then◌else◌, List, [], ◌∷◌, Option, Some, None, Result, Ok, Err, refl, sym, ◌∙◌, ap, arith}
+use Rattle.std.proofs.lemmas.Bool.{cond-true, cond-false}
+use Rattle.std.proofs.lemmas.Bool.Decides.{nat_tests}
+use Rattle.std.proofs.lemmas.List.{drop-take}
+use Rattle.mkv_schema.specs.declared.ids.TheConstants.{TIMESTAMP, SIMPLE_BLOCK, BLOCK_GROUP}
+use Rattle.mkv_values.specs.declared.damage.Damage.{Damage}
+use Rattle.mkv_values.specs.declared.damage.Kind.TheVariants.{BadValue}
+use Rattle.mkv_io.specs.Contents.{octets_from}
+use Rattle.matroska_format.specs.declared.element.Header.{Header}
+use Rattle.matroska_format.specs.Element.{known, damage}
+use Rattle.matroska_format.specs.Value.{body_of}
+use Rattle.matroska_format.specs.Outline.{unless, and_then}
+use Rattle.block_format.specs.declared.limits.TheConstants.{MOST_TIMESTAMP}
+use Rattle.block_format.specs.Block.{Block}
+use Rattle.block_format.specs.Elements.{Rules, too_long, timestamp_or, timestamp_for, simple_block, block_group}
+use Rattle.block_format.specs.Events.{found_at, timestamp_behind}
+use Rattle.cluster_reader.specs.Walks.{block_found}
+
+-- ---- blocks
+
+-- what refuses the Timestamp of a block refuses the block
+simple_block-refused : (r : Rules) (bytes : List ℕ) (timestamp : Option ℕ) (h : Header) (d : Damage) → timestamp_for r timestamp h ≡ Err d → simple_block r bytes timestamp h ≡ Err d
+unfolding simple_block
+simple_block-refused r bytes timestamp h d refused = rw refused refl
+
+block_group-refused : (r : Rules) (bytes : List ℕ) (timestamp : Option ℕ) (h : Header) (d : Damage) → timestamp_for r timestamp h ≡ Err d → block_group r bytes timestamp h ≡ Err d
+unfolding block_group
+block_group-refused r bytes timestamp h d refused = rw refused refl
+
+either : (test : Bool) (a b c : Result Block Damage) → a ≡ c → b ≡ c → (if test then a else b) ≡ c
+either true a b c first second = first
+either false a b c first second = second
+
+pub block_found-refused : (r : Rules) (bytes : List ℕ) (timestamp : Option ℕ) (h : Header) (d : Damage) → timestamp_for r timestamp h ≡ Err d → block_found r bytes timestamp h ≡ Err d
+block_found-refused r bytes timestamp h d refused =
+    either (h.id == SIMPLE_BLOCK) _ _ _ (simple_block-refused r bytes timestamp h d refused) (block_group-refused r bytes timestamp h d refused)
+
+-- the Timestamp of a block is the one that stands before it
+pub timestamp_for-is : (r : Rules) (timestamp : Option ℕ) (h : Header) (ticks : ℕ) → timestamp_for r timestamp h ≡ Ok ticks → timestamp ≡ Some ticks
+timestamp_for-is r timestamp h ticks is = split (too_long r h) timestamp is
+  where
+    split : (long : Option Damage) (timestamp : Option ℕ) → and_then (unless long timestamp) (timestamp_or h) ≡ Ok ticks → timestamp ≡ Some ticks
+    split (Some d) timestamp is = absurd (cc)
+    split None None is = absurd (cc)
+    split None (Some t) is = cc
+
+pub block_found-simple : (r : Rules) (bytes : List ℕ) (timestamp : Option ℕ) (h : Header) → h.id ≡ SIMPLE_BLOCK → block_found r bytes timestamp h ≡ simple_block r bytes timestamp h
+block_found-simple r bytes timestamp h is = cond-true (h.id == SIMPLE_BLOCK) _ _ (grind (arith, nat_tests))
+
+pub block_found-group : (r : Rules) (bytes : List ℕ) (timestamp : Option ℕ) (h : Header) → (h.id ≡ SIMPLE_BLOCK → ⊥) → block_found r bytes timestamp h ≡ block_group r bytes timestamp h
+block_found-group r bytes timestamp h other = cond-false (h.id == SIMPLE_BLOCK) _ _ (grind (arith, nat_tests))
+
+-- ---- children by their IDs
+
+-- a SimpleBlock gives one thing
+pub found_at-simple : (r : Rules) (bytes : List ℕ) (timestamp : Option ℕ) (h : Header) → h.id ≡ SIMPLE_BLOCK → found_at r bytes timestamp h ≡ block_found r bytes timestamp h ∷ []
+found_at-simple r bytes timestamp h is =
+    cond-false (h.id == TIMESTAMP) _ _ (grind (arith, nat_tests))
+    ∙ cond-true (h.id == SIMPLE_BLOCK) _ _ (grind (arith, nat_tests))
+    ∙ ap (λ found. found ∷ []) (sym (block_found-simple r bytes timestamp h is))
+
+-- so does a BlockGroup
+pub found_at-group : (r : Rules) (bytes : List ℕ) (timestamp : Option ℕ) (h : Header) → h.id ≡ BLOCK_GROUP → found_at r bytes timestamp h ≡ block_found r bytes timestamp h ∷ []
+found_at-group r bytes timestamp h is =
+    let other : h.id ≡ SIMPLE_BLOCK → ⊥ = λ same. absurd (omega arith) in
+    cond-false (h.id == TIMESTAMP) _ _ (grind (arith, nat_tests))
+    ∙ cond-false (h.id == SIMPLE_BLOCK) _ _ (grind (arith, nat_tests))
+    ∙ cond-true (h.id == BLOCK_GROUP) _ _ (grind (arith, nat_tests))
+    ∙ ap (λ found. found ∷ []) (sym (block_found-group r bytes timestamp h other))
+
+-- another child gives nothing
+pub found_at-other : (r : Rules) (bytes : List ℕ) (timestamp : Option ℕ) (h : Header) → (h.id ≡ TIMESTAMP → ⊥) → (h.id ≡ SIMPLE_BLOCK → ⊥) → (h.id ≡ BLOCK_GROUP → ⊥) → found_at r bytes timestamp h ≡ []
+found_at-other r bytes timestamp h stamp simple group =
+    cond-false (h.id == TIMESTAMP) _ _ (grind (arith, nat_tests))
+    ∙ cond-false (h.id == SIMPLE_BLOCK) _ _ (grind (arith, nat_tests))
+    ∙ cond-false (h.id == BLOCK_GROUP) _ _ (grind (arith, nat_tests))
+
+-- and leaves the Timestamp
+pub timestamp_behind-other : (bytes : List ℕ) (timestamp : Option ℕ) (h : Header) → (h.id ≡ TIMESTAMP → ⊥) → timestamp_behind bytes timestamp h ≡ timestamp
+timestamp_behind-other bytes (Some ticks) h other = refl
+timestamp_behind-other bytes None h other = cond-false (h.id == TIMESTAMP) _ _ (grind (arith, nat_tests))
+
+-- what gives a block is no Timestamp
+pub block-no_timestamp : (r : Rules) (bytes : List ℕ) (timestamp : Option ℕ) (h : Header) (b : Block) → found_at r bytes timestamp h ≡ Ok b ∷ [] → h.id ≡ TIMESTAMP → ⊥
+block-no_timestamp r bytes timestamp h b gives is =
+    split (nat_lt MOST_TIMESTAMP (known h.size)) (sym (cond-true (h.id == TIMESTAMP) _ _ (grind (arith, nat_tests))) ∙ gives)
+  where
+    split : (long : Bool) → (if long then Err (damage BadValue h.id h.offset) ∷ [] else []) ≡ Ok b ∷ [] → ⊥
+    split true gives = cc
+    split false gives = cc
+
+-- ---- bodies
+
+-- the octets of a body, as they are read
+pub body_of-read : (bytes : List ℕ) (h : Header) → octets_from bytes h.body (known h.size) ≡ body_of bytes h
+body_of-read bytes h = sym (drop-take h.body (known h.size) bytes)

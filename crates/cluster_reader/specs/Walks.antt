@@ -1,0 +1,74 @@
+-- A walk over the Elements of a file, one turn after the other.
+use Rattle.std.specs.Prelude.{◌≡◌, ◌≤◌, ◌<◌, ℕ, ◌==◌, if◌then◌else◌, List, [], ◌∷◌, Option, Result, Ok, Err}
+use Rattle.mkv_values.specs.declared.outside.ReadEnd.{ReadEnd}
+use Rattle.mkv_schema.specs.declared.ids.TheConstants.{SIMPLE_BLOCK}
+use Rattle.mkv_io.specs.LiveFiles.{LiveFiles}
+use Rattle.matroska_format.specs.declared.element.Header.{Header}
+use Rattle.block_format.specs.Elements.{Rules, reader, simple_block, block_group}
+use Rattle.block_format.specs.Events.{Found, found_at, timestamp_behind}
+use Rattle.block_records.specs.Buffered.{Buffered, block_of}
+use Rattle.cluster_reader.specs.Places.{IsPlace, turns_left}
+use Rattle.cluster_reader.specs.Reading.{Reading, Gives, GoesOn, IsIn, IsSameSegment, Pays, left_of}
+use Rattle.cluster_reader.specs.declared.place.Place.{Place}
+use Rattle.cluster_reader.specs.declared.turn.Turn.{Turn}
+use Rattle.cluster_reader.specs.declared.turn.Turn.TheVariants as turn
+use Rattle.cluster_reader.specs.declared.turn.Child.{Child}
+use Rattle.cluster_reader.specs.declared.turn.Child.TheVariants as child
+use Rattle.cluster_reader.specs.declared.walk.Walk.{Walk}
+
+-- what a cursor shows of a walk, which has given nothing yet
+abbrev pub shown : Walk → Reading
+shown w = record {
+  file = w.file;
+  scale = w.scale;
+  place = w.place;
+  ahead = w.window;
+  block = w.block;
+  blocks = 0;
+  damages = 0;
+  stopped = w.stopped;
+}
+
+-- ---- what a child gives
+
+-- what a SimpleBlock or a BlockGroup gives
+abbrev pub block_found : Rules → List ℕ → Option ℕ → Header → Found
+block_found r bytes timestamp h =
+    if h.id == SIMPLE_BLOCK then simple_block r bytes timestamp h else block_group r bytes timestamp h
+
+-- It gives what is answered: nothing, and the Timestamp that stands behind it; the block that was read; or
+-- a damage.
+abbrev pub Finds : List ℕ → ℕ → Option ℕ → Header → Buffered → Child → Type 0
+Finds bytes scale timestamp h b (child.Passed behind) =
+    (found_at (reader scale) bytes timestamp h ≡ []) × (behind ≡ timestamp_behind bytes timestamp h)
+Finds bytes scale timestamp h b child.Block = found_at (reader scale) bytes timestamp h ≡ Ok (block_of b) ∷ []
+Finds bytes scale timestamp h b (child.Damaged d) = found_at (reader scale) bytes timestamp h ≡ Err d ∷ []
+
+-- ---- what a turn gives
+
+-- It gives what is answered, as a cursor does; where an Element is passed the same is left.
+abbrev pub Turns : List ℕ → Walk → Walk → Result Turn ReadEnd → Type 0
+Turns bytes old new (Ok turn.Passed) = left_of bytes (shown new) ≡ left_of bytes (shown old)
+Turns bytes old new (Ok (turn.Gives step)) = Gives bytes (shown old) (shown new) (Ok step)
+Turns bytes old new (Err end) = left_of bytes (shown new) ≡ left_of bytes (shown old)
+
+-- The place goes on; where an Element is passed, fewer turns are left.
+abbrev pub TurnsOn : Place → Place → Turn → Type 0
+TurnsOn old new turn.Passed = (turns_left new < turns_left old) × (old.at ≤ new.at)
+TurnsOn old new (turn.Gives step) = GoesOn step old.at new.at
+
+-- ---- where a walk stands
+
+-- A cursor may stand there, and the place is one of a Segment.
+pub record IsReady (files : LiveFiles) (w : Walk) : Type 0 where
+  pub stands : IsIn files (shown w)
+  pub scale : 1 ≤ w.scale
+  pub place : IsPlace w.place
+
+-- It is in the same Segment of the same file.
+abbrev pub IsSameWalk : Walk → Walk → Type 0
+IsSameWalk old new = IsSameSegment (shown old) (shown new)
+
+-- What is read is paid by the way, as a cursor's.
+abbrev pub PaysFor : {T : Type 0} → ℕ → Walk → Walk → ℕ → ℕ → Result T ReadEnd → Type 0
+PaysFor size old new before now result = Pays size (shown old) (shown new) before now result

@@ -1,0 +1,39 @@
+//! The Timestamp of a Cluster: RFC 9559, section 5.1.3.1 (Timestamp Element).
+
+ghost use Rattle.std.specs.Prelude.{◌≡◌, ◌≤◌, ◌+◌, false, IfOk, IsTrue};
+ghost use Rattle.mkv_io.specs.Faults.{HasCause};
+ghost use Rattle.mkv_io.specs.Told.{Told};
+ghost use Rattle.ebml_format.specs.Number.{uint_of};
+ghost use Rattle.matroska_format.specs.Element.{known, stated_end};
+ghost use Rattle.matroska_format.specs.Value.{body_of};
+ghost use Rattle.element_window.specs.Window.{Holds};
+
+use block_format::MOST_TIMESTAMP;
+use ebml_numbers::read_uint;
+use element_bodies::known;
+use element_headers::Header;
+use element_window::Window;
+use mkv_io::Reads;
+use mkv_values::{Failed, FileId};
+
+/// The ticks of a Timestamp, from what a window holds or from the file.
+pub fn read_timestamp<R: Reads>(
+    window: &Window,
+    src: &mut R,
+    file: FileId,
+    header: &Header,
+) -> Result<u64, Failed>
+    requires live { IsTrue ((R.files (R.standing src.old)).live file.n) }
+    requires few { known header.now.size ≤ MOST_TIMESTAMP }
+    requires inside { stated_end header.now ≤ (R.files (R.standing src.old)).size file.n }
+    requires holds { Told ((R.files (R.standing src.old)).content file.n) (λ bytes. Holds bytes window.now) }
+    ensures ok { IfOk result (λ ticks. Told ((R.files (R.standing src.old)).content file.n) (λ bytes. ticks ≡ uint_of (body_of bytes header.now))) }
+    ensures standing { R.standing src.new ≡ R.standing src.old }
+    ensures cause { HasCause (R.reading_faults src.old) (R.reading_faults src.new) result }
+    ensures octets { R.octets_read src.new ≤ R.octets_read src.old + known header.now.size }
+{
+    let mut buffer = [0; 8];
+    let octets = &mut buffer[..known(header.size) as usize];
+    window.fill(src, file, header.body, octets)?;
+    Ok(read_uint(octets))
+}

@@ -1,0 +1,85 @@
+//! A walk over the Elements of a file.
+
+ghost use Rattle.std.specs.Prelude.{◌≡◌, ◌≤◌, ◌<◌, true, not, None, IfOk};
+ghost use Rattle.mkv_io.specs.Faults.{HasReadCause};
+ghost use Rattle.mkv_io.specs.Told.{Told};
+ghost use Rattle.matroska_format.specs.Element.{element_at};
+ghost use Rattle.matroska_format.specs.Placed.{IsPlaced, IsWhole};
+ghost use Rattle.element_headers.specs.Parent.{setting_of};
+ghost use Rattle.cluster_reader.specs.Places.{behind_damage};
+ghost use Rattle.cluster_reader.specs.Walks.{IsReady, PaysFor};
+
+use crate::place::{Inside, Place};
+use block_records::BlockBuffer;
+use element_headers::{Header, Parent};
+use element_window::Window;
+use mkv_io::Reads;
+use mkv_values::{Damage, Failed, FileId, ReadEnd};
+
+/// A walk over the Elements of a Segment, into its Clusters.
+#[derive(Drop)]
+pub struct Walk {
+    /// What was read ahead of the file.
+    pub window: Window,
+    /// The file.
+    pub file: FileId,
+    /// Nanoseconds for a tick.
+    pub scale: u64,
+    /// What is looked at next.
+    pub place: Place,
+    /// The block that was read last.
+    pub block: BlockBuffer,
+    /// Whether the damage that was met last ends what is read.
+    pub stopped: bool,
+}
+
+impl Walk {
+    /// The Element at the place, under a parent that ends at `end`, or what is wrong there.
+    pub fn element<R: Reads>(
+        &mut self,
+        src: &mut R,
+        parent: Parent,
+        end: u64,
+    ) -> Result<Result<Header, Damage>, ReadEnd>
+        requires ready { IsReady (R.files (R.standing src.old)) self.old }
+        requires before { self.old.place.at < end }
+        requires within { end ≤ self.old.place.end }
+        ensures ok { IfOk result (λ found. Told ((R.files (R.standing src.old)).content self.old.file.n) (λ bytes. found ≡ element_at (setting_of parent) bytes self.old.place.at end)) }
+        ensures placed { IfOk result (λ found. IfOk found (IsPlaced self.old.place.at end)) }
+        ensures whole { IfOk result (λ found. IfOk found (IsWhole (setting_of parent) end)) }
+        ensures only { self.new ≡ record self.old { window = self.new.window } }
+        ensures ready { IsReady (R.files (R.standing src.new)) self.new }
+        ensures standing { R.standing src.new ≡ R.standing src.old }
+        ensures cause { HasReadCause (R.reading_faults src.old) (R.reading_faults src.new) result }
+        ensures pays { PaysFor ((R.files (R.standing src.old)).size self.old.file.n) self.old self.new (R.octets_read src.old) (R.octets_read src.new) result }
+    {
+        match self
+            .window
+            .element(src, self.file, parent, self.place.at, end)
+        {
+            Ok(found) => Ok(found),
+            Err(Failed) => Err(ReadEnd::ReadFault),
+        }
+    }
+
+    /// Goes on behind a Cluster in which something is wrong, where it is closed, else to the end.
+    pub fn break_off(&mut self, cluster: &Inside)
+        ensures { self.new ≡ record self.old { place = behind_damage self.old.place cluster.now; stopped = not cluster.now.closed } }
+    {
+        let at = if cluster.closed {
+            cluster.end
+        } else {
+            self.place.end
+        };
+        self.place = self.place.outside(at);
+        self.stopped = !cluster.closed;
+    }
+
+    /// Nothing is left behind this damage.
+    pub fn stop(&mut self)
+        ensures { self.new ≡ record self.old { place = record self.old.place { at = self.old.place.end; cluster = None }; stopped = true } }
+    {
+        self.place = self.place.outside(self.place.end);
+        self.stopped = true;
+    }
+}
