@@ -105,6 +105,6 @@ paid size c = cost_of size c.ahead + c.place.at
 
 -- What a call reads is paid by the way that it goes. One that a failed read or want of memory ends may
 -- read two octets besides for each of the file.
-abbrev pub Pays : ℕ → Reading → Reading → ℕ → ℕ → Result Step ReadEnd → Type 0
-Pays size old new before now (Ok step) = now + paid size old ≤ before + paid size new
+abbrev pub Pays : {T : Type 0} → ℕ → Reading → Reading → ℕ → ℕ → Result T ReadEnd → Type 0
+Pays size old new before now (Ok answer) = now + paid size old ≤ before + paid size new
 Pays size old new before now (Err end) = now + paid size old ≤ before + paid size new + 2 * size

@@ -1,30 +1,33 @@
 -- A walk over the Elements of a file, one turn after the other.
-use Rattle.std.specs.Prelude.{◌≡◌, ◌≤◌, ◌<◌, ⊤, ℕ, ◌+◌, ◌*◌, ◌==◌, true, if◌then◌else◌, List, [], ◌∷◌, Option, Result, Ok, Err}
+use Rattle.std.specs.Prelude.{◌≡◌, ◌≤◌, ◌<◌, ℕ, ◌==◌, if◌then◌else◌, List, [], ◌∷◌, Option, Result, Ok, Err}
 use Rattle.mkv_values.specs.declared.outside.ReadEnd.{ReadEnd}
 use Rattle.mkv_schema.specs.declared.ids.TheConstants.{SIMPLE_BLOCK}
-use Rattle.mkv_values.specs.declared.damage.Damage.{Damage}
 use Rattle.mkv_io.specs.LiveFiles.{LiveFiles}
-use Rattle.mkv_io.specs.Told.{Told}
 use Rattle.matroska_format.specs.declared.element.Header.{Header}
-use Rattle.element_window.specs.Window.{Holds, IsBefore, cost_of}
 use Rattle.block_format.specs.Elements.{Rules, reader, simple_block, block_group}
-use Rattle.block_format.specs.Events.{Event, Found, block, found_at, timestamp_behind}
+use Rattle.block_format.specs.Events.{Found, found_at, timestamp_behind}
 use Rattle.block_records.specs.Buffered.{Buffered, block_of}
-use Rattle.cluster_reader.specs.Left.{left}
 use Rattle.cluster_reader.specs.Places.{IsPlace, turns_left}
-use Rattle.cluster_reader.specs.Reading.{GoesOn, IsFull, told}
+use Rattle.cluster_reader.specs.Reading.{Reading, Gives, GoesOn, IsIn, IsSameSegment, Pays, left_of}
 use Rattle.cluster_reader.specs.declared.place.Place.{Place}
-use Rattle.cluster_reader.specs.declared.step.Step.{Step}
-use Rattle.cluster_reader.specs.declared.step.Step.TheVariants.{Block, Damaged, End}
 use Rattle.cluster_reader.specs.declared.turn.Turn.{Turn}
-use Rattle.cluster_reader.specs.declared.turn.Turn.TheVariants.{Passed, Gives}
+use Rattle.cluster_reader.specs.declared.turn.Turn.TheVariants as turn
 use Rattle.cluster_reader.specs.declared.turn.Child.{Child}
 use Rattle.cluster_reader.specs.declared.turn.Child.TheVariants as child
 use Rattle.cluster_reader.specs.declared.walk.Walk.{Walk}
 
--- what is left of the file
-abbrev pub left_of_walk : List ℕ → Walk → List Event
-left_of_walk bytes w = left (reader w.scale) bytes w.place
+-- what a cursor shows of a walk, which has given nothing yet
+abbrev pub shown : Walk → Reading
+shown w = record {
+  file = w.file;
+  scale = w.scale;
+  place = w.place;
+  ahead = w.window;
+  block = w.block;
+  blocks = 0;
+  damages = 0;
+  stopped = w.stopped;
+}
 
 -- ---- what a child gives
 
@@ -43,52 +46,29 @@ Finds bytes scale timestamp h b (child.Damaged d) = found_at (reader scale) byte
 
 -- ---- what a turn gives
 
--- the first of what was left: the block that was read, a damage, or none
-abbrev pub GivesStep : List ℕ → Walk → Walk → Step → Type 0
-GivesStep bytes old new Block = left_of_walk bytes old ≡ block (block_of new.block) ∷ left_of_walk bytes new
-GivesStep bytes old new (Damaged d) = left_of_walk bytes old ≡ told new.stopped d ∷ left_of_walk bytes new
-GivesStep bytes old new End = (left_of_walk bytes old ≡ []) × (left_of_walk bytes new ≡ [])
-
--- The same is left where an Element is passed.
-abbrev pub Turns : List ℕ → Walk → Walk → Turn → Type 0
-Turns bytes old new Passed = left_of_walk bytes new ≡ left_of_walk bytes old
-Turns bytes old new (Gives step) = GivesStep bytes old new step
+-- It gives what is answered, as a cursor does; where an Element is passed the same is left.
+abbrev pub Turns : List ℕ → Walk → Walk → Result Turn ReadEnd → Type 0
+Turns bytes old new (Ok turn.Passed) = left_of bytes (shown new) ≡ left_of bytes (shown old)
+Turns bytes old new (Ok (turn.Gives step)) = Gives bytes (shown old) (shown new) (Ok step)
+Turns bytes old new (Err end) = left_of bytes (shown new) ≡ left_of bytes (shown old)
 
 -- The place goes on; where an Element is passed, fewer turns are left.
 abbrev pub TurnsOn : Place → Place → Turn → Type 0
-TurnsOn old new Passed = (turns_left new < turns_left old) × (old.at ≤ new.at)
-TurnsOn old new (Gives step) = GoesOn step old.at new.at
-
--- what is answered stands; after a failed read or want of memory the same is left
-abbrev pub OrSame : {T : Type 0} → List ℕ → Walk → Walk → (T → Type 0) → Result T ReadEnd → Type 0
-OrSame bytes old new P (Ok answer) = P answer
-OrSame bytes old new P (Err end) = left_of_walk bytes new ≡ left_of_walk bytes old
+TurnsOn old new turn.Passed = (turns_left new < turns_left old) × (old.at ≤ new.at)
+TurnsOn old new (turn.Gives step) = GoesOn step old.at new.at
 
 -- ---- where a walk stands
 
--- The place is one of a live file, and what is held is this file's and not behind the place.
+-- A cursor may stand there, and the place is one of a Segment.
 pub record IsReady (files : LiveFiles) (w : Walk) : Type 0 where
-  pub live : files.live w.file.n ≡ true
+  pub stands : IsIn files (shown w)
   pub scale : 1 ≤ w.scale
   pub place : IsPlace w.place
-  pub inside : w.place.end ≤ files.size w.file.n
-  pub holds : Told (files.content w.file.n) (λ bytes. Holds bytes w.window)
-  pub before : IsBefore w.window w.place.at (files.size w.file.n)
-  pub full : IsFull (files.size w.file.n) w.window
 
 -- It is in the same Segment of the same file.
-pub record IsSameWalk (old new : Walk) : Type 0 where
-  pub file : new.file ≡ old.file
-  pub scale : new.scale ≡ old.scale
-  pub end : new.place.end ≡ old.place.end
+abbrev pub IsSameWalk : Walk → Walk → Type 0
+IsSameWalk old new = IsSameSegment (shown old) (shown new)
 
--- ---- how much is read
-
--- what the way to a place has paid for
-abbrev pub paid_by : ℕ → Walk → ℕ
-paid_by size w = cost_of size w.window + w.place.at
-
--- What is read is paid by the way, but for two octets for each of the file where a call fails.
+-- What is read is paid by the way, as a cursor's.
 abbrev pub PaysFor : {T : Type 0} → ℕ → Walk → Walk → ℕ → ℕ → Result T ReadEnd → Type 0
-PaysFor size old new before now (Ok answer) = now + paid_by size old ≤ before + paid_by size new
-PaysFor size old new before now (Err end) = now + paid_by size old ≤ before + paid_by size new + 2 * size
+PaysFor size old new before now result = Pays size (shown old) (shown new) before now result

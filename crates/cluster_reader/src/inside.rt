@@ -5,7 +5,7 @@ ghost use Rattle.mkv_io.specs.Faults.{HasReadCause};
 ghost use Rattle.mkv_io.specs.Told.{Told};
 ghost use Rattle.matroska_format.specs.Element.{element_at, in_master, is_unknown, stated_end};
 ghost use Rattle.cluster_reader.specs.Left.{ends_children};
-ghost use Rattle.cluster_reader.specs.Walks.{TurnsOn, IsReady, IsSameWalk, OrSame, PaysFor, Turns};
+ghost use Rattle.cluster_reader.specs.Walks.{IsReady, IsSameWalk, PaysFor, Turns, TurnsOn};
 
 use crate::child::read_child;
 use crate::place::Inside;
@@ -28,7 +28,7 @@ fn ends_children(unknown: bool, id: u32) -> bool
 pub fn turn_inside<R: Reads>(walk: &mut Walk, src: &mut R, cluster: Inside) -> Result<Turn, ReadEnd>
     requires ready { IsReady (R.files (R.standing src.old)) walk.old }
     requires inside { walk.old.place.cluster ≡ Some cluster }
-    ensures gives { Told ((R.files (R.standing src.old)).content walk.old.file.n) (λ bytes. OrSame bytes walk.old walk.new (Turns bytes walk.old walk.new) result) }
+    ensures gives { Told ((R.files (R.standing src.old)).content walk.old.file.n) (λ bytes. Turns bytes walk.old walk.new result) }
     ensures on { IfOk result (TurnsOn walk.old.place walk.new.place) }
     ensures same { IsSameWalk walk.old walk.new }
     ensures ready { IsReady (R.files (R.standing src.new)) walk.new }
@@ -69,7 +69,7 @@ fn turn_child<R: Reads>(
     requires within { stated_end header.now ≤ cluster.end }
     requires found { Told ((R.files (R.standing src.old)).content walk.old.file.n) (λ bytes. Ok header.now ≡ element_at in_master bytes walk.old.place.at cluster.end) }
     requires goes { ends_children cluster.unknown header.now.id ≡ false }
-    ensures gives { Told ((R.files (R.standing src.old)).content walk.old.file.n) (λ bytes. OrSame bytes walk.old walk.new (Turns bytes walk.old walk.new) result) }
+    ensures gives { Told ((R.files (R.standing src.old)).content walk.old.file.n) (λ bytes. Turns bytes walk.old walk.new result) }
     ensures on { IfOk result (TurnsOn walk.old.place walk.new.place) }
     ensures same { IsSameWalk walk.old walk.new }
     ensures ready { IsReady (R.files (R.standing src.new)) walk.new }

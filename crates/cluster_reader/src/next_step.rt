@@ -3,8 +3,8 @@
 ghost use Rattle.std.specs.Prelude.{◌≡◌, IfOk};
 ghost use Rattle.mkv_io.specs.Faults.{HasReadCause};
 ghost use Rattle.mkv_io.specs.Told.{Told};
-ghost use Rattle.cluster_reader.specs.Reading.{GoesOn};
-ghost use Rattle.cluster_reader.specs.Walks.{GivesStep, IsReady, IsSameWalk, OrSame, PaysFor, Turns, TurnsOn};
+ghost use Rattle.cluster_reader.specs.Reading.{Gives, GoesOn};
+ghost use Rattle.cluster_reader.specs.Walks.{IsReady, IsSameWalk, PaysFor, Turns, TurnsOn, shown};
 
 use crate::inside::turn_inside;
 use crate::outside::turn_outside;
@@ -17,7 +17,7 @@ use mkv_values::ReadEnd;
 /// The next block or damage, up to which a walk goes on.
 pub fn next_step<R: Reads>(walk: &mut Walk, src: &mut R) -> Result<Step, ReadEnd>
     requires { IsReady (R.files (R.standing src.old)) walk.old }
-    ensures gives { Told ((R.files (R.standing src.old)).content walk.old.file.n) (λ bytes. OrSame bytes walk.old walk.new (GivesStep bytes walk.old walk.new) result) }
+    ensures gives { Told ((R.files (R.standing src.old)).content walk.old.file.n) (λ bytes. Gives bytes (shown walk.old) (shown walk.new) result) }
     ensures on { IfOk result (λ step. GoesOn step walk.old.place.at walk.new.place.at) }
     ensures same { IsSameWalk walk.old walk.new }
     ensures ready { IsReady (R.files (R.standing src.new)) walk.new }
@@ -36,7 +36,7 @@ pub fn next_step<R: Reads>(walk: &mut Walk, src: &mut R) -> Result<Step, ReadEnd
 // What the Element at the place makes of a walk.
 fn turn<R: Reads>(walk: &mut Walk, src: &mut R) -> Result<Turn, ReadEnd>
     requires { IsReady (R.files (R.standing src.old)) walk.old }
-    ensures gives { Told ((R.files (R.standing src.old)).content walk.old.file.n) (λ bytes. OrSame bytes walk.old walk.new (Turns bytes walk.old walk.new) result) }
+    ensures gives { Told ((R.files (R.standing src.old)).content walk.old.file.n) (λ bytes. Turns bytes walk.old walk.new result) }
     ensures on { IfOk result (TurnsOn walk.old.place walk.new.place) }
     ensures same { IsSameWalk walk.old walk.new }
     ensures ready { IsReady (R.files (R.standing src.new)) walk.new }

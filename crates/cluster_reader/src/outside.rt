@@ -3,7 +3,7 @@
 ghost use Rattle.std.specs.Prelude.{◌≡◌, None, IfOk};
 ghost use Rattle.mkv_io.specs.Faults.{HasReadCause};
 ghost use Rattle.mkv_io.specs.Told.{Told};
-ghost use Rattle.cluster_reader.specs.Walks.{TurnsOn, IsReady, IsSameWalk, OrSame, PaysFor, Turns};
+ghost use Rattle.cluster_reader.specs.Walks.{IsReady, IsSameWalk, PaysFor, Turns, TurnsOn};
 
 use crate::step::Step;
 use crate::turn::Turn;
@@ -18,7 +18,7 @@ use mkv_values::ReadEnd;
 pub fn turn_outside<R: Reads>(walk: &mut Walk, src: &mut R) -> Result<Turn, ReadEnd>
     requires ready { IsReady (R.files (R.standing src.old)) walk.old }
     requires outside { walk.old.place.cluster ≡ None }
-    ensures gives { Told ((R.files (R.standing src.old)).content walk.old.file.n) (λ bytes. OrSame bytes walk.old walk.new (Turns bytes walk.old walk.new) result) }
+    ensures gives { Told ((R.files (R.standing src.old)).content walk.old.file.n) (λ bytes. Turns bytes walk.old walk.new result) }
     ensures on { IfOk result (TurnsOn walk.old.place walk.new.place) }
     ensures same { IsSameWalk walk.old walk.new }
     ensures ready { IsReady (R.files (R.standing src.new)) walk.new }

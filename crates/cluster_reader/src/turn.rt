@@ -4,7 +4,7 @@ use crate::step::Step;
 use mkv_values::Damage;
 
 /// What one Element makes of a walk.
-#[derive(Clone, Copy, Debug, PartialEq, Eq)]
+#[derive(Clone, Copy)]
 pub enum Turn {
     /// It was passed, entered or left.
     Passed,
@@ -13,7 +13,7 @@ pub enum Turn {
 }
 
 /// What a child of a Cluster gives.
-#[derive(Clone, Copy, Debug, PartialEq, Eq)]
+#[derive(Clone, Copy)]
 pub enum Child {
     /// Nothing; this Timestamp then stands before the next child.
     Passed(Option<u64>),

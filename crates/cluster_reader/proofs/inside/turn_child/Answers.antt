@@ -5,8 +5,8 @@ use Rattle.block_format.specs.Events.{block}
 use Rattle.block_records.specs.Buffered.{block_of}
 use Rattle.cluster_reader.specs.Left.{left}
 use Rattle.cluster_reader.specs.Places.{IsInCluster, behind_damage}
-use Rattle.cluster_reader.specs.Reading.{told}
-use Rattle.cluster_reader.specs.Walks.{left_of_walk}
+use Rattle.cluster_reader.specs.Reading.{told, left_of}
+use Rattle.cluster_reader.specs.Walks.{shown}
 use Rattle.cluster_reader.specs.declared.walk.Walk.{Walk}
 use Rattle.cluster_reader.proofs.ChildLemmas.{block-no_timestamp}
 use Rattle.cluster_reader.proofs.LeftLemmas.{left-passes, left-block}
@@ -57,5 +57,5 @@ returns-in-Damaged-clause-gives g c = λ bytes content.
     let before : p.at < cluster.end = omega (arith, c.requires.later, c.requires.within) in
     let gives = rw c.in-Damaged.is at (c.in_ok-timestamp.ensures.ok bytes content) in
     left-bad_child r bytes p cluster h d c.requires.inside place before (c.requires.found bytes content) c.requires.goes gives
-    ∙ sym (ap (λ (w : Walk). told w.stopped d ∷ left_of_walk bytes w) c.break_off.ensures
+    ∙ sym (ap (λ (w : Walk). told w.stopped d ∷ left_of bytes (shown w)) c.break_off.ensures
     ∙ ap (λ (w : Walk). told (not cluster.closed) d ∷ left (reader w.scale) bytes (behind_damage w.place cluster)) c.read_child.ensures.only)

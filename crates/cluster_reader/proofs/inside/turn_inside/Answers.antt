@@ -3,8 +3,8 @@ use Rattle.matroska_format.specs.Elements.{id_of}
 use Rattle.block_format.specs.Elements.{reader}
 use Rattle.cluster_reader.specs.Left.{left, ends_children}
 use Rattle.cluster_reader.specs.Places.{IsInCluster, behind_damage}
-use Rattle.cluster_reader.specs.Reading.{told}
-use Rattle.cluster_reader.specs.Walks.{left_of_walk}
+use Rattle.cluster_reader.specs.Reading.{told, left_of}
+use Rattle.cluster_reader.specs.Walks.{shown}
 use Rattle.cluster_reader.specs.declared.place.Place.{Place}
 use Rattle.cluster_reader.specs.declared.walk.Walk.{Walk}
 use Rattle.cluster_reader.proofs.LeftLemmas.{left-leaves}
@@ -39,5 +39,5 @@ returns-in-Err-clause-gives g c = λ bytes content.
     let found = sym c.in-Err.is ∙ c.in_ok-found.ensures.ok bytes content in
     let goes : ends_children cluster.unknown (id_of (Err d)) ≡ false = cc (c.ends_children.ensures, c.id_of.ensures, c.if-ends_children.false, c.in-Err.is) in
     left-child_damaged (reader c.args.walk.now.scale) bytes p cluster d c.requires.inside place c.if-at-cluster.false found goes
-    ∙ sym (ap (λ (w : Walk). told w.stopped d ∷ left_of_walk bytes w) c.break_off.ensures
+    ∙ sym (ap (λ (w : Walk). told w.stopped d ∷ left_of bytes (shown w)) c.break_off.ensures
     ∙ ap (λ (w : Walk). told (not cluster.closed) d ∷ left (reader w.scale) bytes (behind_damage w.place cluster)) c.element.ensures.only)

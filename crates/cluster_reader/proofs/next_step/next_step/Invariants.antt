@@ -1,7 +1,8 @@
 use Rattle.std.proofs.Common.{◌≡◌, ◌+◌, ◌≤◌}
 use Rattle.mkv_io.specs.Told.{Told}
 use Rattle.cluster_reader.specs.Places.{turns_left}
-use Rattle.cluster_reader.specs.Walks.{IsReady, IsSameWalk, left_of_walk, paid_by}
+use Rattle.cluster_reader.specs.Reading.{left_of, paid}
+use Rattle.cluster_reader.specs.Walks.{IsReady, IsSameWalk, shown}
 use Rattle.cluster_reader.proofs.next_step.next_step.Given as goal
 
 abbrev pub invariant-loop-step : goal.invariant-loop-step
@@ -10,9 +11,9 @@ invariant-loop-step g l = record {
   faults : g.R.Reads.reading_faults l.src ≡ g.R.Reads.reading_faults l.initial.src;
   same : IsSameWalk l.fn.walk l.walk;
   ready : IsReady (g.R.Reads.files (g.R.Reads.standing l.src)) l.walk;
-  left : Told ((g.R.Reads.files (g.R.Reads.standing l.initial.src)).content l.fn.walk.file.n) (λ bytes. left_of_walk bytes l.walk ≡ left_of_walk bytes l.fn.walk);
+  left : Told ((g.R.Reads.files (g.R.Reads.standing l.initial.src)).content l.fn.walk.file.n) (λ bytes. left_of bytes (shown l.walk) ≡ left_of bytes (shown l.fn.walk));
   on : l.fn.walk.place.at ≤ l.walk.place.at;
-  pays : g.R.Reads.octets_read l.src + paid_by ((g.R.Reads.files (g.R.Reads.standing l.initial.src)).size l.fn.walk.file.n) l.fn.walk ≤ g.R.Reads.octets_read l.initial.src + paid_by ((g.R.Reads.files (g.R.Reads.standing l.initial.src)).size l.fn.walk.file.n) l.walk;
+  pays : g.R.Reads.octets_read l.src + paid ((g.R.Reads.files (g.R.Reads.standing l.initial.src)).size l.fn.walk.file.n) (shown l.fn.walk) ≤ g.R.Reads.octets_read l.initial.src + paid ((g.R.Reads.files (g.R.Reads.standing l.initial.src)).size l.fn.walk.file.n) (shown l.walk);
 }
 
 abbrev pub decreases-loop-step : goal.decreases-loop-step
