@@ -2,7 +2,7 @@
 use Rattle.std.proofs.Common.{◌≡◌, ℕ, suc, ◌+◌, ◌-◌, ◌≤◌, ◌^◌, min, Bool, true, false, List, [], ◌∷◌, ◌++◌, length, take, drop, map, sum, refl, sym, ◌∙◌, ap, subst, append_assoc, append-nil, arith}
 use Rattle.std.proofs.lemmas.List.{length-take, length-drop}
 use Rattle.std.proofs.lemmas.List.Sums.{sum_by-cons}
-use Rattle.mkv_io.specs.Faults.{counted}
+use Rattle.mkv_io.specs.Faults.{counted, last_count}
 use Rattle.mkv_values.specs.declared.damage.Damage.{Damage}
 use Rattle.block_format.specs.Block.{Block}
 use Rattle.block_format.specs.Content.{frames_cut}
@@ -24,6 +24,8 @@ pub record Meets (events left : List Event) (walked : Walked) : Type 0 where
   pub blocks : counted walked.blocks (length (blocks_of left)) ≡ counted 0 (length (blocks_of events))
   pub octets : counted walked.octets (sum (map octets_in (blocks_of left))) ≡ counted 0 (sum (map octets_in (blocks_of events)))
   pub damages : HasKept (damages_of events) (damages_of left) walked.damages
+  pub most_blocks : walked.blocks ≤ last_count
+  pub most_octets : walked.octets ≤ last_count
 
 -- at the start nothing was met
 pub Meets-begins : (events : List Event) (walked : Walked) → walked.blocks ≡ 0 → walked.octets ≡ 0 → AreThose [] walked.damages → Meets events events walked
@@ -31,6 +33,8 @@ Meets-begins events walked none empty kept = record {
   blocks = ap (λ n. counted n (length (blocks_of events))) none;
   octets = ap (λ n. counted n (sum (map octets_in (blocks_of events)))) empty;
   damages = record { met = []; kept = kept; split = refl };
+  most_blocks = omega arith;
+  most_octets = omega arith;
 }
 
 -- one more of what is counted is counted at once
@@ -61,6 +65,8 @@ Meets-block events left later before walked b meets is one more same = record {
     kept = subst (AreThose meets.damages.met) (sym same) meets.damages.kept;
     split = meets.damages.split ∙ ap (λ es. meets.damages.met ++ damages_of es) is;
   };
+  most_blocks = omega arith;
+  most_octets = omega arith;
 }
   where
     add_one : (n : ℕ) → suc n ≡ 1 + n
@@ -76,6 +82,8 @@ Meets-damage events left later before walked last d meets is none empty adds = r
     kept = adds meets.damages.met meets.damages.kept;
     split = meets.damages.split ∙ ap (λ ds. meets.damages.met ++ ds) (ap damages_of is ∙ one_damage last) ∙ sym (append_assoc meets.damages.met (d ∷ []) (damages_of later));
   };
+  most_blocks = omega (arith, meets.most_blocks);
+  most_octets = omega (arith, meets.most_octets);
 }
   where
     no_block : (last : Bool) → blocks_of (told last d ∷ later) ≡ blocks_of later
@@ -87,12 +95,12 @@ Meets-damage events left later before walked last d meets is none empty adds = r
     one_damage false = refl
 
 -- at the end all was met
-pub Meets-ends : (bytes : List ℕ) (start : Reading) (left : List Event) (walked : Walked) → Meets (left_of bytes start) left walked → left ≡ [] → walked.blocks ≤ 2 ^ 64 - 1 → walked.octets ≤ 2 ^ 64 - 1 → IsWalked bytes start walked
-Meets-ends bytes start left walked meets is small few = record {
-  blocks = alone walked.blocks small ∙ ap (λ (bs : List Block). counted walked.blocks (length bs)) (sym (ap blocks_of is)) ∙ meets.blocks;
-  octets = alone walked.octets few ∙ ap (λ (bs : List Block). counted walked.octets (sum (map octets_in bs))) (sym (ap blocks_of is)) ∙ meets.octets;
+pub Meets-ends : (bytes : List ℕ) (start : Reading) (left : List Event) (walked : Walked) → Meets (left_of bytes start) left walked → left ≡ [] → IsWalked bytes start walked
+Meets-ends bytes start left walked meets is = record {
+  blocks = alone walked.blocks meets.most_blocks ∙ ap (λ (bs : List Block). counted walked.blocks (length bs)) (sym (ap blocks_of is)) ∙ meets.blocks;
+  octets = alone walked.octets meets.most_octets ∙ ap (λ (bs : List Block). counted walked.octets (sum (map octets_in bs))) (sym (ap blocks_of is)) ∙ meets.octets;
   damages = subst (λ ds. AreThose ds walked.damages) (sym (meets.damages.split ∙ ap (λ es. meets.damages.met ++ damages_of es) is ∙ append-nil meets.damages.met)) meets.damages.kept;
 }
   where
-    alone : (n : ℕ) → n ≤ 2 ^ 64 - 1 → n ≡ counted n 0
+    alone : (n : ℕ) → n ≤ last_count → n ≡ counted n 0
     alone n most = grind arith

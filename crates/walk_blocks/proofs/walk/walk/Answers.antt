@@ -1,4 +1,4 @@
-use Rattle.std.proofs.Common.{◌≡◌, List, length, Some, refl, sym, ◌∙◌, ap, arith}
+use Rattle.std.proofs.Common.{◌≡◌, List, length, Some, refl, sym, ◌∙◌, ap}
 use Rattle.mkv_values.specs.declared.outside.FileId.{FileId}
 use Rattle.mkv_io.specs.Faults.{counted}
 use Rattle.block_records.specs.Buffered.{block_of}
@@ -44,4 +44,4 @@ returns-in-End g c = λ bytes told.
     let here = ap (λ s. (g.R.Reads.files s).content c.steps.cursor.file.n) c.steps.invariant.standing
         ∙ ap (λ (f : FileId). (g.R.Reads.files (g.R.Reads.standing c.args.src.now)).content f.n) c.steps.invariant.file ∙ told in
     Meets-ends bytes c.args.cursor.now (left_of bytes c.steps.cursor) c.steps.walked (c.steps.invariant.met bytes told)
-    (rw c.in-End.is at (c.in_ok-advance.ensures.gives bytes here)).0 (let h = c.type_inv in ?) (omega arith)
+    (rw c.in-End.is at (c.in_ok-advance.ensures.gives bytes here)).0
