@@ -7,6 +7,7 @@ mod block;
 mod body;
 mod buffer;
 mod content;
+mod damage;
 mod gathered;
 mod head;
 mod time;
