@@ -1,7 +1,5 @@
 //! Blocks from outside, spelled once with enough memory.
 
-ghost use Rattle.std.specs.Prelude.{◌≤◌, length};
-
 use crate::block::{group_head, simple_head};
 use crate::content::{Spelled, spell};
 use crate::gathered::Gathered;
