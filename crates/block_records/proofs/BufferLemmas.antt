@@ -1,5 +1,5 @@
 -- A block as its buffer has it.
-use Rattle.std.proofs.Common.{◌≡◌, ℕ, ◌+◌, ◌-◌, ◌<◌, ◌≤◌, nat_lt, Bool, true, false, ℤ, List, [], ◌∷◌, length, take, drop, Option, Some, None, Result, Ok, Err, refl, sym, ◌∙◌, ap, ap₂, subst, arith}
+use Rattle.std.proofs.Common.{◌≡◌, ℕ, ◌+◌, ◌-◌, ◌≤◌, nat_lt, Bool, false, ℤ, List, length, take, drop, Option, Some, None, Result, Ok, Err, sym, ◌∙◌, ap, ap₂, subst, arith}
 use Rattle.std.proofs.lemmas.Bool.Decides.{nat_tests}
 use Rattle.std.proofs.lemmas.List.{drop-drop, drop-take, take-take}
 use Rattle.mkv_schema.specs.declared.ids.TheConstants.{BLOCK}
@@ -36,7 +36,7 @@ pub simple_block-spelled : (scale timestamp : ℕ) (bytes octets : List ℕ) (h 
 unfolding simple_block timed
 simple_block-spelled scale timestamp bytes octets h found few body is =
     let more : ℕ → Result Content Kind → Result Block Damage = λ time spelled.
-        and_then (told_of h.id h.offset spelled) (λ content. in_time (reader scale) h.id (simple_block_with scale time h.offset content)) in
+    and_then (told_of h.id h.offset spelled) (λ content. in_time (reader scale) h.id (simple_block_with scale time h.offset content)) in
     ap (timed timestamp h (λ time. more time (content_in (body_of bytes h)))) (not_long (known h.size) few)
     ∙ ap (λ o. more timestamp (content_in o)) (sym body) ∙ ap (more timestamp) is
 
@@ -71,7 +71,7 @@ unfolding of_group
 block_group-spelled scale timestamp bytes octets h block found few is some body spells =
     let list = (group_run bytes h).list in
     let more : Result Content Kind → Result Block Damage = λ spelled.
-        and_then (told_of BLOCK h.offset spelled) (λ content. and_then (unless (too_many_references (reader scale) list) content) (λ content. in_time (reader scale) BLOCK (group_with scale bytes timestamp h.offset list content))) in
+    and_then (told_of BLOCK h.offset spelled) (λ content. and_then (unless (too_many_references (reader scale) list) content) (λ content. in_time (reader scale) BLOCK (group_with scale bytes timestamp h.offset list content))) in
     block_group-refusal scale timestamp bytes h None few is
     ∙ ap (λ o. and_then (block_or h o) (group_among (reader scale) bytes timestamp h.offset list)) some
     ∙ ap (λ o. more (content_in o)) (sym body) ∙ ap more spells

@@ -1,5 +1,5 @@
 -- What a block's octets spell.
-use Rattle.std.proofs.Common.{◌≡◌, ℕ, ℤ, ◌+◌, ◌-◌, ◌<◌, ◌≤◌, ◌==◌, nat_lt, Bool, true, false, not, ◌||◌, if◌then◌else◌, List, [], ◌∷◌, length, take, drop, slice_index, Option, Some, None, Result, Ok, Err, refl, sym, ◌∙◌, ap, subst, arith}
+use Rattle.std.proofs.Common.{◌≡◌, ℕ, ℤ, ◌+◌, ◌-◌, ◌<◌, ◌≤◌, Bool, true, false, if◌then◌else◌, List, [], ◌∷◌, length, take, drop, slice_index, Some, None, Ok, Err, refl, sym, ◌∙◌, ap, subst, arith}
 use Rattle.std.proofs.lemmas.Bool.{cond-true, cond-false}
 use Rattle.std.proofs.lemmas.List.{length-drop, drop-drop}
 use Rattle.std.proofs.lemmas.Bool.Decides.{nat_tests}
@@ -7,14 +7,14 @@ use Rattle.ebml_format.specs.declared.number.NumFault.{NumFault}
 use Rattle.ebml_format.specs.declared.number.NumFault.TheVariants as fault
 use Rattle.ebml_format.specs.declared.number.Size.{Size}
 use Rattle.ebml_format.specs.declared.number.SizeRead.{SizeRead}
-use Rattle.ebml_format.specs.Number.{announced, vint_data, size_of_data, size_at, int_of}
+use Rattle.ebml_format.specs.Number.{announced, vint_data, size_at, int_of}
 use Rattle.ebml_format.proofs.NumberLemmas.{size_at-more, size_at-zero, size_at-is_zero, size_at-reads}
 use Rattle.mkv_values.specs.declared.damage.Kind.{Kind}
 use Rattle.mkv_values.specs.declared.damage.Kind.TheVariants.{ShortBlock}
 use Rattle.lacing.specs.declared.kind.Lace.{Lace}
 use Rattle.lacing.specs.Reading.{data_of}
 use Rattle.lacing.proofs.LaceLemmas.{data_of-size}
-use Rattle.block_format.specs.Content.{has_no_header, header_len, track_in, relative_in, flags_in, lace_of, frames_in, frames_cut, content_with, content_in}
+use Rattle.block_format.specs.Content.{has_no_header, header_len, lace_of, frames_in, frames_cut, content_with, content_in}
 use Rattle.block_records.specs.declared.content.BlockHeader.{BlockHeader}
 use Rattle.block_records.specs.Spelled.{header_of, header_in, AreFrames, Cuts, Spells}
 
@@ -133,10 +133,11 @@ pub Spells-ok : (o sizes : List ℕ) (h : BlockHeader) (kind : Lace) (rest : Lis
 Spells-ok o sizes h kind rest start z found lace behind relative cuts =
     let has = HasHeader-from o h found in
     let all : frames_in (lace_of h.flags) (drop h.len o) ≡ Ok (frames_cut sizes (drop (h.len + start) o)) =
-        sym (ap (λ (l : Lace). frames_in l rest) lace ∙ ap (frames_in (lace_of h.flags)) behind) ∙ cuts.0
-        ∙ ap (λ (l : List ℕ). Ok (frames_cut sizes (drop start l))) behind
-        ∙ ap (λ (l : List ℕ). Ok (frames_cut sizes l)) (drop-drop start h.len o) in
-    (content_in-frames o h has ∙ ap (content_with o) all
-      ∙ ap (λ (x : BlockHeader). Ok (record { track = x.track; relative = x.relative; flags = x.flags; frames = frames_cut sizes (drop (h.len + start) o) })) has.is
-      ∙ ap (λ (x : ℤ). Ok (record { track = h.track; relative = x; flags = h.flags; frames = frames_cut sizes (drop (h.len + start) o) })) (sym relative),
-      AreFrames-behind o sizes h.len start has.inside (subst (λ (l : List ℕ). AreFrames l sizes start) behind cuts.1))
+    sym (ap (λ (l : Lace). frames_in l rest) lace ∙ ap (frames_in (lace_of h.flags)) behind) ∙ cuts.0
+    ∙ ap (λ (l : List ℕ). Ok (frames_cut sizes (drop start l))) behind
+    ∙ ap (λ (l : List ℕ). Ok (frames_cut sizes l)) (drop-drop start h.len o) in (
+      content_in-frames o h has ∙ ap (content_with o) all
+          ∙ ap (λ (x : BlockHeader). Ok (record { track = x.track; relative = x.relative; flags = x.flags; frames = frames_cut sizes (drop (h.len + start) o) })) has.is
+          ∙ ap (λ (x : ℤ). Ok (record { track = h.track; relative = x; flags = h.flags; frames = frames_cut sizes (drop (h.len + start) o) })) (sym relative),
+      AreFrames-behind o sizes h.len start has.inside (subst (λ (l : List ℕ). AreFrames l sizes start) behind cuts.1),
+    )

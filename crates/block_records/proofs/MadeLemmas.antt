@@ -1,5 +1,5 @@
 -- What is made of the children of a BlockGroup.
-use Rattle.std.proofs.Common.{◌≡◌, ℕ, zero, suc, ◌<◌, inl, inr, ℤ, pos, ◌+ℤ◌, ◌*◌, ◌==◌, ◌||◌, Bool, true, false, List, [], ◌∷◌, length, map, take, Option, Some, None, Result, Ok, Err, refl, sym, ◌∙◌, ap, ap₂, arith, min, ◌≤◌}
+use Rattle.std.proofs.Common.{◌≡◌, ℕ, zero, suc, ◌<◌, inl, inr, ℤ, pos, ◌+ℤ◌, ◌*◌, ◌==◌, ◌||◌, Bool, true, false, List, [], ◌∷◌, length, map, take, Option, Some, None, Result, Ok, Err, refl, sym, ◌∙◌, ap, ap₂, arith}
 use Rattle.std.specs.List.{list_any, slice_get}
 use Rattle.std.specs.Option.{option_map, option_map_or}
 use Rattle.std.proofs.lemmas.List.{length-map, take_all}
@@ -18,7 +18,6 @@ use Rattle.block_format.specs.Content.{is_invisible, lace_of}
 use Rattle.block_format.specs.Block.{Block, nanoseconds, is_too_large, has_too_large_time}
 use Rattle.block_format.specs.Elements.{reader, references_among, references_of, duration_of, kept_of, too_many_references, group_with, in_time}
 use Rattle.block_records.specs.declared.block.Times.{Times}
-use Rattle.block_records.specs.declared.head.BlockHead.{BlockHead}
 use Rattle.block_records.specs.declared.content.Spelled.{Spelled}
 use Rattle.block_records.specs.declared.gathered.Gathered.{Gathered}
 use Rattle.block_records.specs.Group.{Gathers}
@@ -75,7 +74,7 @@ group_with-gathered scale timestamp offset bytes children s frames g gathers non
     let count : length (references_among children) ≡ length g.references.items = sym (simp length-map) ∙ ap length items in
     let references : references_of scale bytes children ≡ map (nanoseconds scale) g.references.items = map-twice ticks (nanoseconds scale) (references_among children) ∙ ap (map (nanoseconds scale)) items in
     let duration : duration_of scale bytes children ≡ option_map (λ (n : ℕ). n * scale) g.duration =
-        option_map-twice (λ c. uint_of (body_of bytes c)) (λ n. n * scale) (first_of BLOCK_DURATION children) ∙ ap (option_map (λ (n : ℕ). n * scale)) (sym gathers.duration) in
+    option_map-twice (λ c. uint_of (body_of bytes c)) (λ n. n * scale) (first_of BLOCK_DURATION children) ∙ ap (option_map (λ (n : ℕ). n * scale)) (sym gathers.duration) in
     ap (λ (n : ℕ). group_of scale timestamp offset s frames (n == 0) (duration_of scale bytes children) (references_of scale bytes children) (kept_of bytes children)) count
     ∙ ap (λ d. group_of scale timestamp offset s frames (length g.references.items == 0) d (references_of scale bytes children) (kept_of bytes children)) duration
     ∙ ap (λ l. group_of scale timestamp offset s frames (length g.references.items == 0) (option_map (λ (n : ℕ). n * scale) g.duration) l (kept_of bytes children)) references
@@ -115,7 +114,7 @@ group_found-large scale timestamp offset bytes children s frames g gathers none 
 pub group_found-ok : (scale timestamp offset : ℕ) (bytes : List ℕ) (children : List Header) (s : Spelled) (frames : List (List ℕ)) (g now : Gathered) (t : Times) (ticks time : ℤ) (key invisible : Bool) (kind : Lace) → Gathers bytes children g → g.too_many ≡ None → HasTimes scale ticks g now t → ticks ≡ pos timestamp +ℤ s.relative → now.kept ≡ g.kept → time ≡ t.time → key ≡ (length g.references.items == 0) → invisible ≡ is_invisible s.flags → kind ≡ lace_of s.flags → group_found scale bytes timestamp offset children s frames ≡ Ok (block_with (record { track = s.track; time = time; key = key; invisible = invisible; discardable = false; group = true; lace = kind; duration = t.duration; offset = offset }) frames now.references.items now.kept.items)
 group_found-ok scale timestamp offset bytes children s frames g now t ticks time key invisible kind gathers none times ticks_are kept time_is key_is invisible_is kind_is =
     let made : ℤ → Bool → Bool → Lace → Option ℕ → List ℤ → List ℕ → Result Block Damage = λ z k i l duration references octets.
-        Ok (record { track = s.track; time = z; key = k; invisible = i; discardable = false; group = true; lace = l; frames = frames; duration = duration; references = references; kept = octets; offset = offset }) in
+    Ok (record { track = s.track; time = z; key = k; invisible = i; discardable = false; group = true; lace = l; frames = frames; duration = duration; references = references; kept = octets; offset = offset }) in
     let first = length g.references.items == 0 in
     let duration = option_map (λ (n : ℕ). n * scale) g.duration in
     let references = map (nanoseconds scale) g.references.items in

@@ -1,12 +1,12 @@
 -- The children of a BlockGroup, on the way through its body.
-use Rattle.std.proofs.Common.{◌≡◌, ◌⊎◌, inl, inr, ℕ, ◌+◌, ◌-◌, ◌<◌, ◌≤◌, ◌==◌, not, true, false, List, [], ◌∷◌, ◌++◌, append-nil, append_assoc, length, take, drop, Option, Some, None, IfSome, Result, Ok, Err, refl, sym, ◌∙◌, ap, subst, arith}
-use Rattle.std.proofs.lemmas.List.{drop-drop, drop-take, take-take}
+use Rattle.std.proofs.Common.{◌≡◌, ◌⊎◌, inl, inr, ℕ, ◌+◌, ◌-◌, ◌<◌, ◌≤◌, true, false, List, [], ◌∷◌, ◌++◌, append-nil, append_assoc, length, take, drop, Option, Some, None, IfSome, Result, Ok, Err, refl, sym, ◌∙◌, ap, subst, arith}
+use Rattle.std.proofs.lemmas.List.{drop-take, take-take}
 use Rattle.mkv_schema.specs.declared.ids.TheConstants.{BLOCK_GROUP}
 use Rattle.mkv_values.specs.declared.damage.Damage.{Damage}
 use Rattle.mkv_values.specs.declared.damage.Kind.TheVariants.{BadValue}
 use Rattle.matroska_format.specs.declared.element.Header.{Header}
-use Rattle.matroska_format.specs.Element.{in_master, element_at, octets_between, stated_end, end_in, damage}
-use Rattle.matroska_format.specs.Elements.{Run, children_in, step, before, ends_at, breaks_at, never}
+use Rattle.matroska_format.specs.Element.{in_master, element_at, stated_end, end_in, damage}
+use Rattle.matroska_format.specs.Elements.{Run, children_in, step, before, ends_at, never}
 use Rattle.matroska_format.specs.Value.{body_of, is_known_value}
 use Rattle.matroska_format.proofs.ElementsLemmas.{elements-end, elements-more, Advances-known}
 use Rattle.element_bodies.specs.Body.{IsBody}

@@ -12,6 +12,7 @@ ghost use Rattle.block_records.specs.Group.{Gathers};
 ghost use Rattle.block_records.specs.Made.{has_too_large_ticks, HasTimes, MakesHead};
 
 use crate::content::{Spelled, has_flag, lace_of};
+use crate::damage::damage;
 use crate::gathered::Gathered;
 use crate::head::BlockHead;
 use crate::time::{block_time, scale_all, scaled_duration};
@@ -20,7 +21,9 @@ use mkv_schema::ids::BLOCK;
 use mkv_values::{Damage, Kind};
 
 const KEY: u8 = 0x80;
+
 const INVISIBLE: u8 = 0x08;
+
 const DISCARDABLE: u8 = 0x01;
 
 /// The times of a group in nanoseconds, but for its references.
@@ -41,11 +44,7 @@ pub fn simple_head(
         (in_time (reader scale) header.now.id (simple_block_with scale timestamp header.now.offset (content_of spelled.now frames))) result }
 {
     let Some(time) = block_time(scale, timestamp, spelled.relative) else {
-        return Err(Damage {
-            kind: Kind::TimeTooLarge,
-            id: header.id,
-            offset: header.offset,
-        });
+        return Err(damage(Kind::TimeTooLarge, header.id, header.offset));
     };
     Ok(BlockHead {
         track: spelled.track,
@@ -61,12 +60,7 @@ pub fn simple_head(
 }
 
 // The times of a group, unless one is too large. The references stand in nanoseconds then.
-fn times_of(
-    scale: u64,
-    timestamp: u64,
-    relative: i64,
-    gathered: &mut Gathered,
-) -> Option<Times>
+fn times_of(scale: u64, timestamp: u64, relative: i64, gathered: &mut Gathered) -> Option<Times>
     ensures exact { MatchOption result
         (has_too_large_ticks scale (pos timestamp +ℤ relative) gathered.old.duration gathered.old.references.items ≡ true)
         (HasTimes scale (pos timestamp +ℤ relative) gathered.old gathered.new) }
@@ -95,24 +89,16 @@ pub fn group_head(
 ) -> Result<BlockHead, Damage>
     ensures exact { (bytes : List ℕ) (children : List HeaderRecord) (frames : List (List ℕ)) → Gathers bytes children gathered.old
         → MakesHead frames gathered.new.references.items gathered.new.kept.items
-            (and_then (unless (too_many_references (reader scale) children) (content_of spelled.now frames))
-            (λ content. in_time (reader scale) BLOCK_ID (group_with scale bytes timestamp offset children content))) result }
+        (and_then (unless (too_many_references (reader scale) children) (content_of spelled.now frames))
+        (λ content. in_time (reader scale) BLOCK_ID (group_with scale bytes timestamp offset children content))) result }
     ensures kept { gathered.new.kept ≡ gathered.old.kept }
 {
     if let Some(reference) = gathered.too_many {
-        return Err(Damage {
-            kind: Kind::TooMany,
-            id: reference.id,
-            offset: reference.offset,
-        });
+        return Err(damage(Kind::TooMany, reference.id, reference.offset));
     }
     let key = gathered.references.is_empty();
     let Some(times) = times_of(scale, timestamp, spelled.relative, gathered) else {
-        return Err(Damage {
-            kind: Kind::TimeTooLarge,
-            id: BLOCK,
-            offset,
-        });
+        return Err(damage(Kind::TimeTooLarge, BLOCK, offset));
     };
     Ok(BlockHead {
         track: spelled.track,

@@ -1,6 +1,6 @@
 //! The buffer of a block.
 
-ghost use Rattle.std.specs.Prelude.{◌≡◌, ◌+◌, ◌^◌, ◌≤◌, [], ℕ, List, length, sum, false, Some, OnOk, IfOk, IsTrue, IsErrOf};
+ghost use Rattle.std.specs.Prelude.{◌≡◌, ◌+◌, ◌^◌, ◌≤◌, [], ℕ, List, length, sum, false, Some, OnOk, OnErr, IfOk, IsTrue, IsErrOf};
 ghost use Rattle.mkv_io.specs.Faults.{HasReadCause};
 ghost use Rattle.mkv_io.specs.Told.{Told};
 ghost use Rattle.matroska_format.specs.Element.{is_unknown, known, stated_end};
@@ -12,6 +12,7 @@ ghost use Rattle.block_records.specs.Buffered.{Makes};
 use crate::block::{group_head, simple_head};
 use crate::body::read_body;
 use crate::content::spell;
+use crate::damage::damage;
 use crate::gathered::Gathered;
 use crate::head::BlockHead;
 use block_format::MOST_OF_BLOCK;
@@ -108,6 +109,7 @@ impl BlockBuffer {
         ensures cause { HasReadCause (R.reading_faults src.old) (R.reading_faults src.new) result }
         ensures octets { R.octets_read src.new ≤ R.octets_read src.old + known header.now.size }
         ensures memory { IsErrOf result ReadEnd.Memory → R.octets_read src.new ≡ R.octets_read src.old }
+        ensures err { OnErr result (self.new.octets ≡ []) }
     {
         self.forget();
         self.len = 0;
@@ -146,17 +148,12 @@ impl BlockBuffer {
         requires length { length self.old.octets ≡ known header.now.size }
         ensures exact { IfOk result (λ found. (bytes : List ℕ) → self.old.octets ≡ body_of bytes header.now
             → Makes found self.new (simple_block (reader scale) bytes (Some timestamp) header.now)) }
+        ensures octets { self.new.octets ≡ self.old.octets }
     {
         self.forget();
         let spelled = match spell(&self.octets[..self.len], &mut self.sizes)? {
             Ok(spelled) => spelled,
-            Err(kind) => {
-                return Ok(Err(Damage {
-                    kind,
-                    id: header.id,
-                    offset: header.offset,
-                }));
-            }
+            Err(kind) => return Ok(Err(damage(kind, header.id, header.offset))),
         };
         self.start = spelled.start;
         self.end = self.len;
@@ -185,6 +182,7 @@ impl BlockBuffer {
         requires short { total ≤ 2 ^ 48 }
         ensures exact { IfOk result (λ found. (bytes : List ℕ) → length bytes ≡ total → self.old.octets ≡ body_of bytes header.now
             → Makes found self.new (block_group (reader scale) bytes (Some timestamp) header.now)) }
+        ensures octets { self.new.octets ≡ self.old.octets }
     {
         self.forget();
         let body = &self.octets[..self.len];
@@ -192,27 +190,23 @@ impl BlockBuffer {
             return Ok(Err(damage));
         }
         let Some(block) = self.gathered.block else {
-            return Ok(Err(Damage {
-                kind: Kind::MissingChild,
-                id: BLOCK,
-                offset: header.offset,
-            }));
+            return Ok(Err(damage(Kind::MissingChild, BLOCK, header.offset)));
         };
         let start = (block.body - header.body) as usize;
         let end = start + known(block.size) as usize;
         let spelled = match spell(&body[start..end], &mut self.sizes)? {
             Ok(spelled) => spelled,
-            Err(kind) => {
-                return Ok(Err(Damage {
-                    kind,
-                    id: BLOCK,
-                    offset: header.offset,
-                }));
-            }
+            Err(kind) => return Ok(Err(damage(kind, BLOCK, header.offset))),
         };
         self.start = start + spelled.start;
         self.end = end;
-        match group_head(scale, timestamp, header.offset, &spelled, &mut self.gathered) {
+        match group_head(
+            scale,
+            timestamp,
+            header.offset,
+            &spelled,
+            &mut self.gathered,
+        ) {
             Ok(head) => {
                 self.head = head;
                 Ok(Ok(()))

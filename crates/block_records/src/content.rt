@@ -27,7 +27,7 @@ pub struct BlockHeader {
 }
 
 /// What the octets of a Block or a SimpleBlock spell, but for the sizes of the frames.
-#[derive(Clone, Copy)]
+#[derive(Clone, Copy, Debug, PartialEq, Eq)]
 pub struct Spelled {
     /// The TrackNumber of its track.
     pub track: u64,

@@ -11,6 +11,7 @@ ghost use Rattle.element_bodies.specs.Body.{IsBody};
 ghost use Rattle.block_format.specs.Elements.{octets_of};
 ghost use Rattle.block_records.specs.Group.{Gathers, GathersRun, IsInside, IsPart};
 
+use crate::damage::damage;
 use arrayvec::ArrayVec;
 use block_format::SLICES;
 use ebml_numbers::{read_int, read_uint};
@@ -126,11 +127,7 @@ impl Gathered {
             };
             let value = octets_of(body, base, &child);
             if !is_known_value(BLOCK_GROUP, child.id, value) {
-                return Ok(Err(Damage {
-                    kind: Kind::BadValue,
-                    id: child.id,
-                    offset: child.offset,
-                }));
+                return Ok(Err(damage(Kind::BadValue, child.id, child.offset)));
             }
             self.add(&child, value, element_of(body, base, &child))?;
             at = child.body + known(child.size);

@@ -7,6 +7,7 @@ mod block;
 mod body;
 mod buffer;
 mod content;
+mod damage;
 mod gathered;
 mod head;
 mod time;
@@ -15,3 +16,6 @@ pub use block_format::MOST_OF_BLOCK;
 pub use buffer::BlockBuffer;
 pub use head::BlockHead;
 pub use lacing::Lace;
+
+#[cfg(test)]
+mod tests;

@@ -1,4 +1,4 @@
-use Rattle.std.proofs.Common.{◌≡◌, ◌∙◌, ℤ, pos, ◌+ℤ◌, SFits, w64, sym, ap, rules}
+use Rattle.std.proofs.Common.{◌∙◌, ℤ, pos, ◌+ℤ◌, SFits, w64, sym, ap, rules, Err}
 use Rattle.std.proofs.lemmas.Int.{to_z-of_z}
 use Rattle.block_records.specs.Made.{has_too_large_ticks}
 use Rattle.block_records.proofs.MadeLemmas.{group_found-large, group_found-ok, none_where}
@@ -13,6 +13,7 @@ returns-in_default-times_of-clause-exact c = λ bytes children frames gathers.
     let none = none_where g.too_many c.in_default.not-Some in
     group_found-large c.args.scale c.args.timestamp c.args.offset bytes children s frames g gathers none
     (ap (λ (z : ℤ). has_too_large_ticks c.args.scale (pos c.args.timestamp +ℤ z) g.duration g.references.items) (sym (to_z-of_z w64 s.relative fits)) ∙ c.in_default-times_of.ensures.exact)
+    ∙ ap Err (sym c.damage-in_default-times_of.ensures)
 
 -- no time is
 pub returns-clause-exact : goal.returns-clause-exact

@@ -1,4 +1,4 @@
-use Rattle.std.proofs.Common.{◌≡◌, length, take, drop, ◌∙◌, ap, sym, arith}
+use Rattle.std.proofs.Common.{◌≡◌, length, take, ◌∙◌, ap, sym, arith}
 use Rattle.std.proofs.lemmas.List.{drop-take, length-take, take_at}
 use Rattle.mkv_io.specs.Contents.{octets_from}
 use Rattle.matroska_format.specs.Element.{known}

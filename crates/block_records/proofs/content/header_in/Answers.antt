@@ -1,7 +1,6 @@
-use Rattle.std.proofs.Common.{◌≡◌, ◌+◌, ◌≤◌, length, ℤ, Some, SFits, to_z, of_z, w64, slice_index, sym, ◌∙◌, ap, arith, rules}
+use Rattle.std.proofs.Common.{◌+◌, ℤ, Some, SFits, w64, slice_index, sym, ◌∙◌, ap, arith, rules}
 use Rattle.std.proofs.lemmas.Int.{to_z-of_z}
 use Rattle.block_records.proofs.ContentLemmas.{header_in-cut, header_in-short, header_in-found}
-use Rattle.block_records.specs.declared.content.BlockHeader.{BlockHeader}
 use Rattle.block_records.proofs.content.header_in.Goals as goal
 
 pub returns-in_default : goal.returns-in_default

@@ -1,4 +1,4 @@
-use Rattle.std.proofs.Common.{◌≡◌, ◌∷◌, ◌<◌, slice_index, ap, ◌∙◌, sym, arith}
+use Rattle.std.proofs.Common.{◌≡◌, slice_index, ap, arith}
 use Rattle.block_records.proofs.content.laced_frames.Goals as goal
 
 -- the first octet is one

@@ -1,4 +1,4 @@
-use Rattle.std.proofs.Common.{◌≡◌, ◌-◌, ◌∷◌, Ok, Err, length, take, drop, ℤ, SFits, w64, sym, ap, ◌∙◌, arith, rules}
+use Rattle.std.proofs.Common.{SFits, w64, sym, ◌∙◌, rules}
 use Rattle.std.proofs.lemmas.Int.{to_z-of_z}
 use Rattle.std.proofs.lemmas.List.{take_rest}
 use Rattle.block_records.proofs.ContentLemmas.{content_in-none, Spells-ok, Spells-err}

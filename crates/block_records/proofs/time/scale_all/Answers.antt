@@ -1,4 +1,4 @@
-use Rattle.std.proofs.Common.{◌≡◌, ◌<◌, ℤ, pos, length, get_or, SFits, to_z, of_z, w64, sym, ◌∙◌, ap, arith, rules, Some}
+use Rattle.std.proofs.Common.{◌≡◌, pos, get_or, SFits, to_z, of_z, w64, ◌∙◌, ap, rules}
 use Rattle.std.proofs.lemmas.Int.{to_z-of_z}
 use Rattle.std.proofs.Math.ListN.{set}
 use Rattle.std.specs.Int.{w128}

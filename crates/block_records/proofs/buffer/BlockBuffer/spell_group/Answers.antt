@@ -1,8 +1,6 @@
-use Rattle.std.proofs.Common.{◌≡◌, ◌+◌, ◌-◌, ◌≤◌, ℕ, List, take, drop, length, Some, None, Ok, Err, refl, sym, ap, ◌∙◌, arith}
+use Rattle.std.proofs.Common.{◌≡◌, ◌+◌, ◌-◌, ◌≤◌, ℕ, List, take, drop, length, None, Err, refl, sym, ap, ◌∙◌, arith}
 use Rattle.std.proofs.lemmas.List.{length-take}
-use Rattle.matroska_format.specs.Element.{known, stated_end}
 use Rattle.matroska_format.specs.Value.{body_of}
-use Rattle.block_format.specs.Content.{frames_cut}
 use Rattle.block_format.specs.Elements.{group_run, group_refusal}
 use Rattle.element_bodies.specs.Body.{IsBody}
 use Rattle.block_records.specs.Buffered.{Buffered}
@@ -26,24 +24,21 @@ gathered c bytes whole body =
     GathersRun-held bytes c.args.header.now (take c.self.inside.len c.deref.result.now) c.gather.new.self c.in_ok-damage.field-0 (ap length (held after) ∙ c.requires.length)
     (c.in_ok-damage.ensures.exact bytes (body_held after bytes whole body))
 
-pub returns-in-Err : goal.returns-in-Err
-returns-in-Err c = record {
-  exact = λ bytes whole body.
-      block_group-refused c.args.scale c.args.timestamp bytes c.args.header.now c.in-Err.damage c.requires.few
-      (rw c.in-Err.is at (gathered (goal.at.returns-in-Err c).In_ok-damage bytes whole body));
-}
+-- a child refuses the group
+pub returns-in-Err-clause-exact : goal.returns-in-Err-clause-exact
+returns-in-Err-clause-exact c = λ bytes whole body.
+    block_group-refused c.args.scale c.args.timestamp bytes c.args.header.now c.in-Err.damage c.requires.few
+    (rw c.in-Err.is at (gathered (goal.at.returns-in-Err-clause-exact c).In_ok-damage bytes whole body))
 
 -- nothing is wrong with them
 good : (c : In_default) (bytes : List ℕ) → length bytes ≡ c.args.total → c.args.self.now.octets ≡ body_of bytes c.args.header.now → (group_refusal bytes (group_run bytes c.args.header.now) ≡ None) × Gathers bytes (group_run bytes c.args.header.now).list c.gather.new.self
 good c bytes whole body = rw c.in_default.is at (gathered (goal.at.In_default c).In_ok-damage bytes whole body)
 
 -- there is no Block
-pub returns-in_default-block : goal.returns-in_default-block
-returns-in_default-block c = record {
-  exact = λ bytes whole body.
-      let found = good (goal.at.returns-in_default-block c).In_default bytes whole body in
-      block_group-without c.args.scale c.args.timestamp bytes c.args.header.now c.requires.few found.0 (sym found.1.block ∙ c.in_default-block.is);
-}
+pub returns-in_default-block-clause-exact : goal.returns-in_default-block-clause-exact
+returns-in_default-block-clause-exact c = λ bytes whole body.
+    let found = good (goal.at.returns-in_default-block-clause-exact c).In_default bytes whole body in
+    block_group-without c.args.scale c.args.timestamp bytes c.args.header.now c.requires.few found.0 (sym found.1.block ∙ c.in_default-block.is) ∙ ap Err (sym c.damage.ensures)
 
 -- the Block's octets
 block_held : (c : After-spell) (bytes : List ℕ) → length bytes ≡ c.args.total → c.args.self.now.octets ≡ body_of bytes c.args.header.now → take (c.in-Some.block.body - c.args.header.now.body + c.known.result - (c.in-Some.block.body - c.args.header.now.body)) (drop (c.in-Some.block.body - c.args.header.now.body) (take c.self.inside.len c.deref.result.now)) ≡ body_of bytes c.in-Some.block
@@ -54,24 +49,21 @@ block_held c bytes whole body =
     (body_held (goal.at.After-spell c).After-gather bytes whole body) lies.from lies.within refl (omega (arith, c.known.ensures))
 
 -- its Block is none
-pub returns-in-Err-2 : goal.returns-in-Err-2
-returns-in-Err-2 c = record {
-  exact = λ bytes whole body.
-      let found = good (goal.at.returns-in-Err-2 c).In_default bytes whole body in
-      block_group-spelled c.args.scale c.args.timestamp bytes _ c.args.header.now c.in-Some.block (Err c.in-Err-2.kind) c.requires.few found.0 (sym found.1.block ∙ c.in-Some.is)
-      (block_held (goal.at.returns-in-Err-2 c).After-spell bytes whole body) (rw c.in-Err-2.is at c.in_ok-spelled.ensures.exact);
-}
+pub returns-in-Err-2-clause-exact : goal.returns-in-Err-2-clause-exact
+returns-in-Err-2-clause-exact c = λ bytes whole body.
+    let found = good (goal.at.returns-in-Err-2-clause-exact c).In_default bytes whole body in
+    block_group-spelled c.args.scale c.args.timestamp bytes _ c.args.header.now c.in-Some.block (Err c.in-Err-2.kind) c.requires.few found.0 (sym found.1.block ∙ c.in-Some.is)
+    (block_held (goal.at.returns-in-Err-2-clause-exact c).After-spell bytes whole body) (rw c.in-Err-2.is at c.in_ok-spelled.ensures.exact)
+    ∙ ap Err (sym c.damage-in-Err-2.ensures)
 
 -- it has too many references, or a time is too large
-pub returns-in-Err-group_head : goal.returns-in-Err-group_head
-returns-in-Err-group_head c = record {
-  exact = λ bytes whole body.
-      let found = good (goal.at.returns-in-Err-group_head c).In_default bytes whole body in
-      let spells = rw c.in-Ok.is at c.in_ok-spelled.ensures.exact in
-      block_group-spelled c.args.scale c.args.timestamp bytes _ c.args.header.now c.in-Some.block _ c.requires.few found.0 (sym found.1.block ∙ c.in-Some.is)
-      (block_held (goal.at.returns-in-Err-group_head c).After-spell bytes whole body) spells.0
-      ∙ c.in-Err-group_head.ensures.exact bytes (group_run bytes c.args.header.now).list _ found.1;
-}
+pub returns-in-Err-group_head-clause-exact : goal.returns-in-Err-group_head-clause-exact
+returns-in-Err-group_head-clause-exact c = λ bytes whole body.
+    let found = good (goal.at.returns-in-Err-group_head-clause-exact c).In_default bytes whole body in
+    let spells = rw c.in-Ok.is at c.in_ok-spelled.ensures.exact in
+    block_group-spelled c.args.scale c.args.timestamp bytes _ c.args.header.now c.in-Some.block _ c.requires.few found.0 (sym found.1.block ∙ c.in-Some.is)
+    (block_held (goal.at.returns-in-Err-group_head-clause-exact c).After-spell bytes whole body) spells.0
+    ∙ c.in-Err-group_head.ensures.exact bytes (group_run bytes c.args.header.now).list _ found.1
 
 -- the frames are those of the Block
 frames_held : (c : After-spell) (start : ℕ) → (let base = c.in-Some.block.body - c.args.header.now.body in let end = base + c.known.result in start ≤ length (take (end - base) (drop base (take c.self.inside.len c.deref.result.now))) → take (end - (base + start)) (drop (base + start) c.self.inside.octets.items) ≡ drop start (take (end - base) (drop base (take c.self.inside.len c.deref.result.now))))
@@ -89,14 +81,13 @@ frames_held c start inside =
     frames-place c.self.inside.octets.items c.self.inside.len base start end order past
     ∙ ap (λ l. drop start (take (end - base) (drop base (take c.self.inside.len l)))) (sym c.deref.ensures.value)
 
-pub returns-in-Ok-group_head : goal.returns-in-Ok-group_head
-returns-in-Ok-group_head c = record {
-  exact = λ bytes whole body.
-      let found = good (goal.at.returns-in-Ok-group_head c).In_default bytes whole body in
-      let spells = rw c.in-Ok.is at c.in_ok-spelled.ensures.exact in
-      let frames = frames_held (goal.at.returns-in-Ok-group_head c).After-spell c.in-Ok.spelled.start spells.1.inside in
-      block_group-spelled c.args.scale c.args.timestamp bytes _ c.args.header.now c.in-Some.block _ c.requires.few found.0 (sym found.1.block ∙ c.in-Some.is)
-      (block_held (goal.at.returns-in-Ok-group_head c).After-spell bytes whole body) spells.0
-      ∙ c.in-Ok-group_head.ensures.exact bytes (group_run bytes c.args.header.now).list _ found.1
-      ∙ same-block c.in-Ok-group_head.head c.spell.new.sizes.items _ _ _ _ _ _ (sym frames) refl refl;
-}
+-- it is a block
+pub returns-in-Ok-group_head-clause-exact : goal.returns-in-Ok-group_head-clause-exact
+returns-in-Ok-group_head-clause-exact c = λ bytes whole body.
+    let found = good (goal.at.returns-in-Ok-group_head-clause-exact c).In_default bytes whole body in
+    let spells = rw c.in-Ok.is at c.in_ok-spelled.ensures.exact in
+    let frames = frames_held (goal.at.returns-in-Ok-group_head-clause-exact c).After-spell c.in-Ok.spelled.start spells.1.inside in
+    block_group-spelled c.args.scale c.args.timestamp bytes _ c.args.header.now c.in-Some.block _ c.requires.few found.0 (sym found.1.block ∙ c.in-Some.is)
+    (block_held (goal.at.returns-in-Ok-group_head-clause-exact c).After-spell bytes whole body) spells.0
+    ∙ c.in-Ok-group_head.ensures.exact bytes (group_run bytes c.args.header.now).list _ found.1
+    ∙ same-block c.in-Ok-group_head.head c.spell.new.sizes.items _ _ _ _ _ _ (sym frames) refl refl

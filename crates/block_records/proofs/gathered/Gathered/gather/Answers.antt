@@ -1,8 +1,8 @@
-use Rattle.std.proofs.Common.{◌≡◌, ◌+◌, ◌≤◌, length, refl, sym, ◌∙◌, ap, subst, arith, Option, None}
+use Rattle.std.proofs.Common.{◌+◌, ◌≤◌, length, refl, sym, ◌∙◌, ap, subst, Some, arith, Option}
 use Rattle.std.specs.Option.{IfSome}
 use Rattle.mkv_schema.specs.declared.ids.TheConstants.{BLOCK_GROUP}
 use Rattle.matroska_format.specs.declared.element.Header.{Header}
-use Rattle.matroska_format.specs.Element.{in_master, end_in, stated_end}
+use Rattle.matroska_format.specs.Element.{in_master, stated_end}
 use Rattle.matroska_format.specs.Elements.{children_in}
 use Rattle.matroska_format.specs.Value.{is_known_value}
 use Rattle.block_records.specs.Group.{IsInside}
@@ -32,7 +32,7 @@ returns-then-not-is_known_value-clause-exact c = λ bytes is.
     let e = c.args.base + length c.args.body.now in
     let h = c.in-Ok.child in
     let bad = sym (c.is_known_value.ensures ∙ ap (is_known_value BLOCK_GROUP h.id) (c.octets_of-value.ensures bytes c.args.total is)) ∙ c.if-not-is_known_value.true in
-    IsOnWay-bad bytes (children_in in_master bytes c.args.base e) c.loop-at.self c.loop-at.at e h (c.loop-at.invariant.way bytes is) c.loop-at-test.true (c.in-Ok.ensures.exact bytes is) bad
+    IsOnWay-bad bytes (children_in in_master bytes c.args.base e) c.loop-at.self c.loop-at.at e h (c.loop-at.invariant.way bytes is) c.loop-at-test.true (c.in-Ok.ensures.exact bytes is) bad ∙ ap Some (sym c.damage.ensures)
 
 -- another child is passed
 pub loop-at-preserved : goal.loop-at-preserved

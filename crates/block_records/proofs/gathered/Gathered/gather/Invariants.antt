@@ -1,4 +1,4 @@
-use Rattle.std.proofs.Common.{◌≡◌, ◌+◌, ◌-◌, ◌≤◌, ℕ, List, length}
+use Rattle.std.proofs.Common.{◌+◌, ◌-◌, ◌≤◌, ℕ, List, length}
 use Rattle.std.specs.Option.{IfSome}
 use Rattle.matroska_format.specs.Element.{in_master}
 use Rattle.matroska_format.specs.Elements.{children_in}
