@@ -80,13 +80,13 @@ fn tell<R: Reads>(alloc: Global, cursor: &mut Cursor, src: &mut R) -> Result<Str
     requires { IsIn (R.files (R.standing src.old)) cursor.old }
 {
     let mut text = String::new(alloc);
-    let mut ends = 0;
+    let mut ends: u8 = 0;
     for _ in 0..1000 {
         match cursor.advance(src) {
             Ok(step) => {
                 tell_step(cursor, step, &mut text)?;
                 if step == Step::End {
-                    ends += 1;
+                    ends = ends.saturating_add(1);
                 }
             }
             Err(ReadEnd::ReadFault) => text.push_str("fault\n")?,

@@ -392,7 +392,7 @@ fn a_hundred_damages_are_told_and_the_others_counted(rt: HostRuntime) -> Result<
 /// A closed Cluster with one SimpleBlock of 1 MiB.
 fn large_cluster(alloc: Global, timestamp: u8) -> Result<Vec<u8>, AllocError> {
     let head = [
-        0x1F, 0x43, 0xB6, 0x75, 0x10, 0x10, 0x00, 0x07, 0xE7, 0x81, timestamp, 0xA3, 0x10, 0x10,
+        0x1F, 0x43, 0xB6, 0x75, 0x10, 0x10, 0x00, 0x08, 0xE7, 0x81, timestamp, 0xA3, 0x10, 0x10,
         0x00, 0x00, 0x81, 0x00, 0x00, 0x80,
     ];
     let mut octets = joined(alloc, &[&head])?;
@@ -412,19 +412,16 @@ fn a_block_whose_read_fails_is_given_by_the_next_call(rt: HostRuntime) -> Result
     assert!(rt; octets.len() < 10_000_000);
     let whole = told(rt.alloc(), octets.as_slice(), None)?;
     let lines = "32: track 1 at 0 key None [1048572]\n\
-         1048628: track 1 at 1000000 key None [1048572]\nend\nend\n";
+         1048624: track 1 at 1000000 key None [1048572]\nend\nend\n";
     assert_eq!(rt; whole.as_str(), lines);
     let failed = "32: track 1 at 0 key None [1048572]\nfault\n\
-         1048628: track 1 at 1000000 key None [1048572]\nend\nend\n";
-    let mut seen = 0;
+         1048624: track 1 at 1000000 key None [1048572]\nend\nend\n";
+    let mut seen = false;
     for call in 1..20 {
         let text = told(rt.alloc(), octets.as_slice(), Some(call))?;
-        if text.as_str() == failed {
-            seen += 1;
-        }
+        seen |= text.as_str() == failed;
     }
-    // the second Cluster's header and its block are read by themselves
-    assert!(rt; seen > 0);
+    assert!(rt; seen);
     Ok(())
 }
 
