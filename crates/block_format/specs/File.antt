@@ -2,7 +2,6 @@
 use Rattle.std.specs.Prelude.{ℕ, Bool, List}
 use Rattle.matroska_format.specs.declared.element.Header.{Header}
 use Rattle.meta_format.specs.Info.{file_scale}
-use Rattle.block_format.specs.Elements.{Rules}
 use Rattle.block_format.specs.Events.{Event, events_of}
 
 -- The blocks and the damages of a content with this Segment, with the limits of a reader or without.

@@ -1,12 +1,12 @@
 -- A walk over the blocks of a file, one step at a time.
-use Rattle.std.proofs.Common.{◌≡◌, ℕ, suc, ◌+◌, ◌-◌, ◌≤◌, ◌^◌, min, Bool, true, false, List, [], ◌∷◌, ◌++◌, length, take, drop, map, sum, refl, sym, ◌∙◌, ap, subst, append_assoc, append-nil, arith}
+use Rattle.std.proofs.Common.{◌≡◌, ℕ, suc, ◌+◌, ◌≤◌, Bool, true, false, List, [], ◌∷◌, ◌++◌, length, take, drop, map, sum, refl, sym, ◌∙◌, ap, subst, append_assoc, append-nil, arith}
 use Rattle.std.proofs.lemmas.List.{length-take, length-drop}
 use Rattle.std.proofs.lemmas.List.Sums.{sum_by-cons}
 use Rattle.mkv_io.specs.Faults.{counted, last_count}
 use Rattle.mkv_values.specs.declared.damage.Damage.{Damage}
 use Rattle.block_format.specs.Block.{Block}
 use Rattle.block_format.specs.Content.{frames_cut}
-use Rattle.block_format.specs.Events.{Event, block, damaged, stopped, blocks_of, damages_of}
+use Rattle.block_format.specs.Events.{Event, block, blocks_of, damages_of}
 use Rattle.cluster_reader.specs.Reading.{Reading, left_of, told}
 use Rattle.cluster_reader.specs.Told.{AreThose}
 use Rattle.cluster_reader.specs.declared.damages.Damages.{Damages}

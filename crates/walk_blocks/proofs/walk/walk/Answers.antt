@@ -1,4 +1,4 @@
-use Rattle.std.proofs.Common.{◌≡◌, List, length, Some, refl, sym, ◌∙◌, ap}
+use Rattle.std.proofs.Common.{length, refl, sym, ◌∙◌, ap}
 use Rattle.mkv_values.specs.declared.outside.FileId.{FileId}
 use Rattle.mkv_io.specs.Faults.{counted}
 use Rattle.block_records.specs.Buffered.{block_of}
@@ -17,7 +17,7 @@ steps-preserved-in-Block g c =
       file = c.in_ok-advance.ensures.same.file ∙ c.steps.invariant.file;
       met = λ bytes told.
           let here = ap (λ s. (g.R.Reads.files s).content c.steps.cursor.file.n) c.steps.invariant.standing
-              ∙ ap (λ (f : FileId). (g.R.Reads.files (g.R.Reads.standing c.args.src.now)).content f.n) c.steps.invariant.file ∙ told in
+          ∙ ap (λ (f : FileId). (g.R.Reads.files (g.R.Reads.standing c.args.src.now)).content f.n) c.steps.invariant.file ∙ told in
           Meets-block (left_of bytes c.args.cursor.now) (left_of bytes c.steps.cursor) (left_of bytes c.advance.new.self) c.steps.walked _ (block_of b)
           (c.steps.invariant.met bytes told) (rw c.in-Block.is at (c.in_ok-advance.ensures.gives bytes here)) c.saturating_add.ensures
           (c.saturating_add-in-Block.ensures ∙ ap (counted c.steps.walked.octets) (octets ∙ sym (frames_cut-sum b.sizes b.body (c.body.ensures.cut ∙ octets))))
@@ -32,7 +32,7 @@ steps-preserved g c = record {
   file = c.in_ok-advance.ensures.same.file ∙ c.steps.invariant.file;
   met = λ bytes told.
       let here = ap (λ s. (g.R.Reads.files s).content c.steps.cursor.file.n) c.steps.invariant.standing
-          ∙ ap (λ (f : FileId). (g.R.Reads.files (g.R.Reads.standing c.args.src.now)).content f.n) c.steps.invariant.file ∙ told in
+      ∙ ap (λ (f : FileId). (g.R.Reads.files (g.R.Reads.standing c.args.src.now)).content f.n) c.steps.invariant.file ∙ told in
       Meets-damage (left_of bytes c.args.cursor.now) (left_of bytes c.steps.cursor) (left_of bytes c.advance.new.self) c.steps.walked _ c.advance.new.self.stopped c.in-Damaged.damage
       (c.steps.invariant.met bytes told) (rw c.in-Damaged.is at (c.in_ok-advance.ensures.gives bytes here)) refl refl
       (λ list those. c.in-Ok.ensures.ok list those);
@@ -42,6 +42,6 @@ steps-preserved g c = record {
 pub returns-in-End : goal.returns-in-End
 returns-in-End g c = λ bytes told.
     let here = ap (λ s. (g.R.Reads.files s).content c.steps.cursor.file.n) c.steps.invariant.standing
-        ∙ ap (λ (f : FileId). (g.R.Reads.files (g.R.Reads.standing c.args.src.now)).content f.n) c.steps.invariant.file ∙ told in
+    ∙ ap (λ (f : FileId). (g.R.Reads.files (g.R.Reads.standing c.args.src.now)).content f.n) c.steps.invariant.file ∙ told in
     Meets-ends bytes c.args.cursor.now (left_of bytes c.steps.cursor) c.steps.walked (c.steps.invariant.met bytes told)
     (rw c.in-End.is at (c.in_ok-advance.ensures.gives bytes here)).0

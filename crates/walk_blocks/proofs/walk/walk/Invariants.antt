@@ -1,4 +1,4 @@
-use Rattle.std.proofs.Common.{◌≡◌, ◌-◌, ◌≤◌, ℕ, List}
+use Rattle.std.proofs.Common.{◌≡◌, ◌-◌}
 use Rattle.mkv_io.specs.Told.{Told}
 use Rattle.cluster_reader.specs.Reading.{IsIn, left_of}
 use Rattle.walk_blocks.proofs.WalkLemmas.{Meets}
