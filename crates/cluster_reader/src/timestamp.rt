@@ -1,4 +1,4 @@
-//! The Timestamp of a Cluster: RFC 9559, section 5.1.3.1 (Timestamp Element).
+//! The Timestamp of a Cluster: RFC 9559, section 5.1.3 (Cluster Element).
 
 ghost use Rattle.std.specs.Prelude.{◌≡◌, ◌≤◌, ◌+◌, false, IfOk, IsTrue};
 ghost use Rattle.mkv_io.specs.Faults.{HasCause};
