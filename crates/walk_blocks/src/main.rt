@@ -1,7 +1,7 @@
 #![tactic(auto)]
 
-//! Walks over the blocks of a file, and prints how many there are, the octets of their frames, and what is
-//! damaged: a tool for the makers of this suite, which reads as every command does.
+//! Walks over the blocks of a file, and prints how many there are, the octets of their frames, and a line for
+//! each damage, in the suite's own words: a tool for its makers.
 
 mod scale;
 mod walk;
@@ -9,60 +9,80 @@ mod walk;
 ghost use Rattle.std.specs.Prelude.{IsTrue};
 
 use cluster_reader::Cursor;
-use element_reader::Outline;
+use element_reader::{Outline, OutlineEnd};
 use mkv_host::RealFiles;
 use mkv_io::{Files, Reads};
-use mkv_values::FileId;
+use mkv_lines::{Line, Status};
+use mkv_values::{FileId, OpenFault};
 use scale::scale_of;
 use std::alloc::Global;
 use std::process::ExitCode;
 use std::{env, io};
 use walk::{Walked, walk};
 
-/// The blocks of a live file, where its outline and its scale can be read.
-fn walk_file<R: Reads>(alloc: Global, src: &mut R, file: FileId) -> Option<Walked>
+/// The blocks of a live file, or why they aren't read.
+fn walk_file<R: Reads>(alloc: Global, src: &mut R, file: FileId) -> Result<Walked, OutlineEnd>
     requires { IsTrue ((R.files (R.standing src.old)).live file.n) }
 {
-    let outline = Outline::read(alloc, src, file).ok()?;
+    let outline = Outline::read(alloc, src, file)?;
     let scale = scale_of(alloc, &outline, src, file)?;
-    let mut cursor = Cursor::start(alloc, &outline, file, scale).ok()?;
-    walk(alloc, &mut cursor, src).ok()
+    let mut cursor = Cursor::start(alloc, &outline, file, scale)?;
+    Ok(walk(alloc, &mut cursor, src)?)
 }
 
 /// A line with the numbers, and one for each damage that is told.
-fn print(rt: &impl Print, walked: &Walked) -> io::Result<()> {
+fn print_walked(rt: &impl Print, name: &str, walked: &Walked) -> io::Result<Status> {
     let blocks = walked.blocks;
     let octets = walked.octets;
     println!(rt; "{blocks} blocks, {octets} octets")?;
     for damage in walked.damages.first.as_slice() {
-        let kind = damage.kind;
-        let id = damage.id;
-        let offset = damage.offset;
-        println!(rt; "{kind}, element {id:X}, offset {offset}")?;
+        let damage = *damage;
+        rt.println(Line::Warned { name, damage })?;
     }
     let more = walked.damages.more;
     if more > 0 {
-        println!(rt; "{more} more damages")?;
+        println!(rt; "warning: {name}: {more} more damages")?;
     }
-    Ok(())
+    if walked.damages.first.is_empty() {
+        Ok(Status::Done)
+    } else {
+        Ok(Status::Warned)
+    }
+}
+
+/// What a walk ended with.
+fn print_end(rt: &impl Print, name: &str, ended: Result<Walked, OutlineEnd>) -> io::Result<Status> {
+    match ended {
+        Ok(walked) => print_walked(rt, name, &walked),
+        Err(OutlineEnd::Refused(damage)) => {
+            rt.println(Line::Refused { name, damage })?;
+            Ok(Status::Refused)
+        }
+        Err(OutlineEnd::ReadFault) => {
+            rt.println(Line::FilesFault)?;
+            Ok(Status::Outside)
+        }
+        Err(OutlineEnd::Memory) => Ok(Status::NoMemory),
+    }
 }
 
 fn main(rt: HostRuntime) -> ExitCode {
     let Ok(mut args) = env::args(&rt) else {
-        return ExitCode::FAILURE;
+        return ExitCode::from(Status::Refused.code());
     };
     let Some(name) = args.nth(1) else {
-        return ExitCode::FAILURE;
+        return ExitCode::from(Status::Refused.code());
     };
+    let name = name.as_str();
     let mut files = RealFiles::new(rt.alloc(), &rt);
-    let Ok(file) = files.open_file(name.as_str()) else {
-        return ExitCode::FAILURE;
+    let printed = match files.open_file(name) {
+        Ok(file) => {
+            let ended = walk_file(rt.alloc(), &mut files, file);
+            print_end(&rt, name, ended)
+        }
+        Err(OpenFault::Missing) => rt.println(Line::Missing { name }).and(Ok(Status::Refused)),
+        Err(OpenFault::Failed) => print_end(&rt, name, Err(OutlineEnd::ReadFault)),
+        Err(OpenFault::Memory) => Ok(Status::NoMemory),
     };
-    let Some(walked) = walk_file(rt.alloc(), &mut files, file) else {
-        return ExitCode::FAILURE;
-    };
-    match print(&rt, &walked) {
-        Ok(()) => ExitCode::SUCCESS,
-        Err(_) => ExitCode::FAILURE,
-    }
+    ExitCode::from(printed.unwrap_or(Status::Outside).code())
 }

@@ -1,9 +1,9 @@
 //! The scale of a file.
 
-ghost use Rattle.std.specs.Prelude.{◌≡◌, ◌≤◌, IfSome, IsTrue};
+ghost use Rattle.std.specs.Prelude.{◌≡◌, ◌≤◌, IfOk, IsTrue};
 
-use ebml_tree::Tree;
-use element_reader::{Outline, load};
+use ebml_tree::{Tree, TreeEnd};
+use element_reader::{LoadEnd, Outline, OutlineEnd, load};
 use meta_records::read_info;
 use mkv_io::Reads;
 use mkv_schema::ids::INFO;
@@ -16,30 +16,39 @@ const DEFAULT_SCALE: u64 = 1_000_000;
 /// The most Elements of an Info, itself counted.
 const MOST_NODES: u32 = 65536;
 
-/// Nanoseconds a tick of a file, where its Info can be read.
+/// Nanoseconds a tick of a file, or what refuses its Info.
 pub fn scale_of<R: Reads>(
     alloc: Global,
     outline: &Outline,
     src: &mut R,
     file: FileId,
-) -> Option<u64>
+) -> Result<u64, OutlineEnd>
     requires live { IsTrue ((R.files (R.standing src.old)).live file.n) }
     requires whole { outline.now.total ≡ (R.files (R.standing src.old)).size file.n }
-    ensures some { IfSome result (λ scale. 1 ≤ scale) }
+    ensures some { IfOk result (λ scale. 1 ≤ scale) }
     ensures standing { R.standing src.new ≡ R.standing src.old }
 {
     let Some(header) = outline.first(INFO) else {
-        return Some(DEFAULT_SCALE);
+        return Ok(DEFAULT_SCALE);
     };
-    let body = load(alloc, src, file, &header).ok()?;
-    let tree = Tree::parse(
+    let body = match load(alloc, src, file, &header) {
+        Ok(body) => body,
+        Err(LoadEnd::TooLarge(damage)) => return Err(OutlineEnd::Refused(damage)),
+        Err(LoadEnd::ReadFault) => return Err(OutlineEnd::ReadFault),
+        Err(LoadEnd::Memory) => return Err(OutlineEnd::Memory),
+    };
+    let tree = match Tree::parse(
         alloc,
         INFO,
         header.offset,
         body.as_slice(),
         header.body,
         MOST_NODES,
-    );
-    let info = read_info(&tree.ok()?).ok()?;
-    Some(info.scale)
+    ) {
+        Ok(tree) => tree,
+        Err(TreeEnd::Damage(damage)) => return Err(OutlineEnd::Refused(damage)),
+        Err(TreeEnd::Memory) => return Err(OutlineEnd::Memory),
+    };
+    let info = read_info(&tree)?;
+    Ok(info.scale)
 }

@@ -4,6 +4,6 @@ use Rattle.mkv_schema.specs.Schema.{entry_of}
 use Rattle.walk_blocks.proofs.scale.scale_of.Goals as goal
 
 -- an Info is a master
-pub parse-tree-requires-clause-master : goal.parse-tree-requires-clause-master
+pub parse-requires-clause-master : goal.parse-requires-clause-master
 unfolding entry_of table
-parse-tree-requires-clause-master g c = refl
+parse-requires-clause-master g c = refl
