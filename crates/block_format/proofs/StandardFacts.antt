@@ -16,7 +16,7 @@ use Rattle.lacing.specs.declared.kind.Lace.TheVariants as lace
 use Rattle.lacing.specs.Reading.{lace_in, sizes_in, size_in}
 use Rattle.block_format.specs.Content.{Content, content_in, is_key, is_invisible, is_discardable, lace_of}
 use Rattle.block_format.specs.Block.{Block}
-use Rattle.block_format.specs.Elements.{Rules, reader, free, simple_block, block_group}
+use Rattle.block_format.specs.Elements.{Rules, with_limits, without_limits, simple_block, block_group}
 use Rattle.block_format.specs.Events.{Event, block, damaged, stopped, events_of, blocks_of, damages_of, last_of}
 
 -- ---- what a block's octets spell (RFC 9559, sections 10.1, Block Structure, 10.2, SimpleBlock Structure, and 10.3, Block Lacing)
@@ -134,7 +134,7 @@ segment body size = record { id = 0x18538067; offset = 16; body = body; size = s
 
 -- what a file gives whose ticks are milliseconds
 abbrev given_by : ℕ → Size → List ℕ → List Event
-given_by body size bytes = events_of (reader 1000000) bytes (segment body size)
+given_by body size bytes = events_of (with_limits 1000000) bytes (segment body size)
 
 -- the small file with one octet set anew
 abbrev with_octet : ℕ → ℕ → List Event
@@ -310,12 +310,12 @@ abbrev simple_block_octets : List ℕ
 simple_block_octets = 0xA3 ∷ 0x85 ∷ 0x81 ∷ 0 ∷ 0 ∷ 0x80 ∷ 0xAA ∷ []
 
 pub record AreTimestamps : Type 0 where
-  pub empty : given_by_cluster (reader 1000000) (timestamp [] ++ simple_block_octets) ≡ simple 0 0xAA 14 ∷ []
-  pub two_octets : given_by_cluster (reader 1000000) (timestamp (1 ∷ 2 ∷ []) ++ simple_block_octets) ≡ simple 258 0xAA 16 ∷ []
-  pub second_one : given_by_cluster (reader 1000000) (timestamp (7 ∷ []) ++ timestamp (9 ∷ []) ++ simple_block_octets) ≡ simple 7 0xAA 18 ∷ []
-  pub behind_block : given_by_cluster (reader 1000000) (simple_block_octets ++ timestamp (7 ∷ [])) ≡ goes_on NoTimestamp 0xA3 12 ∷ []
-  pub nine_octets : given_by_cluster (reader 1000000) (timestamp (replicate 9 0) ++ simple_block_octets) ≡ goes_on BadValue 0xE7 12 ∷ []
-  pub later_nine_octets : given_by_cluster (reader 1000000) (timestamp (7 ∷ []) ++ simple_block_octets ++ timestamp (replicate 9 0)) ≡ simple 7 0xAA 15 ∷ goes_on BadValue 0xE7 22 ∷ []
+  pub empty : given_by_cluster (with_limits 1000000) (timestamp [] ++ simple_block_octets) ≡ simple 0 0xAA 14 ∷ []
+  pub two_octets : given_by_cluster (with_limits 1000000) (timestamp (1 ∷ 2 ∷ []) ++ simple_block_octets) ≡ simple 258 0xAA 16 ∷ []
+  pub second_one : given_by_cluster (with_limits 1000000) (timestamp (7 ∷ []) ++ timestamp (9 ∷ []) ++ simple_block_octets) ≡ simple 7 0xAA 18 ∷ []
+  pub behind_block : given_by_cluster (with_limits 1000000) (simple_block_octets ++ timestamp (7 ∷ [])) ≡ goes_on NoTimestamp 0xA3 12 ∷ []
+  pub nine_octets : given_by_cluster (with_limits 1000000) (timestamp (replicate 9 0) ++ simple_block_octets) ≡ goes_on BadValue 0xE7 12 ∷ []
+  pub later_nine_octets : given_by_cluster (with_limits 1000000) (timestamp (7 ∷ []) ++ simple_block_octets ++ timestamp (replicate 9 0)) ≡ simple 7 0xAA 15 ∷ goes_on BadValue 0xE7 22 ∷ []
 
 pub timestamps : AreTimestamps
 unfolding events_of elements elements_within element_in id_at size_at simple_block block_group content_in entry_of table count_leading_zeros
@@ -325,7 +325,7 @@ timestamps = record { empty = refl; two_octets = refl; second_one = refl; behind
 
 -- what a Cluster with a Timestamp of 10 and this group gives
 abbrev given_by_group : List ℕ → List Event
-given_by_group children = given_by_cluster (reader 1000000) (timestamp (10 ∷ []) ++ element (0xA0 ∷ []) children)
+given_by_group children = given_by_cluster (with_limits 1000000) (timestamp (10 ∷ []) ++ element (0xA0 ∷ []) children)
 
 -- a Block of track 1, 5 ticks later, which isn't to be shown, with the frame CC; its flags have the bits
 -- of a key frame and of one that may be left out, which a Block hasn't
@@ -406,8 +406,8 @@ pub record AreWrongGroups : Type 0 where
   pub value_before_child : IsWrong (bad_padding ++ 0 ∷ []) BadValue 0x75A2 18
   pub short_block : IsWrong (0xA1 ∷ 0x82 ∷ 0x81 ∷ 0 ∷ []) ShortBlock 0xA1 15
   pub bad_lace : IsWrong (0xA1 ∷ 0x85 ∷ 0x81 ∷ 0 ∷ 0 ∷ 2 ∷ 1 ∷ []) BadLacing 0xA1 15
-  pub no_timestamp : given_by_cluster (reader 1000000) (element (0xA0 ∷ []) (block_octets ++ bad_padding)) ≡ goes_on NoTimestamp 0xA0 12 ∷ []
-  pub long_child : given_by_cluster (reader 1000000) (timestamp (10 ∷ []) ++ (0xA0 ∷ 0x86 ∷ []) ++ block_octets) ≡ goes_on TooLong 0xA1 17 ∷ []
+  pub no_timestamp : given_by_cluster (with_limits 1000000) (element (0xA0 ∷ []) (block_octets ++ bad_padding)) ≡ goes_on NoTimestamp 0xA0 12 ∷ []
+  pub long_child : given_by_cluster (with_limits 1000000) (timestamp (10 ∷ []) ++ (0xA0 ∷ 0x86 ∷ []) ++ block_octets) ≡ goes_on TooLong 0xA1 17 ∷ []
 
 pub wrong_groups : AreWrongGroups
 unfolding events_of elements elements_within element_in id_at size_at simple_block block_group content_in lace_in sizes_in size_in entry_of table count_leading_zeros
@@ -456,15 +456,15 @@ abbrev grouped_at_15 : Block
 grouped_at_15 = record grouped { time = pos 15 }
 
 pub record AreTimes : Type 0 where
-  pub largest : given_at (reader 1) (replicate 7 0xFF) ≡ block (simple_at (pos (2 ^ 56 - 1)) 0xAA 21) ∷ []
-  pub too_large : given_at (reader (2 ^ 28)) (0x10 ∷ 0 ∷ 0 ∷ 0 ∷ []) ≡ goes_on TimeTooLarge 0xA3 18 ∷ []
-  pub free_of_limits : given_at (free (2 ^ 28)) (0x10 ∷ 0 ∷ 0 ∷ 0 ∷ []) ≡ block (simple_at (pos (2 ^ 56)) 0xAA 18) ∷ []
-  pub too_early : given_by_cluster (reader (2 ^ 41)) (timestamp (0 ∷ []) ++ early_block) ≡ goes_on TimeTooLarge 0xA3 15 ∷ []
-  pub earliest : given_by_cluster (reader (2 ^ 41 - 1)) (timestamp (0 ∷ []) ++ early_block) ≡ block (simple_at (negsuc (2 ^ 56 - 2 ^ 15 - 1)) 0xAA 15) ∷ []
-  pub too_long : given_by_cluster (reader 1) (with_duration 1) ≡ goes_on TimeTooLarge 0xA1 15 ∷ []
-  pub too_long_free_of_limits : given_by_cluster (free 1) (with_duration 1) ≡ block (record grouped_at_15 { duration = Some (2 ^ 56) }) ∷ []
-  pub too_far : given_by_cluster (reader 1) (with_reference 0xFF) ≡ goes_on TimeTooLarge 0xA1 15 ∷ []
-  pub too_far_free_of_limits : given_by_cluster (free 1) (with_reference 0xFF) ≡ block (record grouped_at_15 { key = false; references = negsuc (2 ^ 56 - 1) ∷ [] }) ∷ []
+  pub largest : given_at (with_limits 1) (replicate 7 0xFF) ≡ block (simple_at (pos (2 ^ 56 - 1)) 0xAA 21) ∷ []
+  pub too_large : given_at (with_limits (2 ^ 28)) (0x10 ∷ 0 ∷ 0 ∷ 0 ∷ []) ≡ goes_on TimeTooLarge 0xA3 18 ∷ []
+  pub free_of_limits : given_at (without_limits (2 ^ 28)) (0x10 ∷ 0 ∷ 0 ∷ 0 ∷ []) ≡ block (simple_at (pos (2 ^ 56)) 0xAA 18) ∷ []
+  pub too_early : given_by_cluster (with_limits (2 ^ 41)) (timestamp (0 ∷ []) ++ early_block) ≡ goes_on TimeTooLarge 0xA3 15 ∷ []
+  pub earliest : given_by_cluster (with_limits (2 ^ 41 - 1)) (timestamp (0 ∷ []) ++ early_block) ≡ block (simple_at (negsuc (2 ^ 56 - 2 ^ 15 - 1)) 0xAA 15) ∷ []
+  pub too_long : given_by_cluster (with_limits 1) (with_duration 1) ≡ goes_on TimeTooLarge 0xA1 15 ∷ []
+  pub too_long_free_of_limits : given_by_cluster (without_limits 1) (with_duration 1) ≡ block (record grouped_at_15 { duration = Some (2 ^ 56) }) ∷ []
+  pub too_far : given_by_cluster (with_limits 1) (with_reference 0xFF) ≡ goes_on TimeTooLarge 0xA1 15 ∷ []
+  pub too_far_free_of_limits : given_by_cluster (without_limits 1) (with_reference 0xFF) ≡ block (record grouped_at_15 { key = false; references = negsuc (2 ^ 56 - 1) ∷ [] }) ∷ []
 
 pub times : AreTimes
 unfolding events_of elements elements_within element_in id_at size_at simple_block block_group content_in entry_of table count_leading_zeros
@@ -484,7 +484,7 @@ times = record {
 pub record AreCounts : Type 0 where
   pub most : given_by_group (block_octets ++ references 64) ≡ block (referring 64) ∷ []
   pub one_more : given_by_group (block_octets ++ references 65) ≡ goes_on TooMany 0xFB 217 ∷ []
-  pub free_of_limits : given_by_cluster (free 1000000) (timestamp (10 ∷ []) ++ element (0xA0 ∷ []) (block_octets ++ references 65)) ≡ block (referring 65) ∷ []
+  pub free_of_limits : given_by_cluster (without_limits 1000000) (timestamp (10 ∷ []) ++ element (0xA0 ∷ []) (block_octets ++ references 65)) ≡ block (referring 65) ∷ []
   pub short_block_first : given_by_group (references 65 ++ (0xA1 ∷ 0x82 ∷ 0x81 ∷ 0 ∷ [])) ≡ goes_on ShortBlock 0xA1 15 ∷ []
 
 pub counts : AreCounts
@@ -497,10 +497,10 @@ abbrev sized : ℕ → ℕ → Header
 sized id octets = record { id = id; offset = 20; body = 25; size = Known octets }
 
 pub record AreSizes : Type 0 where
-  pub too_large : simple_block (reader 1) [] None (sized 0xA3 (32 * 2 ^ 20 + 1)) ≡ Err (damage BlockTooLarge 0xA3 20)
-  pub too_large_group : block_group (reader 1) [] (Some 0) (sized 0xA0 (32 * 2 ^ 20 + 1)) ≡ Err (damage BlockTooLarge 0xA0 20)
-  pub largest : simple_block (reader 1) [] None (sized 0xA3 (32 * 2 ^ 20)) ≡ Err (damage NoTimestamp 0xA3 20)
-  pub free_of_limits : simple_block (free 1) [] None (sized 0xA3 (32 * 2 ^ 20 + 1)) ≡ Err (damage NoTimestamp 0xA3 20)
+  pub too_large : simple_block (with_limits 1) [] None (sized 0xA3 (32 * 2 ^ 20 + 1)) ≡ Err (damage BlockTooLarge 0xA3 20)
+  pub too_large_group : block_group (with_limits 1) [] (Some 0) (sized 0xA0 (32 * 2 ^ 20 + 1)) ≡ Err (damage BlockTooLarge 0xA0 20)
+  pub largest : simple_block (with_limits 1) [] None (sized 0xA3 (32 * 2 ^ 20)) ≡ Err (damage NoTimestamp 0xA3 20)
+  pub free_of_limits : simple_block (without_limits 1) [] None (sized 0xA3 (32 * 2 ^ 20 + 1)) ≡ Err (damage NoTimestamp 0xA3 20)
 
 pub sizes : AreSizes
 unfolding simple_block block_group

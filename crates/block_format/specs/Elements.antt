@@ -16,21 +16,21 @@ use Rattle.block_format.specs.declared.limits.TheConstants.{SLICES, MOST_OF_BLOC
 use Rattle.block_format.specs.Content.{Content, content_in, is_invisible, lace_of}
 use Rattle.block_format.specs.Block.{Block, nanoseconds, time_of, has_too_large_time, simple_block_with}
 
--- How blocks are read: with the limits of a reader or without, and how many nanoseconds a tick has.
+-- How blocks are read: with the limits of a with_limits or without, and how many nanoseconds a tick has.
 pub record Rules : Type 0 where
   pub limits : Bool
   pub scale : ℕ
 
-abbrev pub reader : ℕ → Rules
-reader scale = record { limits = true; scale = scale }
+abbrev pub with_limits : ℕ → Rules
+with_limits scale = record { limits = true; scale = scale }
 
 -- what is written is read back without a reader's limits
-abbrev pub free : ℕ → Rules
-free scale = record { limits = false; scale = scale }
+abbrev pub without_limits : ℕ → Rules
+without_limits scale = record { limits = false; scale = scale }
 
 -- ---- of every block
 
--- its body is longer than a reader takes
+-- its body is longer than a with_limits takes
 abbrev pub too_long : Rules → Header → Option Damage
 too_long r h = where_it (r.limits && nat_lt MOST_OF_BLOCK (known h.size)) (damage BlockTooLarge h.id h.offset)
 
@@ -44,9 +44,9 @@ abbrev pub timestamp_for : Rules → Option ℕ → Header → Result ℕ Damage
 timestamp_for r timestamp h = and_then (unless (too_long r h) timestamp) (timestamp_or h)
 
 -- a kind of damage is told with an ID and a place
-abbrev pub told_of : {A : Type 0} → ℕ → ℕ → Result A Kind → Result A Damage
-told_of id offset (Ok x) = Ok x
-told_of id offset (Err kind) = Err (damage kind id offset)
+abbrev pub at_place : {A : Type 0} → ℕ → ℕ → Result A Kind → Result A Damage
+at_place id offset (Ok x) = Ok x
+at_place id offset (Err kind) = Err (damage kind id offset)
 
 -- a block whose times aren't too large for a reader
 abbrev pub in_time : Rules → ℕ → Block → Result Block Damage
@@ -58,7 +58,7 @@ in_time r id block = unless (where_it (r.limits && has_too_large_time block) (da
 unfoldable pub simple_block : Rules → List ℕ → Option ℕ → Header → Result Block Damage
 simple_block r bytes timestamp h =
     and_then (timestamp_for r timestamp h) (λ time.
-    and_then (told_of h.id h.offset (content_in (body_of bytes h))) (λ content.
+    and_then (at_place h.id h.offset (content_in (body_of bytes h))) (λ content.
     in_time r h.id (simple_block_with r.scale time h.offset content)))
 
 -- ---- a BlockGroup
@@ -102,12 +102,12 @@ abbrev pub is_kept : ℕ → Bool
 is_kept id = not (list_any (λ other. id == other) left_out)
 
 -- an Element's octets, its header's and its body's
-abbrev pub octets_of : List ℕ → Header → List ℕ
-octets_of bytes h = octets_between bytes h.offset (stated_end h)
+abbrev pub element_octets : List ℕ → Header → List ℕ
+element_octets bytes h = octets_between bytes h.offset (stated_end h)
 
 -- all else of a group is kept, in its order
 abbrev pub kept_of : List ℕ → List Header → List ℕ
-kept_of bytes children = flat_map (λ (c : Header). octets_of bytes c) (filter (λ (c : Header). is_kept c.id) children)
+kept_of bytes children = flat_map (λ (c : Header). element_octets bytes c) (filter (λ (c : Header). is_kept c.id) children)
 
 -- A group with these children and this content of its Block, which is key where nothing is referred to.
 abbrev pub group_with : ℕ → List ℕ → ℕ → ℕ → List Header → Content → Block
@@ -129,7 +129,7 @@ group_with scale bytes timestamp offset children content = record {
 -- the block of a group with these children, of which one is its Block
 abbrev pub group_among : Rules → List ℕ → ℕ → ℕ → List Header → Header → Result Block Damage
 group_among r bytes timestamp offset children block =
-    and_then (told_of BLOCK offset (content_in (body_of bytes block))) (λ content.
+    and_then (at_place BLOCK offset (content_in (body_of bytes block))) (λ content.
     and_then (unless (too_many_references r children) content) (λ content.
     in_time r BLOCK (group_with r.scale bytes timestamp offset children content)))
 

@@ -16,7 +16,7 @@ use Rattle.element_bodies.proofs.BodyLemmas.{IsBody-part}
 use Rattle.block_format.specs.declared.limits.TheConstants.{MOST_OF_BLOCK}
 use Rattle.block_format.specs.Content.{Content, content_in, frames_cut}
 use Rattle.block_format.specs.Block.{Block, simple_block_with}
-use Rattle.block_format.specs.Elements.{reader, told_of, in_time, simple_block, block_group, group_run, group_refusal, group_among, block_or, group_with, too_many_references, timestamp_or}
+use Rattle.block_format.specs.Elements.{with_limits, at_place, in_time, simple_block, block_group, group_run, group_refusal, group_among, block_or, group_with, too_many_references, timestamp_or}
 use Rattle.block_records.specs.declared.head.BlockHead.{BlockHead}
 use Rattle.block_records.specs.declared.gathered.Gathered.{Gathered}
 use Rattle.block_records.specs.Group.{GathersRun}
@@ -32,11 +32,11 @@ timed : ℕ → Header → (ℕ → Result Block Damage) → Bool → Result Blo
 timed timestamp h more long = and_then (and_then (unless (where_it long (damage BlockTooLarge h.id h.offset)) (Some timestamp)) (timestamp_or h)) more
 
 -- what its octets spell, or what is wrong with them
-pub simple_block-spelled : (scale timestamp : ℕ) (bytes octets : List ℕ) (h : Header) (found : Result Content Kind) → known h.size ≤ MOST_OF_BLOCK → octets ≡ body_of bytes h → content_in octets ≡ found → simple_block (reader scale) bytes (Some timestamp) h ≡ and_then (told_of h.id h.offset found) (λ content. in_time (reader scale) h.id (simple_block_with scale timestamp h.offset content))
+pub simple_block-spelled : (scale timestamp : ℕ) (bytes octets : List ℕ) (h : Header) (found : Result Content Kind) → known h.size ≤ MOST_OF_BLOCK → octets ≡ body_of bytes h → content_in octets ≡ found → simple_block (with_limits scale) bytes (Some timestamp) h ≡ and_then (at_place h.id h.offset found) (λ content. in_time (with_limits scale) h.id (simple_block_with scale timestamp h.offset content))
 unfolding simple_block timed
 simple_block-spelled scale timestamp bytes octets h found few body is =
     let more : ℕ → Result Content Kind → Result Block Damage = λ time spelled.
-    and_then (told_of h.id h.offset spelled) (λ content. in_time (reader scale) h.id (simple_block_with scale time h.offset content)) in
+    and_then (at_place h.id h.offset spelled) (λ content. in_time (with_limits scale) h.id (simple_block_with scale time h.offset content)) in
     ap (timed timestamp h (λ time. more time (content_in (body_of bytes h)))) (not_long (known h.size) few)
     ∙ ap (λ o. more timestamp (content_in o)) (sym body) ∙ ap (more timestamp) is
 
@@ -45,35 +45,35 @@ simple_block-spelled scale timestamp bytes octets h found few body is =
 -- what is made of its children, which something refuses or not
 of_group : ℕ → ℕ → List ℕ → Header → List Header → Option Damage → Result Block Damage
 of_group scale timestamp bytes h list refusal =
-    and_then (unless refusal list) (λ children. and_then (block_or h (first_of BLOCK children)) (group_among (reader scale) bytes timestamp h.offset children))
+    and_then (unless refusal list) (λ children. and_then (block_or h (first_of BLOCK children)) (group_among (with_limits scale) bytes timestamp h.offset children))
 
-block_group-refusal : (scale timestamp : ℕ) (bytes : List ℕ) (h : Header) (refusal : Option Damage) → known h.size ≤ MOST_OF_BLOCK → group_refusal bytes (group_run bytes h) ≡ refusal → block_group (reader scale) bytes (Some timestamp) h ≡ of_group scale timestamp bytes h (group_run bytes h).list refusal
+block_group-refusal : (scale timestamp : ℕ) (bytes : List ℕ) (h : Header) (refusal : Option Damage) → known h.size ≤ MOST_OF_BLOCK → group_refusal bytes (group_run bytes h) ≡ refusal → block_group (with_limits scale) bytes (Some timestamp) h ≡ of_group scale timestamp bytes h (group_run bytes h).list refusal
 unfolding block_group timed of_group
 block_group-refusal scale timestamp bytes h refusal few is =
     ap (timed timestamp h (λ time. of_group scale time bytes h (group_run bytes h).list (group_refusal bytes (group_run bytes h)))) (not_long (known h.size) few)
     ∙ ap (of_group scale timestamp bytes h (group_run bytes h).list) is
 
 -- a child refuses it
-pub block_group-refused : (scale timestamp : ℕ) (bytes : List ℕ) (h : Header) (d : Damage) → known h.size ≤ MOST_OF_BLOCK → group_refusal bytes (group_run bytes h) ≡ Some d → block_group (reader scale) bytes (Some timestamp) h ≡ Err d
+pub block_group-refused : (scale timestamp : ℕ) (bytes : List ℕ) (h : Header) (d : Damage) → known h.size ≤ MOST_OF_BLOCK → group_refusal bytes (group_run bytes h) ≡ Some d → block_group (with_limits scale) bytes (Some timestamp) h ≡ Err d
 unfolding of_group
 block_group-refused scale timestamp bytes h d few is = block_group-refusal scale timestamp bytes h (Some d) few is
 
 -- it has no Block
-pub block_group-without : (scale timestamp : ℕ) (bytes : List ℕ) (h : Header) → known h.size ≤ MOST_OF_BLOCK → group_refusal bytes (group_run bytes h) ≡ None → first_of BLOCK (group_run bytes h).list ≡ None → block_group (reader scale) bytes (Some timestamp) h ≡ Err (damage MissingChild BLOCK h.offset)
+pub block_group-without : (scale timestamp : ℕ) (bytes : List ℕ) (h : Header) → known h.size ≤ MOST_OF_BLOCK → group_refusal bytes (group_run bytes h) ≡ None → first_of BLOCK (group_run bytes h).list ≡ None → block_group (with_limits scale) bytes (Some timestamp) h ≡ Err (damage MissingChild BLOCK h.offset)
 unfolding of_group
 block_group-without scale timestamp bytes h few is none =
     block_group-refusal scale timestamp bytes h None few is
-    ∙ ap (λ o. and_then (block_or h o) (group_among (reader scale) bytes timestamp h.offset (group_run bytes h).list)) none
+    ∙ ap (λ o. and_then (block_or h o) (group_among (with_limits scale) bytes timestamp h.offset (group_run bytes h).list)) none
 
 -- what the octets of its Block spell, or what is wrong with them
-pub block_group-spelled : (scale timestamp : ℕ) (bytes octets : List ℕ) (h block : Header) (found : Result Content Kind) → known h.size ≤ MOST_OF_BLOCK → group_refusal bytes (group_run bytes h) ≡ None → first_of BLOCK (group_run bytes h).list ≡ Some block → octets ≡ body_of bytes block → content_in octets ≡ found → block_group (reader scale) bytes (Some timestamp) h ≡ and_then (told_of BLOCK h.offset found) (λ content. and_then (unless (too_many_references (reader scale) (group_run bytes h).list) content) (λ content. in_time (reader scale) BLOCK (group_with scale bytes timestamp h.offset (group_run bytes h).list content)))
+pub block_group-spelled : (scale timestamp : ℕ) (bytes octets : List ℕ) (h block : Header) (found : Result Content Kind) → known h.size ≤ MOST_OF_BLOCK → group_refusal bytes (group_run bytes h) ≡ None → first_of BLOCK (group_run bytes h).list ≡ Some block → octets ≡ body_of bytes block → content_in octets ≡ found → block_group (with_limits scale) bytes (Some timestamp) h ≡ and_then (at_place BLOCK h.offset found) (λ content. and_then (unless (too_many_references (with_limits scale) (group_run bytes h).list) content) (λ content. in_time (with_limits scale) BLOCK (group_with scale bytes timestamp h.offset (group_run bytes h).list content)))
 unfolding of_group
 block_group-spelled scale timestamp bytes octets h block found few is some body spells =
     let list = (group_run bytes h).list in
     let more : Result Content Kind → Result Block Damage = λ spelled.
-    and_then (told_of BLOCK h.offset spelled) (λ content. and_then (unless (too_many_references (reader scale) list) content) (λ content. in_time (reader scale) BLOCK (group_with scale bytes timestamp h.offset list content))) in
+    and_then (at_place BLOCK h.offset spelled) (λ content. and_then (unless (too_many_references (with_limits scale) list) content) (λ content. in_time (with_limits scale) BLOCK (group_with scale bytes timestamp h.offset list content))) in
     block_group-refusal scale timestamp bytes h None few is
-    ∙ ap (λ o. and_then (block_or h o) (group_among (reader scale) bytes timestamp h.offset list)) some
+    ∙ ap (λ o. and_then (block_or h o) (group_among (with_limits scale) bytes timestamp h.offset list)) some
     ∙ ap (λ o. more (content_in o)) (sym body) ∙ ap more spells
 
 -- ---- the octets of the frames

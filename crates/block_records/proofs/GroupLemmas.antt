@@ -16,7 +16,7 @@ use Rattle.mkv_schema.specs.declared.ids.TheConstants.{BLOCK_GROUP, BLOCK, BLOCK
 use Rattle.matroska_format.specs.declared.element.Header.{Header}
 use Rattle.matroska_format.specs.Value.{body_of, first_of, is_known_value}
 use Rattle.block_format.specs.declared.limits.TheConstants.{SLICES, MOST_REFERENCES}
-use Rattle.block_format.specs.Elements.{references_among, is_kept, kept_of, octets_of}
+use Rattle.block_format.specs.Elements.{references_among, is_kept, kept_of, element_octets}
 use Rattle.block_records.specs.declared.gathered.Gathered.{Gathered}
 use Rattle.block_records.specs.Group.{Gathers}
 
@@ -65,14 +65,14 @@ filter-other : (test : Header → Bool) (given : List Header) (c : Header) → t
 filter-other test given c fails =
     filter-append test given (c ∷ []) ∙ ap (λ l. filter test given ++ l) (cond-false (test c) (c ∷ []) [] fails) ∙ append-nil (filter test given)
 
-kept-own : (bytes : List ℕ) (given : List Header) (c : Header) → is_kept c.id ≡ true → kept_of bytes (given ++ c ∷ []) ≡ kept_of bytes given ++ octets_of bytes c
+kept-own : (bytes : List ℕ) (given : List Header) (c : Header) → is_kept c.id ≡ true → kept_of bytes (given ++ c ∷ []) ≡ kept_of bytes given ++ element_octets bytes c
 kept-own bytes given c passes =
-    ap (flat_map (octets_of bytes)) (filter-own (λ (h : Header). is_kept h.id) given c passes)
-    ∙ flat_map-append (octets_of bytes) (filter (λ (h : Header). is_kept h.id) given) (c ∷ [])
-    ∙ ap (λ l. kept_of bytes given ++ l) (append-nil (octets_of bytes c))
+    ap (flat_map (element_octets bytes)) (filter-own (λ (h : Header). is_kept h.id) given c passes)
+    ∙ flat_map-append (element_octets bytes) (filter (λ (h : Header). is_kept h.id) given) (c ∷ [])
+    ∙ ap (λ l. kept_of bytes given ++ l) (append-nil (element_octets bytes c))
 
 kept-other : (bytes : List ℕ) (given : List Header) (c : Header) → is_kept c.id ≡ false → kept_of bytes (given ++ c ∷ []) ≡ kept_of bytes given
-kept-other bytes given c fails = ap (flat_map (octets_of bytes)) (filter-other (λ (h : Header). is_kept h.id) given c fails)
+kept-other bytes given c fails = ap (flat_map (element_octets bytes)) (filter-other (λ (h : Header). is_kept h.id) given c fails)
 
 test : (a b : ℕ) → a ≢ b → (a == b) ≡ false
 test a b other = grind (arith, nat_tests)
@@ -149,7 +149,7 @@ Gathers-duration bytes given g c duration ticks own value is before =
 kept_isn't : (id other : ℕ) → is_kept id ≡ true → is_kept other ≡ false → id ≢ other
 kept_isn't id other kept left same = false≢true (sym left ∙ ap is_kept (sym same) ∙ kept)
 
-pub Gathers-kept : (bytes : List ℕ) (given : List Header) (g h : Gathered) (c : Header) (octets : List ℕ) → is_kept c.id ≡ true → octets ≡ octets_of bytes c → h.block ≡ g.block → h.duration ≡ g.duration → h.references ≡ g.references → h.too_many ≡ g.too_many → h.kept.items ≡ g.kept.items ++ octets → Gathers bytes given g → Gathers bytes (given ++ c ∷ []) h
+pub Gathers-kept : (bytes : List ℕ) (given : List Header) (g h : Gathered) (c : Header) (octets : List ℕ) → is_kept c.id ≡ true → octets ≡ element_octets bytes c → h.block ≡ g.block → h.duration ≡ g.duration → h.references ≡ g.references → h.too_many ≡ g.too_many → h.kept.items ≡ g.kept.items ++ octets → Gathers bytes given g → Gathers bytes (given ++ c ∷ []) h
 Gathers-kept bytes given g h c octets own value block duration references too_many is before =
     Gathers-other bytes given g h c (kept_isn't c.id REFERENCE_BLOCK own refl) before references too_many
     (block ∙ same_block bytes given g c (kept_isn't c.id BLOCK own refl) before)

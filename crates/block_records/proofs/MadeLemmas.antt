@@ -16,7 +16,7 @@ use Rattle.matroska_format.specs.Value.{body_of, first_of}
 use Rattle.block_format.specs.declared.limits.TheConstants.{MOST_REFERENCES}
 use Rattle.block_format.specs.Content.{is_invisible, lace_of}
 use Rattle.block_format.specs.Block.{Block, nanoseconds, is_too_large, has_too_large_time}
-use Rattle.block_format.specs.Elements.{reader, references_among, references_of, duration_of, kept_of, too_many_references, group_with, in_time}
+use Rattle.block_format.specs.Elements.{with_limits, references_among, references_of, duration_of, kept_of, too_many_references, group_with, in_time}
 use Rattle.block_records.specs.declared.block.Times.{Times}
 use Rattle.block_records.specs.declared.content.Spelled.{Spelled}
 use Rattle.block_records.specs.declared.gathered.Gathered.{Gathered}
@@ -98,19 +98,19 @@ times-scaled scale timestamp offset s frames g =
 
 abbrev group_found : ℕ → List ℕ → ℕ → ℕ → List Header → Spelled → List (List ℕ) → Result Block Damage
 group_found scale bytes timestamp offset children s frames =
-    and_then (unless (too_many_references (reader scale) children) (content_of s frames)) (λ content. in_time (reader scale) BLOCK (group_with scale bytes timestamp offset children content))
+    and_then (unless (too_many_references (with_limits scale) children) (content_of s frames)) (λ content. in_time (with_limits scale) BLOCK (group_with scale bytes timestamp offset children content))
 
 -- where no reference is one too many, the times are left to be tested
 group_found-gathered : (scale timestamp offset : ℕ) (bytes : List ℕ) (children : List Header) (s : Spelled) (frames : List (List ℕ)) (g : Gathered) (large : Bool) → Gathers bytes children g → g.too_many ≡ None → has_too_large_ticks scale (pos timestamp +ℤ s.relative) g.duration g.references.items ≡ large → group_found scale bytes timestamp offset children s frames ≡ unless (where_it large (damage TimeTooLarge BLOCK offset)) (gathered_group scale timestamp offset s frames g)
 group_found-gathered scale timestamp offset bytes children s frames g large gathers none times =
-    ap (λ o. and_then (unless (option_map (λ (c : Header). damage TooMany c.id c.offset) o) (content_of s frames)) (λ content. in_time (reader scale) BLOCK (group_with scale bytes timestamp offset children content))) (sym gathers.too_many ∙ none)
-    ∙ ap (in_time (reader scale) BLOCK) (group_with-gathered scale timestamp offset bytes children s frames g gathers none)
+    ap (λ o. and_then (unless (option_map (λ (c : Header). damage TooMany c.id c.offset) o) (content_of s frames)) (λ content. in_time (with_limits scale) BLOCK (group_with scale bytes timestamp offset children content))) (sym gathers.too_many ∙ none)
+    ∙ ap (in_time (with_limits scale) BLOCK) (group_with-gathered scale timestamp offset bytes children s frames g gathers none)
     ∙ ap (λ b. unless (where_it b (damage TimeTooLarge BLOCK offset)) (gathered_group scale timestamp offset s frames g)) (times-scaled scale timestamp offset s frames g ∙ times)
 
 pub group_found-large : (scale timestamp offset : ℕ) (bytes : List ℕ) (children : List Header) (s : Spelled) (frames : List (List ℕ)) (g : Gathered) → Gathers bytes children g → g.too_many ≡ None → has_too_large_ticks scale (pos timestamp +ℤ s.relative) g.duration g.references.items ≡ true → group_found scale bytes timestamp offset children s frames ≡ Err (damage TimeTooLarge BLOCK offset)
 group_found-large scale timestamp offset bytes children s frames g gathers none times = group_found-gathered scale timestamp offset bytes children s frames g true gathers none times
 
--- the same as a reader has its parts
+-- the same as a with_limits has its parts
 pub group_found-ok : (scale timestamp offset : ℕ) (bytes : List ℕ) (children : List Header) (s : Spelled) (frames : List (List ℕ)) (g now : Gathered) (t : Times) (ticks time : ℤ) (key invisible : Bool) (kind : Lace) → Gathers bytes children g → g.too_many ≡ None → HasTimes scale ticks g now t → ticks ≡ pos timestamp +ℤ s.relative → now.kept ≡ g.kept → time ≡ t.time → key ≡ (length g.references.items == 0) → invisible ≡ is_invisible s.flags → kind ≡ lace_of s.flags → group_found scale bytes timestamp offset children s frames ≡ Ok (block_with (record { track = s.track; time = time; key = key; invisible = invisible; discardable = false; group = true; lace = kind; duration = t.duration; offset = offset }) frames now.references.items now.kept.items)
 group_found-ok scale timestamp offset bytes children s frames g now t ticks time key invisible kind gathers none times ticks_are kept time_is key_is invisible_is kind_is =
     let made : ℤ → Bool → Bool → Lace → Option ℕ → List ℤ → List ℕ → Result Block Damage = λ z k i l duration references octets.

@@ -6,12 +6,12 @@ use Rattle.mkv_values.specs.declared.damage.Damage.{Damage}
 use Rattle.mkv_values.specs.declared.damage.Kind.TheVariants.{BadValue}
 use Rattle.matroska_format.specs.declared.element.Header.{Header}
 use Rattle.matroska_format.specs.Element.{in_master, element_at, stated_end, end_in, damage}
-use Rattle.matroska_format.specs.Elements.{Run, children_in, step, before, ends_at, never}
+use Rattle.matroska_format.specs.Elements.{Run, children_in, step, in_front, ends_at, never}
 use Rattle.matroska_format.specs.Value.{body_of, is_known_value}
 use Rattle.matroska_format.proofs.ElementsLemmas.{elements-end, elements-more, Advances-known}
 use Rattle.element_bodies.specs.Body.{IsBody}
 use Rattle.element_bodies.proofs.BodyLemmas.{IsBody-rest}
-use Rattle.block_format.specs.Elements.{group_refusal, octets_of}
+use Rattle.block_format.specs.Elements.{group_refusal, element_octets}
 use Rattle.block_records.specs.declared.gathered.Gathered.{Gathered}
 use Rattle.block_records.specs.Group.{Gathers, IsInside}
 
@@ -44,7 +44,7 @@ IsOnWay-begins bytes run g none = record { given = []; gathers = none; list = re
 pub IsOnWay-more : (bytes : List ℕ) (whole : Run) (g after : Gathered) (p q e : ℕ) (h : Header) → IsOnWay bytes whole (children_in in_master bytes p e) g → p < e → Ok h ≡ element_at in_master bytes p e → is_known_value BLOCK_GROUP h.id (body_of bytes h) ≡ true → q ≡ end_in e h → ((given : List Header) → Gathers bytes given g → Gathers bytes (given ++ h ∷ []) after) → IsOnWay bytes whole (children_in in_master bytes q e) after
 IsOnWay-more bytes whole g after p q e h way inside is good behind more =
     let rest : ℕ → Run = λ k. children_in in_master bytes k e in
-    let stands : rest p ≡ before h (rest q) = run-step bytes p e (Ok h) inside is ∙ ap (λ k. before h (rest k)) (sym behind) in
+    let stands : rest p ≡ in_front h (rest q) = run-step bytes p e (Ok h) inside is ∙ ap (λ k. in_front h (rest k)) (sym behind) in
     record {
       given = way.given ++ h ∷ [];
       gathers = more way.given way.gathers;
@@ -71,8 +71,8 @@ IsOnWay-ends bytes whole g p e way past =
 
 -- ---- the octets of a child
 
-pub octets_of-part : (bytes : List ℕ) (base total : ℕ) (body : List ℕ) (h : Header) → IsBody bytes base total body → base ≤ h.offset → h.offset ≤ stated_end h → stated_end h ≤ base + length body → take (stated_end h - h.offset) (drop (h.offset - base) body) ≡ octets_of bytes h
-octets_of-part bytes base total body h is from order within =
+pub element_octets-part : (bytes : List ℕ) (base total : ℕ) (body : List ℕ) (h : Header) → IsBody bytes base total body → base ≤ h.offset → h.offset ≤ stated_end h → stated_end h ≤ base + length body → take (stated_end h - h.offset) (drop (h.offset - base) body) ≡ element_octets bytes h
+element_octets-part bytes base total body h is from order within =
     let end : h.offset + (stated_end h - h.offset) ≡ stated_end h = omega arith in
     ap (take (stated_end h - h.offset)) (IsBody-rest bytes base total h.offset body is from)
     ∙ sym (drop-take h.offset (stated_end h - h.offset) (take (base + length body) bytes))

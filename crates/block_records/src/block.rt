@@ -6,7 +6,7 @@ ghost use Rattle.mkv_schema.specs.declared.ids.TheConstants.{BLOCK as BLOCK_ID};
 ghost use Rattle.matroska_format.specs.declared.element.Header.{Header as HeaderRecord};
 ghost use Rattle.matroska_format.specs.Outline.{and_then, unless};
 ghost use Rattle.block_format.specs.Block.{simple_block_with};
-ghost use Rattle.block_format.specs.Elements.{group_with, in_time, reader, too_many_references};
+ghost use Rattle.block_format.specs.Elements.{group_with, in_time, with_limits, too_many_references};
 ghost use Rattle.block_records.specs.Spelled.{content_of};
 ghost use Rattle.block_records.specs.Group.{Gathers};
 ghost use Rattle.block_records.specs.Made.{has_too_large_ticks, HasTimes, MakesHead};
@@ -41,7 +41,7 @@ pub fn simple_head(
     spelled: &Spelled,
 ) -> Result<BlockHead, Damage>
     ensures { (frames : List (List ℕ)) → MakesHead frames [] []
-        (in_time (reader scale) header.now.id (simple_block_with scale timestamp header.now.offset (content_of spelled.now frames))) result }
+        (in_time (with_limits scale) header.now.id (simple_block_with scale timestamp header.now.offset (content_of spelled.now frames))) result }
 {
     let Some(time) = block_time(scale, timestamp, spelled.relative) else {
         return Err(damage(Kind::TimeTooLarge, header.id, header.offset));
@@ -89,8 +89,8 @@ pub fn group_head(
 ) -> Result<BlockHead, Damage>
     ensures exact { (bytes : List ℕ) (children : List HeaderRecord) (frames : List (List ℕ)) → Gathers bytes children gathered.old
         → MakesHead frames gathered.new.references.items gathered.new.kept.items
-        (and_then (unless (too_many_references (reader scale) children) (content_of spelled.now frames))
-        (λ content. in_time (reader scale) BLOCK_ID (group_with scale bytes timestamp offset children content))) result }
+        (and_then (unless (too_many_references (with_limits scale) children) (content_of spelled.now frames))
+        (λ content. in_time (with_limits scale) BLOCK_ID (group_with scale bytes timestamp offset children content))) result }
     ensures kept { gathered.new.kept ≡ gathered.old.kept }
 {
     if let Some(reference) = gathered.too_many {

@@ -1,12 +1,12 @@
 //! The buffer of a block.
 
 ghost use Rattle.std.specs.Prelude.{◌≡◌, ◌+◌, ◌^◌, ◌≤◌, [], ℕ, List, length, sum, false, Some, OnOk, OnErr, IfOk, IsTrue, IsErrOf};
-ghost use Rattle.mkv_io.specs.Faults.{HasReadCause};
-ghost use Rattle.mkv_io.specs.Told.{Told};
+ghost use Rattle.mkv_io.specs.Faults.{HasCause, is_read_fault};
+ghost use Rattle.mkv_io.specs.Sources.{IfTold, IsLive, file_size};
 ghost use Rattle.matroska_format.specs.Element.{is_unknown, known, stated_end};
 ghost use Rattle.matroska_format.specs.Value.{body_of};
 ghost use Rattle.element_window.specs.Window.{Holds};
-ghost use Rattle.block_format.specs.Elements.{reader, simple_block, block_group};
+ghost use Rattle.block_format.specs.Elements.{with_limits, simple_block, block_group};
 ghost use Rattle.block_records.specs.Buffered.{Makes};
 
 use crate::block::{group_head, simple_head};
@@ -98,15 +98,15 @@ impl BlockBuffer {
         file: FileId,
         header: &Header,
     ) -> Result<(), ReadEnd>
-        requires live { IsTrue ((R.files (R.standing src.old)).live file.n) }
+        requires live { IsLive R.Reads src.old file }
         requires whole { is_unknown header.now.size ≡ false }
         requires few { known header.now.size ≤ MOST_OF_BLOCK }
-        requires inside { stated_end header.now ≤ (R.files (R.standing src.old)).size file.n }
-        requires holds { Told ((R.files (R.standing src.old)).content file.n) (λ bytes. Holds bytes window.now) }
-        ensures ok { OnOk result (Told ((R.files (R.standing src.old)).content file.n) (λ bytes. self.new.octets ≡ body_of bytes header.now)) }
+        requires inside { stated_end header.now ≤ file_size R.Reads src.old file }
+        requires holds { IfTold R.Reads src.old file (λ bytes. Holds bytes window.now) }
+        ensures ok { OnOk result (IfTold R.Reads src.old file (λ bytes. self.new.octets ≡ body_of bytes header.now)) }
         ensures length { OnOk result (length self.new.octets ≡ known header.now.size) }
         ensures standing { R.standing src.new ≡ R.standing src.old }
-        ensures cause { HasReadCause (R.reading_faults src.old) (R.reading_faults src.new) result }
+        ensures cause { HasCause is_read_fault (R.reading_faults src.old) (R.reading_faults src.new) result }
         ensures octets { R.octets_read src.new ≤ R.octets_read src.old + known header.now.size }
         ensures memory { IsErrOf result ReadEnd.Memory → R.octets_read src.new ≡ R.octets_read src.old }
         ensures err { OnErr result (self.new.octets ≡ []) }
@@ -147,7 +147,7 @@ impl BlockBuffer {
         requires few { known header.now.size ≤ MOST_OF_BLOCK }
         requires length { length self.old.octets ≡ known header.now.size }
         ensures exact { IfOk result (λ found. (bytes : List ℕ) → self.old.octets ≡ body_of bytes header.now
-            → Makes found self.new (simple_block (reader scale) bytes (Some timestamp) header.now)) }
+            → Makes found self.new (simple_block (with_limits scale) bytes (Some timestamp) header.now)) }
         ensures octets { self.new.octets ≡ self.old.octets }
     {
         self.forget();
@@ -181,7 +181,7 @@ impl BlockBuffer {
         requires inside { stated_end header.now ≤ total }
         requires short { total ≤ 2 ^ 48 }
         ensures exact { IfOk result (λ found. (bytes : List ℕ) → length bytes ≡ total → self.old.octets ≡ body_of bytes header.now
-            → Makes found self.new (block_group (reader scale) bytes (Some timestamp) header.now)) }
+            → Makes found self.new (block_group (with_limits scale) bytes (Some timestamp) header.now)) }
         ensures octets { self.new.octets ≡ self.old.octets }
     {
         self.forget();

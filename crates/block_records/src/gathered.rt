@@ -8,14 +8,14 @@ ghost use Rattle.matroska_format.specs.Element.{in_master, stated_end};
 ghost use Rattle.matroska_format.specs.Elements.{children_in};
 ghost use Rattle.matroska_format.specs.Value.{body_of, is_known_value};
 ghost use Rattle.element_bodies.specs.Body.{IsBody};
-ghost use Rattle.block_format.specs.Elements.{octets_of};
+ghost use Rattle.block_format.specs.Elements.{element_octets};
 ghost use Rattle.block_records.specs.Group.{Gathers, GathersRun, IsInside, IsPart};
 
 use crate::damage::damage;
 use arrayvec::ArrayVec;
 use block_format::SLICES;
 use ebml_numbers::{read_int, read_uint};
-use element_bodies::{child_at, is_known_value, known, octets_of};
+use element_bodies::{body_in, child_at, is_known_value, known};
 use element_headers::{Header, Parent};
 use mkv_schema::ids::{BLOCK, BLOCK_DURATION, BLOCK_GROUP, CRC_32, REFERENCE_BLOCK, VOID};
 use mkv_values::{Damage, Kind};
@@ -42,7 +42,7 @@ fn element_of<'a>(body: &'a [u8], base: u64, child: &Header) -> &'a [u8]
     requires from { base ≤ child.now.offset }
     requires order { child.now.offset ≤ stated_end child.now }
     requires inside { stated_end child.now ≤ base + length body.now }
-    ensures exact { (bytes : List ℕ) (total : ℕ) → IsBody bytes base total body.now → result.now ≡ octets_of bytes child.now }
+    ensures exact { (bytes : List ℕ) (total : ℕ) → IsBody bytes base total body.now → result.now ≡ element_octets bytes child.now }
     ensures length { length result.now ≡ stated_end child.now - child.now.offset }
 {
     let end = child.body + known(child.size);
@@ -125,7 +125,7 @@ impl Gathered {
                 Ok(child) => child,
                 Err(damage) => return Ok(Err(damage)),
             };
-            let value = octets_of(body, base, &child);
+            let value = body_in(body, base, &child);
             if !is_known_value(BLOCK_GROUP, child.id, value) {
                 return Ok(Err(damage(Kind::BadValue, child.id, child.offset)));
             }
@@ -138,7 +138,7 @@ impl Gathered {
     // Adds the octets of a child, of whose body these are a value.
     fn add(&mut self, child: &Header, value: &[u8], octets: &[u8]) -> Result<(), AllocError>
         requires { is_known_value GROUP_ID child.now.id value.now ≡ true }
-        ensures exact { OnOk result ((bytes : List ℕ) (before : List HeaderRecord) → value.now ≡ body_of bytes child.now → octets.now ≡ octets_of bytes child.now
+        ensures exact { OnOk result ((bytes : List ℕ) (before : List HeaderRecord) → value.now ≡ body_of bytes child.now → octets.now ≡ element_octets bytes child.now
             → Gathers bytes before self.old → Gathers bytes (before ++ child.now ∷ []) self.new) }
         ensures block { (self.new.block ≡ self.old.block) ⊎ (self.new.block ≡ Some child.now) }
         ensures kept { OnOk result (length self.new.kept.items ≤ length self.old.kept.items + length octets.now) }

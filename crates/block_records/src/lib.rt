@@ -16,6 +16,3 @@ pub use block_format::MOST_OF_BLOCK;
 pub use buffer::BlockBuffer;
 pub use head::BlockHead;
 pub use lacing::Lace;
-
-#[cfg(test)]
-mod tests;

@@ -6,7 +6,7 @@ use Rattle.mkv_schema.specs.declared.ids.TheConstants.{CLUSTER, TIMESTAMP}
 use Rattle.mkv_values.specs.declared.damage.Damage.{Damage}
 use Rattle.matroska_format.specs.declared.element.Header.{Header}
 use Rattle.matroska_format.specs.Element.{in_segment, in_master, element_at, end_in, stated_end, is_unknown}
-use Rattle.matroska_format.specs.Elements.{Run, ends_at, breaks_at, before, step, id_of, ends_segment, ends_cluster, end_of_run, behind_in_segment, children_in, open_cluster, level_1}
+use Rattle.matroska_format.specs.Elements.{Run, ends_at, breaks_at, in_front, step, id_of, ends_segment, ends_cluster, end_of_run, behind_in_segment, children_in, open_cluster, level_1}
 use Rattle.matroska_format.proofs.ElementsLemmas.{elements-end, elements-more, Advances-known}
 use Rattle.element_walks.proofs.LevelOneLemmas.{level_1-end, level_1-stops, level_1-breaks, level_1-goes_on}
 use Rattle.block_format.specs.Block.{Block}
@@ -72,9 +72,9 @@ given_then r bytes e h rest unknown =
     rest
 
 -- what is left where a Cluster stands
-cluster_left : (r : Rules) (bytes : List ℕ) (p : Place) (h : Header) (run : Run) (unknown : Bool) → p.cluster ≡ None → level_1 bytes p.size p.at p.end ≡ before h run → h.id ≡ CLUSTER → is_unknown h.size ≡ unknown → left r bytes p ≡ given_then r bytes p.end h (events_in_run r bytes p.end run) unknown
+cluster_left : (r : Rules) (bytes : List ℕ) (p : Place) (h : Header) (run : Run) (unknown : Bool) → p.cluster ≡ None → level_1 bytes p.size p.at p.end ≡ in_front h run → h.id ≡ CLUSTER → is_unknown h.size ≡ unknown → left r bytes p ≡ given_then r bytes p.end h (events_in_run r bytes p.end run) unknown
 cluster_left r bytes p h run unknown outside is cluster sized =
-    outside_is r bytes p (before h run) outside is
+    outside_is r bytes p (in_front h run) outside is
     ∙ cond-true (h.id == CLUSTER) _ _ (eq-eqb h.id CLUSTER cluster)
     ∙ ap (given_then r bytes p.end h (events_in_run r bytes p.end run)) sized
 
@@ -145,7 +145,7 @@ unfolding at_place
 children-breaks bytes at c d earlier is goes = children-step bytes at c (Err d) earlier is ∙ cond-false (ends_children c.unknown d.id) _ _ goes
 
 -- a child
-children-goes_on : (bytes : List ℕ) (at : ℕ) (c : Inside) (h : Header) → at < c.end → Ok h ≡ element_at in_master bytes at c.end → ends_children c.unknown (id_of (Ok h)) ≡ false → children_from bytes at c ≡ before h (children_from bytes (end_in c.end h) c)
+children-goes_on : (bytes : List ℕ) (at : ℕ) (c : Inside) (h : Header) → at < c.end → Ok h ≡ element_at in_master bytes at c.end → ends_children c.unknown (id_of (Ok h)) ≡ false → children_from bytes at c ≡ in_front h (children_from bytes (end_in c.end h) c)
 unfolding at_place
 children-goes_on bytes at c h earlier is goes = children-step bytes at c (Ok h) earlier is ∙ cond-false (ends_children c.unknown h.id) _ _ goes
 

@@ -51,10 +51,10 @@ pub record IsPlace (p : Place) : Type 0 where
 
 -- ---- how far a walk can go on
 
-abbrev pub in_cluster : Option Inside → ℕ
-in_cluster None = 0
-in_cluster (Some c) = 1
+abbrev pub turns_to_leave : Option Inside → ℕ
+turns_to_leave None = 0
+turns_to_leave (Some c) = 1
 
 -- a bound on the turns that are left from a place on
 abbrev pub turns_left : Place → ℕ
-turns_left p = 2 * (p.end - p.at) + in_cluster p.cluster
+turns_left p = 2 * (p.end - p.at) + turns_to_leave p.cluster

@@ -7,8 +7,8 @@ use Rattle.mkv_io.specs.Faults.{counted}
 use Rattle.mkv_io.specs.LiveFiles.{LiveFiles}
 use Rattle.mkv_io.specs.Told.{Told}
 use Rattle.matroska_format.specs.declared.element.Header.{Header}
-use Rattle.element_window.specs.Window.{Held, Holds, IsBefore, cost_of, end_held}
-use Rattle.block_format.specs.Elements.{reader}
+use Rattle.element_window.specs.Window.{ReadAhead, Holds, HasNotPassed, cost_of, end_ahead}
+use Rattle.block_format.specs.Elements.{with_limits}
 use Rattle.block_format.specs.Events.{Event, block, damaged, stopped}
 use Rattle.block_records.specs.Buffered.{Buffered, block_of}
 use Rattle.cluster_reader.specs.Left.{left}
@@ -24,7 +24,7 @@ pub record Reading : Type 0 where
   pub file : FileId
   pub scale : ℕ
   pub place : Place
-  pub ahead : Held
+  pub ahead : ReadAhead
   pub block : Buffered
   pub blocks : ℕ
   pub damages : ℕ
@@ -32,20 +32,20 @@ pub record Reading : Type 0 where
 
 -- what is left of the file
 abbrev pub left_of : List ℕ → Reading → List Event
-left_of bytes c = left (reader c.scale) bytes c.place
+left_of bytes c = left (with_limits c.scale) bytes c.place
 
 -- ---- what a call gives
 
 -- a damage, told as the one that ends what is read or as another
-abbrev pub told : Bool → Damage → Event
-told true d = stopped d
-told false d = damaged d
+abbrev pub damage_event : Bool → Damage → Event
+damage_event true d = stopped d
+damage_event false d = damaged d
 
 -- The first of what was left is given: a block, a damage, or none. After a read that failed or want of
 -- memory the same is left.
 abbrev pub Gives : List ℕ → Reading → Reading → Result Step ReadEnd → Type 0
 Gives bytes old new (Ok Block) = left_of bytes old ≡ block (block_of new.block) ∷ left_of bytes new
-Gives bytes old new (Ok (Damaged d)) = left_of bytes old ≡ told new.stopped d ∷ left_of bytes new
+Gives bytes old new (Ok (Damaged d)) = left_of bytes old ≡ damage_event new.stopped d ∷ left_of bytes new
 Gives bytes old new (Ok End) = (left_of bytes old ≡ []) × (left_of bytes new ≡ [])
 Gives bytes old new (Err end) = left_of bytes new ≡ left_of bytes old
 
@@ -75,15 +75,15 @@ pub record IsSameSegment (old new : Reading) : Type 0 where
   pub end : new.place.end ≡ old.place.end
 
 -- What is held has been read as far as one read goes: nothing, or up to the file's end, or 65,536 octets.
-abbrev pub IsFull : ℕ → Held → Type 0
-IsFull size w = (w.octets ≡ []) ⊎ (end_held w ≡ size) ⊎ (65536 ≤ length w.octets)
+abbrev pub IsFull : ℕ → ReadAhead → Type 0
+IsFull size w = (w.octets ≡ []) ⊎ (end_ahead w ≡ size) ⊎ (65536 ≤ length w.octets)
 
 -- The place is in a live file, and what is held is this file's and not behind the place.
-pub record IsIn (files : LiveFiles) (c : Reading) : Type 0 where
+pub record CanRead (files : LiveFiles) (c : Reading) : Type 0 where
   pub live : files.live c.file.n ≡ true
   pub inside : c.place.end ≤ files.size c.file.n
   pub holds : Told (files.content c.file.n) (λ bytes. Holds bytes c.ahead)
-  pub before : IsBefore c.ahead c.place.at (files.size c.file.n)
+  pub before : HasNotPassed c.ahead c.place.at (files.size c.file.n)
   pub full : IsFull (files.size c.file.n) c.ahead
 
 -- Nothing was given yet, and nothing is held.

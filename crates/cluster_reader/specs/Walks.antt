@@ -4,11 +4,11 @@ use Rattle.mkv_values.specs.declared.outside.ReadEnd.{ReadEnd}
 use Rattle.mkv_schema.specs.declared.ids.TheConstants.{SIMPLE_BLOCK}
 use Rattle.mkv_io.specs.LiveFiles.{LiveFiles}
 use Rattle.matroska_format.specs.declared.element.Header.{Header}
-use Rattle.block_format.specs.Elements.{Rules, reader, simple_block, block_group}
+use Rattle.block_format.specs.Elements.{Rules, with_limits, simple_block, block_group}
 use Rattle.block_format.specs.Events.{Found, found_at, timestamp_behind}
 use Rattle.block_records.specs.Buffered.{Buffered, block_of}
 use Rattle.cluster_reader.specs.Places.{IsPlace, turns_left}
-use Rattle.cluster_reader.specs.Reading.{Reading, Gives, GoesOn, IsIn, IsSameSegment, Pays, left_of}
+use Rattle.cluster_reader.specs.Reading.{Reading, Gives, GoesOn, CanRead, IsSameSegment, Pays, left_of}
 use Rattle.cluster_reader.specs.declared.place.Place.{Place}
 use Rattle.cluster_reader.specs.declared.turn.Turn.{Turn}
 use Rattle.cluster_reader.specs.declared.turn.Turn.TheVariants as turn
@@ -40,9 +40,9 @@ block_found r bytes timestamp h =
 -- a damage.
 abbrev pub Finds : List ℕ → ℕ → Option ℕ → Header → Buffered → Child → Type 0
 Finds bytes scale timestamp h b (child.Passed behind) =
-    (found_at (reader scale) bytes timestamp h ≡ []) × (behind ≡ timestamp_behind bytes timestamp h)
-Finds bytes scale timestamp h b child.Block = found_at (reader scale) bytes timestamp h ≡ Ok (block_of b) ∷ []
-Finds bytes scale timestamp h b (child.Damaged d) = found_at (reader scale) bytes timestamp h ≡ Err d ∷ []
+    (found_at (with_limits scale) bytes timestamp h ≡ []) × (behind ≡ timestamp_behind bytes timestamp h)
+Finds bytes scale timestamp h b child.Block = found_at (with_limits scale) bytes timestamp h ≡ Ok (block_of b) ∷ []
+Finds bytes scale timestamp h b (child.Damaged d) = found_at (with_limits scale) bytes timestamp h ≡ Err d ∷ []
 
 -- ---- what a turn gives
 
@@ -61,7 +61,7 @@ TurnsOn old new (turn.Gives step) = GoesOn step old.at new.at
 
 -- A cursor may stand there, and the place is one of a Segment.
 pub record IsReady (files : LiveFiles) (w : Walk) : Type 0 where
-  pub stands : IsIn files (shown w)
+  pub stands : CanRead files (shown w)
   pub scale : 1 ≤ w.scale
   pub place : IsPlace w.place
 

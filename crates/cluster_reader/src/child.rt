@@ -1,10 +1,10 @@
 //! What the children of a Cluster give: RFC 9559, section 5.1.3 (Cluster Element).
 
 ghost use Rattle.std.specs.Prelude.{◌≡◌, ◌≤◌, ◌+◌, ℕ, List, length, false, IfOk, IsTrue};
-ghost use Rattle.mkv_io.specs.Faults.{HasReadCause};
-ghost use Rattle.mkv_io.specs.Told.{Told};
+ghost use Rattle.mkv_io.specs.Faults.{HasCause, is_read_fault};
+ghost use Rattle.mkv_io.specs.Sources.{IfTold, live_files};
 ghost use Rattle.matroska_format.specs.Element.{damage, is_unknown, known, stated_end};
-ghost use Rattle.block_format.specs.Elements.{timestamp_for, reader};
+ghost use Rattle.block_format.specs.Elements.{timestamp_for, with_limits};
 ghost use Rattle.block_records.specs.Buffered.{Makes};
 ghost use Rattle.cluster_reader.specs.Walks.{Finds, IsReady, block_found};
 
@@ -35,13 +35,13 @@ pub fn read_child<R: Reads>(
     timestamp: Option<u64>,
     header: &Header,
 ) -> Result<Child, ReadEnd>
-    requires ready { IsReady (R.files (R.standing src.old)) walk.old }
+    requires ready { IsReady (live_files R.Reads src.old) walk.old }
     requires whole { is_unknown header.now.size ≡ false }
     requires inside { stated_end header.now ≤ walk.old.place.end }
-    ensures ok { IfOk result (λ child. Told ((R.files (R.standing src.old)).content walk.old.file.n) (λ bytes. Finds bytes walk.old.scale timestamp header.now walk.new.block child)) }
+    ensures ok { IfOk result (λ child. IfTold R.Reads src.old walk.old.file (λ bytes. Finds bytes walk.old.scale timestamp header.now walk.new.block child)) }
     ensures only { walk.new ≡ record walk.old { block = walk.new.block } }
     ensures standing { R.standing src.new ≡ R.standing src.old }
-    ensures cause { HasReadCause (R.reading_faults src.old) (R.reading_faults src.new) result }
+    ensures cause { HasCause is_read_fault (R.reading_faults src.old) (R.reading_faults src.new) result }
     ensures octets { R.octets_read src.new ≤ R.octets_read src.old + known header.now.size }
 {
     if header.id == TIMESTAMP {
@@ -63,12 +63,12 @@ fn timestamp_child<R: Reads>(
     timestamp: Option<u64>,
     header: &Header,
 ) -> Result<Child, ReadEnd>
-    requires ready { IsReady (R.files (R.standing src.old)) walk.now }
+    requires ready { IsReady (live_files R.Reads src.old) walk.now }
     requires inside { stated_end header.now ≤ walk.now.place.end }
     requires id { header.now.id ≡ TIMESTAMP }
-    ensures ok { IfOk result (λ child. Told ((R.files (R.standing src.old)).content walk.now.file.n) (λ bytes. Finds bytes walk.now.scale timestamp header.now walk.now.block child)) }
+    ensures ok { IfOk result (λ child. IfTold R.Reads src.old walk.now.file (λ bytes. Finds bytes walk.now.scale timestamp header.now walk.now.block child)) }
     ensures standing { R.standing src.new ≡ R.standing src.old }
-    ensures cause { HasReadCause (R.reading_faults src.old) (R.reading_faults src.new) result }
+    ensures cause { HasCause is_read_fault (R.reading_faults src.old) (R.reading_faults src.new) result }
     ensures octets { R.octets_read src.new ≤ R.octets_read src.old + known header.now.size }
 {
     if known(header.size) > MOST_TIMESTAMP {
@@ -85,7 +85,7 @@ fn timestamp_child<R: Reads>(
 
 // The Timestamp for a block that isn't too long.
 fn timestamp_for(timestamp: Option<u64>, header: &Header) -> Result<u64, Damage>
-    ensures exact { (scale : ℕ) → result ≡ timestamp_for (reader scale) timestamp header.now }
+    ensures exact { (scale : ℕ) → result ≡ timestamp_for (with_limits scale) timestamp header.now }
     ensures few { IfOk result (λ _. known header.now.size ≤ MOST_OF_BLOCK) }
 {
     if known(header.size) > MOST_OF_BLOCK {
@@ -104,13 +104,13 @@ fn read_block<R: Reads>(
     timestamp: Option<u64>,
     header: &Header,
 ) -> Result<Result<(), Damage>, ReadEnd>
-    requires ready { IsReady (R.files (R.standing src.old)) walk.old }
+    requires ready { IsReady (live_files R.Reads src.old) walk.old }
     requires whole { is_unknown header.now.size ≡ false }
     requires inside { stated_end header.now ≤ walk.old.place.end }
-    ensures ok { IfOk result (λ found. Told ((R.files (R.standing src.old)).content walk.old.file.n) (λ bytes. Makes found walk.new.block (block_found (reader walk.old.scale) bytes timestamp header.now))) }
+    ensures ok { IfOk result (λ found. IfTold R.Reads src.old walk.old.file (λ bytes. Makes found walk.new.block (block_found (with_limits walk.old.scale) bytes timestamp header.now))) }
     ensures only { walk.new ≡ record walk.old { block = walk.new.block } }
     ensures standing { R.standing src.new ≡ R.standing src.old }
-    ensures cause { HasReadCause (R.reading_faults src.old) (R.reading_faults src.new) result }
+    ensures cause { HasCause is_read_fault (R.reading_faults src.old) (R.reading_faults src.new) result }
     ensures octets { R.octets_read src.new ≤ R.octets_read src.old + known header.now.size }
 {
     let ticks = match timestamp_for(timestamp, header) {

@@ -1,14 +1,14 @@
 //! The cursor.
 
 ghost use Rattle.std.specs.Prelude.{◌≡◌, ◌*◌, ◌≤◌, true, ℕ, List, length, sum, IfOk};
-ghost use Rattle.mkv_io.specs.Faults.{HasReadCause};
+ghost use Rattle.mkv_io.specs.Faults.{HasCause, is_read_fault};
 ghost use Rattle.mkv_io.specs.LiveFiles.{LiveFiles};
-ghost use Rattle.mkv_io.specs.Told.{Told};
+ghost use Rattle.mkv_io.specs.Sources.{IfTold, file_size, live_files};
 ghost use Rattle.meta_format.specs.Info.{file_scale};
-ghost use Rattle.block_format.specs.Elements.{reader};
+ghost use Rattle.block_format.specs.Elements.{with_limits};
 ghost use Rattle.block_format.specs.Events.{events_of};
 ghost use Rattle.block_format.specs.File.{file_events};
-ghost use Rattle.cluster_reader.specs.Reading.{Begins, Counts, Gives, GoesOn, IsIn, IsSameSegment, Pays, left_of, paid};
+ghost use Rattle.cluster_reader.specs.Reading.{Begins, Counts, Gives, GoesOn, CanRead, IsSameSegment, Pays, left_of, paid};
 
 use crate::next_step::next_step;
 use crate::place::Place;
@@ -62,14 +62,14 @@ impl Cursor {
         requires { 1 ≤ scale }
         ensures begins { IfOk result (Begins file scale outline.now.segment outline.now.total) }
         ensures left { (bytes : List ℕ) → outline.now.total ≡ length bytes
-            → IfOk result (λ c. left_of bytes c ≡ events_of (reader scale) bytes outline.now.segment) }
+            → IfOk result (λ c. left_of bytes c ≡ events_of (with_limits scale) bytes outline.now.segment) }
 
         // Where the scale is the file's, these are the file's blocks and damages.
         ensures file { (bytes : List ℕ) → outline.now.total ≡ length bytes → scale ≡ file_scale bytes outline.now.segment
             → IfOk result (λ c. left_of bytes c ≡ file_events true bytes outline.now.segment) }
 
         // It may be advanced in a live file of that length.
-        ensures stands { (files : LiveFiles) → files.live file.n ≡ true → files.size file.n ≡ outline.now.total → IfOk result (IsIn files) }
+        ensures stands { (files : LiveFiles) → files.live file.n ≡ true → files.size file.n ≡ outline.now.total → IfOk result (CanRead files) }
     {
         let walk = Walk {
             window: Window::new(alloc)?,
@@ -89,21 +89,21 @@ impl Cursor {
     /// Gives the next block or damage. `End` is answered where none is left, and again from then on. After
     /// a refusal the same block is looked for again.
     pub fn advance<R: Reads>(&mut self, src: &mut R) -> Result<Step, ReadEnd>
-        requires { IsIn (R.files (R.standing src.old)) self.old }
-        ensures gives { Told ((R.files (R.standing src.old)).content self.old.file.n) (λ bytes. Gives bytes self.old self.new result) }
+        requires { CanRead (live_files R.Reads src.old) self.old }
+        ensures gives { IfTold R.Reads src.old self.old.file (λ bytes. Gives bytes self.old self.new result) }
         ensures counts { Counts self.old self.new result }
 
         // It goes on in the same file, and stays ready for the next call.
         ensures on { IfOk result (λ step. GoesOn step self.old.place.at self.new.place.at) }
         ensures inside { self.new.place.at ≤ self.new.place.end }
         ensures same { IsSameSegment self.old self.new }
-        ensures stands { IsIn (R.files (R.standing src.new)) self.new }
+        ensures stands { CanRead (live_files R.Reads src.new) self.new }
         ensures standing { R.standing src.new ≡ R.standing src.old }
-        ensures cause { HasReadCause (R.reading_faults src.old) (R.reading_faults src.new) result }
+        ensures cause { HasCause is_read_fault (R.reading_faults src.old) (R.reading_faults src.new) result }
 
         // What is read adds up to at most four octets for each of the file.
-        ensures pays { Pays ((R.files (R.standing src.old)).size self.old.file.n) self.old self.new (R.octets_read src.old) (R.octets_read src.new) result }
-        ensures most { paid ((R.files (R.standing src.old)).size self.old.file.n) self.new ≤ 4 * (R.files (R.standing src.old)).size self.old.file.n }
+        ensures pays { Pays (file_size R.Reads src.old self.old.file) self.old self.new (R.octets_read src.old) (R.octets_read src.new) result }
+        ensures most { paid (file_size R.Reads src.old self.old.file) self.new ≤ 4 * file_size R.Reads src.old self.old.file }
     {
         let step = next_step(&mut self.walk, src)?;
         match step {

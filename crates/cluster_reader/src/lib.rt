@@ -4,12 +4,12 @@
 //! A cursor goes forwards through the file, reads headers through a window and each block once into one
 //! buffer, skips what is no block without reading it, and lends what it has read.
 
+mod at_level_1;
 mod child;
 mod cursor;
 mod damages;
-mod inside;
+mod in_cluster;
 mod next_step;
-mod outside;
 mod place;
 mod step;
 mod timestamp;

@@ -1,8 +1,8 @@
 //! The Timestamp of a Cluster: RFC 9559, section 5.1.3 (Cluster Element).
 
 ghost use Rattle.std.specs.Prelude.{◌≡◌, ◌≤◌, ◌+◌, false, IfOk, IsTrue};
-ghost use Rattle.mkv_io.specs.Faults.{HasCause};
-ghost use Rattle.mkv_io.specs.Told.{Told};
+ghost use Rattle.mkv_io.specs.Faults.{HasCause, is_failure};
+ghost use Rattle.mkv_io.specs.Sources.{IfTold, IsLive, file_size};
 ghost use Rattle.ebml_format.specs.Number.{uint_of};
 ghost use Rattle.matroska_format.specs.Element.{known, stated_end};
 ghost use Rattle.matroska_format.specs.Value.{body_of};
@@ -23,13 +23,13 @@ pub fn read_timestamp<R: Reads>(
     file: FileId,
     header: &Header,
 ) -> Result<u64, Failed>
-    requires live { IsTrue ((R.files (R.standing src.old)).live file.n) }
+    requires live { IsLive R.Reads src.old file }
     requires few { known header.now.size ≤ MOST_TIMESTAMP }
-    requires inside { stated_end header.now ≤ (R.files (R.standing src.old)).size file.n }
-    requires holds { Told ((R.files (R.standing src.old)).content file.n) (λ bytes. Holds bytes window.now) }
-    ensures ok { IfOk result (λ ticks. Told ((R.files (R.standing src.old)).content file.n) (λ bytes. ticks ≡ uint_of (body_of bytes header.now))) }
+    requires inside { stated_end header.now ≤ file_size R.Reads src.old file }
+    requires holds { IfTold R.Reads src.old file (λ bytes. Holds bytes window.now) }
+    ensures ok { IfOk result (λ ticks. IfTold R.Reads src.old file (λ bytes. ticks ≡ uint_of (body_of bytes header.now))) }
     ensures standing { R.standing src.new ≡ R.standing src.old }
-    ensures cause { HasCause (R.reading_faults src.old) (R.reading_faults src.new) result }
+    ensures cause { HasCause is_failure (R.reading_faults src.old) (R.reading_faults src.new) result }
     ensures octets { R.octets_read src.new ≤ R.octets_read src.old + known header.now.size }
 {
     let mut buffer = [0; 8];

@@ -1,10 +1,10 @@
 //! A walk over the Elements of a file.
 
 ghost use Rattle.std.specs.Prelude.{◌≡◌, ◌≤◌, ◌<◌, true, not, None, IfOk};
-ghost use Rattle.mkv_io.specs.Faults.{HasReadCause};
-ghost use Rattle.mkv_io.specs.Told.{Told};
+ghost use Rattle.mkv_io.specs.Faults.{HasCause, is_read_fault};
+ghost use Rattle.mkv_io.specs.Sources.{IfTold, file_size, live_files};
 ghost use Rattle.matroska_format.specs.Element.{element_at};
-ghost use Rattle.matroska_format.specs.Placed.{IsPlaced, IsWhole};
+ghost use Rattle.matroska_format.specs.Placed.{StandsAt, IsWhole};
 ghost use Rattle.element_headers.specs.Parent.{setting_of};
 ghost use Rattle.cluster_reader.specs.Places.{behind_damage};
 ghost use Rattle.cluster_reader.specs.Walks.{IsReady, PaysFor};
@@ -41,17 +41,17 @@ impl Walk {
         parent: Parent,
         end: u64,
     ) -> Result<Result<Header, Damage>, ReadEnd>
-        requires ready { IsReady (R.files (R.standing src.old)) self.old }
+        requires ready { IsReady (live_files R.Reads src.old) self.old }
         requires before { self.old.place.at < end }
         requires within { end ≤ self.old.place.end }
-        ensures ok { IfOk result (λ found. Told ((R.files (R.standing src.old)).content self.old.file.n) (λ bytes. found ≡ element_at (setting_of parent) bytes self.old.place.at end)) }
-        ensures placed { IfOk result (λ found. IfOk found (IsPlaced self.old.place.at end)) }
+        ensures ok { IfOk result (λ found. IfTold R.Reads src.old self.old.file (λ bytes. found ≡ element_at (setting_of parent) bytes self.old.place.at end)) }
+        ensures placed { IfOk result (λ found. IfOk found (StandsAt self.old.place.at end)) }
         ensures whole { IfOk result (λ found. IfOk found (IsWhole (setting_of parent) end)) }
         ensures only { self.new ≡ record self.old { window = self.new.window } }
-        ensures ready { IsReady (R.files (R.standing src.new)) self.new }
+        ensures ready { IsReady (live_files R.Reads src.new) self.new }
         ensures standing { R.standing src.new ≡ R.standing src.old }
-        ensures cause { HasReadCause (R.reading_faults src.old) (R.reading_faults src.new) result }
-        ensures pays { PaysFor ((R.files (R.standing src.old)).size self.old.file.n) self.old self.new (R.octets_read src.old) (R.octets_read src.new) result }
+        ensures cause { HasCause is_read_fault (R.reading_faults src.old) (R.reading_faults src.new) result }
+        ensures pays { PaysFor (file_size R.Reads src.old self.old.file) self.old self.new (R.octets_read src.old) (R.octets_read src.new) result }
     {
         match self
             .window

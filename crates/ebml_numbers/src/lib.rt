@@ -12,6 +12,3 @@ pub use ebml_format::{IdRead, NumFault, Size, SizeRead};
 pub use octets::Octets;
 pub use reading::{read_id, read_int, read_size, read_uint};
 pub use writing::{put_id, put_int, put_size, put_uint, size_width};
-
-#[cfg(test)]
-mod tests;

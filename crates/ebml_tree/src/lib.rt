@@ -9,6 +9,3 @@ mod tree;
 
 pub use end::TreeEnd;
 pub use tree::Tree;
-
-#[cfg(test)]
-mod tests;

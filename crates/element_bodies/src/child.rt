@@ -2,7 +2,7 @@
 
 ghost use Rattle.std.specs.Prelude.{◌≡◌, ℕ, ◌+◌, ◌^◌, ◌<◌, ◌≤◌, List, length, IfOk};
 ghost use Rattle.matroska_format.specs.Element.{element_at, known, stated_end};
-ghost use Rattle.matroska_format.specs.Placed.{IsPlaced, IsWhole};
+ghost use Rattle.matroska_format.specs.Placed.{StandsAt, IsWhole};
 ghost use Rattle.matroska_format.specs.Value.{body_of};
 ghost use Rattle.element_headers.specs.Parent.{setting_of};
 ghost use Rattle.element_bodies.specs.Body.{IsBody};
@@ -24,7 +24,7 @@ pub fn child_at(
     requires inside { at < base + length body.now }
     requires short { base + length body.now ≤ 2 ^ 48 }
     ensures exact { (bytes : List ℕ) → IsBody bytes base total body.now → result ≡ element_at (setting_of parent) bytes at (base + length body.now) }
-    ensures placed { IfOk result (IsPlaced at (base + length body.now)) }
+    ensures placed { IfOk result (StandsAt at (base + length body.now)) }
     ensures whole { IfOk result (IsWhole (setting_of parent) (base + length body.now)) }
 {
     let end = base + body.len() as u64;
@@ -32,7 +32,7 @@ pub fn child_at(
 }
 
 /// The octets of a child's body, of a master whose body begins at `base` and is these octets.
-pub fn octets_of<'a>(body: &'a [u8], base: u64, child: &Header) -> &'a [u8]
+pub fn body_in<'a>(body: &'a [u8], base: u64, child: &Header) -> &'a [u8]
     requires from { base ≤ child.now.body }
     requires inside { stated_end child.now ≤ base + length body.now }
     ensures { (bytes : List ℕ) (total : ℕ) → IsBody bytes base total body.now → result.now ≡ body_of bytes child.now }

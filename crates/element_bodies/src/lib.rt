@@ -6,5 +6,5 @@
 mod child;
 mod value;
 
-pub use child::{child_at, known, octets_of};
+pub use child::{body_in, child_at, known};
 pub use value::{is_known_value, is_value, text_of};

@@ -2,7 +2,7 @@
 
 ghost use Rattle.std.specs.Prelude.{◌≡◌, ◌≤◌, ◌+◌, ◌^◌, length, drop, nat_lt, IfOk};
 ghost use Rattle.matroska_format.specs.Element.{body_damage, cut_header, element_in, id_in, stated_end, with_size};
-ghost use Rattle.matroska_format.specs.Placed.{IsPlaced, IsWhole};
+ghost use Rattle.matroska_format.specs.Placed.{StandsAt, IsWhole};
 ghost use Rattle.ebml_format.specs.Number.{size_at};
 ghost use Rattle.element_headers.specs.Parent.{setting_of};
 
@@ -25,7 +25,7 @@ pub fn read_header(
 ) -> Result<Header, Damage>
     requires { at ≤ 2 ^ 48 }
     ensures exact { result ≡ element_in (setting_of parent) octets.now total at end }
-    ensures placed { at + length octets.now ≤ end → IfOk result (IsPlaced at end) }
+    ensures placed { at + length octets.now ≤ end → IfOk result (StandsAt at end) }
     ensures whole { IfOk result (IsWhole (setting_of parent) end) }
 {
     first_header(octets, parent, total, at, end)

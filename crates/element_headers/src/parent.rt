@@ -43,7 +43,7 @@ impl Parent {
 
     /// Whether the parent is read whole.
     pub fn is_tree(self) -> bool
-        ensures { result ≡ (setting_of self).held }
+        ensures { result ≡ (setting_of self).read_whole }
     {
         matches!(self, Parent::Tree(_))
     }

@@ -9,7 +9,7 @@ use Rattle.matroska_format.specs.Element.{in_tree, element_at, damage, end_in}
 use Rattle.matroska_format.specs.Elements.{Run, step, ends_at, never}
 use Rattle.matroska_format.specs.Value.{body_of, is_known_value, first_of}
 use Rattle.matroska_format.proofs.ElementsLemmas.{elements-end, elements-more, Advances-known}
-use Rattle.element_reader.specs.Child.{children, child_refusal}
+use Rattle.element_reader.specs.EbmlChildren.{children, child_refusal}
 
 -- at the body's end there are no more
 children-end : (bytes : List ℕ) (p e : ℕ) → e ≤ p → children bytes p e ≡ ends_at p

@@ -12,14 +12,14 @@ use Rattle.matroska_format.specs.Element.{in_segment, known}
 use Rattle.matroska_format.specs.Placed.{IsWhole}
 use Rattle.matroska_format.specs.Value.{first_of}
 use Rattle.matroska_format.specs.Outline.{first_damage, where_it, is_described, described, others, passes_size, passes_count, MOST_OF_ONE, MOST_OF_ALL, MOST_ELEMENTS}
-use Rattle.element_reader.specs.Collected.{IsInFile, Keeps, kept_of, others_of, octets_of}
+use Rattle.element_reader.specs.Collected.{IsInFile, Keeps, kept_of, others_of, described_octets}
 use Rattle.element_reader.specs.declared.collected.Collected.{Collected}
 
 -- one more Cluster
 abbrev pub cluster_of : Header → Option Header
 cluster_of h = if h.id == CLUSTER then Some h else None
 
-pub described-more : (list : List Header) (h : Header) → described (list ++ h ∷ []) ≡ described list + octets_of h
+pub described-more : (list : List Header) (h : Header) → described (list ++ h ∷ []) ≡ described list + described_octets h
 described-more list h =
     ap (sum_by (λ k. known k.size)) (filter-append (λ k. is_described k.id) list (h ∷ []))
     ∙ sum_by-append (λ k. known k.size) (filter (λ k. is_described k.id) list) (filter (λ k. is_described k.id) (h ∷ []))
@@ -36,7 +36,7 @@ pub cluster-more : (list : List Header) (h : Header) → first_of CLUSTER (list 
 cluster-more list h = find-append (λ k. k.id == CLUSTER) list (h ∷ [])
 
 -- one more Element is kept
-pub Keeps-more : (held : ℕ) (list : List Header) (before after : Collected) (h : Header) → Keeps held list before → after.others.items ≡ before.others.items ++ kept_of h → after.cluster ≡ option_or before.cluster (cluster_of h) → after.held ≡ before.held + octets_of h → Keeps held (list ++ h ∷ []) after
+pub Keeps-more : (held : ℕ) (list : List Header) (before after : Collected) (h : Header) → Keeps held list before → after.others.items ≡ before.others.items ++ kept_of h → after.cluster ≡ option_or before.cluster (cluster_of h) → after.held ≡ before.held + described_octets h → Keeps held (list ++ h ∷ []) after
 Keeps-more held list before after h keeps items first octets =
     let more = described-more list h in
     record {

@@ -21,7 +21,7 @@ use Rattle.matroska_format.specs.Elements.{Run}
 use Rattle.mkv_schema.specs.declared.ids.TheConstants.{EBML}
 use Rattle.std.proofs.lemmas.List.{drop-take}
 use Rattle.element_bodies.specs.Body.{IsBody}
-use Rattle.element_reader.specs.Child.{value_causes}
+use Rattle.element_reader.specs.EbmlChildren.{value_causes}
 
 -- its ID, read from its octets
 abbrev pub mark_read : Result IdRead NumFault

@@ -15,7 +15,7 @@ use Rattle.matroska_format.specs.Element.{damage, known}
 use Rattle.matroska_format.specs.Elements.{Run}
 use Rattle.matroska_format.specs.Value.{body_of, is_known_value, first_of, uint_value, uint_in}
 use Rattle.matroska_format.specs.Outline.{first_damage, bad_value, over, where_it, MOST_OF_HEADER}
-use Rattle.element_reader.specs.Child.{IsShort, child_refusal}
+use Rattle.element_reader.specs.EbmlChildren.{IsShort, child_refusal}
 
 -- where nothing refuses the children, none has a bad value
 no_bad : (bytes : List ℕ) (run : Run) → child_refusal bytes run ≡ None → bad_value bytes EBML run.list ≡ None

@@ -4,31 +4,31 @@ use Rattle.std.specs.Option.{option_map_or}
 use Rattle.mkv_values.specs.declared.damage.Damage.{Damage}
 use Rattle.matroska_format.specs.declared.element.Header.{Header}
 use Rattle.matroska_format.specs.Element.{is_unknown, end_in}
-use Rattle.matroska_format.specs.Elements.{Run, before, level_1}
+use Rattle.matroska_format.specs.Elements.{Run, in_front, level_1}
 use Rattle.matroska_format.specs.Outline.{first_damage, first_refusal, limit_causes, limits_from, segment_run}
 use Rattle.element_reader.specs.Collected.{Keeps}
-use Rattle.element_reader.specs.Level.{HasLevel, IsOnWay, in_front, nothing_left}
+use Rattle.element_reader.specs.Level.{HasLevel, IsOnWay, all_in_front, nothing_left}
 use Rattle.element_reader.specs.declared.collected.Collected.{Collected}
 use Rattle.element_reader.specs.declared.level.Level.{Level}
 
 -- Elements in front are listed first
-pub in_front-list : (given : List Header) (run : Run) → (in_front given run).list ≡ given ++ run.list
-in_front-list [] run = refl
-in_front-list (h ∷ hs) run = ap (λ l. h ∷ l) (in_front-list hs run)
+pub all_in_front-list : (given : List Header) (run : Run) → (all_in_front given run).list ≡ given ++ run.list
+all_in_front-list [] run = refl
+all_in_front-list (h ∷ hs) run = ap (λ l. h ∷ l) (all_in_front-list hs run)
 
 -- they leave the damage and the end
-pub in_front-damage : (given : List Header) (run : Run) → (in_front given run).damage ≡ run.damage
-in_front-damage [] run = refl
-in_front-damage (h ∷ hs) run = in_front-damage hs run
+pub all_in_front-damage : (given : List Header) (run : Run) → (all_in_front given run).damage ≡ run.damage
+all_in_front-damage [] run = refl
+all_in_front-damage (h ∷ hs) run = all_in_front-damage hs run
 
-pub in_front-end : (given : List Header) (run : Run) → (in_front given run).end ≡ run.end
-in_front-end [] run = refl
-in_front-end (h ∷ hs) run = in_front-end hs run
+pub all_in_front-end : (given : List Header) (run : Run) → (all_in_front given run).end ≡ run.end
+all_in_front-end [] run = refl
+all_in_front-end (h ∷ hs) run = all_in_front-end hs run
 
 -- one more in front
-pub in_front-more : (given : List Header) (h : Header) (run : Run) → in_front given (before h run) ≡ in_front (given ++ h ∷ []) run
-in_front-more [] h run = refl
-in_front-more (k ∷ ks) h run = ap (before k) (in_front-more ks h run)
+pub all_in_front-more : (given : List Header) (h : Header) (run : Run) → all_in_front given (in_front h run) ≡ all_in_front (given ++ h ∷ []) run
+all_in_front-more [] h run = refl
+all_in_front-more (k ∷ ks) h run = ap (in_front k) (all_in_front-more ks h run)
 
 -- the way begins with nothing given
 pub IsOnWay-begins : (held : ℕ) (run left : Run) (kept : Collected) → run ≡ left → Keeps held [] kept → IsOnWay held run left kept
@@ -40,20 +40,20 @@ IsOnWay-begins held run left kept same keeps = record {
 }
 
 -- an Element that passes no limit is given
-pub IsOnWay-more : (held : ℕ) (run left rest : Run) (kept after : Collected) (h : Header) (refusal : Option Damage) → IsOnWay held run left kept → left ≡ before h rest → ((list : List Header) → Keeps held list kept → refusal ≡ first_damage (limit_causes held list h)) → refusal ≡ None → ((list : List Header) → Keeps held list kept → Keeps held (list ++ h ∷ []) after) → IsOnWay held run rest after
+pub IsOnWay-more : (held : ℕ) (run left rest : Run) (kept after : Collected) (h : Header) (refusal : Option Damage) → IsOnWay held run left kept → left ≡ in_front h rest → ((list : List Header) → Keeps held list kept → refusal ≡ first_damage (limit_causes held list h)) → refusal ≡ None → ((list : List Header) → Keeps held list kept → Keeps held (list ++ h ∷ []) after) → IsOnWay held run rest after
 IsOnWay-more held run left rest kept after h refusal way is refuses none keeps =
     let passes : first_damage (limit_causes held way.given h) ≡ None = sym (refuses way.given way.keeps) ∙ none in
     record {
       given = way.given ++ h ∷ [];
       keeps = keeps way.given way.keeps;
-      split = way.split ∙ ap (in_front way.given) is ∙ in_front-more way.given h rest;
+      split = way.split ∙ ap (all_in_front way.given) is ∙ all_in_front-more way.given h rest;
       limits =
           way.limits ∙ ap (λ (r : Run). limits_from held way.given r.list) is
           ∙ ap (λ d. first_refusal d (limits_from held (way.given ++ h ∷ []) rest.list)) passes;
     }
 
 -- the first Element that passes a limit refuses the file
-pub IsOnWay-refused : (held : ℕ) (run left rest : Run) (kept : Collected) (h : Header) (refusal : Option Damage) (d : Damage) → IsOnWay held run left kept → left ≡ before h rest → ((list : List Header) → Keeps held list kept → refusal ≡ first_damage (limit_causes held list h)) → refusal ≡ Some d → limits_from held [] run.list ≡ Some d
+pub IsOnWay-refused : (held : ℕ) (run left rest : Run) (kept : Collected) (h : Header) (refusal : Option Damage) (d : Damage) → IsOnWay held run left kept → left ≡ in_front h rest → ((list : List Header) → Keeps held list kept → refusal ≡ first_damage (limit_causes held list h)) → refusal ≡ Some d → limits_from held [] run.list ≡ Some d
 IsOnWay-refused held run left rest kept h refusal d way is refuses some =
     let passes : first_damage (limit_causes held way.given h) ≡ Some d = sym (refuses way.given way.keeps) ∙ some in
     way.limits ∙ ap (λ (r : Run). limits_from held way.given r.list) is
@@ -64,9 +64,9 @@ pub HasLevel-ended : (held : ℕ) (bytes : List ℕ) (segment : Header) (at : �
 HasLevel-ended held bytes segment at found level way damage end =
     let run = segment_run bytes segment in
     let left = nothing_left at found in
-    let list : way.given ≡ run.list = sym (ap (λ (r : Run). r.list) way.split ∙ in_front-list way.given left ∙ append-nil way.given) in
-    let run_damage : found ≡ run.damage = sym (ap (λ (r : Run). r.damage) way.split ∙ in_front-damage way.given left) in
-    let run_end : at ≡ run.end = sym (ap (λ (r : Run). r.end) way.split ∙ in_front-end way.given left) in
+    let list : way.given ≡ run.list = sym (ap (λ (r : Run). r.list) way.split ∙ all_in_front-list way.given left ∙ append-nil way.given) in
+    let run_damage : found ≡ run.damage = sym (ap (λ (r : Run). r.damage) way.split ∙ all_in_front-damage way.given left) in
+    let run_end : at ≡ run.end = sym (ap (λ (r : Run). r.end) way.split ∙ all_in_front-end way.given left) in
     record {
       limits = way.limits;
       kept = subst (λ (l : List Header). Keeps held l level.kept) list way.keeps;

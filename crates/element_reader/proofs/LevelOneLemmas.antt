@@ -6,7 +6,7 @@ use Rattle.mkv_values.specs.declared.damage.Damage.{Damage}
 use Rattle.matroska_format.specs.declared.element.Header.{Header}
 use Rattle.matroska_format.specs.Elements.{Run, level_1}
 use Rattle.element_walks.specs.Steps.{StepsOn}
-use Rattle.element_walks.specs.declared.level_one.Step.TheVariants.{Element}
+use Rattle.element_walks.specs.declared.level_one.Level1Step.TheVariants.{Element}
 use Rattle.element_walks.proofs.LevelOneLemmas.{level_1-end}
 
 -- behind an Element the next are left, and none behind a damage inside it

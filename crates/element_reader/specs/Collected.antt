@@ -21,8 +21,8 @@ pub record IsInFile (total : ℕ) (h : Header) : Type 0 where
   pub inside : stated_end h ≤ total
 
 -- the octets of an Info, Tracks, Chapters or Tags
-abbrev pub octets_of : Header → ℕ
-octets_of h = if is_described h.id then known h.size else 0
+abbrev pub described_octets : Header → ℕ
+described_octets h = if is_described h.id then known h.size else 0
 
 -- This is kept of the Elements of a list, where earlier inputs have held so many octets.
 pub record Keeps (held : ℕ) (list : List Header) (kept : Collected) : Type 0 where

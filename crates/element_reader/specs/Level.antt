@@ -2,7 +2,7 @@
 use Rattle.std.specs.Prelude.{◌≡◌, ℕ, List, [], ◌∷◌, Option, Some, None, Result, Ok, Err}
 use Rattle.mkv_values.specs.declared.damage.Damage.{Damage}
 use Rattle.matroska_format.specs.declared.element.Header.{Header}
-use Rattle.matroska_format.specs.Elements.{Run, before}
+use Rattle.matroska_format.specs.Elements.{Run, in_front}
 use Rattle.matroska_format.specs.Outline.{limits_from, segment_run, segment_end}
 use Rattle.element_reader.specs.Collected.{Keeps}
 use Rattle.element_reader.specs.declared.collected.Collected.{Collected}
@@ -22,9 +22,9 @@ IsLevel held bytes segment (Ok level) = HasLevel held bytes segment level
 IsLevel held bytes segment (Err d) = limits_from held [] (segment_run bytes segment).list ≡ Some d
 
 -- these Elements stand before those of a run
-abbrev pub in_front : List Header → Run → Run
-in_front [] run = run
-in_front (h ∷ hs) run = before h (in_front hs run)
+abbrev pub all_in_front : List Header → Run → Run
+all_in_front [] run = run
+all_in_front (h ∷ hs) run = in_front h (all_in_front hs run)
 
 -- no Element stands from a place on, by a damage or without one
 abbrev pub nothing_left : ℕ → Option Damage → Run
@@ -34,5 +34,5 @@ nothing_left p found = record { list = []; damage = found; end = p }
 pub record IsOnWay (held : ℕ) (whole left : Run) (kept : Collected) : Type 0 where
   pub given : List Header
   pub keeps : Keeps held given kept
-  pub split : whole ≡ in_front given left
+  pub split : whole ≡ all_in_front given left
   pub limits : limits_from held [] whole.list ≡ limits_from held given left.list

@@ -7,23 +7,23 @@ use Rattle.mkv_io.specs.Told.{Told}
 use Rattle.matroska_format.specs.declared.element.Header.{Header}
 use Rattle.matroska_format.specs.Element.{end_in, is_unknown}
 use Rattle.matroska_format.specs.Elements.{level_1}
-use Rattle.element_window.specs.Window.{Held, Holds}
+use Rattle.element_window.specs.Window.{ReadAhead, Holds}
 
 -- A place among the Elements of level 1 of a Segment: its file, the size that the Segment states, the
 -- next Element's place, the place up to which the Segment may reach, and what is held of the file.
-pub record Place : Type 0 where
+pub record Listing : Type 0 where
   pub file : FileId
   pub size : Size
   pub at : ℕ
   pub end : ℕ
-  pub ahead : Held
+  pub ahead : ReadAhead
 
 -- the Elements that are left
-abbrev pub left : List ℕ → Place → List Header
+abbrev pub left : List ℕ → Listing → List Header
 left bytes p = (level_1 bytes p.size p.at p.end).list
 
 -- the first place in a Segment of a file of `total` octets, of which nothing is held yet
-abbrev pub first_place : Header → ℕ → FileId → Place
+abbrev pub first_place : Header → ℕ → FileId → Listing
 first_place segment total file = record {
   file = file;
   size = segment.size;
@@ -33,7 +33,7 @@ first_place segment total file = record {
 }
 
 -- The place is in a live file, and what is held is this file's.
-pub record IsIn (files : LiveFiles) (p : Place) : Type 0 where
+pub record CanRead (files : LiveFiles) (p : Listing) : Type 0 where
   pub live : files.live p.file.n ≡ true
   pub inside : p.end ≤ files.size p.file.n
   pub holds : Told (files.content p.file.n) (λ bytes. Holds bytes p.ahead)
@@ -49,7 +49,7 @@ GoesOn (Some h) old new = old < new
 GoesOn None old new = new ≡ old
 
 -- The place is another one of the same Segment.
-pub record IsSameSegment (old new : Place) : Type 0 where
+pub record IsSameSegment (old new : Listing) : Type 0 where
   pub file : new.file ≡ old.file
   pub size : new.size ≡ old.size
   pub end : new.end ≡ old.end

@@ -1,7 +1,7 @@
-pub mod Child
+pub mod EbmlChildren
 pub mod Collected
 pub mod End
-pub mod Head
+pub mod Load
 pub mod Level
 pub mod LevelOne
 pub mod Outline

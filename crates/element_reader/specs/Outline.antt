@@ -1,6 +1,5 @@
 -- What an `Outline` shows of the file from which it was read: RFC 9559, section 4.5 (Data Layout).
-use Rattle.std.specs.Prelude.{◌≡◌, ℕ, ⊤, ◌==◌, if◌then◌else◌, List, length, Option, Result, Ok, Err}
-use Rattle.mkv_io.specs.Faults.{HasRisen}
+use Rattle.std.specs.Prelude.{◌≡◌, ℕ, ⊤, Bool, true, false, ◌==◌, if◌then◌else◌, List, length, Option, Result, Ok, Err}
 use Rattle.mkv_schema.specs.declared.ids.TheConstants.{CLUSTER}
 use Rattle.mkv_values.specs.declared.damage.Damage.{Damage}
 use Rattle.matroska_format.specs.declared.element.Header.{Header}
@@ -51,9 +50,8 @@ IsOutline found (Err (outline_end.Refused d)) = found ≡ Err d
 IsOutline found (Err outline_end.ReadFault) = ⊤
 IsOutline found (Err outline_end.Memory) = ⊤
 
--- A fault of reading is told only where its count rose; every other answer leaves the count.
-abbrev pub HasOutlineCause : {T : Type 0} → ℕ → ℕ → Result T OutlineEnd → Type 0
-HasOutlineCause before now (Ok o) = now ≡ before
-HasOutlineCause before now (Err (outline_end.Refused d)) = now ≡ before
-HasOutlineCause before now (Err outline_end.ReadFault) = HasRisen before now
-HasOutlineCause before now (Err outline_end.Memory) = now ≡ before
+-- a read failed
+abbrev pub is_outline_fault : OutlineEnd → Bool
+is_outline_fault (outline_end.Refused d) = false
+is_outline_fault outline_end.ReadFault = true
+is_outline_fault outline_end.Memory = false

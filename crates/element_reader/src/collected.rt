@@ -5,7 +5,7 @@ ghost use Rattle.matroska_format.specs.declared.element.Header.{Header as Placed
 ghost use Rattle.matroska_format.specs.Outline.{first_damage, is_described, limit_causes, passes_count, passes_size};
 ghost use Rattle.matroska_format.specs.Element.{known};
 ghost use Rattle.matroska_format.specs.Value.{first_of};
-ghost use Rattle.element_reader.specs.Collected.{octets_of};
+ghost use Rattle.element_reader.specs.Collected.{described_octets};
 
 use crate::limits::{MOST_ELEMENTS, MOST_OF_ALL, MOST_OF_ONE, damage};
 use element_bodies::known;
@@ -40,8 +40,8 @@ pub fn first_of(list: &[Header], id: u32) -> Option<Header>
 }
 
 // The octets of an Info, Tracks, Chapters or Tags.
-fn octets_of(header: &Header) -> u64
-    ensures { result ≡ octets_of header.now }
+fn described_octets(header: &Header) -> u64
+    ensures { result ≡ described_octets header.now }
 {
     if is_described(header.id) {
         known(header.size)
@@ -74,7 +74,7 @@ impl Collected {
         if let Some(damage) = self.refusal(&header) {
             return Ok(Some(damage));
         }
-        self.held += octets_of(&header);
+        self.held += described_octets(&header);
         if header.id != CLUSTER {
             self.others.push(header)?;
         } else if self.cluster.is_none() {
@@ -86,7 +86,7 @@ impl Collected {
     // The limit that an Element passes with those before it.
     fn refusal(&self, header: &Header) -> Option<Damage>
         ensures exact { (held : ℕ) (list : List Placed) → Keeps held list self.now → result ≡ first_damage (limit_causes held list header.now) }
-        ensures room { result ≡ None → self.now.held + octets_of header.now < 2 ^ 64 }
+        ensures room { result ≡ None → self.now.held + described_octets header.now < 2 ^ 64 }
     {
         if self.passes_size(header) {
             return Some(damage(Kind::HeaderTooLarge, header));
@@ -99,7 +99,7 @@ impl Collected {
 
     fn passes_size(&self, header: &Header) -> bool
         ensures exact { (held : ℕ) (list : List Placed) → Keeps held list self.now → result ≡ passes_size held list header.now }
-        ensures room { result ≡ false → self.now.held + octets_of header.now < 2 ^ 64 }
+        ensures room { result ≡ false → self.now.held + described_octets header.now < 2 ^ 64 }
     {
         let size = known(header.size);
         let held = self.held.saturating_add(size);

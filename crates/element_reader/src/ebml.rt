@@ -1,16 +1,16 @@
 //! The EBML header of a file: RFC 8794, section 8.1 (EBML Header).
 
 ghost use Rattle.std.specs.Prelude.{◌≡◌, ℕ, ◌+◌, ◌^◌, ◌≤◌, [], List, length, None, IfOk, OnErr, IsTrue};
-ghost use Rattle.mkv_io.specs.Faults.{HasCause, HasReadCause};
-ghost use Rattle.mkv_io.specs.Told.{Told};
+ghost use Rattle.mkv_io.specs.Faults.{HasCause, is_failure, is_read_fault};
+ghost use Rattle.mkv_io.specs.Sources.{IfTold, IsLive, file_size};
 ghost use Rattle.matroska_format.specs.Element.{known, stated_end};
 ghost use Rattle.matroska_format.specs.Outline.{MOST_OF_HEADER, ebml_header, first_damage, first_element, header_causes, header_children};
-ghost use Rattle.element_window.specs.Window.{Holds, IsBefore, MovesTo, Spends};
+ghost use Rattle.element_window.specs.Window.{Holds, HasNotPassed, MovesTo, Spends};
 ghost use Rattle.element_bodies.specs.Body.{IsBody};
-ghost use Rattle.element_reader.specs.Child.{child_refusal, children, value_causes};
+ghost use Rattle.element_reader.specs.EbmlChildren.{child_refusal, children, value_causes};
 
-use crate::child::child_refusal;
-use crate::field::{above, wrong_doc_type};
+use crate::ebml_children::child_refusal;
+use crate::ebml_values::{above, wrong_doc_type};
 use crate::limits::{MOST_OF_HEADER, over};
 use element_bodies::known;
 use element_headers::{Header, Parent, read_header};
@@ -75,23 +75,23 @@ fn first_element<R: Reads>(
     file: FileId,
     total: u64,
 ) -> Result<Result<Header, Damage>, Failed>
-    requires live { IsTrue ((R.files (R.standing src.old)).live file.n) }
-    requires whole { total ≡ (R.files (R.standing src.old)).size file.n }
-    requires holds { Told ((R.files (R.standing src.old)).content file.n) (λ bytes. Holds bytes window.old) }
-    ensures ok { IfOk result (λ found. Told ((R.files (R.standing src.old)).content file.n) (λ bytes. found ≡ first_element bytes)) }
+    requires live { IsLive R.Reads src.old file }
+    requires whole { total ≡ file_size R.Reads src.old file }
+    requires holds { IfTold R.Reads src.old file (λ bytes. Holds bytes window.old) }
+    ensures ok { IfOk result (λ found. IfTold R.Reads src.old file (λ bytes. found ≡ first_element bytes)) }
     ensures inside { IfOk result (λ found. IfOk found (λ h. stated_end h ≤ total)) }
-    ensures holds { Told ((R.files (R.standing src.old)).content file.n) (λ bytes. Holds bytes window.new) }
+    ensures holds { IfTold R.Reads src.old file (λ bytes. Holds bytes window.new) }
     ensures err { OnErr result (window.new.octets ≡ []) }
     ensures standing { R.standing src.new ≡ R.standing src.old }
-    ensures cause { HasCause (R.reading_faults src.old) (R.reading_faults src.new) result }
-    ensures moves { IsBefore window.old 0 total
+    ensures cause { HasCause is_failure (R.reading_faults src.old) (R.reading_faults src.new) result }
+    ensures moves { HasNotPassed window.old 0 total
         → IfOk result (λ found. MovesTo total 0 window.old window.new (R.octets_read src.old) (R.octets_read src.new)) }
-    ensures spends { IsBefore window.old 0 total
+    ensures spends { HasNotPassed window.old 0 total
         → OnErr result (Spends total window.old (R.octets_read src.old) (R.octets_read src.new)) }
 {
     let len = total.min(HEADER) as u16;
     window.hold(src, file, 0, len)?;
-    let octets = window.held(0, usize::from(len));
+    let octets = window.octets_at(0, usize::from(len));
     if !octets.starts_with(&EBML_MARK) {
         return Ok(Err(Damage {
             kind: Kind::NotEbml,
@@ -110,17 +110,17 @@ pub fn ebml_header<R: Reads>(
     file: FileId,
     total: u64,
 ) -> Result<Result<Header, Damage>, ReadEnd>
-    requires live { IsTrue ((R.files (R.standing src.old)).live file.n) }
-    requires whole { total ≡ (R.files (R.standing src.old)).size file.n }
-    requires holds { Told ((R.files (R.standing src.old)).content file.n) (λ bytes. Holds bytes window.old) }
-    ensures ok { IfOk result (λ found. Told ((R.files (R.standing src.old)).content file.n) (λ bytes. found ≡ ebml_header bytes)) }
+    requires live { IsLive R.Reads src.old file }
+    requires whole { total ≡ file_size R.Reads src.old file }
+    requires holds { IfTold R.Reads src.old file (λ bytes. Holds bytes window.old) }
+    ensures ok { IfOk result (λ found. IfTold R.Reads src.old file (λ bytes. found ≡ ebml_header bytes)) }
     ensures inside { IfOk result (λ found. IfOk found (λ h. stated_end h ≤ total)) }
-    ensures holds { Told ((R.files (R.standing src.old)).content file.n) (λ bytes. Holds bytes window.new) }
+    ensures holds { IfTold R.Reads src.old file (λ bytes. Holds bytes window.new) }
     ensures standing { R.standing src.new ≡ R.standing src.old }
-    ensures cause { HasReadCause (R.reading_faults src.old) (R.reading_faults src.new) result }
-    ensures moves { IsBefore window.old 0 total
+    ensures cause { HasCause is_read_fault (R.reading_faults src.old) (R.reading_faults src.new) result }
+    ensures moves { HasNotPassed window.old 0 total
         → IfOk result (λ found. MovesTo total 0 window.old window.new (R.octets_read src.old + total) (R.octets_read src.new)) }
-    ensures spends { IsBefore window.old 0 total
+    ensures spends { HasNotPassed window.old 0 total
         → OnErr result (Spends total window.old (R.octets_read src.old + total) (R.octets_read src.new)) }
 {
     let header = match first_element(window, src, file, total)? {

@@ -2,18 +2,18 @@
 
 ghost use Rattle.std.specs.Prelude.{All, ◌≡◌, ℕ, ◌≤◌, List, length, if◌then◌else◌, [], IfOk, OnErr, IsTrue};
 ghost use Rattle.std.specs.Option.{option_map_or};
-ghost use Rattle.mkv_io.specs.Faults.{HasReadCause};
-ghost use Rattle.mkv_io.specs.Told.{Told};
+ghost use Rattle.mkv_io.specs.Faults.{HasCause, is_read_fault};
+ghost use Rattle.mkv_io.specs.Sources.{IfTold, IsLive, file_size};
 ghost use Rattle.matroska_format.specs.Element.{end_in, is_unknown};
 ghost use Rattle.matroska_format.specs.Outline.{segment_run};
-ghost use Rattle.element_window.specs.Window.{Holds, IsBefore, MovesTo, Spends};
+ghost use Rattle.element_window.specs.Window.{Holds, HasNotPassed, MovesTo, Spends};
 ghost use Rattle.element_reader.specs.Collected.{IsInFile};
 ghost use Rattle.element_reader.specs.Level.{HasLevel, IsLevel, IsOnWay, nothing_left};
 
 use crate::collected::Collected;
 use ebml_format::Size;
 use element_headers::Header;
-use element_walks::{Step, end_in, next_of_segment};
+use element_walks::{Level1Step, end_in, next_of_segment};
 use element_window::Window;
 use mkv_io::Reads;
 use mkv_values::{Damage, FileId, ReadEnd};
@@ -72,17 +72,17 @@ pub fn collect<R: Reads>(
     total: u64,
     held: u64,
 ) -> Result<Result<Level, Damage>, ReadEnd>
-    requires live { IsTrue ((R.files (R.standing src.old)).live file.n) }
+    requires live { IsLive R.Reads src.old file }
     requires place { segment.now.body ≤ total }
-    requires whole { total ≡ (R.files (R.standing src.old)).size file.n }
-    requires holds { Told ((R.files (R.standing src.old)).content file.n) (λ bytes. Holds bytes window.old) }
-    ensures ok { IfOk result (λ found. Told ((R.files (R.standing src.old)).content file.n) (λ bytes. IsLevel held bytes segment.now found)) }
+    requires whole { total ≡ file_size R.Reads src.old file }
+    requires holds { IfTold R.Reads src.old file (λ bytes. Holds bytes window.old) }
+    ensures ok { IfOk result (λ found. IfTold R.Reads src.old file (λ bytes. IsLevel held bytes segment.now found)) }
     ensures whole { IfOk result (λ found. IfOk found (λ level. All (IsInFile total) level.kept.others.items)) }
     ensures standing { R.standing src.new ≡ R.standing src.old }
-    ensures cause { HasReadCause (R.reading_faults src.old) (R.reading_faults src.new) result }
-    ensures moves { IsBefore window.old segment.now.body total
+    ensures cause { HasCause is_read_fault (R.reading_faults src.old) (R.reading_faults src.new) result }
+    ensures moves { HasNotPassed window.old segment.now.body total
         → IfOk result (λ found. MovesTo total total window.old window.new (R.octets_read src.old) (R.octets_read src.new)) }
-    ensures spends { IsBefore window.old segment.now.body total
+    ensures spends { HasNotPassed window.old segment.now.body total
         → OnErr result (Spends total window.old (R.octets_read src.old) (R.octets_read src.new)) }
 {
     let mut kept = Collected::new(alloc, held);
@@ -90,11 +90,11 @@ pub fn collect<R: Reads>(
     let mut at = segment.body;
     loop {
         match next_of_segment(window, src, file, segment.size, at, bound)? {
-            Step::End => return Ok(Ok(ended(kept, segment, total, at, None))),
-            Step::Damaged(damage) => {
+            Level1Step::End => return Ok(Ok(ended(kept, segment, total, at, None))),
+            Level1Step::Damaged(damage) => {
                 return Ok(Ok(ended(kept, segment, total, at, Some(damage))));
             }
-            Step::Element { header, next } => {
+            Level1Step::Element { header, next } => {
                 if let Some(damage) = kept.add(header)? {
                     return Ok(Err(damage));
                 }

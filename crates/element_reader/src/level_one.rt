@@ -1,24 +1,21 @@
 //! The Elements of level 1, one after the other: RFC 9559, section 5.1 (Segment Element).
 
 ghost use Rattle.std.specs.Prelude.{◌≡◌, ℕ, ◌≤◌, List, length, IfOk, OnErr};
-ghost use Rattle.mkv_io.specs.Faults.{HasCause};
-ghost use Rattle.mkv_io.specs.Told.{Told};
+ghost use Rattle.mkv_io.specs.Faults.{HasCause, is_failure};
+ghost use Rattle.mkv_io.specs.Sources.{IfTold, file_size, live_files};
 ghost use Rattle.matroska_format.specs.Outline.{segment_run};
-ghost use Rattle.element_window.specs.Window.{IsBefore, MovesTo, Spends};
-ghost use Rattle.element_reader.specs.LevelOne.{Gives, GoesOn, IsIn, IsSameSegment, first_place, left};
+ghost use Rattle.element_window.specs.Window.{HasNotPassed, MovesTo, Spends};
+ghost use Rattle.element_reader.specs.LevelOne.{Gives, GoesOn, CanRead, IsSameSegment, first_place, left};
 
 use crate::level::segment_bound;
 use crate::outline::Outline;
 use ebml_format::Size;
 use element_headers::Header;
-use element_walks::{Step, next_of_segment};
+use element_walks::{Level1Step, next_of_segment};
 use element_window::SmallWindow;
 use mkv_io::Reads;
 use mkv_values::{Failed, FileId};
 use std::marker::Model;
-
-#[cfg(test)]
-mod tests;
 
 /// Gives the Elements of level 1 of a Segment, Clusters too, in the order of the file. It takes no memory.
 #[derive(Drop)]
@@ -32,9 +29,9 @@ pub struct LevelOne {
 
 impl Model for LevelOne {
     ghost use Rattle.std.specs.Prelude.{◌≤◌};
-    ghost use Rattle.element_reader.specs.LevelOne.{Place};
+    ghost use Rattle.element_reader.specs.LevelOne.{Listing};
 
-    ghost Value = { Place };
+    ghost Value = { Listing };
 
     ghost view = { λ l. record { file = l.file; size = l.size; at = l.at; end = l.end; ahead = l.window } };
 
@@ -68,19 +65,19 @@ impl LevelOne {
     /// The next Element. None is answered where no more stand before the Segment's end or a damage, and
     /// again from then on. After `Failed` the same Element is looked for again.
     pub fn next<R: Reads>(&mut self, src: &mut R) -> Result<Option<Header>, Failed>
-        requires { IsIn (R.files (R.standing src.old)) self.old }
-        ensures ok { IfOk result (λ found. Told ((R.files (R.standing src.old)).content self.old.file.n) (λ bytes. Gives found (left bytes self.old) (left bytes self.new))) }
+        requires { CanRead (live_files R.Reads src.old) self.old }
+        ensures ok { IfOk result (λ found. IfTold R.Reads src.old self.old.file (λ bytes. Gives found (left bytes self.old) (left bytes self.new))) }
         ensures place { IfOk result (λ found. GoesOn found self.old.at self.new.at) }
         ensures err { OnErr result (self.new.at ≡ self.old.at) }
         ensures same { IsSameSegment self.old self.new }
         ensures inside { self.new.at ≤ self.new.end }
-        ensures stands { IsIn (R.files (R.standing src.new)) self.new }
+        ensures stands { CanRead (live_files R.Reads src.new) self.new }
         ensures standing { R.standing src.new ≡ R.standing src.old }
-        ensures cause { HasCause (R.reading_faults src.old) (R.reading_faults src.new) result }
-        ensures moves { IsBefore self.old.ahead self.old.at ((R.files (R.standing src.old)).size self.old.file.n)
-            → IfOk result (λ _. MovesTo ((R.files (R.standing src.old)).size self.old.file.n) self.new.at self.old.ahead self.new.ahead (R.octets_read src.old) (R.octets_read src.new)) }
-        ensures spends { IsBefore self.old.ahead self.old.at ((R.files (R.standing src.old)).size self.old.file.n)
-            → OnErr result (Spends ((R.files (R.standing src.old)).size self.old.file.n) self.old.ahead (R.octets_read src.old) (R.octets_read src.new)) }
+        ensures cause { HasCause is_failure (R.reading_faults src.old) (R.reading_faults src.new) result }
+        ensures moves { HasNotPassed self.old.ahead self.old.at (file_size R.Reads src.old self.old.file)
+            → IfOk result (λ _. MovesTo (file_size R.Reads src.old self.old.file) self.new.at self.old.ahead self.new.ahead (R.octets_read src.old) (R.octets_read src.new)) }
+        ensures spends { HasNotPassed self.old.ahead self.old.at (file_size R.Reads src.old self.old.file)
+            → OnErr result (Spends (file_size R.Reads src.old self.old.file) self.old.ahead (R.octets_read src.old) (R.octets_read src.new)) }
     {
         match next_of_segment(
             &mut self.window,
@@ -90,11 +87,11 @@ impl LevelOne {
             self.at,
             self.end,
         )? {
-            Step::Element { header, next } => {
+            Level1Step::Element { header, next } => {
                 self.at = next.unwrap_or(self.end);
                 Ok(Some(header))
             }
-            Step::Damaged(_) | Step::End => Ok(None),
+            Level1Step::Damaged(_) | Level1Step::End => Ok(None),
         }
     }
 }

@@ -2,26 +2,23 @@
 
 //! The outline of a Matroska file: its EBML header, its Segment, and the Elements of level 1.
 
-mod body;
-mod child;
 mod collected;
 mod ebml;
-mod field;
+mod ebml_children;
+mod ebml_values;
 mod head;
 mod level;
 mod level_one;
 mod limits;
+mod loading;
 mod outline;
 mod outline_end;
 mod segment;
 
-pub use body::{LoadEnd, load};
 pub use element_headers::{Header, Parent};
 pub use element_window::{HeadEnd, Window};
 pub use head::header_at;
 pub use level_one::LevelOne;
+pub use loading::{LoadEnd, load};
 pub use outline::Outline;
 pub use outline_end::OutlineEnd;
-
-#[cfg(test)]
-mod tests;

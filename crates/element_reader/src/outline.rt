@@ -1,7 +1,8 @@
 //! The outline of a file: RFC 9559, section 4.5 (Data Layout).
 
 ghost use Rattle.std.specs.Prelude.{◌≡◌, ℕ, ◌+◌, ◌*◌, ◌≤◌, ◌<◌, ◌≢◌, List, length, slice_get, IfOk, IfSome, IsTrue, option_map};
-ghost use Rattle.mkv_io.specs.Told.{Told};
+ghost use Rattle.mkv_io.specs.Faults.{HasCause};
+ghost use Rattle.mkv_io.specs.Sources.{IfTold, IsLive, file_size};
 ghost use Rattle.matroska_format.specs.Outline.{Outlined};
 ghost use Rattle.matroska_format.specs.Value.{first_of};
 
@@ -54,19 +55,19 @@ impl Model for Outline {
 impl Outline {
     ghost use Rattle.mkv_schema.specs.declared.ids.TheConstants.{CLUSTER as CLUSTER_ID};
     ghost use Rattle.element_reader.specs.Collected.{IsInFile};
-    ghost use Rattle.element_reader.specs.Outline.{HasOutlineCause, IsOutline, first_in, outline_in, shown};
+    ghost use Rattle.element_reader.specs.Outline.{IsOutline, first_in, is_outline_fault, outline_in, shown};
 
     /// Reads the outline of a file. It is refused where it isn't a Matroska or WebM file that is read,
     /// has no Segment, or passes a limit of its level 1: 16 MiB for one Info, Tracks, Chapters or Tags,
     /// 64 MiB for all of them, 4,096 Elements besides Clusters. What is damaged at level 1 ends the list
     /// there.
     pub fn read<R: Reads>(alloc: Global, src: &mut R, file: FileId) -> Result<Outline, OutlineEnd>
-        requires { IsTrue ((R.files (R.standing src.old)).live file.n) }
-        ensures exact { Told ((R.files (R.standing src.old)).content file.n) (λ bytes. IsOutline (outline_in 0 bytes) result) }
-        ensures total { IfOk result (λ outline. outline.total ≡ (R.files (R.standing src.old)).size file.n) }
+        requires { IsLive R.Reads src.old file }
+        ensures exact { IfTold R.Reads src.old file (λ bytes. IsOutline (outline_in 0 bytes) result) }
+        ensures total { IfOk result (λ outline. outline.total ≡ file_size R.Reads src.old file) }
         ensures standing { R.standing src.new ≡ R.standing src.old }
-        ensures cause { HasOutlineCause (R.reading_faults src.old) (R.reading_faults src.new) result }
-        ensures octets { R.octets_read src.new ≤ R.octets_read src.old + 4 * (R.files (R.standing src.old)).size file.n }
+        ensures cause { HasCause is_outline_fault (R.reading_faults src.old) (R.reading_faults src.new) result }
+        ensures octets { R.octets_read src.new ≤ R.octets_read src.old + 4 * file_size R.Reads src.old file }
     {
         Outline::read_after(alloc, src, file, 0)
     }
@@ -79,12 +80,12 @@ impl Outline {
         file: FileId,
         held: u64,
     ) -> Result<Outline, OutlineEnd>
-        requires { IsTrue ((R.files (R.standing src.old)).live file.n) }
-        ensures exact { Told ((R.files (R.standing src.old)).content file.n) (λ bytes. IsOutline (outline_in held bytes) result) }
-        ensures total { IfOk result (λ outline. outline.total ≡ (R.files (R.standing src.old)).size file.n) }
+        requires { IsLive R.Reads src.old file }
+        ensures exact { IfTold R.Reads src.old file (λ bytes. IsOutline (outline_in held bytes) result) }
+        ensures total { IfOk result (λ outline. outline.total ≡ file_size R.Reads src.old file) }
         ensures standing { R.standing src.new ≡ R.standing src.old }
-        ensures cause { HasOutlineCause (R.reading_faults src.old) (R.reading_faults src.new) result }
-        ensures octets { R.octets_read src.new ≤ R.octets_read src.old + 4 * (R.files (R.standing src.old)).size file.n }
+        ensures cause { HasCause is_outline_fault (R.reading_faults src.old) (R.reading_faults src.new) result }
+        ensures octets { R.octets_read src.new ≤ R.octets_read src.old + 4 * file_size R.Reads src.old file }
     {
         let total = src.size(file);
         let mut window = Window::new(alloc)?;

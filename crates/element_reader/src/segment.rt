@@ -1,10 +1,10 @@
 //! The Segment of a file: RFC 9559, section 5.1 (Segment Element).
 
 ghost use Rattle.std.specs.Prelude.{◌≡◌, ◌+◌, ◌≤◌, ◌<◌, [], List, ℕ, length, IfOk, OnOk, OnErr, IsTrue};
-ghost use Rattle.mkv_io.specs.Faults.{HasCause};
-ghost use Rattle.mkv_io.specs.Told.{Told};
-ghost use Rattle.matroska_format.specs.Placed.{IsPlaced};
-ghost use Rattle.element_window.specs.Window.{Holds, IsBefore, MovesTo, Spends};
+ghost use Rattle.mkv_io.specs.Faults.{HasCause, is_failure};
+ghost use Rattle.mkv_io.specs.Sources.{IfTold, IsLive, file_size};
+ghost use Rattle.matroska_format.specs.Placed.{StandsAt};
+ghost use Rattle.element_window.specs.Window.{Holds, HasNotPassed, MovesTo, Spends};
 ghost use Rattle.element_reader.specs.Segment.{segment_from, body_or};
 
 use element_headers::{Header, Parent};
@@ -23,19 +23,19 @@ pub fn find_segment<R: Reads>(
     from: u64,
     total: u64,
 ) -> Result<Result<Header, Damage>, Failed>
-    requires live { IsTrue ((R.files (R.standing src.old)).live file.n) }
+    requires live { IsLive R.Reads src.old file }
     requires place { from ≤ total }
-    requires whole { total ≡ (R.files (R.standing src.old)).size file.n }
-    requires holds { Told ((R.files (R.standing src.old)).content file.n) (λ bytes. Holds bytes window.old) }
-    ensures ok { IfOk result (λ found. Told ((R.files (R.standing src.old)).content file.n) (λ bytes. found ≡ segment_from bytes from)) }
+    requires whole { total ≡ file_size R.Reads src.old file }
+    requires holds { IfTold R.Reads src.old file (λ bytes. Holds bytes window.old) }
+    ensures ok { IfOk result (λ found. IfTold R.Reads src.old file (λ bytes. found ≡ segment_from bytes from)) }
     ensures placed { IfOk result (λ found. IfOk found (λ h. (from < h.body) × (h.body ≤ total))) }
-    ensures holds { Told ((R.files (R.standing src.old)).content file.n) (λ bytes. Holds bytes window.new) }
+    ensures holds { IfTold R.Reads src.old file (λ bytes. Holds bytes window.new) }
     ensures err { OnErr result (window.new.octets ≡ []) }
     ensures standing { R.standing src.new ≡ R.standing src.old }
-    ensures cause { HasCause (R.reading_faults src.old) (R.reading_faults src.new) result }
-    ensures moves { IsBefore window.old from total
+    ensures cause { HasCause is_failure (R.reading_faults src.old) (R.reading_faults src.new) result }
+    ensures moves { HasNotPassed window.old from total
         → IfOk result (λ found. MovesTo total (body_or found total) window.old window.new (R.octets_read src.old) (R.octets_read src.new)) }
-    ensures spends { IsBefore window.old from total
+    ensures spends { HasNotPassed window.old from total
         → OnErr result (Spends total window.old (R.octets_read src.old) (R.octets_read src.new)) }
 {
     let mut at = from;

@@ -7,7 +7,7 @@ use Rattle.matroska_format.specs.Element.{in_segment, element_at}
 use Rattle.matroska_format.specs.Elements.{Run, ends_at, breaks_at, behind, step, id_of, ends_segment, behind_in_segment, level_1}
 use Rattle.matroska_format.proofs.ElementsLemmas.{elements-end, elements-more, Advances-segment}
 use Rattle.element_walks.specs.Steps.{StepsOn}
-use Rattle.element_walks.specs.declared.level_one.Step.TheVariants.{Element}
+use Rattle.element_walks.specs.declared.level_one.Level1Step.TheVariants.{Element}
 
 -- at the Segment's bound nothing stands
 pub level_1-end : (bytes : List ℕ) (size : Size) (p e : ℕ) → e ≤ p → level_1 bytes size p e ≡ ends_at p

@@ -1,10 +1,10 @@
 //! The Elements of level 1: RFC 9559, section 5.1 (Segment Element).
 
 ghost use Rattle.std.specs.Prelude.{◌≡◌, ◌+◌, ◌≤◌, ◌<◌, [], List, ℕ, length, IfOk, OnOk, OnErr, IsTrue};
-ghost use Rattle.mkv_io.specs.Faults.{HasCause};
-ghost use Rattle.mkv_io.specs.Told.{Told};
+ghost use Rattle.mkv_io.specs.Faults.{HasCause, is_failure};
+ghost use Rattle.mkv_io.specs.Sources.{IfTold, IsLive, file_size};
 ghost use Rattle.matroska_format.specs.Elements.{ends_segment, level_1};
-ghost use Rattle.element_window.specs.Window.{Holds, IsBefore, MovesTo, Spends};
+ghost use Rattle.element_window.specs.Window.{Holds, HasNotPassed, MovesTo, Spends};
 ghost use Rattle.element_walks.specs.Steps.{StepsOn, IsFurther, IsWholeStep, place_behind};
 
 use crate::walk::{behind, id_of};
@@ -17,7 +17,7 @@ use mkv_values::{Damage, Failed, FileId};
 
 /// What stands at a place of a Segment.
 #[derive(Clone, Copy, Debug, PartialEq, Eq)]
-pub enum Step {
+pub enum Level1Step {
     /// An Element of level 1, and where the one behind it begins, or the damage inside it.
     Element {
         header: Header,
@@ -48,35 +48,35 @@ pub fn next_of_segment<W: Lookahead, R: Reads>(
     size: Size,
     at: u64,
     end: u64,
-) -> Result<Step, Failed>
-    requires live { IsTrue ((R.files (R.standing src.old)).live file.n) }
+) -> Result<Level1Step, Failed>
+    requires live { IsLive R.Reads src.old file }
     requires place { at ≤ end }
-    requires inside { end ≤ (R.files (R.standing src.old)).size file.n }
-    requires holds { Told ((R.files (R.standing src.old)).content file.n) (λ bytes. Holds bytes (W.held window.old)) }
-    ensures ok { IfOk result (λ step. Told ((R.files (R.standing src.old)).content file.n) (λ bytes. StepsOn step (level_1 bytes size at end) at (λ q. level_1 bytes size q end))) }
-    ensures holds { Told ((R.files (R.standing src.old)).content file.n) (λ bytes. Holds bytes (W.held window.new)) }
-    ensures err { OnErr result ((W.held window.new).octets ≡ []) }
+    requires inside { end ≤ file_size R.Reads src.old file }
+    requires holds { IfTold R.Reads src.old file (λ bytes. Holds bytes (W.ahead window.old)) }
+    ensures ok { IfOk result (λ step. IfTold R.Reads src.old file (λ bytes. StepsOn step (level_1 bytes size at end) at (λ q. level_1 bytes size q end))) }
+    ensures holds { IfTold R.Reads src.old file (λ bytes. Holds bytes (W.ahead window.new)) }
+    ensures err { OnErr result ((W.ahead window.new).octets ≡ []) }
     ensures standing { R.standing src.new ≡ R.standing src.old }
-    ensures cause { HasCause (R.reading_faults src.old) (R.reading_faults src.new) result }
+    ensures cause { HasCause is_failure (R.reading_faults src.old) (R.reading_faults src.new) result }
     ensures place { IfOk result (λ step. IsFurther step at end) }
     ensures whole { IfOk result (λ step. IsWholeStep step end) }
-    ensures moves { IsBefore (W.held window.old) at ((R.files (R.standing src.old)).size file.n)
-        → IfOk result (λ step. MovesTo ((R.files (R.standing src.old)).size file.n) (place_behind step at end) (W.held window.old) (W.held window.new) (R.octets_read src.old) (R.octets_read src.new)) }
-    ensures spends { IsBefore (W.held window.old) at ((R.files (R.standing src.old)).size file.n)
-        → OnErr result (Spends ((R.files (R.standing src.old)).size file.n) (W.held window.old) (R.octets_read src.old) (R.octets_read src.new)) }
+    ensures moves { HasNotPassed (W.ahead window.old) at (file_size R.Reads src.old file)
+        → IfOk result (λ step. MovesTo (file_size R.Reads src.old file) (place_behind step at end) (W.ahead window.old) (W.ahead window.new) (R.octets_read src.old) (R.octets_read src.new)) }
+    ensures spends { HasNotPassed (W.ahead window.old) at (file_size R.Reads src.old file)
+        → OnErr result (Spends (file_size R.Reads src.old file) (W.ahead window.old) (R.octets_read src.old) (R.octets_read src.new)) }
 {
     if at >= end {
-        return Ok(Step::End);
+        return Ok(Level1Step::End);
     }
     let found = window.element(src, file, Parent::Segment, at, end)?;
     if ends_segment(size, id_of(&found)) {
-        return Ok(Step::End);
+        return Ok(Level1Step::End);
     }
     match found {
         Ok(header) => {
             let next = behind(window, src, file, &header, end)?;
-            Ok(Step::Element { header, next })
+            Ok(Level1Step::Element { header, next })
         }
-        Err(damage) => Ok(Step::Damaged(damage)),
+        Err(damage) => Ok(Level1Step::Damaged(damage)),
     }
 }

@@ -6,5 +6,5 @@
 mod level_one;
 mod walk;
 
-pub use level_one::{Step, ends_segment, next_of_segment};
+pub use level_one::{Level1Step, ends_segment, next_of_segment};
 pub use walk::{behind, cluster_end, end_in, ends_cluster, id_of};

@@ -1,11 +1,11 @@
 //! Walks over Elements, forwards through a window.
 
 ghost use Rattle.std.specs.Prelude.{◌≡◌, ◌+◌, ◌≤◌, ◌<◌, ◌^◌, [], List, ℕ, length, IfOk, OnOk, OnErr, IsTrue};
-ghost use Rattle.mkv_io.specs.Faults.{HasCause};
-ghost use Rattle.mkv_io.specs.Told.{Told};
+ghost use Rattle.mkv_io.specs.Faults.{HasCause, is_failure};
+ghost use Rattle.mkv_io.specs.Sources.{IfTold, IsLive, file_size};
 ghost use Rattle.matroska_format.specs.Elements.{behind_in_segment, ends_cluster, id_of};
 ghost use Rattle.matroska_format.specs.Element.{end_in};
-ghost use Rattle.element_window.specs.Window.{Holds, IsBefore, MovesTo, Spends};
+ghost use Rattle.element_window.specs.Window.{Holds, HasNotPassed, MovesTo, Spends};
 ghost use Rattle.element_walks.specs.Walk.{cluster_end, place_or};
 
 use ebml_format::Size;
@@ -51,20 +51,20 @@ pub fn cluster_end<W: Lookahead, R: Reads>(
     from: u64,
     end: u64,
 ) -> Result<Result<u64, Damage>, Failed>
-    requires live { IsTrue ((R.files (R.standing src.old)).live file.n) }
+    requires live { IsLive R.Reads src.old file }
     requires place { from ≤ end }
-    requires inside { end ≤ (R.files (R.standing src.old)).size file.n }
-    requires holds { Told ((R.files (R.standing src.old)).content file.n) (λ bytes. Holds bytes (W.held window.old)) }
-    ensures ok { IfOk result (λ found. Told ((R.files (R.standing src.old)).content file.n) (λ bytes. found ≡ cluster_end bytes from end)) }
-    ensures holds { Told ((R.files (R.standing src.old)).content file.n) (λ bytes. Holds bytes (W.held window.new)) }
-    ensures err { OnErr result ((W.held window.new).octets ≡ []) }
+    requires inside { end ≤ file_size R.Reads src.old file }
+    requires holds { IfTold R.Reads src.old file (λ bytes. Holds bytes (W.ahead window.old)) }
+    ensures ok { IfOk result (λ found. IfTold R.Reads src.old file (λ bytes. found ≡ cluster_end bytes from end)) }
+    ensures holds { IfTold R.Reads src.old file (λ bytes. Holds bytes (W.ahead window.new)) }
+    ensures err { OnErr result ((W.ahead window.new).octets ≡ []) }
     ensures standing { R.standing src.new ≡ R.standing src.old }
-    ensures cause { HasCause (R.reading_faults src.old) (R.reading_faults src.new) result }
+    ensures cause { HasCause is_failure (R.reading_faults src.old) (R.reading_faults src.new) result }
     ensures place { IfOk result (λ found. IfOk found (λ at. (from ≤ at) × (at ≤ end))) }
-    ensures moves { IsBefore (W.held window.old) from ((R.files (R.standing src.old)).size file.n)
-        → IfOk result (λ found. MovesTo ((R.files (R.standing src.old)).size file.n) (place_or found end) (W.held window.old) (W.held window.new) (R.octets_read src.old) (R.octets_read src.new)) }
-    ensures spends { IsBefore (W.held window.old) from ((R.files (R.standing src.old)).size file.n)
-        → OnErr result (Spends ((R.files (R.standing src.old)).size file.n) (W.held window.old) (R.octets_read src.old) (R.octets_read src.new)) }
+    ensures moves { HasNotPassed (W.ahead window.old) from (file_size R.Reads src.old file)
+        → IfOk result (λ found. MovesTo (file_size R.Reads src.old file) (place_or found end) (W.ahead window.old) (W.ahead window.new) (R.octets_read src.old) (R.octets_read src.new)) }
+    ensures spends { HasNotPassed (W.ahead window.old) from (file_size R.Reads src.old file)
+        → OnErr result (Spends (file_size R.Reads src.old file) (W.ahead window.old) (R.octets_read src.old) (R.octets_read src.new)) }
 {
     let mut at = from;
     while at < end {
@@ -89,20 +89,20 @@ pub fn behind<W: Lookahead, R: Reads>(
     header: &Header,
     end: u64,
 ) -> Result<Result<u64, Damage>, Failed>
-    requires live { IsTrue ((R.files (R.standing src.old)).live file.n) }
+    requires live { IsLive R.Reads src.old file }
     requires place { header.now.body ≤ end }
-    requires inside { end ≤ (R.files (R.standing src.old)).size file.n }
-    requires holds { Told ((R.files (R.standing src.old)).content file.n) (λ bytes. Holds bytes (W.held window.old)) }
-    ensures ok { IfOk result (λ found. Told ((R.files (R.standing src.old)).content file.n) (λ bytes. found ≡ behind_in_segment bytes end header.now)) }
-    ensures holds { Told ((R.files (R.standing src.old)).content file.n) (λ bytes. Holds bytes (W.held window.new)) }
-    ensures err { OnErr result ((W.held window.new).octets ≡ []) }
+    requires inside { end ≤ file_size R.Reads src.old file }
+    requires holds { IfTold R.Reads src.old file (λ bytes. Holds bytes (W.ahead window.old)) }
+    ensures ok { IfOk result (λ found. IfTold R.Reads src.old file (λ bytes. found ≡ behind_in_segment bytes end header.now)) }
+    ensures holds { IfTold R.Reads src.old file (λ bytes. Holds bytes (W.ahead window.new)) }
+    ensures err { OnErr result ((W.ahead window.new).octets ≡ []) }
     ensures standing { R.standing src.new ≡ R.standing src.old }
-    ensures cause { HasCause (R.reading_faults src.old) (R.reading_faults src.new) result }
+    ensures cause { HasCause is_failure (R.reading_faults src.old) (R.reading_faults src.new) result }
     ensures place { IfOk result (λ found. IfOk found (λ at. (header.now.body ≤ at) × (at ≤ end))) }
-    ensures moves { IsBefore (W.held window.old) header.now.body ((R.files (R.standing src.old)).size file.n)
-        → IfOk result (λ found. MovesTo ((R.files (R.standing src.old)).size file.n) (place_or found end) (W.held window.old) (W.held window.new) (R.octets_read src.old) (R.octets_read src.new)) }
-    ensures spends { IsBefore (W.held window.old) header.now.body ((R.files (R.standing src.old)).size file.n)
-        → OnErr result (Spends ((R.files (R.standing src.old)).size file.n) (W.held window.old) (R.octets_read src.old) (R.octets_read src.new)) }
+    ensures moves { HasNotPassed (W.ahead window.old) header.now.body (file_size R.Reads src.old file)
+        → IfOk result (λ found. MovesTo (file_size R.Reads src.old file) (place_or found end) (W.ahead window.old) (W.ahead window.new) (R.octets_read src.old) (R.octets_read src.new)) }
+    ensures spends { HasNotPassed (W.ahead window.old) header.now.body (file_size R.Reads src.old file)
+        → OnErr result (Spends (file_size R.Reads src.old file) (W.ahead window.old) (R.octets_read src.old) (R.octets_read src.new)) }
 {
     match header.size {
         Size::Unknown => {

@@ -4,10 +4,10 @@ use Rattle.std.proofs.lemmas.List.{take-take, drop-take, drop-drop}
 use Rattle.mkv_io.specs.Contents.{octets_from}
 use Rattle.matroska_format.specs.Element.{Setting, element_in, element_at}
 use Rattle.matroska_format.proofs.ElementLemmas.{element_at-front}
-use Rattle.element_window.specs.Window.{Held, Holds, HasRange, header_room}
+use Rattle.element_window.specs.Window.{ReadAhead, Holds, HasRange, header_room}
 
 -- a part of what is held is that part of the file
-pub octets_from-held : (bytes : List ℕ) (w : Held) (at len : ℕ) → Holds bytes w → HasRange w at len → octets_from w.octets (at - w.at) len ≡ octets_from bytes at len
+pub octets_from-held : (bytes : List ℕ) (w : ReadAhead) (at len : ℕ) → Holds bytes w → HasRange w at len → octets_from w.octets (at - w.at) len ≡ octets_from bytes at len
 octets_from-held bytes w at len holds range =
     ap (λ o. octets_from o (at - w.at) len) holds
     ∙ ap (λ n. take len (drop (at - w.at) (take n (drop w.at bytes)))) count
@@ -22,7 +22,7 @@ octets_from-held bytes w at len holds range =
     place = omega (arith, range.from)
 
 -- what is held of the file is enough for a header
-pub element_at-held : (setting : Setting) (bytes : List ℕ) (w : Held) (octets : List ℕ) (total at end len : ℕ) → Holds bytes w → HasRange w at len → octets ≡ octets_from w.octets (at - w.at) len → total ≡ length bytes → at ≤ end → len ≡ header_room at end → element_in setting octets total at end ≡ element_at setting bytes at end
+pub element_at-held : (setting : Setting) (bytes : List ℕ) (w : ReadAhead) (octets : List ℕ) (total at end len : ℕ) → Holds bytes w → HasRange w at len → octets ≡ octets_from w.octets (at - w.at) len → total ≡ length bytes → at ≤ end → len ≡ header_room at end → element_in setting octets total at end ≡ element_at setting bytes at end
 element_at-held setting bytes w octets total at end len holds range held whole place room =
     ap (λ o. element_in setting o total at end) (held ∙ octets_from-held bytes w at len holds range)
     ∙ ap (λ n. element_in setting (take len (drop at bytes)) n at end) whole

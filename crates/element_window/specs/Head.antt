@@ -1,6 +1,5 @@
 -- What a reader of a header answers.
-use Rattle.std.specs.Prelude.{◌≡◌, ℕ, ⊤, Result, Ok, Err}
-use Rattle.mkv_io.specs.Faults.{HasRisen}
+use Rattle.std.specs.Prelude.{◌≡◌, ⊤, Bool, true, false, Result, Ok, Err}
 use Rattle.mkv_values.specs.declared.damage.Damage.{Damage}
 use Rattle.matroska_format.specs.declared.element.Header.{Header}
 use Rattle.element_window.specs.declared.head_end.HeadEnd.{HeadEnd}
@@ -12,8 +11,7 @@ IsHead found (Ok h) = found ≡ Ok h
 IsHead found (Err (head_end.Damage d)) = found ≡ Err d
 IsHead found (Err head_end.ReadFault) = ⊤
 
--- A fault of reading is told only where its count rose; every other answer leaves the count.
-abbrev pub HasHeadCause : ℕ → ℕ → Result Header HeadEnd → Type 0
-HasHeadCause before now (Ok h) = now ≡ before
-HasHeadCause before now (Err (head_end.Damage d)) = now ≡ before
-HasHeadCause before now (Err head_end.ReadFault) = HasRisen before now
+-- a read failed
+abbrev pub is_head_fault : HeadEnd → Bool
+is_head_fault (head_end.Damage d) = false
+is_head_fault head_end.ReadFault = true

@@ -3,22 +3,22 @@ use Rattle.std.specs.Prelude.{◌≡◌, ℕ, ◌+◌, ◌*◌, ◌-◌, ◌≤�
 use Rattle.mkv_io.specs.Contents.{octets_from}
 
 -- octets, and the place of the first of them
-pub record Held : Type 0 where
+pub record ReadAhead : Type 0 where
   pub at : ℕ
   pub octets : List ℕ
 
 -- the place behind the last
-abbrev pub end_held : Held → ℕ
-end_held w = w.at + length w.octets
+abbrev pub end_ahead : ReadAhead → ℕ
+end_ahead w = w.at + length w.octets
 
 -- a window's octets are those of this content
-abbrev pub Holds : List ℕ → Held → Type 0
+abbrev pub Holds : List ℕ → ReadAhead → Type 0
 Holds bytes w = w.octets ≡ octets_from bytes w.at (length w.octets)
 
 -- the window holds so many octets from a place on
-pub record HasRange (w : Held) (at len : ℕ) : Type 0 where
+pub record HasRange (w : ReadAhead) (at len : ℕ) : Type 0 where
   pub from : w.at ≤ at
-  pub to : at + len ≤ end_held w
+  pub to : at + len ≤ end_ahead w
 
 -- the octets that a header at a place may have, of a parent that ends somewhere
 abbrev pub header_room : ℕ → ℕ → ℕ
@@ -29,24 +29,24 @@ abbrev pub read_from : ℕ → ℕ → ℕ → ℕ
 read_from room size at = min room (size - at)
 
 -- The window begins at this place or before it, and ends with a file of `size` octets or before.
-pub record IsBefore (w : Held) (at size : ℕ) : Type 0 where
+pub record HasNotPassed (w : ReadAhead) (at size : ℕ) : Type 0 where
   pub from : w.at ≤ at
-  pub within : end_held w ≤ size
+  pub within : end_ahead w ≤ size
 
 -- What a window has cost that was moved forwards through a file of `size` octets: at most two octets
 -- for each that it has passed, and three where it has come to the end.
-abbrev pub cost_of : ℕ → Held → ℕ
-cost_of size w = if end_held w == size then 3 * size else 2 * end_held w
+abbrev pub cost_of : ℕ → ReadAhead → ℕ
+cost_of size w = if end_ahead w == size then 3 * size else 2 * end_ahead w
 
 -- What was read since is paid by the way that the window has gone.
-abbrev pub Pays : ℕ → Held → Held → ℕ → ℕ → Type 0
+abbrev pub Pays : ℕ → ReadAhead → ReadAhead → ℕ → ℕ → Type 0
 Pays size old new before now = now + cost_of size old ≤ before + cost_of size new
 
 -- What was read since is paid by three octets for each of the file.
-abbrev pub Spends : ℕ → Held → ℕ → ℕ → Type 0
+abbrev pub Spends : ℕ → ReadAhead → ℕ → ℕ → Type 0
 Spends size old before now = now + cost_of size old ≤ before + 3 * size
 
 -- A window that was before a place is so still, and has paid for what was read.
-pub record MovesTo (size at : ℕ) (old new : Held) (before now : ℕ) : Type 0 where
-  pub place : IsBefore new at size
+pub record MovesTo (size at : ℕ) (old new : ReadAhead) (before now : ℕ) : Type 0 where
+  pub place : HasNotPassed new at size
   pub pays : Pays size old new before now

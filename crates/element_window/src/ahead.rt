@@ -2,8 +2,8 @@
 
 ghost use Rattle.std.specs.Prelude.{◌≡◌, ◌+◌, ◌-◌, ◌≤◌, length, take, min, IfOk, IsTrue, ◌↔◌};
 ghost use Rattle.mkv_io.specs.Contents.{octets_from};
-ghost use Rattle.mkv_io.specs.Faults.{HasCause};
-ghost use Rattle.mkv_io.specs.Told.{Told};
+ghost use Rattle.mkv_io.specs.Faults.{HasCause, is_failure};
+ghost use Rattle.mkv_io.specs.Sources.{IfTold, IsLive, file_size};
 ghost use Rattle.element_window.specs.Window.{HasRange, read_from};
 
 use mkv_io::Reads;
@@ -25,13 +25,13 @@ pub fn read_ahead<R: Reads>(
     at: u64,
     buffer: &mut [u8],
 ) -> Result<usize, Failed>
-    requires live { IsTrue ((R.files (R.standing src.old)).live file.n) }
-    requires inside { at ≤ (R.files (R.standing src.old)).size file.n }
-    ensures count { IfOk result (λ count. count ≡ read_from (length buffer.old) ((R.files (R.standing src.old)).size file.n) at) }
-    ensures ok { IfOk result (λ count. Told ((R.files (R.standing src.old)).content file.n) (λ bytes. take count buffer.new ≡ octets_from bytes at count)) }
+    requires live { IsLive R.Reads src.old file }
+    requires inside { at ≤ file_size R.Reads src.old file }
+    ensures count { IfOk result (λ count. count ≡ read_from (length buffer.old) (file_size R.Reads src.old file) at) }
+    ensures ok { IfOk result (λ count. IfTold R.Reads src.old file (λ bytes. take count buffer.new ≡ octets_from bytes at count)) }
     ensures standing { R.standing src.new ≡ R.standing src.old }
-    ensures cause { HasCause (R.reading_faults src.old) (R.reading_faults src.new) result }
-    ensures octets { R.octets_read src.new ≤ R.octets_read src.old + read_from (length buffer.old) ((R.files (R.standing src.old)).size file.n) at }
+    ensures cause { HasCause is_failure (R.reading_faults src.old) (R.reading_faults src.new) result }
+    ensures octets { R.octets_read src.new ≤ R.octets_read src.old + read_from (length buffer.old) (file_size R.Reads src.old file) at }
 {
     let left = src.size(file) - at;
     let count = left.min(buffer.len() as u64) as usize;

@@ -1,12 +1,12 @@
 //! What a walk over the Elements of a file looks through.
 
 ghost use Rattle.std.specs.Prelude.{◌≡◌, ◌-◌, ◌≤◌, [], min, IfOk, OnOk, OnErr, IsTrue};
-ghost use Rattle.mkv_io.specs.Faults.{HasCause};
-ghost use Rattle.mkv_io.specs.Told.{Told};
+ghost use Rattle.mkv_io.specs.Faults.{HasCause, is_failure};
+ghost use Rattle.mkv_io.specs.Sources.{IfTold, IsLive, file_size};
 ghost use Rattle.matroska_format.specs.Element.{element_at};
-ghost use Rattle.matroska_format.specs.Placed.{IsPlaced, IsWhole};
+ghost use Rattle.matroska_format.specs.Placed.{StandsAt, IsWhole};
 ghost use Rattle.element_headers.specs.Parent.{setting_of};
-ghost use Rattle.element_window.specs.Window.{Held, Holds, IsBefore, MovesTo, Spends, header_room};
+ghost use Rattle.element_window.specs.Window.{ReadAhead, Holds, HasNotPassed, MovesTo, Spends, header_room};
 
 use element_headers::{Header, Parent};
 use mkv_io::Reads;
@@ -18,7 +18,7 @@ const HEADER: u64 = 12;
 /// Octets of one file that were read at once, through which its Elements are met.
 pub trait Lookahead {
     /// What is held of the file.
-    ghost held: { Self → Held };
+    ghost ahead: { Self → ReadAhead };
 
     /// The Element at a place of a file, under a parent that ends at `end`, or what is wrong there.
     fn element<R: Reads>(
@@ -29,21 +29,21 @@ pub trait Lookahead {
         at: u64,
         end: u64,
     ) -> Result<Result<Header, Damage>, Failed>
-        requires live { IsTrue ((R.files (R.standing src.old)).live file.n) }
+        requires live { IsLive R.Reads src.old file }
         requires place { at ≤ end }
-        requires inside { end ≤ (R.files (R.standing src.old)).size file.n }
-        requires holds { Told ((R.files (R.standing src.old)).content file.n) (λ bytes. Holds bytes (held self.old)) }
-        ensures ok { IfOk result (λ found. Told ((R.files (R.standing src.old)).content file.n) (λ bytes. found ≡ element_at (setting_of parent) bytes at end)) }
-        ensures placed { IfOk result (λ found. IfOk found (IsPlaced at end)) }
+        requires inside { end ≤ file_size R.Reads src.old file }
+        requires holds { IfTold R.Reads src.old file (λ bytes. Holds bytes (ahead self.old)) }
+        ensures ok { IfOk result (λ found. IfTold R.Reads src.old file (λ bytes. found ≡ element_at (setting_of parent) bytes at end)) }
+        ensures placed { IfOk result (λ found. IfOk found (StandsAt at end)) }
         ensures whole { IfOk result (λ found. IfOk found (IsWhole (setting_of parent) end)) }
-        ensures holds { Told ((R.files (R.standing src.old)).content file.n) (λ bytes. Holds bytes (held self.new)) }
-        ensures err { OnErr result ((held self.new).octets ≡ []) }
+        ensures holds { IfTold R.Reads src.old file (λ bytes. Holds bytes (ahead self.new)) }
+        ensures err { OnErr result ((ahead self.new).octets ≡ []) }
         ensures standing { R.standing src.new ≡ R.standing src.old }
-        ensures cause { HasCause (R.reading_faults src.old) (R.reading_faults src.new) result }
-        ensures moves { IsBefore (held self.old) at ((R.files (R.standing src.old)).size file.n)
-            → OnOk result (MovesTo ((R.files (R.standing src.old)).size file.n) at (held self.old) (held self.new) (R.octets_read src.old) (R.octets_read src.new)) }
-        ensures spends { IsBefore (held self.old) at ((R.files (R.standing src.old)).size file.n)
-            → OnErr result (Spends ((R.files (R.standing src.old)).size file.n) (held self.old) (R.octets_read src.old) (R.octets_read src.new)) };
+        ensures cause { HasCause is_failure (R.reading_faults src.old) (R.reading_faults src.new) result }
+        ensures moves { HasNotPassed (ahead self.old) at (file_size R.Reads src.old file)
+            → OnOk result (MovesTo (file_size R.Reads src.old file) at (ahead self.old) (ahead self.new) (R.octets_read src.old) (R.octets_read src.new)) }
+        ensures spends { HasNotPassed (ahead self.old) at (file_size R.Reads src.old file)
+            → OnErr result (Spends (file_size R.Reads src.old file) (ahead self.old) (R.octets_read src.old) (R.octets_read src.new)) };
 }
 
 /// How many octets a header at a place may have, where its parent ends at `end`.

@@ -2,9 +2,9 @@
 
 ghost use Rattle.std.specs.Prelude.{◌≡◌, ◌+◌, ◌-◌, ◌≤◌, [], OnOk, OnErr, IsTrue, ◌↔◌};
 ghost use Rattle.mkv_io.specs.Contents.{octets_from};
-ghost use Rattle.mkv_io.specs.Faults.{HasCause};
-ghost use Rattle.mkv_io.specs.Told.{Told};
-ghost use Rattle.element_window.specs.Window.{HasRange, Holds, IsBefore, MovesTo, Spends};
+ghost use Rattle.mkv_io.specs.Faults.{HasCause, is_failure};
+ghost use Rattle.mkv_io.specs.Sources.{IfTold, IsLive, file_size};
+ghost use Rattle.element_window.specs.Window.{HasRange, Holds, HasNotPassed, MovesTo, Spends};
 
 use crate::ahead::{has, read_ahead};
 use crate::lookahead::{Lookahead, header_room};
@@ -26,9 +26,9 @@ pub struct SmallWindow {
 
 impl Model for SmallWindow {
     ghost use Rattle.std.specs.Prelude.{take, ◌≤◌};
-    ghost use Rattle.element_window.specs.Window.{Held};
+    ghost use Rattle.element_window.specs.Window.{ReadAhead};
 
-    ghost Value = { Held };
+    ghost Value = { ReadAhead };
 
     ghost view = { λ w. record { at = w.at; octets = take w.len w.buffer } };
 
@@ -48,7 +48,7 @@ impl SmallWindow {
     }
 
     // Octets that the window holds.
-    fn held(&self, at: u64, len: usize) -> &[u8]
+    fn octets_at(&self, at: u64, len: usize) -> &[u8]
         requires { HasRange self.now at len }
         ensures { result.now ≡ octets_from self.now.octets (at - self.now.at) len }
     {
@@ -64,19 +64,19 @@ impl SmallWindow {
         at: u64,
         len: usize,
     ) -> Result<(), Failed>
-        requires live { IsTrue ((R.files (R.standing src.old)).live file.n) }
+        requires live { IsLive R.Reads src.old file }
         requires few { len ≤ 64 }
-        requires range { at + len ≤ (R.files (R.standing src.old)).size file.n }
-        requires holds { Told ((R.files (R.standing src.old)).content file.n) (λ bytes. Holds bytes self.old) }
+        requires range { at + len ≤ file_size R.Reads src.old file }
+        requires holds { IfTold R.Reads src.old file (λ bytes. Holds bytes self.old) }
         ensures range { OnOk result (HasRange self.new at len) }
-        ensures holds { Told ((R.files (R.standing src.old)).content file.n) (λ bytes. Holds bytes self.new) }
+        ensures holds { IfTold R.Reads src.old file (λ bytes. Holds bytes self.new) }
         ensures err { OnErr result (self.new.octets ≡ []) }
         ensures standing { R.standing src.new ≡ R.standing src.old }
-        ensures cause { HasCause (R.reading_faults src.old) (R.reading_faults src.new) result }
-        ensures moves { IsBefore self.old at ((R.files (R.standing src.old)).size file.n)
-            → OnOk result (MovesTo ((R.files (R.standing src.old)).size file.n) at self.old self.new (R.octets_read src.old) (R.octets_read src.new)) }
-        ensures spends { IsBefore self.old at ((R.files (R.standing src.old)).size file.n)
-            → OnErr result (Spends ((R.files (R.standing src.old)).size file.n) self.old (R.octets_read src.old) (R.octets_read src.new)) }
+        ensures cause { HasCause is_failure (R.reading_faults src.old) (R.reading_faults src.new) result }
+        ensures moves { HasNotPassed self.old at (file_size R.Reads src.old file)
+            → OnOk result (MovesTo (file_size R.Reads src.old file) at self.old self.new (R.octets_read src.old) (R.octets_read src.new)) }
+        ensures spends { HasNotPassed self.old at (file_size R.Reads src.old file)
+            → OnErr result (Spends (file_size R.Reads src.old file) self.old (R.octets_read src.old) (R.octets_read src.new)) }
     {
         if has(self.at, &self.buffer[..self.len], at, len) {
             return Ok(());
@@ -89,7 +89,7 @@ impl SmallWindow {
 }
 
 impl Lookahead for SmallWindow {
-    ghost held = { λ w. w };
+    ghost ahead = { λ w. w };
 
     fn element<R: Reads>(
         &mut self,
@@ -102,6 +102,6 @@ impl Lookahead for SmallWindow {
         let len = header_room(at, end) as usize;
         self.hold(src, file, at, len)?;
         let total = src.size(file);
-        Ok(read_header(self.held(at, len), parent, total, at, end))
+        Ok(read_header(self.octets_at(at, len), parent, total, at, end))
     }
 }

@@ -2,13 +2,13 @@
 
 ghost use Rattle.std.specs.Prelude.{◌≡◌, ◌+◌, ◌-◌, ◌≤◌, ◌<◌, [], List, ℕ, length, take, drop, min, OnOk, OnErr, IsTrue, IsOk, IfOk, IsErrOf, ◌⊎◌, ◌↔◌};
 ghost use Rattle.mkv_io.specs.Contents.{octets_from};
-ghost use Rattle.mkv_io.specs.Faults.{HasCause};
-ghost use Rattle.mkv_io.specs.Told.{Told};
+ghost use Rattle.mkv_io.specs.Faults.{HasCause, is_failure};
+ghost use Rattle.mkv_io.specs.Sources.{IfTold, IsLive, file_size};
 ghost use Rattle.matroska_format.specs.Element.{anywhere, element_at};
-ghost use Rattle.matroska_format.specs.Placed.{IsPlaced, IsWhole};
+ghost use Rattle.matroska_format.specs.Placed.{StandsAt, IsWhole};
 ghost use Rattle.element_headers.specs.Parent.{setting_of};
-ghost use Rattle.element_window.specs.Head.{HasHeadCause, IsHead};
-ghost use Rattle.element_window.specs.Window.{HasRange, Holds, IsBefore, MovesTo, Spends, header_room, read_from};
+ghost use Rattle.element_window.specs.Head.{IsHead, is_head_fault};
+ghost use Rattle.element_window.specs.Window.{HasRange, Holds, HasNotPassed, MovesTo, Spends, header_room, read_from};
 
 use crate::ahead::{has, read_ahead};
 use crate::head_end::HeadEnd;
@@ -32,9 +32,9 @@ pub struct Window {
 
 impl Model for Window {
     ghost use Rattle.std.specs.Prelude.{take, length, ◌≡◌, ◌≤◌};
-    ghost use Rattle.element_window.specs.Window.{Held};
+    ghost use Rattle.element_window.specs.Window.{ReadAhead};
 
-    ghost Value = { Held };
+    ghost Value = { ReadAhead };
 
     ghost view = { λ w. record { at = w.at; octets = take w.len w.buffer.items } };
 
@@ -61,7 +61,7 @@ impl Window {
     }
 
     /// Octets that the window holds.
-    pub fn held(&self, at: u64, len: usize) -> &[u8]
+    pub fn octets_at(&self, at: u64, len: usize) -> &[u8]
         requires { HasRange self.now at len }
         ensures { result.now ≡ octets_from self.now.octets (at - self.now.at) len }
     {
@@ -79,25 +79,25 @@ impl Window {
         at: u64,
         len: u16,
     ) -> Result<(), Failed>
-        requires live { IsTrue ((R.files (R.standing src.old)).live file.n) }
+        requires live { IsLive R.Reads src.old file }
         requires few { len ≤ 64 }
-        requires range { at + len ≤ (R.files (R.standing src.old)).size file.n }
-        requires holds { Told ((R.files (R.standing src.old)).content file.n) (λ bytes. Holds bytes self.old) }
+        requires range { at + len ≤ file_size R.Reads src.old file }
+        requires holds { IfTold R.Reads src.old file (λ bytes. Holds bytes self.old) }
         ensures range { OnOk result (HasRange self.new at len) }
-        ensures holds { Told ((R.files (R.standing src.old)).content file.n) (λ bytes. Holds bytes self.new) }
+        ensures holds { IfTold R.Reads src.old file (λ bytes. Holds bytes self.new) }
         ensures err { OnErr result (self.new ≡ record { at = at; octets = [] }) }
 
         // What is held isn't read again; else the window then holds exactly what was read.
         ensures kept { HasRange self.old at len → (self.new ≡ self.old) × (R.octets_read src.new ≡ R.octets_read src.old) × IsOk result }
-        ensures read { (HasRange self.old at len → ⊥) → OnOk result ((self.new.at ≡ at) × (length self.new.octets ≡ read_from WINDOW ((R.files (R.standing src.old)).size file.n) at)) }
+        ensures read { (HasRange self.old at len → ⊥) → OnOk result ((self.new.at ≡ at) × (length self.new.octets ≡ read_from WINDOW (file_size R.Reads src.old file) at)) }
 
         ensures standing { R.standing src.new ≡ R.standing src.old }
-        ensures cause { HasCause (R.reading_faults src.old) (R.reading_faults src.new) result }
-        ensures octets { R.octets_read src.new ≤ R.octets_read src.old + read_from WINDOW ((R.files (R.standing src.old)).size file.n) at }
-        ensures moves { IsBefore self.old at ((R.files (R.standing src.old)).size file.n)
-            → OnOk result (MovesTo ((R.files (R.standing src.old)).size file.n) at self.old self.new (R.octets_read src.old) (R.octets_read src.new)) }
-        ensures spends { IsBefore self.old at ((R.files (R.standing src.old)).size file.n)
-            → OnErr result (Spends ((R.files (R.standing src.old)).size file.n) self.old (R.octets_read src.old) (R.octets_read src.new)) }
+        ensures cause { HasCause is_failure (R.reading_faults src.old) (R.reading_faults src.new) result }
+        ensures octets { R.octets_read src.new ≤ R.octets_read src.old + read_from WINDOW (file_size R.Reads src.old file) at }
+        ensures moves { HasNotPassed self.old at (file_size R.Reads src.old file)
+            → OnOk result (MovesTo (file_size R.Reads src.old file) at self.old self.new (R.octets_read src.old) (R.octets_read src.new)) }
+        ensures spends { HasNotPassed self.old at (file_size R.Reads src.old file)
+            → OnErr result (Spends (file_size R.Reads src.old file) self.old (R.octets_read src.old) (R.octets_read src.new)) }
     {
         if self.has(at, usize::from(len)) {
             return Ok(());
@@ -116,18 +116,18 @@ impl Window {
         at: u64,
         len: u16,
     ) -> Result<&[u8], Failed>
-        requires live { IsTrue ((R.files (R.standing src.old)).live file.n) }
+        requires live { IsLive R.Reads src.old file }
         requires few { len ≤ 64 }
-        requires range { at + len ≤ (R.files (R.standing src.old)).size file.n }
-        requires holds { Told ((R.files (R.standing src.old)).content file.n) (λ bytes. Holds bytes self.old) }
-        ensures ok { IfOk result (λ octets. Told ((R.files (R.standing src.old)).content file.n) (λ bytes. octets.now ≡ octets_from bytes at len)) }
+        requires range { at + len ≤ file_size R.Reads src.old file }
+        requires holds { IfTold R.Reads src.old file (λ bytes. Holds bytes self.old) }
+        ensures ok { IfOk result (λ octets. IfTold R.Reads src.old file (λ bytes. octets.now ≡ octets_from bytes at len)) }
         ensures kept { HasRange self.old at len → (R.octets_read src.new ≡ R.octets_read src.old) × IsOk result }
         ensures standing { R.standing src.new ≡ R.standing src.old }
-        ensures cause { HasCause (R.reading_faults src.old) (R.reading_faults src.new) result }
-        ensures octets { R.octets_read src.new ≤ R.octets_read src.old + read_from WINDOW ((R.files (R.standing src.old)).size file.n) at }
+        ensures cause { HasCause is_failure (R.reading_faults src.old) (R.reading_faults src.new) result }
+        ensures octets { R.octets_read src.new ≤ R.octets_read src.old + read_from WINDOW (file_size R.Reads src.old file) at }
     {
         self.hold(src, file, at, len)?;
-        Ok(self.held(at, usize::from(len)))
+        Ok(self.octets_at(at, usize::from(len)))
     }
 
     /// The Element at a place of a file, under a parent that ends at `end`, or what is wrong there.
@@ -139,32 +139,32 @@ impl Window {
         at: u64,
         end: u64,
     ) -> Result<Result<Header, Damage>, Failed>
-        requires live { IsTrue ((R.files (R.standing src.old)).live file.n) }
+        requires live { IsLive R.Reads src.old file }
         requires place { at ≤ end }
-        requires inside { end ≤ (R.files (R.standing src.old)).size file.n }
-        requires holds { Told ((R.files (R.standing src.old)).content file.n) (λ bytes. Holds bytes self.old) }
-        ensures ok { IfOk result (λ found. Told ((R.files (R.standing src.old)).content file.n) (λ bytes. found ≡ element_at (setting_of parent) bytes at end)) }
-        ensures placed { IfOk result (λ found. IfOk found (IsPlaced at end)) }
+        requires inside { end ≤ file_size R.Reads src.old file }
+        requires holds { IfTold R.Reads src.old file (λ bytes. Holds bytes self.old) }
+        ensures ok { IfOk result (λ found. IfTold R.Reads src.old file (λ bytes. found ≡ element_at (setting_of parent) bytes at end)) }
+        ensures placed { IfOk result (λ found. IfOk found (StandsAt at end)) }
         ensures whole { IfOk result (λ found. IfOk found (IsWhole (setting_of parent) end)) }
-        ensures holds { Told ((R.files (R.standing src.old)).content file.n) (λ bytes. Holds bytes self.new) }
+        ensures holds { IfTold R.Reads src.old file (λ bytes. Holds bytes self.new) }
         ensures err { OnErr result (self.new ≡ record { at = at; octets = [] }) }
 
         // What is held isn't read again; else the window then holds exactly what was read.
         ensures kept { HasRange self.old at (header_room at end) → (self.new ≡ self.old) × (R.octets_read src.new ≡ R.octets_read src.old) × IsOk result }
-        ensures read { (HasRange self.old at (header_room at end) → ⊥) → OnOk result ((self.new.at ≡ at) × (length self.new.octets ≡ read_from WINDOW ((R.files (R.standing src.old)).size file.n) at)) }
+        ensures read { (HasRange self.old at (header_room at end) → ⊥) → OnOk result ((self.new.at ≡ at) × (length self.new.octets ≡ read_from WINDOW (file_size R.Reads src.old file) at)) }
 
         ensures standing { R.standing src.new ≡ R.standing src.old }
-        ensures cause { HasCause (R.reading_faults src.old) (R.reading_faults src.new) result }
-        ensures octets { R.octets_read src.new ≤ R.octets_read src.old + read_from WINDOW ((R.files (R.standing src.old)).size file.n) at }
-        ensures moves { IsBefore self.old at ((R.files (R.standing src.old)).size file.n)
-            → OnOk result (MovesTo ((R.files (R.standing src.old)).size file.n) at self.old self.new (R.octets_read src.old) (R.octets_read src.new)) }
-        ensures spends { IsBefore self.old at ((R.files (R.standing src.old)).size file.n)
-            → OnErr result (Spends ((R.files (R.standing src.old)).size file.n) self.old (R.octets_read src.old) (R.octets_read src.new)) }
+        ensures cause { HasCause is_failure (R.reading_faults src.old) (R.reading_faults src.new) result }
+        ensures octets { R.octets_read src.new ≤ R.octets_read src.old + read_from WINDOW (file_size R.Reads src.old file) at }
+        ensures moves { HasNotPassed self.old at (file_size R.Reads src.old file)
+            → OnOk result (MovesTo (file_size R.Reads src.old file) at self.old self.new (R.octets_read src.old) (R.octets_read src.new)) }
+        ensures spends { HasNotPassed self.old at (file_size R.Reads src.old file)
+            → OnErr result (Spends (file_size R.Reads src.old file) self.old (R.octets_read src.old) (R.octets_read src.new)) }
     {
         let len = header_room(at, end);
         self.hold(src, file, at, len as u16)?;
         let total = src.size(file);
-        Ok(read_header(self.held(at, len as usize), parent, total, at, end))
+        Ok(read_header(self.octets_at(at, len as usize), parent, total, at, end))
     }
 
     /// The header of the Element at `at` octets behind the start of a file, whose parent ends at `end`,
@@ -176,23 +176,23 @@ impl Window {
         at: u64,
         end: u64,
     ) -> Result<Header, HeadEnd>
-        requires live { IsTrue ((R.files (R.standing src.old)).live file.n) }
+        requires live { IsLive R.Reads src.old file }
         requires place { at ≤ end }
-        requires inside { end ≤ (R.files (R.standing src.old)).size file.n }
-        requires holds { Told ((R.files (R.standing src.old)).content file.n) (λ bytes. Holds bytes self.old) }
-        ensures exact { Told ((R.files (R.standing src.old)).content file.n) (λ bytes. IsHead (element_at anywhere bytes at end) result) }
-        ensures placed { IfOk result (IsPlaced at end) }
+        requires inside { end ≤ file_size R.Reads src.old file }
+        requires holds { IfTold R.Reads src.old file (λ bytes. Holds bytes self.old) }
+        ensures exact { IfTold R.Reads src.old file (λ bytes. IsHead (element_at anywhere bytes at end) result) }
+        ensures placed { IfOk result (StandsAt at end) }
         ensures whole { IfOk result (IsWhole anywhere end) }
-        ensures holds { Told ((R.files (R.standing src.old)).content file.n) (λ bytes. Holds bytes self.new) }
+        ensures holds { IfTold R.Reads src.old file (λ bytes. Holds bytes self.new) }
         ensures fault { IsErrOf result HeadEnd.ReadFault → self.new ≡ record { at = at; octets = [] } }
 
         // What is held isn't read again; else the window then holds exactly what was read.
         ensures kept { HasRange self.old at (header_room at end) → (self.new ≡ self.old) × (R.octets_read src.new ≡ R.octets_read src.old) × (IsErrOf result HeadEnd.ReadFault → ⊥) }
-        ensures read { (HasRange self.old at (header_room at end) → ⊥) → IsErrOf result HeadEnd.ReadFault ⊎ ((self.new.at ≡ at) × (length self.new.octets ≡ read_from WINDOW ((R.files (R.standing src.old)).size file.n) at)) }
+        ensures read { (HasRange self.old at (header_room at end) → ⊥) → IsErrOf result HeadEnd.ReadFault ⊎ ((self.new.at ≡ at) × (length self.new.octets ≡ read_from WINDOW (file_size R.Reads src.old file) at)) }
 
         ensures standing { R.standing src.new ≡ R.standing src.old }
-        ensures cause { HasHeadCause (R.reading_faults src.old) (R.reading_faults src.new) result }
-        ensures octets { R.octets_read src.new ≤ R.octets_read src.old + read_from WINDOW ((R.files (R.standing src.old)).size file.n) at }
+        ensures cause { HasCause is_head_fault (R.reading_faults src.old) (R.reading_faults src.new) result }
+        ensures octets { R.octets_read src.new ≤ R.octets_read src.old + read_from WINDOW (file_size R.Reads src.old file) at }
     {
         match self.element(src, file, Parent::Any, at, end) {
             Ok(Ok(header)) => Ok(header),
@@ -209,17 +209,17 @@ impl Window {
         at: u64,
         into: &mut [u8],
     ) -> Result<(), Failed>
-        requires live { IsTrue ((R.files (R.standing src.old)).live file.n) }
-        requires range { at + length into.old ≤ (R.files (R.standing src.old)).size file.n }
-        requires holds { Told ((R.files (R.standing src.old)).content file.n) (λ bytes. Holds bytes self.now) }
-        ensures ok { OnOk result (Told ((R.files (R.standing src.old)).content file.n) (λ bytes. into.new ≡ octets_from bytes at (length into.old))) }
+        requires live { IsLive R.Reads src.old file }
+        requires range { at + length into.old ≤ file_size R.Reads src.old file }
+        requires holds { IfTold R.Reads src.old file (λ bytes. Holds bytes self.now) }
+        ensures ok { OnOk result (IfTold R.Reads src.old file (λ bytes. into.new ≡ octets_from bytes at (length into.old))) }
         ensures standing { R.standing src.new ≡ R.standing src.old }
-        ensures cause { HasCause (R.reading_faults src.old) (R.reading_faults src.new) result }
+        ensures cause { HasCause is_failure (R.reading_faults src.old) (R.reading_faults src.new) result }
         ensures octets { R.octets_read src.new ≤ R.octets_read src.old + length into.old }
         ensures kept { HasRange self.now at (length into.old) → IsOk result × (R.octets_read src.new ≡ R.octets_read src.old) }
     {
         if self.has(at, into.len()) {
-            into.copy_from_slice(self.held(at, into.len()));
+            into.copy_from_slice(self.octets_at(at, into.len()));
             return Ok(());
         }
         src.read_at(file, at, into)
@@ -227,7 +227,7 @@ impl Window {
 }
 
 impl Lookahead for Window {
-    ghost held = { λ w. w };
+    ghost ahead = { λ w. w };
 
     fn element<R: Reads>(
         &mut self,

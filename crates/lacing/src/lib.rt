@@ -12,6 +12,3 @@ pub use kind::{Lace, LaceEnd};
 pub use laws::head_settles_sizes;
 pub use reading::split;
 pub use writing::{lace_len, put_lace};
-
-#[cfg(test)]
-mod tests;

@@ -14,21 +14,21 @@ use Rattle.mkv_values.specs.declared.damage.Damage.{Damage}
 use Rattle.mkv_values.specs.declared.damage.Kind.{Kind}
 use Rattle.mkv_values.specs.declared.damage.Kind.TheVariants.{TooLong, Truncated, UnknownSize}
 use Rattle.matroska_format.specs.declared.element.Header.{Header}
-use Rattle.matroska_format.specs.Placed.{IsPlaced, IsWhole}
+use Rattle.matroska_format.specs.Placed.{StandsAt, IsWhole}
 use Rattle.matroska_format.specs.Element.{Setting, octets_between, display_read, id_in, with_body, with_size, with_id, body_damage, element_in, element_at, has_unknown_size, is_truncated, is_too_long, is_unknown, stated_end}
 
 -- the octets from a place on are as many as stand before the end
 pub length-octets_between : (bytes : List ℕ) (p e : ℕ) → length (octets_between bytes p e) ≡ min e (length bytes) - p
 length-octets_between bytes p e = simp (length-drop, length-take)
 
-placed_body : (p e : ℕ) (made h : Header) (found : Option Kind) → IsPlaced p e made → with_body made found ≡ Ok h → IsPlaced p e h
+placed_body : (p e : ℕ) (made h : Header) (found : Option Kind) → StandsAt p e made → with_body made found ≡ Ok h → StandsAt p e h
 placed_body p e made h None placed is =
     let same : made ≡ h = cc in
-    let P : Header → Type 0 = IsPlaced p e in
+    let P : Header → Type 0 = StandsAt p e in
     subst P same placed
 placed_body p e made h (Some kind) placed is = cc
 
-placed_size : (s : Setting) (octets : List ℕ) (total p e id at : ℕ) (h : Header) (read : Result SizeRead NumFault) → p ≤ at → at + length octets ≤ e → size_at octets ≡ read → with_size s total p e id at read ≡ Ok h → IsPlaced p e h
+placed_size : (s : Setting) (octets : List ℕ) (total p e id at : ℕ) (h : Header) (read : Result SizeRead NumFault) → p ≤ at → at + length octets ≤ e → size_at octets ≡ read → with_size s total p e id at read ≡ Ok h → StandsAt p e h
 placed_size s octets total p e id at h (Err (fault.More n)) behind inside is found = cc
 placed_size s octets total p e id at h (Err fault.Bad) behind inside is found = cc
 placed_size s octets total p e id at h (Ok size) behind inside is found =
@@ -50,7 +50,7 @@ id_in-within s octets read is = split (s.display && slice_index octets 0 == CHAP
     split true test found = display_within octets (grind (arith, nat_tests)) found
     split false test found = (id_at-reads octets read found).inside
 
-placed_id : (s : Setting) (octets : List ℕ) (total p e : ℕ) (h : Header) (read : Result IdRead NumFault) → p + length octets ≤ e → id_in s octets ≡ read → with_id s octets total p e read ≡ Ok h → IsPlaced p e h
+placed_id : (s : Setting) (octets : List ℕ) (total p e : ℕ) (h : Header) (read : Result IdRead NumFault) → p + length octets ≤ e → id_in s octets ≡ read → with_id s octets total p e read ≡ Ok h → StandsAt p e h
 placed_id s octets total p e h (Err fault.Bad) inside is found = cc
 placed_id s octets total p e h (Err (fault.More n)) inside is found = cc
 placed_id s octets total p e h (Ok id) inside is found =
@@ -58,11 +58,11 @@ placed_id s octets total p e h (Ok id) inside is found =
     let rest = length-drop id.len octets in
     placed_size s (drop id.len octets) total p e id.id (p + id.len) h _ (omega arith) (omega arith) refl found
 
-pub element_in-placed : (s : Setting) (octets : List ℕ) (total p e : ℕ) (h : Header) → p + length octets ≤ e → element_in s octets total p e ≡ Ok h → IsPlaced p e h
+pub element_in-placed : (s : Setting) (octets : List ℕ) (total p e : ℕ) (h : Header) → p + length octets ≤ e → element_in s octets total p e ≡ Ok h → StandsAt p e h
 unfolding element_in
 element_in-placed s octets total p e h inside found = placed_id s octets total p e h (id_in s octets) inside refl found
 
-pub element_at-placed : (s : Setting) (bytes : List ℕ) (p e : ℕ) (h : Header) → p ≤ e → element_at s bytes p e ≡ Ok h → IsPlaced p e h
+pub element_at-placed : (s : Setting) (bytes : List ℕ) (p e : ℕ) (h : Header) → p ≤ e → element_at s bytes p e ≡ Ok h → StandsAt p e h
 element_at-placed s bytes p e h before_end found =
     let octets = length-octets_between bytes p e in
     element_in-placed s (octets_between bytes p e) (length bytes) p e h (omega arith) found
@@ -72,9 +72,9 @@ if_ok P (Ok x) holds = holds x refl
 if_ok P (Err d) holds = tt
 
 -- the same of whatever stands there
-pub element_in-is_placed : (s : Setting) (octets : List ℕ) (total p e : ℕ) → p + length octets ≤ e → IfOk (element_in s octets total p e) (IsPlaced p e)
+pub element_in-is_placed : (s : Setting) (octets : List ℕ) (total p e : ℕ) → p + length octets ≤ e → IfOk (element_in s octets total p e) (StandsAt p e)
 element_in-is_placed s octets total p e inside =
-    if_ok (IsPlaced p e) (element_in s octets total p e) (λ h found. element_in-placed s octets total p e h inside found)
+    if_ok (StandsAt p e) (element_in s octets total p e) (λ h found. element_in-placed s octets total p e h inside found)
 
 -- ---- an Element that may not be open is whole
 

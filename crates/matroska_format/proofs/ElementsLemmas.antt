@@ -3,7 +3,7 @@ use Rattle.std.proofs.Common.{◌≡◌, ℕ, zero, suc, ◌-◌, ◌<◌, ◌�
 use Rattle.mkv_values.specs.declared.damage.Damage.{Damage}
 use Rattle.matroska_format.specs.declared.element.Header.{Header}
 use Rattle.matroska_format.specs.Element.{Setting, in_segment, in_master, element_at, end_in, is_unknown}
-use Rattle.matroska_format.specs.Elements.{Run, Next, ends_at, before, behind, step, id_of, elements, elements_within}
+use Rattle.matroska_format.specs.Elements.{Run, Next, ends_at, in_front, behind, step, id_of, elements, elements_within}
 use Rattle.matroska_format.specs.Elements.{open_cluster, ends_cluster, end_of_run, behind_in_segment}
 use Rattle.matroska_format.proofs.ElementLemmas.{element_at-placed}
 
@@ -15,7 +15,7 @@ pub record Advances (s : Setting) (next : Next) (bytes : List ℕ) (e : ℕ) : T
 
 -- what stands behind an Element is the same, where it is the same from any later place on
 behind-same : (p : ℕ) (h : Header) (q : Result ℕ Damage) (f g : ℕ → Run) → ((k : ℕ) → q ≡ Ok k → f k ≡ g k) → behind p h q f ≡ behind p h q g
-behind-same p h (Ok k) f g same = ap (before h) (same k refl)
+behind-same p h (Ok k) f g same = ap (in_front h) (same k refl)
 behind-same p h (Err d) f g same = refl
 
 step-same : (p : ℕ) (next : Next) (found : Result Header Damage) (f g : ℕ → Run) → ((h : Header) (k : ℕ) → found ≡ Ok h → next h ≡ Ok k → f k ≡ g k) → step p next found f ≡ step p next found g

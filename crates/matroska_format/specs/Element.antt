@@ -20,28 +20,28 @@ use Rattle.matroska_format.specs.declared.element.Header.{Header}
 pub record Setting : Type 0 where
   pub may_open : ℕ → Bool
   pub display : Bool
-  pub held : Bool
+  pub read_whole : Bool
 
 -- at the start of the file, or behind an Element there: a Segment may be open
 abbrev pub at_level_0 : Setting
-at_level_0 = record { may_open = λ id. id == SEGMENT; display = false; held = false }
+at_level_0 = record { may_open = λ id. id == SEGMENT; display = false; read_whole = false }
 
 -- directly in a Segment: a Cluster may be open
 abbrev pub in_segment : Setting
-in_segment = record { may_open = λ id. id == CLUSTER; display = false; held = false }
+in_segment = record { may_open = λ id. id == CLUSTER; display = false; read_whole = false }
 
 -- directly in a Cluster or another master that isn't read whole: no Element may be open
 abbrev pub in_master : Setting
-in_master = record { may_open = λ id. false; display = false; held = false }
+in_master = record { may_open = λ id. false; display = false; read_whole = false }
 
 -- Directly in a master that is read whole. RFC 9559 gives ChapterDisplay the ID `80`, which RFC 8794
 -- doesn't allow; in a ChapterAtom it is read as that.
 abbrev pub in_tree : ℕ → Setting
-in_tree parent = record { may_open = λ id. false; display = parent == CHAPTER_ATOM; held = true }
+in_tree parent = record { may_open = λ id. false; display = parent == CHAPTER_ATOM; read_whole = true }
 
 -- as if every Segment and every Cluster stood where it may be open
 abbrev pub anywhere : Setting
-anywhere = record { may_open = λ id. id == SEGMENT || id == CLUSTER; display = false; held = false }
+anywhere = record { may_open = λ id. id == SEGMENT || id == CLUSTER; display = false; read_whole = false }
 
 -- ---- what its header says
 
@@ -82,7 +82,7 @@ damage kind id offset = record { kind = kind; id = id; offset = offset }
 -- A header up to here passes its parent's end: it passes the end of the file too, or not.
 abbrev pub cut_header : Setting → ℕ → ℕ → ℕ → ℕ → Damage
 cut_header s total id p end =
-    if not s.held && nat_lt total end then damage Truncated id p else damage TooLong id p
+    if not s.read_whole && nat_lt total end then damage Truncated id p else damage TooLong id p
 
 -- a Segment or a Cluster
 abbrev pub may_be_open : ℕ → Bool
@@ -96,7 +96,7 @@ has_unknown_size s h = is_unknown h.size && not (s.may_open h.id)
 -- one whose parent ends before the file.
 abbrev pub is_truncated : Setting → ℕ → ℕ → Header → Bool
 is_truncated s total e h =
-    not s.held && nat_lt total (stated_end h)
+    not s.read_whole && nat_lt total (stated_end h)
     && (not (may_be_open h.id) || (not (s.may_open h.id) && e == total))
 
 -- Its body passes its parent's end. A Segment or a Cluster that may be cut by the end of the file isn't so there.

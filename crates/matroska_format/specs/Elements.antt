@@ -22,8 +22,8 @@ abbrev pub breaks_at : ℕ → Damage → Run
 breaks_at p d = record { list = []; damage = Some d; end = p }
 
 -- an Element, and what stands behind it
-abbrev pub before : Header → Run → Run
-before h rest = record { list = h ∷ rest.list; damage = rest.damage; end = rest.end }
+abbrev pub in_front : Header → Run → Run
+in_front h rest = record { list = h ∷ rest.list; damage = rest.damage; end = rest.end }
 
 -- the ID at a place where an Element or a damage was found, 0 where it couldn't be read
 abbrev pub id_of : Result Header Damage → ℕ
@@ -35,8 +35,8 @@ abbrev pub Next : Type 0
 Next = Header → Result ℕ Damage
 
 abbrev pub behind : ℕ → Header → Result ℕ Damage → (ℕ → Run) → Run
-behind p h (Ok q) rest = before h (rest q)
-behind p h (Err d) rest = before h (breaks_at p d)
+behind p h (Ok q) rest = in_front h (rest q)
+behind p h (Err d) rest = in_front h (breaks_at p d)
 
 abbrev pub step : ℕ → Next → Result Header Damage → (ℕ → Run) → Run
 step p next (Err d) rest = breaks_at p d

@@ -4,7 +4,7 @@ use Rattle.matroska_format.specs.declared.element.Header.{Header}
 use Rattle.matroska_format.specs.Element.{Setting, is_unknown, stated_end}
 
 -- An Element stands where it was looked for, its header before its body, and both within the parent.
-pub record IsPlaced (p e : ℕ) (h : Header) : Type 0 where
+pub record StandsAt (p e : ℕ) (h : Header) : Type 0 where
   pub offset : h.offset ≡ p
   pub later : p < h.body
   pub within : h.body ≤ e

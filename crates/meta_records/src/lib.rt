@@ -6,6 +6,3 @@
 mod info;
 
 pub use info::{Info, read_info};
-
-#[cfg(test)]
-mod tests;

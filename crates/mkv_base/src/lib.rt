@@ -8,6 +8,3 @@ pub use mkv_memory::{MemFiles, MemReport};
 pub use mkv_values::{
     Bytes, Damage, Failed, FileId, Kind, List, MakeFault, OpenFault, ReadEnd, Text,
 };
-
-#[cfg(test)]
-mod tests;

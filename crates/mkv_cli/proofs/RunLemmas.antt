@@ -5,19 +5,19 @@ use Rattle.mkv_io.specs.Faults.{HasRisen}
 use Rattle.mkv_io.specs.Lines.{with_lines}
 use Rattle.mkv_lines.specs.Faults.{Counts, FilesRose}
 use Rattle.mkv_lines.specs.Line.{files_fault_line}
-use Rattle.mkv_lines.specs.Said.{HasSayCause, Held, Says, SaysPart, SaysUpTo}
+use Rattle.mkv_lines.specs.Said.{HasSayCause, ReportLines, Says, SaysPart, SaysUpTo}
 use Rattle.mkv_lines.specs.Verdict.{EndsOutside, SaysFault}
 use Rattle.mkv_lines.specs.declared.status.Stop.{Stop}
 use Rattle.mkv_lines.specs.declared.status.Stop.TheVariants as stop
 use Rattle.mkv_lines.proofs.SaidLemmas.{with_lines-both, with_lines-none}
 
 -- the line of the fault stands behind a first part of the lines
-fault_behind : (old mid new : Held) (all : List (List ℕ)) → SaysPart old mid all → new ≡ with_lines mid (files_fault_line ∷ []) → SaysFault old new all
+fault_behind : (old mid new : ReportLines) (all : List (List ℕ)) → SaysPart old mid all → new ≡ with_lines mid (files_fault_line ∷ []) → SaysFault old new all
 fault_behind old mid new all part added = record {
   said = part.said;
   left = part.left;
   whole = part.whole;
-  added = added ∙ ap (λ (held : Held). with_lines held (files_fault_line ∷ [])) part.added ∙ with_lines-both old part.said (files_fault_line ∷ []);
+  added = added ∙ ap (λ (held : ReportLines). with_lines held (files_fault_line ∷ [])) part.added ∙ with_lines-both old part.said (files_fault_line ∷ []);
 }
 
 -- nothing stands behind the last line
@@ -26,16 +26,16 @@ last_alone [] left none = refl
 last_alone (line ∷ lines) left none = absurd (cc)
 
 -- the line of the fault wasn't said, or the report failed behind it
-fault_or_not : (before now : Counts) (old mid new : Held) (all said left : List (List ℕ)) → FilesRose before now → HasRisen before.report now.report → SaysPart old mid all → files_fault_line ∷ [] ≡ said ++ left → new ≡ with_lines mid said → EndsOutside before now old new all
+fault_or_not : (before now : Counts) (old mid new : ReportLines) (all said left : List (List ℕ)) → FilesRose before now → HasRisen before.report now.report → SaysPart old mid all → files_fault_line ∷ [] ≡ said ++ left → new ≡ with_lines mid said → EndsOutside before now old new all
 fault_or_not before now old mid new all [] left files report part whole added =
-    inr (report, subst (λ (held : Held). SaysPart old held all) (sym (added ∙ with_lines-none mid)) part)
+    inr (report, subst (λ (held : ReportLines). SaysPart old held all) (sym (added ∙ with_lines-none mid)) part)
 fault_or_not before now old mid new all (line ∷ lines) left files report part whole added =
     let first : line ≡ files_fault_line = cc in
     let rest : lines ≡ [] = last_alone lines left (cc) in
     inl (files, fault_behind old mid new all part (added ∙ ap (λ (l : List ℕ). with_lines mid (l ∷ lines)) first ∙ ap (λ (ls : List (List ℕ)). with_lines mid (files_fault_line ∷ ls)) rest))
 
 -- after the files failed their fault is told, unless the report fails
-pub ends-fault : {T : Type 0} (before now : Counts) (report : ℕ) (old mid new : Held) (all : List (List ℕ)) (r : Result T Stop) → FilesRose before now → report ≡ before.report → SaysPart old mid all → Says mid new (files_fault_line ∷ []) r → HasSayCause report now.report r → (r ≡ Err stop.Memory → ⊥) → EndsOutside before now old new all
+pub ends-fault : {T : Type 0} (before now : Counts) (report : ℕ) (old mid new : ReportLines) (all : List (List ℕ)) (r : Result T Stop) → FilesRose before now → report ≡ before.report → SaysPart old mid all → Says mid new (files_fault_line ∷ []) r → HasSayCause report now.report r → (r ≡ Err stop.Memory → ⊥) → EndsOutside before now old new all
 ends-fault before now report old mid new all (Ok done) files same part says cause some = inl (files, fault_behind old mid new all part says)
 ends-fault before now report old mid new all (Err stop.Memory) files same part says cause some = absurd (some refl)
 ends-fault before now report old mid new all (Err stop.Files) files same part says cause some = absurd cause
@@ -45,7 +45,7 @@ ends-fault before now report old mid new all (Err stop.Report) files same part s
 -- ---- texts that are said one after the other
 
 -- the next text is the first of those that are left
-pub texts-next : (old now : Held) (all : List (List ℕ)) (k : ℕ) (texts : List (List ℕ)) (t : List ℕ) → k < length texts → t ≡ get_or texts k t → SaysUpTo old now all (drop k texts) → SaysUpTo old now all (t ∷ drop (k + 1) texts)
+pub texts-next : (old now : ReportLines) (all : List (List ℕ)) (k : ℕ) (texts : List (List ℕ)) (t : List ℕ) → k < length texts → t ≡ get_or texts k t → SaysUpTo old now all (drop k texts) → SaysUpTo old now all (t ∷ drop (k + 1) texts)
 texts-next old now all k texts t below is way =
     subst (λ (lines : List (List ℕ)). SaysUpTo old now all lines)
     (drop-cons texts k t below ∙ ap (λ (one : List ℕ). one ∷ drop (suc k) texts) (sym is) ∙ rw add-one refl) way

@@ -1,6 +1,7 @@
 //! A run, from the words of its command line to its status.
 
 ghost use Rattle.std.specs.Prelude.{◌≡◌, ℕ, IfOk};
+ghost use Rattle.mkv_io.specs.Sources.{live_files};
 ghost use Rattle.mkv_io.specs.Told.{Told};
 ghost use Rattle.mkv_lines.specs.Faults.{HasStatusCause, HasStopCause};
 ghost use Rattle.mkv_lines.specs.Ordinary.{IsOrdinary};
@@ -33,7 +34,7 @@ pub fn run<F: Files, R: Report>(
         (record { reading = F.reading_faults files.new; writing = F.writing_faults files.new; report = R.faults report.new })
         result }
     ensures names { F.names files.new ≡ F.names files.old }
-    ensures closed { (file : ℕ) → (F.files (F.standing files.new)).live file ≡ (F.files (F.standing files.old)).live file }
+    ensures closed { (file : ℕ) → (live_files F.Reads files.new).live file ≡ (live_files F.Reads files.old).live file }
 {
     match carry_out(alloc, words, files, report) {
         Ok(status) => status,
@@ -60,7 +61,7 @@ fn carry_out<F: Files, R: Report>(
         (record { reading = F.reading_faults files.new; writing = F.writing_faults files.new; report = R.faults report.new })
         result }
     ensures names { F.names files.new ≡ F.names files.old }
-    ensures closed { (file : ℕ) → (F.files (F.standing files.new)).live file ≡ (F.files (F.standing files.old)).live file }
+    ensures closed { (file : ℕ) → (live_files F.Reads files.new).live file ≡ (live_files F.Reads files.old).live file }
 {
     match read_words(alloc, words) {
         Ok(command) => obey(alloc, &command, files, report),
@@ -83,7 +84,7 @@ fn obey<F: Files, R: Report>(
         (record { reading = F.reading_faults files.new; writing = F.writing_faults files.new; report = R.faults report.new })
         result }
     ensures names { F.names files.new ≡ F.names files.old }
-    ensures closed { (file : ℕ) → (F.files (F.standing files.new)).live file ≡ (F.files (F.standing files.old)).live file }
+    ensures closed { (file : ℕ) → (live_files F.Reads files.new).live file ≡ (live_files F.Reads files.old).live file }
 {
     match command {
         Command::Help => help(alloc, report),

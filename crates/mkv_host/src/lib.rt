@@ -8,8 +8,6 @@ mod opened;
 mod real_files;
 mod real_report;
 mod system;
-#[cfg(test)]
-mod tests;
 
 pub use real_files::RealFiles;
 pub use real_report::RealReport;

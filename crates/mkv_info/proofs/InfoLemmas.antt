@@ -8,7 +8,7 @@ use Rattle.mkv_schema.specs.declared.ids.TheConstants.{TRACKS}
 use Rattle.element_reader.specs.Outline.{FileOutline, first_in, outline_in}
 use Rattle.element_reader.proofs.OutlineLemmas.{Outlines, Outlines-shown, first_in-others}
 use Rattle.mkv_lines.specs.Line.{level_0_line, level_1_line, refusal_line}
-use Rattle.mkv_lines.specs.Said.{Held, Says, SaysPart}
+use Rattle.mkv_lines.specs.Said.{ReportLines, Says, SaysPart}
 use Rattle.mkv_lines.specs.Verdict.{Reaches, Verdict, refused}
 use Rattle.mkv_lines.specs.declared.status.Status.{Status}
 use Rattle.mkv_lines.specs.declared.status.Stop.{Stop}
@@ -20,13 +20,13 @@ use Rattle.mkv_info.specs.Tracks.{file_tracks, track_lines, tracks_at}
 -- ---- the lines of the Elements
 
 -- the first line was begun
-pub elements-first : (old new : Held) (bytes : List ℕ) (o : FileOutline) (ebml : Header) → ebml ≡ o.ebml → SaysPart old new (level_0_line ebml ∷ []) → SaysPart old new (shown_lines bytes o)
+pub elements-first : (old new : ReportLines) (bytes : List ℕ) (o : FileOutline) (ebml : Header) → ebml ≡ o.ebml → SaysPart old new (level_0_line ebml ∷ []) → SaysPart old new (shown_lines bytes o)
 elements-first old new bytes o ebml is part =
     SaysPart-before old new (level_0_line o.ebml ∷ []) (level_0_line o.segment ∷ map level_1_line (segment_run bytes o.segment).list)
     (subst (λ (h : Header). SaysPart old new (level_0_line h ∷ [])) is part)
 
 -- the first line was said, and the second begun
-pub elements-second : (old mid new : Held) (bytes : List ℕ) (o : FileOutline) (ebml segment : Header) → ebml ≡ o.ebml → segment ≡ o.segment → mid ≡ with_lines old (level_0_line ebml ∷ []) → SaysPart mid new (level_0_line segment ∷ []) → SaysPart old new (shown_lines bytes o)
+pub elements-second : (old mid new : ReportLines) (bytes : List ℕ) (o : FileOutline) (ebml segment : Header) → ebml ≡ o.ebml → segment ≡ o.segment → mid ≡ with_lines old (level_0_line ebml ∷ []) → SaysPart mid new (level_0_line segment ∷ []) → SaysPart old new (shown_lines bytes o)
 elements-second old mid new bytes o ebml segment first second said part =
     SaysPart-behind old mid new (level_0_line o.ebml ∷ []) (level_0_line o.segment ∷ map level_1_line (segment_run bytes o.segment).list)
     (said ∙ ap (λ (h : Header). with_lines old (level_0_line h ∷ [])) first)
@@ -34,7 +34,7 @@ elements-second old mid new bytes o ebml segment first second said part =
     (subst (λ (h : Header). SaysPart mid new (level_0_line h ∷ [])) second part))
 
 -- both were said, and then the Elements of level 1
-pub elements-all : {T : Type 0} (old mid late new : Held) (bytes : List ℕ) (o : FileOutline) (ebml segment : Header) (list : List Header) (r : Result T Stop) → ebml ≡ o.ebml → segment ≡ o.segment → list ≡ (segment_run bytes o.segment).list → mid ≡ with_lines old (level_0_line ebml ∷ []) → late ≡ with_lines mid (level_0_line segment ∷ []) → Says late new (map level_1_line list) r → Says old new (shown_lines bytes o) r
+pub elements-all : {T : Type 0} (old mid late new : ReportLines) (bytes : List ℕ) (o : FileOutline) (ebml segment : Header) (list : List Header) (r : Result T Stop) → ebml ≡ o.ebml → segment ≡ o.segment → list ≡ (segment_run bytes o.segment).list → mid ≡ with_lines old (level_0_line ebml ∷ []) → late ≡ with_lines mid (level_0_line segment ∷ []) → Says late new (map level_1_line list) r → Says old new (shown_lines bytes o) r
 elements-all old mid late new bytes o ebml segment list r first second third said then says =
     Says-then old mid new (level_0_line o.ebml ∷ []) (level_0_line o.segment ∷ map level_1_line (segment_run bytes o.segment).list) r
     (said ∙ ap (λ (h : Header). with_lines old (level_0_line h ∷ [])) first)
@@ -63,17 +63,17 @@ verdict-is name bytes v of found tracks =
     ∙ ap (with_tracks name of.outlined) (sym (tracks ∙ shown_tracks-are bytes v of))
 
 -- nothing was said yet
-pub reaches-none : (old : Held) (name bytes : List ℕ) (why : Stop) → Reaches old old (Err why) (content_verdict name bytes)
+pub reaches-none : (old : ReportLines) (name bytes : List ℕ) (why : Stop) → Reaches old old (Err why) (content_verdict name bytes)
 reaches-none old name bytes why = SaysPart-none old (content_verdict name bytes).lines
 
 -- the tracks refuse the file
-pub reaches-refused : (old new : Held) (name bytes : List ℕ) (v : FileOutline) (found : Result (List Track) Damage) (d : Damage) (r : Result Status Stop) → outline_in 0 bytes ≡ Ok v → found ≡ tracks_at bytes (first_in TRACKS v) → found ≡ Err d → Reaches old new r (refused (refusal_line name d)) → Reaches old new r (content_verdict name bytes)
+pub reaches-refused : (old new : ReportLines) (name bytes : List ℕ) (v : FileOutline) (found : Result (List Track) Damage) (d : Damage) (r : Result Status Stop) → outline_in 0 bytes ≡ Ok v → found ≡ tracks_at bytes (first_in TRACKS v) → found ≡ Err d → Reaches old new r (refused (refusal_line name d)) → Reaches old new r (content_verdict name bytes)
 reaches-refused old new name bytes v found d r outline tracks is reaches =
     let of = Outlines-shown 0 bytes v outline in
     subst (λ (w : Verdict). Reaches old new r w) (sym (verdict-is name bytes v of found tracks ∙ ap (with_tracks name of.outlined) is)) reaches
 
 -- the list was begun
-pub reaches-part : (old new : Held) (name bytes : List ℕ) (v : FileOutline) (found : Result (List Track) Damage) (list : List Track) (why : Stop) → outline_in 0 bytes ≡ Ok v → found ≡ tracks_at bytes (first_in TRACKS v) → found ≡ Ok list → SaysPart old new (shown_lines bytes v) → Reaches old new (Err why) (content_verdict name bytes)
+pub reaches-part : (old new : ReportLines) (name bytes : List ℕ) (v : FileOutline) (found : Result (List Track) Damage) (list : List Track) (why : Stop) → outline_in 0 bytes ≡ Ok v → found ≡ tracks_at bytes (first_in TRACKS v) → found ≡ Ok list → SaysPart old new (shown_lines bytes v) → Reaches old new (Err why) (content_verdict name bytes)
 reaches-part old new name bytes v found list why outline tracks is part =
     let of = Outlines-shown 0 bytes v outline in
     let o = of.outlined in
@@ -82,7 +82,7 @@ reaches-part old new name bytes v found list why outline tracks is part =
     (SaysPart-before old new (element_lines o) (track_lines 0 list ++ warnings name o.damage) lines)
 
 -- the Elements were said, and the tracks begun
-pub reaches-second : (old mid new : Held) (name bytes : List ℕ) (v : FileOutline) (found : Result (List Track) Damage) (list : List Track) (why : Stop) → outline_in 0 bytes ≡ Ok v → found ≡ tracks_at bytes (first_in TRACKS v) → found ≡ Ok list → mid ≡ with_lines old (shown_lines bytes v) → SaysPart mid new (track_lines 0 list) → Reaches old new (Err why) (content_verdict name bytes)
+pub reaches-second : (old mid new : ReportLines) (name bytes : List ℕ) (v : FileOutline) (found : Result (List Track) Damage) (list : List Track) (why : Stop) → outline_in 0 bytes ≡ Ok v → found ≡ tracks_at bytes (first_in TRACKS v) → found ≡ Ok list → mid ≡ with_lines old (shown_lines bytes v) → SaysPart mid new (track_lines 0 list) → Reaches old new (Err why) (content_verdict name bytes)
 reaches-second old mid new name bytes v found list why outline tracks is said part =
     let of = Outlines-shown 0 bytes v outline in
     let o = of.outlined in
@@ -92,11 +92,11 @@ reaches-second old mid new name bytes v found list why outline tracks is said pa
     (SaysPart-before mid new (track_lines 0 list) (warnings name o.damage) part))
 
 -- both were said, and then the warning
-reaches-listed : (old new : Held) (name : List ℕ) (o : Outlined) (list : List Track) (r : Result Status Stop) → Says old new (element_lines o ++ (track_lines 0 list ++ warnings name o.damage)) r → IfOk r (λ s. s ≡ status_with o.damage) → Reaches old new r (listed name o list)
+reaches-listed : (old new : ReportLines) (name : List ℕ) (o : Outlined) (list : List Track) (r : Result Status Stop) → Says old new (element_lines o ++ (track_lines 0 list ++ warnings name o.damage)) r → IfOk r (λ s. s ≡ status_with o.damage) → Reaches old new r (listed name o list)
 reaches-listed old new name o list (Ok s) says status = (status, says)
 reaches-listed old new name o list (Err why) says status = says
 
-pub reaches-warned : (old mid late new : Held) (name bytes : List ℕ) (v : FileOutline) (found : Result (List Track) Damage) (list : List Track) (damage : Option Damage) (r : Result Status Stop) → outline_in 0 bytes ≡ Ok v → found ≡ tracks_at bytes (first_in TRACKS v) → found ≡ Ok list → damage ≡ v.damage → mid ≡ with_lines old (shown_lines bytes v) → late ≡ with_lines mid (track_lines 0 list) → Says late new (warnings name damage) r → IfOk r (λ s. s ≡ status_with damage) → Reaches old new r (content_verdict name bytes)
+pub reaches-warned : (old mid late new : ReportLines) (name bytes : List ℕ) (v : FileOutline) (found : Result (List Track) Damage) (list : List Track) (damage : Option Damage) (r : Result Status Stop) → outline_in 0 bytes ≡ Ok v → found ≡ tracks_at bytes (first_in TRACKS v) → found ≡ Ok list → damage ≡ v.damage → mid ≡ with_lines old (shown_lines bytes v) → late ≡ with_lines mid (track_lines 0 list) → Says late new (warnings name damage) r → IfOk r (λ s. s ≡ status_with damage) → Reaches old new r (content_verdict name bytes)
 reaches-warned old mid late new name bytes v found list damage r outline tracks is same said then says status =
     let of = Outlines-shown 0 bytes v outline in
     let o = of.outlined in

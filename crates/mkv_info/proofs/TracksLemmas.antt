@@ -11,10 +11,10 @@ use Rattle.matroska_format.specs.declared.element.Header.{Header}
 use Rattle.matroska_format.specs.Element.{damage, known}
 use Rattle.matroska_format.specs.Outline.{described, first_damage, first_refusal, is_described, limits_from, passes_count, passes_size, where_it, MOST_OF_ALL, MOST_OF_ONE}
 use Rattle.matroska_format.specs.Value.{first_of}
-use Rattle.element_reader.specs.Head.{too_large}
+use Rattle.element_reader.specs.Load.{too_large}
 use Rattle.element_reader.specs.Outline.{FileOutline, first_in, outline_in}
 use Rattle.element_reader.proofs.OutlineLemmas.{Outlines-shown, first_in-others, outline_of-limits}
-use Rattle.mkv_lines.specs.Said.{Held, SaysUpTo}
+use Rattle.mkv_lines.specs.Said.{ReportLines, SaysUpTo}
 use Rattle.track_records.specs.declared.track.Track.{Track}
 use Rattle.mkv_info.specs.Tracks.{shown_track, track_lines}
 
@@ -77,7 +77,7 @@ tracks-small bytes v h outline found =
 -- ---- the lines of tracks
 
 -- the next track's line is the first of those that are left
-pub track_lines-next : (old now : Held) (all : List (List ℕ)) (k : ℕ) (tracks : List Track) (t : Track) → k < length tracks → t ≡ get_or tracks k t → SaysUpTo old now all (track_lines k (drop k tracks)) → SaysUpTo old now all (shown_track k t ∷ track_lines (k + 1) (drop (k + 1) tracks))
+pub track_lines-next : (old now : ReportLines) (all : List (List ℕ)) (k : ℕ) (tracks : List Track) (t : Track) → k < length tracks → t ≡ get_or tracks k t → SaysUpTo old now all (track_lines k (drop k tracks)) → SaysUpTo old now all (shown_track k t ∷ track_lines (k + 1) (drop (k + 1) tracks))
 track_lines-next old now all k tracks t below is way =
     subst (λ (lines : List (List ℕ)). SaysUpTo old now all lines)
     (ap (track_lines k) (drop-cons tracks k t below) ∙ ap (λ (one : Track). shown_track k one ∷ track_lines (k + 1) (drop (suc k) tracks)) (sym is) ∙ rw add-one refl) way

@@ -1,6 +1,7 @@
 //! A file is opened, listed and closed.
 
 ghost use Rattle.std.specs.Prelude.{◌≡◌, ℕ, IfOk};
+ghost use Rattle.mkv_io.specs.Sources.{live_files};
 ghost use Rattle.mkv_io.specs.Told.{Told};
 ghost use Rattle.mkv_lines.specs.Faults.{HasStopCause};
 ghost use Rattle.mkv_lines.specs.Ordinary.{IsOrdinary};
@@ -23,7 +24,7 @@ pub fn info_of<F: Files, P: Report>(
     ensures verdict { Told (F.names files.old) (λ world. Reaches (P.lines report.old) (P.lines report.new) result (info_verdict name.now (world name.now))) }
     ensures ordinary { IfOk result IsOrdinary }
     ensures names { F.names files.new ≡ F.names files.old }
-    ensures live { (file : ℕ) → (F.files (F.standing files.new)).live file ≡ (F.files (F.standing files.old)).live file }
+    ensures live { (file : ℕ) → (live_files F.Reads files.new).live file ≡ (live_files F.Reads files.old).live file }
     ensures cause { HasStopCause
         (record { reading = F.reading_faults files.old; writing = F.writing_faults files.old; report = P.faults report.old })
         (record { reading = F.reading_faults files.new; writing = F.writing_faults files.new; report = P.faults report.new })

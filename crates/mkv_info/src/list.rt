@@ -2,9 +2,9 @@
 
 ghost use Rattle.std.specs.Prelude.{◌≡◌, ◌++◌, ◌∷◌, [], ℕ, List, Ok, length, map, IfOk, IsTrue};
 ghost use Rattle.mkv_io.specs.Faults.{HasRisen};
-ghost use Rattle.mkv_io.specs.Told.{Told};
+ghost use Rattle.mkv_io.specs.Sources.{IfTold, IsLive, file_size, live_files};
 ghost use Rattle.matroska_format.specs.Outline.{outline_of};
-ghost use Rattle.element_reader.specs.LevelOne.{IsIn, left};
+ghost use Rattle.element_reader.specs.LevelOne.{CanRead, left};
 ghost use Rattle.element_reader.specs.Outline.{outline_in};
 ghost use Rattle.mkv_lines.specs.Faults.{HasReadStop};
 ghost use Rattle.mkv_lines.specs.Line.{level_1_line};
@@ -29,8 +29,8 @@ pub fn list_file<R: Reads, P: Report>(
     file: FileId,
     report: &mut P,
 ) -> Result<Status, Stop>
-    requires { IsTrue ((R.files (R.standing src.old)).live file.n) }
-    ensures verdict { Told ((R.files (R.standing src.old)).content file.n) (λ bytes. Reaches (P.lines report.old) (P.lines report.new) result (content_verdict name.now bytes)) }
+    requires { IsLive R.Reads src.old file }
+    ensures verdict { IfTold R.Reads src.old file (λ bytes. Reaches (P.lines report.old) (P.lines report.new) result (content_verdict name.now bytes)) }
     ensures ordinary { IfOk result IsOrdinary }
     ensures standing { R.standing src.new ≡ R.standing src.old }
     ensures cause { HasReadStop (R.reading_faults src.old) (R.reading_faults src.new) (P.faults report.old) (P.faults report.new) result }
@@ -55,9 +55,9 @@ fn list_outline<R: Reads, P: Report>(
     file: FileId,
     report: &mut P,
 ) -> Result<Status, Stop>
-    requires live { IsTrue ((R.files (R.standing src.old)).live file.n) }
-    requires whole { outline.now.total ≡ (R.files (R.standing src.old)).size file.n }
-    ensures verdict { Told ((R.files (R.standing src.old)).content file.n) (λ bytes.
+    requires live { IsLive R.Reads src.old file }
+    requires whole { outline.now.total ≡ file_size R.Reads src.old file }
+    ensures verdict { IfTold R.Reads src.old file (λ bytes.
         outline_in 0 bytes ≡ Ok outline.now → Reaches (P.lines report.old) (P.lines report.new) result (content_verdict name.now bytes)) }
     ensures ordinary { IfOk result IsOrdinary }
     ensures standing { R.standing src.new ≡ R.standing src.old }
@@ -84,9 +84,9 @@ fn say_elements<R: Reads, P: Report>(
     file: FileId,
     report: &mut P,
 ) -> Result<(), Stop>
-    requires live { IsTrue ((R.files (R.standing src.old)).live file.n) }
-    requires whole { outline.now.total ≡ (R.files (R.standing src.old)).size file.n }
-    ensures said { Told ((R.files (R.standing src.old)).content file.n) (λ bytes. Says (P.lines report.old) (P.lines report.new) (shown_lines bytes outline.now) result) }
+    requires live { IsLive R.Reads src.old file }
+    requires whole { outline.now.total ≡ file_size R.Reads src.old file }
+    ensures said { IfTold R.Reads src.old file (λ bytes. Says (P.lines report.old) (P.lines report.new) (shown_lines bytes outline.now) result) }
     ensures standing { R.standing src.new ≡ R.standing src.old }
     ensures cause { HasReadStop (R.reading_faults src.old) (R.reading_faults src.new) (P.faults report.old) (P.faults report.new) result }
 {
@@ -103,8 +103,8 @@ fn say_level_1<R: Reads, P: Report>(
     src: &mut R,
     report: &mut P,
 ) -> Result<(), Stop>
-    requires { IsIn (R.files (R.standing src.old)) elements.old }
-    ensures said { Told ((R.files (R.standing src.old)).content elements.old.file.n) (λ bytes. Says (P.lines report.old) (P.lines report.new) (map level_1_line (left bytes elements.old)) result) }
+    requires { CanRead (live_files R.Reads src.old) elements.old }
+    ensures said { IfTold R.Reads src.old elements.old.file (λ bytes. Says (P.lines report.old) (P.lines report.new) (map level_1_line (left bytes elements.old)) result) }
     ensures standing { R.standing src.new ≡ R.standing src.old }
     ensures cause { HasReadStop (R.reading_faults src.old) (R.reading_faults src.new) (P.faults report.old) (P.faults report.new) result }
 {

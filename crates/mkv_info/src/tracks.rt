@@ -2,8 +2,8 @@
 
 ghost use Rattle.std.specs.Prelude.{◌≡◌, ◌+◌, ◌^◌, ◌≤◌, ℕ, List, Ok, length, IfErr, IfOk, IsTrue};
 ghost use Rattle.mkv_schema.specs.declared.ids.TheConstants.{TRACKS as TRACKS_ID};
-ghost use Rattle.mkv_io.specs.Faults.{HasReadCause};
-ghost use Rattle.mkv_io.specs.Told.{Told};
+ghost use Rattle.mkv_io.specs.Faults.{HasCause, is_read_fault};
+ghost use Rattle.mkv_io.specs.Sources.{IfTold, IsLive, file_size};
 ghost use Rattle.element_reader.specs.Outline.{first_in, outline_in};
 ghost use Rattle.mkv_lines.specs.Said.{HasSayCause, Says};
 ghost use Rattle.mkv_lines.specs.Line.{text_of};
@@ -29,12 +29,12 @@ pub fn tracks_of<R: Reads>(
     src: &mut R,
     file: FileId,
 ) -> Result<Result<List<Track>, Damage>, ReadEnd>
-    requires live { IsTrue ((R.files (R.standing src.old)).live file.n) }
-    requires whole { outline.now.total ≡ (R.files (R.standing src.old)).size file.n }
-    ensures ok { IfOk result (λ found. Told ((R.files (R.standing src.old)).content file.n) (λ bytes.
+    requires live { IsLive R.Reads src.old file }
+    requires whole { outline.now.total ≡ file_size R.Reads src.old file }
+    ensures ok { IfOk result (λ found. IfTold R.Reads src.old file (λ bytes.
         outline_in 0 bytes ≡ Ok outline.now → found ≡ tracks_at bytes (first_in TRACKS_ID outline.now))) }
     ensures standing { R.standing src.new ≡ R.standing src.old }
-    ensures cause { HasReadCause (R.reading_faults src.old) (R.reading_faults src.new) result }
+    ensures cause { HasCause is_read_fault (R.reading_faults src.old) (R.reading_faults src.new) result }
 {
     let Some(header) = outline.first(TRACKS) else {
         return Ok(Ok(List::new(alloc)));

@@ -1,5 +1,5 @@
 -- How often the outside failed: a count that never falls, and stands still at 2^64 - 1.
-use Rattle.std.specs.Prelude.{◌≡◌, ℕ, ◌+◌, ◌-◌, ◌^◌, ◌≤◌, min, Result, Ok, Err}
+use Rattle.std.specs.Prelude.{◌≡◌, ℕ, ◌+◌, ◌-◌, ◌^◌, ◌≤◌, min, Bool, true, false, MatchBool, Result, Ok, Err}
 use Rattle.mkv_values.specs.declared.outside.Failed.{Failed}
 use Rattle.mkv_values.specs.declared.outside.OpenFault.{OpenFault}
 use Rattle.mkv_values.specs.declared.outside.OpenFault.TheVariants as open_fault
@@ -25,26 +25,30 @@ pub record HasRisen (before now : ℕ) : Type 0 where
   pub later : before ≤ now
   pub rose : Rose before now
 
--- A refusal for a fault comes only where the count rose; every other answer leaves the count.
-abbrev pub HasCause : {T : Type 0} → ℕ → ℕ → Result T Failed → Type 0
-HasCause before now (Ok _) = now ≡ before
-HasCause before now (Err _) = HasRisen before now
+-- A fault is told only where its count rose, and every other answer leaves the count. The test says which
+-- refusals tell one.
+abbrev pub HasCause : {T E : Type 0} → (E → Bool) → ℕ → ℕ → Result T E → Type 0
+HasCause is_fault before now (Ok _) = now ≡ before
+HasCause is_fault before now (Err e) = MatchBool (is_fault e) (HasRisen before now) (now ≡ before)
 
--- the same where a file is opened
-abbrev pub HasOpenCause : {T : Type 0} → ℕ → ℕ → Result T OpenFault → Type 0
-HasOpenCause before now (Ok _) = now ≡ before
-HasOpenCause before now (Err open_fault.Missing) = now ≡ before
-HasOpenCause before now (Err open_fault.Failed) = HasRisen before now
-HasOpenCause before now (Err open_fault.Memory) = now ≡ before
+-- ---- the refusals that tell a fault
 
--- the same where a file is made or grows
-abbrev pub HasMakeCause : {T : Type 0} → ℕ → ℕ → Result T MakeFault → Type 0
-HasMakeCause before now (Ok _) = now ≡ before
-HasMakeCause before now (Err make_fault.Failed) = HasRisen before now
-HasMakeCause before now (Err make_fault.Memory) = now ≡ before
+-- of a call that has no other
+abbrev pub is_failure : Failed → Bool
+is_failure failed = true
 
--- the same of a call that reads and takes memory
-abbrev pub HasReadCause : {T : Type 0} → ℕ → ℕ → Result T ReadEnd → Type 0
-HasReadCause before now (Ok _) = now ≡ before
-HasReadCause before now (Err read_end.ReadFault) = HasRisen before now
-HasReadCause before now (Err read_end.Memory) = now ≡ before
+-- of one that opens a file
+abbrev pub is_open_failure : OpenFault → Bool
+is_open_failure open_fault.Missing = false
+is_open_failure open_fault.Failed = true
+is_open_failure open_fault.Memory = false
+
+-- of one that makes a file or adds to it
+abbrev pub is_make_failure : MakeFault → Bool
+is_make_failure make_fault.Failed = true
+is_make_failure make_fault.Memory = false
+
+-- of one that reads and takes memory
+abbrev pub is_read_fault : ReadEnd → Bool
+is_read_fault read_end.ReadFault = true
+is_read_fault read_end.Memory = false

@@ -3,4 +3,5 @@ pub mod Faults
 pub mod Lines
 pub mod LiveFiles
 pub mod Names
+pub mod Sources
 pub mod Told

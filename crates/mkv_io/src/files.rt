@@ -1,7 +1,7 @@
 //! Files that are opened by name, made, and written.
 
 ghost use Rattle.std.specs.Prelude.{◌≡◌, ◌≢◌, ◌⊎◌, ◌↔◌, ℕ, ◌+◌, ◌<◌, ◌≤◌, ◌^◌, Bool, true, false, List, [], length, Option, Some, None, OnOk, OnErr, IfOk, IsErrOf, IsTrue};
-ghost use Rattle.mkv_io.specs.Faults.{HasCause, HasMakeCause, HasOpenCause, last_count};
+ghost use Rattle.mkv_io.specs.Faults.{HasCause, is_failure, is_make_failure, is_open_failure, last_count};
 ghost use Rattle.mkv_io.specs.LiveFiles.{Appends, AppendsPart, KeepsFiles, KeepsHolders, Overwrites, OverwritesWithin};
 ghost use Rattle.mkv_io.specs.Names.{Names, with_change, with_content};
 ghost use Rattle.mkv_io.specs.Told.{Told};
@@ -42,7 +42,7 @@ pub trait Files: Reads {
         ensures others { KeepsFiles (Self.files (Self.standing self.old)) (Self.files (Self.standing self.new)) (λ file. file < given self.old) }
         ensures holders { KeepsHolders (Self.files (Self.standing self.old)).live (holder self.old) (holder self.new) }
 
-        ensures cause { HasOpenCause (Self.reading_faults self.old) (Self.reading_faults self.new) result }
+        ensures cause { HasCause is_open_failure (Self.reading_faults self.old) (Self.reading_faults self.new) result }
         ensures writing { writing_faults self.new ≡ writing_faults self.old }
         ensures octets { Self.octets_read self.new ≡ Self.octets_read self.old };
 
@@ -67,7 +67,7 @@ pub trait Files: Reads {
         ensures others { KeepsFiles (Self.files (Self.standing self.old)) (Self.files (Self.standing self.new)) (λ file. (file < given self.old) × (holder self.old file ≢ name.now)) }
         ensures holders { KeepsHolders (Self.files (Self.standing self.old)).live (holder self.old) (holder self.new) }
 
-        ensures cause { HasMakeCause (writing_faults self.old) (writing_faults self.new) result }
+        ensures cause { HasCause is_make_failure (writing_faults self.old) (writing_faults self.new) result }
         ensures reading { Self.reading_faults self.new ≡ Self.reading_faults self.old }
         ensures octets { Self.octets_read self.new ≡ Self.octets_read self.old };
 
@@ -87,7 +87,7 @@ pub trait Files: Reads {
         ensures others { KeepsFiles (Self.files (Self.standing self.old)) (Self.files (Self.standing self.new)) (λ other. holder self.old other ≢ holder self.old file.n) }
         ensures holders { KeepsHolders (Self.files (Self.standing self.old)).live (holder self.old) (holder self.new) }
 
-        ensures cause { HasMakeCause (writing_faults self.old) (writing_faults self.new) result }
+        ensures cause { HasCause is_make_failure (writing_faults self.old) (writing_faults self.new) result }
         ensures reading { Self.reading_faults self.new ≡ Self.reading_faults self.old }
         ensures octets { Self.octets_read self.new ≡ Self.octets_read self.old };
 
@@ -105,7 +105,7 @@ pub trait Files: Reads {
         ensures others { KeepsFiles (Self.files (Self.standing self.old)) (Self.files (Self.standing self.new)) (λ other. holder self.old other ≢ holder self.old file.n) }
         ensures holders { KeepsHolders (Self.files (Self.standing self.old)).live (holder self.old) (holder self.new) }
 
-        ensures cause { HasCause (writing_faults self.old) (writing_faults self.new) result }
+        ensures cause { HasCause is_failure (writing_faults self.old) (writing_faults self.new) result }
         ensures reading { Self.reading_faults self.new ≡ Self.reading_faults self.old }
         ensures octets { Self.octets_read self.new ≡ Self.octets_read self.old };
 

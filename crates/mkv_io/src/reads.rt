@@ -2,7 +2,7 @@
 
 ghost use Rattle.std.specs.Prelude.{◌≡◌, ℕ, ◌+◌, ◌≤◌, ◌^◌, Bool, true, List, length, Option, OnOk, IsTrue};
 ghost use Rattle.mkv_io.specs.Contents.{octets_from};
-ghost use Rattle.mkv_io.specs.Faults.{HasCause, counted};
+ghost use Rattle.mkv_io.specs.Faults.{HasCause, counted, is_failure};
 ghost use Rattle.mkv_io.specs.LiveFiles.{LiveFiles};
 ghost use Rattle.mkv_io.specs.Told.{Told};
 
@@ -40,7 +40,7 @@ pub trait Reads {
         requires range { at + length into.old ≤ (files (standing self.old)).size file.n }
         ensures standing { standing self.new ≡ standing self.old }
         ensures ok { OnOk result (Told ((files (standing self.old)).content file.n) (λ bytes. into.new ≡ octets_from bytes at (length into.old))) }
-        ensures cause { HasCause (reading_faults self.old) (reading_faults self.new) result }
+        ensures cause { HasCause is_failure (reading_faults self.old) (reading_faults self.new) result }
 
         // The count of octets never falls, and rises by what was asked for where the content is told.
         ensures octets_least { octets_read self.old ≤ octets_read self.new }

@@ -1,7 +1,7 @@
 //! Lines that are told to the user.
 
 ghost use Rattle.std.specs.Prelude.{◌≡◌, ◌⊎◌, ℕ, List, ◌∷◌, [], Option, OnOk, OnErr};
-ghost use Rattle.mkv_io.specs.Faults.{HasCause};
+ghost use Rattle.mkv_io.specs.Faults.{HasCause, is_failure};
 ghost use Rattle.mkv_io.specs.Lines.{with_lines};
 
 use mkv_values::Failed;
@@ -18,5 +18,5 @@ pub trait Report {
     fn say(&mut self, line: &str) -> Result<(), Failed>
         ensures ok { OnOk result (lines self.new ≡ with_lines (lines self.old) (line.now ∷ [])) }
         ensures err { OnErr result ((lines self.new ≡ lines self.old) ⊎ (lines self.new ≡ with_lines (lines self.old) (line.now ∷ []))) }
-        ensures cause { HasCause (faults self.old) (faults self.new) result };
+        ensures cause { HasCause is_failure (faults self.old) (faults self.new) result };
 }

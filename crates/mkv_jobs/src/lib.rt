@@ -7,6 +7,3 @@ mod job;
 
 pub use edit::{Change, Edit, Selector};
 pub use job::{Form, Job, Target};
-
-#[cfg(test)]
-mod tests;

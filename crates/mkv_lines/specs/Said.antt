@@ -6,24 +6,24 @@ use Rattle.mkv_lines.specs.declared.status.Stop.{Stop}
 use Rattle.mkv_lines.specs.declared.status.Stop.TheVariants as stop
 
 -- what a report holds
-abbrev pub Held : Type 0
-Held = Option (List (List ℕ))
+abbrev pub ReportLines : Type 0
+ReportLines = Option (List (List ℕ))
 
 -- The first of these lines, as many as were said, were added.
-pub record SaysPart (old new : Held) (all : List (List ℕ)) : Type 0 where
+pub record SaysPart (old new : ReportLines) (all : List (List ℕ)) : Type 0 where
   pub said : List (List ℕ)
   pub left : List (List ℕ)
   pub whole : all ≡ said ++ left
   pub added : new ≡ with_lines old said
 
 -- Of all the lines those up to what is left were added.
-pub record SaysUpTo (old new : Held) (all left : List (List ℕ)) : Type 0 where
+pub record SaysUpTo (old new : ReportLines) (all left : List (List ℕ)) : Type 0 where
   pub said : List (List ℕ)
   pub whole : all ≡ said ++ left
   pub added : new ≡ with_lines old said
 
 -- These lines were added, or a first part of them where the call stopped.
-abbrev pub Says : {T : Type 0} → Held → Held → List (List ℕ) → Result T Stop → Type 0
+abbrev pub Says : {T : Type 0} → ReportLines → ReportLines → List (List ℕ) → Result T Stop → Type 0
 Says old new all (Ok _) = new ≡ with_lines old all
 Says old new all (Err _) = SaysPart old new all
 

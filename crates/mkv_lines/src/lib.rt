@@ -11,6 +11,3 @@ pub use line::Line;
 pub use saying::{say, say_files_fault, say_text};
 pub use shown::ShownTrack;
 pub use status::{Status, Stop};
-
-#[cfg(test)]
-mod tests;

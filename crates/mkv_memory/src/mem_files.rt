@@ -3,7 +3,7 @@
 ghost use Rattle.std.specs.Prelude.{◌≡◌, ℕ, ◌+◌, ◌-◌, ◌≤◌, ◌^◌, List, length, Option, Some, None, min, option_map, OnOk, OnErr, IsOkAnd, IsTrue};
 ghost use Rattle.std.specs.BTreeMap.{get};
 ghost use Rattle.std.specs.Ordering.{nat_cmp};
-ghost use Rattle.mkv_io.specs.Faults.{last_count};
+ghost use Rattle.mkv_io.specs.Faults.{HasCause, is_failure, is_make_failure, is_open_failure, last_count};
 
 use crate::store::Store;
 use mkv_io::{Files, Reads};
@@ -99,7 +99,7 @@ fn kept_of(len: usize, kept: u64) -> usize
 
 impl Reads for MemFiles {
     ghost use Rattle.std.specs.Prelude.{ℕ};
-    ghost use Rattle.mkv_io.specs.Faults.{HasCause};
+    ghost use Rattle.mkv_io.specs.Faults.{HasCause, is_failure, is_make_failure, is_open_failure};
     ghost use Rattle.mkv_memory.specs.SeenFiles.{ReadsAt};
     ghost use Rattle.mkv_memory.specs.FilesIn.{seen};
     ghost use Rattle.mkv_memory.specs.Held.{Held, files_of, content_of_file, name_of_file, size-of_told, short-of_names};
@@ -127,7 +127,7 @@ impl Reads for MemFiles {
         requires live { IsTrue ((files_of (seen self.old).held).live file.n) }
         requires range { at + length into.old ≤ (files_of (seen self.old).held).size file.n }
         ensures exact { ReadsAt (seen self.old) file.n at into.old into.new result (seen self.new) }
-        ensures cause { HasCause (seen self.old).reading_faults (seen self.new).reading_faults result }
+        ensures cause { HasCause is_failure (seen self.old).reading_faults (seen self.new).reading_faults result }
         ensures octets_least { (seen self.old).octets_read ≤ (seen self.new).octets_read }
     {
         if self.next_failure().is_some() {
@@ -144,7 +144,7 @@ impl Reads for MemFiles {
 impl Files for MemFiles {
     ghost use Rattle.std.specs.Prelude.{Some, length, ℕ};
     ghost use Rattle.std.proofs.Common.{ap};
-    ghost use Rattle.mkv_io.specs.Faults.{HasCause, HasMakeCause, HasOpenCause};
+    ghost use Rattle.mkv_io.specs.Faults.{HasCause, is_failure, is_make_failure, is_open_failure};
     ghost use Rattle.mkv_memory.specs.SeenFiles.{AppendsTo, ClosesFile, CreatesName, OpensName, OverwritesIn};
     ghost use Rattle.mkv_memory.specs.FilesIn.{seen};
     ghost use Rattle.mkv_memory.specs.Held.{Held, files_of, holder_of, name_of_file, held-told, numbered-live};
@@ -174,7 +174,7 @@ impl Files for MemFiles {
 
     fn open_file(&mut self, name: &str) -> Result<FileId, OpenFault>
         ensures exact { OpensName (seen self.old) name.now result (seen self.new) }
-        ensures cause { HasOpenCause (seen self.old).reading_faults (seen self.new).reading_faults result }
+        ensures cause { HasCause is_open_failure (seen self.old).reading_faults (seen self.new).reading_faults result }
     {
         let failure = self.next_failure();
         if self.store.content(name).is_none() {
@@ -189,7 +189,7 @@ impl Files for MemFiles {
 
     fn create(&mut self, name: &str) -> Result<FileId, MakeFault>
         ensures exact { CreatesName (seen self.old) name.now result (seen self.new) }
-        ensures cause { HasMakeCause (seen self.old).writing_faults (seen self.new).writing_faults result }
+        ensures cause { HasCause is_make_failure (seen self.old).writing_faults (seen self.new).writing_faults result }
     {
         let failure = self.next_failure();
         if failure.is_some() || self.store.is_full() {
@@ -202,7 +202,7 @@ impl Files for MemFiles {
     fn append(&mut self, file: FileId, bytes: &[u8]) -> Result<(), MakeFault>
         requires { IsTrue ((files_of (seen self.old).held).live file.n) }
         ensures exact { AppendsTo (seen self.old) file.n bytes.now result (seen self.new) }
-        ensures cause { HasMakeCause (seen self.old).writing_faults (seen self.new).writing_faults result }
+        ensures cause { HasCause is_make_failure (seen self.old).writing_faults (seen self.new).writing_faults result }
     {
         let failure = self.next_failure();
         if bytes.len() as u64 > LONGEST - self.size(file) {
@@ -224,7 +224,7 @@ impl Files for MemFiles {
         requires live { IsTrue ((files_of (seen self.old).held).live file.n) }
         requires range { at + length bytes.now ≤ (files_of (seen self.old).held).size file.n }
         ensures exact { OverwritesIn (seen self.old) file.n at bytes.now result (seen self.new) }
-        ensures cause { HasCause (seen self.old).writing_faults (seen self.new).writing_faults result }
+        ensures cause { HasCause is_failure (seen self.old).writing_faults (seen self.new).writing_faults result }
     {
         if self.next_failure().is_some() {
             self.writing_faults = self.writing_faults.saturating_add(1);

@@ -85,7 +85,7 @@ impl MemReport {
 
 impl Report for MemReport {
     ghost use Rattle.std.specs.Prelude.{Some};
-    ghost use Rattle.mkv_io.specs.Faults.{HasCause};
+    ghost use Rattle.mkv_io.specs.Faults.{HasCause, is_failure};
     ghost use Rattle.mkv_memory.specs.SeenReport.{SaysLine};
     ghost use Rattle.mkv_memory.specs.ReportIn.{seen};
 
@@ -95,7 +95,7 @@ impl Report for MemReport {
 
     fn say(&mut self, line: &str) -> Result<(), Failed>
         ensures exact { SaysLine (seen self.old) line.now result (seen self.new) }
-        ensures cause { HasCause (seen self.old).faults (seen self.new).faults result }
+        ensures cause { HasCause is_failure (seen self.old).faults (seen self.new).faults result }
     {
         let is_to_fail = self.failing.contains(&self.calls);
         self.calls = self.calls.saturating_add(1);

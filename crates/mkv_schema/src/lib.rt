@@ -9,8 +9,6 @@ mod kind;
 mod place;
 mod schema;
 mod table;
-#[cfg(test)]
-mod tests;
 
 pub use kind::{ElementKind, Row};
 pub use schema::{is_level0, is_level1, is_master, may_stand, row, text_default, uint_default};

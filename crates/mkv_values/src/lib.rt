@@ -12,6 +12,3 @@ pub use damage::{Damage, Kind};
 pub use list::List;
 pub use octets::{Bytes, Text};
 pub use outside::{Failed, FileId, MakeFault, OpenFault, ReadEnd};
-
-#[cfg(test)]
-mod tests;

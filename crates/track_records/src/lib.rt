@@ -13,6 +13,3 @@ mod tracks;
 pub use encoding::usable;
 pub use track::Track;
 pub use tracks::read_tracks;
-
-#[cfg(test)]
-mod tests;

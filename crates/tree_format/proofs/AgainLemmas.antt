@@ -22,7 +22,7 @@ use Rattle.matroska_format.specs.declared.element.Header.{Header}
 use Rattle.matroska_format.specs.Element.{in_tree, element_in, id_in, with_id, with_size, with_body, body_damage, display_read, stated_end}
 use Rattle.tree_format.specs.Node.{Node, Nodes, leaf, master, none, node, list_of, IsMaster, count, count_all, depth_all, deepest}
 use Rattle.tree_format.specs.NormalForm.{is_filler, header_octets, element_octets, octets, octets_all, longest}
-use Rattle.tree_format.specs.Reading.{Grove, header_at, inside, behind, is_master_in, and_then, as_master, grown, in_front, first_then, grove, as_root}
+use Rattle.tree_format.specs.Reading.{Grove, header_at, inside, behind, is_master_in, and_then, as_master, grown, with_first, first_then, grove, as_root}
 use Rattle.tree_format.specs.Standing.{IsLeafIn, AllStandIn, IsSound, KeepsLimits, IsReadAgain, kept, kept_all, placed_all}
 use Rattle.tree_format.proofs.NodeLemmas.{nodes-list}
 use Rattle.tree_format.proofs.ReadingLemmas.{grove-more, grove-end}
@@ -134,7 +134,7 @@ some-header id size rest small =
 
 -- An Element is read, and then what is behind it.
 pub grove-again : (room left parent p id : ℕ) (body rest : List ℕ) → IsReadIn parent id → length body ≤ longest
-    → grove room left parent p (element_octets id body ++ rest) ≡ and_then (grown grove room left parent (header_of p id (length body)) body) (λ g. and_then (grove room g.left parent (p + length (element_octets id body)) rest) (in_front g.tree))
+    → grove room left parent p (element_octets id body ++ rest) ≡ and_then (grown grove room left parent (header_of p id (length body)) body) (λ g. and_then (grove room g.left parent (p + length (element_octets id body)) rest) (with_first g.tree))
 grove-again room left parent p id body rest reads small =
     let h : Header = header_of p id (length body) in
     let octets : List ℕ = element_octets id body ++ rest in
@@ -144,8 +144,8 @@ grove-again room left parent p id body rest reads small =
     let end : stated_end h ≡ p + length (element_octets id body) = omega (arith, length-append (header_octets id (length body)) body) in
     grove-more room left parent p octets some
     ∙ ap (λ r. and_then r (first_then grove room left parent p octets)) (header_at-again parent p id body rest reads small)
-    ∙ ap (λ b. and_then (grown grove room left parent h b) (λ g. and_then (grove room g.left parent (stated_end h) (behind p h octets)) (in_front g.tree))) (inside-again p id body rest)
-    ∙ ap₂ (λ q o. and_then (grown grove room left parent h body) (λ g. and_then (grove room g.left parent q o) (in_front g.tree))) end (behind-again p id body rest)
+    ∙ ap (λ b. and_then (grown grove room left parent h b) (λ g. and_then (grove room g.left parent (stated_end h) (behind p h octets)) (with_first g.tree))) (inside-again p id body rest)
+    ∙ ap₂ (λ q o. and_then (grown grove room left parent h body) (λ g. and_then (grove room g.left parent q o) (with_first g.tree))) end (behind-again p id body rest)
 
 -- ---- trees in front of others
 
@@ -184,7 +184,7 @@ master-reads parent id is = split (id == CHAPTER_DISPLAY) refl
 abbrev pub read_as : Nodes → ℕ → Result Grove Damage
 read_as ns left = Ok (record { trees = list_of ns; left = left })
 
-front-placed : (n : Node) (ns : Nodes) (left : ℕ) → and_then (read_as ns left) (in_front n) ≡ read_as (node n ns) left
+front-placed : (n : Node) (ns : Nodes) (left : ℕ) → and_then (read_as ns left) (with_first n) ≡ read_as (node n ns) left
 front-placed n ns left = refl
 
 -- what a reader finds of trees at the front of a body, with the trees behind them already known
@@ -202,9 +202,9 @@ leaf-again room parent left p id at body ns stands keeps follows small enough =
     let some : (left == 0) ≡ false = grind (arith, nat_tests) in
     let rest : left - 1 - kept_all ns ≡ left - (1 + kept_all ns) = omega arith in
     grove-again room left parent p id body (octets_all ns) (inl stands.id_stands) (omega arith)
-    ∙ ap (λ r. and_then r (λ g. and_then (grove room g.left parent (p + length (element_octets id body)) (octets_all ns)) (in_front g.tree)))
+    ∙ ap (λ r. and_then r (λ g. and_then (grove room g.left parent (p + length (element_octets id body)) (octets_all ns)) (with_first g.tree)))
     (leaf-grown some)
-    ∙ ap (λ r. and_then r (in_front (leaf id p body))) (follows (left - 1) (p + length (element_octets id body)) (omega arith) (omega arith))
+    ∙ ap (λ r. and_then r (with_first (leaf id p body))) (follows (left - 1) (p + length (element_octets id body)) (omega arith) (omega arith))
     ∙ ap (λ k. read_as (node (leaf id p body) (placed_all (p + length (element_octets id body)) ns)) k) rest
   where
     leaf-grown : (left == 0) ≡ false → grown grove room left parent (header_of p id (length body)) body ≡ Ok (record { tree = leaf id p body; left = left - 1 })
@@ -223,9 +223,9 @@ master-again room parent left p id at kids ns stands deep inner follows small en
     let more : (room == 0) ≡ false = grind (arith, nat_tests) in
     let rest : left - 1 - kept_all kids - kept_all ns ≡ left - (kept_all kids + 1 + kept_all ns) = omega arith in
     grove-again room left parent p id (octets_all kids) (octets_all ns) (master-reads parent id stands) (omega arith)
-    ∙ ap (λ r. and_then r (λ g. and_then (grove room g.left parent (p + length (element_octets id (octets_all kids))) (octets_all ns)) (in_front g.tree)))
+    ∙ ap (λ r. and_then r (λ g. and_then (grove room g.left parent (p + length (element_octets id (octets_all kids))) (octets_all ns)) (with_first g.tree)))
     (master-grown some more (inner (left - 1) (p + length (header_octets id (length (octets_all kids)))) (omega arith) (omega arith)))
-    ∙ ap (λ r. and_then r (in_front (master id p (placed_all (p + length (header_octets id (length (octets_all kids)))) kids)))) (follows (left - 1 - kept_all kids) (p + length (element_octets id (octets_all kids))) (omega arith) (omega arith))
+    ∙ ap (λ r. and_then r (with_first (master id p (placed_all (p + length (header_octets id (length (octets_all kids)))) kids)))) (follows (left - 1 - kept_all kids) (p + length (element_octets id (octets_all kids))) (omega arith) (omega arith))
     ∙ ap (λ k. read_as (node (master id p (placed_all (p + length (header_octets id (length (octets_all kids)))) kids)) (placed_all (p + length (element_octets id (octets_all kids))) ns)) k) rest
   where
     master-grown : (left == 0) ≡ false → (room == 0) ≡ false

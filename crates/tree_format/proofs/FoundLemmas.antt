@@ -13,7 +13,7 @@ use Rattle.matroska_format.specs.declared.element.Header.{Header}
 use Rattle.matroska_format.specs.Element.{in_tree, element_in, id_in, with_id, display_read, stated_end}
 use Rattle.matroska_format.specs.Value.{is_known_value}
 use Rattle.tree_format.specs.Node.{Node, leaf, master, nodes_of, id_of, IsMaster, count, count_all, deepest}
-use Rattle.tree_format.specs.Reading.{Grove, Grown, header_at, inside, behind, is_master_in, refused, and_then, as_master, grown, in_front, first_then, grove, as_root, tree_of}
+use Rattle.tree_format.specs.Reading.{Grove, Grown, header_at, inside, behind, is_master_in, refused, and_then, as_master, grown, with_first, first_then, grove, as_root, tree_of}
 use Rattle.tree_format.specs.Standing.{StandsIn, AllStandIn, IsSound, KeepsLimits, IsReadAgain}
 use Rattle.tree_format.proofs.ReadingLemmas.{grove-more, grove-end, header_at-fits, length-inside, length-behind, id-of-size}
 use Rattle.tree_format.proofs.AgainLemmas.{IsReadIn, display-parent, sound-again, kept-le}
@@ -117,8 +117,8 @@ grove-stands_within (suc n) room left parent p (o ∷ octets) g few bytes is =
     let head = and_then-ok (header_at parent p (o ∷ octets)) (first_then grove room left parent p (o ∷ octets)) g more in
     let h : Header = head.0 in
     let fits = header_at-fits parent p (o ∷ octets) h head.1.0 in
-    let element = and_then-ok (grown grove room left parent h (inside p h (o ∷ octets))) (λ x. and_then (grove room x.left parent (stated_end h) (behind p h (o ∷ octets))) (in_front x.tree)) g head.1.1 in
-    let others = and_then-ok (grove room element.0.left parent (stated_end h) (behind p h (o ∷ octets))) (in_front element.0.tree) g element.1.1 in
+    let element = and_then-ok (grown grove room left parent h (inside p h (o ∷ octets))) (λ x. and_then (grove room x.left parent (stated_end h) (behind p h (o ∷ octets))) (with_first x.tree)) g head.1.1 in
+    let others = and_then-ok (grove room element.0.left parent (stated_end h) (behind p h (o ∷ octets))) (with_first element.0.tree) g element.1.1 in
     let within = length-inside p (o ∷ octets) h fits in
     let after = length-behind p (o ∷ octets) h fits in
     let first : StandsIn parent element.0.tree =
@@ -186,8 +186,8 @@ grove-count_within (suc n) room left parent p (o ∷ octets) g few is =
     let head = and_then-ok (header_at parent p (o ∷ octets)) (first_then grove room left parent p (o ∷ octets)) g more in
     let h : Header = head.0 in
     let fits = header_at-fits parent p (o ∷ octets) h head.1.0 in
-    let element = and_then-ok (grown grove room left parent h (inside p h (o ∷ octets))) (λ x. and_then (grove room x.left parent (stated_end h) (behind p h (o ∷ octets))) (in_front x.tree)) g head.1.1 in
-    let others = and_then-ok (grove room element.0.left parent (stated_end h) (behind p h (o ∷ octets))) (in_front element.0.tree) g element.1.1 in
+    let element = and_then-ok (grown grove room left parent h (inside p h (o ∷ octets))) (λ x. and_then (grove room x.left parent (stated_end h) (behind p h (o ∷ octets))) (with_first x.tree)) g head.1.1 in
+    let others = and_then-ok (grove room element.0.left parent (stated_end h) (behind p h (o ∷ octets))) (with_first element.0.tree) g element.1.1 in
     let within = length-inside p (o ∷ octets) h fits in
     let after = length-behind p (o ∷ octets) h fits in
     let first : count element.0.tree + element.0.left ≡ left =

@@ -20,7 +20,7 @@ use Rattle.matroska_format.proofs.ElementLemmas.{element_in-placed}
 use Rattle.tree_format.specs.Node.{Node, leaf, nodes_of, depth, depth_all}
 use Rattle.tree_format.proofs.NodeLemmas.{depth_all-append}
 use Rattle.tree_format.specs.Fits.{Fits}
-use Rattle.tree_format.specs.Reading.{Reader, Grove, Grown, header_at, inside, behind, is_master_in, refused, and_then, as_master, grown, in_front, first_then, grove_within, grove}
+use Rattle.tree_format.specs.Reading.{Reader, Grove, Grown, header_at, inside, behind, is_master_in, refused, and_then, as_master, grown, with_first, first_then, grove_within, grove}
 
 -- ---- where a header stands
 
@@ -111,10 +111,10 @@ SameBelow n f g = (room left parent p : ℕ) (octets : List ℕ) → length octe
 first_then-same : (f g : Reader) (room left parent p : ℕ) (octets : List ℕ) (h : Header) → Fits p (p + length octets) h → SameBelow (length octets) f g → first_then f room left parent p octets h ≡ first_then g room left parent p octets h
 unfolding SameBelow
 first_then-same f g room left parent p octets h fits same =
-    ap (λ (r : Result Grown Damage). and_then r (λ x. and_then (f room x.left parent (stated_end h) (behind p h octets)) (in_front x.tree)))
+    ap (λ (r : Result Grown Damage). and_then r (λ x. and_then (f room x.left parent (stated_end h) (behind p h octets)) (with_first x.tree)))
     (grown-same f g room left parent h (inside p h octets) (same (room - 1) (left - 1) h.id h.body (inside p h octets) (length-inside p octets h fits)))
     ∙ and_then-same (grown g room left parent h (inside p h octets)) _ _
-    (λ x is. ap (λ r. and_then r (in_front x.tree)) (same room x.left parent (stated_end h) (behind p h octets) (length-behind p octets h fits)))
+    (λ x is. ap (λ r. and_then r (with_first x.tree)) (same room x.left parent (stated_end h) (behind p h octets) (length-behind p octets h fits)))
 
 within-same : (n m : ℕ) (room left parent p : ℕ) (octets : List ℕ) → length octets ≤ n → length octets ≤ m → grove_within n room left parent p octets ≡ grove_within m room left parent p octets
 unfolding grove_within SameBelow
@@ -224,9 +224,9 @@ module _ (room before left parent place at : ℕ) (body rest : List ℕ) (trees 
   pub read-damaged_inside : (d : Damage) (h : Header) → 0 < length rest → header_at parent at rest ≡ Ok h → grown grove room left parent h (inside at h rest) ≡ Err d → grove room before parent place body ≡ Err d
   read-damaged_inside d h some is inner =
       on.same ∙ ap (λ r. and_then r (all_in_front trees)) (grove-more room left parent at rest some ∙ ap (λ r. and_then r (first_then grove room left parent at rest)) is
-      ∙ ap (λ r. and_then r (λ g. and_then (grove room g.left parent (stated_end h) (behind at h rest)) (in_front g.tree))) inner)
+      ∙ ap (λ r. and_then r (λ g. and_then (grove room g.left parent (stated_end h) (behind at h rest)) (with_first g.tree))) inner)
 
-  move : (n : Node) (r : Result Grove Damage) → and_then (and_then r (in_front n)) (all_in_front trees) ≡ and_then r (all_in_front (trees ++ n ∷ []))
+  move : (n : Node) (r : Result Grove Damage) → and_then (and_then r (with_first n)) (all_in_front trees) ≡ and_then r (all_in_front (trees ++ n ∷ []))
   move n (Ok g) = ap (λ ns. Ok (record { trees = ns; left = g.left })) (sym (append_assoc trees (n ∷ []) g.trees))
   move n (Err d) = refl
 
@@ -245,6 +245,6 @@ module _ (room before left parent place at : ℕ) (body rest : List ℕ) (trees 
         shallow = omega (arith, depth_all-append trees (n ∷ []));
         same =
             on.same ∙ ap (λ r. and_then r (all_in_front trees)) (grove-more room left parent at rest some ∙ ap (λ r. and_then r (first_then grove room left parent at rest)) is
-            ∙ ap (λ r. and_then r (λ g. and_then (grove room g.left parent (stated_end h) (behind at h rest)) (in_front g.tree))) inner)
+            ∙ ap (λ r. and_then r (λ g. and_then (grove room g.left parent (stated_end h) (behind at h rest)) (with_first g.tree))) inner)
             ∙ move n (grove room now parent (stated_end h) (behind at h rest));
       }

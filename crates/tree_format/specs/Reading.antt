@@ -61,14 +61,14 @@ grown read room left parent h body =
     else if is_known_value parent h.id body then Ok (record { tree = leaf h.id h.offset body; left = left - 1 })
     else refused BadValue h.id h.offset
 
-abbrev pub in_front : Node → Grove → Result Grove Damage
-in_front n g = Ok (record { trees = n ∷ g.trees; left = g.left })
+abbrev pub with_first : Node → Grove → Result Grove Damage
+with_first n g = Ok (record { trees = n ∷ g.trees; left = g.left })
 
 -- an Element, and then what stands behind it
 abbrev pub first_then : Reader → ℕ → ℕ → ℕ → ℕ → List ℕ → Header → Result Grove Damage
 first_then read room left parent p octets h =
     and_then (grown read room left parent h (inside p h octets)) (λ g.
-    and_then (read room g.left parent (stated_end h) (behind p h octets)) (in_front g.tree))
+    and_then (read room g.left parent (stated_end h) (behind p h octets)) (with_first g.tree))
 
 -- The Elements of a body, one behind the other, or the first damage in the order in which they stand.
 -- (n bounds how many there are.)

@@ -7,7 +7,7 @@ use Rattle.mkv_values.specs.declared.damage.Damage.{Damage}
 use Rattle.block_format.specs.Block.{Block}
 use Rattle.block_format.specs.Content.{frames_cut}
 use Rattle.block_format.specs.Events.{Event, block, blocks_of, damages_of}
-use Rattle.cluster_reader.specs.Reading.{Reading, left_of, told}
+use Rattle.cluster_reader.specs.Reading.{Reading, left_of, damage_event}
 use Rattle.cluster_reader.specs.Told.{AreThose}
 use Rattle.cluster_reader.specs.declared.damages.Damages.{Damages}
 use Rattle.walk_blocks.specs.Walked.{IsWalked, octets_in}

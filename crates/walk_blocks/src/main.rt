@@ -7,6 +7,7 @@ mod scale;
 mod walk;
 
 ghost use Rattle.std.specs.Prelude.{IsTrue};
+ghost use Rattle.mkv_io.specs.Sources.{IsLive};
 
 use cluster_reader::Cursor;
 use element_reader::{Outline, OutlineEnd};
@@ -22,7 +23,7 @@ use walk::{Walked, walk};
 
 /// The blocks of a live file, or why they aren't read.
 fn walk_file<R: Reads>(alloc: Global, src: &mut R, file: FileId) -> Result<Walked, OutlineEnd>
-    requires { IsTrue ((R.files (R.standing src.old)).live file.n) }
+    requires { IsLive R.Reads src.old file }
 {
     let outline = Outline::read(alloc, src, file)?;
     let scale = scale_of(alloc, &outline, src, file)?;

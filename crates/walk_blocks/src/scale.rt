@@ -1,6 +1,7 @@
 //! The scale of a file.
 
 ghost use Rattle.std.specs.Prelude.{◌≡◌, ◌≤◌, IfOk, IsTrue};
+ghost use Rattle.mkv_io.specs.Sources.{IsLive, file_size};
 
 use ebml_tree::{Tree, TreeEnd};
 use element_reader::{LoadEnd, Outline, OutlineEnd, load};
@@ -23,8 +24,8 @@ pub fn scale_of<R: Reads>(
     src: &mut R,
     file: FileId,
 ) -> Result<u64, OutlineEnd>
-    requires live { IsTrue ((R.files (R.standing src.old)).live file.n) }
-    requires whole { outline.now.total ≡ (R.files (R.standing src.old)).size file.n }
+    requires live { IsLive R.Reads src.old file }
+    requires whole { outline.now.total ≡ file_size R.Reads src.old file }
     ensures some { IfOk result (λ scale. 1 ≤ scale) }
     ensures standing { R.standing src.new ≡ R.standing src.old }
 {

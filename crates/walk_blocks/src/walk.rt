@@ -1,8 +1,8 @@
 //! A walk over the blocks of a file.
 
 ghost use Rattle.std.specs.Prelude.{IfOk};
-ghost use Rattle.mkv_io.specs.Told.{Told};
-ghost use Rattle.cluster_reader.specs.Reading.{IsIn};
+ghost use Rattle.mkv_io.specs.Sources.{IfTold, live_files};
+ghost use Rattle.cluster_reader.specs.Reading.{CanRead};
 ghost use Rattle.walk_blocks.specs.Walked.{IsWalked};
 
 use cluster_reader::{Cursor, Damages, Step};
@@ -23,8 +23,8 @@ pub struct Walked {
 
 /// Goes over all that is left of a file.
 pub fn walk<R: Reads>(alloc: Global, cursor: &mut Cursor, src: &mut R) -> Result<Walked, ReadEnd>
-    requires { IsIn (R.files (R.standing src.old)) cursor.old }
-    ensures { IfOk result (λ walked. Told ((R.files (R.standing src.old)).content cursor.old.file.n) (λ bytes. IsWalked bytes cursor.old walked)) }
+    requires { CanRead (live_files R.Reads src.old) cursor.old }
+    ensures { IfOk result (λ walked. IfTold R.Reads src.old cursor.old.file (λ bytes. IsWalked bytes cursor.old walked)) }
 {
     let mut walked = Walked {
         blocks: 0,

@@ -1,6 +1,6 @@
 use Rattle.std.proofs.Common.{◌≡◌, ◌+◌, ◌-◌, take, drop, ◌∙◌, ap, arith}
 use Rattle.matroska_format.specs.Element.{stated_end}
-use Rattle.block_records.proofs.RunLemmas.{octets_of-part}
+use Rattle.block_records.proofs.RunLemmas.{element_octets-part}
 use Rattle.block_records.proofs.gathered.element_of.Goals as goal
 
 pub returns-clause-exact : goal.returns-clause-exact
@@ -10,4 +10,4 @@ returns-clause-exact c = λ bytes total is.
     let order = c.requires.order in
     let count : (h.body + c.known.result - c.args.base) - (h.offset - c.args.base) ≡ stated_end h - h.offset = omega (arith, c.known.ensures) in
     ap (λ n. take n (drop (h.offset - c.args.base) c.args.body.now)) count
-    ∙ octets_of-part bytes c.args.base total c.args.body.now h is from order c.requires.inside
+    ∙ element_octets-part bytes c.args.base total c.args.body.now h is from order c.requires.inside

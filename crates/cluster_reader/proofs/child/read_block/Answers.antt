@@ -1,5 +1,5 @@
 use Rattle.std.proofs.Common.{sym, ◌∙◌, ap, subst}
-use Rattle.block_format.specs.Elements.{reader, simple_block, block_group}
+use Rattle.block_format.specs.Elements.{with_limits, simple_block, block_group}
 use Rattle.block_records.specs.Buffered.{Makes}
 use Rattle.cluster_reader.proofs.ChildLemmas.{block_found-refused, block_found-simple, block_found-group, timestamp_for-is}
 use Rattle.cluster_reader.proofs.child.read_block.Goals as goal
@@ -7,12 +7,12 @@ use Rattle.cluster_reader.proofs.child.read_block.Goals as goal
 -- it is too long, or no Timestamp stands before it
 pub returns-in-Err-clause-ok : goal.returns-in-Err-clause-ok
 returns-in-Err-clause-ok g c = λ bytes told.
-    block_found-refused (reader c.args.walk.now.scale) bytes c.args.timestamp c.args.header.now c.in-Err.damage (sym (c.in-Err.ensures.exact c.args.walk.now.scale))
+    block_found-refused (with_limits c.args.walk.now.scale) bytes c.args.timestamp c.args.header.now c.in-Err.damage (sym (c.in-Err.ensures.exact c.args.walk.now.scale))
 
 -- a SimpleBlock
 pub returns-in_ok-found-clause-ok : goal.returns-in_ok-found-clause-ok
 returns-in_ok-found-clause-ok g c = λ bytes told.
-    let r = reader c.args.walk.now.scale in
+    let r = with_limits c.args.walk.now.scale in
     let h = c.args.header.now in
     let before = timestamp_for-is r c.args.timestamp h c.in-Ok.ticks (sym (c.in-Ok.ensures.exact c.args.walk.now.scale)) in
     let is = block_found-simple r bytes c.args.timestamp h c.if-header-eq-SIMPLE_BLOCK.true ∙ ap (λ t. simple_block r bytes t h) before in
@@ -21,7 +21,7 @@ returns-in_ok-found-clause-ok g c = λ bytes told.
 -- a BlockGroup
 pub returns-in_ok-found-2-clause-ok : goal.returns-in_ok-found-2-clause-ok
 returns-in_ok-found-2-clause-ok g c = λ bytes told.
-    let r = reader c.args.walk.now.scale in
+    let r = with_limits c.args.walk.now.scale in
     let h = c.args.header.now in
     let before = timestamp_for-is r c.args.timestamp h c.in-Ok.ticks (sym (c.in-Ok.ensures.exact c.args.walk.now.scale)) in
     let is = block_found-group r bytes c.args.timestamp h c.if-header-eq-SIMPLE_BLOCK.false ∙ ap (λ t. block_group r bytes t h) before in

@@ -13,7 +13,7 @@ pub returns-then-not-starts_with-clause-ok : goal.returns-then-not-starts_with-c
 returns-then-not-starts_with-clause-ok g c = λ bytes told.
     let total : c.args.total ≡ length bytes = c.requires.whole ∙ sym (g.met.R.Reads.told_size (g.R.Reads.standing c.args.src.now) c.args.file.n bytes told) in
     let len = c.min-len.result in
-    let octets = c.held-octets.ensures ∙ ap (octets_from c.hold.new.self.octets (0 - c.hold.new.self.at)) c.from.ensures ∙ octets_from-held bytes c.hold.new.self 0 len (c.hold.ensures.holds bytes told) c.in_ok-hold.ensures.range in
+    let octets = c.octets_at-octets.ensures ∙ ap (octets_from c.hold.new.self.octets (0 - c.hold.new.self.at)) c.from.ensures ∙ octets_from-held bytes c.hold.new.self 0 len (c.hold.ensures.holds bytes told) c.in_ok-hold.ensures.range in
     let test = c.starts_with.ensures.value ∙ ap (λ (o : List ℕ). starts_with nat_eq o ebml_mark) octets ∙ starts_with-front bytes len (c.min-len.ensures ∙ ap (λ n. min n 12) total) in
     first_element-other bytes c.starts_with.result test c.if-not-starts_with.true
 
@@ -23,7 +23,7 @@ returns-clause-ok g c = λ bytes told.
     let total : c.args.total ≡ length bytes = c.requires.whole ∙ sym (g.met.R.Reads.told_size (g.R.Reads.standing c.args.src.now) c.args.file.n bytes told) in
     let len = c.min-len.result in
     let most : len ≡ min (length bytes) 12 = c.min-len.ensures ∙ ap (λ n. min n 12) total in
-    let octets = c.held-octets.ensures ∙ ap (octets_from c.hold.new.self.octets (0 - c.hold.new.self.at)) c.from.ensures ∙ octets_from-held bytes c.hold.new.self 0 len (c.hold.ensures.holds bytes told) c.in_ok-hold.ensures.range in
+    let octets = c.octets_at-octets.ensures ∙ ap (octets_from c.hold.new.self.octets (0 - c.hold.new.self.at)) c.from.ensures ∙ octets_from-held bytes c.hold.new.self 0 len (c.hold.ensures.holds bytes told) c.in_ok-hold.ensures.range in
     let test = c.starts_with.ensures.value ∙ ap (λ (o : List ℕ). starts_with nat_eq o ebml_mark) octets ∙ starts_with-front bytes len most in
     first_element-begins bytes c.starts_with.result c.read_header.result test c.if-not-starts_with.false
     (c.read_header.ensures.exact
@@ -35,4 +35,4 @@ returns-clause-ok g c = λ bytes told.
 pub returns-clause-inside : goal.returns-clause-inside
 returns-clause-inside g c =
     IfOk-each c.read_header.result (λ h. stated_end h ≤ c.args.total)
-    (λ h is. ebml_inside c.held-octets.result.now c.args.total h (begins c.held-octets.result.now c.starts_with.result c.starts_with.ensures.value c.if-not-starts_with.false) (sym c.read_header.ensures.exact ∙ is))
+    (λ h is. ebml_inside c.octets_at-octets.result.now c.args.total h (begins c.octets_at-octets.result.now c.starts_with.result c.starts_with.ensures.value c.if-not-starts_with.false) (sym c.read_header.ensures.exact ∙ is))

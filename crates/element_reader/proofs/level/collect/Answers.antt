@@ -2,8 +2,8 @@ use Rattle.std.proofs.Common.{◌≡◌, ◌≤◌, ℕ, List, length, sym, ◌�
 use Rattle.std.specs.List.{All}
 use Rattle.matroska_format.specs.declared.element.Header.{Header}
 use Rattle.matroska_format.specs.Elements.{level_1, breaks_at}
-use Rattle.element_window.specs.Window.{IsBefore, MovesTo}
-use Rattle.element_walks.specs.declared.level_one.Step.TheVariants.{Element}
+use Rattle.element_window.specs.Window.{HasNotPassed, MovesTo}
+use Rattle.element_walks.specs.declared.level_one.Level1Step.TheVariants.{Element}
 use Rattle.element_reader.specs.Collected.{IsInFile}
 use Rattle.element_reader.specs.declared.collected.Collected.{Collected}
 use Rattle.element_reader.proofs.CollectedLemmas.{IsInFile-more}
@@ -54,7 +54,7 @@ loop-kept-preserved g c =
           (c.loop-kept.invariant.way bytes told) steps
           (c.in_ok-damage-in-Element.ensures.refusal c.args.held) none (c.in_ok-damage-in-Element.ensures.kept none c.args.held);
       moves = λ before.
-          let P = λ (n : ℕ). IsBefore c.loop-kept.window c.loop-kept.at n → MovesTo n c.in-Ok.behind c.loop-kept.window c.next_of_segment.new.window (g.R.Reads.octets_read c.loop-kept.src) (g.R.Reads.octets_read c.next_of_segment.new.src) in
+          let P = λ (n : ℕ). HasNotPassed c.loop-kept.window c.loop-kept.at n → MovesTo n c.in-Ok.behind c.loop-kept.window c.next_of_segment.new.window (g.R.Reads.octets_read c.loop-kept.src) (g.R.Reads.octets_read c.next_of_segment.new.src) in
           let size = ap (λ s. (g.R.Reads.files s).size c.args.file.n) c.loop-kept.invariant.standing ∙ sym c.requires.whole in
           let moved = rw step at c.in_ok-next_of_segment.ensures.moves in
           let next = subst P size moved in

@@ -3,7 +3,7 @@ use Rattle.std.specs.List.{All}
 use Rattle.mkv_io.specs.Told.{Told}
 use Rattle.matroska_format.specs.Elements.{level_1}
 use Rattle.matroska_format.specs.Outline.{segment_run}
-use Rattle.element_window.specs.Window.{Holds, IsBefore, MovesTo}
+use Rattle.element_window.specs.Window.{Holds, HasNotPassed, MovesTo}
 use Rattle.element_reader.specs.Collected.{IsInFile}
 use Rattle.element_reader.specs.Level.{IsOnWay}
 use Rattle.element_reader.proofs.level.collect.Given as goal
@@ -18,7 +18,7 @@ invariant-loop-kept g l = record {
   faults : g.R.Reads.reading_faults l.src ≡ g.R.Reads.reading_faults l.initial.src;
   holds : Told ((g.R.Reads.files (g.R.Reads.standing l.initial.src)).content l.file.n) (λ bytes. Holds bytes l.window);
   way : Told ((g.R.Reads.files (g.R.Reads.standing l.initial.src)).content l.file.n) (λ bytes. IsOnWay l.fn.held (segment_run bytes l.fn.segment) (level_1 bytes l.fn.segment.size l.at l.bound) l.kept);
-  moves : IsBefore l.fn.window l.fn.segment.body l.total → MovesTo l.total l.at l.fn.window l.window (g.R.Reads.octets_read l.initial.src) (g.R.Reads.octets_read l.src);
+  moves : HasNotPassed l.fn.window l.fn.segment.body l.total → MovesTo l.total l.at l.fn.window l.window (g.R.Reads.octets_read l.initial.src) (g.R.Reads.octets_read l.src);
 }
 
 abbrev pub decreases-loop-kept : goal.decreases-loop-kept

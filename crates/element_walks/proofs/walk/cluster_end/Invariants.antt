@@ -1,6 +1,6 @@
 use Rattle.std.proofs.Common.{◌≡◌, ◌-◌, ◌≤◌}
 use Rattle.mkv_io.specs.Told.{Told}
-use Rattle.element_window.specs.Window.{Holds, IsBefore, MovesTo}
+use Rattle.element_window.specs.Window.{Holds, HasNotPassed, MovesTo}
 use Rattle.element_walks.specs.Walk.{cluster_end}
 use Rattle.element_walks.proofs.walk.cluster_end.Given as goal
 
@@ -10,9 +10,9 @@ invariant-loop-at g l = record {
   place : l.at ≤ l.end;
   standing : g.R.Reads.standing l.src ≡ g.R.Reads.standing l.initial.src;
   faults : g.R.Reads.reading_faults l.src ≡ g.R.Reads.reading_faults l.initial.src;
-  holds : Told ((g.R.Reads.files (g.R.Reads.standing l.initial.src)).content l.file.n) (λ bytes. Holds bytes (g.W.Lookahead.held l.window));
+  holds : Told ((g.R.Reads.files (g.R.Reads.standing l.initial.src)).content l.file.n) (λ bytes. Holds bytes (g.W.Lookahead.ahead l.window));
   rest : Told ((g.R.Reads.files (g.R.Reads.standing l.initial.src)).content l.file.n) (λ bytes. cluster_end bytes l.fn.from l.end ≡ cluster_end bytes l.at l.end);
-  moves : IsBefore (g.W.Lookahead.held l.fn.window) l.fn.from ((g.R.Reads.files (g.R.Reads.standing l.initial.src)).size l.file.n) → MovesTo ((g.R.Reads.files (g.R.Reads.standing l.initial.src)).size l.file.n) l.at (g.W.Lookahead.held l.fn.window) (g.W.Lookahead.held l.window) (g.R.Reads.octets_read l.initial.src) (g.R.Reads.octets_read l.src);
+  moves : HasNotPassed (g.W.Lookahead.ahead l.fn.window) l.fn.from ((g.R.Reads.files (g.R.Reads.standing l.initial.src)).size l.file.n) → MovesTo ((g.R.Reads.files (g.R.Reads.standing l.initial.src)).size l.file.n) l.at (g.W.Lookahead.ahead l.fn.window) (g.W.Lookahead.ahead l.window) (g.R.Reads.octets_read l.initial.src) (g.R.Reads.octets_read l.src);
 }
 
 abbrev pub decreases-loop-at : goal.decreases-loop-at

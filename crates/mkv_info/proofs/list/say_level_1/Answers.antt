@@ -4,7 +4,7 @@ use Rattle.mkv_values.specs.declared.outside.FileId.{FileId}
 use Rattle.matroska_format.specs.declared.element.Header.{Header}
 use Rattle.element_reader.specs.LevelOne.{left}
 use Rattle.mkv_lines.specs.Line.{level_1_line}
-use Rattle.mkv_lines.specs.Said.{Held, SaysUpTo}
+use Rattle.mkv_lines.specs.Said.{ReportLines, SaysUpTo}
 use Rattle.mkv_lines.proofs.SaidLemmas.{SaysUpTo-begins, SaysUpTo-more, SaysUpTo-stops}
 use Rattle.mkv_info.proofs.list.say_level_1.Goals as goal
 
@@ -20,7 +20,7 @@ loop-header-init g c = record {
 }
 
 -- the next Element's line is the first of those that are left
-next_line : (old now : Held) (all : List (List ℕ)) (h : Header) (here rest : List Header) → SaysUpTo old now all (map level_1_line here) → here ≡ h ∷ rest → SaysUpTo old now all (level_1_line h ∷ map level_1_line rest)
+next_line : (old now : ReportLines) (all : List (List ℕ)) (h : Header) (here rest : List Header) → SaysUpTo old now all (map level_1_line here) → here ≡ h ∷ rest → SaysUpTo old now all (level_1_line h ∷ map level_1_line rest)
 next_line old now all h here rest way gives = subst (λ (lines : List (List ℕ)). SaysUpTo old now all lines) (ap (map level_1_line) gives) way
 
 -- another line was said

@@ -1,13 +1,13 @@
 use Rattle.std.proofs.Common.{◌≡◌, ◌-◌, map}
 use Rattle.mkv_io.specs.Told.{Told}
-use Rattle.element_reader.specs.LevelOne.{IsIn, IsSameSegment, left}
+use Rattle.element_reader.specs.LevelOne.{CanRead, IsSameSegment, left}
 use Rattle.mkv_lines.specs.Line.{level_1_line}
 use Rattle.mkv_lines.specs.Said.{SaysUpTo}
 use Rattle.mkv_info.proofs.list.say_level_1.Given as goal
 
 abbrev pub invariant-loop-header : goal.invariant-loop-header
 invariant-loop-header g l = record {
-  place : IsIn (g.R.Reads.files (g.R.Reads.standing l.src)) l.elements;
+  place : CanRead (g.R.Reads.files (g.R.Reads.standing l.src)) l.elements;
   same : IsSameSegment l.initial.elements l.elements;
   standing : g.R.Reads.standing l.src ≡ g.R.Reads.standing l.initial.src;
   reading : g.R.Reads.reading_faults l.src ≡ g.R.Reads.reading_faults l.initial.src;

@@ -12,7 +12,7 @@ returns-in_ok-push-clause-kept c = λ _ held list keeps.
     Keeps-more held list c.args.self.now _ h keeps
     (rw other c.in_ok-push.ensures.items)
     (rw other (option_or-none c.args.self.now.cluster))
-    (ap (λ n. c.args.self.now.held + n) c.octets_of.ensures)
+    (ap (λ n. c.args.self.now.held + n) c.described_octets.ensures)
 
 -- the first Cluster
 pub returns-then-is_none-clause-kept : goal.returns-then-is_none-clause-kept
@@ -22,7 +22,7 @@ returns-then-is_none-clause-kept c = λ _ held list keeps.
     Keeps-more held list c.args.self.now _ h keeps
     (rw cluster (sym (append-nil c.args.self.now.others.items)))
     (rw cluster (option_or-later c.args.self.now.cluster (Some h) (c.is_none.ensures ∙ ap not c.if-is_none.true)))
-    (ap (λ n. c.args.self.now.held + n) c.octets_of.ensures)
+    (ap (λ n. c.args.self.now.held + n) c.described_octets.ensures)
 
 -- another Cluster
 pub returns-else-is_none-clause-kept : goal.returns-else-is_none-clause-kept
@@ -32,4 +32,4 @@ returns-else-is_none-clause-kept c = λ _ held list keeps.
     Keeps-more held list c.args.self.now _ h keeps
     (rw cluster (sym (append-nil c.args.self.now.others.items)))
     (rw cluster (option_or-first c.args.self.now.cluster (Some h) (c.is_none.ensures ∙ ap not c.if-is_none.false)))
-    (ap (λ n. c.args.self.now.held + n) c.octets_of.ensures)
+    (ap (λ n. c.args.self.now.held + n) c.described_octets.ensures)

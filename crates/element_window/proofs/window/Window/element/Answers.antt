@@ -10,5 +10,5 @@ returns-clause-ok g c = λ bytes told.
     c.size-total.ensures.exact ∙ ap (λ s. (g.R.Reads.files s).size c.args.file.n) c.hold.ensures.standing
     ∙ sym (g.met.R.Reads.told_size (g.R.Reads.standing c.args.src.now) c.args.file.n bytes told) in
     c.read_header.ensures.exact
-    ∙ element_at-held (setting_of c.args.parent) bytes c.hold.new.self c.held.result.now c.size-total.result c.args.at c.args.end c.header_room-len.result
-    (c.hold.ensures.holds bytes told) c.in_ok-hold.ensures.range c.held.ensures total c.requires.place c.header_room-len.ensures
+    ∙ element_at-held (setting_of c.args.parent) bytes c.hold.new.self c.octets_at.result.now c.size-total.result c.args.at c.args.end c.header_room-len.result
+    (c.hold.ensures.holds bytes told) c.in_ok-hold.ensures.range c.octets_at.ensures total c.requires.place c.header_room-len.ensures

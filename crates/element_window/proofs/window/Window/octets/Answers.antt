@@ -7,7 +7,7 @@ use Rattle.element_window.proofs.window.Window.octets.Goals as goal
 pub returns : goal.returns
 returns g c = record {
   ok = λ bytes told.
-      c.held.ensures ∙ ap (octets_from c.hold.new.self.octets (c.args.at - c.hold.new.self.at)) c.from.ensures
+      c.octets_at.ensures ∙ ap (octets_from c.hold.new.self.octets (c.args.at - c.hold.new.self.at)) c.from.ensures
       ∙ octets_from-held bytes c.hold.new.self c.args.at c.args.len (c.hold.ensures.holds bytes told) c.in_ok-hold.ensures.range;
   kept = λ held. search rules;
   standing = search rules;

@@ -1,0 +1,53 @@
+//! The Elements of level 1: RFC 9559, section 5.1 (Segment Element).
+
+ghost use Rattle.std.specs.Prelude.{◌≡◌, None, IfOk};
+ghost use Rattle.mkv_io.specs.Faults.{HasCause, is_read_fault};
+ghost use Rattle.mkv_io.specs.Sources.{IfTold, file_size, live_files};
+ghost use Rattle.cluster_reader.specs.Walks.{IsReady, IsSameWalk, PaysFor, Turns, TurnsOn};
+
+use crate::step::Step;
+use crate::turn::Turn;
+use crate::walk::Walk;
+use element_headers::Parent;
+use element_walks::{ends_segment, id_of};
+use mkv_io::Reads;
+use mkv_schema::ids::CLUSTER;
+use mkv_values::ReadEnd;
+
+/// What the Element of level 1 at the place makes of a walk.
+pub fn turn_at_level_1<R: Reads>(walk: &mut Walk, src: &mut R) -> Result<Turn, ReadEnd>
+    requires ready { IsReady (live_files R.Reads src.old) walk.old }
+    requires outside { walk.old.place.cluster ≡ None }
+    ensures gives { IfTold R.Reads src.old walk.old.file (λ bytes. Turns bytes walk.old walk.new result) }
+    ensures on { IfOk result (TurnsOn walk.old.place walk.new.place) }
+    ensures same { IsSameWalk walk.old walk.new }
+    ensures ready { IsReady (live_files R.Reads src.new) walk.new }
+    ensures standing { R.standing src.new ≡ R.standing src.old }
+    ensures cause { HasCause is_read_fault (R.reading_faults src.old) (R.reading_faults src.new) result }
+    ensures pays { PaysFor (file_size R.Reads src.old walk.old.file) walk.old walk.new (R.octets_read src.old) (R.octets_read src.new) result }
+{
+    if walk.place.at >= walk.place.end {
+        return Ok(Turn::Gives(Step::End));
+    }
+    let end = walk.place.end;
+    let found = walk.element(src, Parent::Segment, end)?;
+    if ends_segment(walk.place.size, id_of(&found)) {
+        walk.place = walk.place.outside(end);
+        return Ok(Turn::Gives(Step::End));
+    }
+    match found {
+        Ok(header) => {
+            if header.id == CLUSTER {
+                let total = src.size(walk.file);
+                walk.place = walk.place.entered(&header, total);
+                return Ok(Turn::Passed);
+            }
+            walk.place = walk.place.behind(&header);
+            Ok(Turn::Passed)
+        }
+        Err(damage) => {
+            walk.stop();
+            Ok(Turn::Gives(Step::Damaged(damage)))
+        }
+    }
+}

@@ -1,0 +1,98 @@
+//! The children of a Cluster, one turn after the other: RFC 9559, section 5.1.3 (Cluster Element).
+
+ghost use Rattle.std.specs.Prelude.{◌≡◌, ◌≤◌, ◌<◌, Some, Ok, false, IfOk};
+ghost use Rattle.mkv_io.specs.Faults.{HasCause, is_read_fault};
+ghost use Rattle.mkv_io.specs.Sources.{IfTold, file_size, live_files};
+ghost use Rattle.matroska_format.specs.Element.{element_at, in_master, is_unknown, stated_end};
+ghost use Rattle.cluster_reader.specs.Left.{ends_children};
+ghost use Rattle.cluster_reader.specs.Walks.{IsReady, IsSameWalk, PaysFor, Turns, TurnsOn};
+
+use crate::child::read_child;
+use crate::place::Inside;
+use crate::step::Step;
+use crate::turn::{Child, Turn};
+use crate::walk::Walk;
+use element_headers::{Header, Parent};
+use element_walks::{ends_cluster, id_of};
+use mkv_io::Reads;
+use mkv_values::ReadEnd;
+
+// Whether the children of a Cluster end before an Element of this ID.
+fn ends_children(unknown: bool, id: u32) -> bool
+    ensures { result ≡ ends_children unknown id }
+{
+    unknown && ends_cluster(id)
+}
+
+/// What the child of a Cluster at the place makes of a walk.
+pub fn turn_in_cluster<R: Reads>(
+    walk: &mut Walk,
+    src: &mut R,
+    cluster: Inside,
+) -> Result<Turn, ReadEnd>
+    requires ready { IsReady (live_files R.Reads src.old) walk.old }
+    requires inside { walk.old.place.cluster ≡ Some cluster }
+    ensures gives { IfTold R.Reads src.old walk.old.file (λ bytes. Turns bytes walk.old walk.new result) }
+    ensures on { IfOk result (TurnsOn walk.old.place walk.new.place) }
+    ensures same { IsSameWalk walk.old walk.new }
+    ensures ready { IsReady (live_files R.Reads src.new) walk.new }
+    ensures standing { R.standing src.new ≡ R.standing src.old }
+    ensures cause { HasCause is_read_fault (R.reading_faults src.old) (R.reading_faults src.new) result }
+    ensures pays { PaysFor (file_size R.Reads src.old walk.old.file) walk.old walk.new (R.octets_read src.old) (R.octets_read src.new) result }
+{
+    let at = walk.place.at;
+    if at >= cluster.end {
+        walk.place = walk.place.outside(cluster.end);
+        return Ok(Turn::Passed);
+    }
+    let found = walk.element(src, Parent::Master, cluster.end)?;
+    if ends_children(cluster.unknown, id_of(&found)) {
+        walk.place = walk.place.outside(at);
+        return Ok(Turn::Passed);
+    }
+    match found {
+        Ok(header) => turn_child(walk, src, cluster, &header),
+        Err(damage) => {
+            walk.break_off(&cluster);
+            Ok(Turn::Gives(Step::Damaged(damage)))
+        }
+    }
+}
+
+// What a child makes of a walk whose place it stands at.
+fn turn_child<R: Reads>(
+    walk: &mut Walk,
+    src: &mut R,
+    cluster: Inside,
+    header: &Header,
+) -> Result<Turn, ReadEnd>
+    requires ready { IsReady (live_files R.Reads src.old) walk.old }
+    requires inside { walk.old.place.cluster ≡ Some cluster }
+    requires later { walk.old.place.at < header.now.body }
+    requires whole { is_unknown header.now.size ≡ false }
+    requires within { stated_end header.now ≤ cluster.end }
+    requires found { IfTold R.Reads src.old walk.old.file (λ bytes. Ok header.now ≡ element_at in_master bytes walk.old.place.at cluster.end) }
+    requires goes { ends_children cluster.unknown header.now.id ≡ false }
+    ensures gives { IfTold R.Reads src.old walk.old.file (λ bytes. Turns bytes walk.old walk.new result) }
+    ensures on { IfOk result (TurnsOn walk.old.place walk.new.place) }
+    ensures same { IsSameWalk walk.old walk.new }
+    ensures ready { IsReady (live_files R.Reads src.new) walk.new }
+    ensures standing { R.standing src.new ≡ R.standing src.old }
+    ensures cause { HasCause is_read_fault (R.reading_faults src.old) (R.reading_faults src.new) result }
+    ensures pays { PaysFor (file_size R.Reads src.old walk.old.file) walk.old walk.new (R.octets_read src.old) (R.octets_read src.new) result }
+{
+    match read_child(walk, src, cluster.timestamp, header)? {
+        Child::Passed(timestamp) => {
+            walk.place = walk.place.passed(cluster, header, timestamp);
+            Ok(Turn::Passed)
+        }
+        Child::Block => {
+            walk.place = walk.place.passed(cluster, header, cluster.timestamp);
+            Ok(Turn::Gives(Step::Block))
+        }
+        Child::Damaged(damage) => {
+            walk.break_off(&cluster);
+            Ok(Turn::Gives(Step::Damaged(damage)))
+        }
+    }
+}

@@ -1,0 +1,63 @@
+//! The children of the EBML header: RFC 8794, section 8.1 (EBML Header).
+
+ghost use Rattle.std.specs.Prelude.{◌≡◌, ℕ, ◌+◌, ◌^◌, ◌<◌, ◌≤◌, List, length, IfOk, IfSome};
+ghost use Rattle.matroska_format.specs.Element.{element_at, in_tree, stated_end};
+ghost use Rattle.matroska_format.specs.Placed.{StandsAt};
+ghost use Rattle.matroska_format.specs.Value.{body_of, first_of};
+ghost use Rattle.mkv_schema.specs.declared.ids.TheConstants.{EBML as EBML_ID};
+ghost use Rattle.element_bodies.specs.Body.{IsBody};
+ghost use Rattle.element_reader.specs.EbmlChildren.{child_refusal, children};
+
+use element_bodies::{body_in, child_at, is_known_value};
+use element_headers::{Header, Parent};
+use element_walks::end_in;
+use mkv_schema::ids::EBML;
+use mkv_values::{Damage, Kind};
+
+/// What refuses the children of an EBML header whose body this is: the first that isn't a value of its
+/// kind, or the damage among them.
+pub fn child_refusal(body: &[u8], base: u64, total: u64) -> Option<Damage>
+    requires { base + length body.now ≤ 2 ^ 48 }
+    ensures { (bytes : List ℕ) → IsBody bytes base total body.now → result ≡ child_refusal bytes (children bytes base (base + length body.now)) }
+{
+    let end = base + body.len() as u64;
+    let mut at = base;
+    while at < end {
+        match child_at(Parent::Tree(EBML), body, base, total, at) {
+            Ok(child) => {
+                if !is_known_value(EBML, child.id, body_in(body, base, &child)) {
+                    return Some(Damage {
+                        kind: Kind::BadValue,
+                        id: child.id,
+                        offset: child.offset,
+                    });
+                }
+                at = end_in(&child, end);
+            }
+            Err(damage) => return Some(damage),
+        }
+    }
+    None
+}
+
+/// The first child of an ID.
+pub fn first_child(body: &[u8], base: u64, total: u64, id: u32) -> Option<Header>
+    requires { base + length body.now ≤ 2 ^ 48 }
+    ensures exact { (bytes : List ℕ) → IsBody bytes base total body.now → result ≡ first_of id (children bytes base (base + length body.now)).list }
+    ensures inside { IfSome result (λ h. (base ≤ h.body) × (stated_end h ≤ base + length body.now)) }
+{
+    let end = base + body.len() as u64;
+    let mut at = base;
+    while at < end {
+        match child_at(Parent::Tree(EBML), body, base, total, at) {
+            Ok(child) => {
+                if child.id == id {
+                    return Some(child);
+                }
+                at = end_in(&child, end);
+            }
+            Err(_) => return None,
+        }
+    }
+    None
+}

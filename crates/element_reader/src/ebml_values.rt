@@ -1,0 +1,106 @@
+//! The values of an EBML header: RFC 8794, section 11.2 (EBML Header Elements).
+
+ghost use Rattle.std.specs.Prelude.{◌≡◌, ℕ, ◌+◌, ◌^◌, ◌≤◌, List, length, None};
+ghost use Rattle.std.specs.Option.{option_map};
+ghost use Rattle.matroska_format.specs.Outline.{above, is_doc_type, place_of, wrong_doc_type};
+ghost use Rattle.matroska_format.specs.Value.{text_in, uint_in};
+ghost use Rattle.mkv_schema.specs.declared.ids.TheConstants.{DOC_TYPE as DOC_TYPE_ID};
+ghost use Rattle.element_bodies.specs.Body.{IsBody};
+ghost use Rattle.element_reader.specs.EbmlChildren.{IsShort, child_refusal, children};
+
+use crate::ebml_children::first_child;
+use ebml_numbers::read_uint;
+use element_bodies::{body_in, text_of};
+use mkv_schema::ids::DOC_TYPE;
+use mkv_schema::{text_default, uint_default};
+use mkv_values::{Damage, Kind};
+
+/// The unsigned integer of an ID in an EBML header whose body this is, or its default, or 0.
+pub fn uint_in(body: &[u8], base: u64, total: u64, id: u32) -> u64
+    requires few { base + length body.now ≤ 2 ^ 48 }
+    requires short { IsShort id }
+    ensures { (bytes : List ℕ) → IsBody bytes base total body.now
+        → child_refusal bytes (children bytes base (base + length body.now)) ≡ None
+        → result ≡ uint_in bytes id (children bytes base (base + length body.now)).list }
+{
+    let default = uint_default(id).unwrap_or(0);
+    match first_child(body, base, total, id) {
+        None => default,
+        Some(child) => {
+            let octets = body_in(body, base, &child);
+            if octets.is_empty() {
+                default
+            } else {
+                read_uint(&octets[..octets.len().min(8)])
+            }
+        }
+    }
+}
+
+/// Whether this is the text of a document type that is read.
+pub fn is_doc_type(text: &[u8]) -> bool
+    ensures { result ≡ is_doc_type (Some text.now) }
+{
+    text == "matroska".as_bytes() || text == "webm".as_bytes()
+}
+
+/// Whether the document type of an EBML header whose body this is is read.
+pub fn has_doc_type(body: &[u8], base: u64, total: u64) -> bool
+    requires { base + length body.now ≤ 2 ^ 48 }
+    ensures { (bytes : List ℕ) → IsBody bytes base total body.now
+        → result ≡ is_doc_type (text_in bytes DOC_TYPE_ID (children bytes base (base + length body.now)).list) }
+{
+    match first_child(body, base, total, DOC_TYPE) {
+        Some(child) => is_doc_type(text_of(body_in(body, base, &child))),
+        None => match text_default(DOC_TYPE) {
+            Some(text) => is_doc_type(text.as_bytes()),
+            None => false,
+        },
+    }
+}
+
+/// Where the first child of an ID stands, 0 where there is none.
+fn place_of(body: &[u8], base: u64, total: u64, id: u32) -> u64
+    requires { base + length body.now ≤ 2 ^ 48 }
+    ensures { (bytes : List ℕ) → IsBody bytes base total body.now
+        → result ≡ place_of id (children bytes base (base + length body.now)).list }
+{
+    match first_child(body, base, total, id) {
+        Some(child) => child.offset,
+        None => 0,
+    }
+}
+
+/// What refuses the document type.
+pub fn wrong_doc_type(body: &[u8], base: u64, total: u64) -> Option<Damage>
+    requires { base + length body.now ≤ 2 ^ 48 }
+    ensures { (bytes : List ℕ) → IsBody bytes base total body.now
+        → result ≡ wrong_doc_type bytes (children bytes base (base + length body.now)).list }
+{
+    if has_doc_type(body, base, total) {
+        return None;
+    }
+    Some(Damage {
+        kind: Kind::DocType,
+        id: DOC_TYPE,
+        offset: place_of(body, base, total, DOC_TYPE),
+    })
+}
+
+/// What refuses an integer that is above what is read.
+pub fn above(body: &[u8], base: u64, total: u64, id: u32, limit: u64, kind: Kind) -> Option<Damage>
+    requires few { base + length body.now ≤ 2 ^ 48 }
+    requires short { IsShort id }
+    ensures { (bytes : List ℕ) → IsBody bytes base total body.now
+        → child_refusal bytes (children bytes base (base + length body.now)) ≡ None
+        → result ≡ above bytes id limit kind (children bytes base (base + length body.now)).list }
+{
+    if uint_in(body, base, total, id) <= limit {
+        return None;
+    }
+    Some(Damage {
+        kind,
+        id,
+        offset: place_of(body, base, total, id),
+    })
+}

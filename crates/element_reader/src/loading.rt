@@ -1,0 +1,81 @@
+//! The body of an Element, read whole.
+
+ghost use Rattle.std.specs.Prelude.{length, ◌≡◌, ◌+◌, ◌≤◌, false, None, IfOk, IsTrue};
+ghost use Rattle.mkv_io.specs.Sources.{IfTold, IsLive, file_size};
+ghost use Rattle.matroska_format.specs.Element.{is_unknown, known, stated_end};
+ghost use Rattle.matroska_format.specs.Value.{body_of};
+ghost use Rattle.element_reader.specs.Load.{HasLoadCause, limit_of, too_large};
+
+use crate::collected::is_described;
+use crate::limits::{MOST_OF_ALL, MOST_OF_HEADER, MOST_OF_ONE, over};
+use element_bodies::known;
+use element_headers::Header;
+use mkv_io::Reads;
+use mkv_schema::ids::{CUES, EBML, SEEK_HEAD};
+use mkv_values::{Bytes, Damage, FileId};
+use std::alloc::Global;
+use thiserror::Error;
+
+/// Why a body isn't loaded.
+#[derive(Debug, Drop, Error)]
+pub enum LoadEnd {
+    /// It has more octets than are loaded of an Element of its ID.
+    #[error("TooLarge")]
+    TooLarge(Damage),
+    /// A read failed.
+    #[error("ReadFault")]
+    ReadFault,
+    /// There is no memory.
+    #[error("Memory")]
+    Memory,
+}
+
+// The most octets that are loaded of an Element of this ID, where there is a limit.
+fn limit_of(id: u32) -> Option<u64>
+    ensures { result ≡ limit_of id }
+{
+    match id {
+        EBML => Some(MOST_OF_HEADER),
+        SEEK_HEAD => Some(MOST_OF_ONE),
+        CUES => Some(MOST_OF_ALL),
+        id if is_described(id) => Some(MOST_OF_ONE),
+        _ => None,
+    }
+}
+
+fn too_large(header: &Header) -> Option<Damage>
+    ensures { result ≡ too_large header.now }
+{
+    let limit = limit_of(header.id)?;
+    over(limit, header)
+}
+
+/// The body of an Element whose size is known. It is refused where it has more octets than are loaded of
+/// an Element of its ID: 65,536 of EBML, 64 MiB of Cues, 16 MiB of Info, Tracks, Chapters, Tags and SeekHead.
+pub fn load<R: Reads>(
+    alloc: Global,
+    src: &mut R,
+    file: FileId,
+    header: &Header,
+) -> Result<Bytes, LoadEnd>
+    requires live { IsLive R.Reads src.old file }
+    requires known { is_unknown header.now.size ≡ false }
+    requires inside { stated_end header.now ≤ file_size R.Reads src.old file }
+    ensures ok { IfOk result (λ body. IfTold R.Reads src.old file (λ bytes. body ≡ body_of bytes header.now)) }
+    ensures length { IfOk result (λ body. length body ≡ known header.now.size) }
+    ensures standing { R.standing src.new ≡ R.standing src.old }
+    ensures cause { HasLoadCause (too_large header.now) (R.reading_faults src.old) (R.reading_faults src.new) result }
+    ensures octets { R.octets_read src.new ≤ R.octets_read src.old + known header.now.size }
+{
+    if let Some(damage) = too_large(header) {
+        return Err(LoadEnd::TooLarge(damage));
+    }
+    let len = known(header.size) as usize;
+    let Ok(mut body) = vec![in alloc; 0; len] else {
+        return Err(LoadEnd::Memory);
+    };
+    let Ok(()) = src.read_at(file, header.body, &mut body) else {
+        return Err(LoadEnd::ReadFault);
+    };
+    Ok(Bytes::from_vec(body))
+}

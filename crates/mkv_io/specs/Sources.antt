@@ -1,0 +1,28 @@
+-- What is seen of files that are read, and what a call leaves that only reads them.
+use Rattle.std.specs.Prelude.{◌≡◌, ◌≤◌, ℕ, List, IsTrue}
+use Rattle.mkv_values.specs.declared.outside.FileId.{FileId}
+use Rattle.mkv_io.specs.LiveFiles.{LiveFiles}
+use Rattle.mkv_io.specs.Told.{Told}
+use Rattle.mkv_io.specs.declared.reads.Reads.{Ghosts}
+
+-- the live files
+abbrev pub live_files : {S : Type 0} → Ghosts S → S → LiveFiles
+live_files g s = g.files (g.standing s)
+
+-- The file is live.
+abbrev pub IsLive : {S : Type 0} → Ghosts S → S → FileId → Type 0
+IsLive g s file = IsTrue ((live_files g s).live file.n)
+
+-- a live file's length in octets
+abbrev pub file_size : {S : Type 0} → Ghosts S → S → FileId → ℕ
+file_size g s file = (live_files g s).size file.n
+
+-- a fact of a live file's content, where it is told
+abbrev pub IfTold : {S : Type 0} → Ghosts S → S → FileId → (List ℕ → Type 0) → Type 0
+IfTold g s file P = Told ((live_files g s).content file.n) P
+
+-- A call that only reads leaves all that stands. Its counts don't fall.
+pub record OnlyReads {S : Type 0} (g : Ghosts S) (old new : S) : Type 0 where
+  pub standing : g.standing new ≡ g.standing old
+  pub faults : g.reading_faults old ≤ g.reading_faults new
+  pub octets : g.octets_read old ≤ g.octets_read new

@@ -1,0 +1,10 @@
+#![tactic(auto)]
+
+//! Files in memory with the Elements, blocks and damages that readers must give: tests alone.
+
+#[cfg(test)]
+mod files;
+#[cfg(test)]
+mod refusals;
+#[cfg(test)]
+mod telling;
