@@ -3,7 +3,7 @@ use Rattle.std.specs.Prelude.{ℕ, ◌++◌, List, codes}
 use Rattle.std.specs.Fmt.{decimal}
 use Rattle.mkv_values.specs.declared.damage.Damage.{Damage}
 use Rattle.matroska_format.specs.declared.element.Header.{Header}
-use Rattle.mkv_lines.specs.Shown.{damage_text, level_0_name, level_1_name, place_text, track_text}
+use Rattle.mkv_lines.specs.Shown.{damage_text, level_0_name, level_1_name, place_text, shown_text, track_text}
 use Rattle.mkv_lines.specs.declared.line.Line.{Line}
 use Rattle.mkv_lines.specs.declared.line.Line.TheVariants.{Level0, Level1, Track, Refused, Warned, Missing, Word, FilesFault}
 
@@ -17,15 +17,15 @@ level_1_line h = codes "  " ++ (level_1_name h.id ++ place_text h)
 
 -- a file that isn't taken
 abbrev pub refusal_line : List ℕ → Damage → List ℕ
-refusal_line name d = codes "error: " ++ (name ++ (codes ": " ++ damage_text d))
+refusal_line name d = codes "error: " ++ (shown_text name ++ (codes ": " ++ damage_text d))
 
 -- a file that is damaged from a place on
 abbrev pub warning_line : List ℕ → Damage → List ℕ
-warning_line name d = codes "warning: " ++ (name ++ (codes ": " ++ damage_text d))
+warning_line name d = codes "warning: " ++ (shown_text name ++ (codes ": " ++ damage_text d))
 
 -- a file that isn't there
 abbrev pub missing_line : List ℕ → List ℕ
-missing_line name = codes "error: " ++ (name ++ codes ": Missing")
+missing_line name = codes "error: " ++ (shown_text name ++ codes ": Missing")
 
 -- words that aren't obeyed, from this one on
 abbrev pub word_line : ℕ → List ℕ → List ℕ

@@ -1,5 +1,7 @@
 -- How Elements, sizes and damages are shown in a line.
-use Rattle.std.specs.Prelude.{ℕ, ◌++◌, ◌==◌, true, if◌then◌else◌, List, codes, unwrap_or}
+use Rattle.std.specs.Prelude.{ℕ, ◌++◌, ◌==◌, ◌/◌, ◌%◌, nat_lt, nat_le, Bool, true, ◌&&◌, ◌||◌, if◌then◌else◌, List, ◌∷◌, flat_map, codes, unwrap_or}
+use Rattle.std.specs.Char.{encode_utf8}
+use Rattle.std.specs.Str.{chars}
 use Rattle.std.specs.Fmt.{decimal, digits}
 use Rattle.ebml_format.specs.declared.number.Size.{Size}
 use Rattle.ebml_format.specs.declared.number.Size.TheVariants.{Known, Unknown}
@@ -8,6 +10,26 @@ use Rattle.mkv_schema.specs.declared.ids.TheConstants.{SEGMENT}
 use Rattle.mkv_values.specs.declared.damage.Damage.{Damage}
 use Rattle.mkv_values.specs.Kind.{kind_name}
 use Rattle.matroska_format.specs.declared.element.Header.{Header}
+
+-- ---- what isn't ours: names, and texts of files
+
+-- a control character: U+0000 to U+001F, and U+007F to U+009F
+abbrev pub is_control : ℕ → Bool
+is_control c = nat_lt c 0x20 || (nat_le 0x7F c && nat_lt c 0xA0)
+
+-- an octet as `\x` and two digits, in upper-case hexadecimal
+abbrev pub escaped : ℕ → List ℕ
+escaped octet = 0x5C ∷ (0x78 ∷ (digits 16 true (octet / 16) ++ digits 16 true (octet % 16)))
+
+-- a character as the user sees it: of a control character the octets that it has in UTF-8
+abbrev pub shown_char : ℕ → List ℕ
+shown_char c = if is_control c then flat_map escaped (encode_utf8 c) else encode_utf8 c
+
+-- A name or a text of a file, as each line shows it: so no file forges a line, or drives a terminal.
+abbrev pub shown_text : List ℕ → List ℕ
+shown_text text = flat_map shown_char (chars text)
+
+-- ---- Elements
 
 -- an Element ID, in upper-case hexadecimal
 abbrev pub id_text : ℕ → List ℕ
@@ -43,4 +65,4 @@ damage_text d = kind_name d.kind ++ (codes ", element " ++ (damaged_id d.id ++ (
 -- a track, by its number from 0 in the file
 abbrev pub track_text : ℕ → List ℕ → List ℕ → ℕ → ℕ → List ℕ → List ℕ
 track_text index type codec number uid language =
-    codes "track " ++ (decimal index ++ (codes ": " ++ (type ++ (codes " " ++ (codec ++ (codes " number " ++ (decimal number ++ (codes " uid " ++ (decimal uid ++ (codes " language " ++ language))))))))))
+    codes "track " ++ (decimal index ++ (codes ": " ++ (type ++ (codes " " ++ (shown_text codec ++ (codes " number " ++ (decimal number ++ (codes " uid " ++ (decimal uid ++ (codes " language " ++ shown_text language))))))))))

@@ -5,6 +5,7 @@
 mod line;
 mod saying;
 mod shown;
+mod shown_text;
 mod status;
 
 pub use line::Line;

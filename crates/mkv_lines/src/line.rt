@@ -1,6 +1,7 @@
 //! The lines that a user is told.
 
 use crate::shown::{Level0Name, Level1Name, ShownDamage, ShownPlace, ShownTrack};
+use crate::shown_text::ShownText;
 use matroska_format::Header;
 use mkv_values::Damage;
 use std::fmt;
@@ -44,14 +45,17 @@ impl fmt::Display for Line<'_> {
             }
             Line::Track(track) => write!(f, "{track}"),
             Line::Refused { name, damage } => {
-                let damage = ShownDamage(damage);
+                let (name, damage) = (ShownText(name), ShownDamage(damage));
                 write!(f, "error: {name}: {damage}")
             }
             Line::Warned { name, damage } => {
-                let damage = ShownDamage(damage);
+                let (name, damage) = (ShownText(name), ShownDamage(damage));
                 write!(f, "warning: {name}: {damage}")
             }
-            Line::Missing { name } => write!(f, "error: {name}: Missing"),
+            Line::Missing { name } => {
+                let name = ShownText(name);
+                write!(f, "error: {name}: Missing")
+            }
             Line::Word { word, why } => write!(f, "error: word {word}: {why}"),
             Line::FilesFault => f.write_str("fault: files"),
         }

@@ -1,5 +1,6 @@
 //! How Elements, sizes and damages are shown in a line.
 
+use crate::shown_text::ShownText;
 use ebml_format::Size;
 use matroska_format::Header;
 use mkv_schema::ids::SEGMENT;
@@ -135,8 +136,8 @@ impl fmt::Display for ShownTrack<'_> {
     ghost output = { λ t. Some (track_text t.index t.type_name.now t.codec.now t.number t.uid t.language.now) };
 
     fn fmt<W: fmt::Write>(&self, f: &mut fmt::Formatter<W>) -> fmt::Result {
-        let (index, type_name, codec) = (self.index, self.type_name, self.codec);
-        let (number, uid, language) = (self.number, self.uid, self.language);
+        let (index, type_name, number, uid) = (self.index, self.type_name, self.number, self.uid);
+        let (codec, language) = (ShownText(self.codec), ShownText(self.language));
         write!(
             f,
             "track {index}: {type_name} {codec} number {number} uid {uid} language {language}"

@@ -60,6 +60,23 @@ fn lines_read_as_they_are_documented(rt: HostRuntime) -> Result<(), Fail> {
         ),
         (Line::Missing { name: "no.mkv" }, "error: no.mkv: Missing"),
         (
+            Line::Missing {
+                name: "a\nerror: \u{1B}[2J\u{7F}\u{85}\u{A0}é\\.mkv",
+            },
+            "error: a\\x0Aerror: \\x1B[2J\\x7F\\xC2\\x85\u{A0}é\\.mkv: Missing",
+        ),
+        (
+            Line::Track(ShownTrack {
+                index: 1,
+                type_name: "video",
+                codec: "V_\r\n",
+                number: 2,
+                uid: 6,
+                language: "\t",
+            }),
+            "track 1: video V_\\x0D\\x0A number 2 uid 6 language \\x09",
+        ),
+        (
             Line::Word {
                 word: 3,
                 why: "UnknownOption",

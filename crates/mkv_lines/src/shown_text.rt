@@ -1,0 +1,74 @@
+//! Names and texts of files, as a line shows them.
+
+ghost use Rattle.std.specs.Fmt.{WritesOnOk};
+ghost use Rattle.mkv_lines.specs.Shown.{shown_text};
+
+use std::fmt;
+
+/// A name or a text of a file. A control character is shown by the octets that it has in UTF-8.
+#[derive(Clone, Copy)]
+pub struct ShownText<'a>(pub &'a str);
+
+impl fmt::Display for ShownText<'_> {
+    ghost use Rattle.std.specs.Prelude.{Some};
+    ghost use Rattle.mkv_lines.specs.Shown.{shown_text};
+
+    ghost output = { λ text. Some (shown_text text.0.now) };
+
+    fn fmt<W: fmt::Write>(&self, f: &mut fmt::Formatter<W>) -> fmt::Result {
+        write_shown(self.0, f)
+    }
+}
+
+// Writes a text as a line shows it.
+fn write_shown<W: fmt::Write>(text: &str, f: &mut fmt::Formatter<W>) -> fmt::Result
+    ensures { WritesOnOk W.write_str_gives f.old result (shown_text text.now) f.new }
+{
+    for c in text.chars() {
+        let shown = ShownChar(c);
+        write!(f, "{shown}")?;
+    }
+    Ok(())
+}
+
+// A character of a text that isn't ours.
+#[derive(Clone, Copy)]
+struct ShownChar(char);
+
+impl fmt::Display for ShownChar {
+    ghost use Rattle.std.specs.Prelude.{Some};
+    ghost use Rattle.mkv_lines.specs.Shown.{shown_char};
+
+    ghost output = { λ c. Some (shown_char c.0) };
+
+    fn fmt<W: fmt::Write>(&self, f: &mut fmt::Formatter<W>) -> fmt::Result {
+        let c = self.0;
+        match u32::from(c) {
+            code @ (0..0x20 | 0x7F) => {
+                let octet = Escaped(code as u8);
+                write!(f, "{octet}")
+            }
+            code @ 0x80..0xA0 => {
+                let (lead, octet) = (Escaped(0xC2), Escaped(code as u8));
+                write!(f, "{lead}{octet}")
+            }
+            _ => write!(f, "{c}"),
+        }
+    }
+}
+
+// An octet of a control character.
+#[derive(Clone, Copy)]
+struct Escaped(u8);
+
+impl fmt::Display for Escaped {
+    ghost use Rattle.std.specs.Prelude.{Some};
+    ghost use Rattle.mkv_lines.specs.Shown.{escaped};
+
+    ghost output = { λ octet. Some (escaped octet.0) };
+
+    fn fmt<W: fmt::Write>(&self, f: &mut fmt::Formatter<W>) -> fmt::Result {
+        let (high, low) = (self.0 / 16, self.0 % 16);
+        write!(f, "\\x{high:X}{low:X}")
+    }
+}
