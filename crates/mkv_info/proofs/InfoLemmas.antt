@@ -9,7 +9,7 @@ use Rattle.element_reader.specs.Outline.{FileOutline, first_in, outline_in}
 use Rattle.element_reader.proofs.OutlineLemmas.{Outlines, Outlines-shown, first_in-others}
 use Rattle.mkv_lines.specs.Line.{level_0_line, level_1_line, refusal_line}
 use Rattle.mkv_lines.specs.Said.{ReportLines, Says, SaysPart}
-use Rattle.mkv_lines.specs.Verdict.{Reaches, Verdict, refused}
+use Rattle.mkv_lines.specs.Verdict.{SaysVerdict, Verdict, refused}
 use Rattle.mkv_lines.specs.declared.status.Status.{Status}
 use Rattle.mkv_lines.specs.declared.status.Stop.{Stop}
 use Rattle.mkv_lines.proofs.SaidLemmas.{SaysPart-before, SaysPart-behind, SaysPart-none, Says-then}
@@ -63,45 +63,45 @@ verdict-is name bytes v of found tracks =
     ∙ ap (with_tracks name of.outlined) (sym (tracks ∙ shown_tracks-are bytes v of))
 
 -- nothing was said yet
-pub reaches-none : (old : ReportLines) (name bytes : List ℕ) (why : Stop) → Reaches old old (Err why) (content_verdict name bytes)
+pub reaches-none : (old : ReportLines) (name bytes : List ℕ) (why : Stop) → SaysVerdict old old (Err why) (content_verdict name bytes)
 reaches-none old name bytes why = SaysPart-none old (content_verdict name bytes).lines
 
 -- the tracks refuse the file
-pub reaches-refused : (old new : ReportLines) (name bytes : List ℕ) (v : FileOutline) (found : Result (List Track) Damage) (d : Damage) (r : Result Status Stop) → outline_in 0 bytes ≡ Ok v → found ≡ tracks_at bytes (first_in TRACKS v) → found ≡ Err d → Reaches old new r (refused (refusal_line name d)) → Reaches old new r (content_verdict name bytes)
+pub reaches-refused : (old new : ReportLines) (name bytes : List ℕ) (v : FileOutline) (found : Result (List Track) Damage) (d : Damage) (r : Result Status Stop) → outline_in 0 bytes ≡ Ok v → found ≡ tracks_at bytes (first_in TRACKS v) → found ≡ Err d → SaysVerdict old new r (refused (refusal_line name d)) → SaysVerdict old new r (content_verdict name bytes)
 reaches-refused old new name bytes v found d r outline tracks is reaches =
     let of = Outlines-shown 0 bytes v outline in
-    subst (λ (w : Verdict). Reaches old new r w) (sym (verdict-is name bytes v of found tracks ∙ ap (with_tracks name of.outlined) is)) reaches
+    subst (λ (w : Verdict). SaysVerdict old new r w) (sym (verdict-is name bytes v of found tracks ∙ ap (with_tracks name of.outlined) is)) reaches
 
 -- the list was begun
-pub reaches-part : (old new : ReportLines) (name bytes : List ℕ) (v : FileOutline) (found : Result (List Track) Damage) (list : List Track) (why : Stop) → outline_in 0 bytes ≡ Ok v → found ≡ tracks_at bytes (first_in TRACKS v) → found ≡ Ok list → SaysPart old new (shown_lines bytes v) → Reaches old new (Err why) (content_verdict name bytes)
+pub reaches-part : (old new : ReportLines) (name bytes : List ℕ) (v : FileOutline) (found : Result (List Track) Damage) (list : List Track) (why : Stop) → outline_in 0 bytes ≡ Ok v → found ≡ tracks_at bytes (first_in TRACKS v) → found ≡ Ok list → SaysPart old new (shown_lines bytes v) → SaysVerdict old new (Err why) (content_verdict name bytes)
 reaches-part old new name bytes v found list why outline tracks is part =
     let of = Outlines-shown 0 bytes v outline in
     let o = of.outlined in
     let lines : SaysPart old new (element_lines o) = subst (λ (l : List (List ℕ)). SaysPart old new l) (shown_lines-is bytes v of) part in
-    subst (λ (w : Verdict). Reaches old new (Err why) w) (sym (verdict-is name bytes v of found tracks ∙ ap (with_tracks name o) is))
+    subst (λ (w : Verdict). SaysVerdict old new (Err why) w) (sym (verdict-is name bytes v of found tracks ∙ ap (with_tracks name o) is))
     (SaysPart-before old new (element_lines o) (track_lines 0 list ++ warnings name o.damage) lines)
 
 -- the Elements were said, and the tracks begun
-pub reaches-second : (old mid new : ReportLines) (name bytes : List ℕ) (v : FileOutline) (found : Result (List Track) Damage) (list : List Track) (why : Stop) → outline_in 0 bytes ≡ Ok v → found ≡ tracks_at bytes (first_in TRACKS v) → found ≡ Ok list → mid ≡ with_lines old (shown_lines bytes v) → SaysPart mid new (track_lines 0 list) → Reaches old new (Err why) (content_verdict name bytes)
+pub reaches-second : (old mid new : ReportLines) (name bytes : List ℕ) (v : FileOutline) (found : Result (List Track) Damage) (list : List Track) (why : Stop) → outline_in 0 bytes ≡ Ok v → found ≡ tracks_at bytes (first_in TRACKS v) → found ≡ Ok list → mid ≡ with_lines old (shown_lines bytes v) → SaysPart mid new (track_lines 0 list) → SaysVerdict old new (Err why) (content_verdict name bytes)
 reaches-second old mid new name bytes v found list why outline tracks is said part =
     let of = Outlines-shown 0 bytes v outline in
     let o = of.outlined in
-    subst (λ (w : Verdict). Reaches old new (Err why) w) (sym (verdict-is name bytes v of found tracks ∙ ap (with_tracks name o) is))
+    subst (λ (w : Verdict). SaysVerdict old new (Err why) w) (sym (verdict-is name bytes v of found tracks ∙ ap (with_tracks name o) is))
     (SaysPart-behind old mid new (element_lines o) (track_lines 0 list ++ warnings name o.damage)
     (said ∙ ap (with_lines old) (shown_lines-is bytes v of))
     (SaysPart-before mid new (track_lines 0 list) (warnings name o.damage) part))
 
 -- both were said, and then the warning
-reaches-listed : (old new : ReportLines) (name : List ℕ) (o : Outlined) (list : List Track) (r : Result Status Stop) → Says old new (element_lines o ++ (track_lines 0 list ++ warnings name o.damage)) r → IfOk r (λ s. s ≡ status_with o.damage) → Reaches old new r (listed name o list)
+reaches-listed : (old new : ReportLines) (name : List ℕ) (o : Outlined) (list : List Track) (r : Result Status Stop) → Says old new (element_lines o ++ (track_lines 0 list ++ warnings name o.damage)) r → IfOk r (λ s. s ≡ status_with o.damage) → SaysVerdict old new r (listed name o list)
 reaches-listed old new name o list (Ok s) says status = (status, says)
 reaches-listed old new name o list (Err why) says status = says
 
-pub reaches-warned : (old mid late new : ReportLines) (name bytes : List ℕ) (v : FileOutline) (found : Result (List Track) Damage) (list : List Track) (damage : Option Damage) (r : Result Status Stop) → outline_in 0 bytes ≡ Ok v → found ≡ tracks_at bytes (first_in TRACKS v) → found ≡ Ok list → damage ≡ v.damage → mid ≡ with_lines old (shown_lines bytes v) → late ≡ with_lines mid (track_lines 0 list) → Says late new (warnings name damage) r → IfOk r (λ s. s ≡ status_with damage) → Reaches old new r (content_verdict name bytes)
+pub reaches-warned : (old mid late new : ReportLines) (name bytes : List ℕ) (v : FileOutline) (found : Result (List Track) Damage) (list : List Track) (damage : Option Damage) (r : Result Status Stop) → outline_in 0 bytes ≡ Ok v → found ≡ tracks_at bytes (first_in TRACKS v) → found ≡ Ok list → damage ≡ v.damage → mid ≡ with_lines old (shown_lines bytes v) → late ≡ with_lines mid (track_lines 0 list) → Says late new (warnings name damage) r → IfOk r (λ s. s ≡ status_with damage) → SaysVerdict old new r (content_verdict name bytes)
 reaches-warned old mid late new name bytes v found list damage r outline tracks is same said then says status =
     let of = Outlines-shown 0 bytes v outline in
     let o = of.outlined in
     let same_damage : damage ≡ o.damage = same ∙ ap (λ (w : FileOutline). w.damage) of.shows in
-    subst (λ (w : Verdict). Reaches old new r w) (sym (verdict-is name bytes v of found tracks ∙ ap (with_tracks name o) is))
+    subst (λ (w : Verdict). SaysVerdict old new r w) (sym (verdict-is name bytes v of found tracks ∙ ap (with_tracks name o) is))
     (reaches-listed old new name o list r
     (Says-then old mid new (element_lines o) (track_lines 0 list ++ warnings name o.damage) r
     (said ∙ ap (with_lines old) (shown_lines-is bytes v of))

@@ -5,7 +5,7 @@ use Rattle.matroska_format.specs.Outline.{Outlined, outline_of, segment_run}
 use Rattle.element_reader.specs.Outline.{FileOutline}
 use Rattle.track_records.specs.declared.track.Track.{Track}
 use Rattle.mkv_lines.specs.Line.{level_0_line, level_1_line, missing_line, refusal_line, warning_line}
-use Rattle.mkv_lines.specs.Verdict.{Verdict, refused}
+use Rattle.mkv_lines.specs.Verdict.{Verdict, nothing, refused}
 use Rattle.mkv_lines.specs.declared.status.Status.{Status}
 use Rattle.mkv_lines.specs.declared.status.Status.TheVariants.{Done, Warned}
 use Rattle.mkv_info.specs.Tracks.{file_tracks, track_lines}
@@ -32,6 +32,7 @@ abbrev pub listed : List ℕ → Outlined → List Track → Verdict
 listed name o tracks = record {
   status = status_with o.damage;
   lines = element_lines o ++ (track_lines 0 tracks ++ warnings name o.damage);
+  outputs = nothing;
 }
 
 -- a file whose tracks are refused isn't listed
@@ -49,6 +50,10 @@ abbrev pub content_verdict : List ℕ → List ℕ → Verdict
 content_verdict name bytes = listed_or_refused name bytes (outline_of 0 bytes)
 
 -- what is told of a name, which may have no content
-abbrev pub info_verdict : List ℕ → Option (List ℕ) → Verdict
-info_verdict name None = refused (missing_line name)
-info_verdict name (Some bytes) = content_verdict name bytes
+abbrev pub name_verdict : List ℕ → Option (List ℕ) → Verdict
+name_verdict name None = refused (missing_line name)
+name_verdict name (Some bytes) = content_verdict name bytes
+
+-- what is told of a name in a world of names
+abbrev pub info_verdict : (List ℕ → Option (List ℕ)) → List ℕ → Verdict
+info_verdict world name = name_verdict name (world name)

@@ -5,6 +5,7 @@ ghost use Rattle.mkv_io.specs.Sources.{live_files};
 ghost use Rattle.mkv_io.specs.Told.{Told};
 ghost use Rattle.mkv_lines.specs.Faults.{HasStopCause};
 ghost use Rattle.mkv_lines.specs.Ordinary.{IsOrdinary};
+ghost use Rattle.mkv_lines.specs.Seen.{seen};
 ghost use Rattle.mkv_lines.specs.Verdict.{Reaches};
 ghost use Rattle.mkv_info.specs.Info.{info_verdict};
 
@@ -21,14 +22,16 @@ pub fn info_of<F: Files, P: Report>(
     files: &mut F,
     report: &mut P,
 ) -> Result<Status, Stop>
-    ensures verdict { Told (F.names files.old) (λ world. Reaches (P.lines report.old) (P.lines report.new) result (info_verdict name.now (world name.now))) }
+    ensures verdict { Told (F.names files.old) (λ world. Reaches
+        (seen F.Reads F.writing_faults F.names P.Report files.old report.old)
+        (seen F.Reads F.writing_faults F.names P.Report files.new report.new)
+        result (info_verdict world name.now)) }
     ensures ordinary { IfOk result IsOrdinary }
     ensures names { F.names files.new ≡ F.names files.old }
     ensures live { (file : ℕ) → (live_files F.Reads files.new).live file ≡ (live_files F.Reads files.old).live file }
     ensures cause { HasStopCause
-        (record { reading = F.reading_faults files.old; writing = F.writing_faults files.old; report = P.faults report.old })
-        (record { reading = F.reading_faults files.new; writing = F.writing_faults files.new; report = P.faults report.new })
-        result }
+        (seen F.Reads F.writing_faults F.names P.Report files.old report.old).counts
+        (seen F.Reads F.writing_faults F.names P.Report files.new report.new).counts result }
 {
     let file = match files.open_file(name) {
         Ok(file) => file,

@@ -1,2 +1,3 @@
 pub mod SaidLemmas
 pub mod ShownLemmas
+pub mod VerdictLemmas

@@ -1,8 +1,11 @@
 #![tactic(auto)]
 
-//! Lines of words with the answers that they must have, and the lines that a user reads: tests alone.
+//! Lines of words with the answers that they must have, the lines that a
+//! user reads, and runs over files in memory: tests alone.
 
 #[cfg(test)]
 mod lines;
+#[cfg(test)]
+mod runs;
 #[cfg(test)]
 mod words;

@@ -7,9 +7,10 @@ ghost use Rattle.mkv_lines.specs.Faults.{HasStatusCause, HasStopCause};
 ghost use Rattle.mkv_lines.specs.Ordinary.{IsOrdinary};
 ghost use Rattle.mkv_lines.specs.Line.{word_line};
 ghost use Rattle.mkv_lines.specs.Said.{HasSayCause};
-ghost use Rattle.mkv_lines.specs.Verdict.{Ends, Reaches, refused};
+ghost use Rattle.mkv_lines.specs.Seen.{seen};
+ghost use Rattle.mkv_lines.specs.Verdict.{Ends, Reaches, SaysVerdict, refused};
 ghost use Rattle.word_values.specs.Place.{texts};
-ghost use Rattle.mkv_cli.specs.Run.{verdict_in, verdict_of};
+ghost use Rattle.mkv_run.specs.Run.{verdict_in, verdict_of};
 
 use crate::help::{help, version};
 use mkv_args::{ArgsEnd, Command, read_words};
@@ -25,15 +26,18 @@ pub fn run<F: Files, R: Report>(
     files: &mut F,
     report: &mut R,
 ) -> Status
-    ensures verdict { Told (verdict_in (F.names files.old) (texts words.now.items)) (λ verdict. Ends
-        (record { reading = F.reading_faults files.old; writing = F.writing_faults files.old; report = R.faults report.old })
-        (record { reading = F.reading_faults files.new; writing = F.writing_faults files.new; report = R.faults report.new })
-        (R.lines report.old) (R.lines report.new) result verdict) }
+    // The status, the lines and the outputs are those of the verdict, as far as a fault of the outside or want of
+    // memory lets it come; no other name has changed.
+    ensures verdict { Told (verdict_in (F.names files.old) (texts words.now.items)) (Ends
+        (seen F.Reads F.writing_faults F.names R.Report files.old report.old)
+        (seen F.Reads F.writing_faults F.names R.Report files.new report.new) result) }
+
+    // Outside is answered only where a count of faults rose, and always where one did.
     ensures cause { HasStatusCause
-        (record { reading = F.reading_faults files.old; writing = F.writing_faults files.old; report = R.faults report.old })
-        (record { reading = F.reading_faults files.new; writing = F.writing_faults files.new; report = R.faults report.new })
-        result }
-    ensures names { F.names files.new ≡ F.names files.old }
+        (seen F.Reads F.writing_faults F.names R.Report files.old report.old).counts
+        (seen F.Reads F.writing_faults F.names R.Report files.new report.new).counts result }
+
+    // No file stays open, and none is closed.
     ensures closed { (file : ℕ) → (live_files F.Reads files.new).live file ≡ (live_files F.Reads files.old).live file }
 {
     match carry_out(alloc, words, files, report) {
@@ -54,13 +58,13 @@ fn carry_out<F: Files, R: Report>(
     files: &mut F,
     report: &mut R,
 ) -> Result<Status, Stop>
-    ensures verdict { Told (verdict_in (F.names files.old) (texts words.now.items)) (λ verdict. Reaches (R.lines report.old) (R.lines report.new) result verdict) }
+    ensures verdict { Told (verdict_in (F.names files.old) (texts words.now.items)) (Reaches
+        (seen F.Reads F.writing_faults F.names R.Report files.old report.old)
+        (seen F.Reads F.writing_faults F.names R.Report files.new report.new) result) }
     ensures ordinary { IfOk result IsOrdinary }
     ensures cause { HasStopCause
-        (record { reading = F.reading_faults files.old; writing = F.writing_faults files.old; report = R.faults report.old })
-        (record { reading = F.reading_faults files.new; writing = F.writing_faults files.new; report = R.faults report.new })
-        result }
-    ensures names { F.names files.new ≡ F.names files.old }
+        (seen F.Reads F.writing_faults F.names R.Report files.old report.old).counts
+        (seen F.Reads F.writing_faults F.names R.Report files.new report.new).counts result }
     ensures closed { (file : ℕ) → (live_files F.Reads files.new).live file ≡ (live_files F.Reads files.old).live file }
 {
     match read_words(alloc, words) {
@@ -77,13 +81,13 @@ fn obey<F: Files, R: Report>(
     files: &mut F,
     report: &mut R,
 ) -> Result<Status, Stop>
-    ensures verdict { Told (verdict_of (F.names files.old) command.now) (λ verdict. Reaches (R.lines report.old) (R.lines report.new) result verdict) }
+    ensures verdict { Told (verdict_of (F.names files.old) command.now) (Reaches
+        (seen F.Reads F.writing_faults F.names R.Report files.old report.old)
+        (seen F.Reads F.writing_faults F.names R.Report files.new report.new) result) }
     ensures ordinary { IfOk result IsOrdinary }
     ensures cause { HasStopCause
-        (record { reading = F.reading_faults files.old; writing = F.writing_faults files.old; report = R.faults report.old })
-        (record { reading = F.reading_faults files.new; writing = F.writing_faults files.new; report = R.faults report.new })
-        result }
-    ensures names { F.names files.new ≡ F.names files.old }
+        (seen F.Reads F.writing_faults F.names R.Report files.old report.old).counts
+        (seen F.Reads F.writing_faults F.names R.Report files.new report.new).counts result }
     ensures closed { (file : ℕ) → (live_files F.Reads files.new).live file ≡ (live_files F.Reads files.old).live file }
 {
     match command {
@@ -96,7 +100,7 @@ fn obey<F: Files, R: Report>(
 
 // Words that aren't obeyed.
 fn refuse<R: Report>(alloc: Global, word: usize, why: &str, report: &mut R) -> Result<Status, Stop>
-    ensures verdict { Reaches (R.lines report.old) (R.lines report.new) result (refused (word_line word why.now)) }
+    ensures verdict { SaysVerdict (R.lines report.old) (R.lines report.new) result (refused (word_line word why.now)) }
     ensures ordinary { IfOk result IsOrdinary }
     ensures cause { HasSayCause (R.faults report.old) (R.faults report.new) result }
 {

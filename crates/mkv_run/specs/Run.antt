@@ -1,5 +1,5 @@
 -- What the words of a command line come to.
-use Rattle.std.specs.Prelude.{ℕ, List, [], ◌∷◌, Option, Some, option_map, Result, Ok, Err}
+use Rattle.std.specs.Prelude.{ℕ, Bool, true, false, if◌then◌else◌, List, [], ◌∷◌, Option, Some, option_map, Result, Ok, Err}
 use Rattle.mkv_io.specs.Names.{Names}
 use Rattle.word_values.specs.Why.{why_name}
 use Rattle.word_values.specs.declared.usage.Usage.{Usage}
@@ -15,21 +15,30 @@ use Rattle.mkv_info.specs.Info.{info_verdict}
 abbrev pub usage_line : Usage → List ℕ
 usage_line usage = word_line usage.word (why_name usage.why)
 
-abbrev pub not_built : Option Verdict
-not_built = Some (refused not_built_line)
+-- Which commands are built, whatever their words are.
+abbrev pub is_built : Command → Bool
+is_built Help = true
+is_built Version = true
+is_built (Info file) = true
+is_built (Identify file) = false
+is_built (Recover file) = false
+is_built (Reindex file) = false
+is_built (Generate n prefix) = false
+is_built (Extract file job) = false
+is_built (Propedit file edits) = false
+is_built (Merge words) = false
 
--- what a command comes to, where the names tell
+-- What a command that is built comes to, where the names tell: its verdict is a function of the whole world of
+-- names. What asks for no file needs none of them.
+abbrev pub built_verdict : Names → Command → Option Verdict
+built_verdict names Help = Some (done usage_lines)
+built_verdict names Version = Some (done (version_line ∷ []))
+built_verdict names (Info file) = option_map (λ world. info_verdict world file) names
+built_verdict names _ = Some (refused not_built_line)
+
+-- what a command comes to; one that isn't built is refused
 abbrev pub verdict_of : Names → Command → Option Verdict
-verdict_of names Help = Some (done usage_lines)
-verdict_of names Version = Some (done (version_line ∷ []))
-verdict_of names (Info file) = option_map (λ world. info_verdict file (world file)) names
-verdict_of names (Identify file) = not_built
-verdict_of names (Recover file) = not_built
-verdict_of names (Reindex file) = not_built
-verdict_of names (Generate n prefix) = not_built
-verdict_of names (Extract file job) = not_built
-verdict_of names (Propedit file edits) = not_built
-verdict_of names (Merge words) = not_built
+verdict_of names command = if is_built command then built_verdict names command else Some (refused not_built_line)
 
 -- words that are no command are refused, whatever the names tell
 abbrev pub verdict_after : Names → Result Command Usage → Option Verdict

@@ -1,6 +1,6 @@
 use Rattle.std.proofs.Common.{◌≡◌, drop}
 use Rattle.mkv_lines.specs.Said.{SaysUpTo}
-use Rattle.mkv_cli.proofs.help.say_texts.Given as goal
+use Rattle.mkv_run.proofs.help.say_texts.Given as goal
 
 abbrev pub invariant-loop-text : goal.invariant-loop-text
 invariant-loop-text g l = record {

@@ -3,8 +3,8 @@ use Rattle.std.proofs.lemmas.Result.{err_from_is_err_and}
 use Rattle.mkv_io.specs.Lines.{with_lines}
 use Rattle.mkv_lines.specs.Said.{SaysPart}
 use Rattle.mkv_lines.proofs.SaidLemmas.{SaysUpTo-more, SaysUpTo-stops}
-use Rattle.mkv_cli.proofs.RunLemmas.{texts-next}
-use Rattle.mkv_cli.proofs.help.say_texts.Goals as goal
+use Rattle.mkv_run.proofs.RunLemmas.{texts-next}
+use Rattle.mkv_run.proofs.help.say_texts.Goals as goal
 
 -- a text couldn't be said
 pub returns-in_err-say_text-clause-said : goal.returns-in_err-say_text-clause-said

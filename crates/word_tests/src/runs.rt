@@ -1,8 +1,8 @@
 //! Runs over files and a report in memory: what is printed, and what a failure leaves.
 
-use crate::run::run;
 use mkv_lines::Status;
 use mkv_memory::{MemFiles, MemReport};
+use mkv_run::run;
 use std::alloc::{AllocError, Global};
 use std::test::Fail;
 

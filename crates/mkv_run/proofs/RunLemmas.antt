@@ -6,7 +6,11 @@ use Rattle.mkv_io.specs.Lines.{with_lines}
 use Rattle.mkv_lines.specs.Faults.{Counts, FilesRose}
 use Rattle.mkv_lines.specs.Line.{files_fault_line}
 use Rattle.mkv_lines.specs.Said.{HasSayCause, ReportLines, Says, SaysPart, SaysUpTo}
-use Rattle.mkv_lines.specs.Verdict.{EndsOutside, SaysFault}
+use Rattle.mkv_lines.specs.Verdict.{Ends, EndsOutside, IsDone, Reaches, SaysFault, Verdict}
+use Rattle.mkv_lines.specs.Ordinary.{IsOrdinary}
+use Rattle.mkv_lines.specs.Seen.{Seen}
+use Rattle.mkv_lines.specs.declared.status.Status.{Status}
+use Rattle.mkv_lines.specs.declared.status.Status.TheVariants as status
 use Rattle.mkv_lines.specs.declared.status.Stop.{Stop}
 use Rattle.mkv_lines.specs.declared.status.Stop.TheVariants as stop
 use Rattle.mkv_lines.proofs.SaidLemmas.{with_lines-both, with_lines-none}
@@ -41,6 +45,14 @@ ends-fault before now report old mid new all (Err stop.Memory) files same part s
 ends-fault before now report old mid new all (Err stop.Files) files same part says cause some = absurd cause
 ends-fault before now report old mid new all (Err stop.Report) files same part says cause some =
     fault_or_not before now old mid new all says.said says.left files (subst (λ (n : ℕ). HasRisen n now.report) same cause) part says.whole says.added
+
+-- a command that ended ends the run
+pub ends-done : (old new : Seen) (s : Status) (v : Verdict) → IsOrdinary s → Reaches old new (Ok s) v → Ends old new s v
+ends-done old new status.Done v ordinary reaches = reaches
+ends-done old new status.Warned v ordinary reaches = reaches
+ends-done old new status.Refused v ordinary reaches = reaches
+ends-done old new status.NoMemory v ordinary reaches = absurd ordinary
+ends-done old new status.Outside v ordinary reaches = absurd ordinary
 
 -- ---- texts that are said one after the other
 

@@ -4,7 +4,7 @@ ghost use Rattle.std.specs.Prelude.{◌≡◌, ◌∷◌, [], List, ℕ, IfOk};
 ghost use Rattle.mkv_args.specs.Help.{usage_lines, version_line};
 ghost use Rattle.mkv_lines.specs.Ordinary.{IsOrdinary};
 ghost use Rattle.mkv_lines.specs.Said.{HasSayCause, Says};
-ghost use Rattle.mkv_lines.specs.Verdict.{Reaches, done};
+ghost use Rattle.mkv_lines.specs.Verdict.{SaysVerdict, done};
 
 use mkv_args::{usage_lines, version_line};
 use mkv_io::Report;
@@ -14,7 +14,7 @@ use std::alloc::Global;
 
 /// Says how the words are written.
 pub fn help<R: Report>(alloc: Global, report: &mut R) -> Result<Status, Stop>
-    ensures verdict { Reaches (R.lines report.old) (R.lines report.new) result (done usage_lines) }
+    ensures verdict { SaysVerdict (R.lines report.old) (R.lines report.new) result (done usage_lines) }
     ensures ordinary { IfOk result IsOrdinary }
     ensures cause { HasSayCause (R.faults report.old) (R.faults report.new) result }
 {
@@ -27,7 +27,7 @@ pub fn help<R: Report>(alloc: Global, report: &mut R) -> Result<Status, Stop>
 
 /// Says the name and the version.
 pub fn version<R: Report>(report: &mut R) -> Result<Status, Stop>
-    ensures verdict { Reaches (R.lines report.old) (R.lines report.new) result (done (version_line ∷ [])) }
+    ensures verdict { SaysVerdict (R.lines report.old) (R.lines report.new) result (done (version_line ∷ [])) }
     ensures ordinary { IfOk result IsOrdinary }
     ensures cause { HasSayCause (R.faults report.old) (R.faults report.new) result }
 {

@@ -1,0 +1,10 @@
+#![tactic(auto)]
+
+//! A run of the suite, from the words of its command line to its exit status, over any files and any report.
+
+mod exit;
+mod help;
+mod running;
+
+pub use exit::{program, words_of};
+pub use running::run;
