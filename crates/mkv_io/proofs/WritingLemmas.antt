@@ -1,10 +1,10 @@
 -- Calls that only write to live files, one after the other: laws for whoever writes files.
-use Rattle.std.proofs.Common.{◌≡◌, ◌≢◌, ◌≤◌, ℕ, Bool, true, false, MatchBool, List, [], ◌∷◌, Result, Ok, Err, refl, sym, ◌∙◌, subst, arith}
+use Rattle.std.proofs.Common.{◌≡◌, ◌≢◌, ◌≤◌, ℕ, Bool, true, false, MatchBool, List, [], ◌∷◌, Result, Ok, Err, refl, sym, ◌∙◌, ap, subst, arith}
 use Rattle.mkv_io.specs.Faults.{HasCause, HasRisen}
 use Rattle.mkv_io.specs.LiveFiles.{IsSameFile, KeepsFiles, KeepsHolders, LiveFiles}
 use Rattle.mkv_io.specs.Names.{AreOthers}
-use Rattle.mkv_io.specs.Sources.{live_files}
-use Rattle.mkv_io.specs.Writing.{WritesOnly}
+use Rattle.mkv_io.specs.Sources.{OnlyReads, live_files}
+use Rattle.mkv_io.specs.Writing.{KeepsOthers, WritesOnly}
 use Rattle.mkv_io.specs.declared.reads.Reads.{Ghosts}
 use Rattle.mkv_io.specs.declared.files.Files as writing
 
@@ -16,21 +16,20 @@ IsSameFile-twice a b c file first next = record {
   content = λ live. next.content (first.alive ∙ live) ∙ first.content live;
 }
 
--- nothing is written
-pub WritesOnly-none : {S : Type 0} (r : Ghosts S) (f : writing.Ghosts S) (names : List (List ℕ)) (files : S) → WritesOnly r f names files files
-WritesOnly-none r f names files = record {
+-- ---- what stays
+
+-- nothing happens
+pub KeepsOthers-none : {S : Type 0} (r : Ghosts S) (f : writing.Ghosts S) (names : List (List ℕ)) (files : S) → KeepsOthers r f names files files
+KeepsOthers-none r f names files = record {
   live = λ file. refl;
   given = refl;
   holders = λ file live. refl;
   others = λ file is. record { alive = refl; size = λ live. refl; content = λ live. refl };
-  reading = refl;
-  octets = refl;
-  faults = omega arith;
 }
 
 -- two calls
-pub WritesOnly-then : {S : Type 0} (r : Ghosts S) (f : writing.Ghosts S) (names : List (List ℕ)) (a b c : S) → WritesOnly r f names a b → WritesOnly r f names b c → WritesOnly r f names a c
-WritesOnly-then r f names a b c first next = record {
+pub KeepsOthers-then : {S : Type 0} (r : Ghosts S) (f : writing.Ghosts S) (names : List (List ℕ)) (a b c : S) → KeepsOthers r f names a b → KeepsOthers r f names b c → KeepsOthers r f names a c
+KeepsOthers-then r f names a b c first next = record {
   live = λ file. next.live file ∙ first.live file;
   given = next.given ∙ first.given;
   holders = λ file live. next.holders file (first.live file ∙ live) ∙ first.holders file live;
@@ -39,9 +38,6 @@ WritesOnly-then r f names a b c first next = record {
     size = λ live. (again file other live).size (first.live file ∙ live) ∙ (first.others file other).size live;
     content = λ live. (again file other live).content (first.live file ∙ live) ∙ (first.others file other).content live;
   };
-  reading = next.reading ∙ first.reading;
-  octets = next.octets ∙ first.octets;
-  faults = let earlier = first.faults in let later = next.faults in omega arith;
 }
   where
     again : (file : ℕ) → AreOthers (f.holder a file) names → (live_files r a).live file ≡ true → IsSameFile (live_files r b) (live_files r c) file
@@ -49,13 +45,47 @@ WritesOnly-then r f names a b c first next = record {
         let P : List ℕ → Type 0 = λ name. AreOthers name names in
         next.others file (subst P (sym (first.holders file live)) other)
 
--- a call that may write under these names may write under more
+-- what leaves all names but these leaves all but these and more
+pub KeepsOthers-more : {S : Type 0} (r : Ghosts S) (f : writing.Ghosts S) (names more : List (List ℕ)) (old new : S) → ((name : List ℕ) → AreOthers name more → AreOthers name names) → KeepsOthers r f names old new → KeepsOthers r f more old new
+KeepsOthers-more r f names more old new among kept = record {
+  live = kept.live;
+  given = kept.given;
+  holders = kept.holders;
+  others = λ file other. kept.others file (among (f.holder old file) other);
+}
+
+-- a call that only reads leaves all names
+pub KeepsOthers-read : {S : Type 0} (r : Ghosts S) (f : writing.Ghosts S) (names : List (List ℕ)) (old new : S) → OnlyReads r old new → f.given new ≡ f.given old → ((file : ℕ) → f.holder new file ≡ f.holder old file) → KeepsOthers r f names old new
+KeepsOthers-read r f names old new reads given holders = record {
+  live = λ file. ap (λ standing. (r.files standing).live file) reads.standing;
+  given = given;
+  holders = λ file live. holders file;
+  others = λ file is. record {
+    alive = ap (λ standing. (r.files standing).live file) reads.standing;
+    size = λ live. ap (λ standing. (r.files standing).size file) reads.standing;
+    content = λ live. ap (λ standing. (r.files standing).content file) reads.standing;
+  };
+}
+
+-- ---- calls that write
+
+-- nothing is written
+pub WritesOnly-none : {S : Type 0} (r : Ghosts S) (f : writing.Ghosts S) (names : List (List ℕ)) (files : S) → WritesOnly r f names files files
+WritesOnly-none r f names files = record { kept = KeepsOthers-none r f names files; reading = refl; octets = refl; faults = omega arith }
+
+-- two calls
+pub WritesOnly-then : {S : Type 0} (r : Ghosts S) (f : writing.Ghosts S) (names : List (List ℕ)) (a b c : S) → WritesOnly r f names a b → WritesOnly r f names b c → WritesOnly r f names a c
+WritesOnly-then r f names a b c first next = record {
+  kept = KeepsOthers-then r f names a b c first.kept next.kept;
+  reading = next.reading ∙ first.reading;
+  octets = next.octets ∙ first.octets;
+  faults = let earlier = first.faults in let later = next.faults in omega arith;
+}
+
+-- a call that writes only under these names writes only under these and more
 pub WritesOnly-more : {S : Type 0} (r : Ghosts S) (f : writing.Ghosts S) (names more : List (List ℕ)) (old new : S) → ((name : List ℕ) → AreOthers name more → AreOthers name names) → WritesOnly r f names old new → WritesOnly r f more old new
 WritesOnly-more r f names more old new among only = record {
-  live = only.live;
-  given = only.given;
-  holders = only.holders;
-  others = λ file other. only.others file (among (f.holder old file) other);
+  kept = KeepsOthers-more r f names more old new among only.kept;
   reading = only.reading;
   octets = only.octets;
   faults = only.faults;
@@ -81,10 +111,7 @@ pub WritesOnly-one : {S T E : Type 0} (r : Ghosts S) (f : writing.Ghosts S) (old
     → r.octets_read new ≡ r.octets_read old
     → WritesOnly r f (f.holder old file ∷ []) old new
 WritesOnly-one r f old new file is_fault result given alive others holders cause reading octets = record {
-  live = alive;
-  given = given;
-  holders = holders;
-  others = λ other differs. others other (λ same. differs.0 (sym same));
+  kept = record { live = alive; given = given; holders = holders; others = λ other differs. others other (λ same. differs.0 (sym same)) };
   reading = reading;
   octets = octets;
   faults = HasCause-later is_fault (f.writing_faults old) (f.writing_faults new) result cause;
