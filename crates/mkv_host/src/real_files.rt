@@ -110,7 +110,9 @@ impl<'a, R: fs::Files<File = File>> Files for RealFiles<'a, R> {
 
     ghost writing_faults = { λ files. files.writing_faults };
 
-    ghost held = { λ files file live world told. cc };
+    ghost named = { λ files file live world told. cc };
+
+    ghost there = { λ files file live world told. cc };
 
     ghost numbered = { λ files file live. numbered-live files.opened.items file live };
 

@@ -1,1 +1,3 @@
 pub mod NamesLemmas
+pub mod SourcesLemmas
+pub mod WritingLemmas

@@ -1,5 +1,5 @@
 -- What a change of one name's content makes of the names: laws for whoever writes files.
-use Rattle.std.proofs.Common.{◌≡◌, ◌≢◌, ℕ, List, ◌++◌, Option, Some, None, option_map, Bool, true, false, if◌then◌else◌, refl, sym, ◌∙◌, ap, subst}
+use Rattle.std.proofs.Common.{◌≡◌, ◌≢◌, ℕ, List, [], ◌++◌, append_assoc, append-nil, Option, Some, None, option_map, Bool, true, false, if◌then◌else◌, refl, sym, ◌∙◌, ap, subst}
 use Rattle.std.specs.Str.{bytes_eq}
 use Rattle.std.proofs.lemmas.Slice.Eq.{bytes_eq-Decides}
 use Rattle.mkv_io.specs.Contents.{overwritten, with_appended, with_overwritten}
@@ -33,6 +33,16 @@ changed_at-nothing world name change same = same_world _ _ (λ other. step other
     step other true is = let P : List ℕ → Type 0 = λ each. change (world each) ≡ world each in subst P (is refl) same
     step other false is = refl
 
+-- changes of two names may come in either order
+pub changed_at-swap : (world : List ℕ → Option (List ℕ)) (a b : List ℕ) (f g : Option (List ℕ) → Option (List ℕ)) → b ≢ a → changed_at a f (changed_at b g world) ≡ changed_at b g (changed_at a f world)
+changed_at-swap world a b f g differs = same_world _ _ (λ other. step other (bytes_eq a other) (bytes_eq b other) (bytes_eq-Decides a other).0 (bytes_eq-Decides b other).0)
+  where
+    step : (other : List ℕ) (is_a is_b : Bool) → (is_a ≡ true → a ≡ other) → (is_b ≡ true → b ≡ other) → (if is_a then f (if is_b then g (world other) else world other) else (if is_b then g (world other) else world other)) ≡ (if is_b then g (if is_a then f (world other) else world other) else (if is_a then f (world other) else world other))
+    step other true true a_is b_is = absurd (differs (b_is refl ∙ sym (a_is refl)))
+    step other true false a_is b_is = refl
+    step other false true a_is b_is = refl
+    step other false false a_is b_is = refl
+
 -- two changes of one name are one
 pub changed_at-twice : (world : List ℕ → Option (List ℕ)) (name : List ℕ) (first next : Option (List ℕ) → Option (List ℕ)) → changed_at name next (changed_at name first world) ≡ changed_at name (λ content. next (first content)) world
 changed_at-twice world name first next = same_world _ _ (λ other. step other (bytes_eq name other))
@@ -45,6 +55,11 @@ changed_at-twice world name first next = same_world _ _ (λ other. step other (b
 pub with_change-twice : (names : Names) (name : List ℕ) (first next : Option (List ℕ) → Option (List ℕ)) → with_change (with_change names name first) name next ≡ with_change names name (λ content. next (first content))
 with_change-twice None name first next = refl
 with_change-twice (Some world) name first next = ap Some (changed_at-twice world name first next)
+
+-- changes of two names that may not be told, in either order
+pub with_change-swap : (names : Names) (a b : List ℕ) (f g : Option (List ℕ) → Option (List ℕ)) → b ≢ a → with_change (with_change names b g) a f ≡ with_change (with_change names a f) b g
+with_change-swap None a b f g differs = refl
+with_change-swap (Some world) a b f g differs = ap Some (changed_at-swap world a b f g differs)
 
 -- two changes of a content that is there are one
 pub with_change-mapped : (names : Names) (name : List ℕ) (first next : List ℕ → List ℕ) → with_change (with_change names name (option_map first)) name (option_map next) ≡ with_change names name (option_map (λ bytes. next (first bytes)))
@@ -66,3 +81,20 @@ with_content-appended names name bytes more = with_content-mapped names name byt
 -- over which octets are written
 pub with_content-overwritten : (names : Names) (name bytes : List ℕ) (at : ℕ) (now : List ℕ) → with_change (with_content names name bytes) name (with_overwritten at now) ≡ with_content names name (overwritten bytes at now)
 with_content-overwritten names name bytes at now = with_content-mapped names name bytes (λ each. overwritten each at now)
+
+-- ---- octets that are appended to a name's content
+
+-- no octets are
+pub with_change-none : (names : Names) (name : List ℕ) → with_change names name (with_appended []) ≡ names
+with_change-none None name = refl
+with_change-none (Some world) name = ap Some (changed_at-nothing world name (with_appended []) (same (world name)))
+  where
+    same : (content : Option (List ℕ)) → with_appended [] content ≡ content
+    same None = refl
+    same (Some bytes) = ap Some (append-nil bytes)
+
+-- some are, and then others behind them
+pub with_change-more : (names : Names) (name first next : List ℕ) → with_change (with_change names name (with_appended first)) name (with_appended next) ≡ with_change names name (with_appended (first ++ next))
+with_change-more names name first next =
+    with_change-mapped names name (λ bytes. bytes ++ first) (λ bytes. bytes ++ next)
+    ∙ ap (λ (f : List ℕ → List ℕ). with_change names name (option_map f)) (λ i bytes. append_assoc bytes first next i)

@@ -25,8 +25,8 @@ pub record HasRisen (before now : ℕ) : Type 0 where
   pub later : before ≤ now
   pub rose : Rose before now
 
--- A fault is told only where its count rose, and every other answer leaves the count. The test says which
--- refusals tell one.
+-- A call that tells a fault has counted it, and a call that ends in any other way leaves the count. The test says
+-- which refusals tell a fault of this count.
 abbrev pub HasCause : {T E : Type 0} → (E → Bool) → ℕ → ℕ → Result T E → Type 0
 HasCause is_fault before now (Ok _) = now ≡ before
 HasCause is_fault before now (Err e) = MatchBool (is_fault e) (HasRisen before now) (now ≡ before)

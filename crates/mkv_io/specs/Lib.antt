@@ -5,3 +5,4 @@ pub mod LiveFiles
 pub mod Names
 pub mod Sources
 pub mod Told
+pub mod Writing

@@ -1,5 +1,5 @@
 -- The names of files, and the content of each.
-use Rattle.std.specs.Prelude.{ℕ, List, Option, Some, None, if◌then◌else◌}
+use Rattle.std.specs.Prelude.{◌≢◌, ℕ, List, [], ◌∷◌, Option, Some, None, if◌then◌else◌}
 use Rattle.std.specs.Str.{bytes_eq}
 
 -- Every name's content, None where there is no file of that name; all of it None where it isn't told.
@@ -18,3 +18,13 @@ with_change (Some world) name change = Some (changed_at name change world)
 -- a name gets a content, whatever it was
 abbrev pub with_content : Names → List ℕ → List ℕ → Names
 with_content names name bytes = with_change names name (λ _. Some bytes)
+
+-- None of these names is that one.
+abbrev pub AreOthers : List ℕ → List (List ℕ) → Type 0
+AreOthers name [] = Unit {0}
+AreOthers name (other ∷ names) = (other ≢ name) × AreOthers name names
+
+-- No two of these names are one.
+abbrev pub AreApart : List (List ℕ) → Type 0
+AreApart [] = Unit {0}
+AreApart (name ∷ names) = AreOthers name names × AreApart names

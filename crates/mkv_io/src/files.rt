@@ -1,6 +1,6 @@
 //! Files that are opened by name, made, and written.
 
-ghost use Rattle.std.specs.Prelude.{◌≡◌, ◌≢◌, ◌⊎◌, ◌↔◌, ℕ, ◌+◌, ◌<◌, ◌≤◌, ◌^◌, Bool, true, false, List, [], length, Option, Some, None, OnOk, OnErr, IfOk, IsErrOf, IsTrue};
+ghost use Rattle.std.specs.Prelude.{◌≡◌, ◌≢◌, ◌⊎◌, ◌↔◌, ℕ, ◌+◌, ◌<◌, ◌≤◌, ◌^◌, Bool, true, false, List, [], length, Option, Some, None, is_some, OnOk, OnErr, IfOk, IsErrOf, IsTrue};
 ghost use Rattle.mkv_io.specs.Faults.{HasCause, is_failure, is_make_failure, is_open_failure, last_count};
 ghost use Rattle.mkv_io.specs.LiveFiles.{Appends, AppendsPart, KeepsFiles, KeepsHolders, Overwrites, OverwritesWithin};
 ghost use Rattle.mkv_io.specs.Names.{Names, with_change, with_content};
@@ -59,7 +59,8 @@ pub trait Files: Reads {
         // At the last number no file is made.
         ensures full { given self.old ≡ last_count → IsErrOf result MakeFault.Failed }
 
-        // After want of memory everything is as before.
+        // A refusal leaves no other file live, and after want of memory everything is as before.
+        ensures refused { OnErr result ((file : ℕ) → (Self.files (Self.standing self.new)).live file ≡ (Self.files (Self.standing self.old)).live file) }
         ensures err { OnErr result ((names self.new ≡ names self.old) ⊎ (names self.new ≡ with_content (names self.old) name.now [])) }
         ensures memory { IsErrOf result MakeFault.Memory → Self.standing self.new ≡ Self.standing self.old }
         ensures given { given self.old ≤ given self.new }
@@ -123,7 +124,10 @@ pub trait Files: Reads {
         ensures octets { Self.octets_read self.new ≡ Self.octets_read self.old };
 
     /// Where the names are told, a live file's content is that of the name under which it was opened.
-    ghost held: { (x : Self) (file : ℕ) → (Self.Reads.files (Self.Reads.standing x)).live file ≡ true → Told (names x) (λ world. (Self.Reads.files (Self.Reads.standing x)).content file ≡ world (holder x file)) };
+    ghost named: { (x : Self) (file : ℕ) → (Self.Reads.files (Self.Reads.standing x)).live file ≡ true → Told (names x) (λ world. (Self.Reads.files (Self.Reads.standing x)).content file ≡ world (holder x file)) };
+
+    /// Where the names are told, the name of a live file has a content.
+    ghost there: { (x : Self) (file : ℕ) → (Self.Reads.files (Self.Reads.standing x)).live file ≡ true → Told (names x) (λ world. is_some (world (holder x file)) ≡ true) };
 
     /// A live file's number was given to it.
     ghost numbered: { (x : Self) (file : ℕ) → (Self.Reads.files (Self.Reads.standing x)).live file ≡ true → file < given x };

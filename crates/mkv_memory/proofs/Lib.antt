@@ -1,4 +1,4 @@
 pub mod CutsLemmas
-pub mod HeldLemmas
 pub mod NamesLemmas
 pub mod SeenFilesLemmas
+pub mod StoredLemmas

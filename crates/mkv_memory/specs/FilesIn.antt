@@ -2,12 +2,12 @@
 use Rattle.std.specs.BTreeMap.{get}
 use Rattle.std.specs.Ordering.{nat_cmp}
 use Rattle.mkv_memory.specs.SeenFiles.{SeenFiles}
-use Rattle.mkv_memory.specs.Stored.{held_in}
+use Rattle.mkv_memory.specs.StoreIn.{stored_in}
 use Rattle.mkv_memory.specs.declared.mem_files.MemFiles.{MemFiles}
 
 abbrev pub seen : MemFiles → SeenFiles
 seen files = record {
-  held = held_in files.store;
+  stored = stored_in files.store;
   to_fail = get nat_cmp files.failing;
   calls = files.calls;
   reading_faults = files.reading_faults;

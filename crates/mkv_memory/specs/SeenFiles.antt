@@ -8,12 +8,12 @@ use Rattle.mkv_values.specs.declared.outside.MakeFault.{MakeFault}
 use Rattle.mkv_values.specs.declared.outside.MakeFault.TheVariants as make_fault
 use Rattle.mkv_io.specs.Contents.{octets_from, with_appended, with_overwritten}
 use Rattle.mkv_io.specs.Faults.{counted, last_count}
-use Rattle.mkv_memory.specs.Held.{Held, closed, octets_of, opened_under, with_changed_file, with_content_at}
+use Rattle.mkv_memory.specs.Stored.{Stored, closed, file_octets, opened_under, with_changed_file, with_content_at}
 
--- What the files hold, which calls are to fail, and the counts. A call is told by its number, from
+-- What is stored, which calls are to fail, and the counts. A call is told by its number, from
 -- 0 on; one that is to fail has a number of octets, which it keeps if it is an append.
 pub record SeenFiles : Type 0 where
-  pub held : Held
+  pub stored : Stored
   pub to_fail : ℕ → Option ℕ
   pub calls : ℕ
   pub reading_faults : ℕ
@@ -23,7 +23,7 @@ pub record SeenFiles : Type 0 where
 -- no names, and no call that is to fail
 abbrev pub no_files : SeenFiles
 no_files = record {
-  held = record { world = λ _. None; opened = [] };
+  stored = record { world = λ _. None; opened = [] };
   to_fail = λ _. None;
   calls = 0;
   reading_faults = 0;
@@ -35,9 +35,9 @@ no_files = record {
 abbrev pub with_failure : SeenFiles → ℕ → ℕ → SeenFiles
 with_failure old call kept = record old { to_fail = λ other. if other == call then Some kept else old.to_fail other }
 
--- something else is held
-abbrev pub holding : SeenFiles → Held → SeenFiles
-holding old held = record old { held = held }
+-- other names, contents and files are stored
+abbrev pub with_stored : SeenFiles → Stored → SeenFiles
+with_stored old stored = record old { stored = stored }
 
 -- ---- what counted calls have in common
 
@@ -59,7 +59,7 @@ is_to_fail old = is_some (old.to_fail old.calls)
 
 -- the call that comes next can open no file: it is to fail, or no number is left
 abbrev pub cannot_open : SeenFiles → Bool
-cannot_open old = is_to_fail old || (length old.held.opened == last_count)
+cannot_open old = is_to_fail old || (length old.stored.opened == last_count)
 
 -- ---- what each call does
 
@@ -67,7 +67,7 @@ cannot_open old = is_to_fail old || (length old.held.opened == last_count)
 -- its octets.
 abbrev pub ReadsAt : {T : Type 0} → SeenFiles → ℕ → ℕ → List ℕ → List ℕ → Result T Failed → SeenFiles → Type 0
 ReadsAt old file at was into (Ok _) new =
-    (is_to_fail old ≡ false) × (into ≡ octets_from (octets_of old.held file) at (length was))
+    (is_to_fail old ≡ false) × (into ≡ octets_from (file_octets old.stored file) at (length was))
     × (new ≡ record (called old) { octets_read = counted old.octets_read (length was) })
 ReadsAt old file at was into (Err _) new = (is_to_fail old ≡ true) × (into ≡ was) × (new ≡ failed_to_read old)
 
@@ -75,26 +75,26 @@ ReadsAt old file at was into (Err _) new = (is_to_fail old ≡ true) × (into �
 -- be opened, and otherwise the next number is that of a file under the name.
 abbrev pub OpensName : SeenFiles → List ℕ → Result FileId OpenFault → SeenFiles → Type 0
 OpensName old name (Ok file) new =
-    (is_some (old.held.world name) ≡ true) × (cannot_open old ≡ false) × (file.n ≡ length old.held.opened)
-    × (new ≡ holding (called old) (opened_under old.held name))
-OpensName old name (Err open_fault.Missing) new = (old.held.world name ≡ None) × (new ≡ called old)
+    (is_some (old.stored.world name) ≡ true) × (cannot_open old ≡ false) × (file.n ≡ length old.stored.opened)
+    × (new ≡ with_stored (called old) (opened_under old.stored name))
+OpensName old name (Err open_fault.Missing) new = (old.stored.world name ≡ None) × (new ≡ called old)
 OpensName old name (Err open_fault.Failed) new =
-    (is_some (old.held.world name) ≡ true) × (cannot_open old ≡ true) × (new ≡ failed_to_read old)
+    (is_some (old.stored.world name) ≡ true) × (cannot_open old ≡ true) × (new ≡ failed_to_read old)
 OpensName old name (Err open_fault.Memory) new =
-    (is_some (old.held.world name) ≡ true) × (cannot_open old ≡ false) × (new ≡ called old)
+    (is_some (old.stored.world name) ≡ true) × (cannot_open old ≡ false) × (new ≡ called old)
 
 -- Making a file fails exactly where none can be opened. Else the name's content is empty, and the
 -- next number is that of a file under it.
 abbrev pub CreatesName : SeenFiles → List ℕ → Result FileId MakeFault → SeenFiles → Type 0
 CreatesName old name (Ok file) new =
-    (cannot_open old ≡ false) × (file.n ≡ length old.held.opened)
-    × (new ≡ holding (called old) (opened_under (with_content_at old.held name []) name))
+    (cannot_open old ≡ false) × (file.n ≡ length old.stored.opened)
+    × (new ≡ with_stored (called old) (opened_under (with_content_at old.stored name []) name))
 CreatesName old name (Err make_fault.Failed) new = (cannot_open old ≡ true) × (new ≡ failed_to_write old)
 CreatesName old name (Err make_fault.Memory) new = (cannot_open old ≡ false) × (new ≡ called old)
 
 -- these octets would make a file longer than any may be
 abbrev pub is_too_much : SeenFiles → ℕ → List ℕ → Bool
-is_too_much old file more = nat_lt (2 ^ 48) (length (octets_of old.held file) + length more)
+is_too_much old file more = nat_lt (2 ^ 48) (length (file_octets old.stored file) + length more)
 
 -- How many octets a failing append keeps: none of too many, else as many as it is to, or all but
 -- the last where they are fewer.
@@ -106,19 +106,19 @@ kept_by old file more = if is_too_much old file more then 0 else min (unwrap_or 
 abbrev pub AppendsTo : {T : Type 0} → SeenFiles → ℕ → List ℕ → Result T MakeFault → SeenFiles → Type 0
 AppendsTo old file more (Ok _) new =
     ((is_to_fail old || is_too_much old file more) ≡ false)
-    × (new ≡ holding (called old) (with_changed_file old.held file (with_appended more)))
+    × (new ≡ with_stored (called old) (with_changed_file old.stored file (with_appended more)))
 AppendsTo old file more (Err make_fault.Failed) new =
     ((is_to_fail old || is_too_much old file more) ≡ true)
-    × (new ≡ holding (failed_to_write old) (with_changed_file old.held file (with_appended (take (kept_by old file more) more))))
+    × (new ≡ with_stored (failed_to_write old) (with_changed_file old.stored file (with_appended (take (kept_by old file more) more))))
 AppendsTo old file more (Err make_fault.Memory) new = (is_too_much old file more ≡ false) × (new ≡ called old)
 
 -- Overwriting fails exactly where it is to, and then changes nothing.
 abbrev pub OverwritesIn : {T : Type 0} → SeenFiles → ℕ → ℕ → List ℕ → Result T Failed → SeenFiles → Type 0
 OverwritesIn old file at bytes (Ok _) new =
     (is_to_fail old ≡ false)
-    × (new ≡ holding (called old) (with_changed_file old.held file (with_overwritten at bytes)))
+    × (new ≡ with_stored (called old) (with_changed_file old.stored file (with_overwritten at bytes)))
 OverwritesIn old file at bytes (Err _) new = (is_to_fail old ≡ true) × (new ≡ failed_to_write old)
 
 -- Closing isn't counted, and ends the file alone.
 abbrev pub ClosesFile : SeenFiles → ℕ → SeenFiles → Type 0
-ClosesFile old file new = new ≡ holding old (closed old.held file)
+ClosesFile old file new = new ≡ with_stored old (closed old.stored file)

@@ -32,8 +32,8 @@ pub struct MemFiles {
 
 impl MemFiles {
     ghost use denote.Ref.{Bor};
-    ghost use Rattle.mkv_memory.specs.Held.{with_content_at};
-    ghost use Rattle.mkv_memory.specs.SeenFiles.{holding, no_files, with_failure};
+    ghost use Rattle.mkv_memory.specs.Stored.{with_content_at};
+    ghost use Rattle.mkv_memory.specs.SeenFiles.{with_stored, no_files, with_failure};
     ghost use Rattle.mkv_memory.specs.FilesIn.{seen};
 
     /// Files without names, of which no call fails.
@@ -54,7 +54,7 @@ impl MemFiles {
     /// Sets a name's content. Where the name has live files, theirs changes with it.
     pub fn put(&mut self, name: &str, bytes: &[u8]) -> Result<(), AllocError>
         requires { length bytes.now ≤ 2 ^ 48 }
-        ensures ok { OnOk result (seen self.new ≡ holding (seen self.old) (with_content_at (seen self.old).held name.now bytes.now)) }
+        ensures ok { OnOk result (seen self.new ≡ with_stored (seen self.old) (with_content_at (seen self.old).stored name.now bytes.now)) }
         ensures err { OnErr result (seen self.new ≡ seen self.old) }
     {
         let mut content = Bytes::new(self.alloc);
@@ -74,7 +74,7 @@ impl MemFiles {
 
     /// A name's content, None where there is no file of that name.
     pub fn bytes(&self, name: &str) -> Option<&[u8]>
-        ensures { option_map (λ (bytes : Bor (List ℕ)). bytes.now) result ≡ (seen self.now).held.world name.now }
+        ensures { option_map (λ (bytes : Bor (List ℕ)). bytes.now) result ≡ (seen self.now).stored.world name.now }
     {
         self.store.content(name)
     }
@@ -102,12 +102,12 @@ impl Reads for MemFiles {
     ghost use Rattle.mkv_io.specs.Faults.{HasCause, is_failure, is_make_failure, is_open_failure};
     ghost use Rattle.mkv_memory.specs.SeenFiles.{ReadsAt};
     ghost use Rattle.mkv_memory.specs.FilesIn.{seen};
-    ghost use Rattle.mkv_memory.specs.Held.{Held, files_of, content_of_file, name_of_file, size-of_told, short-of_names};
-    ghost use Rattle.mkv_memory.specs.Stored.{held_in};
+    ghost use Rattle.mkv_memory.specs.Stored.{Stored, files_of, content_of_file, name_of_file, size-of_told, short-of_names};
+    ghost use Rattle.mkv_memory.specs.StoreIn.{stored_in};
 
-    ghost Standing = { Held × ℕ };
+    ghost Standing = { Stored × ℕ };
 
-    ghost standing = { λ m. (held_in m.store, m.writing_faults) };
+    ghost standing = { λ m. (stored_in m.store, m.writing_faults) };
 
     ghost files = { λ s. files_of s.0 };
 
@@ -117,15 +117,15 @@ impl Reads for MemFiles {
 
     ghost told_size = { λ s file bytes told. size-of_told s.0 file bytes told };
 
-    ghost short = { λ m file live. short-of_names (held_in m.store).world (name_of_file (held_in m.store).opened file) m.store.short };
+    ghost short = { λ m file live. short-of_names (stored_in m.store).world (name_of_file (stored_in m.store).opened file) m.store.short };
 
     fn size(&self, file: FileId) -> u64 {
         self.store.octets(file).len() as u64
     }
 
     fn read_at(&mut self, file: FileId, at: u64, into: &mut [u8]) -> Result<(), Failed>
-        requires live { IsTrue ((files_of (seen self.old).held).live file.n) }
-        requires range { at + length into.old ≤ (files_of (seen self.old).held).size file.n }
+        requires live { IsTrue ((files_of (seen self.old).stored).live file.n) }
+        requires range { at + length into.old ≤ (files_of (seen self.old).stored).size file.n }
         ensures exact { ReadsAt (seen self.old) file.n at into.old into.new result (seen self.new) }
         ensures cause { HasCause is_failure (seen self.old).reading_faults (seen self.new).reading_faults result }
         ensures octets_least { (seen self.old).octets_read ≤ (seen self.new).octets_read }
@@ -147,30 +147,32 @@ impl Files for MemFiles {
     ghost use Rattle.mkv_io.specs.Faults.{HasCause, is_failure, is_make_failure, is_open_failure};
     ghost use Rattle.mkv_memory.specs.SeenFiles.{AppendsTo, ClosesFile, CreatesName, OpensName, OverwritesIn};
     ghost use Rattle.mkv_memory.specs.FilesIn.{seen};
-    ghost use Rattle.mkv_memory.specs.Held.{Held, files_of, holder_of, name_of_file, held-told, numbered-live};
-    ghost use Rattle.mkv_memory.specs.Stored.{held_in};
+    ghost use Rattle.mkv_memory.specs.Stored.{Stored, files_of, holder_of, name_of_file, content-told, numbered-live, there-told};
+    ghost use Rattle.mkv_memory.specs.StoreIn.{stored_in};
 
-    ghost names = { λ m. Some (held_in m.store).world };
+    ghost names = { λ m. Some (stored_in m.store).world };
 
-    ghost holder = { λ m. holder_of (held_in m.store) };
+    ghost holder = { λ m. holder_of (stored_in m.store) };
 
-    ghost given = { λ m. length (held_in m.store).opened };
+    ghost given = { λ m. length (stored_in m.store).opened };
 
     ghost writing_faults = { λ m. m.writing_faults };
 
-    ghost held = { λ m file live world told. held-told (held_in m.store).world world (name_of_file (held_in m.store).opened file) live told };
+    ghost named = { λ m file live world told. content-told (stored_in m.store).world world (name_of_file (stored_in m.store).opened file) live told };
 
-    ghost numbered = { λ m file live. numbered-live (held_in m.store).opened file live };
+    ghost there = { λ m file live world told. there-told (stored_in m.store).world world (name_of_file (stored_in m.store).opened file) live (m.store.there file) told };
+
+    ghost numbered = { λ m file live. numbered-live (stored_in m.store).opened file live };
 
     ghost last = { λ m. m.store.few };
 
-    ghost names_stand = { λ a b same. ap (λ (s : Held × ℕ). Some s.0.world) same };
+    ghost names_stand = { λ a b same. ap (λ (s : Stored × ℕ). Some s.0.world) same };
 
-    ghost holders_stand = { λ a b same file. ap (λ (s : Held × ℕ). holder_of s.0 file) same };
+    ghost holders_stand = { λ a b same file. ap (λ (s : Stored × ℕ). holder_of s.0 file) same };
 
-    ghost given_stands = { λ a b same. ap (λ (s : Held × ℕ). length s.0.opened) same };
+    ghost given_stands = { λ a b same. ap (λ (s : Stored × ℕ). length s.0.opened) same };
 
-    ghost writing_stands = { λ a b same. ap (λ (s : Held × ℕ). s.1) same };
+    ghost writing_stands = { λ a b same. ap (λ (s : Stored × ℕ). s.1) same };
 
     fn open_file(&mut self, name: &str) -> Result<FileId, OpenFault>
         ensures exact { OpensName (seen self.old) name.now result (seen self.new) }
@@ -200,7 +202,7 @@ impl Files for MemFiles {
     }
 
     fn append(&mut self, file: FileId, bytes: &[u8]) -> Result<(), MakeFault>
-        requires { IsTrue ((files_of (seen self.old).held).live file.n) }
+        requires { IsTrue ((files_of (seen self.old).stored).live file.n) }
         ensures exact { AppendsTo (seen self.old) file.n bytes.now result (seen self.new) }
         ensures cause { HasCause is_make_failure (seen self.old).writing_faults (seen self.new).writing_faults result }
     {
@@ -221,8 +223,8 @@ impl Files for MemFiles {
     }
 
     fn overwrite(&mut self, file: FileId, at: u64, bytes: &[u8]) -> Result<(), Failed>
-        requires live { IsTrue ((files_of (seen self.old).held).live file.n) }
-        requires range { at + length bytes.now ≤ (files_of (seen self.old).held).size file.n }
+        requires live { IsTrue ((files_of (seen self.old).stored).live file.n) }
+        requires range { at + length bytes.now ≤ (files_of (seen self.old).stored).size file.n }
         ensures exact { OverwritesIn (seen self.old) file.n at bytes.now result (seen self.new) }
         ensures cause { HasCause is_failure (seen self.old).writing_faults (seen self.new).writing_faults result }
     {
@@ -235,7 +237,7 @@ impl Files for MemFiles {
     }
 
     fn close(&mut self, file: FileId)
-        requires { IsTrue ((files_of (seen self.old).held).live file.n) }
+        requires { IsTrue ((files_of (seen self.old).stored).live file.n) }
         ensures { ClosesFile (seen self.old) file.n (seen self.new) }
     {
         self.store.close(file);

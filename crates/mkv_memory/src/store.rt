@@ -4,7 +4,7 @@ ghost use denote.Ref.{Bor};
 ghost use Rattle.std.specs.Prelude.{slice_set, ◌≡◌, ◌≢◌, ℕ, ◌+◌, ◌-◌, ◌<◌, ◌≤◌, ◌^◌, ◌↔◌, List, [], ◌∷◌, ◌++◌, length, Option, Some, None, is_some, option_map, unwrap_or, OnOk, OnErr, IfOk, IsTrue, IsSome};
 ghost use Rattle.mkv_io.specs.Contents.{with_appended, with_overwritten};
 ghost use Rattle.mkv_io.specs.Names.{changed_at};
-ghost use Rattle.mkv_memory.specs.Held.{AreShort, AreThere, closed, content_of_file, content_of_name, files_of, name_of_file, opened_under, with_changed_file, with_content_at};
+ghost use Rattle.mkv_memory.specs.Stored.{AreShort, AreThere, closed, content_of_file, content_of_name, files_of, name_of_file, opened_under, with_changed_file, with_content_at};
 
 use mkv_values::{Bytes, FileId, Text};
 use std::alloc::{AllocError, Global};
@@ -24,10 +24,10 @@ pub struct Store {
 }
 
 impl Store {
-    ghost use Rattle.mkv_memory.specs.Stored.{held_in};
+    ghost use Rattle.mkv_memory.specs.StoreIn.{stored_in};
 
     pub fn new(alloc: Global) -> Store
-        ensures { held_in result ≡ record { world = λ _. None; opened = [] } }
+        ensures { stored_in result ≡ record { world = λ _. None; opened = [] } }
     {
         Store {
             alloc,
@@ -38,14 +38,14 @@ impl Store {
 
     /// Whether no number is left for a further file.
     pub fn is_full(&self) -> bool
-        ensures { IsTrue result ↔ (length (held_in self.now).opened ≡ 2 ^ 64 - 1) }
+        ensures { IsTrue result ↔ (length (stored_in self.now).opened ≡ 2 ^ 64 - 1) }
     {
         self.opened.len() as u64 == u64::MAX
     }
 
     /// The content of a name.
     pub fn content(&self, name: &str) -> Option<&[u8]>
-        ensures { option_map (λ (bytes : Bor (List ℕ)). bytes.now) result ≡ (held_in self.now).world name.now }
+        ensures { option_map (λ (bytes : Bor (List ℕ)). bytes.now) result ≡ (stored_in self.now).world name.now }
     {
         match self.contents.get(name) {
             Some(content) => Some(content.as_slice()),
@@ -55,7 +55,7 @@ impl Store {
 
     /// The octets of a live file.
     pub fn octets(&self, file: FileId) -> &[u8]
-        ensures { result.now ≡ unwrap_or (content_of_file (held_in self.now) file.n) [] }
+        ensures { result.now ≡ unwrap_or (content_of_file (stored_in self.now) file.n) [] }
     {
         match self.opened.get(file.n as usize) {
             Some(Some(name)) => self.content(name.as_str()).unwrap_or(&[]),
@@ -66,8 +66,8 @@ impl Store {
     /// Gives a name a content.
     pub fn set(&mut self, name: &str, content: Bytes) -> Result<(), AllocError>
         requires { length content ≤ 2 ^ 48 }
-        ensures ok { OnOk result (held_in self.new ≡ with_content_at (held_in self.old) name.now content) }
-        ensures err { OnErr result (held_in self.new ≡ held_in self.old) }
+        ensures ok { OnOk result (stored_in self.new ≡ with_content_at (stored_in self.old) name.now content) }
+        ensures err { OnErr result (stored_in self.new ≡ stored_in self.old) }
     {
         set(&mut self.contents, self.alloc, name, content)?;
         Ok(())
@@ -75,11 +75,11 @@ impl Store {
 
     /// Opens a file under a name that has a content.
     pub fn open(&mut self, name: &str) -> Result<FileId, AllocError>
-        requires there { IsSome ((held_in self.old).world name.now) }
-        requires room { length (held_in self.old).opened < 2 ^ 64 - 1 }
-        ensures number { IfOk result (λ file. file.n ≡ length (held_in self.old).opened) }
-        ensures ok { OnOk result (held_in self.new ≡ opened_under (held_in self.old) name.now) }
-        ensures err { OnErr result (held_in self.new ≡ held_in self.old) }
+        requires there { IsSome ((stored_in self.old).world name.now) }
+        requires room { length (stored_in self.old).opened < 2 ^ 64 - 1 }
+        ensures number { IfOk result (λ file. file.n ≡ length (stored_in self.old).opened) }
+        ensures ok { OnOk result (stored_in self.new ≡ opened_under (stored_in self.old) name.now) }
+        ensures err { OnErr result (stored_in self.new ≡ stored_in self.old) }
     {
         let number = self.opened.len() as u64;
         let mut holder = Text::new(self.alloc);
@@ -90,10 +90,10 @@ impl Store {
 
     /// Gives a name an empty content, and opens a file under it.
     pub fn create(&mut self, name: &str) -> Result<FileId, AllocError>
-        requires { length (held_in self.old).opened < 2 ^ 64 - 1 }
-        ensures number { IfOk result (λ file. file.n ≡ length (held_in self.old).opened) }
-        ensures ok { OnOk result (held_in self.new ≡ opened_under (with_content_at (held_in self.old) name.now []) name.now) }
-        ensures err { OnErr result (held_in self.new ≡ held_in self.old) }
+        requires { length (stored_in self.old).opened < 2 ^ 64 - 1 }
+        ensures number { IfOk result (λ file. file.n ≡ length (stored_in self.old).opened) }
+        ensures ok { OnOk result (stored_in self.new ≡ opened_under (with_content_at (stored_in self.old) name.now []) name.now) }
+        ensures err { OnErr result (stored_in self.new ≡ stored_in self.old) }
     {
         let number = self.opened.len() as u64;
         let mut holder = Text::new(self.alloc);
@@ -107,10 +107,10 @@ impl Store {
 
     /// Adds octets to a live file.
     pub fn append(&mut self, file: FileId, more: &[u8]) -> Result<(), AllocError>
-        requires live { IsTrue ((files_of (held_in self.old)).live file.n) }
-        requires room { (files_of (held_in self.old)).size file.n + length more.now ≤ 2 ^ 48 }
-        ensures ok { OnOk result (held_in self.new ≡ with_changed_file (held_in self.old) file.n (with_appended more.now)) }
-        ensures err { OnErr result (held_in self.new ≡ held_in self.old) }
+        requires live { IsTrue ((files_of (stored_in self.old)).live file.n) }
+        requires room { (files_of (stored_in self.old)).size file.n + length more.now ≤ 2 ^ 48 }
+        ensures ok { OnOk result (stored_in self.new ≡ with_changed_file (stored_in self.old) file.n (with_appended more.now)) }
+        ensures err { OnErr result (stored_in self.new ≡ stored_in self.old) }
     {
         let name = holder(&self.opened, file);
         grow(&mut self.contents, name, more)?;
@@ -119,9 +119,9 @@ impl Store {
 
     /// Writes octets over those of a live file.
     pub fn overwrite(&mut self, file: FileId, at: usize, bytes: &[u8])
-        requires live { IsTrue ((files_of (held_in self.old)).live file.n) }
-        requires range { at + length bytes.now ≤ (files_of (held_in self.old)).size file.n }
-        ensures { held_in self.new ≡ with_changed_file (held_in self.old) file.n (with_overwritten at bytes.now) }
+        requires live { IsTrue ((files_of (stored_in self.old)).live file.n) }
+        requires range { at + length bytes.now ≤ (files_of (stored_in self.old)).size file.n }
+        ensures { stored_in self.new ≡ with_changed_file (stored_in self.old) file.n (with_overwritten at bytes.now) }
     {
         let name = holder(&self.opened, file);
         write_over(&mut self.contents, name, at, bytes);
@@ -129,8 +129,8 @@ impl Store {
 
     /// Ends a live file.
     pub fn close(&mut self, file: FileId)
-        requires { IsTrue ((files_of (held_in self.old)).live file.n) }
-        ensures { held_in self.new ≡ closed (held_in self.old) file.n }
+        requires { IsTrue ((files_of (stored_in self.old)).live file.n) }
+        ensures { stored_in self.new ≡ closed (stored_in self.old) file.n }
     {
         self.opened[file.n as usize] = None;
     }

@@ -1,6 +1,6 @@
 //! A list of values, which contracts see as a list.
 
-ghost use Rattle.std.specs.Prelude.{◌≡◌, [], ◌∷◌, ◌++◌, length, slice_get, OnOk, OnErr, IsTrue, ◌↔◌};
+ghost use Rattle.std.specs.Prelude.{◌≡◌, [], ◌∷◌, ◌++◌, ◌<◌, length, slice_get, OnOk, OnErr, IfOk, IsTrue, ◌↔◌};
 ghost use Rattle.std.specs.Option.{option_copied};
 
 use std::alloc::{AllocError, Global};
@@ -75,5 +75,60 @@ impl<T: Drop> List<T> {
     {
         self.items.push(item)?;
         Ok(())
+    }
+}
+
+/// Values in order, at most as many as there is room for. The memory is taken at the making, so that
+/// adding one can't fail.
+#[derive(Debug, Drop)]
+pub struct BoundedList<T> {
+    items: Vec<T>,
+}
+
+impl<T> Model for BoundedList<T> {
+    ghost use Rattle.std.specs.Prelude.{vec_capacity};
+    ghost use Rattle.mkv_values.specs.Places.{Places};
+
+    ghost Value = { Places T };
+
+    ghost view = { λ l. record { taken = l.items.items; room = vec_capacity l.items } };
+}
+
+impl<T: Drop> BoundedList<T> {
+    /// No values, and room for so many.
+    pub fn with_room(alloc: Global, room: usize) -> Result<Self, AllocError>
+        ensures { IfOk result (λ list. list ≡ record { taken = []; room = room }) }
+    {
+        Ok(BoundedList {
+            items: Vec::with_capacity(alloc, room)?,
+        })
+    }
+
+    /// How many values there are.
+    pub fn len(&self) -> usize
+        ensures { result ≡ length self.now.taken }
+    {
+        self.items.len()
+    }
+
+    /// Whether there is room for no more.
+    pub fn is_full(&self) -> bool
+        ensures { IsTrue result ↔ (length self.now.taken ≡ self.now.room) }
+    {
+        self.items.len() == self.items.capacity()
+    }
+
+    pub fn as_slice(&self) -> &[T]
+        ensures { result.now ≡ self.now.taken }
+    {
+        self.items.as_slice()
+    }
+
+    /// Adds a value at the end.
+    pub fn push(&mut self, item: T)
+        requires { length self.old.taken < self.old.room }
+        ensures { self.new ≡ record self.old { taken = self.old.taken ++ item ∷ [] } }
+    {
+        self.items.push_reserved(item);
     }
 }

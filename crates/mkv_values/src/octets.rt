@@ -1,6 +1,6 @@
 //! Octets and text in memory, which contracts see as lists of octets.
 
-ghost use Rattle.std.specs.Prelude.{◌≡◌, ◌+◌, ◌≤◌, [], ◌++◌, length, take, drop, OnOk, OnErr, IsTrue, ◌↔◌};
+ghost use Rattle.std.specs.Prelude.{◌≡◌, ◌+◌, ◌<◌, ◌≤◌, ◌^◌, [], ◌++◌, length, take, drop, OnOk, OnErr, IfOk, IsTrue, ◌↔◌};
 ghost use Rattle.std.specs.String.{string_bytes};
 ghost use Rattle.std.specs.Str.{IsUtf8};
 
@@ -30,6 +30,15 @@ impl Bytes {
         }
     }
 
+    /// No octets yet, with memory for so many.
+    pub fn with_room(alloc: Global, room: usize) -> Result<Bytes, AllocError>
+        ensures { IfOk result (λ bytes. bytes ≡ []) }
+    {
+        Ok(Bytes {
+            octets: Vec::with_capacity(alloc, room)?,
+        })
+    }
+
     /// Takes no memory.
     pub fn from_vec(octets: Vec<u8>) -> Self
         ensures { result ≡ octets.items }
@@ -46,7 +55,8 @@ impl Bytes {
 
     /// How many octets there are.
     pub fn len(&self) -> usize
-        ensures { result ≡ length self.now }
+        ensures exact { result ≡ length self.now }
+        ensures most { result < 2 ^ 63 }
     {
         self.octets.len()
     }
@@ -77,6 +87,21 @@ impl Bytes {
         ensures { self.new ≡ take at self.old ++ (bytes.now ++ drop (at + length bytes.now) self.old) }
     {
         self.octets[at..at + bytes.len()].copy_from_slice(bytes);
+    }
+
+    /// Drops all but the first octets, so many of them. The memory stays.
+    pub fn truncate(&mut self, len: usize)
+        requires { len ≤ length self.old }
+        ensures { self.new ≡ take len self.old }
+    {
+        self.octets.truncate(len);
+    }
+
+    /// Drops all octets. The memory stays.
+    pub fn clear(&mut self)
+        ensures { self.new ≡ [] }
+    {
+        self.octets.clear();
     }
 }
 
@@ -120,7 +145,8 @@ impl Text {
 
     /// How many octets the text has.
     pub fn len(&self) -> usize
-        ensures { result ≡ length self.now }
+        ensures exact { result ≡ length self.now }
+        ensures most { result < 2 ^ 63 }
     {
         self.text.len()
     }

@@ -1,7 +1,7 @@
 use Rattle.std.proofs.Common.{arith}
 use Rattle.std.proofs.lemmas.Grind.{common_steps}
 use Rattle.mkv_memory.specs.FilesIn.{seen}
-use Rattle.mkv_memory.proofs.SeenFilesLemmas.{AppendsTo-failed, AppendsTo-ok, AppendsTo-others, CreatesName-alone, CreatesName-others, CreatesName-size, OpensName-alone, OpensName-content, OverwritesIn-err, OverwritesIn-ok, OverwritesIn-others}
+use Rattle.mkv_memory.proofs.SeenFilesLemmas.{AppendsTo-failed, AppendsTo-ok, AppendsTo-others, CreatesName-alone, CreatesName-others, CreatesName-refused, CreatesName-size, OpensName-alone, OpensName-content, OverwritesIn-err, OverwritesIn-ok, OverwritesIn-others}
 use Rattle.mkv_memory.proofs.mem_files.MemFilesFiles.TheImpl.Goals as goal
 
 -- What each call does to files in memory is what every such call has to do.
@@ -33,6 +33,7 @@ create-tells c = record {
   size = CreatesName-size (seen c.args.self.now) (seen c.new.self.now) c.args.name.now c.result c.ensures.exact;
   ok = grind (arith, common_steps);
   full = grind (arith, common_steps);
+  refused = CreatesName-refused (seen c.args.self.now) (seen c.new.self.now) c.args.name.now c.result c.ensures.exact;
   err = grind (arith, common_steps);
   memory = grind (arith, common_steps);
   given = grind (arith, common_steps);

@@ -8,22 +8,22 @@ use Rattle.std.proofs.lemmas.List.{get_or_append_left, take-append-drop, drop-dr
 use Rattle.std.proofs.Math.Seq.{get_or-append_seam}
 use Rattle.mkv_io.specs.Names.{changed_at}
 use Rattle.mkv_io.specs.LiveFiles.{IsSameFile, ChangesFile, KeepsFiles, OverwritesWithin}
-use Rattle.mkv_memory.specs.Held.{Held, World, AreShort, AreThere, is_there, files_of, holder_of, content_of_file, name_of_file, held-live, with_changed_file}
+use Rattle.mkv_memory.specs.Stored.{Stored, World, AreShort, AreThere, is_there, files_of, holder_of, content_of_file, name_of_file, content-live, with_changed_file}
 use Rattle.mkv_io.proofs.NamesLemmas.{changed_at-nothing, changed_at-other, changed_at-same}
 
--- ---- what is held, by its parts
+-- ---- what is stored, by its parts
 
-pub Held-both : {world now : World} {opened names : List (Option (List ℕ))} → now ≡ world → names ≡ opened → ◌≡◌ {A = Held} (record { world = now; opened = names }) (record { world = world; opened = opened })
-Held-both same_contents same_names i = record { world = same_contents i; opened = same_names i }
+pub Stored-both : {world now : World} {opened names : List (Option (List ℕ))} → now ≡ world → names ≡ opened → ◌≡◌ {A = Stored} (record { world = now; opened = names }) (record { world = world; opened = opened })
+Stored-both same_contents same_names i = record { world = same_contents i; opened = same_names i }
 
 -- the same names are open
-pub Held-world : {world now : World} (opened : List (Option (List ℕ))) → now ≡ world → ◌≡◌ {A = Held} (record { world = now; opened = opened }) (record { world = world; opened = opened })
-Held-world opened same i = record { world = same i; opened = opened }
+pub Stored-world : {world now : World} (opened : List (Option (List ℕ))) → now ≡ world → ◌≡◌ {A = Stored} (record { world = now; opened = opened }) (record { world = world; opened = opened })
+Stored-world opened same i = record { world = same i; opened = opened }
 
 -- a change of the name of a live file is one of that file
-pub Held-changed : (held : Held) (file : ℕ) {name : List ℕ} {now : World} (change : Option (List ℕ) → Option (List ℕ)) → name_of_file held.opened file ≡ Some name → now ≡ changed_at name change held.world → ◌≡◌ {A = Held} (record { world = now; opened = held.opened }) (with_changed_file held file change)
-Held-changed held file change holder changed =
-    Held-world held.opened (changed ∙ ap (λ name. changed_at (unwrap_or name []) change held.world) (sym holder))
+pub Stored-changed : (stored : Stored) (file : ℕ) {name : List ℕ} {now : World} (change : Option (List ℕ) → Option (List ℕ)) → name_of_file stored.opened file ≡ Some name → now ≡ changed_at name change stored.world → ◌≡◌ {A = Stored} (record { world = now; opened = stored.opened }) (with_changed_file stored file change)
+Stored-changed stored file change holder changed =
+    Stored-world stored.opened (changed ∙ ap (λ name. changed_at (unwrap_or name []) change stored.world) (sym holder))
 
 -- ---- what always holds
 
@@ -45,7 +45,7 @@ AreThere-changed world name change opened stays there file = step (name_of_file 
         subst P (is refl) stays here
     at other false is here = here
 
-    step : (held : Option (List ℕ)) → is_there world held ≡ true → is_there (changed_at name change world) held ≡ true
+    step : (holder : Option (List ℕ)) → is_there world holder ≡ true → is_there (changed_at name change world) holder ≡ true
     step None here = refl
     step (Some other) here = at other (bytes_eq name other) (bytes_eq-Decides name other).0 here
 
@@ -53,20 +53,20 @@ AreThere-changed world name change opened stays there file = step (name_of_file 
 pub AreThere-pushed : (world : World) (opened : List (Option (List ℕ))) (name : List ℕ) → is_some (world name) ≡ true → AreThere world opened → AreThere world (opened ++ Some name ∷ [])
 AreThere-pushed world [] name here there zero = here
 AreThere-pushed world [] name here there (suc file) = refl
-AreThere-pushed world (held ∷ rest) name here there zero = there zero
-AreThere-pushed world (held ∷ rest) name here there (suc file) = AreThere-pushed world rest name here (λ other. there (suc other)) file
+AreThere-pushed world (holder ∷ rest) name here there zero = there zero
+AreThere-pushed world (holder ∷ rest) name here there (suc file) = AreThere-pushed world rest name here (λ other. there (suc other)) file
 
 -- ---- the live files
 
 -- the files of other names are as they were
-pub IsSameFile-changed : (old new : Held) (name : List ℕ) (change : Option (List ℕ) → Option (List ℕ)) (file : ℕ) → name_of_file new.opened file ≡ name_of_file old.opened file → new.world ≡ changed_at name change old.world → holder_of old file ≢ name → IsSameFile (files_of old) (files_of new) file
+pub IsSameFile-changed : (old new : Stored) (name : List ℕ) (change : Option (List ℕ) → Option (List ℕ)) (file : ℕ) → name_of_file new.opened file ≡ name_of_file old.opened file → new.world ≡ changed_at name change old.world → holder_of old file ≢ name → IsSameFile (files_of old) (files_of new) file
 IsSameFile-changed old new name change file same changed differs = record {
   alive = ap is_some same;
   size = λ _. ap (λ content. length (unwrap_or content [])) content;
   content = λ _. content;
 }
   where
-    step : (held : Option (List ℕ)) → unwrap_or held [] ≢ name → option_and_then (changed_at name change old.world) held ≡ option_and_then old.world held
+    step : (holder : Option (List ℕ)) → unwrap_or holder [] ≢ name → option_and_then (changed_at name change old.world) holder ≡ option_and_then old.world holder
     step None other = refl
     step (Some holder) other = changed_at-other old.world name holder change other
 
@@ -77,11 +77,11 @@ IsSameFile-changed old new name change file same changed differs = record {
         ∙ step (name_of_file old.opened file) differs
 
 -- the file of the changed name is changed
-pub ChangesFile-changed : (old new : Held) (name : List ℕ) (change : Option (List ℕ) → Option (List ℕ)) (file size : ℕ) → name_of_file old.opened file ≡ Some name → new.opened ≡ old.opened → new.world ≡ changed_at name change old.world → length (unwrap_or (change (old.world name)) []) ≡ size → ChangesFile (files_of old) (files_of new) (Some old.world) (Some new.world) file (holder_of old file) size change
+pub ChangesFile-changed : (old new : Stored) (name : List ℕ) (change : Option (List ℕ) → Option (List ℕ)) (file size : ℕ) → name_of_file old.opened file ≡ Some name → new.opened ≡ old.opened → new.world ≡ changed_at name change old.world → length (unwrap_or (change (old.world name)) []) ≡ size → ChangesFile (files_of old) (files_of new) (Some old.world) (Some new.world) file (holder_of old file) size change
 ChangesFile-changed old new name change file size holder same changed fits = record {
-  size = ap (λ held. length (unwrap_or held [])) (now ∙ changed_at-same old.world name change) ∙ fits;
+  size = ap (λ content. length (unwrap_or content [])) (now ∙ changed_at-same old.world name change) ∙ fits;
   content = now ∙ changed_at-same old.world name change ∙ sym (ap change before);
-  names = ap Some changed ∙ ap (λ held. Some (changed_at (unwrap_or held []) change old.world)) (sym holder);
+  names = ap Some changed ∙ ap (λ name. Some (changed_at (unwrap_or name []) change old.world)) (sym holder);
 }
   where
     before : content_of_file old file ≡ old.world name
@@ -94,19 +94,19 @@ ChangesFile-changed old new name change file size holder same changed fits = rec
         ∙ ap (λ (world : World). world name) changed
 
 -- A live file, and the content of its name, is changed; the files of other names stay.
-pub record ChangesHeld (old new : Held) (file new_size : ℕ) (change : Option (List ℕ) → Option (List ℕ)) : Type 0 where
+pub record ChangesStored (old new : Stored) (file new_size : ℕ) (change : Option (List ℕ) → Option (List ℕ)) : Type 0 where
   pub opened : new.opened ≡ old.opened
   pub changed : ChangesFile (files_of old) (files_of new) (Some old.world) (Some new.world) file (holder_of old file) new_size change
   pub others : KeepsFiles (files_of old) (files_of new) (λ other. holder_of old other ≢ holder_of old file)
 
 -- both of a live file whose name's content is changed
-pub ChangesHeld-changed : (old new : Held) (name : List ℕ) (change : Option (List ℕ) → Option (List ℕ)) (file size : ℕ) → name_of_file old.opened file ≡ Some name → new.opened ≡ old.opened → new.world ≡ changed_at name change old.world → length (unwrap_or (change (old.world name)) []) ≡ size → ChangesHeld old new file size change
-ChangesHeld-changed old new name change file size holder same changed fits = record {
+pub ChangesStored-changed : (old new : Stored) (name : List ℕ) (change : Option (List ℕ) → Option (List ℕ)) (file size : ℕ) → name_of_file old.opened file ≡ Some name → new.opened ≡ old.opened → new.world ≡ changed_at name change old.world → length (unwrap_or (change (old.world name)) []) ≡ size → ChangesStored old new file size change
+ChangesStored-changed old new name change file size holder same changed fits = record {
   opened = same;
   changed = ChangesFile-changed old new name change file size holder same changed fits;
   others = λ other differs.
       IsSameFile-changed old new name change other (ap (λ opened. name_of_file opened other) same) changed
-      (λ is. differs (is ∙ sym (ap (λ held. unwrap_or held []) holder)));
+      (λ is. differs (is ∙ sym (ap (λ name. unwrap_or name []) holder)));
 }
 
 -- ---- both kept through a change
@@ -155,14 +155,14 @@ is_some-with_overwritten at now (Some bytes) there = refl
 -- ---- appending to a live file, and overwriting it
 
 -- a live file's name has a content, whose length is the file's
-pub IsThere-live : (old : Held) (file : ℕ) (name : List ℕ) → name_of_file old.opened file ≡ Some name → IsSound old.world old.opened → (is_some (old.world name) ≡ true) × (length (unwrap_or (old.world name) []) ≡ (files_of old).size file)
+pub IsThere-live : (old : Stored) (file : ℕ) (name : List ℕ) → name_of_file old.opened file ≡ Some name → IsSound old.world old.opened → (is_some (old.world name) ≡ true) × (length (unwrap_or (old.world name) []) ≡ (files_of old).size file)
 IsThere-live old file name holder sound = (
   ap (is_there old.world) (sym holder) ∙ sound.there file,
-  ap (λ held. length (unwrap_or (option_and_then old.world held) [])) (sym holder),
+  ap (λ name. length (unwrap_or (option_and_then old.world name) [])) (sym holder),
 )
 
 -- an append that is within the limit keeps contents short and there, whether it finds memory or not
-pub IsSound-appended : {T E : Type 0} (result : Result T E) (old : Held) (now : World) (file : ℕ) (name more : List ℕ) → name_of_file old.opened file ≡ Some name → OnOk result (now ≡ changed_at name (with_appended more) old.world) → OnErr result (now ≡ old.world) → IsSound old.world old.opened → (files_of old).size file + length more ≤ 2 ^ 48 → IsSound now old.opened
+pub IsSound-appended : {T E : Type 0} (result : Result T E) (old : Stored) (now : World) (file : ℕ) (name more : List ℕ) → name_of_file old.opened file ≡ Some name → OnOk result (now ≡ changed_at name (with_appended more) old.world) → OnErr result (now ≡ old.world) → IsSound old.world old.opened → (files_of old).size file + length more ≤ 2 ^ 48 → IsSound now old.opened
 IsSound-appended result old now file name more holder changed same sound room =
     let here = IsThere-live old file name holder sound in
     let grown = length-with_appended more (old.world name) here.0 in
@@ -170,14 +170,14 @@ IsSound-appended result old now file name more holder changed same sound room =
     IsSound-either result old.world now name (with_appended more) old.opened changed same sound (omega arith) (is_some-with_appended more (old.world name))
 
 -- and then it changes that file as it says
-pub ChangesHeld-appended : (old new : Held) (file : ℕ) (name more : List ℕ) → name_of_file old.opened file ≡ Some name → new.opened ≡ old.opened → new.world ≡ changed_at name (with_appended more) old.world → IsSound old.world old.opened → ChangesHeld old new file ((files_of old).size file + length more) (with_appended more)
-ChangesHeld-appended old new file name more holder same changed sound =
+pub ChangesStored-appended : (old new : Stored) (file : ℕ) (name more : List ℕ) → name_of_file old.opened file ≡ Some name → new.opened ≡ old.opened → new.world ≡ changed_at name (with_appended more) old.world → IsSound old.world old.opened → ChangesStored old new file ((files_of old).size file + length more) (with_appended more)
+ChangesStored-appended old new file name more holder same changed sound =
     let here = IsThere-live old file name holder sound in
-    ChangesHeld-changed old new name (with_appended more) file _ holder same changed
+    ChangesStored-changed old new name (with_appended more) file _ holder same changed
     (length-with_appended more (old.world name) here.0 ∙ ap (λ n. n + length more) here.1)
 
 -- overwriting keeps contents short and there
-pub IsSound-overwritten : (old : Held) (world : World) (file : ℕ) (name : List ℕ) (at : ℕ) (now : List ℕ) → name_of_file old.opened file ≡ Some name → world ≡ changed_at name (with_overwritten at now) old.world → IsSound old.world old.opened → at + length now ≤ (files_of old).size file → IsSound world old.opened
+pub IsSound-overwritten : (old : Stored) (world : World) (file : ℕ) (name : List ℕ) (at : ℕ) (now : List ℕ) → name_of_file old.opened file ≡ Some name → world ≡ changed_at name (with_overwritten at now) old.world → IsSound old.world old.opened → at + length now ≤ (files_of old).size file → IsSound world old.opened
 IsSound-overwritten old world file name at now holder changed sound within =
     let here = IsThere-live old file name holder sound in
     let size = here.1 in
@@ -186,11 +186,11 @@ IsSound-overwritten old world file name at now holder changed sound within =
     IsSound-changed old.world world name (with_overwritten at now) old.opened changed sound (omega arith) (is_some-with_overwritten at now (old.world name))
 
 -- and changes that file as it says
-pub ChangesHeld-overwritten : (old new : Held) (file : ℕ) (name : List ℕ) (at : ℕ) (now : List ℕ) → name_of_file old.opened file ≡ Some name → new.opened ≡ old.opened → new.world ≡ changed_at name (with_overwritten at now) old.world → IsSound old.world old.opened → at + length now ≤ (files_of old).size file → ChangesHeld old new file ((files_of old).size file) (with_overwritten at now)
-ChangesHeld-overwritten old new file name at now holder same changed sound within =
+pub ChangesStored-overwritten : (old new : Stored) (file : ℕ) (name : List ℕ) (at : ℕ) (now : List ℕ) → name_of_file old.opened file ≡ Some name → new.opened ≡ old.opened → new.world ≡ changed_at name (with_overwritten at now) old.world → IsSound old.world old.opened → at + length now ≤ (files_of old).size file → ChangesStored old new file ((files_of old).size file) (with_overwritten at now)
+ChangesStored-overwritten old new file name at now holder same changed sound within =
     let here = IsThere-live old file name holder sound in
     let size = here.1 in
-    ChangesHeld-changed old new name (with_overwritten at now) file _ holder same changed
+    ChangesStored-changed old new name (with_overwritten at now) file _ holder same changed
     (length-with_overwritten at now (old.world name) (omega arith) ∙ size)
 
 -- ---- making a file
@@ -206,20 +206,20 @@ IsSound-created world now name opened changed sound =
     }
 
 -- the file that is opened last has the content of its name
-pub content_of_file-pushed : (held : Held) (opened : List (Option (List ℕ))) (name : List ℕ) → held.opened ≡ opened ++ Some name ∷ [] → content_of_file held (length opened) ≡ held.world name
-content_of_file-pushed held opened name pushed =
-    ap (λ names. option_and_then held.world (name_of_file names (length opened))) pushed
-    ∙ ap (option_and_then held.world) (get_or-append_seam opened (Some name) [] None)
+pub content_of_file-pushed : (stored : Stored) (opened : List (Option (List ℕ))) (name : List ℕ) → stored.opened ≡ opened ++ Some name ∷ [] → content_of_file stored (length opened) ≡ stored.world name
+content_of_file-pushed stored opened name pushed =
+    ap (λ names. option_and_then stored.world (name_of_file names (length opened))) pushed
+    ∙ ap (option_and_then stored.world) (get_or-append_seam opened (Some name) [] None)
 
 -- the file that is made is empty
-pub size-created : (held : Held) (world : World) (opened : List (Option (List ℕ))) (name : List ℕ) → held.world ≡ changed_at name (λ _. Some []) world → held.opened ≡ opened ++ Some name ∷ [] → (files_of held).size (length opened) ≡ 0
-size-created held world opened name changed pushed =
+pub size-created : (stored : Stored) (world : World) (opened : List (Option (List ℕ))) (name : List ℕ) → stored.world ≡ changed_at name (λ _. Some []) world → stored.opened ≡ opened ++ Some name ∷ [] → (files_of stored).size (length opened) ≡ 0
+size-created stored world opened name changed pushed =
     ap (λ content. length (unwrap_or content []))
-    (content_of_file-pushed held opened name pushed ∙ ap (λ (each : World). each name) changed
+    (content_of_file-pushed stored opened name pushed ∙ ap (λ (each : World). each name) changed
     ∙ changed_at-same world name (λ _. Some []))
 
 -- the files of other names are as they were
-pub IsSameFile-created : (old new : Held) (name : List ℕ) (file : ℕ) → new.world ≡ changed_at name (λ _. Some []) old.world → new.opened ≡ old.opened ++ Some name ∷ [] → file < length old.opened → holder_of old file ≢ name → IsSameFile (files_of old) (files_of new) file
+pub IsSameFile-created : (old new : Stored) (name : List ℕ) (file : ℕ) → new.world ≡ changed_at name (λ _. Some []) old.world → new.opened ≡ old.opened ++ Some name ∷ [] → file < length old.opened → holder_of old file ≢ name → IsSameFile (files_of old) (files_of new) file
 IsSameFile-created old new name file changed pushed below differs =
     IsSameFile-changed old new name (λ _. Some []) file
     (ap (λ opened. name_of_file opened file) pushed ∙ get_or_append_left old.opened (Some name ∷ []) None file below)
@@ -237,29 +237,29 @@ overwritten-same bytes at n within =
     ∙ take-append-drop at bytes
 
 -- so a file that stays as it was is one in which some octets of a range were written
-pub OverwritesWithin-nothing : (held : Held) (file at n : ℕ) → (files_of held).live file ≡ true → at + n ≤ (files_of held).size file → OverwritesWithin (files_of held) (files_of held) (Some held.world) (Some held.world) file (holder_of held file) at n
-OverwritesWithin-nothing held file at n live within = record {
+pub OverwritesWithin-nothing : (stored : Stored) (file at n : ℕ) → (files_of stored).live file ≡ true → at + n ≤ (files_of stored).size file → OverwritesWithin (files_of stored) (files_of stored) (Some stored.world) (Some stored.world) file (holder_of stored file) at n
+OverwritesWithin-nothing stored file at n live within = record {
   now = now;
   count = grind (arith, common_steps);
   changed = record {
     size = refl;
-    content = sym (same (content_of_file held file) within);
-    names = ap Some (sym (changed_at-nothing held.world (holder_of held file) (with_overwritten at now) there));
+    content = sym (same (content_of_file stored file) within);
+    names = ap Some (sym (changed_at-nothing stored.world (holder_of stored file) (with_overwritten at now) there));
   };
 }
   where
     now : List ℕ
-    now = take n (drop at (unwrap_or (content_of_file held file) []))
+    now = take n (drop at (unwrap_or (content_of_file stored file) []))
 
     same : (content : Option (List ℕ)) → at + n ≤ length (unwrap_or content []) → with_overwritten at (take n (drop at (unwrap_or content []))) content ≡ content
     same None fits = refl
     same (Some bytes) fits = ap Some (overwritten-same bytes at n fits)
 
-    is_content : content_of_file held file ≡ held.world (holder_of held file)
-    is_content = held-live held.world (name_of_file held.opened file) live
+    is_content : content_of_file stored file ≡ stored.world (holder_of stored file)
+    is_content = content-live stored.world (name_of_file stored.opened file) live
 
-    there : with_overwritten at now (held.world (holder_of held file)) ≡ held.world (holder_of held file)
-    there = ap (with_overwritten at now) (sym is_content) ∙ same (content_of_file held file) within ∙ is_content
+    there : with_overwritten at now (stored.world (holder_of stored file)) ≡ stored.world (holder_of stored file)
+    there = ap (with_overwritten at now) (sym is_content) ∙ same (content_of_file stored file) within ∙ is_content
 
 -- the same contents and the same files are as sound
 pub IsSound-same : (world now : World) (opened names : List (Option (List ℕ))) → now ≡ world → names ≡ opened → IsSound world opened → IsSound now names
@@ -269,10 +269,10 @@ IsSound-same world now opened names same_contents same_names sound =
     subst P (sym same_contents) (subst Q (sym same_names) sound)
 
 -- a file that is opened under a name has the content that the name had
-pub content_of_file-told : (old new : Held) (world : World) (name : List ℕ) (file : ℕ) → new ≡ record { world = old.world; opened = old.opened ++ Some name ∷ [] } → file ≡ length old.opened → Some old.world ≡ Some world → content_of_file new file ≡ world name
+pub content_of_file-told : (old new : Stored) (world : World) (name : List ℕ) (file : ℕ) → new ≡ record { world = old.world; opened = old.opened ++ Some name ∷ [] } → file ≡ length old.opened → Some old.world ≡ Some world → content_of_file new file ≡ world name
 content_of_file-told old new world name file opened number told =
     let is : old.world ≡ world = cc in
-    let pushed : Held = record { world = old.world; opened = old.opened ++ Some name ∷ [] } in
-    ap (λ (held : Held). content_of_file held file) opened ∙ ap (content_of_file pushed) number
+    let pushed : Stored = record { world = old.world; opened = old.opened ++ Some name ∷ [] } in
+    ap (λ (stored : Stored). content_of_file stored file) opened ∙ ap (content_of_file pushed) number
     ∙ content_of_file-pushed pushed old.opened name refl
     ∙ ap (λ (each : World). each name) is

@@ -1,0 +1,118 @@
+-- Calls that only write to live files, one after the other: laws for whoever writes files.
+use Rattle.std.proofs.Common.{◌≡◌, ◌≢◌, ◌≤◌, ℕ, Bool, true, false, MatchBool, List, [], ◌∷◌, Result, Ok, Err, refl, sym, ◌∙◌, ap, subst, arith}
+use Rattle.mkv_io.specs.Faults.{HasCause, HasRisen}
+use Rattle.mkv_io.specs.LiveFiles.{IsSameFile, KeepsFiles, KeepsHolders, LiveFiles}
+use Rattle.mkv_io.specs.Names.{AreOthers}
+use Rattle.mkv_io.specs.Sources.{OnlyReads, live_files}
+use Rattle.mkv_io.specs.Writing.{KeepsOthers, WritesOnly}
+use Rattle.mkv_io.specs.declared.reads.Reads.{Ghosts}
+use Rattle.mkv_io.specs.declared.files.Files as writing
+
+-- a file is the same after two calls
+pub IsSameFile-twice : (a b c : LiveFiles) (file : ℕ) → IsSameFile a b file → IsSameFile b c file → IsSameFile a c file
+IsSameFile-twice a b c file first next = record {
+  alive = next.alive ∙ first.alive;
+  size = λ live. next.size (first.alive ∙ live) ∙ first.size live;
+  content = λ live. next.content (first.alive ∙ live) ∙ first.content live;
+}
+
+-- ---- what stays
+
+-- nothing happens
+pub KeepsOthers-none : {S : Type 0} (r : Ghosts S) (f : writing.Ghosts S) (names : List (List ℕ)) (files : S) → KeepsOthers r f names files files
+KeepsOthers-none r f names files = record {
+  live = λ file. refl;
+  given = refl;
+  holders = λ file live. refl;
+  others = λ file is. record { alive = refl; size = λ live. refl; content = λ live. refl };
+}
+
+-- two calls
+pub KeepsOthers-then : {S : Type 0} (r : Ghosts S) (f : writing.Ghosts S) (names : List (List ℕ)) (a b c : S) → KeepsOthers r f names a b → KeepsOthers r f names b c → KeepsOthers r f names a c
+KeepsOthers-then r f names a b c first next = record {
+  live = λ file. next.live file ∙ first.live file;
+  given = next.given ∙ first.given;
+  holders = λ file live. next.holders file (first.live file ∙ live) ∙ first.holders file live;
+  others = λ file other. record {
+    alive = next.live file ∙ first.live file;
+    size = λ live. (again file other live).size (first.live file ∙ live) ∙ (first.others file other).size live;
+    content = λ live. (again file other live).content (first.live file ∙ live) ∙ (first.others file other).content live;
+  };
+}
+  where
+    again : (file : ℕ) → AreOthers (f.holder a file) names → (live_files r a).live file ≡ true → IsSameFile (live_files r b) (live_files r c) file
+    again file other live =
+        let P : List ℕ → Type 0 = λ name. AreOthers name names in
+        next.others file (subst P (sym (first.holders file live)) other)
+
+-- what leaves all names but these leaves all but these and more
+pub KeepsOthers-more : {S : Type 0} (r : Ghosts S) (f : writing.Ghosts S) (names more : List (List ℕ)) (old new : S) → ((name : List ℕ) → AreOthers name more → AreOthers name names) → KeepsOthers r f names old new → KeepsOthers r f more old new
+KeepsOthers-more r f names more old new among kept = record {
+  live = kept.live;
+  given = kept.given;
+  holders = kept.holders;
+  others = λ file other. kept.others file (among (f.holder old file) other);
+}
+
+-- a call that only reads leaves all names
+pub KeepsOthers-read : {S : Type 0} (r : Ghosts S) (f : writing.Ghosts S) (names : List (List ℕ)) (old new : S) → OnlyReads r old new → f.given new ≡ f.given old → ((file : ℕ) → f.holder new file ≡ f.holder old file) → KeepsOthers r f names old new
+KeepsOthers-read r f names old new reads given holders = record {
+  live = λ file. ap (λ standing. (r.files standing).live file) reads.standing;
+  given = given;
+  holders = λ file live. holders file;
+  others = λ file is. record {
+    alive = ap (λ standing. (r.files standing).live file) reads.standing;
+    size = λ live. ap (λ standing. (r.files standing).size file) reads.standing;
+    content = λ live. ap (λ standing. (r.files standing).content file) reads.standing;
+  };
+}
+
+-- ---- calls that write
+
+-- nothing is written
+pub WritesOnly-none : {S : Type 0} (r : Ghosts S) (f : writing.Ghosts S) (names : List (List ℕ)) (files : S) → WritesOnly r f names files files
+WritesOnly-none r f names files = record { kept = KeepsOthers-none r f names files; reading = refl; octets = refl; faults = omega arith }
+
+-- two calls
+pub WritesOnly-then : {S : Type 0} (r : Ghosts S) (f : writing.Ghosts S) (names : List (List ℕ)) (a b c : S) → WritesOnly r f names a b → WritesOnly r f names b c → WritesOnly r f names a c
+WritesOnly-then r f names a b c first next = record {
+  kept = KeepsOthers-then r f names a b c first.kept next.kept;
+  reading = next.reading ∙ first.reading;
+  octets = next.octets ∙ first.octets;
+  faults = let earlier = first.faults in let later = next.faults in omega arith;
+}
+
+-- a call that writes only under these names writes only under these and more
+pub WritesOnly-more : {S : Type 0} (r : Ghosts S) (f : writing.Ghosts S) (names more : List (List ℕ)) (old new : S) → ((name : List ℕ) → AreOthers name more → AreOthers name names) → WritesOnly r f names old new → WritesOnly r f more old new
+WritesOnly-more r f names more old new among only = record {
+  kept = KeepsOthers-more r f names more old new among only.kept;
+  reading = only.reading;
+  octets = only.octets;
+  faults = only.faults;
+}
+
+-- a count that is told by its cause hasn't fallen
+pub HasCause-later : {T E : Type 0} (is_fault : E → Bool) (before now : ℕ) (result : Result T E) → HasCause is_fault before now result → before ≤ now
+HasCause-later is_fault before now (Ok value) is = omega (arith, is)
+HasCause-later is_fault before now (Err fault) cause = step (is_fault fault) cause
+  where
+    step : (told : Bool) → MatchBool told (HasRisen before now) (now ≡ before) → before ≤ now
+    step true rose = rose.later
+    step false same = omega (arith, same)
+
+-- an append or an overwrite of a live file
+pub WritesOnly-one : {S T E : Type 0} (r : Ghosts S) (f : writing.Ghosts S) (old new : S) (file : ℕ) (is_fault : E → Bool) (result : Result T E)
+    → f.given new ≡ f.given old
+    → ((other : ℕ) → (live_files r new).live other ≡ (live_files r old).live other)
+    → KeepsFiles (live_files r old) (live_files r new) (λ other. f.holder old other ≢ f.holder old file)
+    → KeepsHolders (live_files r old).live (f.holder old) (f.holder new)
+    → HasCause is_fault (f.writing_faults old) (f.writing_faults new) result
+    → r.reading_faults new ≡ r.reading_faults old
+    → r.octets_read new ≡ r.octets_read old
+    → WritesOnly r f (f.holder old file ∷ []) old new
+WritesOnly-one r f old new file is_fault result given alive others holders cause reading octets = record {
+  kept = record { live = alive; given = given; holders = holders; others = λ other differs. others other (λ same. differs.0 (sym same)) };
+  reading = reading;
+  octets = octets;
+  faults = HasCause-later is_fault (f.writing_faults old) (f.writing_faults new) result cause;
+}

@@ -1,0 +1,6 @@
+-- What a store holds.
+use Rattle.mkv_memory.specs.Stored.{Stored, content_of_name}
+use Rattle.mkv_memory.specs.declared.store.Store.{Store}
+
+abbrev pub stored_in : Store → Stored
+stored_in store = record { world = content_of_name store.contents.entries; opened = store.opened.items }

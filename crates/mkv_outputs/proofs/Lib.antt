@@ -1,0 +1,2 @@
+pub mod OutputsLemmas
+pub mod StartsLemmas

@@ -1,0 +1,61 @@
+-- First parts of outputs: laws for whoever stops in the middle.
+use Rattle.std.proofs.Common.{◌≡◌, ℕ, zero, suc, List, [], ◌∷◌, ◌++◌, refl, sym, ◌∙◌, ap, append_assoc, append-nil}
+use Rattle.mkv_io.specs.Names.{Names}
+use Rattle.mkv_outputs.specs.Outputs.{Output, with_more, with_outputs}
+use Rattle.mkv_outputs.specs.Starts.{AreBegun, IsBegun, IsStart, StandsInPart}
+
+-- a first part of a first part
+pub IsStart-then : (a b c : List ℕ) → IsStart a b → IsStart b c → IsStart a c
+IsStart-then a b c one two = record {
+  rest = one.rest ++ two.rest;
+  whole = two.whole ∙ ap (λ (octets : List ℕ). octets ++ two.rest) one.whole ∙ append_assoc a one.rest two.rest;
+}
+
+-- octets are a first part of themselves
+pub IsBegun-whole : (o : Output) → IsBegun o o
+IsBegun-whole o = record { name = refl; content = record { rest = []; whole = sym (append-nil o.content) } }
+
+-- the same of outputs
+pub AreBegun-then : (a b c : List Output) → AreBegun a b → AreBegun b c → AreBegun a c
+AreBegun-then [] b c one two = tt
+AreBegun-then (o ∷ os) [] c one two = absurd one
+AreBegun-then (o ∷ os) (p ∷ ps) [] one two = absurd two
+AreBegun-then (o ∷ os) (p ∷ ps) (q ∷ qs) one two =
+    (record { name = one.0.name ∙ two.0.name; content = IsStart-then o.content p.content q.content one.0.content two.0.content }, AreBegun-then os ps qs one.1 two.1)
+
+-- outputs that are whole are begun
+pub AreBegun-whole : (outputs : List Output) → AreBegun outputs outputs
+AreBegun-whole [] = tt
+AreBegun-whole (o ∷ os) = (IsBegun-whole o, AreBegun-whole os)
+
+-- an output that is given more
+pub AreBegun-more : (k : ℕ) (more : List ℕ) (outputs : List Output) → AreBegun outputs (with_more k more outputs)
+AreBegun-more k more [] = tt
+AreBegun-more zero more (o ∷ os) = (record { name = refl; content = record { rest = more; whole = refl } }, AreBegun-whole os)
+AreBegun-more (suc k) more (o ∷ os) = (IsBegun-whole o, AreBegun-more k more os)
+
+-- what stands of some outputs stands of all that these have begun
+pub StandsInPart-then : (old new : Names) (some all : List Output) → StandsInPart old new some → AreBegun some all → StandsInPart old new all
+StandsInPart-then old new some all stands begun = record { stand = stands.stand; begun = AreBegun-then stands.stand some all stands.begun begun; names = stands.names }
+
+-- an output that is to be given more
+pub StandsInPart-more : (old new : Names) (k : ℕ) (more : List ℕ) (outputs : List Output) → StandsInPart old new outputs → StandsInPart old new (with_more k more outputs)
+StandsInPart-more old new k more outputs stands = StandsInPart-then old new outputs (with_more k more outputs) stands (AreBegun-more k more outputs)
+
+-- more outputs, of which nothing stands
+pub AreBegun-before : (stand all more : List Output) → AreBegun stand all → AreBegun stand (all ++ more)
+AreBegun-before [] all more begun = tt
+AreBegun-before (o ∷ os) [] more begun = absurd begun
+AreBegun-before (o ∷ os) (whole ∷ all) more begun = (begun.0, AreBegun-before os all more begun.1)
+
+-- further outputs, of which nothing stands
+pub StandsInPart-before : (old new : Names) (all more : List Output) → StandsInPart old new all → StandsInPart old new (all ++ more)
+StandsInPart-before old new all more stands = record { stand = stands.stand; begun = AreBegun-before stands.stand all more stands.begun; names = stands.names }
+
+-- outputs that all stand whole
+pub StandsInPart-whole : (old new : Names) (outputs : List Output) → new ≡ with_outputs old outputs → StandsInPart old new outputs
+StandsInPart-whole old new outputs names = record { stand = outputs; begun = AreBegun-whole outputs; names = names }
+
+-- no output has been begun
+pub StandsInPart-none : (names : Names) (outputs : List Output) → StandsInPart names names outputs
+StandsInPart-none names outputs = record { stand = []; begun = tt; names = refl }

@@ -1,0 +1,4 @@
+#![tactic(auto)]
+
+//! Outputs that are written side by side, each through a buffer, and the words for what stands of
+//! outputs under their names.
