@@ -1,0 +1,14 @@
+#![tactic(auto)]
+
+//! The suite's program again, for a stored run whose words are wrong: it ends with status 2.
+
+use mkv_host::{RealFiles, RealReport};
+use mkv_run::{program, words_of};
+use std::process::ExitCode;
+
+fn main(rt: HostRuntime) -> ExitCode {
+    let words = words_of(&rt);
+    let mut files = RealFiles::new(rt.alloc(), &rt);
+    let mut report = RealReport::new(&rt);
+    program(rt.alloc(), &words, &mut files, &mut report)
+}
