@@ -1,2 +1,3 @@
 pub mod OutputsLemmas
 pub mod StartsLemmas
+mod WrittenLemmas

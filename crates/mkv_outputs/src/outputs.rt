@@ -1,0 +1,1 @@
+//! Outputs that are written side by side.
