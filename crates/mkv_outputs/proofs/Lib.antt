@@ -1,3 +1,5 @@
+pub mod FilesLemmas
+pub mod GivenLemmas
 pub mod OutputsLemmas
 pub mod StartsLemmas
 mod WrittenLemmas

@@ -5,6 +5,7 @@ use Rattle.mkv_values.specs.declared.outside.FileId.{FileId}
 use Rattle.mkv_io.specs.LiveFiles.{KeepsFiles, KeepsHolders}
 use Rattle.mkv_io.specs.Names.{AreApart, AreOthers, Names}
 use Rattle.mkv_io.specs.Sources.{live_files}
+use Rattle.mkv_io.specs.Writing.{WritesOnly}
 use Rattle.mkv_io.specs.declared.reads.Reads.{Ghosts}
 use Rattle.mkv_io.specs.declared.files.Files as writing
 use Rattle.mkv_outputs.specs.Outputs.{Output, names_of, with_end, with_outputs}
@@ -56,6 +57,12 @@ pub record MakesOnly {S : Type 0} (r : Ghosts S) (f : writing.Ghosts S) (name : 
   pub reading : r.reading_faults new ≡ r.reading_faults old
   pub octets : r.octets_read new ≡ r.octets_read old
 
+-- Outputs are written: their files are the same and stay open, and nothing but their names is written.
+pub record WritesOutputs {S : Type 0} (r : Ghosts S) (f : writing.Ghosts S) (old new : S) (sinks later : List Sink) : Type 0 where
+  pub same : files_of later ≡ files_of sinks
+  pub outputs : AreOpen r new later
+  pub only : WritesOnly r f (names_under f old sinks) old new
+
 -- These files end, and all else stays.
 pub record EndsOnly {S : Type 0} (r : Ghosts S) (f : writing.Ghosts S) (old new : S) (list : List FileId) : Type 0 where
   pub ended : All (λ (s : FileId). (live_files r new).live s.n ≡ false) list
@@ -66,6 +73,15 @@ pub record EndsOnly {S : Type 0} (r : Ghosts S) (f : writing.Ghosts S) (old new 
   pub writing : f.writing_faults new ≡ f.writing_faults old
   pub reading : r.reading_faults new ≡ r.reading_faults old
   pub octets : r.octets_read new ≡ r.octets_read old
+
+-- Since the files were so, these outputs were made, and names among these were written: every other file is live as
+-- before, each keeps its name, and the files of other names stay the same.
+pub record MadeSince {S : Type 0} (r : Ghosts S) (f : writing.Ghosts S) (names : List (List ℕ)) (old new : S) (sinks : List Sink) : Type 0 where
+  pub newer : All (λ (s : FileId). f.given old ≤ s.n) (files_of sinks)
+  pub besides : (file : ℕ) → IsNoneOf file (files_of sinks) → (live_files r new).live file ≡ (live_files r old).live file
+  pub given : f.given old ≤ f.given new
+  pub holders : KeepsHolders (live_files r old).live (f.holder old) (f.holder new)
+  pub others : KeepsFiles (live_files r old) (live_files r new) (λ file. ((live_files r old).live file ≡ true) × AreOthers (f.holder old file) names)
 
 -- ---- what was given
 

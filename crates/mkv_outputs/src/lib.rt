@@ -6,4 +6,4 @@
 mod outputs;
 mod sink;
 
-pub use sink::{Sink, flush, write};
+pub use outputs::Outputs;
