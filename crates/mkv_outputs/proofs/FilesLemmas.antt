@@ -80,14 +80,16 @@ OnOk-always (Err fault) holds = tt
 -- ---- files are closed one after the other
 
 pub closed-more : (old new : ℕ → Bool) (list : List FileId) (i : ℕ) (closed : FileId) → AllPairs (λ (a b : FileId). a.n < b.n) list → i < length list → ((d : FileId) → get_or list i d ≡ closed) → new closed.n ≡ false → ((file : ℕ) → file ≢ closed.n → new file ≡ old file) → AllWithin (λ (f : FileId). old f.n ≡ false) list 0 i → AllWithin (λ (f : FileId). old f.n ≡ true) list i (length list) → AllWithin (λ (f : FileId). new f.n ≡ false) list 0 (i + 1) × AllWithin (λ (f : FileId). new f.n ≡ true) list (i + 1) (length list)
-closed-more old new list i closed apart within is ended stays before behind =
-    (λ k d low high. below_more (λ j. (e : FileId) → new (get_or list j e).n ≡ false) i
-        (λ j less e. stays (get_or list j e).n (lower (get_or list j e).n (get_or list i e).n closed.n (apart j i e less within) (ap (λ (f : FileId). f.n) (is e))) ∙ before j e (omega arith) less)
-        (λ e. ap (λ (f : FileId). new f.n) (is e) ∙ ended) k high d,
-     λ k d low high. stays (get_or list k d).n (higher (get_or list i d).n (get_or list k d).n closed.n (apart i k d (omega arith) high) (ap (λ (f : FileId). f.n) (is d))) ∙ behind k d (omega arith) high)
+closed-more old new list i closed apart within is ended stays before behind = (
+  λ k d low high. below_more (λ j. (e : FileId) → new (get_or list j e).n ≡ false) i
+      (λ j less e. stays (get_or list j e).n (lower (get_or list j e).n (get_or list i e).n closed.n (apart j i e less within) (ap (λ (f : FileId). f.n) (is e))) ∙ before j e (omega arith) less)
+      (λ e. ap (λ (f : FileId). new f.n) (is e) ∙ ended) k high d,
+  λ k d low high. stays (get_or list k d).n (higher (get_or list i d).n (get_or list k d).n closed.n (apart i k d (omega arith) high) (ap (λ (f : FileId). f.n) (is d))) ∙ behind k d (omega arith) high,
+)
   where
     lower : (a b c : ℕ) → a < b → b ≡ c → a ≡ c → ⊥
     lower a b c less at same = omega arith
+
     higher : (a b c : ℕ) → a < b → a ≡ c → b ≡ c → ⊥
     higher a b c less at same = omega arith
 

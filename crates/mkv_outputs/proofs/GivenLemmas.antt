@@ -8,11 +8,11 @@ use Rattle.mkv_io.specs.Contents.{with_appended}
 use Rattle.mkv_io.specs.Names.{Names, with_change, with_content}
 use Rattle.mkv_io.specs.Names.{AreApart, AreOthers}
 use Rattle.mkv_outputs.specs.Outputs.{Output, empty, names_of, with_empty, with_end, with_more, with_outputs}
-use Rattle.mkv_outputs.specs.Starts.{AreBegun, IsBegun, IsStart, StandsInPart}
+use Rattle.mkv_outputs.specs.Starts.{AreBegun, StandsInPart}
 use Rattle.mkv_outputs.specs.Sinks.{AreLive, ArePassed, Gives, HaveBeenGiven, files_of, holders_of, with_waiting}
 use Rattle.mkv_outputs.specs.Written.{Passes, PassesOn}
 use Rattle.mkv_outputs.specs.declared.sink.Sink.{Sink}
-use Rattle.mkv_outputs.proofs.OutputsLemmas.{length-more, names_of-more, with_more-none, with_outputs-added, with_outputs-more}
+use Rattle.mkv_outputs.proofs.OutputsLemmas.{names_of-more, with_more-none, with_outputs-added, with_outputs-more}
 use Rattle.mkv_outputs.proofs.StartsLemmas.{StandsInPart-before}
 
 -- what stands is the first part of what was given
@@ -76,11 +76,11 @@ pub HaveBeenGiven-on : (old mid new : Names) (live : ℕ → Bool) (holder later
 HaveBeenGiven-on old mid new live holder later sinks k d next more given has below same are kept passed =
     let count : length has.stand ≡ length sinks = HaveBeenGiven-length has in
     let named : holders_of later (files_of (set sinks k next)) ≡ holders_of holder (files_of sinks) =
-        ap (holders_of later) (files_of-set sinks k d next same) ∙ holders_of-kept live holder later (files_of sinks) are kept in
+    ap (holders_of later) (files_of-set sinks k d next same) ∙ holders_of-kept live holder later (files_of sinks) are kept in
     let apart : AreApart (names_of has.stand) = subst AreApart (sym has.holders) has.apart in
     let within : k < length (files_of sinks) = omega (arith, length-files_of sinks) in
     let name : holder (get_or sinks k d).file.n ≡ get_or (names_of has.stand) k [] =
-        ap (λ (f : FileId). holder f.n) (sym (files_of-at sinks k d d.file below)) ∙ sym (holders_of-at holder (files_of sinks) k d.file within) ∙ ap (λ (names : List (List ℕ)). get_or names k []) (sym has.holders) in
+    ap (λ (f : FileId). holder f.n) (sym (files_of-at sinks k d d.file below)) ∙ sym (holders_of-at holder (files_of sinks) k d.file within) ∙ ap (λ (names : List (List ℕ)). get_or names k []) (sym has.holders) in
     record {
       stand = with_more k passed.written has.stand;
       names = passed.added ∙ ap (λ (names : Names). with_change names (holder (get_or sinks k d).file.n) (with_appended passed.written)) has.names
@@ -159,7 +159,7 @@ pub HaveBeenGiven-added : (old mid new : Names) (live : ℕ → Bool) (holder la
 HaveBeenGiven-added old mid new live holder later sinks s given name has made none under are kept others =
     let same : holders_of later (files_of sinks) ≡ holders_of holder (files_of sinks) = holders_of-kept live holder later (files_of sinks) are kept in
     let named : holders_of later (files_of (sinks ++ s ∷ [])) ≡ holders_of holder (files_of sinks) ++ name ∷ [] =
-        holders_of-added later sinks s ∙ ap (λ (names : List (List ℕ)). names ++ later s.file.n ∷ []) same ∙ ap (λ (n : List ℕ). holders_of holder (files_of sinks) ++ n ∷ []) under in
+    holders_of-added later sinks s ∙ ap (λ (names : List (List ℕ)). names ++ later s.file.n ∷ []) same ∙ ap (λ (n : List ℕ). holders_of holder (files_of sinks) ++ n ∷ []) under in
     record {
       stand = has.stand ++ empty name ∷ [];
       names = made ∙ ap (λ (n : Names). with_content n name []) has.names ∙ sym (with_outputs-added old has.stand (empty name));

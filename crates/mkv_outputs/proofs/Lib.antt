@@ -1,3 +1,4 @@
+pub mod EndsLemmas
 pub mod FilesLemmas
 pub mod GivenLemmas
 pub mod OutputsLemmas

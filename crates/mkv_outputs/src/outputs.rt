@@ -61,15 +61,19 @@ impl Outputs {
     }
 
     /// Gives octets to the k-th output, from 0.
-    pub fn write<F: Files>(&mut self, files: &mut F, k: usize, bytes: &[u8]) -> Result<(), MakeFault>
+    pub fn write<F: Files>(
+        &mut self,
+        files: &mut F,
+        k: usize,
+        bytes: &[u8],
+    ) -> Result<(), MakeFault>
         requires below { k < length self.old }
         requires outputs { AreOpen F.Reads files.old self.old }
         ensures gives { Gives F.Files.own files.old files.new self.old self.new (with_more k bytes.now) result }
         ensures only { WritesOutputs F.Reads F.Files.own files.old files.new self.old self.new }
         ensures cause { HasCause is_make_failure (F.writing_faults files.old) (F.writing_faults files.new) result }
     {
-        let sink = &mut self.sinks[k];
-        write(sink, files, bytes)
+        write(&mut self.sinks[k], files, bytes)
     }
 
     /// Writes what waits of the k-th output.
@@ -81,8 +85,7 @@ impl Outputs {
         ensures only { WritesOutputs F.Reads F.Files.own files.old files.new self.old self.new }
         ensures cause { HasCause is_make_failure (F.writing_faults files.old) (F.writing_faults files.new) result }
     {
-        let sink = &mut self.sinks[k];
-        flush(sink, files)
+        flush(&mut self.sinks[k], files)
     }
 
     /// Writes all that waits.

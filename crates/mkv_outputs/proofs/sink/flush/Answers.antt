@@ -1,4 +1,4 @@
-use Rattle.mkv_outputs.proofs.WrittenLemmas.{PassesOn-all, PassesOn-none, PassesSome-refused, Passes-err}
+use Rattle.mkv_outputs.proofs.WrittenLemmas.{PassesOn-all, PassesSome-refused, Passes-err}
 use Rattle.mkv_outputs.proofs.sink.flush.Goals as goal
 
 -- the append was refused

@@ -1,5 +1,5 @@
 use Rattle.mkv_values.specs.declared.outside.FileId.{FileId}
-use Rattle.std.proofs.Common.{ℕ, length, ◌<◌, ◌≡◌, ◌≤◌, ◌++◌, ◌∷◌, [], List, ap, arith, inl, refl, sym, subst, ◌∙◌}
+use Rattle.std.proofs.Common.{ℕ, length, ◌<◌, ◌≡◌, ◌++◌, ◌∷◌, [], List, ap, arith, inl, refl, sym, subst, ◌∙◌}
 use Rattle.mkv_outputs.specs.Outputs.{empty}
 use Rattle.mkv_outputs.specs.Sinks.{HaveBeenGiven, MakesOnly, files_of}
 use Rattle.mkv_outputs.specs.declared.sink.Sink.{Sink}
@@ -22,7 +22,7 @@ returns-in_err-file-clause-gives g c = Gives-refused g.F.Files _ _ c.from_residu
 pub returns-clause-gives : goal.returns-clause-gives
 returns-clause-gives g c = λ since given has.
     let added : c.push_reserved.new.self.items ≡ c.args.self.now ++ record { file = c.in_ok-file.file; waiting = c.in_ok-waiting.waiting } ∷ [] =
-        c.push_reserved.ensures.items ∙ ap (λ (ss : List Sink). ss ++ record { file = c.in_ok-file.file; waiting = c.in_ok-waiting.waiting } ∷ []) (c.reserve.ensures.items ∙ c.self.view_is) in
+    c.push_reserved.ensures.items ∙ ap (λ (ss : List Sink). ss ++ record { file = c.in_ok-file.file; waiting = c.in_ok-waiting.waiting } ∷ []) (c.reserve.ensures.items ∙ c.self.view_is) in
     subst (λ (ss : List Sink). HaveBeenGiven since (g.F.Files.names c.create.new.self) (g.F.Files.holder c.create.new.self) ss (given ++ empty c.args.name.now ∷ [])) (sym added)
     (HaveBeenGiven-added since _ _ (g.F.Reads.files (g.F.Reads.standing c.args.files.now)).live _ _ c.args.self.now (record { file = c.in_ok-file.file; waiting = c.in_ok-waiting.waiting }) given c.args.name.now has
     c.in_ok-file.ensures.ok c.in_ok-waiting.ensures c.in_ok-file.ensures.holder c.requires.outputs.live c.create.ensures.holders c.requires.apart)
@@ -30,21 +30,20 @@ returns-clause-gives g c = λ since given has.
 -- its number is new, so the others' files are live as before
 pub returns-clause-only : goal.returns-clause-only
 returns-clause-only g c =
-    let sink : Sink = record { file = c.in_ok-file.file; waiting = c.in_ok-waiting.waiting } in
-    let added : c.push_reserved.new.self.items ≡ c.args.self.now ++ sink ∷ [] =
-        c.push_reserved.ensures.items ∙ ap (λ (ss : List Sink). ss ++ sink ∷ []) (c.reserve.ensures.items ∙ c.self.view_is) in
+    let added : c.push_reserved.new.self.items ≡ c.args.self.now ++ record { file = c.in_ok-file.file; waiting = c.in_ok-waiting.waiting } ∷ [] =
+    c.push_reserved.ensures.items ∙ ap (λ (ss : List Sink). ss ++ record { file = c.in_ok-file.file; waiting = c.in_ok-waiting.waiting } ∷ []) (c.reserve.ensures.items ∙ c.self.view_is) in
     let numbered = λ (k : ℕ) (d : FileId) (below : k < length (files_of c.args.self.now)). g.met.F.Files.numbered c.args.files.now _ (c.requires.outputs.live k d below) in
     subst (λ (ss : List Sink). MakesOnly g.F.Reads g.F.Files c.args.name.now c.args.files.now c.create.new.self c.args.self.now ss) (sym added) (record {
       outputs = record {
-        live = AreLive-added (g.F.Reads.files (g.F.Reads.standing c.create.new.self)).live c.args.self.now sink
+        live = AreLive-added (g.F.Reads.files (g.F.Reads.standing c.create.new.self)).live c.args.self.now (record { file = c.in_ok-file.file; waiting = c.in_ok-waiting.waiting })
             (AreLive-below (g.F.Reads.files (g.F.Reads.standing c.args.files.now)).live (g.F.Reads.files (g.F.Reads.standing c.create.new.self)).live (g.F.Files.given c.args.files.now) (files_of c.args.self.now)
             c.requires.outputs.live (λ file live. g.met.F.Files.numbered c.args.files.now file live) c.create.ensures.alive)
             c.in_ok-file.ensures.live;
-        rising = AreRising-added (g.F.Files.given c.args.files.now) c.args.self.now sink c.requires.outputs.rising numbered c.in_ok-file.ensures.number.0;
+        rising = AreRising-added (g.F.Files.given c.args.files.now) c.args.self.now (record { file = c.in_ok-file.file; waiting = c.in_ok-waiting.waiting }) c.requires.outputs.rising numbered c.in_ok-file.ensures.number.0;
       };
-      newer = λ least below newer. AreNewer-added least c.args.self.now sink newer (omega (arith, below, c.in_ok-file.ensures.number.0));
-      among = λ file none. (IsNoneOf-added c.args.self.now sink file none).0;
-      besides = λ file none. c.in_ok-file.ensures.alone file (IsNoneOf-added c.args.self.now sink file none).1;
+      newer = λ least below newer. AreNewer-added least c.args.self.now (record { file = c.in_ok-file.file; waiting = c.in_ok-waiting.waiting }) newer (omega (arith, below, c.in_ok-file.ensures.number.0));
+      among = λ file none. (IsNoneOf-added c.args.self.now (record { file = c.in_ok-file.file; waiting = c.in_ok-waiting.waiting }) file none).0;
+      besides = λ file none. c.in_ok-file.ensures.alone file (IsNoneOf-added c.args.self.now (record { file = c.in_ok-file.file; waiting = c.in_ok-waiting.waiting }) file none).1;
       given = c.create.ensures.given;
       alive = c.create.ensures.alive;
       holders = c.create.ensures.holders;
