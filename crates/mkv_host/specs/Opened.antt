@@ -1,8 +1,9 @@
 -- What is known of the files of the system that are open.
-use Rattle.std.specs.Prelude.{◌≡◌, ℕ, ◌^◌, ◌≤◌, ◌<◌, zero, suc, List, [], ◌∷◌, length, true, Option, Some, None, is_some, get_or}
+use Rattle.std.specs.Prelude.{◌≡◌, ℕ, ◌^◌, ◌≤◌, ◌<◌, zero, suc, List, [], ◌∷◌, length, Bool, true, false, ◌&&◌, ◌==◌, Option, Some, None, is_some, get_or}
 use Rattle.std.proofs.Common.{arith}
 use Rattle.mkv_io.specs.LiveFiles.{LiveFiles}
 use Rattle.mkv_host.specs.declared.opened.Opened.{Opened}
+use Rattle.mkv_host.specs.declared.system.Node.{Node}
 
 -- The file of a number, None where it was closed.
 abbrev pub opened_at : List (Option Opened) → ℕ → Option Opened
@@ -31,6 +32,11 @@ live_in opened = record {
 -- the name under which a file was opened
 abbrev pub holder_in : List (Option Opened) → ℕ → List ℕ
 holder_in opened file = name_of (opened_at opened file)
+
+-- an open file is this one of the system
+abbrev pub is_node : Node → Option Opened → Bool
+is_node node None = false
+is_node node (Some opened) = (opened.node.device == node.device) && (opened.node.inode == node.inode)
 
 -- ---- what follows at once
 

@@ -8,6 +8,8 @@ mod opened;
 mod real_files;
 mod real_report;
 mod system;
+mod writer;
 
 pub use real_files::RealFiles;
 pub use real_report::RealReport;
+pub use writer::{WriteAt, write_from};

@@ -2,9 +2,11 @@
 //! that is closed leaves its place empty.
 
 ghost use Rattle.std.specs.Prelude.{◌≡◌, ◌≢◌, ℕ, ◌+◌, ◌<◌, ◌≤◌, ◌^◌, [], ◌∷◌, ◌++◌, length, Some, is_some, vec_capacity, IfOk, OnOk, IsTrue};
-ghost use Rattle.mkv_host.specs.Opened.{holder_in, opened_at, size_at};
+ghost use Rattle.mkv_host.specs.Opened.{holder_in, is_node, opened_at, size_at};
+ghost use Rattle.std.specs.List.{list_any};
 
 use crate::opened::Opened;
+use crate::system::Node;
 use mkv_values::{FileId, Text};
 use std::alloc::{AllocError, Global};
 
@@ -44,6 +46,13 @@ pub fn open_at(opened: &Vec<Option<Opened>>, file: FileId) -> &Opened
         Some(Some(open)) => open,
         _ => unreachable!(),
     }
+}
+
+/// Whether a file of the system is open, under whatever name.
+pub fn is_open(opened: &Vec<Option<Opened>>, node: Node) -> bool
+    ensures { result ≡ list_any (is_node node) opened.now.items }
+{
+    opened.iter().any(|place| place.as_ref().is_some_and(|open| open.node == node))
 }
 
 /// Notes that an open file is longer by so many octets.

@@ -2,13 +2,15 @@
 
 ghost use Rattle.std.specs.Prelude.{ℕ, ◌≤◌, ◌^◌};
 
+use crate::system::Node;
 use mkv_values::Text;
 use std::fs::File;
 
-/// An open file, the name under which it was opened, and its length in octets.
+/// An open file, which it is, the name under which it was opened, and its length in octets.
 #[derive(Drop)]
 pub struct Opened {
     pub file: File,
+    pub node: Node,
     pub name: Text,
     pub size: u64,
     ghost short: { size ≤ 2 ^ 48 },

@@ -4,16 +4,17 @@ ghost use Rattle.std.specs.Prelude.{◌≡◌, ◌≢◌, ◌↔◌, ℕ, ◌+�
 ghost use Rattle.mkv_io.specs.Faults.{HasRisen, counted, last_count};
 ghost use Rattle.mkv_host.specs.Opened.{holder_in, opened_at, size_at};
 
-use crate::open_files::{add, lengthen, open_at, prepare};
+use crate::open_files::{add, is_open, lengthen, open_at, prepare};
 use crate::opened::Opened;
-use crate::system::{LONGEST, create, open_to_read, write_from};
+use crate::system::{LONGEST, Node, is_missing, open_to_read, open_to_write};
+use crate::writer::write_from;
 use mkv_io::{Files, Reads};
 use mkv_values::{Failed, FileId, MakeFault, OpenFault};
 use std::alloc::Global;
-use std::fs;
 use std::fs::File;
 use std::io::ErrorKind;
 use std::os::unix::fs::FileExt;
+use std::{fs, io};
 
 /// The files of the system. A file that is opened is only read; one that is created is written too.
 #[derive(Drop)]
@@ -47,6 +48,17 @@ impl<'a, R: fs::Files<File = File>> RealFiles<'a, R> {
         ensures { IsTrue result ↔ (length self.now.opened.items ≡ last_count) }
     {
         self.opened.len() as u64 == u64::MAX
+    }
+
+    /// Makes an empty file, or empties the one of that name. One that is open is refused before it is
+    /// touched, under whatever name it was opened.
+    fn make(&self, name: &str) -> io::Result<(File, Node)> {
+        let (file, node) = open_to_write(self.system, name)?;
+        if is_open(&self.opened, node) {
+            return Err(ErrorKind::ResourceBusy.into());
+        }
+        file.set_len(0)?;
+        Ok((file, node))
     }
 }
 
@@ -133,15 +145,16 @@ impl<'a, R: fs::Files<File = File>> Files for RealFiles<'a, R> {
         }
         let holder = prepare(&mut self.opened, self.alloc, name)?;
         match open_to_read(self.system, name) {
-            Ok((file, size)) => Ok(add(
+            Ok((file, size, node)) => Ok(add(
                 &mut self.opened,
                 Opened {
                     file,
+                    node,
                     name: holder,
                     size,
                 },
             )),
-            Err(error) if error.kind() == ErrorKind::NotFound => Err(OpenFault::Missing),
+            Err(error) if is_missing(&error) => Err(OpenFault::Missing),
             Err(_) => {
                 note_failure(&mut self.reading_faults);
                 Err(OpenFault::Failed)
@@ -155,11 +168,12 @@ impl<'a, R: fs::Files<File = File>> Files for RealFiles<'a, R> {
             return Err(MakeFault::Failed);
         }
         let holder = prepare(&mut self.opened, self.alloc, name)?;
-        match create(self.system, name) {
-            Ok(file) => Ok(add(
+        match self.make(name) {
+            Ok((file, node)) => Ok(add(
                 &mut self.opened,
                 Opened {
                     file,
+                    node,
                     name: holder,
                     size: 0,
                 },
@@ -177,7 +191,7 @@ impl<'a, R: fs::Files<File = File>> Files for RealFiles<'a, R> {
             note_failure(&mut self.writing_faults);
             return Err(MakeFault::Failed);
         }
-        let written = write_from(&open.file, open.size, bytes);
+        let written = write_from(&mut &open.file, open.size, bytes);
         lengthen(&mut self.opened, file, written as u64);
         if written < bytes.len() {
             note_failure(&mut self.writing_faults);
@@ -187,7 +201,8 @@ impl<'a, R: fs::Files<File = File>> Files for RealFiles<'a, R> {
     }
 
     fn overwrite(&mut self, file: FileId, at: u64, bytes: &[u8]) -> Result<(), Failed> {
-        if write_from(&open_at(&self.opened, file).file, at, bytes) < bytes.len() {
+        let open = open_at(&self.opened, file);
+        if write_from(&mut &open.file, at, bytes) < bytes.len() {
             note_failure(&mut self.writing_faults);
             return Err(Failed);
         }

@@ -1,61 +1,74 @@
-//! Calls of the system on files.
+//! Calls of the system that open files.
 
-ghost use Rattle.std.specs.Prelude.{ℕ, ◌≤◌, ◌^◌, length, IfOk};
+ghost use Rattle.std.specs.Prelude.{◌↔◌, ℕ, ◌≤◌, ◌^◌, IfOk, IsOk};
+ghost use Rattle.std.specs.Fs.{IsFile, file_type};
 
-use std::fs::{File, OpenOptions};
+use std::fs::{File, Metadata, OpenOptions};
 use std::io::ErrorKind;
-use std::os::unix::fs::FileExt;
+use std::os::unix::fs::MetadataExt;
 use std::{fs, io};
 
 /// No file is longer than so many octets.
 pub const LONGEST: u64 = 1 << 48;
 
-/// Opens a file to be read, and answers its length. One that is too long isn't opened.
-pub fn open_to_read<R: fs::Files<File = File>>(system: &R, name: &str) -> io::Result<(File, u64)>
+/// Which file of the system a file is, whatever its name.
+#[derive(Clone, Copy, Debug, PartialEq, Eq)]
+pub struct Node {
+    pub device: u64,
+    pub inode: u64,
+}
+
+/// Whether an error says that there is no file of a name: none has it, or its way leads through a file.
+pub fn is_missing(error: &io::Error) -> bool {
+    matches!(error.kind(), ErrorKind::NotFound | ErrorKind::NotADirectory)
+}
+
+/// Which file this is. A folder, pipe, socket or device is refused, since it has no length.
+fn node_of(found: &Metadata) -> io::Result<Node>
+    ensures { IsOk result ↔ IsFile (file_type found.now) }
+{
+    if !found.is_file() {
+        return Err(ErrorKind::InvalidInput.into());
+    }
+    Ok(Node {
+        device: found.dev(),
+        inode: found.ino(),
+    })
+}
+
+/// Opens a regular file to be read, and answers its length and which file it is. One that is too long is
+/// refused. What isn't regular isn't opened, since that may wait for ever.
+pub fn open_to_read<R: fs::Files<File = File>>(
+    system: &R,
+    name: &str,
+) -> io::Result<(File, u64, Node)>
     ensures { IfOk result (λ answer. answer.1 ≤ 2 ^ 48) }
 {
+    node_of(&fs::metadata(system, name)?)?;
     let file = File::open(system, name)?;
-    let size = length_of(&file)?;
-    Ok((file, size))
-}
-
-/// The length of an open file, where it isn't too long.
-fn length_of(file: &File) -> io::Result<u64>
-    ensures { IfOk result (λ size. size ≤ 2 ^ 48) }
-{
-    let size = file.metadata()?.len();
+    let found = file.metadata()?;
+    let size = found.len();
     if size > LONGEST {
-        return Err(io::ErrorKind::FileTooLarge.into());
+        return Err(ErrorKind::FileTooLarge.into());
     }
-    Ok(size)
+    Ok((file, size, node_of(&found)?))
 }
 
-/// Makes an empty file, or empties the one of that name, to be written and read.
-pub fn create<R: fs::Files<File = File>>(system: &R, name: &str) -> io::Result<File> {
-    OpenOptions::new()
+/// Opens a regular file to be written and read, and makes it where there is none. Its octets stay.
+pub fn open_to_write<R: fs::Files<File = File>>(
+    system: &R,
+    name: &str,
+) -> io::Result<(File, Node)> {
+    match fs::metadata(system, name) {
+        Ok(found) => drop(node_of(&found)?),
+        Err(error) if error.kind() == ErrorKind::NotFound => {}
+        Err(error) => return Err(error),
+    }
+    let file = OpenOptions::new()
         .read(true)
         .write(true)
         .create(true)
-        .truncate(true)
-        .open(system, name)
-}
-
-/// Writes from a place on, and answers how many octets were written before the system failed.
-pub fn write_from(file: &File, at: u64, bytes: &[u8]) -> usize
-    requires { at ≤ 2 ^ 48 }
-    ensures { result ≤ length bytes.now }
-{
-    let mut written = 0;
-    for _ in 0..u64::MAX {
-        if written == bytes.len() {
-            break;
-        }
-        match file.write_at(&bytes[written..], at + written as u64) {
-            Ok(0) => break,
-            Ok(count) => written += count,
-            Err(error) if error.kind() == ErrorKind::Interrupted => {}
-            Err(_) => break,
-        }
-    }
-    written
+        .open(system, name)?;
+    let node = node_of(&file.metadata()?)?;
+    Ok((file, node))
 }

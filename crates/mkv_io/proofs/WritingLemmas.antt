@@ -22,7 +22,7 @@ IsSameFile-twice a b c file first next = record {
 pub KeepsOthers-none : {S : Type 0} (r : Ghosts S) (f : writing.Ghosts S) (names : List (List ℕ)) (files : S) → KeepsOthers r f names files files
 KeepsOthers-none r f names files = record {
   live = λ file. refl;
-  given = refl;
+  given = omega arith;
   holders = λ file live. refl;
   others = λ file is. record { alive = refl; size = λ live. refl; content = λ live. refl };
 }
@@ -31,7 +31,7 @@ KeepsOthers-none r f names files = record {
 pub KeepsOthers-then : {S : Type 0} (r : Ghosts S) (f : writing.Ghosts S) (names : List (List ℕ)) (a b c : S) → KeepsOthers r f names a b → KeepsOthers r f names b c → KeepsOthers r f names a c
 KeepsOthers-then r f names a b c first next = record {
   live = λ file. next.live file ∙ first.live file;
-  given = next.given ∙ first.given;
+  given = let earlier = first.given in let later = next.given in omega arith;
   holders = λ file live. next.holders file (first.live file ∙ live) ∙ first.holders file live;
   others = λ file other. record {
     alive = next.live file ∙ first.live file;
@@ -58,7 +58,7 @@ KeepsOthers-more r f names more old new among kept = record {
 pub KeepsOthers-read : {S : Type 0} (r : Ghosts S) (f : writing.Ghosts S) (names : List (List ℕ)) (old new : S) → OnlyReads r old new → f.given new ≡ f.given old → ((file : ℕ) → f.holder new file ≡ f.holder old file) → KeepsOthers r f names old new
 KeepsOthers-read r f names old new reads given holders = record {
   live = λ file. ap (λ standing. (r.files standing).live file) reads.standing;
-  given = given;
+  given = omega (arith, given);
   holders = λ file live. holders file;
   others = λ file is. record {
     alive = ap (λ standing. (r.files standing).live file) reads.standing;
@@ -71,12 +71,13 @@ KeepsOthers-read r f names old new reads given holders = record {
 
 -- nothing is written
 pub WritesOnly-none : {S : Type 0} (r : Ghosts S) (f : writing.Ghosts S) (names : List (List ℕ)) (files : S) → WritesOnly r f names files files
-WritesOnly-none r f names files = record { kept = KeepsOthers-none r f names files; reading = refl; octets = refl; faults = omega arith }
+WritesOnly-none r f names files = record { kept = KeepsOthers-none r f names files; given = refl; reading = refl; octets = refl; faults = omega arith }
 
 -- two calls
 pub WritesOnly-then : {S : Type 0} (r : Ghosts S) (f : writing.Ghosts S) (names : List (List ℕ)) (a b c : S) → WritesOnly r f names a b → WritesOnly r f names b c → WritesOnly r f names a c
 WritesOnly-then r f names a b c first next = record {
   kept = KeepsOthers-then r f names a b c first.kept next.kept;
+  given = next.given ∙ first.given;
   reading = next.reading ∙ first.reading;
   octets = next.octets ∙ first.octets;
   faults = let earlier = first.faults in let later = next.faults in omega arith;
@@ -86,6 +87,7 @@ WritesOnly-then r f names a b c first next = record {
 pub WritesOnly-more : {S : Type 0} (r : Ghosts S) (f : writing.Ghosts S) (names more : List (List ℕ)) (old new : S) → ((name : List ℕ) → AreOthers name more → AreOthers name names) → WritesOnly r f names old new → WritesOnly r f more old new
 WritesOnly-more r f names more old new among only = record {
   kept = KeepsOthers-more r f names more old new among only.kept;
+  given = only.given;
   reading = only.reading;
   octets = only.octets;
   faults = only.faults;
@@ -111,7 +113,8 @@ pub WritesOnly-one : {S T E : Type 0} (r : Ghosts S) (f : writing.Ghosts S) (old
     → r.octets_read new ≡ r.octets_read old
     → WritesOnly r f (f.holder old file ∷ []) old new
 WritesOnly-one r f old new file is_fault result given alive others holders cause reading octets = record {
-  kept = record { live = alive; given = given; holders = holders; others = λ other differs. others other (λ same. differs.0 (sym same)) };
+  kept = record { live = alive; given = omega (arith, given); holders = holders; others = λ other differs. others other (λ same. differs.0 (sym same)) };
+  given = given;
   reading = reading;
   octets = octets;
   faults = HasCause-later is_fault (f.writing_faults old) (f.writing_faults new) result cause;

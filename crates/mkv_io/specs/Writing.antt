@@ -6,16 +6,19 @@ use Rattle.mkv_io.specs.Sources.{live_files}
 use Rattle.mkv_io.specs.declared.reads.Reads.{Ghosts}
 use Rattle.mkv_io.specs.declared.files.Files as writing
 
--- A call leaves which files are live, under which names, and the files of all names but these.
+-- Which files are live stays, and under which names; and the files of all names but these stay the same. A number
+-- that was given stays so.
 pub record KeepsOthers {S : Type 0} (r : Ghosts S) (f : writing.Ghosts S) (names : List (List ℕ)) (old new : S) : Type 0 where
   pub live : (file : ℕ) → (live_files r new).live file ≡ (live_files r old).live file
-  pub given : f.given new ≡ f.given old
+  pub given : f.given old ≤ f.given new
   pub holders : KeepsHolders (live_files r old).live (f.holder old) (f.holder new)
   pub others : KeepsFiles (live_files r old) (live_files r new) (λ file. AreOthers (f.holder old file) names)
 
--- A call that only writes under these names leaves the others. It reads nothing, and its count of faults doesn't fall.
+-- A call that only writes under these names keeps the others. It gives no number and reads nothing, and its count of
+-- faults doesn't fall.
 pub record WritesOnly {S : Type 0} (r : Ghosts S) (f : writing.Ghosts S) (names : List (List ℕ)) (old new : S) : Type 0 where
   pub kept : KeepsOthers r f names old new
+  pub given : f.given new ≡ f.given old
   pub reading : r.reading_faults new ≡ r.reading_faults old
   pub octets : r.octets_read new ≡ r.octets_read old
   pub faults : f.writing_faults old ≤ f.writing_faults new

@@ -1,2 +1,6 @@
+pub mod EndsLemmas
+pub mod FilesLemmas
+pub mod GivenLemmas
 pub mod OutputsLemmas
 pub mod StartsLemmas
+mod WrittenLemmas

@@ -1,0 +1,115 @@
+-- The files of outputs that are being written, and what they were given.
+use Rattle.std.specs.Prelude.{◌≡◌, ◌≢◌, ◌<◌, ◌≤◌, ℕ, List, [], ◌∷◌, map, Bool, true, false, Result, Ok, Err}
+use Rattle.std.specs.List.{All, AllPairs, AllWithin}
+use Rattle.mkv_values.specs.declared.outside.FileId.{FileId}
+use Rattle.mkv_io.specs.LiveFiles.{KeepsFiles, KeepsHolders}
+use Rattle.mkv_io.specs.Names.{AreApart, AreOthers, Names}
+use Rattle.mkv_io.specs.Sources.{live_files}
+use Rattle.mkv_io.specs.Writing.{WritesOnly}
+use Rattle.mkv_io.specs.declared.reads.Reads.{Ghosts}
+use Rattle.mkv_io.specs.declared.files.Files as writing
+use Rattle.mkv_outputs.specs.Outputs.{Output, names_of, with_end, with_outputs}
+use Rattle.mkv_outputs.specs.Starts.{StandsInPart}
+use Rattle.mkv_outputs.specs.declared.sink.Sink.{Sink}
+
+-- the files of outputs, in their order
+abbrev pub files_of : List Sink → List FileId
+files_of sinks = map (λ (s : Sink). s.file) sinks
+
+-- ---- the files
+
+-- These files are live.
+abbrev pub AreLive : (ℕ → Bool) → List FileId → Type 0
+AreLive live list = All (λ (f : FileId). live f.n ≡ true) list
+
+-- Each of these files has a higher number than those before it.
+abbrev pub AreRising : List FileId → Type 0
+AreRising list = AllPairs (λ (a b : FileId). a.n < b.n) list
+
+-- The number is that of none of these files.
+abbrev pub IsNoneOf : ℕ → List FileId → Type 0
+IsNoneOf file list = All (λ (f : FileId). f.n ≢ file) list
+
+-- The files of outputs are live, and each has a number of its own.
+pub record AreOpen {S : Type 0} (r : Ghosts S) (files : S) (sinks : List Sink) : Type 0 where
+  pub live : AreLive (live_files r files).live (files_of sinks)
+  pub rising : AreRising (files_of sinks)
+
+-- the names under which these files were opened
+abbrev pub holders_of : (ℕ → List ℕ) → List FileId → List (List ℕ)
+holders_of holder list = map (λ (f : FileId). holder f.n) list
+
+-- the names of outputs
+abbrev pub names_under : {S : Type 0} → writing.Ghosts S → S → List Sink → List (List ℕ)
+names_under f files sinks = holders_of (f.holder files) (files_of sinks)
+
+-- An output of this name is made, or isn't: no other file becomes live, live files keep their names, and those of other
+-- names stay. Nothing is read.
+pub record MakesOnly {S : Type 0} (r : Ghosts S) (f : writing.Ghosts S) (name : List ℕ) (old new : S) (sinks later : List Sink) : Type 0 where
+  pub outputs : AreOpen r new later
+  pub newer : (least : ℕ) → least ≤ f.given old → All (λ (s : FileId). least ≤ s.n) (files_of sinks) → All (λ (s : FileId). least ≤ s.n) (files_of later)
+  pub among : (file : ℕ) → IsNoneOf file (files_of later) → IsNoneOf file (files_of sinks)
+  pub besides : (file : ℕ) → IsNoneOf file (files_of later) → (live_files r new).live file ≡ (live_files r old).live file
+  pub given : f.given old ≤ f.given new
+  pub alive : (file : ℕ) → file < f.given old → (live_files r new).live file ≡ (live_files r old).live file
+  pub holders : KeepsHolders (live_files r old).live (f.holder old) (f.holder new)
+  pub others : KeepsFiles (live_files r old) (live_files r new) (λ file. (file < f.given old) × (f.holder old file ≢ name))
+  pub reading : r.reading_faults new ≡ r.reading_faults old
+  pub octets : r.octets_read new ≡ r.octets_read old
+
+-- Outputs are written: their files are the same and stay open, and nothing but their names is written.
+pub record WritesOutputs {S : Type 0} (r : Ghosts S) (f : writing.Ghosts S) (old new : S) (sinks later : List Sink) : Type 0 where
+  pub same : files_of later ≡ files_of sinks
+  pub outputs : AreOpen r new later
+  pub only : WritesOnly r f (names_under f old sinks) old new
+
+-- These files end, and all else stays.
+pub record EndsOnly {S : Type 0} (r : Ghosts S) (f : writing.Ghosts S) (old new : S) (list : List FileId) : Type 0 where
+  pub ended : All (λ (s : FileId). (live_files r new).live s.n ≡ false) list
+  pub others : KeepsFiles (live_files r old) (live_files r new) (λ file. IsNoneOf file list)
+  pub names : f.names new ≡ f.names old
+  pub given : f.given new ≡ f.given old
+  pub holders : KeepsHolders (live_files r new).live (f.holder old) (f.holder new)
+  pub writing : f.writing_faults new ≡ f.writing_faults old
+  pub reading : r.reading_faults new ≡ r.reading_faults old
+  pub octets : r.octets_read new ≡ r.octets_read old
+
+-- Since the files were so, these outputs were made, and names among these were written: every other file is live as
+-- before, each keeps its name, and the files of other names stay the same.
+pub record MadeSince {S : Type 0} (r : Ghosts S) (f : writing.Ghosts S) (names : List (List ℕ)) (old new : S) (sinks : List Sink) : Type 0 where
+  pub newer : All (λ (s : FileId). f.given old ≤ s.n) (files_of sinks)
+  pub besides : (file : ℕ) → IsNoneOf file (files_of sinks) → (live_files r new).live file ≡ (live_files r old).live file
+  pub given : f.given old ≤ f.given new
+  pub holders : KeepsHolders (live_files r old).live (f.holder old) (f.holder new)
+  pub others : KeepsFiles (live_files r old) (live_files r new) (λ file. ((live_files r old).live file ≡ true) × AreOthers (f.holder old file) names)
+
+-- ---- what was given
+
+-- what stands, and behind it what waits
+abbrev pub with_waiting : List Output → List Sink → List Output
+with_waiting [] ss = []
+with_waiting (o ∷ os) [] = []
+with_waiting (o ∷ os) (s ∷ ss) = with_end s.waiting o ∷ with_waiting os ss
+
+-- What these outputs were given so far stands under their names, but for what waits; and no other name was changed.
+pub record HaveBeenGiven (old new : Names) (holder : ℕ → List ℕ) (sinks : List Sink) (given : List Output) : Type 0 where
+  pub stand : List Output
+  pub names : new ≡ with_outputs old stand
+  pub whole : given ≡ with_waiting stand sinks
+  pub holders : names_of stand ≡ holders_of holder (files_of sinks)
+  pub apart : AreApart (holders_of holder (files_of sinks))
+
+-- Whatever the outputs were given before, they have then been given what the call makes of it. After a refusal that
+-- stands in part.
+abbrev pub Gives : {S T E : Type 0} → writing.Ghosts S → S → S → List Sink → List Sink → (List Output → List Output) → Result T E → Type 0
+Gives f old new sinks later more (Ok _) = (since : Names) (given : List Output) → HaveBeenGiven since (f.names old) (f.holder old) sinks given → HaveBeenGiven since (f.names new) (f.holder new) later (more given)
+Gives f old new sinks later more (Err _) = (since : Names) (given : List Output) → HaveBeenGiven since (f.names old) (f.holder old) sinks given → StandsInPart since (f.names new) (more given)
+
+-- Whatever the outputs were given, it stands whole under their names. After a refusal it stands in part.
+abbrev pub Finishes : {S T E : Type 0} → writing.Ghosts S → S → S → List Sink → Result T E → Type 0
+Finishes f old new sinks (Ok _) = (since : Names) (given : List Output) → HaveBeenGiven since (f.names old) (f.holder old) sinks given → f.names new ≡ with_outputs since given
+Finishes f old new sinks (Err _) = (since : Names) (given : List Output) → HaveBeenGiven since (f.names old) (f.holder old) sinks given → StandsInPart since (f.names new) given
+
+-- nothing waits of the first, so many of them
+abbrev pub ArePassed : ℕ → List Sink → Type 0
+ArePassed high sinks = AllWithin (λ (s : Sink). s.waiting ≡ []) sinks 0 high

@@ -1,0 +1,26 @@
+-- What becomes of octets that are written through a buffer.
+use Rattle.std.specs.Prelude.{◌≡◌, ℕ, ◌++◌, List, Result, Ok, Err}
+use Rattle.mkv_values.specs.declared.outside.FileId.{FileId}
+use Rattle.mkv_io.specs.Contents.{with_appended}
+use Rattle.mkv_io.specs.Names.{Names, with_change}
+use Rattle.mkv_io.specs.declared.files.Files.{Ghosts}
+
+-- Of octets the first are appended to a name's content, and these are left.
+pub record PassesOn (old new : Names) (holder octets left : List ℕ) : Type 0 where
+  pub written : List ℕ
+  pub whole : octets ≡ written ++ left
+  pub added : new ≡ with_change old holder (with_appended written)
+
+-- Some first octets are appended.
+pub record PassesSome (old new : Names) (holder octets : List ℕ) : Type 0 where
+  pub left : List ℕ
+  pub passed : PassesOn old new holder octets left
+
+-- What is left waits, unless the call was refused.
+abbrev pub Passes : {T E : Type 0} → Names → Names → List ℕ → List ℕ → List ℕ → Result T E → Type 0
+Passes old new holder octets left (Ok _) = PassesOn old new holder octets left
+Passes old new holder octets left (Err _) = PassesSome old new holder octets
+
+-- the same of the name of a live file
+abbrev pub PassesTo : {S T E : Type 0} → Ghosts S → FileId → S → S → List ℕ → List ℕ → Result T E → Type 0
+PassesTo f file old new octets left result = Passes (f.names old) (f.names new) (f.holder old file.n) octets left result

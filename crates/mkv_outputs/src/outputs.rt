@@ -1,0 +1,124 @@
+//! Outputs that are written side by side.
+
+ghost use Rattle.std.specs.Prelude.{◌≡◌, ◌+◌, ◌<◌, [], length, OnErr, OnOk, IfOk, IsErrOf};
+ghost use Rattle.mkv_io.specs.Faults.{HasCause, is_make_failure};
+ghost use Rattle.mkv_io.specs.Names.{AreOthers};
+ghost use Rattle.mkv_outputs.specs.Outputs.{with_empty, with_more};
+ghost use Rattle.mkv_outputs.specs.Sinks.{AreOpen, ArePassed, EndsOnly, Finishes, Gives, MakesOnly, WritesOutputs, files_of, names_under};
+
+use crate::sink::{ROOM, Sink, flush, write};
+use mkv_io::Files;
+use mkv_values::{Bytes, MakeFault};
+use std::alloc::{AllocError, Global};
+use std::marker::Model;
+
+/// Of so many outputs the buffers are reserved, and those of others grow.
+const RESERVED: usize = 64;
+
+/// Outputs that are written side by side. What they are given waits in buffers, until it is many octets
+/// or `flush` writes it. After a refusal they may be closed, and nothing else is promised of them.
+#[derive(Debug, Drop)]
+pub struct Outputs {
+    alloc: Global,
+    sinks: Vec<Sink>,
+}
+
+impl Model for Outputs {
+    ghost use Rattle.std.specs.Prelude.{List};
+    ghost use Rattle.mkv_outputs.specs.declared.sink.Sink.{Sink};
+
+    ghost Value = { List Sink };
+
+    ghost view = { λ outputs. outputs.sinks.items };
+}
+
+impl Outputs {
+    /// No outputs.
+    pub fn new(alloc: Global) -> Outputs
+        ensures { result ≡ [] }
+    {
+        Outputs {
+            alloc,
+            sinks: Vec::new(alloc),
+        }
+    }
+
+    /// Makes another output, empty, behind the others. All memory is taken before the name is touched.
+    pub fn add<F: Files>(&mut self, files: &mut F, name: &str) -> Result<(), MakeFault>
+        requires outputs { AreOpen F.Reads files.old self.old }
+        requires apart { AreOthers name.now (names_under F.Files.own files.old self.old) }
+        ensures gives { Gives F.Files.own files.old files.new self.old self.new (with_empty name.now) result }
+        ensures only { MakesOnly F.Reads F.Files.own name.now files.old files.new self.old self.new }
+        ensures err { OnErr result (self.new ≡ self.old) }
+        ensures memory { IsErrOf result MakeFault.Memory → F.standing files.new ≡ F.standing files.old }
+        ensures cause { HasCause is_make_failure (F.writing_faults files.old) (F.writing_faults files.new) result }
+    {
+        let waiting = buffer(self.alloc, self.sinks.len())?;
+        self.sinks.reserve(1)?;
+        let file = files.create(name)?;
+        self.sinks.push_reserved(Sink { file, waiting });
+        Ok(())
+    }
+
+    /// Gives octets to the k-th output, from 0.
+    pub fn write<F: Files>(
+        &mut self,
+        files: &mut F,
+        k: usize,
+        bytes: &[u8],
+    ) -> Result<(), MakeFault>
+        requires below { k < length self.old }
+        requires outputs { AreOpen F.Reads files.old self.old }
+        ensures gives { Gives F.Files.own files.old files.new self.old self.new (with_more k bytes.now) result }
+        ensures only { WritesOutputs F.Reads F.Files.own files.old files.new self.old self.new }
+        ensures cause { HasCause is_make_failure (F.writing_faults files.old) (F.writing_faults files.new) result }
+    {
+        write(&mut self.sinks[k], files, bytes)
+    }
+
+    /// Writes what waits of the k-th output.
+    fn flush_one<F: Files>(&mut self, files: &mut F, k: usize) -> Result<(), MakeFault>
+        requires below { k < length self.old }
+        requires outputs { AreOpen F.Reads files.old self.old }
+        ensures gives { Gives F.Files.own files.old files.new self.old self.new (λ given. given) result }
+        ensures passed { ArePassed k self.old → OnOk result (ArePassed (k + 1) self.new) }
+        ensures only { WritesOutputs F.Reads F.Files.own files.old files.new self.old self.new }
+        ensures cause { HasCause is_make_failure (F.writing_faults files.old) (F.writing_faults files.new) result }
+    {
+        flush(&mut self.sinks[k], files)
+    }
+
+    /// Writes all that waits.
+    pub fn flush<F: Files>(&mut self, files: &mut F) -> Result<(), MakeFault>
+        requires { AreOpen F.Reads files.old self.old }
+        ensures finishes { Finishes F.Files.own files.old files.new self.old result }
+        ensures only { WritesOutputs F.Reads F.Files.own files.old files.new self.old self.new }
+        ensures cause { HasCause is_make_failure (F.writing_faults files.old) (F.writing_faults files.new) result }
+    {
+        for k in 0..self.sinks.len() {
+            self.flush_one(files, k)?;
+        }
+        Ok(())
+    }
+
+    /// Ends the files of the outputs, whatever was answered before. What waits is dropped.
+    pub fn close<F: Files>(self, files: &mut F)
+        requires { AreOpen F.Reads files.old self }
+        ensures { EndsOnly F.Reads F.Files.own files.old files.new (files_of self) }
+    {
+        for sink in &self.sinks {
+            files.close(sink.file);
+        }
+    }
+}
+
+/// The buffer of the k-th output, from 0.
+fn buffer(alloc: Global, k: usize) -> Result<Bytes, AllocError>
+    ensures { IfOk result (λ waiting. waiting ≡ []) }
+{
+    if k < RESERVED {
+        Bytes::with_room(alloc, ROOM)
+    } else {
+        Ok(Bytes::new(alloc))
+    }
+}

@@ -1,0 +1,69 @@
+//! One output that is being written.
+
+ghost use Rattle.std.specs.Prelude.{◌≡◌, [], ◌∷◌, ◌++◌, OnOk};
+ghost use Rattle.mkv_io.specs.Faults.{HasCause, is_make_failure};
+ghost use Rattle.mkv_io.specs.Sources.{IsLive};
+ghost use Rattle.mkv_io.specs.Writing.{WritesOnly};
+ghost use Rattle.mkv_outputs.specs.Written.{PassesTo};
+
+use mkv_io::Files;
+use mkv_values::{Bytes, FileId, MakeFault};
+
+/// How many octets wait at most.
+pub const ROOM: usize = 65536;
+
+/// A live file, and the octets that wait to be written to it.
+#[derive(Debug, Drop)]
+pub struct Sink {
+    pub file: FileId,
+    pub waiting: Bytes,
+}
+
+/// Writes what waits.
+pub fn flush<F: Files>(sink: &mut Sink, files: &mut F) -> Result<(), MakeFault>
+    requires { IsLive F.Reads files.old sink.old.file }
+    ensures ok { OnOk result (sink.new.waiting ≡ []) }
+    ensures passes { PassesTo F.Files.own sink.old.file files.old files.new sink.old.waiting sink.new.waiting result }
+    ensures file { sink.new.file ≡ sink.old.file }
+    ensures only { WritesOnly F.Reads F.Files.own (F.holder files.old sink.old.file.n ∷ []) files.old files.new }
+    ensures cause { HasCause is_make_failure (F.writing_faults files.old) (F.writing_faults files.new) result }
+{
+    if !sink.waiting.is_empty() {
+        files.append(sink.file, sink.waiting.as_slice())?;
+        sink.waiting.clear();
+    }
+    Ok(())
+}
+
+/// Writes octets, which may wait.
+pub fn write<F: Files>(sink: &mut Sink, files: &mut F, bytes: &[u8]) -> Result<(), MakeFault>
+    requires { IsLive F.Reads files.old sink.old.file }
+    ensures passes { PassesTo F.Files.own sink.old.file files.old files.new (sink.old.waiting ++ bytes.now) sink.new.waiting result }
+    ensures file { sink.new.file ≡ sink.old.file }
+    ensures only { WritesOnly F.Reads F.Files.own (F.holder files.old sink.old.file.n ∷ []) files.old files.new }
+    ensures cause { HasCause is_make_failure (F.writing_faults files.old) (F.writing_faults files.new) result }
+{
+    if sink.waiting.len().saturating_add(bytes.len()) <= ROOM {
+        sink.waiting.append(bytes)?;
+        return Ok(());
+    }
+    flush(sink, files)?;
+    pass(sink, files, bytes)
+}
+
+// Writes octets where none wait: many at once, and few wait.
+fn pass<F: Files>(sink: &mut Sink, files: &mut F, bytes: &[u8]) -> Result<(), MakeFault>
+    requires live { IsLive F.Reads files.old sink.old.file }
+    requires none { sink.old.waiting ≡ [] }
+    ensures passes { PassesTo F.Files.own sink.old.file files.old files.new bytes.now sink.new.waiting result }
+    ensures file { sink.new.file ≡ sink.old.file }
+    ensures only { WritesOnly F.Reads F.Files.own (F.holder files.old sink.old.file.n ∷ []) files.old files.new }
+    ensures cause { HasCause is_make_failure (F.writing_faults files.old) (F.writing_faults files.new) result }
+{
+    if bytes.len() < ROOM {
+        sink.waiting.append(bytes)?;
+        Ok(())
+    } else {
+        files.append(sink.file, bytes)
+    }
+}
