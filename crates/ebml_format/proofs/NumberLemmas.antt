@@ -571,7 +571,7 @@ IsSpelled-big_bytes (suc k) n rest some most reaches below =
     }
 
 -- a valid ID's octets are as many as its width
-uint_width-is_id : (w n : ℕ) → 1 ≤ w → w ≤ 8 → marker w ≤ n → n < 2 * marker w → uint_width n ≡ w
+pub uint_width-is_id : (w n : ℕ) → 1 ≤ w → w ≤ 8 → marker w ≤ n → n < 2 * marker w → uint_width n ≡ w
 unfolding uint_width
 uint_width-is_id w n some most reaches below =
     let twice = pow-suc 2 (7 * w) in
@@ -644,7 +644,7 @@ below_whole : (m n : ℕ) → suc n ≤ m → pos (m - suc n) -ℤ pos m ≡ neg
 below_whole m n inside = omega (arith, ints)
 
 -- two's complement of the octets of a number that fits is that number
-twos_complement-octets : (w : ℕ) (z : ℤ) → 1 ≤ w → int_fits z w ≡ true → twos_complement w (big_number w (int_octets_in w z)) ≡ z
+pub twos_complement-octets : (w : ℕ) (z : ℤ) → 1 ≤ w → int_fits z w ≡ true → twos_complement w (big_number w (int_octets_in w z)) ≡ z
 twos_complement-octets w (pos n) some fits =
     let small = ltb-true n (2 ^ (8 * w - 1)) fits in
     let whole : 2 ^ (8 * w - 1) ≤ 2 ^ (8 * w) = pow_mono (omega arith) in
