@@ -1,16 +1,16 @@
 -- What was read is written again.
-use Rattle.std.proofs.Common.{◌≡◌, inl, inr, ℕ, zero, suc, ◌+◌, ◌-◌, ◌*◌, ◌/◌, ◌^◌, ◌<◌, ◌≤◌, ◌==◌, Bool, true, false, if◌then◌else◌, List, [], ◌∷◌, ◌++◌, slice_index, append-nil, length, take, drop, ℤ, pos, negsuc, Ok, refl, sym, ◌∙◌, ap, ap₂, subst, arith}
-use Rattle.std.proofs.lemmas.Bool.{cases_lt, lt-ltb}
+use Rattle.std.proofs.Common.{◌≡◌, inl, inr, ℕ, zero, suc, ◌+◌, ◌-◌, ◌*◌, ◌/◌, ◌^◌, ◌<◌, ◌≤◌, ◌==◌, Bool, true, false, if◌then◌else◌, List, [], ◌∷◌, slice_index, append-nil, length, take, drop, ℤ, pos, negsuc, Ok, refl, sym, ◌∙◌, ap, ap₂, subst, arith}
+use Rattle.std.proofs.lemmas.Bool.{cases_lt}
 use Rattle.std.proofs.lemmas.Bool.Decides.{nat_tests}
 use Rattle.std.proofs.lemmas.List.{length-take}
 use Rattle.std.proofs.lemmas.Nat.{div-mul-add}
-use Rattle.byteorder.specs.Endian.{big_from, big_number, big_bytes, twos_complement}
+use Rattle.byteorder.specs.Endian.{big_from, big_number, big_bytes}
 use Rattle.byteorder.specs.Numbers.{big_from-cons, big_from-take, big_from-lt, big_number-reads_back, length-bytes_high_first}
 use Rattle.ebml_format.specs.declared.number.IdRead.{IdRead}
 use Rattle.ebml_format.specs.declared.number.Size.TheVariants.{Known, Unknown}
 use Rattle.ebml_format.specs.declared.number.SizeRead.{SizeRead}
 use Rattle.ebml_format.specs.Laws.{SpellsSize}
-use Rattle.ebml_format.specs.Number.{AreOctets, width, marker, all_ones, vint_data, size_of_data, id_at, id_octets, uint_of, uint_width, size_at, size_octets, int_of, int_fits, int_octets_in}
+use Rattle.ebml_format.specs.Number.{AreOctets, width, marker, all_ones, vint_data, size_of_data, id_at, id_octets, uint_width, size_at, int_of, int_fits, int_octets_in}
 use Rattle.ebml_format.proofs.NumberLemmas.{big_bytes-AreOctets, vint-bounds, vint_data-is, id_at-bad, id_at-reads, size_at-reads, size_at-within, size_at-is_zero, uint_width-is_id, twos_complement-octets}
 use Rattle.ebml_format.proofs.WidthLemmas.{width-pos}
 
