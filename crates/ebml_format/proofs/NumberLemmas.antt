@@ -515,15 +515,16 @@ size_at-within o r is =
       inside = reads.inside;
     }
 
-if_ok : {T : Type 0} (P : T → Type 0) (r : Result T NumFault) → ((read : T) → r ≡ Ok read → P read) → IfOk r P
-if_ok P (Ok read) holds = holds read refl
-if_ok P (Err fault) holds = tt
+-- what holds of each value that an answer may have
+pub IfOk-each : {T E : Type 0} (P : T → Type 0) (r : Result T E) → ((x : T) → r ≡ Ok x → P x) → IfOk r P
+IfOk-each P (Ok x) each = each x refl
+IfOk-each P (Err e) each = tt
 
 pub id_at-found : (o : List ℕ) → AreOctets o → IfOk (id_at o) (IsIdWithin (length o))
-id_at-found o octets = if_ok (IsIdWithin (length o)) (id_at o) (λ read is. id_at-within o read octets is)
+id_at-found o octets = IfOk-each (IsIdWithin (length o)) (id_at o) (λ read is. id_at-within o read octets is)
 
 pub size_at-found : (o : List ℕ) → IfOk (size_at o) (IsSizeWithin (length o))
-size_at-found o = if_ok (IsSizeWithin (length o)) (size_at o) (λ read is. size_at-within o read is)
+size_at-found o = IfOk-each (IsSizeWithin (length o)) (size_at o) (λ read is. size_at-within o read is)
 
 -- ---- what is written is read back
 

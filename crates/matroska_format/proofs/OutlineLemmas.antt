@@ -2,7 +2,8 @@
 use Rattle.std.proofs.Common.{◌≡◌, ℕ, List, Option, Some, None, [], ◌∷◌, Result, Ok, Err, refl, ◌∙◌, ap}
 use Rattle.mkv_values.specs.declared.damage.Damage.{Damage}
 use Rattle.matroska_format.specs.declared.element.Header.{Header}
-use Rattle.matroska_format.specs.Outline.{and_then, unless, first_damage, over, header_causes, children_causes, header_children, first_element, ebml_header, segment_of, segment_run, limits_from, outlined, within_limits, outline_of, MOST_OF_HEADER}
+use Rattle.matroska_format.specs.declared.limits.TheConstants.{MOST_OF_HEADER}
+use Rattle.matroska_format.specs.Outline.{and_then, unless, first_damage, over, header_causes, children_causes, header_children, first_element, ebml_header, segment_of, segment_run, limits_from, outlined, within_limits, outline_of}
 use Rattle.matroska_format.specs.WithoutLimits.{header_without_limit, outline_without_limits, LimitsOnlyRefuse}
 
 -- what was made of a value was made of one that was found

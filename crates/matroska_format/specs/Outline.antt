@@ -3,7 +3,7 @@ use Rattle.std.specs.Prelude.{ℕ, ◌+◌, ◌==◌, nat_eq, nat_lt, Bool, true
 use Rattle.std.specs.List.{starts_with}
 use Rattle.std.specs.Option.{option_map, option_map_or}
 use Rattle.std.specs.Str.{bytes_eq}
-pub use Rattle.matroska_format.specs.declared.limits.TheConstants.{MOST_OF_HEADER, MOST_OF_ONE, MOST_OF_ALL, MOST_ELEMENTS}
+use Rattle.matroska_format.specs.declared.limits.TheConstants.{MOST_OF_HEADER, MOST_OF_ONE, MOST_OF_ALL, MOST_ELEMENTS}
 use Rattle.mkv_schema.specs.declared.ids.TheConstants.{EBML, EBML_READ_VERSION, EBML_MAX_ID_LENGTH, EBML_MAX_SIZE_LENGTH, DOC_TYPE, DOC_TYPE_READ_VERSION, SEGMENT, INFO, TRACKS, CHAPTERS, TAGS, CLUSTER}
 use Rattle.mkv_values.specs.declared.damage.Damage.{Damage}
 use Rattle.mkv_values.specs.declared.damage.Kind.{Kind}
