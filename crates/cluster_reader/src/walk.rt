@@ -12,7 +12,7 @@ ghost use Rattle.cluster_reader.specs.Walks.{IsReady, PaysFor};
 use crate::place::{Inside, Place};
 use block_records::BlockBuffer;
 use element_headers::{Header, Parent};
-use element_window::Window;
+use element_window::{Lookahead, Window};
 use mkv_io::Reads;
 use mkv_values::{Damage, Failed, FileId, ReadEnd};
 

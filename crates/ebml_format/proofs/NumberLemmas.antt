@@ -515,15 +515,16 @@ size_at-within o r is =
       inside = reads.inside;
     }
 
-if_ok : {T : Type 0} (P : T → Type 0) (r : Result T NumFault) → ((read : T) → r ≡ Ok read → P read) → IfOk r P
-if_ok P (Ok read) holds = holds read refl
-if_ok P (Err fault) holds = tt
+-- what holds of each value that an answer may have
+pub IfOk-each : {T E : Type 0} (P : T → Type 0) (r : Result T E) → ((x : T) → r ≡ Ok x → P x) → IfOk r P
+IfOk-each P (Ok x) each = each x refl
+IfOk-each P (Err e) each = tt
 
 pub id_at-found : (o : List ℕ) → AreOctets o → IfOk (id_at o) (IsIdWithin (length o))
-id_at-found o octets = if_ok (IsIdWithin (length o)) (id_at o) (λ read is. id_at-within o read octets is)
+id_at-found o octets = IfOk-each (IsIdWithin (length o)) (id_at o) (λ read is. id_at-within o read octets is)
 
 pub size_at-found : (o : List ℕ) → IfOk (size_at o) (IsSizeWithin (length o))
-size_at-found o = if_ok (IsSizeWithin (length o)) (size_at o) (λ read is. size_at-within o read is)
+size_at-found o = IfOk-each (IsSizeWithin (length o)) (size_at o) (λ read is. size_at-within o read is)
 
 -- ---- what is written is read back
 
@@ -571,7 +572,7 @@ IsSpelled-big_bytes (suc k) n rest some most reaches below =
     }
 
 -- a valid ID's octets are as many as its width
-uint_width-is_id : (w n : ℕ) → 1 ≤ w → w ≤ 8 → marker w ≤ n → n < 2 * marker w → uint_width n ≡ w
+pub uint_width-is_id : (w n : ℕ) → 1 ≤ w → w ≤ 8 → marker w ≤ n → n < 2 * marker w → uint_width n ≡ w
 unfolding uint_width
 uint_width-is_id w n some most reaches below =
     let twice = pow-suc 2 (7 * w) in
@@ -644,7 +645,7 @@ below_whole : (m n : ℕ) → suc n ≤ m → pos (m - suc n) -ℤ pos m ≡ neg
 below_whole m n inside = omega (arith, ints)
 
 -- two's complement of the octets of a number that fits is that number
-twos_complement-octets : (w : ℕ) (z : ℤ) → 1 ≤ w → int_fits z w ≡ true → twos_complement w (big_number w (int_octets_in w z)) ≡ z
+pub twos_complement-octets : (w : ℕ) (z : ℤ) → 1 ≤ w → int_fits z w ≡ true → twos_complement w (big_number w (int_octets_in w z)) ≡ z
 twos_complement-octets w (pos n) some fits =
     let small = ltb-true n (2 ^ (8 * w - 1)) fits in
     let whole : 2 ^ (8 * w - 1) ≤ 2 ^ (8 * w) = pow_mono (omega arith) in

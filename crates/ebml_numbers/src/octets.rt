@@ -1,5 +1,5 @@
 //! The octets of a written number.
-ghost use Rattle.std.specs.Prelude.{◌≡◌, ◌≤◌, ◌<◌, ◌^◌};
+ghost use Rattle.std.specs.Prelude.{◌≡◌, ◌-◌, ◌≤◌, ◌<◌, ◌^◌, drop, replicate};
 ghost use Rattle.byteorder.specs.Endian.{big_bytes};
 
 use byteorder::{BigEndian, ByteOrder};
@@ -13,6 +13,7 @@ pub struct Octets {
     pub len: u8,
     ghost some: { 1 ≤ len },
     ghost most: { len ≤ 8 },
+    ghost zeros: { drop len bytes ≡ replicate (8 - len) 0 },
 }
 
 impl Octets {

@@ -15,7 +15,7 @@ use mkv_values::{Damage, Kind};
 /// The header of the Element that octets begin, or what is wrong with it.
 ///
 /// The octets stand `at` octets behind the start of a file of `total` octets, and reach to `end`, the
-/// parent's end; the first 12 of them are enough.
+/// parent's end; the first `LONGEST_HEADER` of them are enough.
 pub fn read_header(
     octets: &[u8],
     parent: Parent,
@@ -65,7 +65,7 @@ fn first_header(
     };
     match body_damage(&header, parent, total, end) {
         None => Ok(header),
-        Some(kind) => Err(damage(kind, header.id, at)),
+        Some(kind) => Err(damage_at(kind, &header)),
     }
 }
 
@@ -81,6 +81,13 @@ fn id_at(octets: &[u8], parent: Parent) -> Result<IdRead, NumFault>
         });
     }
     read_id(octets)
+}
+
+/// A damage of this kind, where an Element stands.
+pub fn damage_at(kind: Kind, header: &Header) -> Damage
+    ensures { result ≡ record { kind = kind; id = header.now.id; offset = header.now.offset } }
+{
+    damage(kind, header.id, header.offset)
 }
 
 fn damage(kind: Kind, id: u32, offset: u64) -> Damage

@@ -1,7 +1,7 @@
 -- What is kept of the Elements of level 1, one more at a time.
 use Rattle.std.proofs.Common.{◌≡◌, ℕ, zero, suc, IfSome, ◌≤◌, ◌+◌, ◌==◌, nat_lt, Bool, true, false, not, ◌&&◌, ◌||◌, if◌then◌else◌, List, [], ◌∷◌, ◌++◌, length, length-append, Option, Some, None, refl, sym, ◌∙◌, ap, arith}
 use Rattle.std.specs.Option.{option_or, is_some}
-use Rattle.std.specs.List.{All, filter, find, sum_by}
+use Rattle.std.specs.List.{All, filter, find, last_or, sum_by}
 use Rattle.std.proofs.lemmas.List.Elements.{All-append, filter-append}
 use Rattle.std.proofs.lemmas.List.Folds.{find-append}
 use Rattle.std.proofs.lemmas.List.Sums.{sum_by-append, length-filter}
@@ -11,7 +11,8 @@ use Rattle.matroska_format.specs.declared.element.Header.{Header}
 use Rattle.matroska_format.specs.Element.{in_segment, known}
 use Rattle.matroska_format.specs.Placed.{IsWhole}
 use Rattle.matroska_format.specs.Value.{first_of}
-use Rattle.matroska_format.specs.Outline.{first_damage, where_it, is_described, described, others, passes_size, passes_count, MOST_OF_ONE, MOST_OF_ALL, MOST_ELEMENTS}
+use Rattle.matroska_format.specs.declared.limits.TheConstants.{MOST_OF_ONE, MOST_OF_ALL, MOST_ELEMENTS}
+use Rattle.matroska_format.specs.Outline.{first_damage, where_it, is_described, described, others, passes_size, passes_count}
 use Rattle.element_reader.specs.Collected.{IsInFile, Keeps, kept_of, others_of, described_octets}
 use Rattle.element_reader.specs.declared.collected.Collected.{Collected}
 
@@ -35,13 +36,19 @@ others-more list h = filter-append (λ k. not (k.id == CLUSTER)) list (h ∷ [])
 pub cluster-more : (list : List Header) (h : Header) → first_of CLUSTER (list ++ h ∷ []) ≡ option_or (first_of CLUSTER list) (cluster_of h)
 cluster-more list h = find-append (λ k. k.id == CLUSTER) list (h ∷ [])
 
+-- one more Element is the last
+last-more : (first : Option Header) (list : List Header) (h : Header) → last_or first (list ++ h ∷ []) ≡ Some h
+last-more first [] h = refl
+last-more first (k ∷ ks) h = last-more (Some k) ks h
+
 -- one more Element is kept
-pub Keeps-more : (held : ℕ) (list : List Header) (before after : Collected) (h : Header) → Keeps held list before → after.others.items ≡ before.others.items ++ kept_of h → after.cluster ≡ option_or before.cluster (cluster_of h) → after.held ≡ before.held + described_octets h → Keeps held (list ++ h ∷ []) after
-Keeps-more held list before after h keeps items first octets =
+pub Keeps-more : (held : ℕ) (list : List Header) (before after : Collected) (h : Header) → Keeps held list before → after.others.items ≡ before.others.items ++ kept_of h → after.cluster ≡ option_or before.cluster (cluster_of h) → after.last ≡ Some h → after.held ≡ before.held + described_octets h → Keeps held (list ++ h ∷ []) after
+Keeps-more held list before after h keeps items first last octets =
     let more = described-more list h in
     record {
       others = items ∙ ap (λ l. l ++ kept_of h) keeps.others ∙ sym (others-more list h);
       first = first ∙ ap (λ o. option_or o (cluster_of h)) keeps.first ∙ sym (cluster-more list h);
+      last = last ∙ sym (last-more None list h);
       octets = omega (arith, more, octets, keeps.octets);
     }
 

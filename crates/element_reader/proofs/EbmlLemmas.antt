@@ -1,5 +1,5 @@
 -- The Element at the start of a file that begins as an EBML header does.
-use Rattle.std.proofs.Common.{◌≡◌, ℕ, ◌+◌, ◌≤◌, nat_eq, nat_lt, Bool, true, false, ◌&&◌, if◌then◌else◌, List, ◌∷◌, length, min, take, drop, Option, Some, None, Result, Ok, Err, IfOk, refl, sym, ◌∙◌, ap, subst, arith}
+use Rattle.std.proofs.Common.{◌≡◌, ℕ, ◌+◌, ◌≤◌, nat_eq, nat_lt, Bool, true, false, ◌&&◌, if◌then◌else◌, List, ◌∷◌, length, min, take, drop, Option, Some, None, Result, Ok, Err, refl, sym, ◌∙◌, ap, subst, arith}
 use Rattle.std.proofs.lemmas.Grind.{common_steps}
 use Rattle.std.proofs.lemmas.Bool.Decides.{Decides-eqb}
 use Rattle.std.proofs.lemmas.Slice.Eq.{starts_is}
@@ -16,12 +16,11 @@ use Rattle.mkv_values.specs.declared.damage.Damage.{Damage}
 use Rattle.mkv_values.specs.declared.damage.Kind.TheVariants.{NotEbml, TooLong, Truncated, UnknownSize}
 use Rattle.matroska_format.specs.declared.element.Header.{Header}
 use Rattle.matroska_format.specs.Element.{at_level_0, has_unknown_size, is_truncated, is_too_long, with_body, with_size, with_id, element_at, element_in, damage, stated_end}
-use Rattle.matroska_format.specs.Outline.{ebml_mark, first_element, ebml_header, and_then, unless, over, first_damage, header_causes, header_children, bad_value, MOST_OF_HEADER}
-use Rattle.matroska_format.specs.Elements.{Run}
+use Rattle.matroska_format.specs.declared.limits.TheConstants.{MOST_OF_HEADER}
+use Rattle.matroska_format.specs.Outline.{ebml_mark, first_element, ebml_header, and_then, unless, over, first_damage, header_causes, header_children, children_causes}
 use Rattle.mkv_schema.specs.declared.ids.TheConstants.{EBML}
 use Rattle.std.proofs.lemmas.List.{drop-take}
 use Rattle.element_bodies.specs.Body.{IsBody}
-use Rattle.element_reader.specs.EbmlChildren.{value_causes}
 
 -- its ID, read from its octets
 abbrev pub mark_read : Result IdRead NumFault
@@ -88,16 +87,11 @@ ebml_header-is bytes h refusal first causes =
     ap (λ (r : Option Damage). unless r h) causes
     ∙ ap (λ (found : Result Header Damage). and_then found (λ k. unless (first_damage (header_causes bytes k (header_children bytes k))) k)) first
 
--- the causes behind its size
-children_causes : List ℕ → Header → Run → List (Option Damage)
-children_causes bytes h children = bad_value bytes EBML children.list ∷ children.damage ∷ value_causes bytes children.list
-
 -- its size does
 pub ebml_header-over : (bytes : List ℕ) (h : Header) (d : Damage) → Ok h ≡ first_element bytes → Some d ≡ over MOST_OF_HEADER h → Err d ≡ ebml_header bytes
-unfolding children_causes
 ebml_header-over bytes h d first over_is = ebml_header-is bytes h (Some d) first (rest (over MOST_OF_HEADER h) over_is)
   where
-    rest : (cause : Option Damage) → Some d ≡ cause → Some d ≡ first_damage (cause ∷ children_causes bytes h (header_children bytes h))
+    rest : (cause : Option Damage) → Some d ≡ cause → Some d ≡ first_damage (cause ∷ children_causes bytes (header_children bytes h))
     rest None is = absurd (cc)
     rest (Some e) is = is
 
@@ -108,8 +102,3 @@ IsBody-read bytes base total n body whole within count read = record {
   within = omega (arith, count, within);
   octets = read ∙ sym (drop-take base n bytes) ∙ ap (λ k. drop base (take (base + k) bytes)) (sym count);
 }
-
--- what holds of each value that an answer may have
-pub IfOk-each : {X Y : Type 0} (r : Result X Y) (P : X → Type 0) → ((x : X) → r ≡ Ok x → P x) → IfOk r P
-IfOk-each (Ok x) P each = each x refl
-IfOk-each (Err e) P each = tt

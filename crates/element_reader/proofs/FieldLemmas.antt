@@ -14,7 +14,8 @@ use Rattle.matroska_format.specs.declared.element.Header.{Header}
 use Rattle.matroska_format.specs.Element.{damage, known}
 use Rattle.matroska_format.specs.Elements.{Run}
 use Rattle.matroska_format.specs.Value.{body_of, is_known_value, first_of, uint_value, uint_in}
-use Rattle.matroska_format.specs.Outline.{first_damage, bad_value, over, where_it, MOST_OF_HEADER}
+use Rattle.matroska_format.specs.declared.limits.TheConstants.{MOST_OF_HEADER}
+use Rattle.matroska_format.specs.Outline.{first_damage, bad_value, over, where_it}
 use Rattle.element_reader.specs.EbmlChildren.{IsShort, child_refusal}
 
 -- where nothing refuses the children, none has a bad value

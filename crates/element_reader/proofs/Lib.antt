@@ -2,7 +2,8 @@ pub mod ChildrenLemmas
 pub mod CollectedLemmas
 pub mod EbmlLemmas
 pub mod FieldLemmas
+pub mod KeptLemmas
 pub mod LevelLemmas
 pub mod LevelOneLemmas
-pub mod SegmentLemmas
 pub mod OutlineLemmas
+pub mod SegmentLemmas

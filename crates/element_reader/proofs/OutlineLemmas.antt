@@ -7,7 +7,7 @@ use Rattle.matroska_format.specs.declared.element.Header.{Header}
 use Rattle.matroska_format.specs.Element.{stated_end}
 use Rattle.matroska_format.specs.Outline.{Outlined, and_then, unless, described, ebml_header, limits_from, outline_of, outlined, segment_of, segment_run, within_limits}
 use Rattle.matroska_format.specs.Value.{first_of}
-use Rattle.element_reader.specs.Collected.{others_of}
+use Rattle.element_reader.specs.Collected.{last_of, others_of}
 use Rattle.element_reader.specs.Level.{HasLevel}
 use Rattle.element_reader.specs.Outline.{FileOutline, outline_in, shown}
 use Rattle.element_reader.specs.Segment.{segment_from}
@@ -40,19 +40,19 @@ outline_in-limit held bytes ebml segment d first second limit =
     ∙ ap (λ (refusal : Option Damage). and_then (unless refusal (outlined bytes ebml segment (segment_run bytes segment))) (λ o. Ok (shown bytes o))) limit
 
 -- nothing refuses the file
-pub outline_in-found : (held : ℕ) (bytes : List ℕ) (ebml segment : Header) (level : Level) (total own : ℕ) → ebml_header bytes ≡ Ok ebml → segment_from bytes (stated_end ebml) ≡ Ok segment → HasLevel held bytes segment level → total ≡ length bytes → own ≡ described (segment_run bytes segment).list → outline_in held bytes ≡ Ok (record { total = total; ebml = ebml; segment = segment; others = level.kept.others.items; cluster = level.kept.cluster; held = own; damage = level.damage; end = level.end })
+pub outline_in-found : (held : ℕ) (bytes : List ℕ) (ebml segment : Header) (level : Level) (total own : ℕ) → ebml_header bytes ≡ Ok ebml → segment_from bytes (stated_end ebml) ≡ Ok segment → HasLevel held bytes segment level → total ≡ length bytes → own ≡ described (segment_run bytes segment).list → outline_in held bytes ≡ Ok (record { total = total; ebml = ebml; segment = segment; others = level.kept.others.items; cluster = level.kept.cluster; last = level.kept.last; held = own; damage = level.damage; end = level.end })
 outline_in-found held bytes ebml segment level total own first second level_is whole octets =
     in_segment held bytes ebml (Ok segment) first second
     ∙ ap (λ (refusal : Option Damage). and_then (unless refusal (outlined bytes ebml segment (segment_run bytes segment))) (λ o. Ok (shown bytes o))) level_is.limits
     ∙ ap Ok same
   where
     made : FileOutline
-    made = record { total = total; ebml = ebml; segment = segment; others = level.kept.others.items; cluster = level.kept.cluster; held = own; damage = level.damage; end = level.end }
+    made = record { total = total; ebml = ebml; segment = segment; others = level.kept.others.items; cluster = level.kept.cluster; last = level.kept.last; held = own; damage = level.damage; end = level.end }
 
-    same : shown bytes (outlined bytes ebml segment (segment_run bytes segment)) ≡ record { total = total; ebml = ebml; segment = segment; others = level.kept.others.items; cluster = level.kept.cluster; held = own; damage = level.damage; end = level.end }
+    same : shown bytes (outlined bytes ebml segment (segment_run bytes segment)) ≡ record { total = total; ebml = ebml; segment = segment; others = level.kept.others.items; cluster = level.kept.cluster; last = level.kept.last; held = own; damage = level.damage; end = level.end }
     same =
-        ap (λ n. record { total = n; ebml = ebml; segment = segment; others = others_of (segment_run bytes segment).list; cluster = first_of CLUSTER (segment_run bytes segment).list; held = described (segment_run bytes segment).list; damage = (segment_run bytes segment).damage; end = (outlined bytes ebml segment (segment_run bytes segment)).end }) (sym whole)
-        ∙ cc (level_is.kept.others, level_is.kept.first, level_is.damage, level_is.end, octets)
+        ap (λ n. record { total = n; ebml = ebml; segment = segment; others = others_of (segment_run bytes segment).list; cluster = first_of CLUSTER (segment_run bytes segment).list; last = last_of (segment_run bytes segment).list; held = described (segment_run bytes segment).list; damage = (segment_run bytes segment).damage; end = (outlined bytes ebml segment (segment_run bytes segment)).end }) (sym whole)
+        ∙ cc (level_is.kept.others, level_is.kept.first, level_is.kept.last, level_is.damage, level_is.end, octets)
 
 -- an Element that isn't a Cluster is among the others
 pub first_in-others : (id : ℕ) (list : List Header) → (id == CLUSTER) ≡ false → first_of id (others_of list) ≡ first_of id list

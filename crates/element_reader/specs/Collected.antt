@@ -1,5 +1,6 @@
 -- What is kept of the Elements of level 1 that were met.
-use Rattle.std.specs.Prelude.{◌≡◌, ℕ, ◌+◌, ◌≤◌, ◌==◌, not, false, if◌then◌else◌, List, [], ◌∷◌, filter}
+use Rattle.std.specs.Prelude.{◌≡◌, ℕ, ◌+◌, ◌≤◌, ◌==◌, not, false, if◌then◌else◌, List, [], ◌∷◌, filter, Option, None}
+use Rattle.std.specs.List.{last_or}
 use Rattle.mkv_schema.specs.declared.ids.TheConstants.{CLUSTER}
 use Rattle.matroska_format.specs.declared.element.Header.{Header}
 use Rattle.matroska_format.specs.Element.{is_unknown, known, stated_end}
@@ -15,6 +16,10 @@ others_of list = filter (λ h. not (h.id == CLUSTER)) list
 abbrev pub kept_of : Header → List Header
 kept_of h = if not (h.id == CLUSTER) then h ∷ [] else []
 
+-- the last Element of a list
+abbrev pub last_of : List Header → Option Header
+last_of list = last_or None list
+
 -- An Element whose body can be read of a file of `total` octets: its size is known, and it ends within.
 pub record IsInFile (total : ℕ) (h : Header) : Type 0 where
   pub known : is_unknown h.size ≡ false
@@ -28,4 +33,5 @@ described_octets h = if is_described h.id then known h.size else 0
 pub record Keeps (held : ℕ) (list : List Header) (kept : Collected) : Type 0 where
   pub others : kept.others.items ≡ others_of list
   pub first : kept.cluster ≡ first_of CLUSTER list
+  pub last : kept.last ≡ last_of list
   pub octets : kept.held ≡ held + described list

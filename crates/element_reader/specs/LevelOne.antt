@@ -7,7 +7,7 @@ use Rattle.mkv_io.specs.Told.{Told}
 use Rattle.matroska_format.specs.declared.element.Header.{Header}
 use Rattle.matroska_format.specs.Element.{end_in, is_unknown}
 use Rattle.matroska_format.specs.Elements.{level_1}
-use Rattle.element_window.specs.Window.{ReadAhead, Holds}
+use Rattle.element_window.specs.Window.{ReadAhead, Holds, nothing_at}
 
 -- A place among the Elements of level 1 of a Segment: its file, the size that the Segment states, the
 -- next Element's place, the place up to which the Segment may reach, and what is held of the file.
@@ -29,7 +29,7 @@ first_place segment total file = record {
   size = segment.size;
   at = segment.body;
   end = if is_unknown segment.size then total else end_in total segment;
-  ahead = record { at = 0; octets = [] };
+  ahead = nothing_at 0;
 }
 
 -- The place is in a live file, and what is held is this file's.
@@ -53,3 +53,9 @@ pub record IsSameSegment (old new : Listing) : Type 0 where
   pub file : new.file ≡ old.file
   pub size : new.size ≡ old.size
   pub end : new.end ≡ old.end
+
+-- The place is another one of the same Segment, or the same, and can be read on.
+pub record StandsOn (files : LiveFiles) (old new : Listing) : Type 0 where
+  pub segment : IsSameSegment old new
+  pub inside : new.at ≤ new.end
+  pub reads : CanRead files new

@@ -1,8 +1,11 @@
-pub mod EbmlChildren
 pub mod Collected
+pub mod EbmlChildren
 pub mod End
-pub mod Load
+pub mod Head
+pub mod Kept
 pub mod Level
 pub mod LevelOne
+pub mod Load
 pub mod Outline
 pub mod Segment
+pub mod Ways

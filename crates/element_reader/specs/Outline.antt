@@ -5,12 +5,12 @@ use Rattle.mkv_values.specs.declared.damage.Damage.{Damage}
 use Rattle.matroska_format.specs.declared.element.Header.{Header}
 use Rattle.matroska_format.specs.Outline.{Outlined, and_then, described, outline_of}
 use Rattle.matroska_format.specs.Value.{first_of}
-use Rattle.element_reader.specs.Collected.{others_of}
+use Rattle.element_reader.specs.Collected.{last_of, others_of}
 use Rattle.element_reader.specs.declared.outline_end.OutlineEnd.{OutlineEnd}
 use Rattle.element_reader.specs.declared.outline_end.OutlineEnd.TheVariants as outline_end
 
--- The length of a file, its EBML header and its Segment; the Elements of level 1 other than Clusters, and
--- the first Cluster; the octets of every Info, Tracks, Chapters and Tags; the damage that ends level 1,
+-- The length of a file, its EBML header and its Segment; the Elements of level 1 other than Clusters, the
+-- first Cluster, and the last of all Elements; the octets of every Info, Tracks, Chapters and Tags; the damage that ends level 1,
 -- if one does, and where the Segment ends.
 pub record FileOutline : Type 0 where
   pub total : ℕ
@@ -18,6 +18,7 @@ pub record FileOutline : Type 0 where
   pub segment : Header
   pub others : List Header
   pub cluster : Option Header
+  pub last : Option Header
   pub held : ℕ
   pub damage : Option Damage
   pub end : ℕ
@@ -30,6 +31,7 @@ shown bytes o = record {
   segment = o.segment;
   others = others_of o.list;
   cluster = first_of CLUSTER o.list;
+  last = last_of o.list;
   held = described o.list;
   damage = o.damage;
   end = o.end;

@@ -7,9 +7,9 @@ ghost use Rattle.matroska_format.specs.Element.{known};
 ghost use Rattle.matroska_format.specs.Value.{first_of};
 ghost use Rattle.element_reader.specs.Collected.{described_octets};
 
-use crate::limits::{MOST_ELEMENTS, MOST_OF_ALL, MOST_OF_ONE, damage};
 use element_bodies::known;
-use element_headers::Header;
+use element_headers::{Header, damage_at};
+use matroska_format::limits::{MOST_ELEMENTS, MOST_OF_ALL, MOST_OF_ONE};
 use mkv_schema::ids::{CHAPTERS, CLUSTER, INFO, TAGS, TRACKS};
 use mkv_values::{Damage, Kind};
 use std::alloc::{AllocError, Global};
@@ -21,6 +21,8 @@ pub struct Collected {
     pub others: Vec<Header>,
     /// The first Cluster.
     pub cluster: Option<Header>,
+    /// The last of all Elements.
+    pub last: Option<Header>,
     /// The octets of every Info, Tracks, Chapters and Tags, with those of earlier inputs.
     pub held: u64,
 }
@@ -61,6 +63,7 @@ impl Collected {
         Collected {
             others: Vec::new(alloc),
             cluster: None,
+            last: None,
             held,
         }
     }
@@ -75,6 +78,7 @@ impl Collected {
             return Ok(Some(damage));
         }
         self.held += described_octets(&header);
+        self.last = Some(header);
         if header.id != CLUSTER {
             self.others.push(header)?;
         } else if self.cluster.is_none() {
@@ -89,10 +93,10 @@ impl Collected {
         ensures room { result ≡ None → self.now.held + described_octets header.now < 2 ^ 64 }
     {
         if self.passes_size(header) {
-            return Some(damage(Kind::HeaderTooLarge, header));
+            return Some(damage_at(Kind::HeaderTooLarge, header));
         }
         if self.passes_count(header) {
-            return Some(damage(Kind::TooMany, header));
+            return Some(damage_at(Kind::TooMany, header));
         }
         None
     }

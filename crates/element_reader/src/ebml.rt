@@ -1,20 +1,23 @@
 //! The EBML header of a file: RFC 8794, section 8.1 (EBML Header).
 
-ghost use Rattle.std.specs.Prelude.{◌≡◌, ℕ, ◌+◌, ◌^◌, ◌≤◌, [], List, length, None, IfOk, OnErr, IsTrue};
+ghost use Rattle.std.specs.Prelude.{◌≡◌, ℕ, ◌+◌, ◌^◌, ◌≤◌, List, length, None, IfOk, OnErr};
 ghost use Rattle.mkv_io.specs.Faults.{HasCause, is_failure, is_read_fault};
-ghost use Rattle.mkv_io.specs.Sources.{IfTold, IsLive, file_size};
+ghost use Rattle.mkv_io.specs.Sources.{IfTold, IsLive, OnlyReads, file_size};
 ghost use Rattle.matroska_format.specs.Element.{known, stated_end};
-ghost use Rattle.matroska_format.specs.Outline.{MOST_OF_HEADER, ebml_header, first_damage, first_element, header_causes, header_children};
-ghost use Rattle.element_window.specs.Window.{Holds, HasNotPassed, MovesTo, Spends};
+ghost use Rattle.matroska_format.specs.Outline.{ebml_header, first_damage, first_element, header_causes, header_children};
+ghost use Rattle.element_window.specs.Looks.{Goes};
+ghost use Rattle.element_window.specs.Window.{Holds, nothing_at};
 ghost use Rattle.element_bodies.specs.Body.{IsBody};
 ghost use Rattle.element_reader.specs.EbmlChildren.{child_refusal, children, value_causes};
+ghost use Rattle.element_reader.specs.Ways.{GoesBesides};
 
 use crate::ebml_children::child_refusal;
 use crate::ebml_values::{above, wrong_doc_type};
-use crate::limits::{MOST_OF_HEADER, over};
+use crate::limits::over;
 use element_bodies::known;
-use element_headers::{Header, Parent, read_header};
+use element_headers::{Header, LONGEST_HEADER, Parent, read_header};
 use element_window::Window;
+use matroska_format::limits::MOST_OF_HEADER;
 use mkv_io::Reads;
 use mkv_schema::ids::{
     DOC_TYPE_READ_VERSION, EBML_MAX_ID_LENGTH, EBML_MAX_SIZE_LENGTH, EBML_READ_VERSION,
@@ -24,9 +27,6 @@ use std::alloc::Global;
 
 /// The octets of the EBML header's ID, with which a file begins.
 const EBML_MARK: [u8; 4] = [0x1A, 0x45, 0xDF, 0xA3];
-
-/// The octets of the longest header.
-const HEADER: u64 = 12;
 
 // What refuses the values of an EBML header whose body this is.
 fn value_refusal(body: &[u8], base: u64, total: u64) -> Option<Damage>
@@ -81,15 +81,12 @@ fn first_element<R: Reads>(
     ensures ok { IfOk result (λ found. IfTold R.Reads src.old file (λ bytes. found ≡ first_element bytes)) }
     ensures inside { IfOk result (λ found. IfOk found (λ h. stated_end h ≤ total)) }
     ensures holds { IfTold R.Reads src.old file (λ bytes. Holds bytes window.new) }
-    ensures err { OnErr result (window.new.octets ≡ []) }
-    ensures standing { R.standing src.new ≡ R.standing src.old }
+    ensures err { OnErr result (window.new ≡ nothing_at 0) }
+    ensures same { OnlyReads R.Reads src.old src.new }
     ensures cause { HasCause is_failure (R.reading_faults src.old) (R.reading_faults src.new) result }
-    ensures moves { HasNotPassed window.old 0 total
-        → IfOk result (λ found. MovesTo total 0 window.old window.new (R.octets_read src.old) (R.octets_read src.new)) }
-    ensures spends { HasNotPassed window.old 0 total
-        → OnErr result (Spends total window.old (R.octets_read src.old) (R.octets_read src.new)) }
+    ensures goes { Goes R.Reads file 0 (λ _. 0) window.old window.new src.old src.new result }
 {
-    let len = total.min(HEADER) as u16;
+    let len = total.min(LONGEST_HEADER) as u16;
     window.hold(src, file, 0, len)?;
     let octets = window.octets_at(0, usize::from(len));
     if !octets.starts_with(&EBML_MARK) {
@@ -116,12 +113,9 @@ pub fn ebml_header<R: Reads>(
     ensures ok { IfOk result (λ found. IfTold R.Reads src.old file (λ bytes. found ≡ ebml_header bytes)) }
     ensures inside { IfOk result (λ found. IfOk found (λ h. stated_end h ≤ total)) }
     ensures holds { IfTold R.Reads src.old file (λ bytes. Holds bytes window.new) }
-    ensures standing { R.standing src.new ≡ R.standing src.old }
+    ensures same { OnlyReads R.Reads src.old src.new }
     ensures cause { HasCause is_read_fault (R.reading_faults src.old) (R.reading_faults src.new) result }
-    ensures moves { HasNotPassed window.old 0 total
-        → IfOk result (λ found. MovesTo total 0 window.old window.new (R.octets_read src.old + total) (R.octets_read src.new)) }
-    ensures spends { HasNotPassed window.old 0 total
-        → OnErr result (Spends total window.old (R.octets_read src.old + total) (R.octets_read src.new)) }
+    ensures goes { GoesBesides R.Reads file total 0 (λ _. 0) window.old window.new src.old src.new result }
 {
     let header = match first_element(window, src, file, total)? {
         Ok(header) => header,

@@ -1,12 +1,13 @@
 //! The Elements of level 1 of a Segment: RFC 9559, section 5.1 (Segment Element).
 
-ghost use Rattle.std.specs.Prelude.{All, ◌≡◌, ℕ, ◌≤◌, List, length, if◌then◌else◌, [], IfOk, OnErr, IsTrue};
+ghost use Rattle.std.specs.Prelude.{All, ◌≡◌, ℕ, ◌≤◌, List, length, if◌then◌else◌, IfOk};
 ghost use Rattle.std.specs.Option.{option_map_or};
 ghost use Rattle.mkv_io.specs.Faults.{HasCause, is_read_fault};
-ghost use Rattle.mkv_io.specs.Sources.{IfTold, IsLive, file_size};
+ghost use Rattle.mkv_io.specs.Sources.{IfTold, IsLive, OnlyReads, file_size};
 ghost use Rattle.matroska_format.specs.Element.{end_in, is_unknown};
 ghost use Rattle.matroska_format.specs.Outline.{segment_run};
-ghost use Rattle.element_window.specs.Window.{Holds, HasNotPassed, MovesTo, Spends};
+ghost use Rattle.element_window.specs.Looks.{Goes};
+ghost use Rattle.element_window.specs.Window.{Holds};
 ghost use Rattle.element_reader.specs.Collected.{IsInFile};
 ghost use Rattle.element_reader.specs.Level.{HasLevel, IsLevel, IsOnWay, nothing_left};
 
@@ -78,12 +79,9 @@ pub fn collect<R: Reads>(
     requires holds { IfTold R.Reads src.old file (λ bytes. Holds bytes window.old) }
     ensures ok { IfOk result (λ found. IfTold R.Reads src.old file (λ bytes. IsLevel held bytes segment.now found)) }
     ensures whole { IfOk result (λ found. IfOk found (λ level. All (IsInFile total) level.kept.others.items)) }
-    ensures standing { R.standing src.new ≡ R.standing src.old }
+    ensures same { OnlyReads R.Reads src.old src.new }
     ensures cause { HasCause is_read_fault (R.reading_faults src.old) (R.reading_faults src.new) result }
-    ensures moves { HasNotPassed window.old segment.now.body total
-        → IfOk result (λ found. MovesTo total total window.old window.new (R.octets_read src.old) (R.octets_read src.new)) }
-    ensures spends { HasNotPassed window.old segment.now.body total
-        → OnErr result (Spends total window.old (R.octets_read src.old) (R.octets_read src.new)) }
+    ensures goes { Goes R.Reads file segment.now.body (λ _. total) window.old window.new src.old src.new result }
 {
     let mut kept = Collected::new(alloc, held);
     let bound = segment_bound(segment, total);

@@ -2,10 +2,11 @@
 
 ghost use Rattle.std.specs.Prelude.{◌≡◌, ℕ, ◌≤◌, List, length, IfOk, OnErr};
 ghost use Rattle.mkv_io.specs.Faults.{HasCause, is_failure};
-ghost use Rattle.mkv_io.specs.Sources.{IfTold, file_size, live_files};
+ghost use Rattle.mkv_io.specs.Sources.{IfTold, OnlyReads, live_files};
 ghost use Rattle.matroska_format.specs.Outline.{segment_run};
-ghost use Rattle.element_window.specs.Window.{HasNotPassed, MovesTo, Spends};
-ghost use Rattle.element_reader.specs.LevelOne.{Gives, GoesOn, CanRead, IsSameSegment, first_place, left};
+ghost use Rattle.element_window.specs.Looks.{Goes};
+ghost use Rattle.element_window.specs.Window.{nothing_at};
+ghost use Rattle.element_reader.specs.LevelOne.{Gives, GoesOn, CanRead, StandsOn, first_place, left};
 
 use crate::level::segment_bound;
 use crate::outline::Outline;
@@ -63,30 +64,23 @@ impl LevelOne {
     }
 
     /// The next Element. None is answered where no more stand before the Segment's end or a damage, and
-    /// again from then on. After `Failed` the same Element is looked for again.
+    /// again from then on. After `Failed` nothing is held, and the same Element is looked for again.
     pub fn next<R: Reads>(&mut self, src: &mut R) -> Result<Option<Header>, Failed>
         requires { CanRead (live_files R.Reads src.old) self.old }
         ensures ok { IfOk result (λ found. IfTold R.Reads src.old self.old.file (λ bytes. Gives found (left bytes self.old) (left bytes self.new))) }
         ensures place { IfOk result (λ found. GoesOn found self.old.at self.new.at) }
-        ensures err { OnErr result (self.new.at ≡ self.old.at) }
-        ensures same { IsSameSegment self.old self.new }
-        ensures inside { self.new.at ≤ self.new.end }
-        ensures stands { CanRead (live_files R.Reads src.new) self.new }
-        ensures standing { R.standing src.new ≡ R.standing src.old }
+        ensures err { OnErr result (self.new ≡ record self.old { ahead = nothing_at 0 }) }
+        ensures stands { StandsOn (live_files R.Reads src.new) self.old self.new }
+        ensures same { OnlyReads R.Reads src.old src.new }
         ensures cause { HasCause is_failure (R.reading_faults src.old) (R.reading_faults src.new) result }
-        ensures moves { HasNotPassed self.old.ahead self.old.at (file_size R.Reads src.old self.old.file)
-            → IfOk result (λ _. MovesTo (file_size R.Reads src.old self.old.file) self.new.at self.old.ahead self.new.ahead (R.octets_read src.old) (R.octets_read src.new)) }
-        ensures spends { HasNotPassed self.old.ahead self.old.at (file_size R.Reads src.old self.old.file)
-            → OnErr result (Spends (file_size R.Reads src.old self.old.file) self.old.ahead (R.octets_read src.old) (R.octets_read src.new)) }
+        ensures goes { Goes R.Reads self.old.file self.old.at (λ _. self.new.at) self.old.ahead self.new.ahead src.old src.new result }
     {
-        match next_of_segment(
-            &mut self.window,
-            src,
-            self.file,
-            self.size,
-            self.at,
-            self.end,
-        )? {
+        let window = &mut self.window;
+        let Ok(step) = next_of_segment(window, src, self.file, self.size, self.at, self.end) else {
+            self.window.forget();
+            return Err(Failed);
+        };
+        match step {
             Level1Step::Element { header, next } => {
                 self.at = next.unwrap_or(self.end);
                 Ok(Some(header))

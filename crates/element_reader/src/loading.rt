@@ -1,15 +1,17 @@
 //! The body of an Element, read whole.
 
-ghost use Rattle.std.specs.Prelude.{length, ◌≡◌, ◌+◌, ◌≤◌, false, None, IfOk, IsTrue};
-ghost use Rattle.mkv_io.specs.Sources.{IfTold, IsLive, file_size};
+ghost use Rattle.std.specs.Prelude.{length, ◌≡◌, ◌+◌, ◌≤◌, ◌↔◌, false, Some, IfOk, IsErrOf};
+ghost use Rattle.mkv_io.specs.Faults.{HasCause};
+ghost use Rattle.mkv_io.specs.Sources.{IfTold, IsLive, OnlyReads, file_size};
 ghost use Rattle.matroska_format.specs.Element.{is_unknown, known, stated_end};
 ghost use Rattle.matroska_format.specs.Value.{body_of};
-ghost use Rattle.element_reader.specs.Load.{HasLoadCause, limit_of, too_large};
+ghost use Rattle.element_reader.specs.Load.{is_load_fault, limit_of, too_large};
 
 use crate::collected::is_described;
-use crate::limits::{MOST_OF_ALL, MOST_OF_HEADER, MOST_OF_ONE, over};
+use crate::limits::over;
 use element_bodies::known;
 use element_headers::Header;
+use matroska_format::limits::{MOST_OF_CUES, MOST_OF_HEADER, MOST_OF_ONE};
 use mkv_io::Reads;
 use mkv_schema::ids::{CUES, EBML, SEEK_HEAD};
 use mkv_values::{Bytes, Damage, FileId};
@@ -37,7 +39,7 @@ fn limit_of(id: u32) -> Option<u64>
     match id {
         EBML => Some(MOST_OF_HEADER),
         SEEK_HEAD => Some(MOST_OF_ONE),
-        CUES => Some(MOST_OF_ALL),
+        CUES => Some(MOST_OF_CUES),
         id if is_described(id) => Some(MOST_OF_ONE),
         _ => None,
     }
@@ -63,8 +65,9 @@ pub fn load<R: Reads>(
     requires inside { stated_end header.now ≤ file_size R.Reads src.old file }
     ensures ok { IfOk result (λ body. IfTold R.Reads src.old file (λ bytes. body ≡ body_of bytes header.now)) }
     ensures length { IfOk result (λ body. length body ≡ known header.now.size) }
-    ensures standing { R.standing src.new ≡ R.standing src.old }
-    ensures cause { HasLoadCause (too_large header.now) (R.reading_faults src.old) (R.reading_faults src.new) result }
+    ensures large { (d : Damage) → IsErrOf result (LoadEnd.TooLarge d) ↔ (too_large header.now ≡ Some d) }
+    ensures same { OnlyReads R.Reads src.old src.new }
+    ensures cause { HasCause is_load_fault (R.reading_faults src.old) (R.reading_faults src.new) result }
     ensures octets { R.octets_read src.new ≤ R.octets_read src.old + known header.now.size }
 {
     if let Some(damage) = too_large(header) {

@@ -2,7 +2,7 @@
 
 ghost use Rattle.std.specs.Prelude.{◌≡◌, ℕ, ◌+◌, ◌*◌, ◌≤◌, ◌<◌, ◌≢◌, List, length, slice_get, IfOk, IfSome, IsTrue, option_map};
 ghost use Rattle.mkv_io.specs.Faults.{HasCause};
-ghost use Rattle.mkv_io.specs.Sources.{IfTold, IsLive, file_size};
+ghost use Rattle.mkv_io.specs.Sources.{IfTold, IsLive, OnlyReads, file_size};
 ghost use Rattle.matroska_format.specs.Outline.{Outlined};
 ghost use Rattle.matroska_format.specs.Value.{first_of};
 
@@ -21,7 +21,7 @@ use std::alloc::Global;
 use std::marker::Model;
 
 /// The EBML header of a file, its Segment, and the Elements of level 1. Of the Clusters it keeps the
-/// first alone.
+/// first alone, and the last Element whatever it is.
 #[derive(Drop)]
 pub struct Outline {
     total: u64,
@@ -44,6 +44,7 @@ impl Model for Outline {
       segment = o.segment;
       others = o.level.kept.others.items;
       cluster = o.level.kept.cluster;
+      last = o.level.kept.last;
       held = o.held;
       damage = o.level.damage;
       end = o.level.end;
@@ -54,7 +55,7 @@ impl Model for Outline {
 
 impl Outline {
     ghost use Rattle.mkv_schema.specs.declared.ids.TheConstants.{CLUSTER as CLUSTER_ID};
-    ghost use Rattle.element_reader.specs.Collected.{IsInFile};
+    ghost use Rattle.element_reader.specs.Collected.{IsInFile, last_of};
     ghost use Rattle.element_reader.specs.Outline.{IsOutline, first_in, is_outline_fault, outline_in, shown};
 
     /// Reads the outline of a file. It is refused where it isn't a Matroska or WebM file that is read,
@@ -65,7 +66,7 @@ impl Outline {
         requires { IsLive R.Reads src.old file }
         ensures exact { IfTold R.Reads src.old file (λ bytes. IsOutline (outline_in 0 bytes) result) }
         ensures total { IfOk result (λ outline. outline.total ≡ file_size R.Reads src.old file) }
-        ensures standing { R.standing src.new ≡ R.standing src.old }
+        ensures same { OnlyReads R.Reads src.old src.new }
         ensures cause { HasCause is_outline_fault (R.reading_faults src.old) (R.reading_faults src.new) result }
         ensures octets { R.octets_read src.new ≤ R.octets_read src.old + 4 * file_size R.Reads src.old file }
     {
@@ -83,7 +84,7 @@ impl Outline {
         requires { IsLive R.Reads src.old file }
         ensures exact { IfTold R.Reads src.old file (λ bytes. IsOutline (outline_in held bytes) result) }
         ensures total { IfOk result (λ outline. outline.total ≡ file_size R.Reads src.old file) }
-        ensures standing { R.standing src.new ≡ R.standing src.old }
+        ensures same { OnlyReads R.Reads src.old src.new }
         ensures cause { HasCause is_outline_fault (R.reading_faults src.old) (R.reading_faults src.new) result }
         ensures octets { R.octets_read src.new ≤ R.octets_read src.old + 4 * file_size R.Reads src.old file }
     {
@@ -165,6 +166,14 @@ impl Outline {
         ensures { result ≡ option_map (λ h. h.offset) self.now.cluster }
     {
         self.level.kept.cluster.map(|header| header.offset)
+    }
+
+    /// The last Element of level 1, Clusters too.
+    pub fn last(&self) -> Option<Header>
+        ensures kept { result ≡ self.now.last }
+        ensures exact { (bytes : List ℕ) (o : Outlined) → self.now ≡ shown bytes o → result ≡ last_of o.list }
+    {
+        self.level.kept.last
     }
 
     /// Octets from the start of the file to the Segment's end. A Segment of unknown size that a damage

@@ -1,15 +1,15 @@
 //! The Segment of a file: RFC 9559, section 5.1 (Segment Element).
 
-ghost use Rattle.std.specs.Prelude.{◌≡◌, ◌+◌, ◌≤◌, ◌<◌, [], List, ℕ, length, IfOk, OnOk, OnErr, IsTrue};
+ghost use Rattle.std.specs.Prelude.{◌≡◌, ◌≤◌, ◌<◌, IfOk, OnErr};
 ghost use Rattle.mkv_io.specs.Faults.{HasCause, is_failure};
-ghost use Rattle.mkv_io.specs.Sources.{IfTold, IsLive, file_size};
-ghost use Rattle.matroska_format.specs.Placed.{StandsAt};
-ghost use Rattle.element_window.specs.Window.{Holds, HasNotPassed, MovesTo, Spends};
+ghost use Rattle.mkv_io.specs.Sources.{IfTold, IsLive, OnlyReads, file_size};
+ghost use Rattle.element_window.specs.Looks.{Goes};
+ghost use Rattle.element_window.specs.Window.{Holds, IsEmptyWithin};
 ghost use Rattle.element_reader.specs.Segment.{segment_from, body_or};
 
 use element_headers::{Header, Parent};
 use element_walks::{end_in, id_of};
-use element_window::Window;
+use element_window::{Lookahead, Window};
 use mkv_io::Reads;
 use mkv_schema::ids::SEGMENT;
 use mkv_values::{Damage, Failed, FileId, Kind};
@@ -30,13 +30,10 @@ pub fn find_segment<R: Reads>(
     ensures ok { IfOk result (λ found. IfTold R.Reads src.old file (λ bytes. found ≡ segment_from bytes from)) }
     ensures placed { IfOk result (λ found. IfOk found (λ h. (from < h.body) × (h.body ≤ total))) }
     ensures holds { IfTold R.Reads src.old file (λ bytes. Holds bytes window.new) }
-    ensures err { OnErr result (window.new.octets ≡ []) }
-    ensures standing { R.standing src.new ≡ R.standing src.old }
+    ensures err { OnErr result (IsEmptyWithin from total window.new) }
+    ensures same { OnlyReads R.Reads src.old src.new }
     ensures cause { HasCause is_failure (R.reading_faults src.old) (R.reading_faults src.new) result }
-    ensures moves { HasNotPassed window.old from total
-        → IfOk result (λ found. MovesTo total (body_or found total) window.old window.new (R.octets_read src.old) (R.octets_read src.new)) }
-    ensures spends { HasNotPassed window.old from total
-        → OnErr result (Spends total window.old (R.octets_read src.old) (R.octets_read src.new)) }
+    ensures goes { Goes R.Reads file from (λ found. body_or found total) window.old window.new src.old src.new result }
 {
     let mut at = from;
     while at < total {

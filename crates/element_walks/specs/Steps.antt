@@ -27,6 +27,11 @@ IsWholeStep (Element header next) end = IsWhole in_segment end header
 IsWholeStep (Damaged d) end = ⊤
 IsWholeStep End end = ⊤
 
+-- What a step found is whole, and what is behind it stands behind the place, up to the end.
+pub record IsStep (step : Level1Step) (at end : ℕ) : Type 0 where
+  pub further : IsFurther step at end
+  pub whole : IsWholeStep step end
+
 -- how far a step has gone
 abbrev pub place_behind : Level1Step → ℕ → ℕ → ℕ
 place_behind (Element header next) at end = place_or next end

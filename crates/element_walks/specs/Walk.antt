@@ -1,5 +1,5 @@
 -- What a walk over the Elements of a file answers.
-use Rattle.std.specs.Prelude.{ℕ, List, Result, Ok, Err}
+use Rattle.std.specs.Prelude.{ℕ, ◌≤◌, List, Result, Ok, Err}
 use Rattle.mkv_values.specs.declared.damage.Damage.{Damage}
 use Rattle.matroska_format.specs.Elements.{Run, end_of_run, open_cluster}
 
@@ -15,3 +15,8 @@ cluster_end bytes p e = run_end (open_cluster bytes p e)
 abbrev pub place_or : Result ℕ Damage → ℕ → ℕ
 place_or (Ok at) end = at
 place_or (Err d) end = end
+
+-- a place between two others, or one of them
+pub record IsBetween (from end at : ℕ) : Type 0 where
+  pub after : from ≤ at
+  pub before : at ≤ end

@@ -1,11 +1,12 @@
 //! The Elements of level 1: RFC 9559, section 5.1 (Segment Element).
 
-ghost use Rattle.std.specs.Prelude.{◌≡◌, ◌+◌, ◌≤◌, ◌<◌, [], List, ℕ, length, IfOk, OnOk, OnErr, IsTrue};
+ghost use Rattle.std.specs.Prelude.{◌≡◌, ◌≤◌, IfOk, OnErr};
 ghost use Rattle.mkv_io.specs.Faults.{HasCause, is_failure};
-ghost use Rattle.mkv_io.specs.Sources.{IfTold, IsLive, file_size};
+ghost use Rattle.mkv_io.specs.Sources.{IfTold, IsLive, OnlyReads, file_size};
 ghost use Rattle.matroska_format.specs.Elements.{ends_segment, level_1};
-ghost use Rattle.element_window.specs.Window.{Holds, HasNotPassed, MovesTo, Spends};
-ghost use Rattle.element_walks.specs.Steps.{StepsOn, IsFurther, IsWholeStep, place_behind};
+ghost use Rattle.element_window.specs.Looks.{Goes};
+ghost use Rattle.element_window.specs.Window.{Holds, IsEmptyWithin};
+ghost use Rattle.element_walks.specs.Steps.{IsStep, StepsOn, place_behind};
 
 use crate::walk::{behind, id_of};
 use ebml_format::Size;
@@ -54,16 +55,12 @@ pub fn next_of_segment<W: Lookahead, R: Reads>(
     requires inside { end ≤ file_size R.Reads src.old file }
     requires holds { IfTold R.Reads src.old file (λ bytes. Holds bytes (W.ahead window.old)) }
     ensures ok { IfOk result (λ step. IfTold R.Reads src.old file (λ bytes. StepsOn step (level_1 bytes size at end) at (λ q. level_1 bytes size q end))) }
+    ensures step { IfOk result (λ step. IsStep step at end) }
+    ensures err { OnErr result (IsEmptyWithin at end (W.ahead window.new)) }
     ensures holds { IfTold R.Reads src.old file (λ bytes. Holds bytes (W.ahead window.new)) }
-    ensures err { OnErr result ((W.ahead window.new).octets ≡ []) }
-    ensures standing { R.standing src.new ≡ R.standing src.old }
+    ensures same { OnlyReads R.Reads src.old src.new }
     ensures cause { HasCause is_failure (R.reading_faults src.old) (R.reading_faults src.new) result }
-    ensures place { IfOk result (λ step. IsFurther step at end) }
-    ensures whole { IfOk result (λ step. IsWholeStep step end) }
-    ensures moves { HasNotPassed (W.ahead window.old) at (file_size R.Reads src.old file)
-        → IfOk result (λ step. MovesTo (file_size R.Reads src.old file) (place_behind step at end) (W.ahead window.old) (W.ahead window.new) (R.octets_read src.old) (R.octets_read src.new)) }
-    ensures spends { HasNotPassed (W.ahead window.old) at (file_size R.Reads src.old file)
-        → OnErr result (Spends (file_size R.Reads src.old file) (W.ahead window.old) (R.octets_read src.old) (R.octets_read src.new)) }
+    ensures goes { Goes R.Reads file at (λ step. place_behind step at end) (W.ahead window.old) (W.ahead window.new) src.old src.new result }
 {
     if at >= end {
         return Ok(Level1Step::End);

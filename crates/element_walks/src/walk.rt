@@ -1,12 +1,13 @@
 //! Walks over Elements, forwards through a window.
 
-ghost use Rattle.std.specs.Prelude.{◌≡◌, ◌+◌, ◌≤◌, ◌<◌, ◌^◌, [], List, ℕ, length, IfOk, OnOk, OnErr, IsTrue};
+ghost use Rattle.std.specs.Prelude.{◌≡◌, ◌≤◌, IfOk, OnErr};
 ghost use Rattle.mkv_io.specs.Faults.{HasCause, is_failure};
-ghost use Rattle.mkv_io.specs.Sources.{IfTold, IsLive, file_size};
+ghost use Rattle.mkv_io.specs.Sources.{IfTold, IsLive, OnlyReads, file_size};
 ghost use Rattle.matroska_format.specs.Elements.{behind_in_segment, ends_cluster, id_of};
 ghost use Rattle.matroska_format.specs.Element.{end_in};
-ghost use Rattle.element_window.specs.Window.{Holds, HasNotPassed, MovesTo, Spends};
-ghost use Rattle.element_walks.specs.Walk.{cluster_end, place_or};
+ghost use Rattle.element_window.specs.Looks.{Goes};
+ghost use Rattle.element_window.specs.Window.{Holds, IsEmptyWithin};
+ghost use Rattle.element_walks.specs.Walk.{IsBetween, cluster_end, place_or};
 
 use ebml_format::Size;
 use element_headers::{Header, Parent};
@@ -57,14 +58,11 @@ pub fn cluster_end<W: Lookahead, R: Reads>(
     requires holds { IfTold R.Reads src.old file (λ bytes. Holds bytes (W.ahead window.old)) }
     ensures ok { IfOk result (λ found. IfTold R.Reads src.old file (λ bytes. found ≡ cluster_end bytes from end)) }
     ensures holds { IfTold R.Reads src.old file (λ bytes. Holds bytes (W.ahead window.new)) }
-    ensures err { OnErr result ((W.ahead window.new).octets ≡ []) }
-    ensures standing { R.standing src.new ≡ R.standing src.old }
+    ensures err { OnErr result (IsEmptyWithin from end (W.ahead window.new)) }
+    ensures same { OnlyReads R.Reads src.old src.new }
     ensures cause { HasCause is_failure (R.reading_faults src.old) (R.reading_faults src.new) result }
-    ensures place { IfOk result (λ found. IfOk found (λ at. (from ≤ at) × (at ≤ end))) }
-    ensures moves { HasNotPassed (W.ahead window.old) from (file_size R.Reads src.old file)
-        → IfOk result (λ found. MovesTo (file_size R.Reads src.old file) (place_or found end) (W.ahead window.old) (W.ahead window.new) (R.octets_read src.old) (R.octets_read src.new)) }
-    ensures spends { HasNotPassed (W.ahead window.old) from (file_size R.Reads src.old file)
-        → OnErr result (Spends (file_size R.Reads src.old file) (W.ahead window.old) (R.octets_read src.old) (R.octets_read src.new)) }
+    ensures place { IfOk result (λ found. IfOk found (IsBetween from end)) }
+    ensures goes { Goes R.Reads file from (λ found. place_or found end) (W.ahead window.old) (W.ahead window.new) src.old src.new result }
 {
     let mut at = from;
     while at < end {
@@ -95,14 +93,11 @@ pub fn behind<W: Lookahead, R: Reads>(
     requires holds { IfTold R.Reads src.old file (λ bytes. Holds bytes (W.ahead window.old)) }
     ensures ok { IfOk result (λ found. IfTold R.Reads src.old file (λ bytes. found ≡ behind_in_segment bytes end header.now)) }
     ensures holds { IfTold R.Reads src.old file (λ bytes. Holds bytes (W.ahead window.new)) }
-    ensures err { OnErr result ((W.ahead window.new).octets ≡ []) }
-    ensures standing { R.standing src.new ≡ R.standing src.old }
+    ensures err { OnErr result (IsEmptyWithin header.now.body end (W.ahead window.new)) }
+    ensures same { OnlyReads R.Reads src.old src.new }
     ensures cause { HasCause is_failure (R.reading_faults src.old) (R.reading_faults src.new) result }
-    ensures place { IfOk result (λ found. IfOk found (λ at. (header.now.body ≤ at) × (at ≤ end))) }
-    ensures moves { HasNotPassed (W.ahead window.old) header.now.body (file_size R.Reads src.old file)
-        → IfOk result (λ found. MovesTo (file_size R.Reads src.old file) (place_or found end) (W.ahead window.old) (W.ahead window.new) (R.octets_read src.old) (R.octets_read src.new)) }
-    ensures spends { HasNotPassed (W.ahead window.old) header.now.body (file_size R.Reads src.old file)
-        → OnErr result (Spends (file_size R.Reads src.old file) (W.ahead window.old) (R.octets_read src.old) (R.octets_read src.new)) }
+    ensures place { IfOk result (λ found. IfOk found (IsBetween header.now.body end)) }
+    ensures goes { Goes R.Reads file header.now.body (λ found. place_or found end) (W.ahead window.old) (W.ahead window.new) src.old src.new result }
 {
     match header.size {
         Size::Unknown => {

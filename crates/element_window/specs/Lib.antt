@@ -1,2 +1,3 @@
-pub mod Head
+pub mod Held
+pub mod Looks
 pub mod Window

@@ -1,11 +1,22 @@
 -- What a window holds of a file.
-use Rattle.std.specs.Prelude.{◌≡◌, ℕ, ◌+◌, ◌*◌, ◌-◌, ◌≤◌, ◌==◌, min, List, length, if◌then◌else◌}
+use Rattle.std.specs.Prelude.{◌≡◌, ℕ, ◌+◌, ◌*◌, ◌-◌, ◌≤◌, ◌==◌, min, List, [], length, if◌then◌else◌}
 use Rattle.mkv_io.specs.Contents.{octets_from}
+use Rattle.matroska_format.specs.declared.limits.TheConstants.{LONGEST_HEADER}
 
 -- octets, and the place of the first of them
 pub record ReadAhead : Type 0 where
   pub at : ℕ
   pub octets : List ℕ
+
+-- a window that stands at a place and holds nothing
+abbrev pub nothing_at : ℕ → ReadAhead
+nothing_at at = record { at = at; octets = [] }
+
+-- the window holds nothing, and stands between two places
+pub record IsEmptyWithin (from end : ℕ) (w : ReadAhead) : Type 0 where
+  pub nothing : w.octets ≡ []
+  pub after : from ≤ w.at
+  pub before : w.at ≤ end
 
 -- the place behind the last
 abbrev pub end_ahead : ReadAhead → ℕ
@@ -22,7 +33,7 @@ pub record HasRange (w : ReadAhead) (at len : ℕ) : Type 0 where
 
 -- the octets that a header at a place may have, of a parent that ends somewhere
 abbrev pub header_room : ℕ → ℕ → ℕ
-header_room at end = min (end - at) 12
+header_room at end = min (end - at) LONGEST_HEADER
 
 -- how many octets are read at once from a place of a file of `size` octets, where there is room for so many
 abbrev pub read_from : ℕ → ℕ → ℕ → ℕ

@@ -3,13 +3,11 @@
 //! Windows on a file, through which the headers of Elements are read forwards: a read takes many
 //! octets at once, and what a window holds isn't read again.
 
-mod ahead;
-mod head_end;
+mod held;
 mod lookahead;
 mod small_window;
 mod window;
 
-pub use head_end::HeadEnd;
 pub use lookahead::Lookahead;
 pub use small_window::SmallWindow;
 pub use window::Window;

@@ -8,9 +8,8 @@ use Rattle.ebml_format.specs.declared.number.NumFault.{NumFault}
 use Rattle.ebml_format.specs.declared.number.NumFault.TheVariants as fault
 use Rattle.ebml_format.specs.declared.number.SizeRead.{SizeRead}
 use Rattle.ebml_format.specs.Number.{id_at, size_at}
-use Rattle.ebml_format.proofs.NumberLemmas.{size_at-within, size_at-take, id_at-reads, id_at-take}
+use Rattle.ebml_format.proofs.NumberLemmas.{IfOk-each, size_at-within, size_at-take, id_at-reads, id_at-take}
 use Rattle.mkv_schema.specs.declared.ids.TheConstants.{CHAPTER_DISPLAY}
-use Rattle.mkv_values.specs.declared.damage.Damage.{Damage}
 use Rattle.mkv_values.specs.declared.damage.Kind.{Kind}
 use Rattle.mkv_values.specs.declared.damage.Kind.TheVariants.{TooLong, Truncated, UnknownSize}
 use Rattle.matroska_format.specs.declared.element.Header.{Header}
@@ -67,14 +66,10 @@ element_at-placed s bytes p e h before_end found =
     let octets = length-octets_between bytes p e in
     element_in-placed s (octets_between bytes p e) (length bytes) p e h (omega arith) found
 
-if_ok : {A : Type 0} (P : A → Type 0) (found : Result A Damage) → ((x : A) → found ≡ Ok x → P x) → IfOk found P
-if_ok P (Ok x) holds = holds x refl
-if_ok P (Err d) holds = tt
-
 -- the same of whatever stands there
 pub element_in-is_placed : (s : Setting) (octets : List ℕ) (total p e : ℕ) → p + length octets ≤ e → IfOk (element_in s octets total p e) (StandsAt p e)
 element_in-is_placed s octets total p e inside =
-    if_ok (StandsAt p e) (element_in s octets total p e) (λ h found. element_in-placed s octets total p e h inside found)
+    IfOk-each (StandsAt p e) (element_in s octets total p e) (λ h found. element_in-placed s octets total p e h inside found)
 
 -- ---- an Element that may not be open is whole
 
@@ -121,7 +116,7 @@ element_in-whole s octets total p e h found = whole_id s octets total p e h (id_
 
 -- the same of whatever stands there
 pub element_in-is_whole : (s : Setting) (octets : List ℕ) (total p e : ℕ) → IfOk (element_in s octets total p e) (IsWhole s e)
-element_in-is_whole s octets total p e = if_ok (IsWhole s e) (element_in s octets total p e) (λ h found. element_in-whole s octets total p e h found)
+element_in-is_whole s octets total p e = IfOk-each (IsWhole s e) (element_in s octets total p e) (λ h found. element_in-whole s octets total p e h found)
 
 -- ---- twelve octets settle a header
 

@@ -1,10 +1,12 @@
 -- The Elements from a place on, one step at a time.
-use Rattle.std.proofs.Common.{◌≡◌, ℕ, zero, suc, ◌-◌, ◌<◌, ◌≤◌, nat_lt, Bool, true, false, if◌then◌else◌, List, Option, Some, None, Result, Ok, Err, refl, sym, ◌∙◌, ap, arith}
+use Rattle.std.proofs.Common.{◌≡◌, ℕ, zero, suc, ◌+◌, ◌-◌, ◌<◌, ◌≤◌, nat_lt, Bool, true, false, if◌then◌else◌, List, [], ◌∷◌, Option, Some, None, Result, Ok, Err, refl, sym, ◌∙◌, ap, arith}
 use Rattle.mkv_values.specs.declared.damage.Damage.{Damage}
 use Rattle.matroska_format.specs.declared.element.Header.{Header}
 use Rattle.matroska_format.specs.Element.{Setting, in_segment, in_master, element_at, end_in, is_unknown}
 use Rattle.matroska_format.specs.Elements.{Run, Next, ends_at, in_front, behind, step, id_of, elements, elements_within}
 use Rattle.matroska_format.specs.Elements.{open_cluster, ends_cluster, end_of_run, behind_in_segment}
+use Rattle.matroska_format.specs.Elements.{ends_segment}
+use Rattle.matroska_format.specs.Order.{AscendFrom, Level1Ascends}
 use Rattle.matroska_format.proofs.ElementLemmas.{element_at-placed}
 
 -- What stands behind an Element stands behind its first octet.
@@ -117,6 +119,51 @@ pub elements-end_of : (s : Setting) (stops : ℕ → Bool) (next : Next) (bytes 
 unfolding elements
 elements-end_of s stops next bytes p e advances = end-within (e - p) s stops next bytes p e advances
 
+-- ---- the Elements stand one behind the other
+
+-- what ascends from a place on does so from an earlier one
+pub AscendFrom-later : (p q : ℕ) (list : List Header) → p ≤ q → AscendFrom q list → AscendFrom p list
+AscendFrom-later p q [] later ascends = tt
+AscendFrom-later p q (h ∷ hs) later ascends = (omega (arith, ascends.0), ascends.1)
+
+-- With room for one more, where the others ascend from their places, so do these.
+ascend_of_more : (n : ℕ) (s : Setting) (stops : ℕ → Bool) (next : Next) (bytes : List ℕ) (p e : ℕ) → Advances s next bytes e → ((k : ℕ) → AscendFrom k (elements_within n s stops next bytes k e).list) → AscendFrom p (elements_within (suc n) s stops next bytes p e).list
+ascend_of_more n s stops next bytes p e advances further = split (nat_lt p e) refl
+  where
+    behind_it : (h : Header) (q : Result ℕ Damage) → element_at s bytes p e ≡ Ok h → p < e → next h ≡ q → AscendFrom p (behind p h q (λ k. elements_within n s stops next bytes k e)).list
+    behind_it h (Err d) found inside goes =
+        let placed = element_at-placed s bytes p e h (omega arith) found in
+        let offset = placed.offset in
+        (omega arith, tt)
+    behind_it h (Ok k) found inside goes =
+        let placed = element_at-placed s bytes p e h (omega arith) found in
+        let offset = placed.offset in
+        let later = advances.on p h k inside found goes in
+        (omega arith, AscendFrom-later (h.offset + 1) k _ (omega arith) (further k))
+
+    goes_on : (found : Result Header Damage) → element_at s bytes p e ≡ found → p < e → AscendFrom p (step p next found (λ q. elements_within n s stops next bytes q e)).list
+    goes_on (Err d) is inside = tt
+    goes_on (Ok h) is inside = behind_it h (next h) is inside refl
+
+    stopped : (stop : Bool) → p < e → AscendFrom p (if stop then ends_at p else step p next (element_at s bytes p e) (λ q. elements_within n s stops next bytes q e)).list
+    stopped true inside = tt
+    stopped false inside = goes_on (element_at s bytes p e) refl inside
+
+    split : (test : Bool) → nat_lt p e ≡ test → AscendFrom p (elements_within (suc n) s stops next bytes p e).list
+    split false past = rw (within-end (suc n) s stops next bytes p e past) tt
+    split true inside = rw (within-more n s stops next bytes p e inside) (stopped (stops (id_of (element_at s bytes p e))) (grind arith))
+
+-- so do they with any room
+ascend-within : (n : ℕ) (s : Setting) (stops : ℕ → Bool) (next : Next) (bytes : List ℕ) (p e : ℕ) → Advances s next bytes e → AscendFrom p (elements_within n s stops next bytes p e).list
+ascend-within zero s stops next bytes p e advances = rw (within-zero s stops next bytes p e) tt
+ascend-within (suc n) s stops next bytes p e advances =
+    ascend_of_more n s stops next bytes p e advances (λ k. ascend-within n s stops next bytes k e advances)
+
+-- The places of the Elements ascend.
+pub elements-ascend : (s : Setting) (stops : ℕ → Bool) (next : Next) (bytes : List ℕ) (p e : ℕ) → Advances s next bytes e → AscendFrom p (elements s stops next bytes p e).list
+unfolding elements
+elements-ascend s stops next bytes p e advances = ascend-within (e - p) s stops next bytes p e advances
+
 -- ---- the lists of this crate advance
 
 -- behind an Element of known size
@@ -149,3 +196,8 @@ Advances-segment bytes e = record {
     split h false p q before_end later children goes =
         let is : end_in e h ≡ q = cc in
         grind arith
+
+-- so the places of the Elements of level 1 ascend
+pub level_1-ascends : Level1Ascends
+level_1-ascends bytes size p e =
+    elements-ascend in_segment (ends_segment size) (behind_in_segment bytes e) bytes p e (Advances-segment bytes e)

@@ -1,3 +1,5 @@
+pub mod BodyDamageLemmas
 pub mod ElementLemmas
 pub mod ElementsLemmas
 pub mod OutlineFacts
+pub mod OutlineLemmas

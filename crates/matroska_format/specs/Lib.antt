@@ -1,5 +1,8 @@
+pub mod BodyDamage
 pub mod Element
 pub mod Elements
-pub mod Value
+pub mod Order
 pub mod Outline
 pub mod Placed
+pub mod Value
+pub mod WithoutLimits

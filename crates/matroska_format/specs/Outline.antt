@@ -1,8 +1,9 @@
 -- The outline of a file: RFC 8794, section 8 (EBML Document), and RFC 9559, sections 4.5 (Data Layout) and 5.1 (Segment Element).
-use Rattle.std.specs.Prelude.{ℕ, ◌+◌, ◌^◌, ◌*◌, ◌==◌, nat_eq, nat_lt, Bool, true, false, not, ◌&&◌, ◌||◌, if◌then◌else◌, List, [], ◌∷◌, ◌++◌, length, filter, find, sum_by, count_by, codes, Option, Some, None, Result, Ok, Err}
+use Rattle.std.specs.Prelude.{ℕ, ◌+◌, ◌==◌, nat_eq, nat_lt, Bool, true, false, not, ◌&&◌, ◌||◌, if◌then◌else◌, List, [], ◌∷◌, ◌++◌, length, filter, find, sum_by, count_by, codes, Option, Some, None, Result, Ok, Err}
 use Rattle.std.specs.List.{starts_with}
 use Rattle.std.specs.Option.{option_map, option_map_or}
 use Rattle.std.specs.Str.{bytes_eq}
+use Rattle.matroska_format.specs.declared.limits.TheConstants.{MOST_OF_HEADER, MOST_OF_ONE, MOST_OF_ALL, MOST_ELEMENTS}
 use Rattle.mkv_schema.specs.declared.ids.TheConstants.{EBML, EBML_READ_VERSION, EBML_MAX_ID_LENGTH, EBML_MAX_SIZE_LENGTH, DOC_TYPE, DOC_TYPE_READ_VERSION, SEGMENT, INFO, TRACKS, CHAPTERS, TAGS, CLUSTER}
 use Rattle.mkv_values.specs.declared.damage.Damage.{Damage}
 use Rattle.mkv_values.specs.declared.damage.Kind.{Kind}
@@ -41,10 +42,6 @@ where_it false d = None
 abbrev pub ebml_mark : List ℕ
 ebml_mark = 0x1A ∷ 0x45 ∷ 0xDF ∷ 0xA3 ∷ []
 
--- the most octets that an EBML header's body may have
-abbrev pub MOST_OF_HEADER : ℕ
-MOST_OF_HEADER = 65536
-
 -- the EBML header's children, which are read whole
 abbrev pub header_children : List ℕ → Header → Run
 header_children bytes h = children_in (in_tree EBML) bytes h.body (stated_end h)
@@ -75,10 +72,9 @@ wrong_doc_type bytes list = where_it (not (is_doc_type (text_in bytes DOC_TYPE l
 abbrev pub above : List ℕ → ℕ → ℕ → Kind → List Header → Option Damage
 above bytes id limit kind list = where_it (nat_lt limit (uint_in bytes id list)) (damage kind id (place_of id list))
 
--- what refuses an EBML header, in the order in which it is told
-abbrev pub header_causes : List ℕ → Header → Run → List (Option Damage)
-header_causes bytes h children =
-    over MOST_OF_HEADER h ∷
+-- what refuses the children of an EBML header, in the order in which it is told
+abbrev pub children_causes : List ℕ → Run → List (Option Damage)
+children_causes bytes children =
     bad_value bytes EBML children.list ∷
     children.damage ∷
     wrong_doc_type bytes children.list ∷
@@ -87,6 +83,10 @@ header_causes bytes h children =
     above bytes EBML_MAX_ID_LENGTH 4 MaxLengths children.list ∷
     above bytes EBML_MAX_SIZE_LENGTH 8 MaxLengths children.list ∷
     []
+
+-- what refuses an EBML header, in the order in which it is told
+abbrev pub header_causes : List ℕ → Header → Run → List (Option Damage)
+header_causes bytes h children = over MOST_OF_HEADER h ∷ children_causes bytes children
 
 -- the Element at the start of a file that begins as an EBML header does
 abbrev pub first_element : List ℕ → Result Header Damage
@@ -125,17 +125,6 @@ abbrev pub segment_run : List ℕ → Header → Run
 segment_run bytes segment = level_1 bytes segment.size segment.body (segment_bound bytes segment)
 
 -- ---- limits of level 1
-
--- the most octets of one Info, Tracks, Chapters or Tags, and of all of them in all inputs; the most
--- Elements of level 1 besides Clusters
-abbrev pub MOST_OF_ONE : ℕ
-MOST_OF_ONE = 16 * 2 ^ 20
-
-abbrev pub MOST_OF_ALL : ℕ
-MOST_OF_ALL = 64 * 2 ^ 20
-
-abbrev pub MOST_ELEMENTS : ℕ
-MOST_ELEMENTS = 4096
 
 -- an Info, Tracks, Chapters or Tags
 abbrev pub is_described : ℕ → Bool

@@ -3,7 +3,7 @@ use Rattle.std.specs.Prelude.{◌≡◌, ℕ, false, ◌<◌, ◌≤◌}
 use Rattle.matroska_format.specs.declared.element.Header.{Header}
 use Rattle.matroska_format.specs.Element.{Setting, is_unknown, stated_end}
 
--- An Element stands where it was looked for, its header before its body, and both within the parent.
+-- An Element stands where it was looked for, and its body begins behind that place, up to the parent's end.
 pub record StandsAt (p e : ℕ) (h : Header) : Type 0 where
   pub offset : h.offset ≡ p
   pub later : p < h.body

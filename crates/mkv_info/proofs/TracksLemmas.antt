@@ -9,7 +9,8 @@ use Rattle.mkv_values.specs.declared.damage.Damage.{Damage}
 use Rattle.mkv_values.specs.declared.damage.Kind.TheVariants.{HeaderTooLarge}
 use Rattle.matroska_format.specs.declared.element.Header.{Header}
 use Rattle.matroska_format.specs.Element.{damage, known}
-use Rattle.matroska_format.specs.Outline.{described, first_damage, first_refusal, is_described, limits_from, passes_count, passes_size, where_it, MOST_OF_ALL, MOST_OF_ONE}
+use Rattle.matroska_format.specs.declared.limits.TheConstants.{MOST_OF_ALL, MOST_OF_ONE}
+use Rattle.matroska_format.specs.Outline.{described, first_damage, first_refusal, is_described, limits_from, passes_count, passes_size, where_it}
 use Rattle.matroska_format.specs.Value.{first_of}
 use Rattle.element_reader.specs.Load.{too_large}
 use Rattle.element_reader.specs.Outline.{FileOutline, first_in, outline_in}

@@ -6,12 +6,12 @@ use Rattle.std.specs.Option.{option_map, option_map_or, option_and_then}
 use Rattle.std.specs.List.{list_all, IsDistinct}
 use Rattle.std.specs.Cmp.{nat_eq_equiv}
 use Rattle.std.proofs.lemmas.Map.Made.{IsDistinct-from_count}
-use Rattle.ebml_format.specs.Number.{is_id}
+use Rattle.ebml_format.specs.Number.{is_id, is_written_id}
 use Rattle.mkv_schema.specs.declared.ids.TheConstants.{SEGMENT, CHAPTER_DISPLAY}
 use Rattle.mkv_schema.specs.declared.kind.ElementKind.{ElementKind}
 use Rattle.mkv_schema.specs.declared.kind.ElementKind.TheVariants.{Master, Uint, Ascii}
-use Rattle.mkv_schema.specs.declared.place.Place.{Place}
-use Rattle.mkv_schema.specs.declared.place.Place.TheVariants.{Root, AnyMaster, ChildOf, ChildOfOrItself}
+use Rattle.mkv_schema.specs.declared.parents.Parents.{Parents}
+use Rattle.mkv_schema.specs.declared.parents.Parents.TheVariants.{Root, AnyMaster, ChildOf, ChildOfOrItself}
 use Rattle.mkv_schema.specs.Table.{Entry, Default, number_value, text_value, table}
 use Rattle.mkv_schema.specs.Schema.{table_ids, entry_of, kind_of, is_master_kind, is_master, is_root, is_level0, is_child_of, is_level1, allows, may_stand, number_in, text_in, uint_default, text_default}
 use Rattle.mkv_schema.proofs.FindLemmas.{find-passes, find-all_pass}
@@ -59,6 +59,13 @@ pub table-valid : list_all has_valid_id table ≡ true
 unfolding table is_id
 table-valid = refl
 
+abbrev pub has_written_id : Entry → Bool
+has_written_id e = is_written_id e.id
+
+pub table-written : list_all has_written_id table ≡ true
+unfolding table is_id
+table-written = refl
+
 -- ---- A default fits its kind
 
 abbrev pub fits_kind : ElementKind → Option Default → Bool
@@ -76,14 +83,14 @@ table-defaults = refl
 
 -- ---- Parents are masters
 
-abbrev pub has_master_parents : ℕ → Place → Bool
+abbrev pub has_master_parents : ℕ → Parents → Bool
 has_master_parents id Root = true
 has_master_parents id AnyMaster = true
 has_master_parents id (ChildOf own) = is_master own
 has_master_parents id (ChildOfOrItself own) = is_master own && is_master id
 
 abbrev pub stands_in_masters : Entry → Bool
-stands_in_masters e = has_master_parents e.id e.place
+stands_in_masters e = has_master_parents e.id e.parents
 
 pub table-parents : list_all stands_in_masters table ≡ true
 unfolding table entry_of
@@ -92,14 +99,14 @@ table-parents = refl
 -- ---- Levels 0 and 1 have masters only
 
 abbrev pub is_master_at_level0 : Entry → Bool
-is_master_at_level0 e = not (is_root e.place) || is_master_kind e.kind
+is_master_at_level0 e = not (is_root e.parents) || is_master_kind e.kind
 
 pub table-level0 : list_all is_master_at_level0 table ≡ true
 unfolding table
 table-level0 = refl
 
 abbrev pub is_master_at_level1 : Entry → Bool
-is_master_at_level1 e = not (is_child_of SEGMENT e.place) || is_master_kind e.kind
+is_master_at_level1 e = not (is_child_of SEGMENT e.parents) || is_master_kind e.kind
 
 pub table-level1 : list_all is_master_at_level1 table ≡ true
 unfolding table
@@ -124,13 +131,13 @@ abbrev is_master_in : Option Entry → Bool
 is_master_in o = option_map_or (λ e. is_master_kind e.kind) o false
 
 abbrev is_level0_in : Option Entry → Bool
-is_level0_in o = option_map_or (λ e. is_root e.place) o false
+is_level0_in o = option_map_or (λ e. is_root e.parents) o false
 
 abbrev is_level1_in : Option Entry → Bool
-is_level1_in o = option_map_or (λ e. is_child_of SEGMENT e.place) o false
+is_level1_in o = option_map_or (λ e. is_child_of SEGMENT e.parents) o false
 
 abbrev may_stand_in : ℕ → ℕ → Option Entry → Bool
-may_stand_in id parent o = option_map_or (λ e. allows e.place id parent) o false
+may_stand_in id parent o = option_map_or (λ e. allows e.parents id parent) o false
 
 -- What has the ID of an ID's row has this ID.
 pub IfSome-same_id : {A : Type 0} (id_in : A → ℕ) (o : Option A) (id : ℕ) →
@@ -156,6 +163,16 @@ is_id-kind_of id known other = of_entry (λ (o : Option Entry). IsSome (kind_in 
         let valid : has_valid_id e ≡ true = entry_of-passes has_valid_id table-valid id e found in
         let not_display : e.id == CHAPTER_DISPLAY ≢ true = λ is. other (sym same ∙ eqb-true e.id CHAPTER_DISPLAY is) in
         rw (← same) (one_of (e.id == CHAPTER_DISPLAY) (is_id e.id) valid not_display)
+
+-- Every ID of the table may be written.
+pub is_written_id-kind_of : (id : ℕ) → IsSome (kind_of id) → IsTrue (is_written_id id)
+is_written_id-kind_of id known = of_entry (λ (o : Option Entry). IsSome (kind_in o) → IsTrue (is_written_id id)) id (λ known. (cc)) at known
+  where
+    at : (e : Entry) → entry_of id ≡ Some e → true ≡ true → IsTrue (is_written_id id)
+    at e found known =
+        let same : e.id ≡ id = entry_of-id id e found in
+        let written : has_written_id e ≡ true = entry_of-passes has_written_id table-written id e found in
+        rw (← same) written
 
 -- A master's ID is one whose kind is Master.
 pub is_master-kind_of : (id : ℕ) → IsTrue (is_master id) ↔ (kind_of id ≡ Some Master)
@@ -217,27 +234,27 @@ is_master-may_stand id parent stands =
         rw (eqb-true parent id is_itself) (right_true (is_master own) (is_master id) masters)
     nested own false false is_own is_itself masters stands = (cc)
 
-    of_place : (p : Place) → has_master_parents id p ≡ true → allows p id parent ≡ true → is_master parent ≡ true
+    of_place : (p : Parents) → has_master_parents id p ≡ true → allows p id parent ≡ true → is_master parent ≡ true
     of_place Root masters stands = (cc)
     of_place AnyMaster masters stands = stands
     of_place (ChildOf own) masters stands = rw (eqb-true parent own stands) masters
     of_place (ChildOfOrItself own) masters stands =
         nested own (parent == own) (parent == id) refl refl masters stands
 
-    at : (e : Entry) → entry_of id ≡ Some e → allows e.place id parent ≡ true → IsTrue (is_master parent)
+    at : (e : Entry) → entry_of id ≡ Some e → allows e.parents id parent ≡ true → IsTrue (is_master parent)
     at e found stands =
-        let masters : has_master_parents e.id e.place ≡ true = entry_of-passes stands_in_masters table-parents id e found in
-        of_place e.place (rw (entry_of-id id e found) at masters) stands
+        let masters : has_master_parents e.id e.parents ≡ true = entry_of-passes stands_in_masters table-parents id e found in
+        of_place e.parents (rw (entry_of-id id e found) at masters) stands
 
 -- An Element of level 0 stands under no parent.
 pub may_stand-is_level0 : (id parent : ℕ) → IsTrue (is_level0 id) → may_stand id parent ≡ false
 may_stand-is_level0 id parent level =
     of_entry (λ (o : Option Entry). IsTrue (is_level0_in o) → may_stand_in id parent o ≡ false) id
     (λ level. refl)
-    (λ e found level. of_place e.place level)
+    (λ e found level. of_place e.parents level)
     level
   where
-    of_place : (p : Place) → is_root p ≡ true → allows p id parent ≡ false
+    of_place : (p : Parents) → is_root p ≡ true → allows p id parent ≡ false
     of_place Root root = refl
     of_place _ root = (cc)
 
@@ -246,10 +263,10 @@ pub may_stand-is_level1 : (id : ℕ) → IsTrue (is_level1 id) → IsTrue (may_s
 may_stand-is_level1 id level =
     of_entry (λ (o : Option Entry). IsTrue (is_level1_in o) → IsTrue (may_stand_in id SEGMENT o)) id
     (λ level. (cc))
-    (λ e found level. of_place e.place level)
+    (λ e found level. of_place e.parents level)
     level
   where
-    of_place : (p : Place) → is_child_of SEGMENT p ≡ true → allows p id SEGMENT ≡ true
+    of_place : (p : Parents) → is_child_of SEGMENT p ≡ true → allows p id SEGMENT ≡ true
     of_place (ChildOf own) child = child
     of_place _ child = (cc)
 
@@ -258,7 +275,7 @@ pub is_master-is_level0 : (id : ℕ) → IsTrue (is_level0 id) → IsTrue (is_ma
 is_master-is_level0 id level =
     of_entry (λ (o : Option Entry). IsTrue (is_level0_in o) → IsTrue (is_master_in o)) id
     (λ level. (cc))
-    (λ e found level. implied (is_root e.place) (is_master_kind e.kind) (entry_of-passes is_master_at_level0 table-level0 id e found) level)
+    (λ e found level. implied (is_root e.parents) (is_master_kind e.kind) (entry_of-passes is_master_at_level0 table-level0 id e found) level)
     level
 
 -- An Element of level 1 is a master.
@@ -266,7 +283,7 @@ pub is_master-is_level1 : (id : ℕ) → IsTrue (is_level1 id) → IsTrue (is_ma
 is_master-is_level1 id level =
     of_entry (λ (o : Option Entry). IsTrue (is_level1_in o) → IsTrue (is_master_in o)) id
     (λ level. (cc))
-    (λ e found level. implied (is_child_of SEGMENT e.place) (is_master_kind e.kind) (entry_of-passes is_master_at_level1 table-level1 id e found) level)
+    (λ e found level. implied (is_child_of SEGMENT e.parents) (is_master_kind e.kind) (entry_of-passes is_master_at_level1 table-level1 id e found) level)
     level
 
 -- The laws, for the search.

@@ -3,8 +3,8 @@ use Rattle.std.specs.Prelude.{ℕ, ◌==◌, Bool, true, false, ◌||◌, Option
 use Rattle.std.specs.Option.{option_map, option_map_or, option_and_then}
 use Rattle.mkv_schema.specs.declared.kind.ElementKind.{ElementKind}
 use Rattle.mkv_schema.specs.declared.kind.ElementKind.TheVariants.{Master}
-use Rattle.mkv_schema.specs.declared.place.Place.{Place}
-use Rattle.mkv_schema.specs.declared.place.Place.TheVariants.{Root, AnyMaster, ChildOf, ChildOfOrItself}
+use Rattle.mkv_schema.specs.declared.parents.Parents.{Parents}
+use Rattle.mkv_schema.specs.declared.parents.Parents.TheVariants.{Root, AnyMaster, ChildOf, ChildOfOrItself}
 use Rattle.mkv_schema.specs.declared.ids.TheConstants.{SEGMENT}
 use Rattle.mkv_schema.specs.Table.{Entry, Default, number_value, text_value, table}
 
@@ -32,24 +32,24 @@ is_master id = option_map_or (λ e. is_master_kind e.kind) (entry_of id) false
 
 -- ---- Where an Element stands
 
-abbrev pub is_root : Place → Bool
+abbrev pub is_root : Parents → Bool
 is_root Root = true
 is_root _ = false
 
 -- an Element of level 0: EBML, or Segment
 abbrev pub is_level0 : ℕ → Bool
-is_level0 id = option_map_or (λ e. is_root e.place) (entry_of id) false
+is_level0 id = option_map_or (λ e. is_root e.parents) (entry_of id) false
 
-abbrev pub is_child_of : ℕ → Place → Bool
+abbrev pub is_child_of : ℕ → Parents → Bool
 is_child_of parent (ChildOf own) = parent == own
 is_child_of parent _ = false
 
 -- an Element of level 1: a child of Segment, which no Global Element counts as
 abbrev pub is_level1 : ℕ → Bool
-is_level1 id = option_map_or (λ e. is_child_of SEGMENT e.place) (entry_of id) false
+is_level1 id = option_map_or (λ e. is_child_of SEGMENT e.parents) (entry_of id) false
 
--- the place of the Element id lets it stand under a parent
-abbrev pub allows : Place → ℕ → ℕ → Bool
+-- one of the parents of the Element id is this one
+abbrev pub allows : Parents → ℕ → ℕ → Bool
 allows Root id parent = false
 allows AnyMaster id parent = is_master parent
 allows (ChildOf own) id parent = parent == own
@@ -57,7 +57,7 @@ allows (ChildOfOrItself own) id parent = parent == own || parent == id
 
 -- an Element of the one ID may stand directly under one of the other
 abbrev pub may_stand : ℕ → ℕ → Bool
-may_stand id parent = option_map_or (λ e. allows e.place id parent) (entry_of id) false
+may_stand id parent = option_map_or (λ e. allows e.parents id parent) (entry_of id) false
 
 -- ---- Defaults
 

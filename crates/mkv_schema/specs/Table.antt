@@ -3,11 +3,11 @@ use Rattle.std.specs.Prelude.{ℕ, List, [], ◌∷◌, Option, Some, None, code
 use Prim.Native.String.{String}
 use Rattle.mkv_schema.specs.declared.kind.ElementKind.{ElementKind}
 use Rattle.mkv_schema.specs.declared.kind.ElementKind.TheVariants.{Master, Uint, Int, Float, Ascii, Utf8, Binary}
-use Rattle.mkv_schema.specs.declared.place.Place.{Place}
-use Rattle.mkv_schema.specs.declared.place.Place.TheVariants.{Root, AnyMaster, ChildOf, ChildOfOrItself}
+use Rattle.mkv_schema.specs.declared.parents.Parents.{Parents}
+use Rattle.mkv_schema.specs.declared.parents.Parents.TheVariants.{Root, AnyMaster, ChildOf, ChildOfOrItself}
 use Rattle.mkv_schema.specs.declared.ids.TheConstants.{EBML, SEGMENT, SEEK_HEAD, SEEK, INFO, CLUSTER, BLOCK_GROUP, TRACKS, TRACK_ENTRY, VIDEO, AUDIO, CONTENT_ENCODINGS, CONTENT_ENCODING, CONTENT_COMPRESSION, CUES, CUE_POINT, CUE_TRACK_POSITIONS, ATTACHMENTS, ATTACHED_FILE, CHAPTERS, EDITION_ENTRY, CHAPTER_ATOM, CHAPTER_DISPLAY, TAGS, TAG, TARGETS, SIMPLE_TAG}
 
--- the value of an Element that is empty or missing
+-- The value of an Element that is missing. A number is that of an empty integer too; an empty text has no octets.
 pub data Default : Type 0 where
   number_value : ℕ → Default
   text_value : List ℕ → Default
@@ -17,12 +17,12 @@ pub record Entry : Type 0 where
   pub name : List ℕ
   pub id : ℕ
   pub kind : ElementKind
-  pub place : Place
+  pub parents : Parents
   pub default : Option Default
 
-abbrev pub element : String → ℕ → ElementKind → Place → Option Default → Entry
-element name id kind place default =
-    record { name = codes name; id = id; kind = kind; place = place; default = default }
+abbrev pub element : String → ℕ → ElementKind → Parents → Option Default → Entry
+element name id kind parents default =
+    record { name = codes name; id = id; kind = kind; parents = parents; default = default }
 
 abbrev pub none : Option Default
 none = None
@@ -33,7 +33,8 @@ number n = Some (number_value n)
 abbrev pub text : String → Option Default
 text t = Some (text_value (codes t))
 
--- name, ID, kind, where it stands, default
+-- Name, ID, kind, parents, default. BlockAdditions is a master in RFC 9559; here its octets are kept as they
+-- are, so its kind is Binary, and its children have no rows.
 unfoldable pub table : List Entry
 table =
     -- EBML Header Elements (RFC 8794, section 11.2)

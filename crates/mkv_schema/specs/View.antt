@@ -12,7 +12,7 @@ shown_default (Number n) = number_value n
 shown_default (Text t) = text_value t.now
 
 abbrev pub shown : CodeEntry → Entry
-shown e = record { name = e.row.name.now; id = e.row.id; kind = e.row.kind; place = e.place; default = option_map shown_default e.default }
+shown e = record { name = e.row.name.now; id = e.row.id; kind = e.row.kind; parents = e.parents; default = option_map shown_default e.default }
 
 -- what a reference to an entry shows
 abbrev pub seen : Option (Bor CodeEntry) → Option Entry

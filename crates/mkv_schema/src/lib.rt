@@ -6,7 +6,8 @@
 
 pub mod ids;
 mod kind;
-mod place;
+pub mod laws;
+mod parents;
 mod schema;
 mod table;
 

@@ -8,7 +8,7 @@ ghost use Rattle.mkv_schema.specs.Schema.{table_ids, name_of, kind_of, is_master
 
 use crate::ids::{CHAPTER_DISPLAY, SEGMENT};
 use crate::kind::{ElementKind, Row};
-use crate::place::Place;
+use crate::parents::Parents;
 use crate::table::{DefaultValue, look_up};
 
 /// The row of an ID, which has its marker bit; None where the table doesn't have it.
@@ -41,7 +41,7 @@ pub fn is_level0(id: u32) -> bool
     ensures master { IsTrue result → IsTrue (is_master id) }
     ensures root { IsTrue result → (parent : ℕ) → may_stand id parent ≡ false }
 {
-    look_up(id).is_some_and(|entry| entry.place == Place::Root)
+    look_up(id).is_some_and(|entry| entry.parents == Parents::Root)
 }
 
 /// Whether the table has this ID as a child of Segment (RFC 9559, section 5.1, Segment Element). Void and
@@ -52,7 +52,7 @@ pub fn is_level1(id: u32) -> bool
     ensures master { IsTrue result → IsTrue (is_master id) }
     ensures child { IsTrue result → IsTrue (may_stand id SEGMENT) }
 {
-    look_up(id).is_some_and(|entry| entry.place == Place::ChildOf(SEGMENT))
+    look_up(id).is_some_and(|entry| entry.parents == Parents::ChildOf(SEGMENT))
 }
 
 /// Whether an Element may stand directly under a parent, by their IDs. Level 0 is no parent, and Void and
@@ -63,18 +63,18 @@ pub fn may_stand(id: u32, parent: u32) -> bool
     ensures known { IsTrue result → IsSome (kind_of id) }
     ensures parent { IsTrue result → IsTrue (is_master parent) }
 {
-    look_up(id).is_some_and(|entry| allows(entry.place, id, parent))
+    look_up(id).is_some_and(|entry| allows(entry.parents, id, parent))
 }
 
-/// Whether a place, which is that of an ID, has this parent.
-fn allows(place: Place, id: u32, parent: u32) -> bool
-    ensures { result ≡ allows place id parent }
+/// Whether this parent is one of those of an ID.
+fn allows(parents: Parents, id: u32, parent: u32) -> bool
+    ensures { result ≡ allows parents id parent }
 {
-    match place {
-        Place::Root => false,
-        Place::AnyMaster => is_master(parent),
-        Place::ChildOf(own) => parent == own,
-        Place::ChildOfOrItself(own) => parent == own || parent == id,
+    match parents {
+        Parents::Root => false,
+        Parents::AnyMaster => is_master(parent),
+        Parents::ChildOf(own) => parent == own,
+        Parents::ChildOfOrItself(own) => parent == own || parent == id,
     }
 }
 

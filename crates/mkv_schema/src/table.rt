@@ -7,9 +7,10 @@ use self::DefaultValue::{Number, Text};
 use crate::ids::*;
 use crate::kind::ElementKind::{Ascii, Binary, Float, Int, Master, Uint, Utf8};
 use crate::kind::Row;
-use crate::place::Place::{self, AnyMaster, ChildOf, ChildOfOrItself, Root};
+use crate::parents::Parents::{self, AnyMaster, ChildOf, ChildOfOrItself, Root};
 
-/// The value of an Element that is empty or missing.
+/// The value of an Element that is missing. A number is that of an empty integer too; an empty text has
+/// no octets.
 #[derive(Clone, Copy)]
 pub enum DefaultValue {
     Number(u64),
@@ -20,16 +21,16 @@ pub enum DefaultValue {
 #[derive(Clone, Copy)]
 pub struct Entry {
     pub row: Row,
-    pub place: Place,
+    pub parents: Parents,
     pub default: Option<DefaultValue>,
 }
 
 macro_rules! entry {
-    ($name:expr, $id:expr, $kind:expr, $place:expr) => {
-        Entry { row: Row { id: $id, name: $name, kind: $kind }, place: $place, default: None }
+    ($name:expr, $id:expr, $kind:expr, $parents:expr) => {
+        Entry { row: Row { id: $id, name: $name, kind: $kind }, parents: $parents, default: None }
     };
-    ($name:expr, $id:expr, $kind:expr, $place:expr, $default:expr) => {
-        Entry { row: Row { id: $id, name: $name, kind: $kind }, place: $place, default: Some($default) }
+    ($name:expr, $id:expr, $kind:expr, $parents:expr, $default:expr) => {
+        Entry { row: Row { id: $id, name: $name, kind: $kind }, parents: $parents, default: Some($default) }
     };
 }
 
@@ -71,6 +72,7 @@ static TABLE: [Entry; 107] = [
     entry!("SimpleBlock",          SIMPLE_BLOCK,           Binary, ChildOf(CLUSTER)),
     entry!("BlockGroup",           BLOCK_GROUP,            Master, ChildOf(CLUSTER)),
     entry!("Block",                BLOCK,                  Binary, ChildOf(BLOCK_GROUP)),
+    // a master in RFC 9559; here its octets are kept as they are
     entry!("BlockAdditions",       BLOCK_ADDITIONS,        Binary, ChildOf(BLOCK_GROUP)),
     entry!("BlockDuration",        BLOCK_DURATION,         Uint,   ChildOf(BLOCK_GROUP)),
     entry!("ReferenceBlock",       REFERENCE_BLOCK,        Int,    ChildOf(BLOCK_GROUP)),

@@ -5,6 +5,8 @@
 #[cfg(test)]
 mod files;
 #[cfg(test)]
+mod level_one;
+#[cfg(test)]
 mod refusals;
 #[cfg(test)]
 mod telling;

@@ -5,7 +5,8 @@ use Rattle.matroska_format.specs.Element.{at_level_0, element_in, stated_end}
 use Rattle.matroska_format.specs.Outline.{ebml_mark}
 use Rattle.matroska_format.proofs.ElementLemmas.{element_at-front}
 use Rattle.element_window.proofs.WindowLemmas.{octets_from-held}
-use Rattle.element_reader.proofs.EbmlLemmas.{begins, ebml_inside, IfOk-each, starts_with-front, first_element-begins, first_element-other}
+use Rattle.ebml_format.proofs.NumberLemmas.{IfOk-each}
+use Rattle.element_reader.proofs.EbmlLemmas.{begins, ebml_inside, starts_with-front, first_element-begins, first_element-other}
 use Rattle.element_reader.proofs.ebml.first_element.Goals as goal
 
 -- the file doesn't begin as an EBML header does
@@ -13,7 +14,7 @@ pub returns-then-not-starts_with-clause-ok : goal.returns-then-not-starts_with-c
 returns-then-not-starts_with-clause-ok g c = λ bytes told.
     let total : c.args.total ≡ length bytes = c.requires.whole ∙ sym (g.met.R.Reads.told_size (g.R.Reads.standing c.args.src.now) c.args.file.n bytes told) in
     let len = c.min-len.result in
-    let octets = c.octets_at-octets.ensures ∙ ap (octets_from c.hold.new.self.octets (0 - c.hold.new.self.at)) c.from.ensures ∙ octets_from-held bytes c.hold.new.self 0 len (c.hold.ensures.holds bytes told) c.in_ok-hold.ensures.range in
+    let octets = c.octets_at-octets.ensures ∙ ap (octets_from c.hold.new.self.octets (0 - c.hold.new.self.at)) c.from.ensures ∙ octets_from-held bytes c.hold.new.self 0 len (c.hold.ensures.holds bytes told) c.in_ok-hold.ensures.looks.range in
     let test = c.starts_with.ensures.value ∙ ap (λ (o : List ℕ). starts_with nat_eq o ebml_mark) octets ∙ starts_with-front bytes len (c.min-len.ensures ∙ ap (λ n. min n 12) total) in
     first_element-other bytes c.starts_with.result test c.if-not-starts_with.true
 
@@ -23,7 +24,7 @@ returns-clause-ok g c = λ bytes told.
     let total : c.args.total ≡ length bytes = c.requires.whole ∙ sym (g.met.R.Reads.told_size (g.R.Reads.standing c.args.src.now) c.args.file.n bytes told) in
     let len = c.min-len.result in
     let most : len ≡ min (length bytes) 12 = c.min-len.ensures ∙ ap (λ n. min n 12) total in
-    let octets = c.octets_at-octets.ensures ∙ ap (octets_from c.hold.new.self.octets (0 - c.hold.new.self.at)) c.from.ensures ∙ octets_from-held bytes c.hold.new.self 0 len (c.hold.ensures.holds bytes told) c.in_ok-hold.ensures.range in
+    let octets = c.octets_at-octets.ensures ∙ ap (octets_from c.hold.new.self.octets (0 - c.hold.new.self.at)) c.from.ensures ∙ octets_from-held bytes c.hold.new.self 0 len (c.hold.ensures.holds bytes told) c.in_ok-hold.ensures.looks.range in
     let test = c.starts_with.ensures.value ∙ ap (λ (o : List ℕ). starts_with nat_eq o ebml_mark) octets ∙ starts_with-front bytes len most in
     first_element-begins bytes c.starts_with.result c.read_header.result test c.if-not-starts_with.false
     (c.read_header.ensures.exact
@@ -34,5 +35,5 @@ returns-clause-ok g c = λ bytes told.
 -- it doesn't pass the end of the file
 pub returns-clause-inside : goal.returns-clause-inside
 returns-clause-inside g c =
-    IfOk-each c.read_header.result (λ h. stated_end h ≤ c.args.total)
+    IfOk-each (λ h. stated_end h ≤ c.args.total) c.read_header.result
     (λ h is. ebml_inside c.octets_at-octets.result.now c.args.total h (begins c.octets_at-octets.result.now c.starts_with.result c.starts_with.ensures.value c.if-not-starts_with.false) (sym c.read_header.ensures.exact ∙ is))

@@ -13,7 +13,7 @@ use Rattle.element_reader.proofs.level.collect.Goals as goal
 -- a damage ends the Elements behind the last
 pub returns-in-Err-clause-ok : goal.returns-in-Err-clause-ok
 returns-in-Err-clause-ok g c = λ bytes told.
-    let now = ap (λ s. (g.R.Reads.files s).content c.args.file.n) c.loop-kept.invariant.standing ∙ told in
+    let now = ap (λ s. (g.R.Reads.files s).content c.args.file.n) c.loop-kept.invariant.same.standing ∙ told in
     let total : c.args.total ≡ length bytes = c.requires.whole ∙ sym (g.met.R.Reads.told_size (g.R.Reads.standing c.args.src.now) c.args.file.n bytes told) in
     let step = c.in-Element.is ∙ ap (Element c.in-Element.header) c.in-Err.is in
     let steps = rw step at (c.in_ok-next_of_segment.ensures.ok bytes now) in
@@ -29,34 +29,34 @@ returns-in-Err-clause-whole g c =
     let step = c.in-Element.is ∙ ap (Element c.in-Element.header) c.in-Err.is in
     let none = none_where c.in_ok-damage-in-Element.field-0 c.in_default.not-Some in
     let kept = ap (λ (k : Collected). k.others.items) c.ended-in-Err.ensures.kept in
-    let more = IsInFile-more c.args.total c.segment_bound-bound.result c.loop-kept.kept.others.items c.in-Element.header c.loop-kept.invariant.within c.loop-kept.invariant.whole (rw step at c.in_ok-next_of_segment.ensures.whole) in
+    let more = IsInFile-more c.args.total c.segment_bound-bound.result c.loop-kept.kept.others.items c.in-Element.header c.loop-kept.invariant.within c.loop-kept.invariant.whole (rw step at c.in_ok-next_of_segment.ensures.step.whole) in
     subst (λ (l : List Header). All (IsInFile c.args.total) l) (sym (kept ∙ c.in_ok-damage-in-Element.ensures.others none)) more
 
 -- an Element is kept, and the next stands behind it
 pub loop-kept-preserved : goal.loop-kept-preserved
 loop-kept-preserved g c =
     let step = c.in-Element.is ∙ ap (Element c.in-Element.header) c.in-Ok.is in
-    let further = rw step at c.in_ok-next_of_segment.ensures.place in
+    let further = rw step at c.in_ok-next_of_segment.ensures.step.further in
     let none = none_where c.in_ok-damage-in-Element.field-0 c.in_default.not-Some in
     let on : c.loop-kept.at ≤ c.in-Ok.behind = omega (arith, further) in
     record {
       begin = omega (arith, on, c.loop-kept.invariant.begin);
-      whole = subst (λ (l : List Header). All (IsInFile c.args.total) l) (sym (c.in_ok-damage-in-Element.ensures.others none)) (IsInFile-more c.args.total c.segment_bound-bound.result c.loop-kept.kept.others.items c.in-Element.header c.loop-kept.invariant.within c.loop-kept.invariant.whole (rw step at c.in_ok-next_of_segment.ensures.whole));
+      whole = subst (λ (l : List Header). All (IsInFile c.args.total) l) (sym (c.in_ok-damage-in-Element.ensures.others none)) (IsInFile-more c.args.total c.segment_bound-bound.result c.loop-kept.kept.others.items c.in-Element.header c.loop-kept.invariant.within c.loop-kept.invariant.whole (rw step at c.in_ok-next_of_segment.ensures.step.whole));
       place = omega (arith, further);
       within = c.loop-kept.invariant.within;
-      standing = search rules;
+      same = search rules;
       faults = search rules;
       holds = search rules;
       way = λ bytes told.
-          let now = ap (λ s. (g.R.Reads.files s).content c.args.file.n) c.loop-kept.invariant.standing ∙ told in
+          let now = ap (λ s. (g.R.Reads.files s).content c.args.file.n) c.loop-kept.invariant.same.standing ∙ told in
           let steps = rw step at (c.in_ok-next_of_segment.ensures.ok bytes now) in
           IsOnWay-more c.args.held _ _ (level_1 bytes c.args.segment.now.size c.in-Ok.behind c.segment_bound-bound.result) c.loop-kept.kept c.add.new.self c.in-Element.header c.in_ok-damage-in-Element.field-0
           (c.loop-kept.invariant.way bytes told) steps
           (c.in_ok-damage-in-Element.ensures.refusal c.args.held) none (c.in_ok-damage-in-Element.ensures.kept none c.args.held);
       moves = λ before.
           let P = λ (n : ℕ). HasNotPassed c.loop-kept.window c.loop-kept.at n → MovesTo n c.in-Ok.behind c.loop-kept.window c.next_of_segment.new.window (g.R.Reads.octets_read c.loop-kept.src) (g.R.Reads.octets_read c.next_of_segment.new.src) in
-          let size = ap (λ s. (g.R.Reads.files s).size c.args.file.n) c.loop-kept.invariant.standing ∙ sym c.requires.whole in
-          let moved = rw step at c.in_ok-next_of_segment.ensures.moves in
+          let size = ap (λ s. (g.R.Reads.files s).size c.args.file.n) c.loop-kept.invariant.same.standing ∙ sym c.requires.whole in
+          let moved = rw step at c.in_ok-next_of_segment.ensures.goes in
           let next = subst P size moved in
           let first = c.loop-kept.invariant.moves before in
           record {

@@ -1,5 +1,6 @@
 use Rattle.std.proofs.Common.{◌≡◌, ◌-◌, ◌≤◌}
 use Rattle.std.specs.List.{All}
+use Rattle.mkv_io.specs.Sources.{OnlyReads}
 use Rattle.mkv_io.specs.Told.{Told}
 use Rattle.matroska_format.specs.Elements.{level_1}
 use Rattle.matroska_format.specs.Outline.{segment_run}
@@ -14,7 +15,7 @@ invariant-loop-kept g l = record {
   place : l.at ≤ l.bound;
   within : l.bound ≤ l.total;
   whole : All (IsInFile l.total) l.kept.others.items;
-  standing : g.R.Reads.standing l.src ≡ g.R.Reads.standing l.initial.src;
+  same : OnlyReads g.R.Reads l.initial.src l.src;
   faults : g.R.Reads.reading_faults l.src ≡ g.R.Reads.reading_faults l.initial.src;
   holds : Told ((g.R.Reads.files (g.R.Reads.standing l.initial.src)).content l.file.n) (λ bytes. Holds bytes l.window);
   way : Told ((g.R.Reads.files (g.R.Reads.standing l.initial.src)).content l.file.n) (λ bytes. IsOnWay l.fn.held (segment_run bytes l.fn.segment) (level_1 bytes l.fn.segment.size l.at l.bound) l.kept);

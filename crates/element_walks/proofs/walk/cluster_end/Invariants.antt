@@ -1,4 +1,5 @@
 use Rattle.std.proofs.Common.{◌≡◌, ◌-◌, ◌≤◌}
+use Rattle.mkv_io.specs.Sources.{OnlyReads}
 use Rattle.mkv_io.specs.Told.{Told}
 use Rattle.element_window.specs.Window.{Holds, HasNotPassed, MovesTo}
 use Rattle.element_walks.specs.Walk.{cluster_end}
@@ -8,7 +9,7 @@ abbrev pub invariant-loop-at : goal.invariant-loop-at
 invariant-loop-at g l = record {
   begin : l.fn.from ≤ l.at;
   place : l.at ≤ l.end;
-  standing : g.R.Reads.standing l.src ≡ g.R.Reads.standing l.initial.src;
+  same : OnlyReads g.R.Reads l.initial.src l.src;
   faults : g.R.Reads.reading_faults l.src ≡ g.R.Reads.reading_faults l.initial.src;
   holds : Told ((g.R.Reads.files (g.R.Reads.standing l.initial.src)).content l.file.n) (λ bytes. Holds bytes (g.W.Lookahead.ahead l.window));
   rest : Told ((g.R.Reads.files (g.R.Reads.standing l.initial.src)).content l.file.n) (λ bytes. cluster_end bytes l.fn.from l.end ≡ cluster_end bytes l.at l.end);

@@ -1,4 +1,4 @@
-use Rattle.std.proofs.Common.{eq-eqb, ◌≡◌, ◌+◌, ◌==◌, true, false, Some, not, append-nil, sym, ◌∙◌, ap, arith}
+use Rattle.std.proofs.Common.{eq-eqb, ◌≡◌, ◌+◌, ◌==◌, true, false, Some, not, append-nil, refl, sym, ◌∙◌, ap, arith}
 use Rattle.std.proofs.lemmas.Bool.Decides.{nat_tests}
 use Rattle.mkv_schema.specs.declared.ids.TheConstants.{CLUSTER}
 use Rattle.element_reader.proofs.CollectedLemmas.{Keeps-more, option_or-none, option_or-first, option_or-later}
@@ -12,6 +12,7 @@ returns-in_ok-push-clause-kept c = λ _ held list keeps.
     Keeps-more held list c.args.self.now _ h keeps
     (rw other c.in_ok-push.ensures.items)
     (rw other (option_or-none c.args.self.now.cluster))
+    refl
     (ap (λ n. c.args.self.now.held + n) c.described_octets.ensures)
 
 -- the first Cluster
@@ -22,6 +23,7 @@ returns-then-is_none-clause-kept c = λ _ held list keeps.
     Keeps-more held list c.args.self.now _ h keeps
     (rw cluster (sym (append-nil c.args.self.now.others.items)))
     (rw cluster (option_or-later c.args.self.now.cluster (Some h) (c.is_none.ensures ∙ ap not c.if-is_none.true)))
+    refl
     (ap (λ n. c.args.self.now.held + n) c.described_octets.ensures)
 
 -- another Cluster
@@ -32,4 +34,5 @@ returns-else-is_none-clause-kept c = λ _ held list keeps.
     Keeps-more held list c.args.self.now _ h keeps
     (rw cluster (sym (append-nil c.args.self.now.others.items)))
     (rw cluster (option_or-first c.args.self.now.cluster (Some h) (c.is_none.ensures ∙ ap not c.if-is_none.false)))
+    refl
     (ap (λ n. c.args.self.now.held + n) c.described_octets.ensures)

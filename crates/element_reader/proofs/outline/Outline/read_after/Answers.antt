@@ -16,7 +16,7 @@ pub returns-in_err-segment-clause-exact : goal.returns-in_err-segment-clause-exa
 returns-in_err-segment-clause-exact g c = λ bytes told.
     let p = err_from_is_err_and c.from_residual-in_err-segment.result c.from_residual-in_err-segment.ensures.1 in
     let ebml = sym (c.in_ok-ebml_header.ensures.ok bytes told) ∙ c.in_ok-ebml.was in
-    let now = ap (λ s. (g.R.Reads.files s).content c.args.file.n) c.ebml_header.ensures.standing ∙ told in
+    let now = ap (λ s. (g.R.Reads.files s).content c.args.file.n) c.ebml_header.ensures.same.standing ∙ told in
     let from = ap (λ n. segment_from bytes (c.in_ok-ebml.ebml.body + n)) (sym c.known.ensures) in
     rw (p.1, p.2) (outline_in-segment c.args.held bytes c.in_ok-ebml.ebml c.in_err-segment.field-0.0 ebml (from ∙ sym (c.in_ok-find_segment.ensures.ok bytes now) ∙ c.in_err-segment.was))
 
@@ -25,8 +25,8 @@ pub returns-in_err-level-clause-exact : goal.returns-in_err-level-clause-exact
 returns-in_err-level-clause-exact g c = λ bytes told.
     let p = err_from_is_err_and c.from_residual-in_err-level.result c.from_residual-in_err-level.ensures.1 in
     let ebml = sym (c.in_ok-ebml_header.ensures.ok bytes told) ∙ c.in_ok-ebml.was in
-    let now = ap (λ s. (g.R.Reads.files s).content c.args.file.n) c.ebml_header.ensures.standing ∙ told in
-    let later = ap (λ s. (g.R.Reads.files s).content c.args.file.n) c.find_segment.ensures.standing ∙ now in
+    let now = ap (λ s. (g.R.Reads.files s).content c.args.file.n) c.ebml_header.ensures.same.standing ∙ told in
+    let later = ap (λ s. (g.R.Reads.files s).content c.args.file.n) c.find_segment.ensures.same.standing ∙ now in
     let from = ap (λ n. segment_from bytes (c.in_ok-ebml.ebml.body + n)) (sym c.known.ensures) in
     let segment = from ∙ sym (c.in_ok-find_segment.ensures.ok bytes now) ∙ c.in_ok-segment.was in
     let limit = rw c.in_err-level.was at (c.in_ok-collect.ensures.ok bytes later) in
@@ -36,8 +36,8 @@ returns-in_err-level-clause-exact g c = λ bytes told.
 pub returns-clause-exact : goal.returns-clause-exact
 returns-clause-exact g c = λ bytes told.
     let ebml = sym (c.in_ok-ebml_header.ensures.ok bytes told) ∙ c.in_ok-ebml.was in
-    let now = ap (λ s. (g.R.Reads.files s).content c.args.file.n) c.ebml_header.ensures.standing ∙ told in
-    let later = ap (λ s. (g.R.Reads.files s).content c.args.file.n) c.find_segment.ensures.standing ∙ now in
+    let now = ap (λ s. (g.R.Reads.files s).content c.args.file.n) c.ebml_header.ensures.same.standing ∙ told in
+    let later = ap (λ s. (g.R.Reads.files s).content c.args.file.n) c.find_segment.ensures.same.standing ∙ now in
     let from = ap (λ n. segment_from bytes (c.in_ok-ebml.ebml.body + n)) (sym c.known.ensures) in
     let segment = from ∙ sym (c.in_ok-find_segment.ensures.ok bytes now) ∙ c.in_ok-segment.was in
     let level = rw c.in_ok-level.was at (c.in_ok-collect.ensures.ok bytes later) in

@@ -2,8 +2,8 @@
 use Rattle.std.specs.Prelude.{◌≡◌, ⊤, Bool, true, false, Result, Ok, Err}
 use Rattle.mkv_values.specs.declared.damage.Damage.{Damage}
 use Rattle.matroska_format.specs.declared.element.Header.{Header}
-use Rattle.element_window.specs.declared.head_end.HeadEnd.{HeadEnd}
-use Rattle.element_window.specs.declared.head_end.HeadEnd.TheVariants as head_end
+use Rattle.element_reader.specs.declared.head_end.HeadEnd.{HeadEnd}
+use Rattle.element_reader.specs.declared.head_end.HeadEnd.TheVariants as head_end
 
 -- the Element that stands there, or what is wrong, where the answer is one of these
 abbrev pub IsHead : Result Header Damage → Result Header HeadEnd → Type 0

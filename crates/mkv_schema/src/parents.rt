@@ -2,7 +2,7 @@
 
 /// The parents of an Element.
 #[derive(Clone, Copy, Debug, PartialEq, Eq)]
-pub enum Place {
+pub enum Parents {
     /// None: the Element stands at level 0.
     Root,
     /// Each master of the table, as a Global Element has it.

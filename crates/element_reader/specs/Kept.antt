@@ -1,0 +1,12 @@
+-- What is known of a file that is read holds on while the file is the same.
+use Rattle.std.specs.Prelude.{◌≡◌, true, ℕ}
+use Rattle.mkv_io.specs.LiveFiles.{LiveFiles, IsSameFile}
+use Rattle.matroska_format.specs.declared.element.Header.{Header}
+use Rattle.element_reader.specs.Collected.{IsInFile}
+use Rattle.element_reader.specs.LevelOne.{Listing, CanRead}
+
+-- A place among the Elements of level 1 can be read on, and what an outline kept stands in the file.
+pub record ReadingsStay : Type 0 where
+  pub place : (old new : LiveFiles) (p : Listing) → IsSameFile old new p.file.n → CanRead old p → CanRead new p
+  pub element : (old new : LiveFiles) (file : ℕ) (h : Header) → IsSameFile old new file → old.live file ≡ true
+      → IsInFile (old.size file) h → IsInFile (new.size file) h

@@ -1,0 +1,13 @@
+-- What was read through a window and past it.
+use Rattle.std.specs.Prelude.{ℕ, ◌+◌, Result, Ok, Err}
+use Rattle.mkv_values.specs.declared.outside.FileId.{FileId}
+use Rattle.mkv_io.specs.Sources.{file_size}
+use Rattle.mkv_io.specs.declared.reads.Reads.{Ghosts}
+use Rattle.element_window.specs.Window.{ReadAhead, HasNotPassed, MovesTo, Spends}
+
+-- A window that had not passed a place has gone on, and that pays for what was read but so many octets.
+abbrev pub GoesBesides : {S T E : Type 0} → Ghosts S → FileId → ℕ → ℕ → (T → ℕ) → ReadAhead → ReadAhead → S → S → Result T E → Type 0
+GoesBesides g file besides at to old new before now (Ok x) =
+    HasNotPassed old at (file_size g before file) → MovesTo (file_size g before file) (to x) old new (g.octets_read before + besides) (g.octets_read now)
+GoesBesides g file besides at to old new before now (Err _) =
+    HasNotPassed old at (file_size g before file) → Spends (file_size g before file) old (g.octets_read before + besides) (g.octets_read now)
