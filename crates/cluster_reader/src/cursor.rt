@@ -8,7 +8,7 @@ ghost use Rattle.meta_format.specs.Info.{file_scale};
 ghost use Rattle.block_format.specs.Elements.{with_limits};
 ghost use Rattle.block_format.specs.Events.{events_of};
 ghost use Rattle.block_format.specs.File.{file_events};
-ghost use Rattle.cluster_reader.specs.Reading.{Begins, Counts, Gives, GoesOn, CanRead, IsSameSegment, Pays, left_of, paid};
+ghost use Rattle.cluster_reader.specs.Reading.{Begins, Counts, Gives, CanRead, Moves, Spends, left_of};
 
 use crate::next_step::next_step;
 use crate::place::Place;
@@ -94,16 +94,13 @@ impl Cursor {
         ensures counts { Counts self.old self.new result }
 
         // It goes on in the same file, and stays ready for the next call.
-        ensures on { IfOk result (λ step. GoesOn step self.old.place.at self.new.place.at) }
-        ensures inside { self.new.place.at ≤ self.new.place.end }
-        ensures same { IsSameSegment self.old self.new }
+        ensures moves { Moves self.old self.new result }
         ensures stands { CanRead (live_files R.Reads src.new) self.new }
         ensures standing { R.standing src.new ≡ R.standing src.old }
         ensures cause { HasCause is_read_fault (R.reading_faults src.old) (R.reading_faults src.new) result }
 
         // What is read adds up to at most four octets for each of the file.
-        ensures pays { Pays (file_size R.Reads src.old self.old.file) self.old self.new (R.octets_read src.old) (R.octets_read src.new) result }
-        ensures most { paid (file_size R.Reads src.old self.old.file) self.new ≤ 4 * file_size R.Reads src.old self.old.file }
+        ensures spends { Spends (file_size R.Reads src.old self.old.file) self.old self.new (R.octets_read src.old) (R.octets_read src.new) result }
     {
         let step = next_step(&mut self.walk, src)?;
         match step {
