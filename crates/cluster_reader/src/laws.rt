@@ -1,0 +1,12 @@
+//! What holds of every reading of a file.
+ghost use Rattle.cluster_reader.specs.Laws.{CanReadOn, LeavesNothingBehind};
+
+/// At the end of what is read no block and no damage is left.
+pub fn nothing_is_left_at_the_end()
+    ensures { LeavesNothingBehind }
+{}
+
+/// A cursor may be advanced among other files too, where its own is the same.
+pub fn reading_goes_on()
+    ensures { CanReadOn }
+{}
