@@ -1,5 +1,5 @@
 -- A reading among the files, and at the end.
-use Rattle.std.proofs.Common.{◌≡◌, ◌≤◌, ℕ, List, [], Option, sym, ◌∙◌, ap, subst}
+use Rattle.std.proofs.Common.{◌≡◌, ◌≤◌, ℕ, List, [], Option, sym, ◌∙◌, subst}
 use Rattle.mkv_io.specs.LiveFiles.{LiveFiles, IsSameFile}
 use Rattle.mkv_io.specs.Told.{Told}
 use Rattle.element_window.specs.Window.{Holds, HasNotPassed}

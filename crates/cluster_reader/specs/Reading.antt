@@ -1,5 +1,5 @@
 -- A file's blocks as they are read, one after the other.
-use Rattle.std.specs.Prelude.{◌≡◌, ◌<◌, ◌≤◌, ◌⊎◌, ℕ, ◌+◌, ◌*◌, true, false, Bool, List, [], ◌∷◌, length, None, Result, Ok, Err, IfOk}
+use Rattle.std.specs.Prelude.{◌≡◌, ◌<◌, ◌≤◌, ◌⊎◌, ⊤, ℕ, ◌+◌, ◌*◌, true, false, Bool, List, [], ◌∷◌, length, None, Result, Ok, Err, IfOk}
 use Rattle.mkv_values.specs.declared.outside.FileId.{FileId}
 use Rattle.mkv_values.specs.declared.outside.ReadEnd.{ReadEnd}
 use Rattle.mkv_values.specs.declared.damage.Damage.{Damage}
@@ -11,6 +11,7 @@ use Rattle.element_window.specs.Window.{ReadAhead, Holds, HasNotPassed, cost_of,
 use Rattle.block_format.specs.Elements.{with_limits}
 use Rattle.block_format.specs.Events.{Event, block, damaged, stopped}
 use Rattle.block_records.specs.Buffered.{Buffered, block_of}
+use Rattle.block_records.specs.Lendable.{IsLendable, LendsNothing}
 use Rattle.cluster_reader.specs.Left.{left}
 use Rattle.cluster_reader.specs.Places.{first_place}
 use Rattle.cluster_reader.specs.declared.place.Place.{Place}
@@ -67,6 +68,12 @@ Notes old new (Ok (Damaged d)) = new.stopped ≡ true → IsAtEnd new.place
 Notes old new (Ok End) = new.stopped ≡ old.stopped
 Notes old new (Err end) = new.stopped ≡ old.stopped
 
+-- A block that is given can be written.
+abbrev pub LendsFor : Step → Buffered → Type 0
+LendsFor Block b = IsLendable b
+LendsFor (Damaged d) b = ⊤
+LendsFor End b = ⊤
+
 -- how many blocks an answer gives
 abbrev pub blocks_given : Result Step ReadEnd → ℕ
 blocks_given (Ok Block) = 1
@@ -95,11 +102,12 @@ pub record IsSameSegment (old new : Reading) : Type 0 where
   pub scale : new.scale ≡ old.scale
   pub end : new.place.end ≡ old.place.end
 
--- A call goes on in the same Segment, and not past its end.
+-- A call goes on in the same Segment, and not past its end. The block that it gives can be written.
 pub record Moves (old new : Reading) (result : Result Step ReadEnd) : Type 0 where
   pub same : IsSameSegment old new
   pub on : IfOk result (λ step. GoesOn step old.place.at new.place.at)
   pub inside : new.place.at ≤ new.place.end
+  pub lends : IfOk result (λ step. LendsFor step new.block)
 
 -- What is held has been read as far as one read goes: nothing, or up to the file's end, or 65,536 octets.
 abbrev pub IsFull : ℕ → ReadAhead → Type 0
@@ -113,12 +121,13 @@ pub record CanRead (files : LiveFiles) (c : Reading) : Type 0 where
   pub before : HasNotPassed c.ahead c.place.at (files.size c.file.n)
   pub full : IsFull (files.size c.file.n) c.ahead
 
--- Nothing was given yet, and nothing is held.
+-- Nothing was given yet, nothing is held, and nothing is lent.
 pub record Begins (opened : FileId) (tick : ℕ) (segment : Header) (total : ℕ) (c : Reading) : Type 0 where
   pub file : c.file ≡ opened
   pub scale : c.scale ≡ tick
   pub place : c.place ≡ first_place segment total
   pub ahead : c.ahead ≡ record { at = 0; octets = [] }
+  pub block : LendsNothing c.block
   pub blocks : c.blocks ≡ 0
   pub damages : c.damages ≡ 0
   pub stopped : c.stopped ≡ false

@@ -1,10 +1,14 @@
 //! The cursor.
 
-ghost use Rattle.std.specs.Prelude.{◌≡◌, ◌*◌, ◌≤◌, true, ℕ, List, length, sum, IfOk};
+ghost use Rattle.std.specs.Prelude.{◌≡◌, ◌≤◌, ◌⊎◌, true, ℕ, List, [], length, sum, IfOk};
 ghost use Rattle.mkv_io.specs.Faults.{HasCause, is_read_fault};
 ghost use Rattle.mkv_io.specs.LiveFiles.{LiveFiles};
 ghost use Rattle.mkv_io.specs.Sources.{IfTold, file_size, live_files};
 ghost use Rattle.meta_format.specs.Info.{file_scale};
+ghost use Rattle.std.specs.List.{All};
+ghost use Rattle.lacing.specs.Writing.{FitsKind};
+ghost use Rattle.block_records.specs.Lendable.{HasSmallTimes};
+ghost use Rattle.block_records.specs.Time.{IsSmallTime};
 ghost use Rattle.block_format.specs.Elements.{with_limits};
 ghost use Rattle.block_format.specs.Events.{events_of};
 ghost use Rattle.block_format.specs.File.{file_events};
@@ -113,7 +117,8 @@ impl Cursor {
 
     /// What the block says of itself.
     pub fn head(&self) -> &BlockHead
-        ensures { result.now ≡ self.now.block.head }
+        ensures exact { result.now ≡ self.now.block.head }
+        ensures small { HasSmallTimes result.now }
     {
         self.walk.block.head()
     }
@@ -127,11 +132,12 @@ impl Cursor {
         self.walk.block.body()
     }
 
-    /// How many octets each frame has.
+    /// How many octets each frame has: none where no block is lent.
     pub fn sizes(&self) -> &[u32]
         ensures exact { result.now ≡ self.now.block.sizes }
         ensures sum { sum result.now ≡ length self.now.block.body }
         ensures most { length result.now ≤ 256 }
+        ensures fits { (result.now ≡ []) ⊎ FitsKind self.now.block.head.lace result.now }
     {
         self.walk.block.sizes()
     }
@@ -147,6 +153,7 @@ impl Cursor {
     /// The times of the blocks that it refers to less its own, in nanoseconds.
     pub fn refs(&self) -> &[i64]
         ensures exact { result.now ≡ self.now.block.references }
+        ensures small { All IsSmallTime result.now }
         ensures most { length result.now ≤ 64 }
     {
         self.walk.block.references()
