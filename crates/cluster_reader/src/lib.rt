@@ -20,5 +20,5 @@ mod walk;
 pub use block_records::{BlockHead, Lace};
 pub use cursor::Cursor;
 pub use damages::Damages;
-pub use laws::{nothing_is_left_at_the_end, reading_goes_on};
+pub use laws::{damages_are_told_in_turn, nothing_is_left_at_the_end, reading_goes_on};
 pub use step::Step;
