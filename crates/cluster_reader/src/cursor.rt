@@ -4,14 +4,12 @@ ghost use Rattle.std.specs.Prelude.{◌≡◌, ◌≤◌, ◌⊎◌, true, ℕ, 
 ghost use Rattle.mkv_io.specs.Faults.{HasCause, is_read_fault};
 ghost use Rattle.mkv_io.specs.LiveFiles.{LiveFiles};
 ghost use Rattle.mkv_io.specs.Sources.{IfTold, file_size, live_files};
-ghost use Rattle.meta_format.specs.Info.{file_scale};
 ghost use Rattle.std.specs.List.{All};
 ghost use Rattle.lacing.specs.Writing.{FitsKind};
 ghost use Rattle.block_records.specs.Lendable.{HasSmallTimes};
 ghost use Rattle.block_records.specs.Time.{IsSmallTime};
 ghost use Rattle.block_format.specs.Elements.{with_limits};
 ghost use Rattle.block_format.specs.Events.{events_of};
-ghost use Rattle.block_format.specs.File.{file_events};
 ghost use Rattle.cluster_reader.specs.Reading.{Begins, Counts, Gives, CanRead, Moves, Spends, left_of};
 
 use crate::next_step::next_step;
@@ -19,7 +17,7 @@ use crate::place::Place;
 use crate::step::Step;
 use crate::walk::Walk;
 use block_records::{BlockBuffer, BlockHead, MOST_OF_BLOCK};
-use element_reader::Outline;
+use element_walks::HasSegment;
 use element_window::Window;
 use mkv_io::Reads;
 use mkv_values::{FileId, ReadEnd};
@@ -57,23 +55,20 @@ impl Model for Cursor {
 
 impl Cursor {
     /// The blocks of a file whose outline this is, and whose TimestampScale is so many nanoseconds a tick.
-    pub fn start(
+    pub fn start<O: HasSegment>(
         alloc: Global,
-        outline: &Outline,
+        outline: &O,
         file: FileId,
         scale: u64,
     ) -> Result<Cursor, AllocError>
         requires { 1 ≤ scale }
-        ensures begins { IfOk result (Begins file scale outline.now.segment outline.now.total) }
-        ensures left { (bytes : List ℕ) → outline.now.total ≡ length bytes
-            → IfOk result (λ c. left_of bytes c ≡ events_of (with_limits scale) bytes outline.now.segment) }
-
-        // Where the scale is the file's, these are the file's blocks and damages.
-        ensures file { (bytes : List ℕ) → outline.now.total ≡ length bytes → scale ≡ file_scale bytes outline.now.segment
-            → IfOk result (λ c. left_of bytes c ≡ file_events true bytes outline.now.segment) }
+        ensures begins { IfOk result (Begins file scale (O.segment outline.now) (O.total outline.now)) }
+        ensures left { (bytes : List ℕ) → O.total outline.now ≡ length bytes
+            → IfOk result (λ c. left_of bytes c ≡ events_of (with_limits scale) bytes (O.segment outline.now)) }
 
         // It may be advanced in a live file of that length.
-        ensures stands { (files : LiveFiles) → files.live file.n ≡ true → files.size file.n ≡ outline.now.total → IfOk result (CanRead files) }
+        ensures stands { (files : LiveFiles) → files.live file.n ≡ true → files.size file.n ≡ O.total outline.now
+            → IfOk result (CanRead files) }
     {
         let walk = Walk {
             window: Window::new(alloc)?,
