@@ -2,4 +2,3 @@ pub mod Block
 pub mod Content
 pub mod Elements
 pub mod Events
-pub mod File

@@ -1,7 +1,7 @@
 -- A block as its buffer has it.
 use Rattle.std.proofs.Common.{◌≡◌, ℕ, ◌+◌, ◌-◌, ◌≤◌, nat_lt, Bool, false, ℤ, List, length, take, drop, Option, Some, None, Result, Ok, Err, sym, ◌∙◌, ap, ap₂, subst, arith}
 use Rattle.std.proofs.lemmas.Bool.Decides.{nat_tests}
-use Rattle.std.proofs.lemmas.List.{drop-drop, drop-take, take-take}
+use Rattle.std.proofs.lemmas.List.{drop-drop, drop-take}
 use Rattle.mkv_schema.specs.declared.ids.TheConstants.{BLOCK}
 use Rattle.mkv_values.specs.declared.damage.Damage.{Damage}
 use Rattle.mkv_values.specs.declared.damage.Kind.{Kind}
@@ -79,21 +79,14 @@ block_group-spelled scale timestamp bytes octets h block found few is some body 
 -- ---- the octets of the frames
 
 -- frames that begin behind a block's header and end with its body
-pub frames-place : (octets : List ℕ) (len base start end : ℕ) → base + start ≤ end → end ≤ len → take (end - (base + start)) (drop (base + start) octets) ≡ drop start (take (end - base) (drop base (take len octets)))
-frames-place octets len base start end order within =
+pub frames-place : (octets : List ℕ) (base start end : ℕ) → base + start ≤ end → take (end - (base + start)) (drop (base + start) octets) ≡ drop start (take (end - base) (drop base octets))
+frames-place octets base start end order =
     let split : base + (end - base) ≡ end = omega arith in
     let rest : base + start + (end - (base + start)) ≡ end = omega arith in
     sym (drop-take (base + start) (end - (base + start)) octets)
     ∙ ap (λ n. drop (base + start) (take n octets)) rest
-    ∙ ap (drop (base + start)) (sym (take-take end len octets within))
-    ∙ sym (drop-drop start base (take end (take len octets)))
-    ∙ ap (drop start) (ap (λ n. drop base (take n (take len octets))) (sym split) ∙ drop-take base (end - base) (take len octets))
-
--- the same of a SimpleBlock, which is all of the octets
-pub frames-behind : (octets : List ℕ) (len start : ℕ) → start ≤ len → take (len - start) (drop start octets) ≡ drop start (take len octets)
-frames-behind octets len start order =
-    let split : start + (len - start) ≡ len = omega arith in
-    sym (drop-take start (len - start) octets) ∙ ap (λ n. drop start (take n octets)) split
+    ∙ sym (drop-drop start base (take end octets))
+    ∙ ap (drop start) (ap (λ n. drop base (take n octets)) (sym split) ∙ drop-take base (end - base) octets)
 
 -- equal parts make one block
 pub same-block : (head : BlockHead) (sizes body octets : List ℕ) (references refs : List ℤ) (kept keeps : List ℕ) → body ≡ octets → references ≡ refs → kept ≡ keeps → ◌≡◌ {A = Result Block Damage} (Ok (block_with head (frames_cut sizes body) references kept)) (Ok (block_with head (frames_cut sizes octets) refs keeps))

@@ -121,15 +121,15 @@ Spells-err o h kind rest wrong found lace behind is =
     ∙ ap (content_with o) (sym (ap (λ (l : Lace). frames_in l rest) lace ∙ ap (frames_in (lace_of h.flags)) behind) ∙ is)
 
 -- the frames behind a header begin behind both
-AreFrames-behind : (o sizes : List ℕ) (n start : ℕ) → n ≤ length o → AreFrames (drop n o) sizes start → AreFrames o sizes (n + start)
-AreFrames-behind o sizes n start within frames =
+AreFrames-behind : (kind : Lace) (o sizes : List ℕ) (n start : ℕ) → n ≤ length o → AreFrames kind (drop n o) sizes start → AreFrames kind o sizes (n + start)
+AreFrames-behind kind o sizes n start within frames =
     let rest = length-drop n o in
     let inside = frames.inside in
     let whole = frames.whole in
-    record { inside = omega arith; whole = omega arith; most = frames.most }
+    record { inside = omega arith; whole = omega arith; some = frames.some; most = frames.most; fits = frames.fits }
 
 -- a header and its frames are a block
-pub Spells-ok : (o sizes : List ℕ) (h : BlockHeader) (kind : Lace) (rest : List ℕ) (start : ℕ) (z : ℤ) → Some h ≡ header_in o → kind ≡ lace_of h.flags → rest ≡ drop h.len o → z ≡ h.relative → Cuts rest sizes (frames_in kind rest) (Ok start) → Spells o sizes (Ok (record { track = h.track; relative = z; flags = h.flags; start = h.len + start }))
+pub Spells-ok : (o sizes : List ℕ) (h : BlockHeader) (kind : Lace) (rest : List ℕ) (start : ℕ) (z : ℤ) → Some h ≡ header_in o → kind ≡ lace_of h.flags → rest ≡ drop h.len o → z ≡ h.relative → Cuts kind rest sizes (frames_in kind rest) (Ok start) → Spells o sizes (Ok (record { track = h.track; relative = z; flags = h.flags; start = h.len + start }))
 Spells-ok o sizes h kind rest start z found lace behind relative cuts =
     let has = HasHeader-from o h found in
     let all : frames_in (lace_of h.flags) (drop h.len o) ≡ Ok (frames_cut sizes (drop (h.len + start) o)) =
@@ -139,5 +139,5 @@ Spells-ok o sizes h kind rest start z found lace behind relative cuts =
       content_in-frames o h has ∙ ap (content_with o) all
           ∙ ap (λ (x : BlockHeader). Ok (record { track = x.track; relative = x.relative; flags = x.flags; frames = frames_cut sizes (drop (h.len + start) o) })) has.is
           ∙ ap (λ (x : ℤ). Ok (record { track = h.track; relative = x; flags = h.flags; frames = frames_cut sizes (drop (h.len + start) o) })) (sym relative),
-      AreFrames-behind o sizes h.len start has.inside (subst (λ (l : List ℕ). AreFrames l sizes start) behind cuts.1),
+      AreFrames-behind (lace_of h.flags) o sizes h.len start has.inside (subst (λ (l : Lace). AreFrames l (drop h.len o) sizes start) lace (subst (λ (l : List ℕ). AreFrames kind l sizes start) behind cuts.1)),
     )

@@ -1,6 +1,7 @@
 pub mod BufferLemmas
 pub mod ContentLemmas
 pub mod GroupLemmas
+pub mod LendableLemmas
 pub mod MadeLemmas
 pub mod RunLemmas
 pub mod TimeLemmas

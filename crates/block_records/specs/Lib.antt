@@ -1,5 +1,6 @@
 pub mod Buffered
 pub mod Group
+pub mod Lendable
 pub mod Made
 pub mod Spelled
 pub mod Time

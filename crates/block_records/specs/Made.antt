@@ -1,8 +1,9 @@
 -- What is made of what was read.
-use Rattle.std.specs.Prelude.{◌≡◌, ℕ, ◌*◌, ℤ, pos, Bool, false, ◌||◌, List, map, Option, Result, Ok, Err}
+use Rattle.std.specs.Prelude.{◌≡◌, ℕ, ◌*◌, ℤ, pos, Bool, false, ◌||◌, List, length, map, ◌≤◌, Option, Result, Ok, Err}
 use Rattle.std.specs.List.{list_any}
 use Rattle.std.specs.Option.{option_map, option_map_or}
 use Rattle.mkv_values.specs.declared.damage.Damage.{Damage}
+use Rattle.block_format.specs.declared.limits.TheConstants.{MOST_REFERENCES}
 use Rattle.block_format.specs.Block.{Block, nanoseconds, is_too_large}
 use Rattle.block_records.specs.declared.gathered.Gathered.{Gathered}
 use Rattle.block_records.specs.declared.block.Times.{Times}
@@ -44,3 +45,4 @@ pub record HasTimes (scale : ℕ) (ticks : ℤ) (old now : Gathered) (t : Times)
   pub time : t.time ≡ nanoseconds scale ticks
   pub duration : t.duration ≡ option_map (λ (n : ℕ). n * scale) old.duration
   pub references : now.references.items ≡ map (nanoseconds scale) old.references.items
+  pub few : length now.references.items ≤ MOST_REFERENCES

@@ -1,7 +1,9 @@
 -- What is read of the octets of a Block or a SimpleBlock.
 use Rattle.std.specs.Prelude.{◌≡◌, ◌≤◌, ℕ, ◌+◌, if◌then◌else◌, List, length, drop, sum, Option, Some, None, Result, Ok, Err}
+use Rattle.lacing.specs.declared.kind.Lace.{Lace}
+use Rattle.lacing.specs.Writing.{FitsKind}
 use Rattle.mkv_values.specs.declared.damage.Kind.{Kind}
-use Rattle.block_format.specs.Content.{Content, has_no_header, track_in, relative_in, flags_in, header_len, frames_cut, content_in}
+use Rattle.block_format.specs.Content.{Content, has_no_header, track_in, relative_in, flags_in, header_len, lace_of, frames_cut, content_in}
 use Rattle.block_records.specs.declared.content.BlockHeader.{BlockHeader}
 use Rattle.block_records.specs.declared.content.Spelled.{Spelled}
 
@@ -13,16 +15,18 @@ header_of octets = record { track = track_in octets; relative = relative_in octe
 abbrev pub header_in : List ℕ → Option BlockHeader
 header_in octets = if has_no_header octets then None else Some (header_of octets)
 
--- Frames of these sizes begin behind so many octets, and there are as many octets as they have.
-pub record AreFrames (octets sizes : List ℕ) (start : ℕ) : Type 0 where
+-- Frames of these sizes, which this kind can lace, begin behind so many octets, and there are as many octets as they have.
+pub record AreFrames (kind : Lace) (octets sizes : List ℕ) (start : ℕ) : Type 0 where
   pub inside : start ≤ length octets
   pub whole : start + sum sizes ≡ length octets
+  pub some : 1 ≤ length sizes
   pub most : length sizes ≤ 256
+  pub fits : FitsKind kind sizes
 
 -- the frames that octets are cut into, or why they aren't
-abbrev pub Cuts : List ℕ → List ℕ → Result (List (List ℕ)) Kind → Result ℕ Kind → Type 0
-Cuts octets sizes found (Ok start) = (found ≡ Ok (frames_cut sizes (drop start octets))) × AreFrames octets sizes start
-Cuts octets sizes found (Err kind) = found ≡ Err kind
+abbrev pub Cuts : Lace → List ℕ → List ℕ → Result (List (List ℕ)) Kind → Result ℕ Kind → Type 0
+Cuts lace octets sizes found (Ok start) = (found ≡ Ok (frames_cut sizes (drop start octets))) × AreFrames lace octets sizes start
+Cuts lace octets sizes found (Err kind) = found ≡ Err kind
 
 -- what was read, and frames, as a content
 abbrev pub content_of : Spelled → List (List ℕ) → Content
@@ -30,5 +34,5 @@ content_of s frames = record { track = s.track; relative = s.relative; flags = s
 
 -- what octets spell, or why they are no block
 abbrev pub Spells : List ℕ → List ℕ → Result Spelled Kind → Type 0
-Spells octets sizes (Ok s) = (content_in octets ≡ Ok (content_of s (frames_cut sizes (drop s.start octets)))) × AreFrames octets sizes s.start
+Spells octets sizes (Ok s) = (content_in octets ≡ Ok (content_of s (frames_cut sizes (drop s.start octets)))) × AreFrames (lace_of s.flags) octets sizes s.start
 Spells octets sizes (Err kind) = content_in octets ≡ Err kind

@@ -1,6 +1,11 @@
 -- Times of blocks in nanoseconds.
-use Rattle.std.specs.Prelude.{ℕ, ◌*◌, Bool, if◌then◌else◌, ℤ, pos, Option, Some, None}
+use Rattle.std.specs.Prelude.{ℕ, ◌*◌, ◌<◌, nat_abs, Bool, if◌then◌else◌, ℤ, pos, Option, Some, None}
+use Rattle.block_format.specs.declared.limits.TheConstants.{TOO_LARGE_TIME}
 use Rattle.block_format.specs.Block.{nanoseconds, is_too_large}
+
+-- a time before the start or behind it that isn't too large
+abbrev pub IsSmallTime : ℤ → Type 0
+IsSmallTime time = nat_abs time < TOO_LARGE_TIME
 
 -- so many ticks of `scale` nanoseconds are too large
 abbrev pub is_too_large_at : ℕ → ℤ → Bool

@@ -1,7 +1,7 @@
 //! A SimpleBlock or a BlockGroup of what was read of it: RFC 9559, sections 10 (Cluster Blocks) and 11
 //! (Timestamps).
 
-ghost use Rattle.std.specs.Prelude.{◌≡◌, pos, ◌+ℤ◌, ◌*◌, true, ℕ, ℤ, List, [], MatchOption};
+ghost use Rattle.std.specs.Prelude.{◌≡◌, pos, ◌+ℤ◌, ◌*◌, true, ℕ, ℤ, List, [], IfOk, MatchOption};
 ghost use Rattle.mkv_schema.specs.declared.ids.TheConstants.{BLOCK as BLOCK_ID};
 ghost use Rattle.matroska_format.specs.declared.element.Header.{Header as HeaderRecord};
 ghost use Rattle.matroska_format.specs.Outline.{and_then, unless};
@@ -9,6 +9,7 @@ ghost use Rattle.block_format.specs.Block.{simple_block_with};
 ghost use Rattle.block_format.specs.Elements.{group_with, in_time, with_limits, too_many_references};
 ghost use Rattle.block_records.specs.Spelled.{content_of};
 ghost use Rattle.block_records.specs.Group.{Gathers};
+ghost use Rattle.block_records.specs.Lendable.{CanLead};
 ghost use Rattle.block_records.specs.Made.{has_too_large_ticks, HasTimes, MakesHead};
 
 use crate::content::{Spelled, has_flag, lace_of};
@@ -40,8 +41,9 @@ pub fn simple_head(
     header: &Header,
     spelled: &Spelled,
 ) -> Result<BlockHead, Damage>
-    ensures { (frames : List (List ℕ)) → MakesHead frames [] []
+    ensures exact { (frames : List (List ℕ)) → MakesHead frames [] []
         (in_time (with_limits scale) header.now.id (simple_block_with scale timestamp header.now.offset (content_of spelled.now frames))) result }
+    ensures small { IfOk result (CanLead spelled.now.flags []) }
 {
     let Some(time) = block_time(scale, timestamp, spelled.relative) else {
         return Err(damage(Kind::TimeTooLarge, header.id, header.offset));
@@ -92,6 +94,7 @@ pub fn group_head(
         (and_then (unless (too_many_references (with_limits scale) children) (content_of spelled.now frames))
         (λ content. in_time (with_limits scale) BLOCK_ID (group_with scale bytes timestamp offset children content))) result }
     ensures kept { gathered.new.kept ≡ gathered.old.kept }
+    ensures small { IfOk result (CanLead spelled.now.flags gathered.new.references.items) }
 {
     if let Some(reference) = gathered.too_many {
         return Err(damage(Kind::TooMany, reference.id, reference.offset));

@@ -91,7 +91,7 @@ fn header_in(octets: &[u8]) -> Option<BlockHeader>
 fn one_frame(octets: &[u8], sizes: &mut SmallVec<u32, 8, Global>) -> Result<usize, AllocError>
     requires short { length octets.now ≤ MOST_OF_BLOCK }
     requires empty { sizes.old.items ≡ [] }
-    ensures exact { IfOk result (λ start. Cuts octets.now sizes.new.items (frames_in Lace.None octets.now) (Ok start)) }
+    ensures exact { IfOk result (λ start. Cuts Lace.None octets.now sizes.new.items (frames_in Lace.None octets.now) (Ok start)) }
     ensures empty { OnErr result (sizes.new.items ≡ []) }
 {
     sizes.push(octets.len() as u32)?;
@@ -106,7 +106,7 @@ fn laced_frames(
 ) -> Result<Result<usize, Kind>, AllocError>
     requires short { length octets.now ≤ MOST_OF_BLOCK }
     requires empty { sizes.old.items ≡ [] }
-    ensures exact { IfOk result (Cuts octets.now sizes.new.items (laced_frames kind octets.now)) }
+    ensures exact { IfOk result (Cuts kind octets.now sizes.new.items (laced_frames kind octets.now)) }
     ensures empty { MatchResult result (λ found. OnErr found (sizes.new.items ≡ [])) (λ _. sizes.new.items ≡ []) }
 {
     let Some((&less_one, lace)) = octets.split_first() else {
@@ -128,7 +128,7 @@ fn cut(
 ) -> Result<Result<usize, Kind>, AllocError>
     requires short { length octets.now ≤ MOST_OF_BLOCK }
     requires empty { sizes.old.items ≡ [] }
-    ensures exact { IfOk result (Cuts octets.now sizes.new.items (frames_in kind octets.now)) }
+    ensures exact { IfOk result (Cuts kind octets.now sizes.new.items (frames_in kind octets.now)) }
     ensures empty { MatchResult result (λ found. OnErr found (sizes.new.items ≡ [])) (λ _. sizes.new.items ≡ []) }
 {
     match kind {

@@ -77,6 +77,7 @@ impl Gathered {
     /// Nothing. It takes no memory.
     pub fn new(alloc: Global) -> Gathered
         ensures exact { (bytes : List ℕ) → Gathers bytes [] result }
+        ensures references { result.references.items ≡ [] }
         ensures kept { result.kept.items ≡ [] }
     {
         Gathered {

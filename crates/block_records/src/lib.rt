@@ -10,6 +10,7 @@ mod content;
 mod damage;
 mod gathered;
 mod head;
+mod parts;
 mod time;
 
 pub use block_format::MOST_OF_BLOCK;

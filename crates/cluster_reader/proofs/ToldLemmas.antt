@@ -1,26 +1,35 @@
 -- The damages that are told, with one more.
-use Rattle.std.proofs.Common.{◌≡◌, ℕ, ◌+◌, ◌-◌, ◌^◌, ◌<◌, ◌≤◌, min, List, [], ◌∷◌, ◌++◌, length, sym, ◌∙◌, ap, arith, length-append}
+use Rattle.std.proofs.Common.{◌≡◌, ℕ, ◌+◌, ◌-◌, ◌<◌, ◌≤◌, nat_lt, min, inl, inr, List, [], ◌∷◌, ◌++◌, length, take, sym, ◌∙◌, ap, ap₂, arith, length-append}
+use Rattle.std.proofs.lemmas.Bool.{cases_lt, cond-true, cond-false, lt-ltb, le-ltb}
 use Rattle.std.proofs.lemmas.List.{length-take, take-append-le, take_all}
 use Rattle.mkv_values.specs.declared.damage.Damage.{Damage}
-use Rattle.cluster_reader.specs.Told.{AreThose}
-use Rattle.cluster_reader.specs.declared.damages.Damages.{Damages}
+use Rattle.mkv_io.specs.Faults.{counted, last_count}
+use Rattle.cluster_reader.specs.Told.{Told, told_of, with_damage}
 
--- one of the first hundred is kept
-pub AreThose-kept : (list : List Damage) (d : Damage) (old : Damages) (first : List Damage) → AreThose list old → length old.first < 100 → first ≡ old.first ++ d ∷ [] → AreThose (list ++ d ∷ []) (record { first = first; more = old.more })
-AreThose-kept list d old first those few kept =
+-- what is told, by its parts
+told : List Damage → ℕ → Told
+told first more = record { first = first; more = more }
+
+-- one of the first hundred is told
+tells_one : (list : List Damage) (d : Damage) → length list < 100 → with_damage (told_of list) d ≡ told_of (list ++ d ∷ [])
+unfolding told
+tells_one list d few =
     let count = length-take 100 list in
-    let short : length list < 100 = omega (arith, ap (λ (l : List Damage). length l) those.first, count, few) in
-    record {
-      first = kept ∙ ap (λ l. l ++ d ∷ []) (those.first ∙ take_all 100 list (omega arith)) ∙ sym (take_all 100 (list ++ d ∷ []) (omega (arith, length-append {A = Damage})));
-      more = omega (arith, those.more, length-append {A = Damage}, short);
-    }
+    let all = take_all 100 list (omega arith) in
+    let longer : length (list ++ d ∷ []) ≡ length list + 1 = length-append list (d ∷ []) in
+    let none : min (length list - 100) last_count ≡ min (length (list ++ d ∷ []) - 100) last_count = omega arith in
+    cond-true (nat_lt (length (take 100 list)) 100) _ _ (lt-ltb _ _ (omega arith))
+    ∙ ap₂ told (ap (λ l. l ++ d ∷ []) all ∙ sym (take_all 100 (list ++ d ∷ []) (omega arith))) none
 
 -- another one is counted
-pub AreThose-counted : (list : List Damage) (d : Damage) (old : Damages) (more : ℕ) → AreThose list old → 100 ≤ length old.first → more ≡ min (old.more + 1) (2 ^ 64 - 1) → AreThose (list ++ d ∷ []) (record { first = old.first; more = more })
-AreThose-counted list d old more those many counted =
+counts_one : (list : List Damage) (d : Damage) → 100 ≤ length list → with_damage (told_of list) d ≡ told_of (list ++ d ∷ [])
+unfolding told
+counts_one list d many =
     let count = length-take 100 list in
-    let long : 100 ≤ length list = omega (arith, ap (λ (l : List Damage). length l) those.first, count, many) in
-    record {
-      first = those.first ∙ sym (take-append-le 100 list (d ∷ []) long);
-      more = omega (arith, counted, those.more, length-append {A = Damage}, long);
-    }
+    let longer : length (list ++ d ∷ []) ≡ length list + 1 = length-append list (d ∷ []) in
+    let one : counted (min (length list - 100) last_count) 1 ≡ min (length (list ++ d ∷ []) - 100) last_count = omega arith in
+    cond-false (nat_lt (length (take 100 list)) 100) _ _ (le-ltb _ _ (omega arith))
+    ∙ ap₂ told (sym (take-append-le 100 list (d ∷ []) many)) one
+
+pub with_damage-told : (list : List Damage) (d : Damage) → with_damage (told_of list) d ≡ told_of (list ++ d ∷ [])
+with_damage-told list d = elim (cases_lt (length list) 100) [ inl few ↦ tells_one list d few | inr many ↦ counts_one list d many ]

@@ -1,5 +1,5 @@
 -- A file's blocks as they are read, one after the other.
-use Rattle.std.specs.Prelude.{◌≡◌, ◌<◌, ◌≤◌, ◌⊎◌, ℕ, ◌+◌, ◌*◌, true, false, Bool, List, [], ◌∷◌, length, Result, Ok, Err}
+use Rattle.std.specs.Prelude.{◌≡◌, ◌<◌, ◌≤◌, ◌⊎◌, ⊤, ℕ, ◌+◌, ◌*◌, true, false, Bool, List, [], ◌∷◌, length, None, Result, Ok, Err, IfOk}
 use Rattle.mkv_values.specs.declared.outside.FileId.{FileId}
 use Rattle.mkv_values.specs.declared.outside.ReadEnd.{ReadEnd}
 use Rattle.mkv_values.specs.declared.damage.Damage.{Damage}
@@ -11,6 +11,7 @@ use Rattle.element_window.specs.Window.{ReadAhead, Holds, HasNotPassed, cost_of,
 use Rattle.block_format.specs.Elements.{with_limits}
 use Rattle.block_format.specs.Events.{Event, block, damaged, stopped}
 use Rattle.block_records.specs.Buffered.{Buffered, block_of}
+use Rattle.block_records.specs.Lendable.{IsLendable, LendsNothing}
 use Rattle.cluster_reader.specs.Left.{left}
 use Rattle.cluster_reader.specs.Places.{first_place}
 use Rattle.cluster_reader.specs.declared.place.Place.{Place}
@@ -55,16 +56,43 @@ GoesOn Block old new = old < new
 GoesOn (Damaged d) old new = old < new
 GoesOn End old new = old ≤ new
 
--- the blocks and the damages that were given
-pub record HasGiven (old new : Reading) (more_blocks more_damages : ℕ) : Type 0 where
-  pub blocks : new.blocks ≡ counted old.blocks more_blocks
-  pub damages : new.damages ≡ counted old.damages more_damages
+-- Nothing stands behind the place: it is the Segment's end, and in no Cluster.
+pub record IsAtEnd (p : Place) : Type 0 where
+  pub past : p.end ≤ p.at
+  pub outside : p.cluster ≡ None
 
-abbrev pub Counts : Reading → Reading → Result Step ReadEnd → Type 0
-Counts old new (Ok Block) = HasGiven old new 1 0
-Counts old new (Ok (Damaged d)) = HasGiven old new 0 1
-Counts old new (Ok End) = HasGiven old new 0 0
-Counts old new (Err end) = HasGiven old new 0 0
+-- Whether a damage ends what is read is noted with that damage alone, and behind one that does nothing stands.
+abbrev pub Notes : Reading → Reading → Result Step ReadEnd → Type 0
+Notes old new (Ok Block) = new.stopped ≡ old.stopped
+Notes old new (Ok (Damaged d)) = new.stopped ≡ true → IsAtEnd new.place
+Notes old new (Ok End) = new.stopped ≡ old.stopped
+Notes old new (Err end) = new.stopped ≡ old.stopped
+
+-- A block that is given can be written.
+abbrev pub LendsFor : Step → Buffered → Type 0
+LendsFor Block b = IsLendable b
+LendsFor (Damaged d) b = ⊤
+LendsFor End b = ⊤
+
+-- how many blocks an answer gives
+abbrev pub blocks_given : Result Step ReadEnd → ℕ
+blocks_given (Ok Block) = 1
+blocks_given (Ok (Damaged d)) = 0
+blocks_given (Ok End) = 0
+blocks_given (Err end) = 0
+
+-- how many damages it gives
+abbrev pub damages_given : Result Step ReadEnd → ℕ
+damages_given (Ok Block) = 0
+damages_given (Ok (Damaged d)) = 1
+damages_given (Ok End) = 0
+damages_given (Err end) = 0
+
+-- What is given is counted, and a damage that ends what is read is noted.
+pub record Counts (old new : Reading) (result : Result Step ReadEnd) : Type 0 where
+  pub blocks : new.blocks ≡ counted old.blocks (blocks_given result)
+  pub damages : new.damages ≡ counted old.damages (damages_given result)
+  pub stopped : Notes old new result
 
 -- ---- where it stands
 
@@ -73,6 +101,13 @@ pub record IsSameSegment (old new : Reading) : Type 0 where
   pub file : new.file ≡ old.file
   pub scale : new.scale ≡ old.scale
   pub end : new.place.end ≡ old.place.end
+
+-- A call goes on in the same Segment, and not past its end. The block that it gives can be written.
+pub record Moves (old new : Reading) (result : Result Step ReadEnd) : Type 0 where
+  pub same : IsSameSegment old new
+  pub on : IfOk result (λ step. GoesOn step old.place.at new.place.at)
+  pub inside : new.place.at ≤ new.place.end
+  pub lends : IfOk result (λ step. LendsFor step new.block)
 
 -- What is held has been read as far as one read goes: nothing, or up to the file's end, or 65,536 octets.
 abbrev pub IsFull : ℕ → ReadAhead → Type 0
@@ -86,12 +121,13 @@ pub record CanRead (files : LiveFiles) (c : Reading) : Type 0 where
   pub before : HasNotPassed c.ahead c.place.at (files.size c.file.n)
   pub full : IsFull (files.size c.file.n) c.ahead
 
--- Nothing was given yet, and nothing is held.
+-- Nothing was given yet, nothing is held, and nothing is lent.
 pub record Begins (opened : FileId) (tick : ℕ) (segment : Header) (total : ℕ) (c : Reading) : Type 0 where
   pub file : c.file ≡ opened
   pub scale : c.scale ≡ tick
   pub place : c.place ≡ first_place segment total
   pub ahead : c.ahead ≡ record { at = 0; octets = [] }
+  pub block : LendsNothing c.block
   pub blocks : c.blocks ≡ 0
   pub damages : c.damages ≡ 0
   pub stopped : c.stopped ≡ false
@@ -108,3 +144,8 @@ paid size c = cost_of size c.ahead + c.place.at
 abbrev pub Pays : {T : Type 0} → ℕ → Reading → Reading → ℕ → ℕ → Result T ReadEnd → Type 0
 Pays size old new before now (Ok answer) = now + paid size old ≤ before + paid size new
 Pays size old new before now (Err end) = now + paid size old ≤ before + paid size new + 2 * size
+
+-- What is read is paid by the way, and the whole way pays at most four octets for each of the file.
+pub record Spends {T : Type 0} (size : ℕ) (old new : Reading) (before now : ℕ) (result : Result T ReadEnd) : Type 0 where
+  pub pays : Pays size old new before now result
+  pub most : paid size new ≤ 4 * size

@@ -1,13 +1,25 @@
 -- The damages of a file that are told one by one, and the number of the others.
-use Rattle.std.specs.Prelude.{◌≡◌, ℕ, ◌-◌, ◌^◌, min, List, length, take}
+use Rattle.std.specs.Prelude.{◌≡◌, ℕ, ◌-◌, nat_lt, min, if◌then◌else◌, List, [], ◌∷◌, ◌++◌, length, take}
+use Rattle.mkv_io.specs.Faults.{counted, last_count}
 use Rattle.mkv_values.specs.declared.damage.Damage.{Damage}
-use Rattle.cluster_reader.specs.declared.damages.Damages.{Damages}
 
 -- how many are told one by one
 abbrev pub MOST_TOLD : ℕ
 MOST_TOLD = 100
 
--- The first hundred of a list, and how many others there are; that number stands still at 2^64 - 1.
-pub record AreThose (list : List Damage) (damages : Damages) : Type 0 where
-  pub first : damages.first ≡ take MOST_TOLD list
-  pub more : damages.more ≡ min (length list - MOST_TOLD) (2 ^ 64 - 1)
+-- the damages that are told one by one, and how many others there are
+pub record Told : Type 0 where
+  pub first : List Damage
+  pub more : ℕ
+
+-- of a list the first hundred, and how many others it has; that number stands still at 2^64 - 1
+abbrev pub told_of : List Damage → Told
+told_of list = record { first = take MOST_TOLD list; more = min (length list - MOST_TOLD) last_count }
+
+-- With one more: it is told where fewer than a hundred are, else counted.
+abbrev pub with_damage : Told → Damage → Told
+with_damage t d = if nat_lt (length t.first) MOST_TOLD then record { first = t.first ++ d ∷ []; more = t.more } else record { first = t.first; more = counted t.more 1 }
+
+-- what is told of a list with one more is what was told of the list, with one more
+abbrev pub TellsInTurn : Type 0
+TellsInTurn = (list : List Damage) (d : Damage) → with_damage (told_of list) d ≡ told_of (list ++ d ∷ [])

@@ -1,15 +1,18 @@
 -- A walk over the Elements of a file, one turn after the other.
-use Rattle.std.specs.Prelude.{◌≡◌, ◌≤◌, ◌<◌, ℕ, ◌==◌, if◌then◌else◌, List, [], ◌∷◌, Option, Result, Ok, Err}
+use Rattle.std.specs.Prelude.{◌≡◌, ◌≤◌, ◌<◌, ⊤, ℕ, ◌==◌, Bool, ◌||◌, ◌&&◌, is_none, if◌then◌else◌, List, [], ◌∷◌, Option, Result, Ok, Err, IfOk}
 use Rattle.mkv_values.specs.declared.outside.ReadEnd.{ReadEnd}
-use Rattle.mkv_schema.specs.declared.ids.TheConstants.{SIMPLE_BLOCK}
+use Rattle.mkv_schema.specs.declared.ids.TheConstants.{SIMPLE_BLOCK, BLOCK_GROUP, TIMESTAMP}
 use Rattle.mkv_io.specs.LiveFiles.{LiveFiles}
 use Rattle.matroska_format.specs.declared.element.Header.{Header}
+use Rattle.matroska_format.specs.Element.{known}
 use Rattle.block_format.specs.Elements.{Rules, with_limits, simple_block, block_group}
 use Rattle.block_format.specs.Events.{Found, found_at, timestamp_behind}
 use Rattle.block_records.specs.Buffered.{Buffered, block_of}
+use Rattle.block_records.specs.Lendable.{IsLendable}
 use Rattle.cluster_reader.specs.Places.{IsPlace, turns_left}
-use Rattle.cluster_reader.specs.Reading.{Reading, Gives, GoesOn, CanRead, IsSameSegment, Pays, left_of}
+use Rattle.cluster_reader.specs.Reading.{Reading, Gives, GoesOn, LendsFor, Notes, CanRead, IsSameSegment, Pays, left_of}
 use Rattle.cluster_reader.specs.declared.place.Place.{Place}
+use Rattle.cluster_reader.specs.declared.step.Step.{Step}
 use Rattle.cluster_reader.specs.declared.turn.Turn.{Turn}
 use Rattle.cluster_reader.specs.declared.turn.Turn.TheVariants as turn
 use Rattle.cluster_reader.specs.declared.turn.Child.{Child}
@@ -44,6 +47,20 @@ Finds bytes scale timestamp h b (child.Passed behind) =
 Finds bytes scale timestamp h b child.Block = found_at (with_limits scale) bytes timestamp h ≡ Ok (block_of b) ∷ []
 Finds bytes scale timestamp h b (child.Damaged d) = found_at (with_limits scale) bytes timestamp h ≡ Err d ∷ []
 
+-- A block that is given can be written.
+abbrev pub LendsForChild : Child → Buffered → Type 0
+LendsForChild (child.Passed behind) b = ⊤
+LendsForChild child.Block b = IsLendable b
+LendsForChild (child.Damaged d) b = ⊤
+
+-- A SimpleBlock or a BlockGroup is read, and the first Timestamp of a Cluster.
+abbrev pub is_read : Option ℕ → Header → Bool
+is_read timestamp h = h.id == SIMPLE_BLOCK || h.id == BLOCK_GROUP || (h.id == TIMESTAMP && is_none timestamp)
+
+-- how many octets of a child's body are read: of what isn't read none
+abbrev pub octets_read_of : Option ℕ → Header → ℕ
+octets_read_of timestamp h = if is_read timestamp h then known h.size else 0
+
 -- ---- what a turn gives
 
 -- It gives what is answered, as a cursor does; where an Element is passed the same is left.
@@ -57,6 +74,16 @@ abbrev pub TurnsOn : Place → Place → Turn → Type 0
 TurnsOn old new turn.Passed = (turns_left new < turns_left old) × (old.at ≤ new.at)
 TurnsOn old new (turn.Gives step) = GoesOn step old.at new.at
 
+abbrev pub LendsForTurn : Turn → Buffered → Type 0
+LendsForTurn turn.Passed b = ⊤
+LendsForTurn (turn.Gives step) b = LendsFor step b
+
+-- A turn notes what a call does; one that gives nothing notes nothing.
+abbrev pub TurnNotes : Walk → Walk → Result Turn ReadEnd → Type 0
+TurnNotes old new (Ok turn.Passed) = new.stopped ≡ old.stopped
+TurnNotes old new (Ok (turn.Gives step)) = Notes (shown old) (shown new) (Ok step)
+TurnNotes old new (Err end) = new.stopped ≡ old.stopped
+
 -- ---- where a walk stands
 
 -- A cursor may stand there, and the place is one of a Segment.
@@ -68,6 +95,20 @@ pub record IsReady (files : LiveFiles) (w : Walk) : Type 0 where
 -- It is in the same Segment of the same file.
 abbrev pub IsSameWalk : Walk → Walk → Type 0
 IsSameWalk old new = IsSameSegment (shown old) (shown new)
+
+-- A turn goes on in the same Segment, and notes a damage that ends what is read.
+pub record TakesTurn (old new : Walk) (result : Result Turn ReadEnd) : Type 0 where
+  pub same : IsSameWalk old new
+  pub on : IfOk result (TurnsOn old.place new.place)
+  pub notes : TurnNotes old new result
+  pub lends : IfOk result (λ turn. LendsForTurn turn new.block)
+
+-- So does a step.
+pub record TakesStep (old new : Walk) (result : Result Step ReadEnd) : Type 0 where
+  pub same : IsSameWalk old new
+  pub on : IfOk result (λ step. GoesOn step old.place.at new.place.at)
+  pub notes : Notes (shown old) (shown new) result
+  pub lends : IfOk result (λ step. LendsFor step new.block)
 
 -- What is read is paid by the way, as a cursor's.
 abbrev pub PaysFor : {T : Type 0} → ℕ → Walk → Walk → ℕ → ℕ → Result T ReadEnd → Type 0

@@ -3,7 +3,7 @@
 ghost use Rattle.std.specs.Prelude.{◌≡◌, None, IfOk};
 ghost use Rattle.mkv_io.specs.Faults.{HasCause, is_read_fault};
 ghost use Rattle.mkv_io.specs.Sources.{IfTold, file_size, live_files};
-ghost use Rattle.cluster_reader.specs.Walks.{IsReady, IsSameWalk, PaysFor, Turns, TurnsOn};
+ghost use Rattle.cluster_reader.specs.Walks.{IsReady, PaysFor, TakesTurn, Turns};
 
 use crate::step::Step;
 use crate::turn::Turn;
@@ -19,8 +19,7 @@ pub fn turn_at_level_1<R: Reads>(walk: &mut Walk, src: &mut R) -> Result<Turn, R
     requires ready { IsReady (live_files R.Reads src.old) walk.old }
     requires outside { walk.old.place.cluster ≡ None }
     ensures gives { IfTold R.Reads src.old walk.old.file (λ bytes. Turns bytes walk.old walk.new result) }
-    ensures on { IfOk result (TurnsOn walk.old.place walk.new.place) }
-    ensures same { IsSameWalk walk.old walk.new }
+    ensures takes { TakesTurn walk.old walk.new result }
     ensures ready { IsReady (live_files R.Reads src.new) walk.new }
     ensures standing { R.standing src.new ≡ R.standing src.old }
     ensures cause { HasCause is_read_fault (R.reading_faults src.old) (R.reading_faults src.new) result }

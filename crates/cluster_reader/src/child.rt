@@ -1,12 +1,13 @@
 //! What the children of a Cluster give: RFC 9559, section 5.1.3 (Cluster Element).
 
-ghost use Rattle.std.specs.Prelude.{◌≡◌, ◌≤◌, ◌+◌, ℕ, List, length, false, IfOk, IsTrue};
+ghost use Rattle.std.specs.Prelude.{◌≡◌, ◌≤◌, ◌+◌, ℕ, List, length, false, IfOk, OnOk, IsTrue};
 ghost use Rattle.mkv_io.specs.Faults.{HasCause, is_read_fault};
 ghost use Rattle.mkv_io.specs.Sources.{IfTold, live_files};
 ghost use Rattle.matroska_format.specs.Element.{damage, is_unknown, known, stated_end};
 ghost use Rattle.block_format.specs.Elements.{timestamp_for, with_limits};
 ghost use Rattle.block_records.specs.Buffered.{Makes};
-ghost use Rattle.cluster_reader.specs.Walks.{Finds, IsReady, block_found};
+ghost use Rattle.block_records.specs.Lendable.{IsLendable};
+ghost use Rattle.cluster_reader.specs.Walks.{Finds, IsReady, LendsForChild, block_found, octets_read_of};
 
 use crate::timestamp::read_timestamp;
 use crate::turn::Child;
@@ -42,7 +43,8 @@ pub fn read_child<R: Reads>(
     ensures only { walk.new ≡ record walk.old { block = walk.new.block } }
     ensures standing { R.standing src.new ≡ R.standing src.old }
     ensures cause { HasCause is_read_fault (R.reading_faults src.old) (R.reading_faults src.new) result }
-    ensures octets { R.octets_read src.new ≤ R.octets_read src.old + known header.now.size }
+    ensures lends { IfOk result (λ child. LendsForChild child walk.new.block) }
+    ensures octets { R.octets_read src.new ≤ R.octets_read src.old + octets_read_of timestamp header.now }
 {
     if header.id == TIMESTAMP {
         return timestamp_child(walk, src, timestamp, header);
@@ -67,9 +69,10 @@ fn timestamp_child<R: Reads>(
     requires inside { stated_end header.now ≤ walk.now.place.end }
     requires id { header.now.id ≡ TIMESTAMP }
     ensures ok { IfOk result (λ child. IfTold R.Reads src.old walk.now.file (λ bytes. Finds bytes walk.now.scale timestamp header.now walk.now.block child)) }
+    ensures lends { IfOk result (λ child. LendsForChild child walk.now.block) }
     ensures standing { R.standing src.new ≡ R.standing src.old }
     ensures cause { HasCause is_read_fault (R.reading_faults src.old) (R.reading_faults src.new) result }
-    ensures octets { R.octets_read src.new ≤ R.octets_read src.old + known header.now.size }
+    ensures octets { R.octets_read src.new ≤ R.octets_read src.old + octets_read_of timestamp header.now }
 {
     if known(header.size) > MOST_TIMESTAMP {
         return Ok(Child::Damaged(damage(Kind::BadValue, header)));
@@ -108,6 +111,7 @@ fn read_block<R: Reads>(
     requires whole { is_unknown header.now.size ≡ false }
     requires inside { stated_end header.now ≤ walk.old.place.end }
     ensures ok { IfOk result (λ found. IfTold R.Reads src.old walk.old.file (λ bytes. Makes found walk.new.block (block_found (with_limits walk.old.scale) bytes timestamp header.now))) }
+    ensures lends { IfOk result (λ found. OnOk found (IsLendable walk.new.block)) }
     ensures only { walk.new ≡ record walk.old { block = walk.new.block } }
     ensures standing { R.standing src.new ≡ R.standing src.old }
     ensures cause { HasCause is_read_fault (R.reading_faults src.old) (R.reading_faults src.new) result }

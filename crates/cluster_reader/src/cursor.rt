@@ -1,21 +1,23 @@
 //! The cursor.
 
-ghost use Rattle.std.specs.Prelude.{◌≡◌, ◌*◌, ◌≤◌, true, ℕ, List, length, sum, IfOk};
+ghost use Rattle.std.specs.Prelude.{◌≡◌, ◌≤◌, ◌⊎◌, true, ℕ, List, [], length, sum, IfOk};
 ghost use Rattle.mkv_io.specs.Faults.{HasCause, is_read_fault};
 ghost use Rattle.mkv_io.specs.LiveFiles.{LiveFiles};
 ghost use Rattle.mkv_io.specs.Sources.{IfTold, file_size, live_files};
-ghost use Rattle.meta_format.specs.Info.{file_scale};
+ghost use Rattle.std.specs.List.{All};
+ghost use Rattle.lacing.specs.Writing.{FitsKind};
+ghost use Rattle.block_records.specs.Lendable.{HasSmallTimes};
+ghost use Rattle.block_records.specs.Time.{IsSmallTime};
 ghost use Rattle.block_format.specs.Elements.{with_limits};
 ghost use Rattle.block_format.specs.Events.{events_of};
-ghost use Rattle.block_format.specs.File.{file_events};
-ghost use Rattle.cluster_reader.specs.Reading.{Begins, Counts, Gives, GoesOn, CanRead, IsSameSegment, Pays, left_of, paid};
+ghost use Rattle.cluster_reader.specs.Reading.{Begins, Counts, Gives, CanRead, Moves, Spends, left_of};
 
 use crate::next_step::next_step;
 use crate::place::Place;
 use crate::step::Step;
 use crate::walk::Walk;
 use block_records::{BlockBuffer, BlockHead, MOST_OF_BLOCK};
-use element_reader::Outline;
+use element_walks::HasSegment;
 use element_window::Window;
 use mkv_io::Reads;
 use mkv_values::{FileId, ReadEnd};
@@ -53,23 +55,20 @@ impl Model for Cursor {
 
 impl Cursor {
     /// The blocks of a file whose outline this is, and whose TimestampScale is so many nanoseconds a tick.
-    pub fn start(
+    pub fn start<O: HasSegment>(
         alloc: Global,
-        outline: &Outline,
+        outline: &O,
         file: FileId,
         scale: u64,
     ) -> Result<Cursor, AllocError>
         requires { 1 ≤ scale }
-        ensures begins { IfOk result (Begins file scale outline.now.segment outline.now.total) }
-        ensures left { (bytes : List ℕ) → outline.now.total ≡ length bytes
-            → IfOk result (λ c. left_of bytes c ≡ events_of (with_limits scale) bytes outline.now.segment) }
-
-        // Where the scale is the file's, these are the file's blocks and damages.
-        ensures file { (bytes : List ℕ) → outline.now.total ≡ length bytes → scale ≡ file_scale bytes outline.now.segment
-            → IfOk result (λ c. left_of bytes c ≡ file_events true bytes outline.now.segment) }
+        ensures begins { IfOk result (Begins file scale (O.segment outline.now) (O.total outline.now)) }
+        ensures left { (bytes : List ℕ) → O.total outline.now ≡ length bytes
+            → IfOk result (λ c. left_of bytes c ≡ events_of (with_limits scale) bytes (O.segment outline.now)) }
 
         // It may be advanced in a live file of that length.
-        ensures stands { (files : LiveFiles) → files.live file.n ≡ true → files.size file.n ≡ outline.now.total → IfOk result (CanRead files) }
+        ensures stands { (files : LiveFiles) → files.live file.n ≡ true → files.size file.n ≡ O.total outline.now
+            → IfOk result (CanRead files) }
     {
         let walk = Walk {
             window: Window::new(alloc)?,
@@ -94,16 +93,13 @@ impl Cursor {
         ensures counts { Counts self.old self.new result }
 
         // It goes on in the same file, and stays ready for the next call.
-        ensures on { IfOk result (λ step. GoesOn step self.old.place.at self.new.place.at) }
-        ensures inside { self.new.place.at ≤ self.new.place.end }
-        ensures same { IsSameSegment self.old self.new }
+        ensures moves { Moves self.old self.new result }
         ensures stands { CanRead (live_files R.Reads src.new) self.new }
         ensures standing { R.standing src.new ≡ R.standing src.old }
         ensures cause { HasCause is_read_fault (R.reading_faults src.old) (R.reading_faults src.new) result }
 
         // What is read adds up to at most four octets for each of the file.
-        ensures pays { Pays (file_size R.Reads src.old self.old.file) self.old self.new (R.octets_read src.old) (R.octets_read src.new) result }
-        ensures most { paid (file_size R.Reads src.old self.old.file) self.new ≤ 4 * file_size R.Reads src.old self.old.file }
+        ensures spends { Spends (file_size R.Reads src.old self.old.file) self.old self.new (R.octets_read src.old) (R.octets_read src.new) result }
     {
         let step = next_step(&mut self.walk, src)?;
         match step {
@@ -116,7 +112,8 @@ impl Cursor {
 
     /// What the block says of itself.
     pub fn head(&self) -> &BlockHead
-        ensures { result.now ≡ self.now.block.head }
+        ensures exact { result.now ≡ self.now.block.head }
+        ensures small { HasSmallTimes result.now }
     {
         self.walk.block.head()
     }
@@ -130,11 +127,12 @@ impl Cursor {
         self.walk.block.body()
     }
 
-    /// How many octets each frame has.
+    /// How many octets each frame has: none where no block is lent.
     pub fn sizes(&self) -> &[u32]
         ensures exact { result.now ≡ self.now.block.sizes }
         ensures sum { sum result.now ≡ length self.now.block.body }
         ensures most { length result.now ≤ 256 }
+        ensures fits { (result.now ≡ []) ⊎ FitsKind self.now.block.head.lace result.now }
     {
         self.walk.block.sizes()
     }
@@ -150,6 +148,7 @@ impl Cursor {
     /// The times of the blocks that it refers to less its own, in nanoseconds.
     pub fn refs(&self) -> &[i64]
         ensures exact { result.now ≡ self.now.block.references }
+        ensures small { All IsSmallTime result.now }
         ensures most { length result.now ≤ 64 }
     {
         self.walk.block.references()

@@ -1,45 +1,67 @@
 //! The damages of a file that are told.
 
-ghost use Rattle.std.specs.Prelude.{[], ◌++◌, ◌∷◌, ◌≡◌, List as AList, OnOk, OnErr};
-ghost use Rattle.mkv_values.specs.declared.damage.Damage.{Damage as ADamage};
-ghost use Rattle.cluster_reader.specs.Told.{AreThose};
+ghost use Rattle.std.specs.Prelude.{[], ◌≡◌, IfOk};
+ghost use Rattle.cluster_reader.specs.Told.{told_of, with_damage};
 
-use mkv_values::{Damage, List};
+use mkv_values::Damage;
 use std::alloc::{AllocError, Global};
+use std::marker::Model;
 
 /// How many damages of a file are told one by one.
 const MOST_TOLD: usize = 100;
 
-/// The damages of a file: the first hundred, and how many others there are.
+/// The damages of a file: the first hundred, and how many others there are. Their memory is taken at the
+/// making.
 #[derive(Debug, Drop)]
 pub struct Damages {
-    /// The first hundred, in the order of the file.
-    pub first: List<Damage>,
-    /// How many others there are.
-    pub more: u64,
+    first: Vec<Damage>,
+    more: u64,
+}
+
+impl Model for Damages {
+    ghost use Rattle.std.specs.Prelude.{◌≤◌, length, vec_capacity};
+    ghost use Rattle.cluster_reader.specs.Told.{Told};
+
+    ghost Value = { Told };
+
+    ghost view = { λ d. record { first = d.first.items; more = d.more } };
+
+    ghost invariant = { λ d. 100 ≤ vec_capacity d.first };
 }
 
 impl Damages {
-    /// No damages.
-    pub fn new(alloc: Global) -> Damages
-        ensures { AreThose [] result }
+    /// No damages, and room for a hundred.
+    pub fn new(alloc: Global) -> Result<Damages, AllocError>
+        ensures { IfOk result (λ damages. damages ≡ told_of []) }
     {
-        Damages {
-            first: List::new(alloc),
+        Ok(Damages {
+            first: Vec::with_capacity(alloc, MOST_TOLD)?,
             more: 0,
-        }
+        })
     }
 
-    /// Keeps a damage, or counts it where a hundred are kept. Only one that is kept may want memory.
-    pub fn add(&mut self, damage: Damage) -> Result<(), AllocError>
-        ensures ok { (list : AList ADamage) → AreThose list self.old → OnOk result (AreThose (list ++ damage ∷ []) self.new) }
-        ensures err { OnErr result (self.new ≡ self.old) }
+    /// Tells a damage, or counts it where a hundred are told.
+    pub fn add(&mut self, damage: Damage)
+        ensures { self.new ≡ with_damage self.old damage }
     {
         if self.first.len() < MOST_TOLD {
-            self.first.push(damage)?;
+            self.first.push_reserved(damage);
         } else {
             self.more = self.more.saturating_add(1);
         }
-        Ok(())
+    }
+
+    /// The first hundred, in the order of the file.
+    pub fn first(&self) -> &[Damage]
+        ensures { result.now ≡ self.now.first }
+    {
+        self.first.as_slice()
+    }
+
+    /// How many others there are.
+    pub fn more(&self) -> u64
+        ensures { result ≡ self.now.more }
+    {
+        self.more
     }
 }

@@ -5,7 +5,7 @@ ghost use Rattle.mkv_io.specs.Faults.{HasCause, is_read_fault};
 ghost use Rattle.mkv_io.specs.Sources.{IfTold, file_size, live_files};
 ghost use Rattle.matroska_format.specs.Element.{element_at, in_master, is_unknown, stated_end};
 ghost use Rattle.cluster_reader.specs.Left.{ends_children};
-ghost use Rattle.cluster_reader.specs.Walks.{IsReady, IsSameWalk, PaysFor, Turns, TurnsOn};
+ghost use Rattle.cluster_reader.specs.Walks.{IsReady, PaysFor, TakesTurn, Turns};
 
 use crate::child::read_child;
 use crate::place::Inside;
@@ -33,8 +33,7 @@ pub fn turn_in_cluster<R: Reads>(
     requires ready { IsReady (live_files R.Reads src.old) walk.old }
     requires inside { walk.old.place.cluster ≡ Some cluster }
     ensures gives { IfTold R.Reads src.old walk.old.file (λ bytes. Turns bytes walk.old walk.new result) }
-    ensures on { IfOk result (TurnsOn walk.old.place walk.new.place) }
-    ensures same { IsSameWalk walk.old walk.new }
+    ensures takes { TakesTurn walk.old walk.new result }
     ensures ready { IsReady (live_files R.Reads src.new) walk.new }
     ensures standing { R.standing src.new ≡ R.standing src.old }
     ensures cause { HasCause is_read_fault (R.reading_faults src.old) (R.reading_faults src.new) result }
@@ -74,8 +73,7 @@ fn turn_child<R: Reads>(
     requires found { IfTold R.Reads src.old walk.old.file (λ bytes. Ok header.now ≡ element_at in_master bytes walk.old.place.at cluster.end) }
     requires goes { ends_children cluster.unknown header.now.id ≡ false }
     ensures gives { IfTold R.Reads src.old walk.old.file (λ bytes. Turns bytes walk.old walk.new result) }
-    ensures on { IfOk result (TurnsOn walk.old.place walk.new.place) }
-    ensures same { IsSameWalk walk.old walk.new }
+    ensures takes { TakesTurn walk.old walk.new result }
     ensures ready { IsReady (live_files R.Reads src.new) walk.new }
     ensures standing { R.standing src.new ≡ R.standing src.old }
     ensures cause { HasCause is_read_fault (R.reading_faults src.old) (R.reading_faults src.new) result }

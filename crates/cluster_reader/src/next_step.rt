@@ -1,10 +1,10 @@
 //! The steps of a walk, from one block or damage to the next.
 
-ghost use Rattle.std.specs.Prelude.{◌≡◌, IfOk};
+ghost use Rattle.std.specs.Prelude.{◌≡◌};
 ghost use Rattle.mkv_io.specs.Faults.{HasCause, is_read_fault};
 ghost use Rattle.mkv_io.specs.Sources.{IfTold, file_size, live_files};
-ghost use Rattle.cluster_reader.specs.Reading.{Gives, GoesOn};
-ghost use Rattle.cluster_reader.specs.Walks.{IsReady, IsSameWalk, PaysFor, Turns, TurnsOn, shown};
+ghost use Rattle.cluster_reader.specs.Reading.{Gives};
+ghost use Rattle.cluster_reader.specs.Walks.{IsReady, PaysFor, TakesStep, TakesTurn, Turns, shown};
 
 use crate::at_level_1::turn_at_level_1;
 use crate::in_cluster::turn_in_cluster;
@@ -18,8 +18,7 @@ use mkv_values::ReadEnd;
 pub fn next_step<R: Reads>(walk: &mut Walk, src: &mut R) -> Result<Step, ReadEnd>
     requires { IsReady (live_files R.Reads src.old) walk.old }
     ensures gives { IfTold R.Reads src.old walk.old.file (λ bytes. Gives bytes (shown walk.old) (shown walk.new) result) }
-    ensures on { IfOk result (λ step. GoesOn step walk.old.place.at walk.new.place.at) }
-    ensures same { IsSameWalk walk.old walk.new }
+    ensures takes { TakesStep walk.old walk.new result }
     ensures ready { IsReady (live_files R.Reads src.new) walk.new }
     ensures standing { R.standing src.new ≡ R.standing src.old }
     ensures cause { HasCause is_read_fault (R.reading_faults src.old) (R.reading_faults src.new) result }
@@ -37,8 +36,7 @@ pub fn next_step<R: Reads>(walk: &mut Walk, src: &mut R) -> Result<Step, ReadEnd
 fn turn<R: Reads>(walk: &mut Walk, src: &mut R) -> Result<Turn, ReadEnd>
     requires { IsReady (live_files R.Reads src.old) walk.old }
     ensures gives { IfTold R.Reads src.old walk.old.file (λ bytes. Turns bytes walk.old walk.new result) }
-    ensures on { IfOk result (TurnsOn walk.old.place walk.new.place) }
-    ensures same { IsSameWalk walk.old walk.new }
+    ensures takes { TakesTurn walk.old walk.new result }
     ensures ready { IsReady (live_files R.Reads src.new) walk.new }
     ensures standing { R.standing src.new ≡ R.standing src.old }
     ensures cause { HasCause is_read_fault (R.reading_faults src.old) (R.reading_faults src.new) result }

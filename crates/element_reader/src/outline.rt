@@ -13,6 +13,7 @@ use crate::outline_end::OutlineEnd;
 use crate::segment::find_segment;
 use element_bodies::known;
 use element_headers::Header;
+use element_walks::HasSegment;
 use element_window::Window;
 use mkv_io::Reads;
 use mkv_schema::ids::CLUSTER;
@@ -189,5 +190,19 @@ impl Outline {
         ensures { result ≡ self.now.damage }
     {
         self.level.damage
+    }
+}
+
+impl HasSegment for Outline {
+    ghost segment = { λ o. o.segment };
+
+    ghost total = { λ o. o.total };
+
+    fn segment(&self) -> Header {
+        Outline::segment(self)
+    }
+
+    fn total(&self) -> u64 {
+        Outline::total(self)
     }
 }

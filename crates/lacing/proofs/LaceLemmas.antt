@@ -3,7 +3,7 @@ use Rattle.std.proofs.Common.{◌≡◌, ◌≢◌, ℕ, zero, suc, ◌+◌, ◌
 use Rattle.std.specs.List.{prefix_len, All}
 use Rattle.std.specs.Option.{option_map}
 use Rattle.std.proofs.Math.Nat.{suc-mul, mul-mod_right, mul-div_cancel_left, mod-lt, div-add-mod}
-use Rattle.std.proofs.lemmas.List.{length-append, length-take-le, length-drop, length-replicate, take-append-le, drop_at}
+use Rattle.std.proofs.lemmas.List.{length-append, take-append-drop, length-take-le, length-drop, length-replicate, take-append-le, drop_at}
 use Rattle.std.proofs.Math.Seq.{take-nil}
 use Rattle.std.proofs.lemmas.List.Elements.{All-head, All-tail, All-replicate}
 use Rattle.std.proofs.lemmas.List.Sums.{sum_by-cons, sum_by_push}
@@ -446,6 +446,15 @@ lace_in-found kind n o sizes head octets is = go (is_frame_count n) refl is
           inside = found.1;
           lace = record { some = omega (arith, found.0, range.0); most = omega (arith, found.0, range.1); spelled = found.2; whole = omega (arith, found.3) };
         }
+
+-- A lace at the front is read.
+pub lace_in-finds : (kind : Lace) (n : ℕ) (o sizes : List ℕ) (head : ℕ) → FindsLace kind n o sizes head → lace_in kind n o ≡ Some (sizes, head)
+lace_in-finds kind n o sizes head finds =
+    let split : take head o ++ drop head o ≡ o = take-append-drop head o in
+    let lace : IsLace kind (take head o) sizes (length (take head o ++ drop head o)) = subst (λ (x : List ℕ). IsLace kind (take head o) sizes (length x)) (sym split) finds.lace in
+    let own = length-take-le head o finds.inside in
+    sym (ap (λ (m : ℕ). lace_in kind m o) finds.count) ∙ sym (ap (lace_in kind (length sizes)) split)
+    ∙ lace_in-again kind (take head o) sizes (drop head o) lace ∙ ap (λ (m : ℕ). Some (sizes, m)) own
 
 -- Where nothing is read, no front of the octets is the head of a lace.
 pub lace_in-none : (kind : Lace) (n : ℕ) (o : List ℕ) → lace_in kind n o ≡ None → HasNoLace kind n o

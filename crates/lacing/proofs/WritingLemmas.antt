@@ -130,8 +130,8 @@ lace_in-octets kind sizes frames can fits =
 
 -- ---- lengths
 
--- a size takes an octet for each 255 of it, and 8 octets at most besides
-length-octets_of_size : (kind : Lace) (before : Option ℕ) (size : ℕ) → IfSome before (λ b. b < 2 ^ 32) → size < 2 ^ 32 → length (octets_of_size kind before size) ≤ size + 8
+-- a size takes an octet for each 255 of it, and 8 octets at most besides; all are counted 255 times
+length-octets_of_size : (kind : Lace) (before : Option ℕ) (size : ℕ) → IfSome before (λ b. b < 2 ^ 32) → size < 2 ^ 32 → 255 * length (octets_of_size kind before size) ≤ size + 2040
 length-octets_of_size lace.None before size small low = omega arith
 length-octets_of_size lace.Xiph before size small low =
     let len = length-append (replicate (size / 255) 255) (size % 255 ∷ []) in
@@ -146,7 +146,7 @@ length-octets_of_size lace.Ebml (Some before) size small low =
     let least = difference_width-IsLeast before size small low in
     omega (arith, length-size_octets (size + bias w - before) w, least.most)
 
-length-octets_of_sizes : (kind : Lace) (before : Option ℕ) (sizes : List ℕ) → IfSome before (λ b. b < 2 ^ 32) → All (λ s. s < 2 ^ 32) sizes → length (octets_of_sizes kind before sizes) ≤ sum sizes + 8 * length sizes
+length-octets_of_sizes : (kind : Lace) (before : Option ℕ) (sizes : List ℕ) → IfSome before (λ b. b < 2 ^ 32) → All (λ s. s < 2 ^ 32) sizes → 255 * length (octets_of_sizes kind before sizes) ≤ sum sizes + 2040 * length sizes
 unfolding octets_of_sizes
 length-octets_of_sizes kind before [] small low = omega arith
 length-octets_of_sizes kind before (size ∷ sizes) small low =
@@ -176,8 +176,8 @@ pub octets_of_sizes-end : (kind : Lace) (before : Option ℕ) (sizes : List ℕ)
 unfolding octets_of_sizes
 octets_of_sizes-end kind before sizes i outside = rw (drop_all i sizes outside) refl
 
--- a lace's head is below 2^32 octets
-pub length-lace_head : (kind : Lace) (sizes : List ℕ) → CanLace kind sizes → length (octets_of_sizes kind None (but_last sizes)) < 2 ^ 32
+-- a lace's head has 2^19 octets at most
+pub length-lace_head : (kind : Lace) (sizes : List ℕ) → CanLace kind sizes → length (octets_of_sizes kind None (but_last sizes)) ≤ 2 ^ 19
 length-lace_head kind sizes can =
     let low = All-but_last (λ s. s < 2 ^ 32) sizes (All-weaker (λ s. s ≤ 2 ^ 26) (λ s. s < 2 ^ 32) (λ s h. omega arith) sizes (All-sum sizes (2 ^ 26) can.total)) in
     let most = length-octets_of_sizes kind None (but_last sizes) tt low in

@@ -1,16 +1,16 @@
 -- A lace read from the front: RFC 9559, section 10.3 (Block Lacing).
-use Rattle.std.specs.Prelude.{◌≡◌, ℕ, zero, suc, ◌+◌, ◌-◌, ◌*◌, ◌/◌, ◌%◌, ◌==◌, nat_le, Bool, not, ◌&&◌, if◌then◌else◌, ⊤, List, [], ◌∷◌, ◌++◌, length, drop, sum, replicate, slice_index, position, Option, None, Some, Result, Ok, Err}
+use Rattle.std.specs.Prelude.{◌≡◌, ℕ, zero, suc, ◌+◌, ◌-◌, ◌*◌, ◌/◌, ◌%◌, ◌==◌, nat_le, Bool, not, ◌&&◌, if◌then◌else◌, ◌↔◌, ⊤, List, [], ◌∷◌, ◌++◌, length, drop, sum, replicate, slice_index, position, Option, None, Some, Result, Ok, Err}
 use Rattle.std.specs.Option.{option_map}
 use Rattle.ebml_format.specs.declared.number.Size.{Size}
 use Rattle.ebml_format.specs.declared.number.Size.TheVariants.{Known, Unknown}
 use Rattle.ebml_format.specs.declared.number.SizeRead.{SizeRead}
 use Rattle.ebml_format.specs.declared.number.NumFault.{NumFault}
-use Rattle.ebml_format.specs.Number.{all_ones, size_at}
+use Rattle.ebml_format.specs.Number.{AreOctets, all_ones, size_at}
 use Rattle.lacing.specs.declared.kind.Lace.{Lace}
 use Rattle.lacing.specs.declared.kind.Lace.TheVariants as lace
 use Rattle.lacing.specs.declared.kind.LaceEnd.{LaceEnd}
 use Rattle.lacing.specs.declared.kind.LaceEnd.TheVariants.{Bad, Memory}
-use Rattle.lacing.specs.Lace.{bias}
+use Rattle.lacing.specs.Lace.{bias, FindsLace}
 
 -- ---- one size at the front, and how many octets spell it
 
@@ -99,6 +99,11 @@ is_frame_count count = nat_le 1 count && nat_le count 256
 -- the sizes of so many frames and the octets of their head, where the octets behind the frame count are a lace
 unfoldable pub lace_in : Lace → ℕ → List ℕ → Option (List ℕ × ℕ)
 lace_in kind count octets = if is_frame_count count then frames_in kind count octets else None
+
+-- What is read from the front of octets is the lace that stands there, if one does.
+abbrev pub ReadsTheLace : Type 0
+ReadsTheLace =
+    (kind : Lace) (count : ℕ) (octets sizes : List ℕ) (head : ℕ) → AreOctets octets → (lace_in kind count octets ≡ Some (sizes, head)) ↔ FindsLace kind count octets sizes head
 
 -- what a reader leaves: the sizes that were found, or none
 abbrev pub Splits : Option (List ℕ × ℕ) → List ℕ → Result ℕ LaceEnd → Type 0

@@ -1,7 +1,13 @@
 //! What holds of every lace: RFC 9559, section 10.3 (Block Lacing).
 ghost use Rattle.lacing.specs.Lace.{HeadSettlesSizes};
+ghost use Rattle.lacing.specs.Reading.{ReadsTheLace};
 
 /// Within one kind of lacing no two lists of as many sizes have one head and total.
 pub fn head_settles_sizes()
     ensures { HeadSettlesSizes }
+{}
+
+/// The sizes and the head that are read are those of a lace, and those of a lace are read.
+pub fn the_lace_is_read()
+    ensures { ReadsTheLace }
 {}

@@ -9,6 +9,6 @@ mod reading;
 mod writing;
 
 pub use kind::{Lace, LaceEnd};
-pub use laws::head_settles_sizes;
+pub use laws::{head_settles_sizes, the_lace_is_read};
 pub use reading::split;
 pub use writing::{lace_len, put_lace};

@@ -13,6 +13,7 @@ use ebml_numbers::{Octets, put_size, size_width};
 pub fn lace_len(kind: Lace, sizes: &[u32]) -> u32
     requires { CanLace kind sizes.now }
     ensures exact { result ≡ length (lace_head kind sizes.now) }
+    ensures most { result ≤ 2 ^ 19 }
 {
     spelled_len(kind, but_last(sizes))
 }

@@ -12,6 +12,7 @@ invariant-loop-step g l = record {
   same : IsSameWalk l.fn.walk l.walk;
   ready : IsReady (g.R.Reads.files (g.R.Reads.standing l.src)) l.walk;
   left : Told ((g.R.Reads.files (g.R.Reads.standing l.initial.src)).content l.fn.walk.file.n) (λ bytes. left_of bytes (shown l.walk) ≡ left_of bytes (shown l.fn.walk));
+  notes : l.walk.stopped ≡ l.fn.walk.stopped;
   on : l.fn.walk.place.at ≤ l.walk.place.at;
   pays : g.R.Reads.octets_read l.src + paid ((g.R.Reads.files (g.R.Reads.standing l.initial.src)).size l.fn.walk.file.n) (shown l.fn.walk) ≤ g.R.Reads.octets_read l.initial.src + paid ((g.R.Reads.files (g.R.Reads.standing l.initial.src)).size l.fn.walk.file.n) (shown l.walk);
 }

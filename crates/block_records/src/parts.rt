@@ -1,0 +1,172 @@
+//! The parts of a block, which the octets of a SimpleBlock or a BlockGroup spell: RFC 9559, sections 10.1
+//! (Block Structure) and 10.2 (SimpleBlock Structure).
+
+ghost use Rattle.std.specs.Prelude.{◌≡◌, ◌^◌, ◌≤◌, ℕ, List, length, Some, IfOk, OnOk, OnErr, MatchResult};
+ghost use Rattle.matroska_format.specs.Element.{known, stated_end};
+ghost use Rattle.matroska_format.specs.Value.{body_of};
+ghost use Rattle.block_format.specs.Elements.{with_limits, simple_block, block_group};
+ghost use Rattle.block_records.specs.Buffered.{Makes};
+ghost use Rattle.block_records.specs.Lendable.{HasSmallTimes, IsBlock, IsEmpty, held};
+
+use crate::block::{group_head, simple_head};
+use crate::content::spell;
+use crate::damage::damage;
+use crate::gathered::Gathered;
+use crate::head::BlockHead;
+use block_format::MOST_OF_BLOCK;
+use element_bodies::known;
+use element_headers::Header;
+use lacing::Lace;
+use mkv_schema::ids::BLOCK;
+use mkv_values::{Damage, Kind};
+use smallvec::SmallVec;
+use std::alloc::{AllocError, Global};
+
+/// What is found of a block: that it is one, or the first thing that is wrong.
+pub type Found = Result<Result<(), Damage>, AllocError>;
+
+/// The parts of a block. Its frames stand among the octets of its Element's body.
+#[derive(Drop)]
+pub struct Parts {
+    pub head: BlockHead,
+    /// Where the frames begin.
+    pub start: usize,
+    /// Where they end.
+    pub end: usize,
+    /// How many octets each frame has.
+    pub sizes: SmallVec<u32, 8, Global>,
+    /// What a group's children say besides; of a SimpleBlock nothing.
+    pub gathered: Gathered,
+}
+
+impl Parts {
+    /// No block. It takes no memory.
+    pub fn new(alloc: Global) -> Parts
+        ensures empty { IsEmpty result }
+        ensures times { HasSmallTimes result.head }
+    {
+        Parts {
+            head: BlockHead {
+                track: 0,
+                time: 0,
+                key: false,
+                invisible: false,
+                discardable: false,
+                group: false,
+                lace: Lace::None,
+                duration: None,
+                offset: 0,
+            },
+            start: 0,
+            end: 0,
+            sizes: SmallVec::new(alloc),
+            gathered: Gathered::new(alloc),
+        }
+    }
+
+    /// Forgets the block. The memory stays.
+    pub fn forget(&mut self)
+        ensures empty { IsEmpty self.new }
+        ensures head { self.new.head ≡ self.old.head }
+    {
+        self.start = 0;
+        self.end = 0;
+        self.sizes.clear();
+        self.gathered.clear();
+    }
+
+    /// What the octets spell of a SimpleBlock with this header, in a Cluster whose Timestamp is so many
+    /// ticks, of `scale` nanoseconds each; or the first thing that is wrong.
+    pub fn simple(&mut self, octets: &[u8], scale: u64, timestamp: u64, header: &Header) -> Found
+        requires few { known header.now.size ≤ MOST_OF_BLOCK }
+        requires length { length octets.now ≡ known header.now.size }
+        ensures exact { IfOk result (λ found. (bytes : List ℕ) → octets.now ≡ body_of bytes header.now
+            → Makes found (held octets.now self.new) (simple_block (with_limits scale) bytes (Some timestamp) header.now)) }
+        ensures lent { IfOk result (λ found. OnOk found (IsBlock octets.now self.new)) }
+        ensures head { MatchResult result (λ found. OnErr found (self.new.head ≡ self.old.head)) (λ _. self.new.head ≡ self.old.head) }
+    {
+        self.forget();
+        let spelled = match spell(octets, &mut self.sizes)? {
+            Ok(spelled) => spelled,
+            Err(kind) => return Ok(Err(damage(kind, header.id, header.offset))),
+        };
+        self.start = spelled.start;
+        self.end = octets.len();
+        match simple_head(scale, timestamp, header, &spelled) {
+            Ok(head) => {
+                self.head = head;
+                Ok(Ok(()))
+            }
+            Err(damage) => Ok(Err(damage)),
+        }
+    }
+
+    /// What the octets spell of a BlockGroup with this header, in a file of `total` octets and a Cluster
+    /// whose Timestamp is so many ticks, of `scale` nanoseconds each; or the first thing that is wrong.
+    pub fn group(
+        &mut self,
+        octets: &[u8],
+        scale: u64,
+        timestamp: u64,
+        header: &Header,
+        total: u64,
+    ) -> Found
+        requires few { known header.now.size ≤ MOST_OF_BLOCK }
+        requires length { length octets.now ≡ known header.now.size }
+        requires inside { stated_end header.now ≤ total }
+        requires short { total ≤ 2 ^ 48 }
+        ensures exact { IfOk result (λ found. (bytes : List ℕ) → length bytes ≡ total → octets.now ≡ body_of bytes header.now
+            → Makes found (held octets.now self.new) (block_group (with_limits scale) bytes (Some timestamp) header.now)) }
+        ensures lent { IfOk result (λ found. OnOk found (IsBlock octets.now self.new)) }
+        ensures head { MatchResult result (λ found. OnErr found (self.new.head ≡ self.old.head)) (λ _. self.new.head ≡ self.old.head) }
+    {
+        self.forget();
+        if let Err(damage) = self.gathered.gather(octets, header.body, total)? {
+            return Ok(Err(damage));
+        }
+        let Some(block) = self.gathered.block else {
+            return Ok(Err(damage(Kind::MissingChild, BLOCK, header.offset)));
+        };
+        let start = (block.body - header.body) as usize;
+        let end = start + known(block.size) as usize;
+        let spelled = match spell(&octets[start..end], &mut self.sizes)? {
+            Ok(spelled) => spelled,
+            Err(kind) => return Ok(Err(damage(kind, BLOCK, header.offset))),
+        };
+        self.start = start + spelled.start;
+        self.end = end;
+        match group_head(
+            scale,
+            timestamp,
+            header.offset,
+            &spelled,
+            &mut self.gathered,
+        ) {
+            Ok(head) => {
+                self.head = head;
+                Ok(Ok(()))
+            }
+            Err(damage) => Ok(Err(damage)),
+        }
+    }
+
+    /// Forgets what was met of a block that isn't found.
+    pub fn settle(&mut self, found: Found) -> Found
+        ensures same { result ≡ found }
+        ensures found { IfOk found (λ found. OnOk found (self.new ≡ self.old)) }
+        ensures empty { MatchResult found (λ found. OnErr found (IsEmpty self.new)) (λ _. IsEmpty self.new) }
+        ensures head { self.new.head ≡ self.old.head }
+    {
+        match found {
+            Ok(Ok(())) => Ok(Ok(())),
+            Ok(Err(damage)) => {
+                self.forget();
+                Ok(Err(damage))
+            }
+            Err(AllocError) => {
+                self.forget();
+                Err(AllocError)
+            }
+        }
+    }
+}
