@@ -8,4 +8,5 @@ pub mod FoundLemmas
 pub mod StandingLemmas
 pub mod ValueLemmas
 pub mod ChildLemmas
+pub mod OrderLemmas
 pub mod StandardFacts
