@@ -1,6 +1,7 @@
 pub mod NodeLemmas
 pub mod ReadingLemmas
 pub mod ChangeLemmas
+pub mod PartLemmas
 pub mod WrittenLemmas
 pub mod AgainLemmas
 pub mod PlacedLemmas

@@ -1,5 +1,5 @@
 //! What holds of every master that is read whole: RFC 8794, section 7.7 (Master Element).
-ghost use Rattle.tree_format.specs.Laws.{ElementsAreListed, TreesAreInOrder, LimitsChangeNoTree, SoundTreesAreReadAgain};
+ghost use Rattle.tree_format.specs.Laws.{ElementsAreListed, TreesAreInOrder, LimitsChangeNoTree, SoundTreesAreReadAgain, ChildrenChange};
 
 /// The Elements of a body are listed one at a time.
 pub fn elements_are_listed()
@@ -19,4 +19,9 @@ pub fn limits_change_no_tree()
 /// What is written of a sound master is read back, whatever a reader's limit on nodes.
 pub fn sound_trees_are_read_again()
     ensures { SoundTreesAreReadAgain }
+{}
+
+/// A child that is set is the only one of its ID, and those of every other ID stay.
+pub fn children_change()
+    ensures { ChildrenChange }
 {}

@@ -5,7 +5,10 @@
 //! `specs/`; the calls, which do nothing, carry laws of them.
 
 mod laws;
+mod limits;
 
 pub use laws::{
-    elements_are_listed, limits_change_no_tree, sound_trees_are_read_again, trees_are_in_order,
+    children_change, elements_are_listed, limits_change_no_tree, sound_trees_are_read_again,
+    trees_are_in_order,
 };
+pub use limits::MOST_NODES;
