@@ -1,3 +1,4 @@
 pub mod NumbersLemmas
 pub mod ListsLemmas
 pub mod PlaceLemmas
+pub mod SoundLemmas
