@@ -1,21 +1,20 @@
 -- What is read of the words of a merge keeps its limits.
-use Rattle.std.proofs.Common.{◌≡◌, ◌<◌, ◌≤◌, ℕ, zero, suc, ◌+◌, ◌^◌, ℤ, Bool, true, false, not, ◌&&◌, ◌||◌, ◌==◌, nat_le, cond, if◌then◌else◌, List, [], ◌∷◌, ◌++◌, length, length-append, Option, Some, None, IfSome, option_map, Result, Ok, Err, refl, sym, ap, ◌∙◌, subst, arith, unwrap_or, append-nil, drop}
+use Rattle.std.proofs.Common.{◌≡◌, ◌<◌, ◌≤◌, ℕ, ◌+◌, ◌^◌, ℤ, Bool, true, false, not, ◌&&◌, ◌||◌, ◌==◌, nat_le, cond, if◌then◌else◌, List, [], ◌∷◌, ◌++◌, length, length-append, Option, Some, None, IfSome, option_map, Ok, refl, sym, ap, ◌∙◌, subst, arith, unwrap_or, append-nil, drop}
 use Rattle.std.specs.Prelude.{nat_abs, slice_get, All, codes, option_and_then}
-use Rattle.std.specs.List.{find, filter_map, cons_option, list_all, list_any, count_by}
+use Rattle.std.specs.List.{find, cons_option, list_all}
 use Rattle.std.specs.Str.{bytes_eq}
 use Rattle.std.proofs.lemmas.Bool.Decides.{nat_tests}
 use Rattle.std.proofs.lemmas.List.Sums.{sum_by-append}
 use Rattle.std.proofs.lemmas.List.Folds.{list_any-append}
 use Rattle.std.proofs.lemmas.List.Elements.{All-nil, All-cons, All-head, All-tail, All-append}
-use Rattle.word_values.specs.declared.usage.Usage.{Usage}
-use Rattle.word_values.specs.declared.usage.Why.TheVariants.{UnknownOption, MissingValue, BadValue, RepeatedOption, ExtraWord, AppendFirst, TooManyInputs}
+use Rattle.word_values.specs.declared.usage.Why.TheVariants.{MissingValue}
 use Rattle.word_values.specs.declared.values.ValueForm.{ValueForm}
 use Rattle.word_values.specs.declared.values.Value.{Value}
 use Rattle.word_values.specs.declared.values.Value.TheVariants.{Flag, Name, Scale, Blocks, Span, Split, Uuids, Tracks, TrackDelay, TrackName, TrackFlag, TrackCues}
-use Rattle.word_values.specs.Answers.{wrong, ◌>>=◌}
 use Rattle.word_values.specs.Place.{is_option}
 use Rattle.word_values.specs.Values.{flag_of, value_of}
 use Rattle.word_values.specs.Sound.{IsWithin, AreUuids, IsSoundSplit, IsSoundValue}
+use Rattle.word_values.proofs.AnswerLemmas.{ok-then, ok-else}
 use Rattle.word_values.proofs.SoundLemmas.{value_of-sound, flag_of-sound}
 use Rattle.merge_words.specs.declared.options.Subject.{Subject}
 use Rattle.merge_words.specs.declared.options.Subject.TheVariants as subject
@@ -34,18 +33,6 @@ use Rattle.merge_words.specs.Merge.{Start, starts, read_all, items, wrong_if, wr
 use Rattle.merge_words.specs.Sound.{IsSoundFile, IsSoundMerge}
 use Rattle.merge_words.proofs.ItemsLemmas.{latest_other}
 use Rattle.merge_words.specs.Items.{is_file, files_in, latest, since_file, stands, track_in, repeats, repeats_for, read_value, value_at, said, option_at, append_at, file_at, known, item_at}
-
--- ---- results
-
--- what an answer was made of
-pub ok-then : {A B : Type 0} (P : Type 0) (r : Result A Usage) (f : A → Result B Usage) (y : B) → (r >>= f) ≡ Ok y → ((x : A) → r ≡ Ok x → f x ≡ Ok y → P) → P
-ok-then P (Ok x) f y is keeps = keeps x refl is
-ok-then P (Err e) f y is keeps = absurd (cc)
-
--- an answer that a test lets through
-ok-else : {B : Type 0} (b : Bool) (e : Usage) (r : Result B Usage) (y : B) → (if b then Err e else r) ≡ Ok y → (b ≡ false) × (r ≡ Ok y)
-ok-else true e r y is = absurd (cc)
-ok-else false e r y is = (refl, is)
 
 -- ---- options
 
