@@ -9,3 +9,4 @@ mod tree;
 
 pub use end::TreeEnd;
 pub use tree::Tree;
+pub use tree_format::MOST_NODES;

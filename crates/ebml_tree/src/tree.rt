@@ -61,7 +61,7 @@ impl Model for Tree {
 impl Tree {
     ghost use Rattle.tree_format.specs.Node.{Node, id_of, offset_of, children, with_children, leaf, master, nodes_of, body_of, count, depth, depth_all, deepest, HasRoom, IsMaster};
     ghost use Rattle.tree_format.specs.NormalForm.{content, octets, kept_octets, longest};
-    ghost use Rattle.tree_format.specs.Standing.{IsSound, StandsIn, IsReadAgain, kept, placed_in};
+    ghost use Rattle.tree_format.specs.Standing.{IsSound, StandsIn, IsReadAgain, IsReadWithoutLimits, kept, placed_in};
     ghost use Rattle.tree_format.specs.Text.{HasNoZero};
     ghost use Rattle.tree_format.specs.Changes.{with_child, without, HasChild, AreTooLong};
     ghost use Rattle.ebml_format.specs.Number.{is_id, uint_octets, int_of, int_octets, magnitude};
@@ -161,6 +161,15 @@ impl Tree {
         ensures room { IfSome result (λ tree. HasRoom tree.now) }
     {
         tree_at(self.children(), k)
+    }
+
+    /// The children themselves, each to be changed in its place; a leaf has none. Takes no memory.
+    #[tactic(auto, using(crate::proofs::ContentLemmas::changes))]
+    pub fn into_children(self) -> Vec<Tree>
+        ensures exact { result.items ≡ children self }
+        ensures room { depth_all (nodes_of result.items) < deepest }
+    {
+        self.content.into_kids()
     }
 
     /// A leaf's octets; a master has none.
@@ -298,10 +307,11 @@ impl Tree {
         // It is the header and what is behind it, or nothing of a Void or a CRC-32.
         ensures header { octets self.now ≡ kept_octets (id_of self.now) (content self.now) }
 
-        // A sound master is read again from what is written behind its header. Its new places, and what
-        // was left out, are nothing to what is written.
+        // A sound master is read again from what is written behind its header, with a limit on nodes and
+        // without. Its new places, and what was left out, are nothing to what is written.
         ensures again { (nodes : ℕ) → IsMaster self.now → IsSound self.now → kept self.now ≤ nodes
             → IsReadAgain nodes self.now }
+        ensures free { IsMaster self.now → IsSound self.now → IsReadWithoutLimits self.now }
         ensures stable { (offset base : ℕ) → octets (placed_in offset base self.now) ≡ octets self.now }
     {
         let mut octets = mem::replace(out, Bytes::new(self.content.alloc())).into_vec();

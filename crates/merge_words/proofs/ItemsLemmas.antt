@@ -5,7 +5,7 @@ use Rattle.merge_words.specs.declared.item.Item.{Item}
 use Rattle.merge_words.specs.Items.{is_file, latest}
 
 -- a last item that names no file stands behind those before it
-latest_other : (group items : List Item) (i : Item) → is_file i ≡ false → latest group (items ++ i ∷ []) ≡ latest group items ++ i ∷ []
+pub latest_other : (group items : List Item) (i : Item) → is_file i ≡ false → latest group (items ++ i ∷ []) ≡ latest group items ++ i ∷ []
 latest_other group [] i other = rw other
 latest_other group (x ∷ xs) i other =
     elim (is_file x) as (λ b. cond b (latest [] (xs ++ i ∷ [])) (latest (group ++ x ∷ []) (xs ++ i ∷ [])) ≡ cond b (latest [] xs) (latest (group ++ x ∷ []) xs) ++ i ∷ []) [
@@ -14,7 +14,7 @@ latest_other group (x ∷ xs) i other =
     ]
 
 -- nothing stands behind a last item that names a file
-latest_file : (group items : List Item) (i : Item) → is_file i ≡ true → latest group (items ++ i ∷ []) ≡ []
+pub latest_file : (group items : List Item) (i : Item) → is_file i ≡ true → latest group (items ++ i ∷ []) ≡ []
 latest_file group [] i file = rw file
 latest_file group (x ∷ xs) i file =
     elim (is_file x) as (λ b. cond b (latest [] (xs ++ i ∷ [])) (latest (group ++ x ∷ []) (xs ++ i ∷ [])) ≡ []) [

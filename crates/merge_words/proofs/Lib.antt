@@ -1,3 +1,4 @@
 pub mod MergeLemmas
 pub mod FilesLemmas
 pub mod ItemsLemmas
+pub mod SoundLemmas

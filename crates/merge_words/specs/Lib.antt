@@ -4,3 +4,4 @@ pub mod Said
 pub mod Files
 pub mod Output
 pub mod Merge
+pub mod Sound

@@ -1,5 +1,5 @@
 -- Where the scale of an Info and that of its file come from.
-use Rattle.std.proofs.Common.{◌≡◌, ◌<◌, ℕ, ◌==◌, Bool, true, false, not, cond, eqb-true, List, [], ◌∷◌, Option, Some, None, Ok, refl, subst, ap, ◌∙◌, arith, unwrap_or}
+use Rattle.std.proofs.Common.{◌≡◌, ◌<◌, ℕ, ◌==◌, Bool, true, false, not, cond, eqb-true, List, [], ◌∷◌, Option, Some, None, IfSome, Result, Ok, Err, IsOk, refl, subst, ap, ◌∙◌, arith, unwrap_or}
 use Rattle.std.specs.Option.{option_map, option_and_then}
 use Rattle.std.proofs.lemmas.Bool.Decides.{nat_tests}
 use Rattle.mkv_schema.specs.declared.ids.TheConstants.{INFO, TIMESTAMP_SCALE}
@@ -9,15 +9,18 @@ use Rattle.mkv_values.specs.declared.damage.Damage.{Damage}
 use Rattle.mkv_values.specs.declared.damage.Kind.TheVariants.{BadValue}
 use Rattle.matroska_format.specs.declared.element.Header.{Header}
 use Rattle.matroska_format.specs.Element.{damage}
-use Rattle.matroska_format.specs.Outline.{segment_run, where_it}
-use Rattle.matroska_format.specs.Value.{first_of}
+use Rattle.matroska_format.specs.Outline.{where_it}
+use Rattle.matroska_format.specs.Value.{body_of, first_of}
+use Rattle.tree_format.specs.declared.limits.TheConstants.{MOST_NODES}
 use Rattle.tree_format.specs.Node.{Node, offset_of}
 use Rattle.tree_format.specs.Values.{first_child, integer_of, HasUint}
-use Rattle.meta_format.specs.Info.{scale_of, info_refusal, default_scale, info_tree, scale_in, file_scale}
+use Rattle.tree_format.proofs.OrderLemmas.{tree_of-without_limits}
+use Rattle.meta_format.specs.declared.scale.TheConstants.{DEFAULT_SCALE}
+use Rattle.meta_format.specs.Info.{scale_of, info_refusal, first_info, info_tree, info_without_limits, scale_in, scale_at, file_scale, scale_without_limits, LimitsChangeNoScale}
 
 -- ---- what the table has in an Info
 
-pub default : unwrap_or (uint_default TIMESTAMP_SCALE) 0 ≡ default_scale
+pub default : unwrap_or (uint_default TIMESTAMP_SCALE) 0 ≡ DEFAULT_SCALE
 unfolding entry_of table
 default = refl
 
@@ -27,7 +30,7 @@ timestamp_scale = record { stands = refl; kind = refl }
 
 -- ---- an Info
 
-pub scale-none : (info : Node) → first_child TIMESTAMP_SCALE info ≡ None → scale_of info ≡ default_scale
+pub scale-none : (info : Node) → first_child TIMESTAMP_SCALE info ≡ None → scale_of info ≡ DEFAULT_SCALE
 scale-none info found = ap (λ o. unwrap_or (option_map integer_of o) (unwrap_or (uint_default TIMESTAMP_SCALE) 0)) found ∙ default
 
 -- a scale that isn't refused isn't 0
@@ -59,10 +62,24 @@ first_of-id id (k ∷ ks) h first = split (k.id == id) refl first (first_of-id i
         subst P found_is (eqb-true k.id id is)
     split false is found rest = rest found
 
-pub file_scale-none : (bytes : List ℕ) (segment : Header) → first_of INFO (segment_run bytes segment).list ≡ None → file_scale bytes segment ≡ default_scale
+pub file_scale-none : (bytes : List ℕ) (segment : Header) → first_info bytes segment ≡ None → file_scale bytes segment ≡ DEFAULT_SCALE
 unfolding file_scale
 file_scale-none bytes segment none = rw none refl
 
-pub file_scale-some : (bytes : List ℕ) (segment h : Header) (info : Node) → first_of INFO (segment_run bytes segment).list ≡ Some h → info_tree bytes h ≡ Ok info → file_scale bytes segment ≡ scale_of info
+pub file_scale-some : (bytes : List ℕ) (segment h : Header) (info : Node) → first_info bytes segment ≡ Some h → info_tree bytes h ≡ Ok info → file_scale bytes segment ≡ scale_of info
 unfolding file_scale
 file_scale-some bytes segment h info first tree = rw first (ap scale_in tree)
+
+-- ---- without a reader's limits
+
+tree-same : (bytes : List ℕ) (h : Header) (read : Result Node Damage) → info_tree bytes h ≡ read → IsOk read → scale_in (info_without_limits bytes h) ≡ scale_in read
+tree-same bytes h (Ok info) is ok = ap scale_in (tree_of-without_limits h.id h.offset (body_of bytes h) h.body MOST_NODES info is)
+tree-same bytes h (Err d) is ok = absurd (cc)
+
+scale-same : (bytes : List ℕ) (first : Option Header) → IfSome first (λ h. IsOk (info_tree bytes h)) → scale_at (info_without_limits bytes) first ≡ scale_at (info_tree bytes) first
+scale-same bytes None ok = refl
+scale-same bytes (Some h) ok = tree-same bytes h (info_tree bytes h) refl ok
+
+pub limits-no-scale : LimitsChangeNoScale
+unfolding file_scale scale_without_limits
+limits-no-scale bytes segment ok = scale-same bytes (first_info bytes segment) ok

@@ -12,7 +12,8 @@ use Rattle.matroska_format.specs.Element.{element_in, damage}
 use Rattle.matroska_format.specs.Elements.{elements, elements_within}
 use Rattle.matroska_format.specs.Outline.{and_then, outline_of, ebml_header, segment_of}
 use Rattle.tree_format.specs.Reading.{tree_of, grove, grove_within}
-use Rattle.meta_format.specs.Info.{info_refusal, file_scale}
+use Rattle.tree_format.specs.Order.{elements_in, elements_within as trees_within}
+use Rattle.meta_format.specs.Info.{info_refusal, file_scale, scale_without_limits}
 
 -- ---- Elements
 
@@ -98,6 +99,20 @@ scales = record {
   too_long_scale = refl;
   zero = refl;
 }
+
+-- the same without a reader's limits
+abbrev read_freely : List ℕ → Result ℕ Damage
+read_freely body =
+    let bytes : List ℕ = header ++ element 0x18 0x53 0x80 0x67 body in and_then (outline_of 0 bytes) (λ o. Ok (scale_without_limits bytes o.segment))
+
+pub record AreFreeScales : Type 0 where
+  pub no_info : read_freely tracks ≡ Ok 1000000
+  pub second_scale : read_freely (info (five ++ zero_scale)) ≡ Ok 5
+  pub damaged_info : read_freely (info (five ++ (0x4D ∷ 0x80 ∷ 0x81 ∷ 0xFF ∷ []))) ≡ Ok 1000000
+
+pub free_scales : AreFreeScales
+unfolding is_utf8 chars encode scale_without_limits outline_of ebml_header segment_of elements elements_within element_in id_at size_at entry_of table count_leading_zeros elements_in trees_within
+free_scales = record { no_info = refl; second_scale = refl; damaged_info = refl }
 
 -- ---- what refuses an Info whose header stands at 21 and whose body at 26
 

@@ -1,5 +1,5 @@
 -- What an Info says of its file: RFC 9559, section 5.1.2 (Info Element). What refuses it is this project's.
-use Rattle.std.specs.Prelude.{ℕ, ◌==◌, not, List, Option, Some, None, Result, Ok, Err}
+use Rattle.std.specs.Prelude.{◌≡◌, ℕ, ◌==◌, not, List, Option, Some, None, IfSome, Result, Ok, Err, IsOk}
 use Rattle.mkv_schema.specs.declared.ids.TheConstants.{INFO, TIMESTAMP_SCALE}
 use Rattle.mkv_values.specs.declared.damage.Damage.{Damage}
 use Rattle.mkv_values.specs.declared.damage.Kind.TheVariants.{BadValue}
@@ -7,8 +7,11 @@ use Rattle.matroska_format.specs.declared.element.Header.{Header}
 use Rattle.matroska_format.specs.Outline.{segment_run}
 use Rattle.matroska_format.specs.Value.{body_of, first_of}
 use Rattle.tree_format.specs.Node.{Node}
+use Rattle.tree_format.specs.declared.limits.TheConstants.{MOST_NODES}
 use Rattle.tree_format.specs.Reading.{tree_of}
+use Rattle.tree_format.specs.Order.{tree_without_limits}
 use Rattle.tree_format.specs.Values.{integer_of, uint_in, failing_child}
+use Rattle.meta_format.specs.declared.scale.TheConstants.{DEFAULT_SCALE}
 
 -- ---- an Info
 
@@ -22,28 +25,37 @@ info_refusal info = failing_child BadValue TIMESTAMP_SCALE (λ n. not (integer_o
 
 -- ---- a file
 
--- the most Elements of an Info, itself counted
-abbrev pub most_nodes : ℕ
-most_nodes = 65536
+-- the first Info of a content with this Segment, which stands before any damage of level 1
+abbrev pub first_info : List ℕ → Header → Option Header
+first_info bytes segment = first_of INFO (segment_run bytes segment).list
 
--- the table's default
-abbrev pub default_scale : ℕ
-default_scale = 1000000
-
--- an Info of a content as a tree, or the first damage inside
+-- an Info of a content as a tree, or the first damage inside: with a reader's limits, and without them
 abbrev pub info_tree : List ℕ → Header → Result Node Damage
-info_tree bytes h = tree_of h.id h.offset (body_of bytes h) h.body most_nodes
+info_tree bytes h = tree_of h.id h.offset (body_of bytes h) h.body MOST_NODES
+
+abbrev pub info_without_limits : List ℕ → Header → Result Node Damage
+info_without_limits bytes h = tree_without_limits h.id h.offset (body_of bytes h) h.body
 
 -- the scale of what was read of an Info; a damaged one says nothing
 abbrev pub scale_in : Result Node Damage → ℕ
 scale_in (Ok info) = scale_of info
-scale_in (Err damage) = default_scale
+scale_in (Err damage) = DEFAULT_SCALE
 
-abbrev pub scale_at : List ℕ → Option Header → ℕ
-scale_at bytes None = default_scale
-scale_at bytes (Some h) = scale_in (info_tree bytes h)
+-- the scale of an Info that is read so, or the default where there is none
+abbrev pub scale_at : (Header → Result Node Damage) → Option Header → ℕ
+scale_at read None = DEFAULT_SCALE
+scale_at read (Some h) = scale_in (read h)
 
--- Nanoseconds a tick of a content with this Segment: its first Info's, which stands before any damage
--- of level 1.
+-- nanoseconds a tick of a content with this Segment, for a reader with limits: those of its first Info
 unfoldable pub file_scale : List ℕ → Header → ℕ
-file_scale bytes segment = scale_at bytes (first_of INFO (segment_run bytes segment).list)
+file_scale bytes segment = scale_at (info_tree bytes) (first_info bytes segment)
+
+-- the same without a reader's limits
+unfoldable pub scale_without_limits : List ℕ → Header → ℕ
+scale_without_limits bytes segment = scale_at (info_without_limits bytes) (first_info bytes segment)
+
+-- Where a reader with limits can read the first Info, or there is none, both scales are one.
+abbrev pub LimitsChangeNoScale : Type 0
+LimitsChangeNoScale =
+    (bytes : List ℕ) (segment : Header) → IfSome (first_info bytes segment) (λ h. IsOk (info_tree bytes h))
+    → scale_without_limits bytes segment ≡ file_scale bytes segment

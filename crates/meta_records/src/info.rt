@@ -3,18 +3,14 @@
 ghost use Rattle.std.specs.Prelude.{◌≡◌, ◌<◌, ℕ, List, Some, Ok, IfOk};
 ghost use Rattle.mkv_schema.specs.declared.ids.TheConstants.{INFO as INFO_ID};
 ghost use Rattle.matroska_format.specs.declared.element.Header.{Header};
-ghost use Rattle.matroska_format.specs.Outline.{segment_run};
-ghost use Rattle.matroska_format.specs.Value.{first_of};
 ghost use Rattle.tree_format.specs.Standing.{IsSoundOf};
-ghost use Rattle.meta_format.specs.Info.{scale_of, info_refusal, info_tree, file_scale};
+ghost use Rattle.meta_format.specs.Info.{scale_of, info_refusal, first_info, info_tree, file_scale};
 ghost use Rattle.meta_records.specs.Info.{info_of};
 
 use ebml_tree::Tree;
+use meta_format::DEFAULT_SCALE;
 use mkv_schema::ids::TIMESTAMP_SCALE;
 use mkv_values::{Damage, Kind};
-
-/// The TimestampScale that stands for one that is missing.
-const DEFAULT_SCALE: u64 = 1_000_000;
 
 /// What an Info says of its file (RFC 9559, section 5.1.2, Info Element).
 #[derive(Clone, Copy, Debug, PartialEq, Eq)]
@@ -59,7 +55,7 @@ pub fn read_info(info: &Tree) -> Result<Info, Damage>
 
     // The scale of the first Info of a file is the file's.
     ensures file { (bytes : List ℕ) (segment h : Header)
-        → first_of INFO_ID (segment_run bytes segment).list ≡ Some h → info_tree bytes h ≡ Ok info.now
+        → first_info bytes segment ≡ Some h → info_tree bytes h ≡ Ok info.now
         → IfOk result (λ values. values.scale ≡ file_scale bytes segment) }
 {
     match refusal_of(info) {

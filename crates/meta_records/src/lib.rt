@@ -6,3 +6,4 @@
 mod info;
 
 pub use info::{Info, read_info};
+pub use meta_format::DEFAULT_SCALE;

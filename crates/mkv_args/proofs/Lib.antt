@@ -1,2 +1,3 @@
 pub mod PropeditLemmas
 pub mod HelpLemmas
+pub mod SoundLemmas

@@ -5,3 +5,4 @@ pub mod Extract
 pub mod Propedit
 pub mod Words
 pub mod Help
+pub mod Sound

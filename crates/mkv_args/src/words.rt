@@ -1,10 +1,11 @@
 //! The words of a command line, read from left to right.
 
-ghost use Rattle.std.specs.Prelude.{◌≡◌};
+ghost use Rattle.std.specs.Prelude.{◌≡◌, IfOk};
 ghost use Rattle.word_values.specs.Answers.{Tells, TellsOf, refuses};
 ghost use Rattle.word_values.specs.Place as place;
 ghost use Rattle.word_values.specs.Place.{texts};
 ghost use Rattle.mkv_args.specs.Words as spec;
+ghost use Rattle.mkv_args.specs.Sound.{IsSound};
 
 use crate::command::Command;
 use crate::commands::{Verb, verb_of};
@@ -17,7 +18,10 @@ use word_values::{ArgsEnd, Why, due_at, end_at, file_at, name, number, refused, 
 /// The command that the words ask for, or the first word that is wrong. Words are counted from 0,
 /// and the program's own name is none of them.
 pub fn read_words(alloc: Global, words: &Vec<String>) -> Result<Command, ArgsEnd>
-    ensures { Tells result (spec.command (texts words.now.items)) }
+    ensures exact { Tells result (spec.command (texts words.now.items)) }
+
+    // Numbers stand within their limits, and no two outputs of an extraction have one name.
+    ensures sound { IfOk result IsSound }
 {
     command(alloc, words.as_slice())
 }

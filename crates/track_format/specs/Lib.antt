@@ -3,3 +3,4 @@ pub mod Refusal
 pub mod Tracks
 pub mod TrackType
 pub mod Encoding
+pub mod File

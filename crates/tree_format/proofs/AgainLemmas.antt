@@ -20,9 +20,10 @@ use Rattle.mkv_values.specs.declared.damage.Damage.{Damage}
 use Rattle.mkv_values.specs.declared.damage.Kind.TheVariants.{TooLong}
 use Rattle.matroska_format.specs.declared.element.Header.{Header}
 use Rattle.matroska_format.specs.Element.{in_tree, element_in, id_in, with_id, with_size, with_body, body_damage, display_read, stated_end}
+use Rattle.matroska_format.specs.Outline.{and_then}
 use Rattle.tree_format.specs.Node.{Node, Nodes, leaf, master, none, node, list_of, IsMaster, count, count_all, depth_all, deepest}
 use Rattle.tree_format.specs.NormalForm.{is_filler, header_octets, element_octets, octets, octets_all, longest}
-use Rattle.tree_format.specs.Reading.{Grove, header_at, inside, behind, is_master_in, and_then, as_master, grown, with_first, first_then, grove, as_root}
+use Rattle.tree_format.specs.Reading.{Grove, header_at, inside, behind, is_master_in, as_master, grown, with_first, first_then, grove, as_root}
 use Rattle.tree_format.specs.Standing.{IsLeafIn, AllStandIn, IsSound, KeepsLimits, IsReadAgain, kept, kept_all, placed_all}
 use Rattle.tree_format.proofs.NodeLemmas.{nodes-list}
 use Rattle.tree_format.proofs.ReadingLemmas.{grove-more, grove-end}

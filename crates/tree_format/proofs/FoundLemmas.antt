@@ -12,8 +12,9 @@ use Rattle.mkv_values.specs.declared.damage.Kind.TheVariants.{TooMany, BadValue}
 use Rattle.matroska_format.specs.declared.element.Header.{Header}
 use Rattle.matroska_format.specs.Element.{in_tree, element_in, id_in, with_id, display_read, stated_end}
 use Rattle.matroska_format.specs.Value.{is_known_value}
+use Rattle.matroska_format.specs.Outline.{and_then}
 use Rattle.tree_format.specs.Node.{Node, leaf, master, nodes_of, id_of, IsMaster, count, count_all, deepest}
-use Rattle.tree_format.specs.Reading.{Grove, Grown, header_at, inside, behind, is_master_in, refused, and_then, as_master, grown, with_first, first_then, grove, as_root, tree_of}
+use Rattle.tree_format.specs.Reading.{Grove, Grown, header_at, inside, behind, is_master_in, refused, as_master, grown, with_first, first_then, grove, as_root, tree_of}
 use Rattle.tree_format.specs.Standing.{StandsIn, AllStandIn, IsSound, KeepsLimits, IsReadAgain}
 use Rattle.tree_format.proofs.ReadingLemmas.{grove-more, grove-end, header_at-fits, length-inside, length-behind, id-of-size}
 use Rattle.tree_format.proofs.AgainLemmas.{IsReadIn, display-parent, sound-again, kept-le}

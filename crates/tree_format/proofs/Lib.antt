@@ -1,6 +1,7 @@
 pub mod NodeLemmas
 pub mod ReadingLemmas
 pub mod ChangeLemmas
+pub mod PartLemmas
 pub mod WrittenLemmas
 pub mod AgainLemmas
 pub mod PlacedLemmas
@@ -8,4 +9,5 @@ pub mod FoundLemmas
 pub mod StandingLemmas
 pub mod ValueLemmas
 pub mod ChildLemmas
+pub mod OrderLemmas
 pub mod StandardFacts

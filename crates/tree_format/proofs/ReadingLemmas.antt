@@ -17,10 +17,11 @@ use Rattle.matroska_format.specs.declared.element.Header.{Header}
 use Rattle.matroska_format.specs.Element.{in_tree, element_in, id_in, with_id, with_size, with_body, body_damage, display_read, is_unknown, known, stated_end}
 use Rattle.matroska_format.specs.Value.{is_known_value}
 use Rattle.matroska_format.proofs.ElementLemmas.{element_in-placed}
+use Rattle.matroska_format.specs.Outline.{and_then}
 use Rattle.tree_format.specs.Node.{Node, leaf, nodes_of, depth, depth_all}
 use Rattle.tree_format.proofs.NodeLemmas.{depth_all-append}
 use Rattle.tree_format.specs.Fits.{Fits}
-use Rattle.tree_format.specs.Reading.{Reader, Grove, Grown, header_at, inside, behind, is_master_in, refused, and_then, as_master, grown, with_first, first_then, grove_within, grove}
+use Rattle.tree_format.specs.Reading.{Reader, Grove, Grown, header_at, inside, behind, is_master_in, refused, as_master, grown, with_first, first_then, grove_within, grove}
 
 -- ---- where a header stands
 

@@ -13,6 +13,7 @@ use Rattle.matroska_format.specs.Element.{element_in, damage}
 use Rattle.tree_format.specs.Node.{Node, Nodes, leaf, master, none, node}
 use Rattle.tree_format.specs.NormalForm.{octets, element_octets}
 use Rattle.tree_format.specs.Reading.{tree_of, grove, grove_within}
+use Rattle.tree_format.specs.Order.{elements_in, elements_within, tree_in_order, tree_without_limits}
 
 -- ---- what octets mean, in a master whose header stands at 95 and whose body at 100
 
@@ -125,3 +126,32 @@ pub record AreDepths : Type 0 where
 pub depths : AreDepths
 unfolding grove grove_within element_in id_at size_at entry_of table count_leading_zeros uint_width least_size_width
 depths = record { deepest = refl; too_deep = refl }
+
+-- ---- over all Elements, and without limits
+
+-- a float of three octets, in an Audio
+abbrev bad_float : List ℕ
+bad_float = 0xB5 ∷ 0x83 ∷ 0 ∷ 0 ∷ 0 ∷ []
+
+-- One too many is told before its value is; and what is wrong in front comes first.
+pub record AreRefusalsInOrder : Type 0 where
+  pub filled : tree_in_order 0xAE 95 filled 100 6 ≡ found 0xAE filled_tree
+  pub one_too_many : tree_in_order 0xE1 95 bad_float 100 1 ≡ wrong TooMany 0xB5 100
+  pub no_value : tree_in_order 0xE1 95 bad_float 100 2 ≡ wrong BadValue 0xB5 100
+  pub value_in_front : tree_in_order 0xE1 95 (bad_float ++ 0xB5 ∷ 0 ∷ []) 100 9 ≡ wrong BadValue 0xB5 100
+  pub damage_inside : tree_in_order 0xAE 95 (0xE0 ∷ 0x83 ∷ 0xB0 ∷ 0x82 ∷ 1 ∷ 0xD7 ∷ 0 ∷ []) 100 9 ≡ wrong TooLong 0xB0 102
+
+pub refusals_in_order : AreRefusalsInOrder
+unfolding is_utf8 chars encode elements_in elements_within element_in id_at size_at entry_of table count_leading_zeros
+refusals_in_order = record { filled = refl; one_too_many = refl; no_value = refl; value_in_front = refl; damage_inside = refl }
+
+-- However deep masters stand, and however many there are, a value is one of its kind.
+pub record AreFree : Type 0 where
+  pub as_deep_as_can_be : tree_without_limits 0xB6 0 (atoms 32) 2 ≡ Ok (master 0xB6 0 (atom_trees 32 2))
+  pub filled : tree_without_limits 0xAE 95 filled 100 ≡ found 0xAE filled_tree
+  pub no_value : tree_without_limits 0xE1 95 bad_float 100 ≡ wrong BadValue 0xB5 100
+  pub id_cut : tree_without_limits 0xAE 95 (0x53 ∷ []) 100 ≡ wrong TooLong 0 100
+
+pub free : AreFree
+unfolding is_utf8 chars encode elements_in elements_within element_in id_at size_at entry_of table count_leading_zeros uint_width least_size_width
+free = record { as_deep_as_can_be = refl; filled = refl; no_value = refl; id_cut = refl }

@@ -1,5 +1,5 @@
 -- Changes of the list of a master's children.
-use Rattle.std.specs.Prelude.{ℕ, ◌+◌, ◌<◌, ◌==◌, not, List, [], ◌∷◌, ◌++◌, length, flat_map, take, drop, filter, position, Option, Some, None, IsSome}
+use Rattle.std.specs.Prelude.{◌≡◌, ℕ, ◌+◌, ◌<◌, ◌==◌, All, false, not, List, [], ◌∷◌, ◌++◌, length, flat_map, take, drop, filter, position, Option, Some, None, IsSome}
 use Rattle.tree_format.specs.Node.{Node, id_of}
 use Rattle.tree_format.specs.NormalForm.{octets, longest}
 
@@ -23,3 +23,11 @@ HasChild id ns = IsSome (position (λ m. id_of m == id) ns)
 -- in the normal form the children are more octets than a body may have
 abbrev pub AreTooLong : List Node → Type 0
 AreTooLong ns = longest < length (flat_map octets ns)
+
+-- the children of an ID
+abbrev pub part : ℕ → List Node → List Node
+part id ns = filter (λ n. id_of n == id) ns
+
+-- no child has this ID
+abbrev pub HasNone : ℕ → List Node → Type 0
+HasNone id ns = All (λ n. (id_of n == id) ≡ false) ns

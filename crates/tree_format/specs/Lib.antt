@@ -3,7 +3,9 @@ pub mod Values
 pub mod Stored
 pub mod NormalForm
 pub mod Reading
+pub mod Order
 pub mod Changes
 pub mod Fits
 pub mod Standing
 pub mod Text
+pub mod Laws

@@ -6,6 +6,7 @@ use Rattle.mkv_values.specs.declared.damage.Kind.{Kind}
 use Rattle.mkv_values.specs.declared.damage.Kind.TheVariants.{BadValue, TooMany}
 use Rattle.matroska_format.specs.declared.element.Header.{Header}
 use Rattle.matroska_format.specs.Element.{in_tree, element_in, known, stated_end, damage}
+use Rattle.matroska_format.specs.Outline.{and_then}
 use Rattle.matroska_format.specs.Value.{is_known_value}
 use Rattle.tree_format.specs.Node.{Node, leaf, master, nodes_of, deepest}
 
@@ -37,11 +38,6 @@ pub record Grove : Type 0 where
 
 abbrev pub refused : {A : Type 0} → Kind → ℕ → ℕ → Result A Damage
 refused kind id p = Err (damage kind id p)
-
--- the same as long as all is well
-abbrev pub and_then : {A B : Type 0} → Result A Damage → (A → Result B Damage) → Result B Damage
-and_then (Ok x) next = next x
-and_then (Err d) next = Err d
 
 -- how a body is read: how deep masters may stand in it, how many nodes may be there, its master's ID,
 -- its place and its octets

@@ -5,6 +5,7 @@ use Rattle.matroska_format.specs.Value.{is_known_value}
 use Rattle.tree_format.specs.Node.{Node, Nodes, leaf, master, none, node, id_of, depth, deepest}
 use Rattle.tree_format.specs.NormalForm.{is_filler, header_octets, octets, octets_all, content, longest}
 use Rattle.tree_format.specs.Reading.{is_master_in, tree_of}
+use Rattle.tree_format.specs.Order.{tree_without_limits}
 
 -- A leaf stands under a parent: its ID is a valid one; the table has no master of that ID there; and its
 -- octets are a value of its kind.
@@ -70,3 +71,7 @@ pub record KeepsLimits (n : Node) : Type 0 where
 -- same tree, without what is left out, each Element at its own place.
 pub record IsReadAgain (nodes : ℕ) (n : Node) : Type 0 where
   pub read : (offset base : ℕ) → tree_of (id_of n) offset (content n) base nodes ≡ Ok (placed_in offset base n)
+
+-- The same without a reader's limits, which don't count where a file is written.
+pub record IsReadWithoutLimits (n : Node) : Type 0 where
+  pub read : (offset base : ℕ) → tree_without_limits (id_of n) offset (content n) base ≡ Ok (placed_in offset base n)

@@ -1,3 +1,5 @@
 pub mod NumbersLemmas
 pub mod ListsLemmas
 pub mod PlaceLemmas
+pub mod AnswerLemmas
+pub mod SoundLemmas

@@ -4,3 +4,4 @@ pub mod Lists
 pub mod Values
 pub mod Place
 pub mod Why
+pub mod Sound

@@ -30,6 +30,15 @@ impl Content {
         }
     }
 
+    pub(super) fn into_kids(self) -> Vec<Tree>
+        ensures { result.items ≡ kids_of self }
+    {
+        match self {
+            Content::Body(body) => Vec::new(*body.allocator()),
+            Content::Children(trees) => trees,
+        }
+    }
+
     pub(super) fn body(&self) -> &[u8]
         ensures { result.now ≡ octets_in self.now }
     {

@@ -1,0 +1,65 @@
+-- What a command keeps, whatever its words were: numbers stand within their limits, and no two outputs have one name.
+use Rattle.std.specs.Prelude.{◌≢◌, ◌<◌, ◌≤◌, ⊤, ℕ, List, [], ◌∷◌, length, map, All}
+use Rattle.mkv_jobs.specs.declared.job.Job.{Job}
+use Rattle.mkv_jobs.specs.declared.job.Job.TheVariants as jobs
+use Rattle.mkv_jobs.specs.declared.job.Target.{Target}
+use Rattle.mkv_jobs.specs.declared.edit.Edit.{Edit}
+use Rattle.mkv_jobs.specs.declared.edit.Selector.{Selector}
+use Rattle.mkv_jobs.specs.declared.edit.Selector.TheVariants as selector
+use Rattle.word_values.specs.Sound.{IsWithin}
+use Rattle.merge_words.specs.Sound.{IsSoundMerge}
+use Rattle.mkv_args.specs.declared.command.Command.{Command}
+use Rattle.mkv_args.specs.declared.command.Command.TheVariants as command
+
+-- none of these names is that one
+abbrev pub AreOthers : List ℕ → List (List ℕ) → Type 0
+AreOthers name [] = ⊤
+AreOthers name (other ∷ names) = (other ≢ name) × AreOthers name names
+
+-- no two of these names are one
+abbrev pub AreApart : List (List ℕ) → Type 0
+AreApart [] = ⊤
+AreApart (name ∷ names) = AreOthers name names × AreApart names
+
+-- the names of the files that targets are written to
+abbrev pub names_of : List Target → List (List ℕ)
+names_of targets = map (λ (t : Target). t.name) targets
+
+-- one or more targets, of numbers from a least one on, which go to files of different names
+pub record AreTargets (least : ℕ) (targets : List Target) : Type 0 where
+  pub some : 0 < length targets
+  pub apart : AreApart (names_of targets)
+  pub from : All (λ (t : Target). least ≤ t.id) targets
+
+-- attached files are counted from 1, and tracks from 0
+abbrev pub IsSoundJob : Job → Type 0
+IsSoundJob (jobs.Tracks form list) = AreTargets 0 list
+IsSoundJob (jobs.Timestamps list) = AreTargets 0 list
+IsSoundJob (jobs.Cues list) = AreTargets 0 list
+IsSoundJob (jobs.Attachments list) = AreTargets 1 list
+IsSoundJob (jobs.Chapters name) = ⊤
+
+-- TrackEntries are counted from 1
+abbrev pub IsSoundPlace : Selector → Type 0
+IsSoundPlace selector.Info = ⊤
+IsSoundPlace (selector.Nth n) = 1 ≤ n
+IsSoundPlace (selector.Typed kind n) = 1 ≤ n
+IsSoundPlace (selector.Uid uid) = ⊤
+IsSoundPlace (selector.Number number) = ⊤
+
+-- one or more edits, each at such a place
+pub record AreEdits (edits : List Edit) : Type 0 where
+  pub some : 0 < length edits
+  pub each : All (λ (e : Edit). IsSoundPlace e.place) edits
+
+abbrev pub IsSound : Command → Type 0
+IsSound command.Help = ⊤
+IsSound command.Version = ⊤
+IsSound (command.Info file) = ⊤
+IsSound (command.Identify file) = ⊤
+IsSound (command.Recover file) = ⊤
+IsSound (command.Reindex file) = ⊤
+IsSound (command.Generate n prefix) = IsWithin 1 100000 n
+IsSound (command.Extract file job) = IsSoundJob job
+IsSound (command.Propedit file edits) = AreEdits edits
+IsSound (command.Merge words) = IsSoundMerge words

@@ -1,0 +1,6 @@
+-- What a change leaves of the children of each ID.
+use Rattle.tree_format.proofs.PartLemmas.{children-change}
+use Rattle.tree_format.proofs.laws.children_change.Goals as goal
+
+pub returns : goal.returns
+returns c = children-change

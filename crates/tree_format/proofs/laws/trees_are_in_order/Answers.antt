@@ -1,0 +1,6 @@
+-- The tree that is read is the one that is said over all Elements.
+use Rattle.tree_format.proofs.OrderLemmas.{tree_of-in_order}
+use Rattle.tree_format.proofs.laws.trees_are_in_order.Goals as goal
+
+pub returns : goal.returns
+returns c = tree_of-in_order

@@ -1,0 +1,39 @@
+-- What holds of every master that is read whole.
+use Rattle.std.specs.Prelude.{◌≡◌, ◌≢◌, ◌<◌, ℕ, List, [], ◌∷◌, ◌++◌, length, None, Ok}
+use Rattle.tree_format.specs.Node.{Node, id_of, IsMaster}
+use Rattle.tree_format.specs.Reading.{header_at, tree_of}
+use Rattle.tree_format.specs.Order.{listed_from, elements_in, tree_in_order, tree_without_limits}
+use Rattle.tree_format.specs.Changes.{without, with_child, part, HasNone}
+use Rattle.tree_format.specs.Standing.{IsSound, KeepsLimits, IsReadWithoutLimits}
+
+-- Elements are listed one at a time: none where no octet is left, and otherwise what stands there.
+pub record ElementsAreListed : Type 0 where
+  pub end : (parent p : ℕ) → elements_in parent p [] ≡ record { trees = []; damage = None }
+  pub more : (parent p : ℕ) (octets : List ℕ) → 0 < length octets
+      → elements_in parent p octets ≡ listed_from elements_in parent p octets (header_at parent p octets)
+
+-- The tree that is read one step after the other is the one that is said over all Elements.
+abbrev pub TreesAreInOrder : Type 0
+TreesAreInOrder =
+    (id offset : ℕ) (body : List ℕ) (base nodes : ℕ) → tree_of id offset body base nodes ≡ tree_in_order id offset body base nodes
+
+-- A tree that is read with limits is the one that is read without them.
+abbrev pub LimitsChangeNoTree : Type 0
+LimitsChangeNoTree =
+    (id offset : ℕ) (body : List ℕ) (base nodes : ℕ) (n : Node) → tree_of id offset body base nodes ≡ Ok n
+    → tree_without_limits id offset body base ≡ Ok n
+
+-- What is written of a sound master that keeps the limits is read again without limits.
+abbrev pub SoundTreesAreReadAgain : Type 0
+SoundTreesAreReadAgain = (n : Node) → IsMaster n → IsSound n → KeepsLimits n → IsReadWithoutLimits n
+
+-- What a change of a master's children leaves: a child that is set takes the place of the first of its ID, or
+-- the last place, and is the only one of its ID; those of every other ID stay as they are.
+pub record ChildrenChange : Type 0 where
+  pub at : (n m : Node) (front back : List Node) → id_of m ≡ id_of n → HasNone (id_of n) front
+      → with_child n (front ++ m ∷ back) ≡ front ++ n ∷ without (id_of n) back
+  pub last : (n : Node) (ns : List Node) → HasNone (id_of n) ns → with_child n ns ≡ ns ++ n ∷ []
+  pub one : (n : Node) (ns : List Node) → part (id_of n) (with_child n ns) ≡ n ∷ []
+  pub set_others : (id : ℕ) (n : Node) (ns : List Node) → id_of n ≢ id → part id (with_child n ns) ≡ part id ns
+  pub gone : (id : ℕ) (ns : List Node) → HasNone id (without id ns)
+  pub kept_others : (id other : ℕ) (ns : List Node) → other ≢ id → part id (without other ns) ≡ part id ns
