@@ -44,7 +44,8 @@ use Rattle.mkv_args.specs.Extract.{is_taken, target_of, target, targets_from, ta
 use Rattle.mkv_args.specs.Propedit.{place, typed, track, selector, step_of, selected, selector_at, edit_of, changed, edit_at, turn, closed, edits_from, edits, propedit}
 use Rattle.mkv_args.specs.Merge.{beside, identified, identify, is_word, merged_by, merge}
 use Rattle.mkv_args.specs.Words.{only_file, alone, info, recover, reindex, count_at, blocks_at, generate, command_named, command}
-use Rattle.mkv_args.specs.Sound.{AreOthers, AreApart, names_of, AreTargets, IsSoundJob, IsSoundPlace, AreEdits, IsSound}
+use Rattle.mkv_args.specs.Sound.{names_of, AreTargets, IsSoundJob, IsSoundPlace, AreEdits, IsSound}
+use Rattle.mkv_io.specs.Names.{AreOthers, AreApart}
 
 -- ---- targets
 

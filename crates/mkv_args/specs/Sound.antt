@@ -1,5 +1,6 @@
 -- What a command keeps, whatever its words were: numbers stand within their limits, and no two outputs have one name.
-use Rattle.std.specs.Prelude.{◌≢◌, ◌<◌, ◌≤◌, ⊤, ℕ, List, [], ◌∷◌, length, map, All}
+use Rattle.std.specs.Prelude.{◌<◌, ◌≤◌, ⊤, ℕ, List, length, map, All}
+use Rattle.mkv_io.specs.Names.{AreApart}
 use Rattle.mkv_jobs.specs.declared.job.Job.{Job}
 use Rattle.mkv_jobs.specs.declared.job.Job.TheVariants as jobs
 use Rattle.mkv_jobs.specs.declared.job.Target.{Target}
@@ -10,16 +11,6 @@ use Rattle.word_values.specs.Sound.{IsWithin}
 use Rattle.merge_words.specs.Sound.{IsSoundMerge}
 use Rattle.mkv_args.specs.declared.command.Command.{Command}
 use Rattle.mkv_args.specs.declared.command.Command.TheVariants as command
-
--- none of these names is that one
-abbrev pub AreOthers : List ℕ → List (List ℕ) → Type 0
-AreOthers name [] = ⊤
-AreOthers name (other ∷ names) = (other ≢ name) × AreOthers name names
-
--- no two of these names are one
-abbrev pub AreApart : List (List ℕ) → Type 0
-AreApart [] = ⊤
-AreApart (name ∷ names) = AreOthers name names × AreApart names
 
 -- the names of the files that targets are written to
 abbrev pub names_of : List Target → List (List ℕ)

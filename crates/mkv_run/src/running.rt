@@ -3,6 +3,7 @@
 ghost use Rattle.std.specs.Prelude.{◌≡◌, ℕ, IfOk};
 ghost use Rattle.mkv_io.specs.Sources.{live_files};
 ghost use Rattle.mkv_io.specs.Told.{Told};
+ghost use Rattle.mkv_args.specs.Sound.{IsSound};
 ghost use Rattle.mkv_lines.specs.Faults.{HasStatusCause, HasStopCause};
 ghost use Rattle.mkv_lines.specs.Ordinary.{IsOrdinary};
 ghost use Rattle.mkv_lines.specs.Line.{word_line};
@@ -81,6 +82,7 @@ fn obey<F: Files, R: Report>(
     files: &mut F,
     report: &mut R,
 ) -> Result<Status, Stop>
+    requires { IsSound command.now }
     ensures verdict { Told (verdict_of (F.names files.old) command.now) (Reaches
         (seen F.Reads F.writing_faults F.names R.Report files.old report.old)
         (seen F.Reads F.writing_faults F.names R.Report files.new report.new) result) }
