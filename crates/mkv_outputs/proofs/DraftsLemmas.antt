@@ -1,7 +1,7 @@
 -- Outputs that are written one after the other: laws for whoever stops in the middle.
-use Rattle.std.proofs.Common.{◌≡◌, ℕ, List, [], ◌∷◌, ◌++◌, inl, inr, refl, sym, ◌∙◌, ap}
+use Rattle.std.proofs.Common.{◌≡◌, List, [], ◌∷◌, ◌++◌, inl, inr, refl, sym, ◌∙◌, ap}
 use Rattle.mkv_io.specs.Names.{Names, with_content}
-use Rattle.mkv_outputs.specs.Drafts.{AreDrafted, Draft, IsDrafted, StandsInTurn, outputs_of, output_of}
+use Rattle.mkv_outputs.specs.Drafts.{AreDrafted, Draft, IsDrafted, StandsInTurn, outputs_of}
 use Rattle.mkv_outputs.specs.Outputs.{Output, with_outputs}
 use Rattle.mkv_outputs.proofs.OutputsLemmas.{with_outputs-added}
 
