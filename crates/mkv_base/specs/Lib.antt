@@ -1,12 +1,15 @@
 pub use Rattle.mkv_values.specs.Kind
+pub use Rattle.mkv_values.specs.Places
 pub use Rattle.mkv_io.specs.Contents
 pub use Rattle.mkv_io.specs.Faults
 pub use Rattle.mkv_io.specs.Lines
 pub use Rattle.mkv_io.specs.LiveFiles
 pub use Rattle.mkv_io.specs.Names
+pub use Rattle.mkv_io.specs.Sources
 pub use Rattle.mkv_io.specs.Told
+pub use Rattle.mkv_io.specs.Writing
 pub use Rattle.mkv_memory.specs.FilesIn
-pub use Rattle.mkv_memory.specs.Held
 pub use Rattle.mkv_memory.specs.ReportIn
 pub use Rattle.mkv_memory.specs.SeenFiles
 pub use Rattle.mkv_memory.specs.SeenReport
+pub use Rattle.mkv_memory.specs.Stored

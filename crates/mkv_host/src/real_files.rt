@@ -1,8 +1,9 @@
 //! The files of the system.
 
-ghost use Rattle.std.specs.Prelude.{◌≡◌, ◌≢◌, ◌↔◌, ℕ, ◌+◌, ◌-◌, ◌<◌, ◌≤◌, ◌^◌, List, [], ◌∷◌, ◌++◌, length, Option, Some, None, is_some, vec_capacity, IfOk, OnOk, IsTrue};
+ghost use Rattle.std.specs.Prelude.{◌≡◌, ◌≢◌, ◌↔◌, ℕ, ◌+◌, ◌-◌, ◌<◌, ◌≤◌, ◌^◌, List, [], ◌∷◌, ◌++◌, length, Option, Some, None, is_some, false, vec_capacity, IfOk, OnOk, IsTrue};
 ghost use Rattle.mkv_io.specs.Faults.{HasRisen, counted, last_count};
-ghost use Rattle.mkv_host.specs.Opened.{holder_in, opened_at, size_at};
+ghost use Rattle.mkv_host.specs.Opened.{holder_in, is_node, opened_at, size_at};
+ghost use Rattle.std.specs.List.{list_any};
 
 use crate::open_files::{add, is_open, lengthen, open_at, prepare};
 use crate::opened::Opened;
@@ -52,7 +53,9 @@ impl<'a, R: fs::Files<File = File>> RealFiles<'a, R> {
 
     /// Makes an empty file, or empties the one of that name. One that is open is refused before it is
     /// touched, under whatever name it was opened.
-    fn make(&self, name: &str) -> io::Result<(File, Node)> {
+    fn make(&self, name: &str) -> io::Result<(File, Node)>
+        ensures { IfOk result (λ made. list_any (is_node made.1) self.now.opened.items ≡ false) }
+    {
         let (file, node) = open_to_write(self.system, name)?;
         if is_open(&self.opened, node) {
             return Err(ErrorKind::ResourceBusy.into());

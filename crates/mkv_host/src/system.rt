@@ -1,6 +1,7 @@
 //! Calls of the system that open files.
 
-ghost use Rattle.std.specs.Prelude.{◌↔◌, ℕ, ◌≤◌, ◌^◌, IfOk, IsOk};
+ghost use Rattle.std.specs.Prelude.{◌≡◌, ◌↔◌, ◌⊎◌, ℕ, ◌≤◌, ◌^◌, IfOk, IsOk, IsTrue};
+ghost use Rattle.std.specs.IoError.{error_kind};
 ghost use Rattle.std.specs.Fs.{IsFile, file_type};
 
 use std::fs::{File, Metadata, OpenOptions};
@@ -19,7 +20,9 @@ pub struct Node {
 }
 
 /// Whether an error says that there is no file of a name: none has it, or its way leads through a file.
-pub fn is_missing(error: &io::Error) -> bool {
+pub fn is_missing(error: &io::Error) -> bool
+    ensures { IsTrue result ↔ ((error_kind error.now ≡ ErrorKind.NotFound) ⊎ (error_kind error.now ≡ ErrorKind.NotADirectory)) }
+{
     matches!(error.kind(), ErrorKind::NotFound | ErrorKind::NotADirectory)
 }
 

@@ -50,7 +50,8 @@ fn write_some<W: WriteAt>(file: &mut W, at: u64, bytes: &[u8]) -> Option<usize>
 pub fn write_from<W: WriteAt>(file: &mut W, at: u64, bytes: &[u8]) -> usize
     requires { at ≤ 2 ^ 48 }
     ensures most { result ≤ length bytes.now }
-    ensures first { Told (W.content file.old) (λ was. at ≤ length was → W.content file.new ≡ Some (overwritten was at (take result bytes.now))) }
+    ensures first { Told (W.content file.old) (λ was. at ≤ length was
+        → W.content file.new ≡ Some (overwritten was at (take result bytes.now))) }
 {
     let mut written = 0;
     for _ in 0..u64::MAX {

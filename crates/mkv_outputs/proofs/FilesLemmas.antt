@@ -13,7 +13,7 @@ use Rattle.mkv_io.specs.Sources.{live_files}
 use Rattle.mkv_io.specs.Writing.{KeepsOthers, WritesOnly}
 use Rattle.mkv_io.specs.declared.reads.Reads.{Ghosts}
 use Rattle.mkv_io.specs.declared.files.Files as writing
-use Rattle.mkv_io.proofs.WritingLemmas.{IsSameFile-twice, WritesOnly-more, WritesOnly-none, WritesOnly-then}
+use Rattle.mkv_io.proofs.WritingLemmas.{IsSameFile-twice, KeepsOthers-more, WritesOnly-more, WritesOnly-none, WritesOnly-then}
 use Rattle.mkv_outputs.specs.Sinks.{AreLive, AreOpen, ArePassed, AreRising, EndsOnly, IsNoneOf, MadeSince, MakesOnly, WritesOutputs, files_of, holders_of, names_under}
 use Rattle.mkv_outputs.specs.declared.sink.Sink.{Sink}
 use Rattle.mkv_outputs.proofs.GivenLemmas.{files_of-at, holders_of-kept, length-files_of}
@@ -247,3 +247,8 @@ KeepsOthers-ended r f names a b c sinks numbered first ends = record {
 
     alive : (file : ℕ) → (live_files r c).live file ≡ (live_files r a).live file
     alive file = at file ((live_files r a).live file) refl (is_ended (live_files r c).live file (files_of sinks) ends.ended) ∙ refl
+
+-- outputs are written, whose names are among these
+pub MadeSince-written : {S : Type 0} (r : Ghosts S) (f : writing.Ghosts S) (names : List (List ℕ)) (a b c : S) (sinks later : List Sink) → ((file : ℕ) → (live_files r a).live file ≡ true → file < f.given a) → ((name : List ℕ) → AreOthers name names → AreOthers name (names_under f b sinks)) → MadeSince r f names a b sinks → WritesOutputs r f b c sinks later → MadeSince r f names a c later
+MadeSince-written r f names a b c sinks later numbered among first wrote =
+    MadeSince-kept r f names a b c sinks later numbered first wrote.same (KeepsOthers-more r f (names_under f b sinks) names b c among wrote.only.kept)

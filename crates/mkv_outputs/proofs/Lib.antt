@@ -1,3 +1,4 @@
+pub mod DraftsLemmas
 pub mod EndsLemmas
 pub mod FilesLemmas
 pub mod GivenLemmas

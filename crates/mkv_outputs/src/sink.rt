@@ -38,7 +38,8 @@ pub fn flush<F: Files>(sink: &mut Sink, files: &mut F) -> Result<(), MakeFault>
 /// Writes octets, which may wait.
 pub fn write<F: Files>(sink: &mut Sink, files: &mut F, bytes: &[u8]) -> Result<(), MakeFault>
     requires { IsLive F.Reads files.old sink.old.file }
-    ensures passes { PassesTo F.Files.own sink.old.file files.old files.new (sink.old.waiting ++ bytes.now) sink.new.waiting result }
+    ensures passes { PassesTo F.Files.own sink.old.file files.old files.new (sink.old.waiting ++ bytes.now)
+        sink.new.waiting result }
     ensures file { sink.new.file ≡ sink.old.file }
     ensures only { WritesOnly F.Reads F.Files.own (F.holder files.old sink.old.file.n ∷ []) files.old files.new }
     ensures cause { HasCause is_make_failure (F.writing_faults files.old) (F.writing_faults files.new) result }

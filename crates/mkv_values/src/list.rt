@@ -1,6 +1,6 @@
 //! A list of values, which contracts see as a list.
 
-ghost use Rattle.std.specs.Prelude.{◌≡◌, [], ◌∷◌, ◌++◌, ◌<◌, length, slice_get, OnOk, OnErr, IfOk, IsTrue, ◌↔◌};
+ghost use Rattle.std.specs.Prelude.{◌≡◌, [], ◌∷◌, ◌++◌, ◌<◌, ◌≤◌, length, slice_get, OnOk, OnErr, IfOk, IsTrue, ◌↔◌};
 ghost use Rattle.std.specs.Option.{option_copied};
 
 use std::alloc::{AllocError, Global};
@@ -113,7 +113,7 @@ impl<T: Drop> BoundedList<T> {
 
     /// Whether there is room for no more.
     pub fn is_full(&self) -> bool
-        ensures { IsTrue result ↔ (length self.now.taken ≡ self.now.room) }
+        ensures { IsTrue result ↔ (self.now.room ≤ length self.now.taken) }
     {
         self.items.len() == self.items.capacity()
     }

@@ -12,4 +12,6 @@ mod jobs;
 #[cfg(test)]
 mod memory;
 #[cfg(test)]
+mod outputs;
+#[cfg(test)]
 mod values;

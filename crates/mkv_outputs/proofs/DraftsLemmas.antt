@@ -1,0 +1,34 @@
+-- Outputs that are written one after the other: laws for whoever stops in the middle.
+use Rattle.std.proofs.Common.{◌≡◌, List, [], ◌∷◌, ◌++◌, inl, inr, refl, sym, ◌∙◌, ap}
+use Rattle.mkv_io.specs.Names.{Names, with_content}
+use Rattle.mkv_outputs.specs.Drafts.{AreDrafted, Draft, IsDrafted, StandsInTurn, outputs_of}
+use Rattle.mkv_outputs.specs.Outputs.{Output, with_outputs}
+use Rattle.mkv_outputs.proofs.OutputsLemmas.{with_outputs-added}
+
+-- some first drafts are whole
+pub AreDrafted-whole : (done rest : List Draft) → AreDrafted (outputs_of done) (done ++ rest)
+AreDrafted-whole [] rest = tt
+AreDrafted-whole (d ∷ []) rest = inl refl
+AreDrafted-whole (d ∷ (next ∷ done)) rest = (refl, AreDrafted-whole (next ∷ done) rest)
+
+-- some first drafts are whole, and the one behind them is on the way
+pub AreDrafted-next : (done rest : List Draft) (d : Draft) (o : Output) → IsDrafted o d → AreDrafted (outputs_of done ++ o ∷ []) (done ++ d ∷ rest)
+AreDrafted-next [] rest d o is = inr is
+AreDrafted-next (first ∷ []) rest d o is = (refl, inr is)
+AreDrafted-next (first ∷ (next ∷ done)) rest d o is = (refl, AreDrafted-next (next ∷ done) rest d o is)
+
+-- no draft stands
+pub StandsInTurn-none : (names : Names) (all : List Draft) → StandsInTurn names names all
+StandsInTurn-none names all = record { stand = []; drafted = tt; names = refl }
+
+-- some first drafts stand whole
+pub StandsInTurn-whole : (old new : Names) (done rest : List Draft) → new ≡ with_outputs old (outputs_of done) → StandsInTurn old new (done ++ rest)
+StandsInTurn-whole old new done rest names = record { stand = outputs_of done; drafted = AreDrafted-whole done rest; names = names }
+
+-- some first drafts stand whole, and behind them what was written of the next one
+pub StandsInTurn-next : (old mid new : Names) (done rest : List Draft) (d : Draft) (o : Output) → mid ≡ with_outputs old (outputs_of done) → new ≡ with_content mid o.name o.content → IsDrafted o d → StandsInTurn old new (done ++ d ∷ rest)
+StandsInTurn-next old mid new done rest d o before names is = record {
+  stand = outputs_of done ++ o ∷ [];
+  drafted = AreDrafted-next done rest d o is;
+  names = names ∙ ap (λ (n : Names). with_content n o.name o.content) before ∙ sym (with_outputs-added old (outputs_of done) o);
+}
