@@ -39,11 +39,8 @@ fn codec(alloc: Global, text: &[u8]) -> Result<Tree, AllocError>
     Tree::leaf(alloc, CODEC_ID, text)
 }
 
-fn places(alloc: Global, tree: &Tree) -> Result<Vec<u64>, AllocError> {
-    tree.children()
-        .iter()
-        .map(|child| child.offset())
-        .collect(alloc)
+fn places(alloc: Global, trees: &[Tree]) -> Result<Vec<u64>, AllocError> {
+    trees.iter().map(|tree| tree.offset()).collect(alloc)
 }
 
 #[test]
@@ -51,7 +48,7 @@ fn children_are_removed(rt: HostRuntime) -> Result<(), Fail> {
     for (id, left) in REMOVED {
         let mut entry = tree_of(rt.alloc(), TRACK_ENTRY, ENTRY, 9)?;
         entry.remove(id);
-        assert_eq!(rt; places(rt.alloc(), &entry)?.as_slice(), left);
+        assert_eq!(rt; places(rt.alloc(), entry.children())?.as_slice(), left);
     }
     Ok(())
 }
@@ -62,13 +59,13 @@ fn a_child_is_set(rt: HostRuntime) -> Result<(), Fail> {
     let mut entry = tree_of(rt.alloc(), TRACK_ENTRY, ENTRY, 9)?;
     entry.set(number(rt.alloc(), 7)?)?;
     assert_eq!(rt;
-        places(rt.alloc(), &entry)?.as_slice(),
+        places(rt.alloc(), entry.children())?.as_slice(),
         [0, 103, 109].as_slice()
     );
 
     entry.set(name(rt.alloc(), b"N")?)?;
     assert_eq!(rt;
-        places(rt.alloc(), &entry)?.as_slice(),
+        places(rt.alloc(), entry.children())?.as_slice(),
         [0, 103, 109, 0].as_slice()
     );
 
@@ -91,5 +88,16 @@ fn a_child_is_added(rt: HostRuntime) -> Result<(), Fail> {
     entry.put(&mut out)?;
     let written = [0xAE, 0x86, 0xD7, 0x81, 5, 0xD7, 0x81, 7];
     assert_eq!(rt; out.as_slice(), written.as_slice());
+    Ok(())
+}
+
+#[test]
+fn children_are_handed_out(rt: HostRuntime) -> Result<(), Fail> {
+    let entry = tree_of(rt.alloc(), TRACK_ENTRY, ENTRY, 9)?;
+    let children = entry.into_children();
+    assert_eq!(rt;
+        places(rt.alloc(), children.as_slice())?.as_slice(),
+        [100, 103, 106, 109, 112].as_slice()
+    );
     Ok(())
 }
