@@ -1,18 +1,31 @@
--- What a reader's limits change, and how large a block is that is read with them.
-use Rattle.std.specs.Prelude.{◌≡◌, ◌≤◌, ◌<◌, ℕ, nat_abs, List, [], length}
+-- What a reader's limits change, how large a block is that is read with them, and which damages are told.
+use Rattle.std.specs.Prelude.{◌≡◌, ◌≤◌, ◌<◌, ℕ, nat_abs, Bool, if◌then◌else◌, List, [], ◌∷◌, ◌++◌, length}
 use Rattle.std.specs.List.{All}
-use Rattle.std.specs.Option.{IfSome}
+use Rattle.std.specs.Option.{IfSome, option_map_or}
+use Rattle.mkv_values.specs.declared.damage.Damage.{Damage}
 use Rattle.matroska_format.specs.declared.element.Header.{Header}
 use Rattle.block_format.specs.declared.limits.TheConstants.{MOST_REFERENCES, TOO_LARGE_TIME}
 use Rattle.block_format.specs.Block.{Block}
-use Rattle.block_format.specs.Elements.{with_limits, without_limits}
-use Rattle.block_format.specs.Events.{events_of, blocks_of, damages_of}
+use Rattle.block_format.specs.Elements.{Rules, with_limits, without_limits}
+use Rattle.block_format.specs.Events.{Event, stopped, Found, first_wrong, events_then, events_of, blocks_of, damages_of}
 
 -- Where limits tell no damage, they change nothing.
 abbrev pub LimitsChangeNothing : Type 0
 LimitsChangeNothing =
     (scale : ℕ) (bytes : List ℕ) (segment : Header) → damages_of (events_of (with_limits scale) bytes segment) ≡ []
     → events_of (without_limits scale) bytes segment ≡ events_of (with_limits scale) bytes segment
+
+-- Behind a damage that ends what is read of a file no event follows.
+abbrev pub StopsAtTheEnd : Type 0
+StopsAtTheEnd =
+    (r : Rules) (bytes : List ℕ) (segment : Header) (before behind : List Event) (d : Damage) → events_of r bytes segment ≡ before ++ stopped d ∷ behind → behind ≡ []
+
+-- Of what is found in a Cluster the first damage alone is told. Behind it reading goes on where the Cluster is
+-- closed.
+abbrev pub TellsTheFirstWrong : Type 0
+TellsTheFirstWrong =
+    (closed : Bool) (found : List Found) (rest : List Event)
+    → damages_of (events_then closed found rest) ≡ option_map_or (λ d. d ∷ (if closed then damages_of rest else [])) (first_wrong found) (damages_of rest)
 
 -- Its time, its duration and its references are below 2^56 nanoseconds, and it has at most 64 references.
 pub record IsSmall (b : Block) : Type 0 where
