@@ -81,4 +81,3 @@ pub content-laces : (octets : List ℕ) (c : Content) → AreOctets octets → l
 content-laces octets c bytes short is =
     let rest = length-drop (header_len octets) octets in
     frames-lace (lace_of c.flags) (drop (header_len octets) octets) c.frames (AreOctets-drop (header_len octets) octets bytes) (omega arith) (content-frames octets c is)
-
