@@ -1,5 +1,5 @@
 -- The blocks and the damages of a file: RFC 9559, sections 5.1 (Segment Element) and 5.1.3 (Cluster Element).
-use Rattle.std.specs.Prelude.{ℕ, ◌==◌, nat_lt, nat_le, Bool, not, ◌&&◌, if◌then◌else◌, List, [], ◌∷◌, ◌++◌, length, Option, Some, None, Result, Ok, Err}
+use Rattle.std.specs.Prelude.{ℕ, ◌==◌, nat_lt, nat_le, Bool, not, ◌&&◌, if◌then◌else◌, List, [], ◌∷◌, ◌++◌, length, flat_map, slice_get, Option, Some, None, Result, Ok, Err}
 use Rattle.ebml_format.specs.Number.{uint_of}
 use Rattle.mkv_schema.specs.declared.ids.TheConstants.{CLUSTER, TIMESTAMP, SIMPLE_BLOCK, BLOCK_GROUP}
 use Rattle.mkv_values.specs.declared.damage.Damage.{Damage}
@@ -47,6 +47,7 @@ abbrev pub found_behind : Option Damage → List Found
 found_behind None = []
 found_behind (Some d) = Err d ∷ []
 
+-- what a run of children gives, and the damage that ends it
 abbrev pub found_in_run : Rules → List ℕ → Option ℕ → Run → List Found
 found_in_run r bytes timestamp run = found_among r bytes timestamp run.list ++ found_behind run.damage
 
@@ -58,11 +59,14 @@ cluster_run bytes e h = if is_unknown h.size then open_cluster bytes h.body e el
 abbrev pub found_in : Rules → List ℕ → ℕ → Header → List Found
 found_in r bytes e h = found_in_run r bytes None (cluster_run bytes e h)
 
--- the first damage of a list, a Cluster's inner damage
+-- the damage that is found, if it is one
+abbrev pub wrong_in : Found → List Damage
+wrong_in (Ok block) = []
+wrong_in (Err d) = d ∷ []
+
+-- the first damage among what is found: in a Cluster no other is told
 abbrev pub first_wrong : List Found → Option Damage
-first_wrong [] = None
-first_wrong (Ok block ∷ found) = first_wrong found
-first_wrong (Err d ∷ found) = Some d
+first_wrong found = slice_get (flat_map wrong_in found) 0
 
 -- ---- the whole file
 
@@ -91,6 +95,7 @@ events_among r bytes e (h ∷ hs) wrong =
     if h.id == CLUSTER then events_then (is_closed (length bytes) h) (found_in r bytes e h) (events_among r bytes e hs wrong)
     else events_among r bytes e hs wrong
 
+-- the blocks and damages of a run of Elements of level 1, in a Segment that reaches up to e
 abbrev pub events_in_run : Rules → List ℕ → ℕ → Run → List Event
 events_in_run r bytes e run = events_among r bytes e run.list run.damage
 
@@ -100,29 +105,32 @@ events_of r bytes segment = events_in_run r bytes (segment_bound bytes segment) 
 
 -- ---- what is seen of them
 
+-- the block that an event is, if it is one
 abbrev pub block_in : Event → List Block
 block_in (block b) = b ∷ []
 block_in (damaged d) = []
 block_in (stopped d) = []
 
+-- the damage that an event is, if it is one
 abbrev pub damage_in : Event → List Damage
 damage_in (block b) = []
 damage_in (damaged d) = d ∷ []
 damage_in (stopped d) = d ∷ []
 
--- the blocks
+-- the damage that an event is, if it ends what is read
+abbrev pub stop_in : Event → List Damage
+stop_in (block b) = []
+stop_in (damaged d) = []
+stop_in (stopped d) = d ∷ []
+
+-- the blocks among events
 abbrev pub blocks_of : List Event → List Block
-blocks_of [] = []
-blocks_of (event ∷ events) = block_in event ++ blocks_of events
+blocks_of events = flat_map block_in events
 
--- every damage that is told
+-- the damages among events, each of them
 abbrev pub damages_of : List Event → List Damage
-damages_of [] = []
-damages_of (event ∷ events) = damage_in event ++ damages_of events
+damages_of events = flat_map damage_in events
 
--- the damage that ends what is read, if one does
+-- The damage that ends what is read, if one does. Of a file it is the last event.
 abbrev pub last_of : List Event → Option Damage
-last_of [] = None
-last_of (block b ∷ events) = last_of events
-last_of (damaged d ∷ events) = last_of events
-last_of (stopped d ∷ events) = Some d
+last_of events = slice_get (flat_map stop_in events) 0

@@ -52,8 +52,7 @@ times-small scale ticks old now t has =
     let first = or-first (is_too_large_at scale ticks || long) (list_any (is_too_large_at scale) old.references.items) has.fits in
     let time = or-first (is_too_large_at scale ticks) long first in
     let duration = or-second (is_too_large_at scale ticks) long first in
-    let references = or-second (is_too_large_at scale ticks || long) (list_any (is_too_large_at scale) old.references.items) has.fits in
-    (
+    let references = or-second (is_too_large_at scale ticks || long) (list_any (is_too_large_at scale) old.references.items) has.fits in (
       subst IsSmallTime (sym has.time) (small-from (nanoseconds scale ticks) time),
       (
         subst (λ (o : Option ℕ). IfSome o (λ d. d < TOO_LARGE_TIME)) (sym has.duration) (duration-small scale old.duration duration),

@@ -103,19 +103,15 @@ impl BlockBuffer {
         ensures lent { MatchResult result (λ found. MatchResult found (λ _. IsLendable self.new) (λ _. LendsNothing self.new)) (λ _. LendsNothing self.new) }
         ensures octets { self.new.octets ≡ self.old.octets }
     {
-        let found = self.parts.simple(&self.octets[..self.len], scale, timestamp, header);
+        let found = self
+            .parts
+            .simple(&self.octets[..self.len], scale, timestamp, header);
         self.parts.settle(found)
     }
 
     /// What the octets spell of a BlockGroup with this header, in a file of `total` octets and a Cluster
     /// whose Timestamp is so many ticks, of `scale` nanoseconds each; or the first thing that is wrong.
-    pub fn spell_group(
-        &mut self,
-        scale: u64,
-        timestamp: u64,
-        header: &Header,
-        total: u64,
-    ) -> Found
+    pub fn spell_group(&mut self, scale: u64, timestamp: u64, header: &Header, total: u64) -> Found
         requires few { known header.now.size ≤ MOST_OF_BLOCK }
         requires length { length self.old.octets ≡ known header.now.size }
         requires inside { stated_end header.now ≤ total }
@@ -125,7 +121,9 @@ impl BlockBuffer {
         ensures lent { MatchResult result (λ found. MatchResult found (λ _. IsLendable self.new) (λ _. LendsNothing self.new)) (λ _. LendsNothing self.new) }
         ensures octets { self.new.octets ≡ self.old.octets }
     {
-        let found = self.parts.group(&self.octets[..self.len], scale, timestamp, header, total);
+        let found = self
+            .parts
+            .group(&self.octets[..self.len], scale, timestamp, header, total);
         self.parts.settle(found)
     }
 

@@ -21,7 +21,7 @@ const OPEN: [u8; 29] = [
 ];
 
 /// The octets of parts, one behind the other.
-fn joined(alloc: Global, parts: &[&[u8]]) -> Result<Vec<u8>, AllocError> {
+pub fn joined(alloc: Global, parts: &[&[u8]]) -> Result<Vec<u8>, AllocError> {
     let mut octets = Vec::new(alloc);
     for part in parts {
         octets.extend_from_slice(part)?;
@@ -30,7 +30,7 @@ fn joined(alloc: Global, parts: &[&[u8]]) -> Result<Vec<u8>, AllocError> {
 }
 
 /// A file with these octets has these lines, and then its end, twice.
-fn check(rt: &impl Abort, alloc: Global, octets: &[u8], lines: &[&str]) -> Result<(), Fail> {
+pub fn check(rt: &impl Abort, alloc: Global, octets: &[u8], lines: &[&str]) -> Result<(), Fail> {
     let mut expected = String::new(alloc);
     for line in lines {
         expected.push_str(line)?;

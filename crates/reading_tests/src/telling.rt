@@ -137,17 +137,17 @@ pub fn counted(alloc: Global, content: &[u8]) -> Result<(usize, u64, u64), Fail>
     let outline = Outline::read(alloc, &mut files, file)?;
     let mut cursor = Cursor::start(alloc, &outline, file, 1_000_000)?;
     let damages = damages_of(alloc, &mut cursor, &mut files)?;
-    Ok((damages.first.len(), damages.more, cursor.blocks()))
+    Ok((damages.first().len(), damages.more(), cursor.blocks()))
 }
 
 /// The damages of a file.
 fn damages_of<R: Reads>(alloc: Global, cursor: &mut Cursor, src: &mut R) -> Result<Damages, Fail>
     requires { CanRead (live_files R.Reads src.old) cursor.old }
 {
-    let mut damages = Damages::new(alloc);
+    let mut damages = Damages::new(alloc)?;
     for _ in 0..1000 {
         if let Step::Damaged(damage) = cursor.advance(src)? {
-            damages.add(damage)?;
+            damages.add(damage);
         }
     }
     Ok(damages)

@@ -1,7 +1,10 @@
 //! The scale of a file.
 
-ghost use Rattle.std.specs.Prelude.{◌≡◌, ◌≤◌, IfOk, IsTrue};
-ghost use Rattle.mkv_io.specs.Sources.{IsLive, file_size};
+ghost use Rattle.std.specs.Prelude.{◌≡◌, ◌≤◌, Ok, IfOk, IsTrue};
+ghost use Rattle.mkv_io.specs.Faults.{HasCause};
+ghost use Rattle.mkv_io.specs.Sources.{IfTold, IsLive, file_size};
+ghost use Rattle.meta_format.specs.Info.{file_scale};
+ghost use Rattle.element_reader.specs.Outline.{is_outline_fault, outline_in};
 
 use ebml_tree::{Tree, TreeEnd};
 use element_reader::{LoadEnd, Outline, OutlineEnd, load};
@@ -27,7 +30,10 @@ pub fn scale_of<R: Reads>(
     requires live { IsLive R.Reads src.old file }
     requires whole { outline.now.total ≡ file_size R.Reads src.old file }
     ensures some { IfOk result (λ scale. 1 ≤ scale) }
+    ensures value { IfOk result (λ scale. IfTold R.Reads src.old file (λ bytes. outline_in 0 bytes ≡ Ok outline.now
+        → scale ≡ file_scale bytes outline.now.segment)) }
     ensures standing { R.standing src.new ≡ R.standing src.old }
+    ensures cause { HasCause is_outline_fault (R.reading_faults src.old) (R.reading_faults src.new) result }
 {
     let Some(header) = outline.first(INFO) else {
         return Ok(DEFAULT_SCALE);

@@ -1,13 +1,16 @@
 #![tactic(auto)]
 
-//! Walks over the blocks of a file, and prints how many there are, the octets of their frames, and a line for
+//! Counts the blocks of a file, and prints how many there are, the octets of their frames, and a line for
 //! each damage, in the suite's own words: a tool for its makers.
 
 mod scale;
 mod walk;
 
-ghost use Rattle.std.specs.Prelude.{IsTrue};
-ghost use Rattle.mkv_io.specs.Sources.{IsLive};
+ghost use Rattle.std.specs.Prelude.{◌≡◌, IfOk, IsTrue};
+ghost use Rattle.mkv_io.specs.Faults.{HasCause};
+ghost use Rattle.mkv_io.specs.Sources.{IfTold, IsLive};
+ghost use Rattle.element_reader.specs.Outline.{is_outline_fault};
+ghost use Rattle.count_blocks.specs.Walked.{IsCount};
 
 use cluster_reader::Cursor;
 use element_reader::{Outline, OutlineEnd};
@@ -21,9 +24,12 @@ use std::process::ExitCode;
 use std::{env, io};
 use walk::{Walked, walk};
 
-/// The blocks of a live file, or why they aren't read.
+/// What the blocks and damages of a live file are, or why they aren't read.
 fn walk_file<R: Reads>(alloc: Global, src: &mut R, file: FileId) -> Result<Walked, OutlineEnd>
     requires { IsLive R.Reads src.old file }
+    ensures value { IfOk result (λ walked. IfTold R.Reads src.old file (λ bytes. IsCount bytes walked)) }
+    ensures standing { R.standing src.new ≡ R.standing src.old }
+    ensures cause { HasCause is_outline_fault (R.reading_faults src.old) (R.reading_faults src.new) result }
 {
     let outline = Outline::read(alloc, src, file)?;
     let scale = scale_of(alloc, &outline, src, file)?;
@@ -36,15 +42,15 @@ fn print_walked(rt: &impl Print, name: &str, walked: &Walked) -> io::Result<Stat
     let blocks = walked.blocks;
     let octets = walked.octets;
     println!(rt; "{blocks} blocks, {octets} octets")?;
-    for damage in walked.damages.first.as_slice() {
+    for damage in walked.damages.first() {
         let damage = *damage;
         rt.println(Line::Warned { name, damage })?;
     }
-    let more = walked.damages.more;
+    let more = walked.damages.more();
     if more > 0 {
         println!(rt; "warning: {name}: {more} more damages")?;
     }
-    if walked.damages.first.is_empty() {
+    if walked.damages.first().is_empty() {
         Ok(Status::Done)
     } else {
         Ok(Status::Warned)

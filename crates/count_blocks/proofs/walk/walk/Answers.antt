@@ -3,8 +3,8 @@ use Rattle.mkv_values.specs.declared.outside.FileId.{FileId}
 use Rattle.mkv_io.specs.Faults.{counted}
 use Rattle.block_records.specs.Buffered.{block_of}
 use Rattle.cluster_reader.specs.Reading.{left_of}
-use Rattle.walk_blocks.proofs.WalkLemmas.{Meets-block, Meets-damage, Meets-ends, frames_cut-sum}
-use Rattle.walk_blocks.proofs.walk.walk.Goals as goal
+use Rattle.count_blocks.proofs.WalkLemmas.{Meets-block, Meets-damage, Meets-ends, frames_cut-sum}
+use Rattle.count_blocks.proofs.walk.walk.Goals as goal
 
 -- a block was met
 pub steps-preserved-in-Block : goal.steps-preserved-in-Block
@@ -13,8 +13,9 @@ steps-preserved-in-Block g c =
     let octets = ap length c.body.ensures.exact in
     record {
       standing = c.in_ok-advance.ensures.standing ∙ c.steps.invariant.standing;
+      faults = c.in_ok-advance.ensures.cause ∙ c.steps.invariant.faults;
       ready = c.in_ok-advance.ensures.stands;
-      file = c.in_ok-advance.ensures.same.file ∙ c.steps.invariant.file;
+      file = c.in_ok-advance.ensures.moves.same.file ∙ c.steps.invariant.file;
       met = λ bytes told.
           let here = ap (λ s. (g.R.Reads.files s).content c.steps.cursor.file.n) c.steps.invariant.standing
           ∙ ap (λ (f : FileId). (g.R.Reads.files (g.R.Reads.standing c.args.src.now)).content f.n) c.steps.invariant.file ∙ told in
@@ -28,20 +29,21 @@ steps-preserved-in-Block g c =
 pub steps-preserved : goal.steps-preserved
 steps-preserved g c = record {
   standing = c.in_ok-advance.ensures.standing ∙ c.steps.invariant.standing;
+  faults = c.in_ok-advance.ensures.cause ∙ c.steps.invariant.faults;
   ready = c.in_ok-advance.ensures.stands;
-  file = c.in_ok-advance.ensures.same.file ∙ c.steps.invariant.file;
+  file = c.in_ok-advance.ensures.moves.same.file ∙ c.steps.invariant.file;
   met = λ bytes told.
       let here = ap (λ s. (g.R.Reads.files s).content c.steps.cursor.file.n) c.steps.invariant.standing
       ∙ ap (λ (f : FileId). (g.R.Reads.files (g.R.Reads.standing c.args.src.now)).content f.n) c.steps.invariant.file ∙ told in
       Meets-damage (left_of bytes c.args.cursor.now) (left_of bytes c.steps.cursor) (left_of bytes c.advance.new.self) c.steps.walked _ c.advance.new.self.stopped c.in-Damaged.damage
       (c.steps.invariant.met bytes told) (rw c.in-Damaged.is at (c.in_ok-advance.ensures.gives bytes here)) refl refl
-      (λ list those. c.in-Ok.ensures.ok list those);
+      c.add.ensures;
 }
 
 -- all was met
-pub returns-in-End : goal.returns-in-End
-returns-in-End g c = λ bytes told.
+pub returns-in-End-clause-value : goal.returns-in-End-clause-value
+returns-in-End-clause-value g c = λ bytes told.
     let here = ap (λ s. (g.R.Reads.files s).content c.steps.cursor.file.n) c.steps.invariant.standing
     ∙ ap (λ (f : FileId). (g.R.Reads.files (g.R.Reads.standing c.args.src.now)).content f.n) c.steps.invariant.file ∙ told in
-    Meets-ends bytes c.args.cursor.now (left_of bytes c.steps.cursor) c.steps.walked (c.steps.invariant.met bytes told)
+    Meets-ends (left_of bytes c.args.cursor.now) (left_of bytes c.steps.cursor) c.steps.walked (c.steps.invariant.met bytes told)
     (rw c.in-End.is at (c.in_ok-advance.ensures.gives bytes here)).0

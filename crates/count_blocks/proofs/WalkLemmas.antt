@@ -1,5 +1,5 @@
 -- A walk over the blocks of a file, one step at a time.
-use Rattle.std.proofs.Common.{◌≡◌, ℕ, suc, ◌+◌, ◌≤◌, Bool, true, false, List, [], ◌∷◌, ◌++◌, length, take, drop, map, sum, refl, sym, ◌∙◌, ap, subst, append_assoc, append-nil, arith}
+use Rattle.std.proofs.Common.{◌≡◌, ℕ, suc, ◌+◌, ◌≤◌, Bool, true, false, List, [], ◌∷◌, ◌++◌, length, take, drop, map, sum, refl, sym, ◌∙◌, ap, append_assoc, append-nil, arith}
 use Rattle.std.proofs.lemmas.List.{length-take, length-drop}
 use Rattle.std.proofs.lemmas.List.Sums.{sum_by-cons}
 use Rattle.mkv_io.specs.Faults.{counted, last_count}
@@ -7,16 +7,16 @@ use Rattle.mkv_values.specs.declared.damage.Damage.{Damage}
 use Rattle.block_format.specs.Block.{Block}
 use Rattle.block_format.specs.Content.{frames_cut}
 use Rattle.block_format.specs.Events.{Event, block, blocks_of, damages_of}
-use Rattle.cluster_reader.specs.Reading.{Reading, left_of, damage_event}
-use Rattle.cluster_reader.specs.Told.{AreThose}
-use Rattle.cluster_reader.specs.declared.damages.Damages.{Damages}
-use Rattle.walk_blocks.specs.Walked.{IsWalked, octets_in}
-use Rattle.walk_blocks.specs.declared.walk.Walked.{Walked}
+use Rattle.cluster_reader.specs.Reading.{damage_event}
+use Rattle.cluster_reader.specs.Told.{Told, told_of, with_damage}
+use Rattle.cluster_reader.proofs.ToldLemmas.{with_damage-told}
+use Rattle.count_blocks.specs.Walked.{IsWalked, octets_in}
+use Rattle.count_blocks.specs.declared.walk.Walked.{Walked}
 
 -- the damages that were met are kept, and the others are left
-pub record HasKept (all left : List Damage) (damages : Damages) : Type 0 where
+pub record HasKept (all left : List Damage) (damages : Told) : Type 0 where
   pub met : List Damage
-  pub kept : AreThose met damages
+  pub kept : damages ≡ told_of met
   pub split : all ≡ met ++ left
 
 -- What was met and what is left make up what was to be met.
@@ -28,7 +28,7 @@ pub record Meets (events left : List Event) (walked : Walked) : Type 0 where
   pub most_octets : walked.octets ≤ last_count
 
 -- at the start nothing was met
-pub Meets-begins : (events : List Event) (walked : Walked) → walked.blocks ≡ 0 → walked.octets ≡ 0 → AreThose [] walked.damages → Meets events events walked
+pub Meets-begins : (events : List Event) (walked : Walked) → walked.blocks ≡ 0 → walked.octets ≡ 0 → walked.damages ≡ told_of [] → Meets events events walked
 Meets-begins events walked none empty kept = record {
   blocks = ap (λ n. counted n (length (blocks_of events))) none;
   octets = ap (λ n. counted n (sum (map octets_in (blocks_of events)))) empty;
@@ -62,7 +62,7 @@ Meets-block events left later before walked b meets is one more same = record {
       ∙ ap (λ n. counted before.octets n) (sym (ap (λ (es : List Event). sum (map octets_in (blocks_of es))) is ∙ sum_by-cons (λ x. x) (octets_in b) (map octets_in (blocks_of later)))) ∙ meets.octets;
   damages = record {
     met = meets.damages.met;
-    kept = subst (AreThose meets.damages.met) (sym same) meets.damages.kept;
+    kept = same ∙ meets.damages.kept;
     split = meets.damages.split ∙ ap (λ es. meets.damages.met ++ damages_of es) is;
   };
   most_blocks = omega arith;
@@ -73,33 +73,33 @@ Meets-block events left later before walked b meets is one more same = record {
     add_one n = omega arith
 
 -- a damage
-pub Meets-damage : (events left later : List Event) (before walked : Walked) (last : Bool) (d : Damage) → Meets events left before → left ≡ told last d ∷ later → walked.blocks ≡ before.blocks → walked.octets ≡ before.octets → ((list : List Damage) → AreThose list before.damages → AreThose (list ++ d ∷ []) walked.damages) → Meets events later walked
+pub Meets-damage : (events left later : List Event) (before walked : Walked) (last : Bool) (d : Damage) → Meets events left before → left ≡ damage_event last d ∷ later → walked.blocks ≡ before.blocks → walked.octets ≡ before.octets → walked.damages ≡ with_damage before.damages d → Meets events later walked
 Meets-damage events left later before walked last d meets is none empty adds = record {
   blocks = ap (λ n. counted n (length (blocks_of later))) none ∙ ap (λ (bs : List Block). counted before.blocks (length bs)) (sym (ap blocks_of is ∙ no_block last)) ∙ meets.blocks;
   octets = ap (λ n. counted n (sum (map octets_in (blocks_of later)))) empty ∙ ap (λ (bs : List Block). counted before.octets (sum (map octets_in bs))) (sym (ap blocks_of is ∙ no_block last)) ∙ meets.octets;
   damages = record {
     met = meets.damages.met ++ d ∷ [];
-    kept = adds meets.damages.met meets.damages.kept;
+    kept = adds ∙ ap (λ t. with_damage t d) meets.damages.kept ∙ with_damage-told meets.damages.met d;
     split = meets.damages.split ∙ ap (λ ds. meets.damages.met ++ ds) (ap damages_of is ∙ one_damage last) ∙ sym (append_assoc meets.damages.met (d ∷ []) (damages_of later));
   };
   most_blocks = omega (arith, meets.most_blocks);
   most_octets = omega (arith, meets.most_octets);
 }
   where
-    no_block : (last : Bool) → blocks_of (told last d ∷ later) ≡ blocks_of later
+    no_block : (last : Bool) → blocks_of (damage_event last d ∷ later) ≡ blocks_of later
     no_block true = refl
     no_block false = refl
 
-    one_damage : (last : Bool) → damages_of (told last d ∷ later) ≡ d ∷ damages_of later
+    one_damage : (last : Bool) → damages_of (damage_event last d ∷ later) ≡ d ∷ damages_of later
     one_damage true = refl
     one_damage false = refl
 
 -- at the end all was met
-pub Meets-ends : (bytes : List ℕ) (start : Reading) (left : List Event) (walked : Walked) → Meets (left_of bytes start) left walked → left ≡ [] → IsWalked bytes start walked
-Meets-ends bytes start left walked meets is = record {
+pub Meets-ends : (events left : List Event) (walked : Walked) → Meets events left walked → left ≡ [] → IsWalked events walked
+Meets-ends events left walked meets is = record {
   blocks = alone walked.blocks meets.most_blocks ∙ ap (λ (bs : List Block). counted walked.blocks (length bs)) (sym (ap blocks_of is)) ∙ meets.blocks;
   octets = alone walked.octets meets.most_octets ∙ ap (λ (bs : List Block). counted walked.octets (sum (map octets_in bs))) (sym (ap blocks_of is)) ∙ meets.octets;
-  damages = subst (λ ds. AreThose ds walked.damages) (sym (meets.damages.split ∙ ap (λ es. meets.damages.met ++ damages_of es) is ∙ append-nil meets.damages.met)) meets.damages.kept;
+  damages = meets.damages.kept ∙ ap told_of (sym (meets.damages.split ∙ ap (λ es. meets.damages.met ++ damages_of es) is ∙ append-nil meets.damages.met));
 }
   where
     alone : (n : ℕ) → n ≤ last_count → n ≡ counted n 0

@@ -1,0 +1,5 @@
+pub mod EventLemmas
+pub mod FrameLemmas
+pub mod GroupLemmas
+pub mod LimitLemmas
+pub mod SmallLemmas
