@@ -43,6 +43,10 @@ abbrev pub Gives : Option Header → List Header → List Header → Type 0
 Gives (Some h) old new = old ≡ h ∷ new
 Gives None old new = (old ≡ []) × (new ≡ [])
 
+-- the same of a place of a content
+abbrev pub GivesNext : List ℕ → Listing → Listing → Option Header → Type 0
+GivesNext bytes old new found = Gives found (left bytes old) (left bytes new)
+
 -- the place moves on past an Element, and stays where there is none
 abbrev pub GoesOn : Option Header → ℕ → ℕ → Type 0
 GoesOn (Some h) old new = old < new

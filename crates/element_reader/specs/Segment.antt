@@ -13,6 +13,6 @@ abbrev pub segment_from : List ℕ → ℕ → Result Header Damage
 segment_from bytes from = found_behind bytes (before_segment bytes from)
 
 -- where the body of a Segment begins, or the end of the file where there is none
-abbrev pub body_or : Result Header Damage → ℕ → ℕ
-body_or (Ok h) total = h.body
-body_or (Err d) total = total
+abbrev pub body_or : ℕ → Result Header Damage → ℕ
+body_or total (Ok h) = h.body
+body_or total (Err d) = total

@@ -6,7 +6,7 @@ ghost use Rattle.mkv_io.specs.Sources.{IfTold, OnlyReads, live_files};
 ghost use Rattle.matroska_format.specs.Outline.{segment_run};
 ghost use Rattle.element_window.specs.Looks.{Goes};
 ghost use Rattle.element_window.specs.Window.{nothing_at};
-ghost use Rattle.element_reader.specs.LevelOne.{Gives, GoesOn, CanRead, StandsOn, first_place, left};
+ghost use Rattle.element_reader.specs.LevelOne.{GivesNext, GoesOn, CanRead, StandsOn, first_place, left};
 
 use crate::level::segment_bound;
 use crate::outline::Outline;
@@ -67,7 +67,7 @@ impl LevelOne {
     /// again from then on. After `Failed` nothing is held, and the same Element is looked for again.
     pub fn next<R: Reads>(&mut self, src: &mut R) -> Result<Option<Header>, Failed>
         requires { CanRead (live_files R.Reads src.old) self.old }
-        ensures ok { IfOk result (λ found. IfTold R.Reads src.old self.old.file (λ bytes. Gives found (left bytes self.old) (left bytes self.new))) }
+        ensures ok { IfOk result (λ found. IfTold R.Reads src.old self.old.file (λ bytes. GivesNext bytes self.old self.new found)) }
         ensures place { IfOk result (λ found. GoesOn found self.old.at self.new.at) }
         ensures err { OnErr result (self.new ≡ record self.old { ahead = nothing_at 0 }) }
         ensures stands { StandsOn (live_files R.Reads src.new) self.old self.new }

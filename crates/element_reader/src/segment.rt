@@ -33,7 +33,7 @@ pub fn find_segment<R: Reads>(
     ensures err { OnErr result (IsEmptyWithin from total window.new) }
     ensures same { OnlyReads R.Reads src.old src.new }
     ensures cause { HasCause is_failure (R.reading_faults src.old) (R.reading_faults src.new) result }
-    ensures goes { Goes R.Reads file from (λ found. body_or found total) window.old window.new src.old src.new result }
+    ensures goes { Goes R.Reads file from (body_or total) window.old window.new src.old src.new result }
 {
     let mut at = from;
     while at < total {

@@ -1,6 +1,7 @@
 -- What a step over the Elements of a Segment says of those that are left.
-use Rattle.std.specs.Prelude.{◌≡◌, ℕ, ◌<◌, ◌≤◌, ⊤, Ok, Err}
-use Rattle.matroska_format.specs.Elements.{Run, in_front, breaks_at, ends_at}
+use Rattle.std.specs.Prelude.{◌≡◌, ℕ, ◌<◌, ◌≤◌, ⊤, List, Ok, Err}
+use Rattle.ebml_format.specs.declared.number.Size.{Size}
+use Rattle.matroska_format.specs.Elements.{Run, in_front, breaks_at, ends_at, level_1}
 use Rattle.matroska_format.specs.Element.{in_segment}
 use Rattle.matroska_format.specs.Placed.{IsWhole}
 use Rattle.element_walks.specs.Walk.{place_or}
@@ -13,6 +14,10 @@ StepsOn (Element header (Ok next)) left at from = left ≡ in_front header (from
 StepsOn (Element header (Err d)) left at from = left ≡ in_front header (breaks_at at d)
 StepsOn (Damaged d) left at from = left ≡ breaks_at at d
 StepsOn End left at from = left ≡ ends_at at
+
+-- the Elements of level 1 from a place on, in a Segment of this size that may reach up to an end
+abbrev pub StepsIn : List ℕ → Size → ℕ → ℕ → Level1Step → Type 0
+StepsIn bytes size at end step = StepsOn step (level_1 bytes size at end) at (λ q. level_1 bytes size q end)
 
 -- an Element stands before the end, and what is behind it stands behind the place, up to the end
 abbrev pub IsFurther : Level1Step → ℕ → ℕ → Type 0
@@ -33,7 +38,7 @@ pub record IsStep (step : Level1Step) (at end : ℕ) : Type 0 where
   pub whole : IsWholeStep step end
 
 -- how far a step has gone
-abbrev pub place_behind : Level1Step → ℕ → ℕ → ℕ
-place_behind (Element header next) at end = place_or next end
-place_behind (Damaged d) at end = at
-place_behind End at end = at
+abbrev pub place_behind : ℕ → ℕ → Level1Step → ℕ
+place_behind at end (Element header next) = place_or end next
+place_behind at end (Damaged d) = at
+place_behind at end End = at

@@ -12,9 +12,9 @@ abbrev pub cluster_end : List ℕ → ℕ → ℕ → Result ℕ Damage
 cluster_end bytes p e = run_end (open_cluster bytes p e)
 
 -- the place that was found, or the end of the walk where a damage broke it
-abbrev pub place_or : Result ℕ Damage → ℕ → ℕ
-place_or (Ok at) end = at
-place_or (Err d) end = end
+abbrev pub place_or : ℕ → Result ℕ Damage → ℕ
+place_or end (Ok at) = at
+place_or end (Err d) = end
 
 -- a place between two others, or one of them
 pub record IsBetween (from end at : ℕ) : Type 0 where

@@ -3,10 +3,10 @@
 ghost use Rattle.std.specs.Prelude.{◌≡◌, ◌≤◌, IfOk, OnErr};
 ghost use Rattle.mkv_io.specs.Faults.{HasCause, is_failure};
 ghost use Rattle.mkv_io.specs.Sources.{IfTold, IsLive, OnlyReads, file_size};
-ghost use Rattle.matroska_format.specs.Elements.{ends_segment, level_1};
+ghost use Rattle.matroska_format.specs.Elements.{ends_segment};
 ghost use Rattle.element_window.specs.Looks.{Goes};
 ghost use Rattle.element_window.specs.Window.{Holds, IsEmptyWithin};
-ghost use Rattle.element_walks.specs.Steps.{IsStep, StepsOn, place_behind};
+ghost use Rattle.element_walks.specs.Steps.{IsStep, StepsIn, place_behind};
 
 use crate::walk::{behind, id_of};
 use ebml_format::Size;
@@ -54,13 +54,13 @@ pub fn next_of_segment<W: Lookahead, R: Reads>(
     requires place { at ≤ end }
     requires inside { end ≤ file_size R.Reads src.old file }
     requires holds { IfTold R.Reads src.old file (λ bytes. Holds bytes (W.ahead window.old)) }
-    ensures ok { IfOk result (λ step. IfTold R.Reads src.old file (λ bytes. StepsOn step (level_1 bytes size at end) at (λ q. level_1 bytes size q end))) }
+    ensures ok { IfOk result (λ step. IfTold R.Reads src.old file (λ bytes. StepsIn bytes size at end step)) }
     ensures step { IfOk result (λ step. IsStep step at end) }
     ensures err { OnErr result (IsEmptyWithin at end (W.ahead window.new)) }
     ensures holds { IfTold R.Reads src.old file (λ bytes. Holds bytes (W.ahead window.new)) }
     ensures same { OnlyReads R.Reads src.old src.new }
     ensures cause { HasCause is_failure (R.reading_faults src.old) (R.reading_faults src.new) result }
-    ensures goes { Goes R.Reads file at (λ step. place_behind step at end) (W.ahead window.old) (W.ahead window.new) src.old src.new result }
+    ensures goes { Goes R.Reads file at (place_behind at end) (W.ahead window.old) (W.ahead window.new) src.old src.new result }
 {
     if at >= end {
         return Ok(Level1Step::End);

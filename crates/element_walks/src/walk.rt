@@ -62,7 +62,7 @@ pub fn cluster_end<W: Lookahead, R: Reads>(
     ensures same { OnlyReads R.Reads src.old src.new }
     ensures cause { HasCause is_failure (R.reading_faults src.old) (R.reading_faults src.new) result }
     ensures place { IfOk result (λ found. IfOk found (IsBetween from end)) }
-    ensures goes { Goes R.Reads file from (λ found. place_or found end) (W.ahead window.old) (W.ahead window.new) src.old src.new result }
+    ensures goes { Goes R.Reads file from (place_or end) (W.ahead window.old) (W.ahead window.new) src.old src.new result }
 {
     let mut at = from;
     while at < end {
@@ -97,7 +97,7 @@ pub fn behind<W: Lookahead, R: Reads>(
     ensures same { OnlyReads R.Reads src.old src.new }
     ensures cause { HasCause is_failure (R.reading_faults src.old) (R.reading_faults src.new) result }
     ensures place { IfOk result (λ found. IfOk found (IsBetween header.now.body end)) }
-    ensures goes { Goes R.Reads file header.now.body (λ found. place_or found end) (W.ahead window.old) (W.ahead window.new) src.old src.new result }
+    ensures goes { Goes R.Reads file header.now.body (place_or end) (W.ahead window.old) (W.ahead window.new) src.old src.new result }
 {
     match header.size {
         Size::Unknown => {

@@ -6,8 +6,8 @@ ghost use Rattle.mkv_io.specs.Faults.{HasCause, is_failure};
 ghost use Rattle.mkv_io.specs.Sources.{IfTold, IsLive, OnlyReads, file_size};
 ghost use Rattle.matroska_format.specs.Element.{element_at};
 ghost use Rattle.element_headers.specs.Parent.{setting_of};
-ghost use Rattle.element_window.specs.Looks.{Goes, IsFound, Looks};
-ghost use Rattle.element_window.specs.Window.{HasRange, Holds, header_room, read_from};
+ghost use Rattle.element_window.specs.Looks.{IsFound};
+ghost use Rattle.element_window.specs.Window.{HasRange, header_room, read_from};
 
 use element_headers::{Header, LONGEST_HEADER, Parent, read_header};
 use mkv_io::Reads;
@@ -23,7 +23,7 @@ pub struct Held {
 }
 
 impl Held {
-    ghost use Rattle.element_window.specs.Held.{held_in};
+    ghost use Rattle.element_window.specs.Held.{GoesIn, HoldsIn, LooksIn, held_in};
 
     /// Whether a buffer holds so many octets from `at` octets behind the file's start on.
     pub fn has(self, at: u64, len: usize, buffer: &[u8]) -> bool
@@ -55,16 +55,14 @@ impl Held {
         len: usize,
     ) -> Result<(), Failed>
         requires live { IsLive R.Reads src.old file }
-        requires inside { self.old.len ≤ length buffer.old }
         requires few { 2 * len ≤ length buffer.old }
         requires range { at + len ≤ file_size R.Reads src.old file }
-        requires holds { IfTold R.Reads src.old file (λ bytes. Holds bytes (held_in self.old buffer.old)) }
-        ensures inside { self.new.len ≤ length buffer.old }
-        ensures looks { Looks R.Reads file (length buffer.old) at len (held_in self.old buffer.old) (held_in self.new buffer.new) src.old src.new result }
-        ensures holds { IfTold R.Reads src.old file (λ bytes. Holds bytes (held_in self.new buffer.new)) }
+        requires holds { HoldsIn R.Reads file src.old self.old buffer.old }
+        ensures looks { LooksIn R.Reads file at len self.old buffer.old self.new buffer.new src.old src.new result }
+        ensures holds { HoldsIn R.Reads file src.old self.new buffer.new }
         ensures same { OnlyReads R.Reads src.old src.new }
         ensures cause { HasCause is_failure (R.reading_faults src.old) (R.reading_faults src.new) result }
-        ensures goes { Goes R.Reads file at (λ _. at) (held_in self.old buffer.old) (held_in self.new buffer.new) src.old src.new result }
+        ensures goes { GoesIn R.Reads file at self.old buffer.old self.new buffer.new src.old src.new result }
     {
         if self.has(at, len, buffer) {
             return Ok(());
@@ -85,19 +83,17 @@ impl Held {
         end: u64,
     ) -> Result<Result<Header, Damage>, Failed>
         requires live { IsLive R.Reads src.old file }
-        requires inside { self.old.len ≤ length buffer.old }
         requires few { 2 * LONGEST_HEADER ≤ length buffer.old }
         requires place { at ≤ end }
         requires within { end ≤ file_size R.Reads src.old file }
-        requires holds { IfTold R.Reads src.old file (λ bytes. Holds bytes (held_in self.old buffer.old)) }
-        ensures inside { self.new.len ≤ length buffer.old }
+        requires holds { HoldsIn R.Reads file src.old self.old buffer.old }
         ensures ok { IfOk result (λ found. IfTold R.Reads src.old file (λ bytes. found ≡ element_at (setting_of parent) bytes at end)) }
         ensures placed { IfOk result (λ found. IfOk found (IsFound (setting_of parent) at end)) }
-        ensures looks { Looks R.Reads file (length buffer.old) at (header_room at end) (held_in self.old buffer.old) (held_in self.new buffer.new) src.old src.new result }
-        ensures holds { IfTold R.Reads src.old file (λ bytes. Holds bytes (held_in self.new buffer.new)) }
+        ensures looks { LooksIn R.Reads file at (header_room at end) self.old buffer.old self.new buffer.new src.old src.new result }
+        ensures holds { HoldsIn R.Reads file src.old self.new buffer.new }
         ensures same { OnlyReads R.Reads src.old src.new }
         ensures cause { HasCause is_failure (R.reading_faults src.old) (R.reading_faults src.new) result }
-        ensures goes { Goes R.Reads file at (λ _. at) (held_in self.old buffer.old) (held_in self.new buffer.new) src.old src.new result }
+        ensures goes { GoesIn R.Reads file at self.old buffer.old self.new buffer.new src.old src.new result }
     {
         let len = (end - at).min(LONGEST_HEADER) as usize;
         self.hold(buffer, src, file, at, len)?;

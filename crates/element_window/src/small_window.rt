@@ -24,12 +24,13 @@ impl Model for SmallWindow {
     ghost use Rattle.std.specs.Prelude.{◌≤◌};
     ghost use Rattle.element_window.specs.Window.{ReadAhead};
     ghost use Rattle.element_window.specs.Held.{held_in};
+    ghost use Rattle.element_window.specs.declared.small_window.TheConstants.{SMALL};
 
     ghost Value = { ReadAhead };
 
     ghost view = { λ w. held_in w.held w.buffer };
 
-    ghost invariant = { λ w. w.held.len ≤ 1024 };
+    ghost invariant = { λ w. w.held.len ≤ SMALL };
 }
 
 impl SmallWindow {

@@ -29,12 +29,13 @@ impl Model for Window {
     ghost use Rattle.std.specs.Prelude.{length, ◌≡◌, ◌≤◌};
     ghost use Rattle.element_window.specs.Window.{ReadAhead};
     ghost use Rattle.element_window.specs.Held.{held_in};
+    ghost use Rattle.element_window.specs.declared.window.TheConstants.{WINDOW};
 
     ghost Value = { ReadAhead };
 
     ghost view = { λ w. held_in w.held w.buffer.items };
 
-    ghost invariant = { λ w. (length w.buffer.items ≡ 65536) × (w.held.len ≤ 65536) };
+    ghost invariant = { λ w. (length w.buffer.items ≡ WINDOW) × (w.held.len ≤ WINDOW) };
 }
 
 impl Window {

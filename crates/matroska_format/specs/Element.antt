@@ -103,7 +103,7 @@ is_truncated s total e h =
 abbrev pub is_too_long : Setting → ℕ → ℕ → Header → Bool
 is_too_long s total e h = nat_lt e (stated_end h) && not (s.may_open h.id && e == total)
 
--- what is wrong with a body, in the order in which it is told
+-- What is wrong with a body, in the order in which it is told. `BodyDamage` has it by where the Element stands.
 abbrev pub body_damage : Setting → ℕ → ℕ → Header → Option Kind
 body_damage s total e h =
     if has_unknown_size s h then Some UnknownSize else
