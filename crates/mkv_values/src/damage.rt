@@ -1,4 +1,4 @@
-//! The first place where a file isn't what it should be.
+//! What is wrong with a file, and where.
 
 ghost use Rattle.std.specs.Prelude.{◌≡◌};
 
@@ -105,7 +105,7 @@ impl fmt::Display for Kind {
     }
 }
 
-/// The first place where a file isn't made of valid Elements and blocks.
+/// A place where a file isn't made of valid Elements and blocks, and what is wrong there.
 #[derive(Clone, Copy, Debug, PartialEq, Eq)]
 pub struct Damage {
     pub kind: Kind,
