@@ -95,12 +95,20 @@ impl Held {
         ensures cause { HasCause is_failure (R.reading_faults src.old) (R.reading_faults src.new) result }
         ensures goes { GoesIn R.Reads file at self.old buffer.old self.new buffer.new src.old src.new result }
     {
-        let len = (end - at).min(LONGEST_HEADER) as usize;
+        let len = header_room(at, end) as usize;
         self.hold(buffer, src, file, at, len)?;
         let total = src.size(file);
         let octets = self.octets_at(at, len, buffer);
         Ok(read_header(octets, parent, total, at, end))
     }
+}
+
+// How many octets a header at a place may have, where its parent ends at `end`.
+fn header_room(at: u64, end: u64) -> u64
+    requires { at ≤ end }
+    ensures { result ≡ header_room at end }
+{
+    (end - at).min(LONGEST_HEADER)
 }
 
 // Reads octets into the front of a buffer, as many as it has or up to the file's end, and answers their
