@@ -16,7 +16,7 @@ use Rattle.block_records.specs.declared.block.Times.{Times}
 use Rattle.block_records.specs.declared.gathered.Gathered.{Gathered}
 use Rattle.block_records.specs.declared.parts.Parts.{Parts}
 use Rattle.block_records.specs.Buffered.{Buffered}
-use Rattle.block_records.specs.Lendable.{HasSmallTimes, LendsNothing, LendsFew, Lends, held, IsEmpty, IsBlock, CanLead}
+use Rattle.block_records.specs.Lendable.{HasSmallTimes, LendsNothing, LendsFew, Lends, lent, IsEmpty, IsBlock, CanLead}
 use Rattle.block_records.specs.Made.{HasTimes}
 use Rattle.block_records.specs.Spelled.{AreFrames}
 use Rattle.block_records.specs.Time.{IsSmallTime, is_too_large_at}
@@ -106,7 +106,7 @@ IsBlock-made o part base start flags p short start_is end_is inside frames leads
 -- ---- at every moment
 
 -- where there is no block, nothing is lent
-pub LendsNothing-empty : (o : List ℕ) (p : Parts) → IsEmpty p → LendsNothing (held o p)
+pub LendsNothing-empty : (o : List ℕ) (p : Parts) → IsEmpty p → LendsNothing (lent o p)
 LendsNothing-empty o p empty = record {
   body = ap₂ (λ (s e : ℕ). take (e - s) (drop s o)) empty.start empty.end;
   sizes = empty.sizes;

@@ -46,8 +46,8 @@ Lends b = LendsNothing b ⊎ IsLendable b
 -- ---- the parts of a block
 
 -- what is lent of the parts of a block among the octets of its body
-abbrev pub held : List ℕ → Parts → Buffered
-held octets p = record {
+abbrev pub lent : List ℕ → Parts → Buffered
+lent octets p = record {
   octets = octets;
   head = p.head;
   body = take (p.end - p.start) (drop p.start octets);
@@ -72,13 +72,13 @@ pub record IsWithin (octets : List ℕ) (p : Parts) : Type 0 where
 -- A block among these octets that can be written.
 pub record IsBlock (octets : List ℕ) (p : Parts) : Type 0 where
   pub within : IsWithin octets p
-  pub lendable : IsLendable (held octets p)
+  pub lendable : IsLendable (lent octets p)
 
 -- No block, or one that can be written. The times of the block that was lent last are small.
 pub record AreParts (octets : List ℕ) (p : Parts) : Type 0 where
   pub within : IsWithin octets p
   pub times : HasSmallTimes p.head
-  pub lends : Lends (held octets p)
+  pub lends : Lends (lent octets p)
 
 -- The body that was read last stands at the front of the octets, which are 32 MiB at most, and the parts are its own.
 pub record IsBuffer (len : ℕ) (octets : List ℕ) (p : Parts) : Type 0 where

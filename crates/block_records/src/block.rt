@@ -13,11 +13,10 @@ ghost use Rattle.block_records.specs.Lendable.{CanLead};
 ghost use Rattle.block_records.specs.Made.{has_too_large_ticks, HasTimes, MakesHead};
 
 use crate::content::{Spelled, has_flag, lace_of};
-use crate::damage::damage;
 use crate::gathered::Gathered;
 use crate::head::BlockHead;
 use crate::time::{block_time, scale_all, scaled_duration};
-use element_headers::Header;
+use element_headers::{Header, damage};
 use mkv_schema::ids::BLOCK;
 use mkv_values::{Damage, Kind};
 

@@ -1,6 +1,6 @@
 //! The buffer of a block.
 
-ghost use Rattle.std.specs.Prelude.{◌≡◌, ◌+◌, ◌^◌, ◌≤◌, ◌⊎◌, [], ℕ, List, length, sum, false, Some, OnOk, OnErr, IfOk, IsTrue, IsErrOf, MatchResult};
+ghost use Rattle.std.specs.Prelude.{◌≡◌, ◌+◌, ◌≤◌, ◌⊎◌, [], ℕ, List, length, sum, false, Some, OnOk, OnErr, IfOk, IsTrue, IsErrOf, MatchResult};
 ghost use Rattle.std.specs.List.{All};
 ghost use Rattle.mkv_io.specs.Faults.{HasCause, is_read_fault};
 ghost use Rattle.mkv_io.specs.Sources.{IfTold, IsLive, file_size};
@@ -12,6 +12,7 @@ ghost use Rattle.block_format.specs.Elements.{with_limits, simple_block, block_g
 ghost use Rattle.block_records.specs.Buffered.{Makes};
 ghost use Rattle.block_records.specs.Lendable.{HasSmallTimes, IsLendable, LendsNothing};
 ghost use Rattle.block_records.specs.Time.{IsSmallTime};
+ghost use Rattle.mkv_values.specs.declared.outside.TheConstants.{LONGEST_FILE};
 
 use crate::body::read_body;
 use crate::head::BlockHead;
@@ -38,11 +39,11 @@ pub struct BlockBuffer {
 impl Model for BlockBuffer {
     ghost use Rattle.std.specs.Prelude.{take};
     ghost use Rattle.block_records.specs.Buffered.{Buffered};
-    ghost use Rattle.block_records.specs.Lendable.{IsBuffer, held};
+    ghost use Rattle.block_records.specs.Lendable.{IsBuffer, lent};
 
     ghost Value = { Buffered };
 
-    ghost view = { λ b. held (take b.len b.octets.items) b.parts };
+    ghost view = { λ b. lent (take b.len b.octets.items) b.parts };
 
     ghost invariant = { λ b. IsBuffer b.len b.octets.items b.parts };
 }
@@ -115,7 +116,7 @@ impl BlockBuffer {
         requires few { known header.now.size ≤ MOST_OF_BLOCK }
         requires length { length self.old.octets ≡ known header.now.size }
         requires inside { stated_end header.now ≤ total }
-        requires short { total ≤ 2 ^ 48 }
+        requires short { total ≤ LONGEST_FILE }
         ensures exact { IfOk result (λ found. (bytes : List ℕ) → length bytes ≡ total → self.old.octets ≡ body_of bytes header.now
             → Makes found self.new (block_group (with_limits scale) bytes (Some timestamp) header.now)) }
         ensures lent { MatchResult result (λ found. MatchResult found (λ _. IsLendable self.new) (λ _. LendsNothing self.new)) (λ _. LendsNothing self.new) }

@@ -1,6 +1,6 @@
 //! The children of a BlockGroup: RFC 9559, section 5.1.3 (Cluster Element).
 
-ghost use Rattle.std.specs.Prelude.{◌≡◌, ◌+◌, ◌-◌, ◌^◌, ◌≤◌, ◌⊎◌, ℕ, List, [], ◌∷◌, ◌++◌, length, true, None, Some, IfOk, IfSome, OnOk, OnErr};
+ghost use Rattle.std.specs.Prelude.{◌≡◌, ◌+◌, ◌-◌, ◌≤◌, ◌⊎◌, ℕ, List, [], ◌∷◌, ◌++◌, length, true, None, Some, IfOk, IfSome, OnOk, OnErr};
 ghost use Rattle.ebml_format.specs.Number.{int_of};
 ghost use Rattle.mkv_schema.specs.declared.ids.TheConstants.{BLOCK_GROUP as GROUP_ID};
 ghost use Rattle.matroska_format.specs.declared.element.Header.{Header as HeaderRecord};
@@ -10,13 +10,13 @@ ghost use Rattle.matroska_format.specs.Value.{body_of, is_known_value};
 ghost use Rattle.element_bodies.specs.Body.{IsBody};
 ghost use Rattle.block_format.specs.Elements.{element_octets};
 ghost use Rattle.block_records.specs.Group.{Gathers, GathersRun, IsInside, IsPart};
+ghost use Rattle.mkv_values.specs.declared.outside.TheConstants.{LONGEST_FILE};
 
-use crate::damage::damage;
 use arrayvec::ArrayVec;
 use block_format::SLICES;
 use ebml_numbers::{read_int, read_uint};
 use element_bodies::{body_in, child_at, is_known_value, known};
-use element_headers::{Header, Parent};
+use element_headers::{Header, Parent, damage};
 use mkv_schema::ids::{BLOCK, BLOCK_DURATION, BLOCK_GROUP, CRC_32, REFERENCE_BLOCK, VOID};
 use mkv_values::{Damage, Kind};
 use std::alloc::{AllocError, Global};
@@ -38,7 +38,7 @@ pub struct Gathered {
 
 // The octets of a child, its header's and its body's, of a master whose body begins at `base` and is these octets.
 fn element_of<'a>(body: &'a [u8], base: u64, child: &Header) -> &'a [u8]
-    requires short { base + length body.now ≤ 2 ^ 48 }
+    requires short { base + length body.now ≤ LONGEST_FILE }
     requires from { base ≤ child.now.offset }
     requires order { child.now.offset ≤ stated_end child.now }
     requires inside { stated_end child.now ≤ base + length body.now }
@@ -112,7 +112,7 @@ impl Gathered {
         base: u64,
         total: u64,
     ) -> Result<Result<(), Damage>, AllocError>
-        requires { base + length body.now ≤ 2 ^ 48 }
+        requires { base + length body.now ≤ LONGEST_FILE }
         ensures exact { IfOk result (λ found. (bytes : List ℕ) → IsBody bytes base total body.now
             → GathersRun bytes (children_in in_master bytes base (base + length body.now)) self.new found) }
         ensures block { IfSome self.new.block (IsInside base (base + length body.now)) }

@@ -7,7 +7,6 @@ mod block;
 mod body;
 mod buffer;
 mod content;
-mod damage;
 mod gathered;
 mod head;
 mod parts;

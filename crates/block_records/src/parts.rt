@@ -1,21 +1,21 @@
 //! The parts of a block, which the octets of a SimpleBlock or a BlockGroup spell: RFC 9559, sections 10.1
 //! (Block Structure) and 10.2 (SimpleBlock Structure).
 
-ghost use Rattle.std.specs.Prelude.{◌≡◌, ◌^◌, ◌≤◌, ℕ, List, length, Some, IfOk, OnOk, OnErr, MatchResult};
+ghost use Rattle.std.specs.Prelude.{◌≡◌, ◌≤◌, ℕ, List, length, Some, IfOk, OnOk, OnErr, MatchResult};
 ghost use Rattle.matroska_format.specs.Element.{known, stated_end};
 ghost use Rattle.matroska_format.specs.Value.{body_of};
 ghost use Rattle.block_format.specs.Elements.{with_limits, simple_block, block_group};
 ghost use Rattle.block_records.specs.Buffered.{Makes};
-ghost use Rattle.block_records.specs.Lendable.{HasSmallTimes, IsBlock, IsEmpty, held};
+ghost use Rattle.block_records.specs.Lendable.{HasSmallTimes, IsBlock, IsEmpty, lent};
+ghost use Rattle.mkv_values.specs.declared.outside.TheConstants.{LONGEST_FILE};
 
 use crate::block::{group_head, simple_head};
 use crate::content::spell;
-use crate::damage::damage;
 use crate::gathered::Gathered;
 use crate::head::BlockHead;
 use block_format::MOST_OF_BLOCK;
 use element_bodies::known;
-use element_headers::Header;
+use element_headers::{Header, damage};
 use lacing::Lace;
 use mkv_schema::ids::BLOCK;
 use mkv_values::{Damage, Kind};
@@ -81,7 +81,7 @@ impl Parts {
         requires few { known header.now.size ≤ MOST_OF_BLOCK }
         requires length { length octets.now ≡ known header.now.size }
         ensures exact { IfOk result (λ found. (bytes : List ℕ) → octets.now ≡ body_of bytes header.now
-            → Makes found (held octets.now self.new) (simple_block (with_limits scale) bytes (Some timestamp) header.now)) }
+            → Makes found (lent octets.now self.new) (simple_block (with_limits scale) bytes (Some timestamp) header.now)) }
         ensures lent { IfOk result (λ found. OnOk found (IsBlock octets.now self.new)) }
         ensures head { MatchResult result (λ found. OnErr found (self.new.head ≡ self.old.head)) (λ _. self.new.head ≡ self.old.head) }
     {
@@ -114,9 +114,9 @@ impl Parts {
         requires few { known header.now.size ≤ MOST_OF_BLOCK }
         requires length { length octets.now ≡ known header.now.size }
         requires inside { stated_end header.now ≤ total }
-        requires short { total ≤ 2 ^ 48 }
+        requires short { total ≤ LONGEST_FILE }
         ensures exact { IfOk result (λ found. (bytes : List ℕ) → length bytes ≡ total → octets.now ≡ body_of bytes header.now
-            → Makes found (held octets.now self.new) (block_group (with_limits scale) bytes (Some timestamp) header.now)) }
+            → Makes found (lent octets.now self.new) (block_group (with_limits scale) bytes (Some timestamp) header.now)) }
         ensures lent { IfOk result (λ found. OnOk found (IsBlock octets.now self.new)) }
         ensures head { MatchResult result (λ found. OnErr found (self.new.head ≡ self.old.head)) (λ _. self.new.head ≡ self.old.head) }
     {

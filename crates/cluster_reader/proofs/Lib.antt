@@ -1,5 +1,5 @@
 pub mod ChildLemmas
 pub mod LeftLemmas
-pub mod ToldLemmas
+pub mod ToldDamagesLemmas
 pub mod TurnLemmas
 pub mod ReadingLemmas

@@ -2,5 +2,5 @@ pub mod Laws
 pub mod Left
 pub mod Places
 pub mod Reading
-pub mod Told
+pub mod ToldDamages
 pub mod Walks

@@ -3,7 +3,7 @@
 ghost use Rattle.std.specs.Prelude.{◌≡◌, ◌≤◌, ◌+◌, ℕ, List, length, false, IfOk, OnOk, IsTrue};
 ghost use Rattle.mkv_io.specs.Faults.{HasCause, is_read_fault};
 ghost use Rattle.mkv_io.specs.Sources.{IfTold, live_files};
-ghost use Rattle.matroska_format.specs.Element.{damage, is_unknown, known, stated_end};
+ghost use Rattle.matroska_format.specs.Element.{is_unknown, known, stated_end};
 ghost use Rattle.block_format.specs.Elements.{timestamp_for, with_limits};
 ghost use Rattle.block_records.specs.Buffered.{Makes};
 ghost use Rattle.block_records.specs.Lendable.{IsLendable};
@@ -14,20 +14,10 @@ use crate::turn::Child;
 use crate::walk::Walk;
 use block_format::{MOST_OF_BLOCK, MOST_TIMESTAMP};
 use element_bodies::known;
-use element_headers::Header;
+use element_headers::{Header, damage_at};
 use mkv_io::Reads;
 use mkv_schema::ids::{BLOCK_GROUP, SIMPLE_BLOCK, TIMESTAMP};
 use mkv_values::{Damage, Kind, ReadEnd};
-
-fn damage(kind: Kind, header: &Header) -> Damage
-    ensures { result ≡ damage kind header.now.id header.now.offset }
-{
-    Damage {
-        kind,
-        id: header.id,
-        offset: header.offset,
-    }
-}
 
 /// What a child of a Cluster gives, before which this Timestamp stands. The walk stays where it is.
 pub fn read_child<R: Reads>(
@@ -75,7 +65,7 @@ fn timestamp_child<R: Reads>(
     ensures octets { R.octets_read src.new ≤ R.octets_read src.old + octets_read_of timestamp header.now }
 {
     if known(header.size) > MOST_TIMESTAMP {
-        return Ok(Child::Damaged(damage(Kind::BadValue, header)));
+        return Ok(Child::Damaged(damage_at(Kind::BadValue, header)));
     }
     match timestamp {
         Some(ticks) => Ok(Child::Passed(Some(ticks))),
@@ -92,11 +82,11 @@ fn timestamp_for(timestamp: Option<u64>, header: &Header) -> Result<u64, Damage>
     ensures few { IfOk result (λ _. known header.now.size ≤ MOST_OF_BLOCK) }
 {
     if known(header.size) > MOST_OF_BLOCK {
-        return Err(damage(Kind::BlockTooLarge, header));
+        return Err(damage_at(Kind::BlockTooLarge, header));
     }
     match timestamp {
         Some(ticks) => Ok(ticks),
-        None => Err(damage(Kind::NoTimestamp, header)),
+        None => Err(damage_at(Kind::NoTimestamp, header)),
     }
 }
 

@@ -1,7 +1,7 @@
 //! The damages of a file that are told.
 
 ghost use Rattle.std.specs.Prelude.{[], ◌≡◌, IfOk};
-ghost use Rattle.cluster_reader.specs.Told.{told_of, with_damage};
+ghost use Rattle.cluster_reader.specs.ToldDamages.{told_damages, with_damage};
 
 use mkv_values::Damage;
 use std::alloc::{AllocError, Global};
@@ -20,9 +20,9 @@ pub struct Damages {
 
 impl Model for Damages {
     ghost use Rattle.std.specs.Prelude.{◌≤◌, length, vec_capacity};
-    ghost use Rattle.cluster_reader.specs.Told.{Told};
+    ghost use Rattle.cluster_reader.specs.ToldDamages.{ToldDamages};
 
-    ghost Value = { Told };
+    ghost Value = { ToldDamages };
 
     ghost view = { λ d. record { first = d.first.items; more = d.more } };
 
@@ -32,7 +32,7 @@ impl Model for Damages {
 impl Damages {
     /// No damages, and room for a hundred.
     pub fn new(alloc: Global) -> Result<Damages, AllocError>
-        ensures { IfOk result (λ damages. damages ≡ told_of []) }
+        ensures { IfOk result (λ damages. damages ≡ told_damages []) }
     {
         Ok(Damages {
             first: Vec::with_capacity(alloc, MOST_TOLD)?,

@@ -1,6 +1,6 @@
 //! What holds of every reading of a file.
 ghost use Rattle.cluster_reader.specs.Laws.{CanReadOn, LeavesNothingBehind};
-ghost use Rattle.cluster_reader.specs.Told.{TellsInTurn};
+ghost use Rattle.cluster_reader.specs.ToldDamages.{TellsInTurn};
 
 /// At the end of what is read no block and no damage is left.
 pub fn nothing_is_left_at_the_end()

@@ -1,9 +1,10 @@
 //! A place among the Elements of a file.
 
-ghost use Rattle.std.specs.Prelude.{◌≡◌, ◌≤◌, ◌^◌, Some, None};
+ghost use Rattle.std.specs.Prelude.{◌≡◌, ◌≤◌, Some, None};
 ghost use Rattle.matroska_format.specs.Element.{end_in};
 ghost use Rattle.block_format.specs.Events.{is_closed};
 ghost use Rattle.cluster_reader.specs.Places.{bound_in, cluster_in, first_place};
+ghost use Rattle.mkv_values.specs.declared.outside.TheConstants.{LONGEST_FILE};
 
 use ebml_format::Size;
 use element_headers::Header;
@@ -60,7 +61,7 @@ impl Place {
 
     /// The place of the first child of a Cluster in a file of `total` octets.
     pub fn entered(self, header: &Header, total: u64) -> Place
-        requires { total ≤ 2 ^ 48 }
+        requires { total ≤ LONGEST_FILE }
         ensures { result ≡ record self { at = header.now.body; cluster = Some (cluster_in total self.end header.now) } }
     {
         let cluster = Inside {
@@ -114,7 +115,7 @@ fn bound_in(header: &Header, end: u64) -> u64
 
 // Whether a Cluster's size is known, and it ends within a file of `total` octets.
 fn is_closed(header: &Header, total: u64) -> bool
-    requires { total ≤ 2 ^ 48 }
+    requires { total ≤ LONGEST_FILE }
     ensures { result ≡ is_closed total header.now }
 {
     match header.size {

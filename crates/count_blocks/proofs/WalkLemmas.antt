@@ -8,15 +8,15 @@ use Rattle.block_format.specs.Block.{Block}
 use Rattle.block_format.specs.Content.{frames_cut}
 use Rattle.block_format.specs.Events.{Event, block, blocks_of, damages_of}
 use Rattle.cluster_reader.specs.Reading.{damage_event}
-use Rattle.cluster_reader.specs.Told.{Told, told_of, with_damage}
-use Rattle.cluster_reader.proofs.ToldLemmas.{with_damage-told}
+use Rattle.cluster_reader.specs.ToldDamages.{ToldDamages, told_damages, with_damage}
+use Rattle.cluster_reader.proofs.ToldDamagesLemmas.{with_damage-told}
 use Rattle.count_blocks.specs.Walked.{IsWalked, octets_in}
 use Rattle.count_blocks.specs.declared.walk.Walked.{Walked}
 
 -- the damages that were met are kept, and the others are left
-pub record HasKept (all left : List Damage) (damages : Told) : Type 0 where
+pub record HasKept (all left : List Damage) (damages : ToldDamages) : Type 0 where
   pub met : List Damage
-  pub kept : damages ≡ told_of met
+  pub kept : damages ≡ told_damages met
   pub split : all ≡ met ++ left
 
 -- What was met and what is left make up what was to be met.
@@ -28,7 +28,7 @@ pub record Meets (events left : List Event) (walked : Walked) : Type 0 where
   pub most_octets : walked.octets ≤ last_count
 
 -- at the start nothing was met
-pub Meets-begins : (events : List Event) (walked : Walked) → walked.blocks ≡ 0 → walked.octets ≡ 0 → walked.damages ≡ told_of [] → Meets events events walked
+pub Meets-begins : (events : List Event) (walked : Walked) → walked.blocks ≡ 0 → walked.octets ≡ 0 → walked.damages ≡ told_damages [] → Meets events events walked
 Meets-begins events walked none empty kept = record {
   blocks = ap (λ n. counted n (length (blocks_of events))) none;
   octets = ap (λ n. counted n (sum (map octets_in (blocks_of events)))) empty;
@@ -99,7 +99,7 @@ pub Meets-ends : (events left : List Event) (walked : Walked) → Meets events l
 Meets-ends events left walked meets is = record {
   blocks = alone walked.blocks meets.most_blocks ∙ ap (λ (bs : List Block). counted walked.blocks (length bs)) (sym (ap blocks_of is)) ∙ meets.blocks;
   octets = alone walked.octets meets.most_octets ∙ ap (λ (bs : List Block). counted walked.octets (sum (map octets_in bs))) (sym (ap blocks_of is)) ∙ meets.octets;
-  damages = meets.damages.kept ∙ ap told_of (sym (meets.damages.split ∙ ap (λ es. meets.damages.met ++ damages_of es) is ∙ append-nil meets.damages.met));
+  damages = meets.damages.kept ∙ ap told_damages (sym (meets.damages.split ∙ ap (λ es. meets.damages.met ++ damages_of es) is ∙ append-nil meets.damages.met));
 }
   where
     alone : (n : ℕ) → n ≤ last_count → n ≡ counted n 0

@@ -5,7 +5,7 @@ use Rattle.matroska_format.specs.Outline.{Outlined, outline_of}
 use Rattle.block_format.specs.Block.{Block}
 use Rattle.block_format.specs.Events.{Event, blocks_of, damages_of}
 use Rattle.file_blocks.specs.File.{file_events}
-use Rattle.cluster_reader.specs.Told.{told_of}
+use Rattle.cluster_reader.specs.ToldDamages.{told_damages}
 use Rattle.count_blocks.specs.declared.walk.Walked.{Walked}
 
 -- the octets of a block's frames
@@ -17,7 +17,7 @@ octets_in b = sum (map (λ (frame : List ℕ). length frame) b.frames)
 pub record IsWalked (events : List Event) (walked : Walked) : Type 0 where
   pub blocks : walked.blocks ≡ counted 0 (length (blocks_of events))
   pub octets : walked.octets ≡ counted 0 (sum (map octets_in (blocks_of events)))
-  pub damages : walked.damages ≡ told_of (damages_of events)
+  pub damages : walked.damages ≡ told_damages (damages_of events)
 
 -- All blocks and damages of the file were met.
 abbrev pub IsCount : List ℕ → Walked → Type 0

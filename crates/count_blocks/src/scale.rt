@@ -6,19 +6,13 @@ ghost use Rattle.mkv_io.specs.Sources.{IfTold, IsLive, file_size};
 ghost use Rattle.meta_format.specs.Info.{file_scale};
 ghost use Rattle.element_reader.specs.Outline.{is_outline_fault, outline_in};
 
-use ebml_tree::{Tree, TreeEnd};
+use ebml_tree::{MOST_NODES, Tree, TreeEnd};
 use element_reader::{LoadEnd, Outline, OutlineEnd, load};
-use meta_records::read_info;
+use meta_records::{DEFAULT_SCALE, read_info};
 use mkv_io::Reads;
 use mkv_schema::ids::INFO;
 use mkv_values::FileId;
 use std::alloc::Global;
-
-/// The scale of a file without an Info, in nanoseconds a tick.
-const DEFAULT_SCALE: u64 = 1_000_000;
-
-/// The most Elements of an Info, itself counted.
-const MOST_NODES: u32 = 65536;
 
 /// Nanoseconds a tick of a file, or what refuses its Info.
 pub fn scale_of<R: Reads>(

@@ -1,11 +1,12 @@
 //! The children of a master: RFC 8794, section 7.7 (Master Element).
 
-ghost use Rattle.std.specs.Prelude.{◌≡◌, ℕ, ◌+◌, ◌^◌, ◌<◌, ◌≤◌, List, length, IfOk};
+ghost use Rattle.std.specs.Prelude.{◌≡◌, ℕ, ◌+◌, ◌<◌, ◌≤◌, List, length, IfOk};
 ghost use Rattle.matroska_format.specs.Element.{element_at, known, stated_end};
 ghost use Rattle.matroska_format.specs.Placed.{StandsAt, IsWhole};
 ghost use Rattle.matroska_format.specs.Value.{body_of};
 ghost use Rattle.element_headers.specs.Parent.{setting_of};
 ghost use Rattle.element_bodies.specs.Body.{IsBody};
+ghost use Rattle.mkv_values.specs.declared.outside.TheConstants.{LONGEST_FILE};
 
 use ebml_format::Size;
 use element_headers::{Header, Parent, read_header};
@@ -22,7 +23,7 @@ pub fn child_at(
 ) -> Result<Header, Damage>
     requires from { base ≤ at }
     requires inside { at < base + length body.now }
-    requires short { base + length body.now ≤ 2 ^ 48 }
+    requires short { base + length body.now ≤ LONGEST_FILE }
     ensures exact { (bytes : List ℕ) → IsBody bytes base total body.now → result ≡ element_at (setting_of parent) bytes at (base + length body.now) }
     ensures placed { IfOk result (StandsAt at (base + length body.now)) }
     ensures whole { IfOk result (IsWhole (setting_of parent) (base + length body.now)) }

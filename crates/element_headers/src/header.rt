@@ -5,6 +5,7 @@ ghost use Rattle.matroska_format.specs.Element.{body_damage, cut_header, element
 ghost use Rattle.matroska_format.specs.Placed.{StandsAt, IsWhole};
 ghost use Rattle.ebml_format.specs.Number.{size_at};
 ghost use Rattle.element_headers.specs.Parent.{setting_of};
+ghost use Rattle.mkv_values.specs.declared.outside.TheConstants.{LONGEST_FILE};
 
 use crate::parent::Parent;
 use ebml_numbers::{IdRead, NumFault, Size, read_id, read_size};
@@ -23,7 +24,7 @@ pub fn read_header(
     at: u64,
     end: u64,
 ) -> Result<Header, Damage>
-    requires { at ≤ 2 ^ 48 }
+    requires { at ≤ LONGEST_FILE }
     ensures exact { result ≡ element_in (setting_of parent) octets.now total at end }
     ensures placed { at + length octets.now ≤ end → IfOk result (StandsAt at end) }
     ensures whole { IfOk result (IsWhole (setting_of parent) end) }
@@ -39,7 +40,7 @@ fn first_header(
     at: u64,
     end: u64,
 ) -> Result<Header, Damage>
-    requires { at ≤ 2 ^ 48 }
+    requires { at ≤ LONGEST_FILE }
     ensures { result ≡ element_in (setting_of parent) octets.now total at end }
 {
     let id = match id_at(octets, parent) {
@@ -90,7 +91,8 @@ pub fn damage_at(kind: Kind, header: &Header) -> Damage
     damage(kind, header.id, header.offset)
 }
 
-fn damage(kind: Kind, id: u32, offset: u64) -> Damage
+/// A damage of this kind, of an Element of this ID, so many octets behind the start of the file.
+pub fn damage(kind: Kind, id: u32, offset: u64) -> Damage
     ensures { result ≡ record { kind = kind; id = id; offset = offset } }
 {
     Damage { kind, id, offset }

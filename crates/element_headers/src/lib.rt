@@ -6,7 +6,7 @@
 mod header;
 mod parent;
 
-pub use header::{damage_at, read_header};
+pub use header::{damage, damage_at, read_header};
 pub use matroska_format::Header;
 pub use matroska_format::limits::LONGEST_HEADER;
 pub use parent::Parent;

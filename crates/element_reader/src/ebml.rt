@@ -1,6 +1,6 @@
 //! The EBML header of a file: RFC 8794, section 8.1 (EBML Header).
 
-ghost use Rattle.std.specs.Prelude.{◌≡◌, ℕ, ◌+◌, ◌^◌, ◌≤◌, List, length, None, IfOk, OnErr};
+ghost use Rattle.std.specs.Prelude.{◌≡◌, ℕ, ◌+◌, ◌≤◌, List, length, None, IfOk, OnErr};
 ghost use Rattle.mkv_io.specs.Faults.{HasCause, is_failure, is_read_fault};
 ghost use Rattle.mkv_io.specs.Sources.{IfTold, IsLive, OnlyReads, file_size};
 ghost use Rattle.matroska_format.specs.Element.{known, stated_end};
@@ -10,6 +10,7 @@ ghost use Rattle.element_window.specs.Window.{Holds, nothing_at};
 ghost use Rattle.element_bodies.specs.Body.{IsBody};
 ghost use Rattle.element_reader.specs.EbmlChildren.{child_refusal, children, value_causes};
 ghost use Rattle.element_reader.specs.Ways.{GoesBesides};
+ghost use Rattle.mkv_values.specs.declared.outside.TheConstants.{LONGEST_FILE};
 
 use crate::ebml_children::child_refusal;
 use crate::ebml_values::{above, wrong_doc_type};
@@ -30,7 +31,7 @@ const EBML_MARK: [u8; 4] = [0x1A, 0x45, 0xDF, 0xA3];
 
 // What refuses the values of an EBML header whose body this is.
 fn value_refusal(body: &[u8], base: u64, total: u64) -> Option<Damage>
-    requires { base + length body.now ≤ 2 ^ 48 }
+    requires { base + length body.now ≤ LONGEST_FILE }
     ensures { (bytes : List ℕ) → IsBody bytes base total body.now
         → child_refusal bytes (children bytes base (base + length body.now)) ≡ None
         → result ≡ first_damage (value_causes bytes (children bytes base (base + length body.now)).list) }
@@ -56,7 +57,7 @@ fn value_refusal(body: &[u8], base: u64, total: u64) -> Option<Damage>
 
 /// What refuses an EBML header whose body this is, and has no more octets than are read.
 pub fn header_refusal(body: &[u8], header: &Header, total: u64) -> Option<Damage>
-    requires few { header.now.body + length body.now ≤ 2 ^ 48 }
+    requires few { header.now.body + length body.now ≤ LONGEST_FILE }
     requires whole { length body.now ≡ known header.now.size }
     requires most { known header.now.size ≤ MOST_OF_HEADER }
     ensures { (bytes : List ℕ) → IsBody bytes header.now.body total body.now

@@ -1,12 +1,13 @@
 //! The children of the EBML header: RFC 8794, section 8.1 (EBML Header).
 
-ghost use Rattle.std.specs.Prelude.{◌≡◌, ℕ, ◌+◌, ◌^◌, ◌<◌, ◌≤◌, List, length, IfOk, IfSome};
+ghost use Rattle.std.specs.Prelude.{◌≡◌, ℕ, ◌+◌, ◌<◌, ◌≤◌, List, length, IfOk, IfSome};
 ghost use Rattle.matroska_format.specs.Element.{element_at, in_tree, stated_end};
 ghost use Rattle.matroska_format.specs.Placed.{StandsAt};
 ghost use Rattle.matroska_format.specs.Value.{body_of, first_of};
 ghost use Rattle.mkv_schema.specs.declared.ids.TheConstants.{EBML as EBML_ID};
 ghost use Rattle.element_bodies.specs.Body.{IsBody};
 ghost use Rattle.element_reader.specs.EbmlChildren.{child_refusal, children};
+ghost use Rattle.mkv_values.specs.declared.outside.TheConstants.{LONGEST_FILE};
 
 use element_bodies::{body_in, child_at, is_known_value};
 use element_headers::{Header, Parent};
@@ -17,7 +18,7 @@ use mkv_values::{Damage, Kind};
 /// What refuses the children of an EBML header whose body this is: the first that isn't a value of its
 /// kind, or the damage among them.
 pub fn child_refusal(body: &[u8], base: u64, total: u64) -> Option<Damage>
-    requires { base + length body.now ≤ 2 ^ 48 }
+    requires { base + length body.now ≤ LONGEST_FILE }
     ensures { (bytes : List ℕ) → IsBody bytes base total body.now → result ≡ child_refusal bytes (children bytes base (base + length body.now)) }
 {
     let end = base + body.len() as u64;
@@ -42,7 +43,7 @@ pub fn child_refusal(body: &[u8], base: u64, total: u64) -> Option<Damage>
 
 /// The first child of an ID.
 pub fn first_child(body: &[u8], base: u64, total: u64, id: u32) -> Option<Header>
-    requires { base + length body.now ≤ 2 ^ 48 }
+    requires { base + length body.now ≤ LONGEST_FILE }
     ensures exact { (bytes : List ℕ) → IsBody bytes base total body.now → result ≡ first_of id (children bytes base (base + length body.now)).list }
     ensures inside { IfSome result (λ h. (base ≤ h.body) × (stated_end h ≤ base + length body.now)) }
 {

@@ -1,12 +1,13 @@
 //! The values of an EBML header: RFC 8794, section 11.2 (EBML Header Elements).
 
-ghost use Rattle.std.specs.Prelude.{◌≡◌, ℕ, ◌+◌, ◌^◌, ◌≤◌, List, length, None};
+ghost use Rattle.std.specs.Prelude.{◌≡◌, ℕ, ◌+◌, ◌≤◌, List, length, None};
 ghost use Rattle.std.specs.Option.{option_map};
 ghost use Rattle.matroska_format.specs.Outline.{above, is_doc_type, place_of, wrong_doc_type};
 ghost use Rattle.matroska_format.specs.Value.{text_in, uint_in};
 ghost use Rattle.mkv_schema.specs.declared.ids.TheConstants.{DOC_TYPE as DOC_TYPE_ID};
 ghost use Rattle.element_bodies.specs.Body.{IsBody};
 ghost use Rattle.element_reader.specs.EbmlChildren.{IsShort, child_refusal, children};
+ghost use Rattle.mkv_values.specs.declared.outside.TheConstants.{LONGEST_FILE};
 
 use crate::ebml_children::first_child;
 use ebml_numbers::read_uint;
@@ -17,7 +18,7 @@ use mkv_values::{Damage, Kind};
 
 /// The unsigned integer of an ID in an EBML header whose body this is, or its default, or 0.
 pub fn uint_in(body: &[u8], base: u64, total: u64, id: u32) -> u64
-    requires few { base + length body.now ≤ 2 ^ 48 }
+    requires few { base + length body.now ≤ LONGEST_FILE }
     requires short { IsShort id }
     ensures { (bytes : List ℕ) → IsBody bytes base total body.now
         → child_refusal bytes (children bytes base (base + length body.now)) ≡ None
@@ -46,7 +47,7 @@ pub fn is_doc_type(text: &[u8]) -> bool
 
 /// Whether the document type of an EBML header whose body this is is read.
 pub fn has_doc_type(body: &[u8], base: u64, total: u64) -> bool
-    requires { base + length body.now ≤ 2 ^ 48 }
+    requires { base + length body.now ≤ LONGEST_FILE }
     ensures { (bytes : List ℕ) → IsBody bytes base total body.now
         → result ≡ is_doc_type (text_in bytes DOC_TYPE_ID (children bytes base (base + length body.now)).list) }
 {
@@ -61,7 +62,7 @@ pub fn has_doc_type(body: &[u8], base: u64, total: u64) -> bool
 
 /// Where the first child of an ID stands, 0 where there is none.
 fn place_of(body: &[u8], base: u64, total: u64, id: u32) -> u64
-    requires { base + length body.now ≤ 2 ^ 48 }
+    requires { base + length body.now ≤ LONGEST_FILE }
     ensures { (bytes : List ℕ) → IsBody bytes base total body.now
         → result ≡ place_of id (children bytes base (base + length body.now)).list }
 {
@@ -73,7 +74,7 @@ fn place_of(body: &[u8], base: u64, total: u64, id: u32) -> u64
 
 /// What refuses the document type.
 pub fn wrong_doc_type(body: &[u8], base: u64, total: u64) -> Option<Damage>
-    requires { base + length body.now ≤ 2 ^ 48 }
+    requires { base + length body.now ≤ LONGEST_FILE }
     ensures { (bytes : List ℕ) → IsBody bytes base total body.now
         → result ≡ wrong_doc_type bytes (children bytes base (base + length body.now)).list }
 {
@@ -89,7 +90,7 @@ pub fn wrong_doc_type(body: &[u8], base: u64, total: u64) -> Option<Damage>
 
 /// What refuses an integer that is above what is read.
 pub fn above(body: &[u8], base: u64, total: u64, id: u32, limit: u64, kind: Kind) -> Option<Damage>
-    requires few { base + length body.now ≤ 2 ^ 48 }
+    requires few { base + length body.now ≤ LONGEST_FILE }
     requires short { IsShort id }
     ensures { (bytes : List ℕ) → IsBody bytes base total body.now
         → child_refusal bytes (children bytes base (base + length body.now)) ≡ None

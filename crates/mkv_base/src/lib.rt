@@ -6,5 +6,5 @@
 pub use mkv_io::{Files, Reads, Report};
 pub use mkv_memory::{MemFiles, MemReport};
 pub use mkv_values::{
-    BoundedList, Bytes, Damage, Failed, FileId, Kind, List, MakeFault, OpenFault, ReadEnd, Text,
+    Bytes, Damage, Failed, FileId, Kind, LONGEST_FILE, List, MakeFault, OpenFault, ReadEnd, Text,
 };

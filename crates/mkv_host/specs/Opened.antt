@@ -1,9 +1,10 @@
 -- What is known of the files of the system that are open.
-use Rattle.std.specs.Prelude.{◌≡◌, ℕ, ◌^◌, ◌≤◌, ◌<◌, zero, suc, List, [], ◌∷◌, length, Bool, true, false, ◌&&◌, ◌==◌, Option, Some, None, is_some, get_or}
+use Rattle.std.specs.Prelude.{◌≡◌, ℕ, ◌≤◌, ◌<◌, zero, suc, List, [], ◌∷◌, length, Bool, true, false, ◌&&◌, ◌==◌, Option, Some, None, is_some, get_or}
 use Rattle.std.proofs.Common.{arith}
 use Rattle.mkv_io.specs.LiveFiles.{LiveFiles}
 use Rattle.mkv_host.specs.declared.opened.Opened.{Opened}
 use Rattle.mkv_host.specs.declared.system.Node.{Node}
+use Rattle.mkv_values.specs.declared.outside.TheConstants.{LONGEST_FILE}
 
 -- The file of a number, None where it was closed.
 abbrev pub opened_at : List (Option Opened) → ℕ → Option Opened
@@ -41,7 +42,7 @@ is_node node (Some opened) = (opened.node.device == node.device) && (opened.node
 -- ---- what follows at once
 
 -- no open file is too long
-pub short-of_size : (opened : Option Opened) → size_of opened ≤ 2 ^ 48
+pub short-of_size : (opened : Option Opened) → size_of opened ≤ LONGEST_FILE
 short-of_size None = omega arith
 short-of_size (Some opened) = opened.short
 

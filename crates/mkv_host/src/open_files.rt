@@ -1,9 +1,10 @@
 //! The files of the system that are open, by their numbers. A number is a place in a list, and a file
 //! that is closed leaves its place empty.
 
-ghost use Rattle.std.specs.Prelude.{◌≡◌, ◌≢◌, ℕ, ◌+◌, ◌<◌, ◌≤◌, ◌^◌, [], ◌∷◌, ◌++◌, length, Some, is_some, vec_capacity, IfOk, OnOk, IsTrue};
+ghost use Rattle.std.specs.Prelude.{◌≡◌, ◌≢◌, ℕ, ◌+◌, ◌<◌, ◌≤◌, [], ◌∷◌, ◌++◌, length, Some, is_some, vec_capacity, IfOk, OnOk, IsTrue};
 ghost use Rattle.mkv_host.specs.Opened.{holder_in, is_node, opened_at, size_at};
 ghost use Rattle.std.specs.List.{list_any};
+ghost use Rattle.mkv_values.specs.declared.outside.TheConstants.{LONGEST_FILE};
 
 use crate::opened::Opened;
 use crate::system::Node;
@@ -58,7 +59,7 @@ pub fn is_open(opened: &Vec<Option<Opened>>, node: Node) -> bool
 /// Notes that an open file is longer by so many octets.
 pub fn lengthen(opened: &mut Vec<Option<Opened>>, file: FileId, count: u64)
     requires live { IsTrue (is_some (opened_at opened.old.items file.n)) }
-    requires room { size_at opened.old.items file.n + count ≤ 2 ^ 48 }
+    requires room { size_at opened.old.items file.n + count ≤ LONGEST_FILE }
     ensures length { length opened.new.items ≡ length opened.old.items }
     ensures alive { (other : ℕ) → is_some (opened_at opened.new.items other) ≡ is_some (opened_at opened.old.items other) }
     ensures names { (other : ℕ) → holder_in opened.new.items other ≡ holder_in opened.old.items other }

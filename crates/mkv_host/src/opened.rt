@@ -1,6 +1,7 @@
 //! A file of the system that is open.
 
-ghost use Rattle.std.specs.Prelude.{ℕ, ◌≤◌, ◌^◌};
+ghost use Rattle.std.specs.Prelude.{ℕ, ◌≤◌};
+ghost use Rattle.mkv_values.specs.declared.outside.TheConstants.{LONGEST_FILE};
 
 use crate::system::Node;
 use mkv_values::Text;
@@ -13,5 +14,5 @@ pub struct Opened {
     pub node: Node,
     pub name: Text,
     pub size: u64,
-    ghost short: { size ≤ 2 ^ 48 },
+    ghost short: { size ≤ LONGEST_FILE },
 }

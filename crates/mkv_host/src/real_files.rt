@@ -7,10 +7,10 @@ ghost use Rattle.std.specs.List.{list_any};
 
 use crate::open_files::{add, is_open, lengthen, open_at, prepare};
 use crate::opened::Opened;
-use crate::system::{LONGEST, Node, is_missing, open_to_read, open_to_write};
+use crate::system::{Node, is_missing, open_to_read, open_to_write};
 use crate::writer::write_from;
 use mkv_io::{Files, Reads};
-use mkv_values::{Failed, FileId, MakeFault, OpenFault};
+use mkv_values::{Failed, FileId, LONGEST_FILE, MakeFault, OpenFault};
 use std::alloc::Global;
 use std::fs::File;
 use std::io::ErrorKind;
@@ -190,7 +190,7 @@ impl<'a, R: fs::Files<File = File>> Files for RealFiles<'a, R> {
 
     fn append(&mut self, file: FileId, bytes: &[u8]) -> Result<(), MakeFault> {
         let open = open_at(&self.opened, file);
-        if bytes.len() as u64 > LONGEST - open.size {
+        if bytes.len() as u64 > LONGEST_FILE - open.size {
             note_failure(&mut self.writing_faults);
             return Err(MakeFault::Failed);
         }

@@ -1,16 +1,15 @@
 //! Calls of the system that open files.
 
-ghost use Rattle.std.specs.Prelude.{◌≡◌, ◌↔◌, ◌⊎◌, ℕ, ◌≤◌, ◌^◌, IfOk, IsOk, IsTrue};
+ghost use Rattle.std.specs.Prelude.{◌≡◌, ◌↔◌, ◌⊎◌, ℕ, ◌≤◌, IfOk, IsOk, IsTrue};
 ghost use Rattle.std.specs.IoError.{error_kind};
 ghost use Rattle.std.specs.Fs.{IsFile, file_type};
+ghost use Rattle.mkv_values.specs.declared.outside.TheConstants.{LONGEST_FILE};
 
+use mkv_values::LONGEST_FILE;
 use std::fs::{File, Metadata, OpenOptions};
 use std::io::ErrorKind;
 use std::os::unix::fs::MetadataExt;
 use std::{fs, io};
-
-/// No file is longer than so many octets.
-pub const LONGEST: u64 = 1 << 48;
 
 /// Which file of the system a file is, whatever its name.
 #[derive(Clone, Copy, Debug, PartialEq, Eq)]
@@ -45,13 +44,13 @@ pub fn open_to_read<R: fs::Files<File = File>>(
     system: &R,
     name: &str,
 ) -> io::Result<(File, u64, Node)>
-    ensures { IfOk result (λ answer. answer.1 ≤ 2 ^ 48) }
+    ensures { IfOk result (λ answer. answer.1 ≤ LONGEST_FILE) }
 {
     node_of(&fs::metadata(system, name)?)?;
     let file = File::open(system, name)?;
     let found = file.metadata()?;
     let size = found.len();
-    if size > LONGEST {
+    if size > LONGEST_FILE {
         return Err(ErrorKind::FileTooLarge.into());
     }
     Ok((file, size, node_of(&found)?))

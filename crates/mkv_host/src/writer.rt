@@ -1,8 +1,9 @@
 //! Writing at a place of a file, though the system may write less at once.
 
-ghost use Rattle.std.specs.Prelude.{◌≡◌, ℕ, ◌≤◌, ◌^◌, List, length, take, Option, Some, unwrap_or, IfOk, IfSome, OnErr};
+ghost use Rattle.std.specs.Prelude.{◌≡◌, ℕ, ◌≤◌, List, length, take, Option, Some, unwrap_or, IfOk, IfSome, OnErr};
 ghost use Rattle.mkv_io.specs.Contents.{overwritten, with_overwritten};
 ghost use Rattle.mkv_io.specs.Told.{Told};
+ghost use Rattle.mkv_values.specs.declared.outside.TheConstants.{LONGEST_FILE};
 
 use std::fs::File;
 use std::io;
@@ -48,7 +49,7 @@ fn write_some<W: WriteAt>(file: &mut W, at: u64, bytes: &[u8]) -> Option<usize>
 /// Writes from a place on until the system fails or writes nothing, and answers how many octets were
 /// written.
 pub fn write_from<W: WriteAt>(file: &mut W, at: u64, bytes: &[u8]) -> usize
-    requires { at ≤ 2 ^ 48 }
+    requires { at ≤ LONGEST_FILE }
     ensures most { result ≤ length bytes.now }
     ensures first { Told (W.content file.old) (λ was. at ≤ length was
         → W.content file.new ≡ Some (overwritten was at (take result bytes.now))) }

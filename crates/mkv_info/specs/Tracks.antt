@@ -5,15 +5,12 @@ use Rattle.mkv_values.specs.declared.damage.Damage.{Damage}
 use Rattle.matroska_format.specs.declared.element.Header.{Header}
 use Rattle.matroska_format.specs.Outline.{Outlined, and_then}
 use Rattle.matroska_format.specs.Value.{body_of, first_of}
+use Rattle.tree_format.specs.declared.limits.TheConstants.{MOST_NODES}
 use Rattle.tree_format.specs.Reading.{tree_of}
 use Rattle.track_format.specs.TrackType.{type_name}
 use Rattle.track_records.specs.Track.{tracks_of}
 use Rattle.track_records.specs.declared.track.Track.{Track}
 use Rattle.mkv_lines.specs.Shown.{track_text}
-
--- the most Elements of a Tracks Element, itself counted
-abbrev pub MOST_NODES : ℕ
-MOST_NODES = 65536
 
 -- the tracks of a Tracks Element with this body, or what refuses them
 abbrev pub tracks_in : Header → List ℕ → Result (List Track) Damage

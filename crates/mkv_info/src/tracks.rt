@@ -1,6 +1,6 @@
 //! The tracks of a file, a line for each.
 
-ghost use Rattle.std.specs.Prelude.{◌≡◌, ◌+◌, ◌^◌, ◌≤◌, ℕ, List, Ok, length, IfErr, IfOk, IsTrue};
+ghost use Rattle.std.specs.Prelude.{◌≡◌, ◌+◌, ◌≤◌, ℕ, List, Ok, length, IfErr, IfOk, IsTrue};
 ghost use Rattle.mkv_schema.specs.declared.ids.TheConstants.{TRACKS as TRACKS_ID};
 ghost use Rattle.mkv_io.specs.Faults.{HasCause, is_read_fault};
 ghost use Rattle.mkv_io.specs.Sources.{IfTold, IsLive, file_size};
@@ -9,8 +9,9 @@ ghost use Rattle.mkv_lines.specs.Said.{HasSayCause, Says};
 ghost use Rattle.mkv_lines.specs.Line.{text_of};
 ghost use Rattle.mkv_lines.specs.declared.line.Line.TheVariants as line;
 ghost use Rattle.mkv_info.specs.Tracks.{shown_track, track_lines, tracks_at, tracks_in};
+ghost use Rattle.mkv_values.specs.declared.outside.TheConstants.{LONGEST_FILE};
 
-use ebml_tree::{Tree, TreeEnd};
+use ebml_tree::{MOST_NODES, Tree, TreeEnd};
 use element_reader::{Header, LoadEnd, Outline, load};
 use mkv_io::{Reads, Report};
 use mkv_lines::{Line, ShownTrack, Stop, say};
@@ -18,9 +19,6 @@ use mkv_schema::ids::TRACKS;
 use mkv_values::{Damage, FileId, List, ReadEnd};
 use std::alloc::Global;
 use track_records::{Track, read_tracks};
-
-/// The most Elements of a Tracks Element, itself counted.
-const MOST_NODES: u32 = 65536;
 
 /// The tracks of a file with this outline, or what refuses them.
 pub fn tracks_of<R: Reads>(
@@ -53,7 +51,7 @@ fn parse_tracks(
     header: &Header,
     body: &[u8],
 ) -> Result<Result<List<Track>, Damage>, ReadEnd>
-    requires { header.now.body + length body.now ≤ 2 ^ 48 }
+    requires { header.now.body + length body.now ≤ LONGEST_FILE }
     ensures ok { IfOk result (λ found. found ≡ tracks_in header.now body.now) }
     ensures memory { IfErr result (λ end. end ≡ ReadEnd.Memory) }
 {

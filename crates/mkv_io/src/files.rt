@@ -1,10 +1,11 @@
 //! Files that are opened by name, made, and written.
 
-ghost use Rattle.std.specs.Prelude.{◌≡◌, ◌≢◌, ◌⊎◌, ◌↔◌, ℕ, ◌+◌, ◌<◌, ◌≤◌, ◌^◌, Bool, true, false, List, [], length, Option, Some, None, is_some, OnOk, OnErr, IfOk, IsErrOf, IsTrue};
+ghost use Rattle.std.specs.Prelude.{◌≡◌, ◌≢◌, ◌⊎◌, ◌↔◌, ℕ, ◌+◌, ◌<◌, ◌≤◌, Bool, true, false, List, [], length, Option, Some, None, is_some, OnOk, OnErr, IfOk, IsErrOf, IsTrue};
 ghost use Rattle.mkv_io.specs.Faults.{HasCause, is_failure, is_make_failure, is_open_failure, last_count};
 ghost use Rattle.mkv_io.specs.LiveFiles.{Appends, AppendsPart, KeepsFiles, KeepsHolders, Overwrites, OverwritesWithin};
 ghost use Rattle.mkv_io.specs.Names.{Names, with_change, with_content};
 ghost use Rattle.mkv_io.specs.Told.{Told};
+ghost use Rattle.mkv_values.specs.declared.outside.TheConstants.{LONGEST_FILE};
 
 use crate::reads::Reads;
 use mkv_values::{Failed, FileId, MakeFault, OpenFault};
@@ -80,7 +81,7 @@ pub trait Files: Reads {
         ensures memory { IsErrOf result MakeFault.Memory → Self.standing self.new ≡ Self.standing self.old }
 
         // No file grows past 2^48 octets.
-        ensures short { 2 ^ 48 < (Self.files (Self.standing self.old)).size file.n + length bytes.now → IsErrOf result MakeFault.Failed }
+        ensures short { LONGEST_FILE < (Self.files (Self.standing self.old)).size file.n + length bytes.now → IsErrOf result MakeFault.Failed }
 
         // The live files stay live, and those of other names stay as they were.
         ensures given { given self.new ≡ given self.old }

@@ -1,10 +1,11 @@
 //! Files that are read.
 
-ghost use Rattle.std.specs.Prelude.{◌≡◌, ℕ, ◌+◌, ◌≤◌, ◌^◌, Bool, true, List, length, Option, OnOk, IsTrue};
+ghost use Rattle.std.specs.Prelude.{◌≡◌, ℕ, ◌+◌, ◌≤◌, Bool, true, List, length, Option, OnOk, IsTrue};
 ghost use Rattle.mkv_io.specs.Contents.{octets_from};
 ghost use Rattle.mkv_io.specs.Faults.{HasCause, counted, is_failure};
 ghost use Rattle.mkv_io.specs.LiveFiles.{LiveFiles};
 ghost use Rattle.mkv_io.specs.Told.{Told};
+ghost use Rattle.mkv_values.specs.declared.outside.TheConstants.{LONGEST_FILE};
 
 use mkv_values::{Failed, FileId};
 
@@ -32,7 +33,7 @@ pub trait Reads {
     fn size(&self, file: FileId) -> u64
         requires { IsTrue ((files (standing self.now)).live file.n) }
         ensures exact { result ≡ (files (standing self.now)).size file.n }
-        ensures most { result ≤ 2 ^ 48 };
+        ensures most { result ≤ LONGEST_FILE };
 
     /// Reads as many octets as `into` holds, from `at` octets behind the file's first on.
     fn read_at(&mut self, file: FileId, at: u64, into: &mut [u8]) -> Result<(), Failed>
@@ -51,5 +52,5 @@ pub trait Reads {
     ghost told_size: { (s : Standing) (file : ℕ) → Told ((files s).content file) (λ bytes. length bytes ≡ (files s).size file) };
 
     /// No live file is longer than 2^48 octets.
-    ghost short: { (x : Self) (file : ℕ) → (files (standing x)).live file ≡ true → (files (standing x)).size file ≤ 2 ^ 48 };
+    ghost short: { (x : Self) (file : ℕ) → (files (standing x)).live file ≡ true → (files (standing x)).size file ≤ LONGEST_FILE };
 }

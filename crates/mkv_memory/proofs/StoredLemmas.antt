@@ -1,7 +1,7 @@
 -- One name's content changes: what becomes of the live files, and of what always holds.
 use Rattle.std.proofs.lemmas.Grind.{common_steps}
 use Rattle.mkv_io.specs.Contents.{overwritten, with_appended, with_overwritten}
-use Rattle.std.proofs.Common.{Result, Ok, Err, OnOk, OnErr, length-append, ◌≡◌, ◌≢◌, ℕ, zero, suc, ◌+◌, ◌<◌, ◌≤◌, ◌^◌, List, [], ◌∷◌, ◌++◌, length, take, drop, Option, Some, None, Bool, true, false, is_some, unwrap_or, option_and_then, if◌then◌else◌, refl, sym, ◌∙◌, ap, subst, arith}
+use Rattle.std.proofs.Common.{Result, Ok, Err, OnOk, OnErr, length-append, ◌≡◌, ◌≢◌, ℕ, zero, suc, ◌+◌, ◌<◌, ◌≤◌, List, [], ◌∷◌, ◌++◌, length, take, drop, Option, Some, None, Bool, true, false, is_some, unwrap_or, option_and_then, if◌then◌else◌, refl, sym, ◌∙◌, ap, subst, arith}
 use Rattle.std.specs.Str.{bytes_eq}
 use Rattle.std.proofs.lemmas.Slice.Eq.{bytes_eq-Decides}
 use Rattle.std.proofs.lemmas.List.{get_or_append_left, take-append-drop, drop-drop}
@@ -10,6 +10,7 @@ use Rattle.mkv_io.specs.Names.{changed_at}
 use Rattle.mkv_io.specs.LiveFiles.{IsSameFile, ChangesFile, KeepsFiles, OverwritesWithin}
 use Rattle.mkv_memory.specs.Stored.{Stored, World, AreShort, AreThere, is_there, files_of, holder_of, content_of_file, name_of_file, content-live, with_changed_file}
 use Rattle.mkv_io.proofs.NamesLemmas.{changed_at-nothing, changed_at-other, changed_at-same}
+use Rattle.mkv_values.specs.declared.outside.TheConstants.{LONGEST_FILE}
 
 -- ---- what is stored, by its parts
 
@@ -28,11 +29,11 @@ Stored-changed stored file change holder changed =
 -- ---- what always holds
 
 -- contents stay short where the changed one is
-pub AreShort-changed : (world : World) (name : List ℕ) (change : Option (List ℕ) → Option (List ℕ)) → AreShort world → length (unwrap_or (change (world name)) []) ≤ 2 ^ 48 → AreShort (changed_at name change world)
+pub AreShort-changed : (world : World) (name : List ℕ) (change : Option (List ℕ) → Option (List ℕ)) → AreShort world → length (unwrap_or (change (world name)) []) ≤ LONGEST_FILE → AreShort (changed_at name change world)
 AreShort-changed world name change short fits other = step (bytes_eq name other) (bytes_eq-Decides name other).0
   where
-    step : (same : Bool) → (same ≡ true → name ≡ other) → length (unwrap_or (if same then change (world other) else world other) []) ≤ 2 ^ 48
-    step true is = let P : List ℕ → Type 0 = λ each. length (unwrap_or (change (world each)) []) ≤ 2 ^ 48 in subst P (is refl) fits
+    step : (same : Bool) → (same ≡ true → name ≡ other) → length (unwrap_or (if same then change (world other) else world other) []) ≤ LONGEST_FILE
+    step true is = let P : List ℕ → Type 0 = λ each. length (unwrap_or (change (world each)) []) ≤ LONGEST_FILE in subst P (is refl) fits
     step false is = short other
 
 -- live files keep a content where the change leaves one there
@@ -117,7 +118,7 @@ pub record IsSound (world : World) (opened : List (Option (List ℕ))) : Type 0 
   pub there : AreThere world opened
 
 -- a change keeps both where the changed content is short, and is there if it was
-pub IsSound-changed : (world now : World) (name : List ℕ) (change : Option (List ℕ) → Option (List ℕ)) (opened : List (Option (List ℕ))) → now ≡ changed_at name change world → IsSound world opened → length (unwrap_or (change (world name)) []) ≤ 2 ^ 48 → (is_some (world name) ≡ true → is_some (change (world name)) ≡ true) → IsSound now opened
+pub IsSound-changed : (world now : World) (name : List ℕ) (change : Option (List ℕ) → Option (List ℕ)) (opened : List (Option (List ℕ))) → now ≡ changed_at name change world → IsSound world opened → length (unwrap_or (change (world name)) []) ≤ LONGEST_FILE → (is_some (world name) ≡ true → is_some (change (world name)) ≡ true) → IsSound now opened
 IsSound-changed world now name change opened changed sound fits stays =
     let P : World → Type 0 = λ each. IsSound each opened in
     subst P (sym changed) (record {
@@ -126,7 +127,7 @@ IsSound-changed world now name change opened changed sound fits stays =
     })
 
 -- so does a call that changes or leaves the contents
-pub IsSound-either : {T E : Type 0} (result : Result T E) (world now : World) (name : List ℕ) (change : Option (List ℕ) → Option (List ℕ)) (opened : List (Option (List ℕ))) → OnOk result (now ≡ changed_at name change world) → OnErr result (now ≡ world) → IsSound world opened → length (unwrap_or (change (world name)) []) ≤ 2 ^ 48 → (is_some (world name) ≡ true → is_some (change (world name)) ≡ true) → IsSound now opened
+pub IsSound-either : {T E : Type 0} (result : Result T E) (world now : World) (name : List ℕ) (change : Option (List ℕ) → Option (List ℕ)) (opened : List (Option (List ℕ))) → OnOk result (now ≡ changed_at name change world) → OnErr result (now ≡ world) → IsSound world opened → length (unwrap_or (change (world name)) []) ≤ LONGEST_FILE → (is_some (world name) ≡ true → is_some (change (world name)) ≡ true) → IsSound now opened
 IsSound-either (Ok value) world now name change opened changed same sound fits stays = IsSound-changed world now name change opened changed sound fits stays
 IsSound-either (Err fault) world now name change opened changed same sound fits stays =
     let P : World → Type 0 = λ each. IsSound each opened in
@@ -162,7 +163,7 @@ IsThere-live old file name holder sound = (
 )
 
 -- an append that is within the limit keeps contents short and there, whether it finds memory or not
-pub IsSound-appended : {T E : Type 0} (result : Result T E) (old : Stored) (now : World) (file : ℕ) (name more : List ℕ) → name_of_file old.opened file ≡ Some name → OnOk result (now ≡ changed_at name (with_appended more) old.world) → OnErr result (now ≡ old.world) → IsSound old.world old.opened → (files_of old).size file + length more ≤ 2 ^ 48 → IsSound now old.opened
+pub IsSound-appended : {T E : Type 0} (result : Result T E) (old : Stored) (now : World) (file : ℕ) (name more : List ℕ) → name_of_file old.opened file ≡ Some name → OnOk result (now ≡ changed_at name (with_appended more) old.world) → OnErr result (now ≡ old.world) → IsSound old.world old.opened → (files_of old).size file + length more ≤ LONGEST_FILE → IsSound now old.opened
 IsSound-appended result old now file name more holder changed same sound room =
     let here = IsThere-live old file name holder sound in
     let grown = length-with_appended more (old.world name) here.0 in

@@ -1,5 +1,5 @@
 -- What files in memory hold.
-use Rattle.std.specs.Prelude.{◌≡◌, ℕ, zero, suc, ◌<◌, ◌≤◌, ◌^◌, List, [], ◌∷◌, ◌++◌, slice_set, length, Bool, true, Option, Some, None, is_some, unwrap_or, option_and_then, get_or, String}
+use Rattle.std.specs.Prelude.{◌≡◌, ℕ, zero, suc, ◌<◌, ◌≤◌, List, [], ◌∷◌, ◌++◌, slice_set, length, Bool, true, Option, Some, None, is_some, unwrap_or, option_and_then, get_or, String}
 use Rattle.std.specs.declared.alloc.Global.{Global}
 use Rattle.std.specs.BTreeMap.{is_at}
 use Rattle.std.proofs.Common.{ap, sym, ◌∙◌, refl, arith}
@@ -9,6 +9,7 @@ use Rattle.std.specs.Map.{lookup}
 use Rattle.std.specs.String.{string_bytes}
 use Rattle.mkv_io.specs.Names.{changed_at}
 use Rattle.mkv_io.specs.LiveFiles.{LiveFiles}
+use Rattle.mkv_values.specs.declared.outside.TheConstants.{LONGEST_FILE}
 
 -- the content of each name, None where there is no file of that name
 abbrev pub World : Type 0
@@ -68,7 +69,7 @@ closed stored file = record stored { opened = slice_set stored.opened file None 
 
 -- no name has a content of more than 2^48 octets
 abbrev pub AreShort : World → Type 0
-AreShort world = (name : List ℕ) → length (unwrap_or (world name) []) ≤ 2 ^ 48
+AreShort world = (name : List ℕ) → length (unwrap_or (world name) []) ≤ LONGEST_FILE
 
 -- a live file's name has a content
 abbrev pub is_there : World → Option (List ℕ) → Bool
@@ -86,7 +87,7 @@ pub size-of_told : (stored : Stored) (file : ℕ) (bytes : List ℕ) → content
 size-of_told stored file bytes told = sym (ap (λ content. length (unwrap_or content [])) told)
 
 -- where each name's content is short, each live file is
-pub short-of_names : (world : World) (name : Option (List ℕ)) → AreShort world → length (unwrap_or (option_and_then world name) []) ≤ 2 ^ 48
+pub short-of_names : (world : World) (name : Option (List ℕ)) → AreShort world → length (unwrap_or (option_and_then world name) []) ≤ LONGEST_FILE
 short-of_names world None short = omega arith
 short-of_names world (Some name) short = short name
 

@@ -1,19 +1,17 @@
 //! Files in memory.
 
-ghost use Rattle.std.specs.Prelude.{◌≡◌, ℕ, ◌+◌, ◌-◌, ◌≤◌, ◌^◌, List, length, Option, Some, None, min, option_map, OnOk, OnErr, IsOkAnd, IsTrue};
+ghost use Rattle.std.specs.Prelude.{◌≡◌, ℕ, ◌+◌, ◌-◌, ◌≤◌, List, length, Option, Some, None, min, option_map, OnOk, OnErr, IsOkAnd, IsTrue};
 ghost use Rattle.std.specs.BTreeMap.{get};
 ghost use Rattle.std.specs.Ordering.{nat_cmp};
 ghost use Rattle.mkv_io.specs.Faults.{HasCause, is_failure, is_make_failure, is_open_failure, last_count};
+ghost use Rattle.mkv_values.specs.declared.outside.TheConstants.{LONGEST_FILE};
 
 use crate::store::Store;
 use mkv_io::{Files, Reads};
-use mkv_values::{Bytes, Failed, FileId, MakeFault, OpenFault};
+use mkv_values::{Bytes, Failed, FileId, LONGEST_FILE, MakeFault, OpenFault};
 use std::alloc::{AllocError, Global};
 use std::cmp::min;
 use std::collections::BTreeMap;
-
-/// No file is longer than so many octets.
-const LONGEST: u64 = 1 << 48;
 
 /// Files in memory, which tell names and contents, and fail at the calls that they are told to.
 ///
@@ -53,7 +51,7 @@ impl MemFiles {
 
     /// Sets a name's content. Where the name has live files, theirs changes with it.
     pub fn put(&mut self, name: &str, bytes: &[u8]) -> Result<(), AllocError>
-        requires { length bytes.now ≤ 2 ^ 48 }
+        requires { length bytes.now ≤ LONGEST_FILE }
         ensures ok { OnOk result (seen self.new ≡ with_stored (seen self.old) (with_content_at (seen self.old).stored name.now bytes.now)) }
         ensures err { OnErr result (seen self.new ≡ seen self.old) }
     {
@@ -207,7 +205,7 @@ impl Files for MemFiles {
         ensures cause { HasCause is_make_failure (seen self.old).writing_faults (seen self.new).writing_faults result }
     {
         let failure = self.next_failure();
-        if bytes.len() as u64 > LONGEST - self.size(file) {
+        if bytes.len() as u64 > LONGEST_FILE - self.size(file) {
             self.writing_faults = self.writing_faults.saturating_add(1);
             return Err(MakeFault::Failed);
         }

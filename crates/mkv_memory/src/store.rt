@@ -5,6 +5,7 @@ ghost use Rattle.std.specs.Prelude.{slice_set, ◌≡◌, ◌≢◌, ℕ, ◌+�
 ghost use Rattle.mkv_io.specs.Contents.{with_appended, with_overwritten};
 ghost use Rattle.mkv_io.specs.Names.{changed_at};
 ghost use Rattle.mkv_memory.specs.Stored.{AreShort, AreThere, closed, content_of_file, content_of_name, files_of, name_of_file, opened_under, with_changed_file, with_content_at};
+ghost use Rattle.mkv_values.specs.declared.outside.TheConstants.{LONGEST_FILE};
 
 use mkv_values::{Bytes, FileId, Text};
 use std::alloc::{AllocError, Global};
@@ -65,7 +66,7 @@ impl Store {
 
     /// Gives a name a content.
     pub fn set(&mut self, name: &str, content: Bytes) -> Result<(), AllocError>
-        requires { length content ≤ 2 ^ 48 }
+        requires { length content ≤ LONGEST_FILE }
         ensures ok { OnOk result (stored_in self.new ≡ with_content_at (stored_in self.old) name.now content) }
         ensures err { OnErr result (stored_in self.new ≡ stored_in self.old) }
     {
@@ -108,7 +109,7 @@ impl Store {
     /// Adds octets to a live file.
     pub fn append(&mut self, file: FileId, more: &[u8]) -> Result<(), AllocError>
         requires live { IsTrue ((files_of (stored_in self.old)).live file.n) }
-        requires room { (files_of (stored_in self.old)).size file.n + length more.now ≤ 2 ^ 48 }
+        requires room { (files_of (stored_in self.old)).size file.n + length more.now ≤ LONGEST_FILE }
         ensures ok { OnOk result (stored_in self.new ≡ with_changed_file (stored_in self.old) file.n (with_appended more.now)) }
         ensures err { OnErr result (stored_in self.new ≡ stored_in self.old) }
     {

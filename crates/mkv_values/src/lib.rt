@@ -9,6 +9,6 @@ mod octets;
 mod outside;
 
 pub use damage::{Damage, Kind};
-pub use list::{BoundedList, List};
+pub use list::List;
 pub use octets::{Bytes, Text};
-pub use outside::{Failed, FileId, MakeFault, OpenFault, ReadEnd};
+pub use outside::{Failed, FileId, LONGEST_FILE, MakeFault, OpenFault, ReadEnd};

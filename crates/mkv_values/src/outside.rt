@@ -7,6 +7,9 @@ ghost use Rattle.mkv_values.specs.declared.outside.ReadEnd.TheVariants as read_e
 
 use std::alloc::{AllocError, AllocFailed};
 
+/// No file is longer than so many octets.
+pub const LONGEST_FILE: u64 = 1 << 48;
+
 /// The number of a live file: one that was opened and is not closed yet.
 #[derive(Clone, Copy, Debug, PartialEq, Eq)]
 pub struct FileId {

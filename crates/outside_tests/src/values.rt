@@ -1,6 +1,6 @@
 //! Each call that takes memory, once with enough of it, and the name of each kind.
 
-use mkv_values::{BoundedList, Bytes, Damage, Kind, List, Text};
+use mkv_values::{Bytes, Damage, Kind, List, Text};
 use std::alloc::AllocError;
 use std::test::Fail;
 
@@ -26,28 +26,14 @@ fn octets_text_and_lists_grow_at_the_end(rt: HostRuntime) -> Result<(), Fail> {
 }
 
 #[test]
-fn octets_keep_their_memory_and_a_bounded_list_is_full(rt: HostRuntime) -> Result<(), Fail> {
+fn octets_are_cut_and_cleared(rt: HostRuntime) -> Result<(), Fail> {
     let mut bytes = Bytes::with_room(rt.alloc(), 4)?;
     bytes.append(&[0x1A, 0x45, 0xDF, 0xA3])?;
     bytes.truncate(1);
     assert_eq!(rt; bytes.as_slice(), [0x1A].as_slice());
     bytes.clear();
     assert!(rt; bytes.is_empty());
-
-    let mut list = BoundedList::with_room(rt.alloc(), 2)?;
-    while_not_full(&mut list);
-    assert_eq!(rt; list.as_slice(), [7, 7].as_slice());
-    assert!(rt; list.is_full());
     Ok(())
-}
-
-/// Adds what there is room for, at most ten.
-fn while_not_full(list: &mut BoundedList<u8>) {
-    for _ in 0..10 {
-        if list.len() < 10 && !list.is_full() {
-            list.push(7);
-        }
-    }
 }
 
 #[test]

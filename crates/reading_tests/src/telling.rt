@@ -1,8 +1,9 @@
 //! What a cursor gives, as text.
 
-ghost use Rattle.std.specs.Prelude.{◌≤◌, ◌^◌, length, IsTrue};
+ghost use Rattle.std.specs.Prelude.{◌≤◌, length, IsTrue};
 ghost use Rattle.mkv_io.specs.Sources.{IsLive, live_files};
 ghost use Rattle.cluster_reader.specs.Reading.{CanRead};
+ghost use Rattle.mkv_values.specs.declared.outside.TheConstants.{LONGEST_FILE};
 
 use cluster_reader::{Cursor, Damages, Step};
 use element_reader::Outline;
@@ -115,7 +116,7 @@ fn tell_file<R: Reads>(alloc: Global, src: &mut R, file: FileId, scale: u64) -> 
 /// What is told of a file with this content, whose TimestampScale is 1,000,000, and of which a call of the
 /// files fails, if a number is given.
 pub fn told(alloc: Global, content: &[u8], failing: Option<u64>) -> Result<String, Fail>
-    requires { length content.now ≤ 2 ^ 48 }
+    requires { length content.now ≤ LONGEST_FILE }
 {
     let mut files = MemFiles::new(alloc)?;
     files.put("a.mkv", content)?;
@@ -129,7 +130,7 @@ pub fn told(alloc: Global, content: &[u8], failing: Option<u64>) -> Result<Strin
 /// How many damages a cursor tells of a file with this content one by one, and how many others there are; and
 /// how many blocks it gives.
 pub fn counted(alloc: Global, content: &[u8]) -> Result<(usize, u64, u64), Fail>
-    requires { length content.now ≤ 2 ^ 48 }
+    requires { length content.now ≤ LONGEST_FILE }
 {
     let mut files = MemFiles::new(alloc)?;
     files.put("a.mkv", content)?;

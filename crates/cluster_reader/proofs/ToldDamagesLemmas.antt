@@ -4,14 +4,14 @@ use Rattle.std.proofs.lemmas.Bool.{cases_lt, cond-true, cond-false, lt-ltb, le-l
 use Rattle.std.proofs.lemmas.List.{length-take, take-append-le, take_all}
 use Rattle.mkv_values.specs.declared.damage.Damage.{Damage}
 use Rattle.mkv_io.specs.Faults.{counted, last_count}
-use Rattle.cluster_reader.specs.Told.{Told, told_of, with_damage}
+use Rattle.cluster_reader.specs.ToldDamages.{ToldDamages, told_damages, with_damage}
 
 -- what is told, by its parts
-told : List Damage → ℕ → Told
+told : List Damage → ℕ → ToldDamages
 told first more = record { first = first; more = more }
 
 -- one of the first hundred is told
-tells_one : (list : List Damage) (d : Damage) → length list < 100 → with_damage (told_of list) d ≡ told_of (list ++ d ∷ [])
+tells_one : (list : List Damage) (d : Damage) → length list < 100 → with_damage (told_damages list) d ≡ told_damages (list ++ d ∷ [])
 unfolding told
 tells_one list d few =
     let count = length-take 100 list in
@@ -22,7 +22,7 @@ tells_one list d few =
     ∙ ap₂ told (ap (λ l. l ++ d ∷ []) all ∙ sym (take_all 100 (list ++ d ∷ []) (omega arith))) none
 
 -- another one is counted
-counts_one : (list : List Damage) (d : Damage) → 100 ≤ length list → with_damage (told_of list) d ≡ told_of (list ++ d ∷ [])
+counts_one : (list : List Damage) (d : Damage) → 100 ≤ length list → with_damage (told_damages list) d ≡ told_damages (list ++ d ∷ [])
 unfolding told
 counts_one list d many =
     let count = length-take 100 list in
@@ -31,5 +31,5 @@ counts_one list d many =
     cond-false (nat_lt (length (take 100 list)) 100) _ _ (le-ltb _ _ (omega arith))
     ∙ ap₂ told (sym (take-append-le 100 list (d ∷ []) many)) one
 
-pub with_damage-told : (list : List Damage) (d : Damage) → with_damage (told_of list) d ≡ told_of (list ++ d ∷ [])
+pub with_damage-told : (list : List Damage) (d : Damage) → with_damage (told_damages list) d ≡ told_damages (list ++ d ∷ [])
 with_damage-told list d = elim (cases_lt (length list) 100) [ inl few ↦ tells_one list d few | inr many ↦ counts_one list d many ]

@@ -8,18 +8,18 @@ abbrev pub MOST_TOLD : ℕ
 MOST_TOLD = 100
 
 -- the damages that are told one by one, and how many others there are
-pub record Told : Type 0 where
+pub record ToldDamages : Type 0 where
   pub first : List Damage
   pub more : ℕ
 
 -- of a list the first hundred, and how many others it has; that number stands still at 2^64 - 1
-abbrev pub told_of : List Damage → Told
-told_of list = record { first = take MOST_TOLD list; more = min (length list - MOST_TOLD) last_count }
+abbrev pub told_damages : List Damage → ToldDamages
+told_damages list = record { first = take MOST_TOLD list; more = min (length list - MOST_TOLD) last_count }
 
 -- With one more: it is told where fewer than a hundred are, else counted.
-abbrev pub with_damage : Told → Damage → Told
+abbrev pub with_damage : ToldDamages → Damage → ToldDamages
 with_damage t d = if nat_lt (length t.first) MOST_TOLD then record { first = t.first ++ d ∷ []; more = t.more } else record { first = t.first; more = counted t.more 1 }
 
 -- what is told of a list with one more is what was told of the list, with one more
 abbrev pub TellsInTurn : Type 0
-TellsInTurn = (list : List Damage) (d : Damage) → with_damage (told_of list) d ≡ told_of (list ++ d ∷ [])
+TellsInTurn = (list : List Damage) (d : Damage) → with_damage (told_damages list) d ≡ told_damages (list ++ d ∷ [])
