@@ -14,15 +14,11 @@ use Rattle.lacing.proofs.LaceLemmas.{lace_in-found}
 use Rattle.block_format.specs.declared.limits.TheConstants.{MOST_OF_BLOCK}
 use Rattle.block_format.specs.Content.{Content, has_no_header, header_len, flags_in, data_in, frames_cut, frames_behind, laced_frames, frames_in, lace_of, content_with, content_in}
 use Rattle.block_laws.specs.Laws.{CanBeLaced}
+use Rattle.ebml_format.proofs.SpelledLemmas.{AreOctets-drop}
 
 -- how many octets each frame has
 abbrev pub sizes_of : List (List ℕ) → List ℕ
 sizes_of frames = map (λ (frame : List ℕ). length frame) frames
-
-pub AreOctets-drop : (n : ℕ) (o : List ℕ) → AreOctets o → AreOctets (drop n o)
-AreOctets-drop zero o octets = octets
-AreOctets-drop (suc n) [] octets = octets
-AreOctets-drop (suc n) (x ∷ o) octets = AreOctets-drop n o (λ i. octets (suc i))
 
 -- the sizes of frames that were cut are those by which they were cut
 sizes-cut : (sizes octets : List ℕ) → sum sizes ≤ length octets → sizes_of (frames_cut sizes octets) ≡ sizes

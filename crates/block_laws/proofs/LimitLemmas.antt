@@ -10,24 +10,17 @@ use Rattle.block_format.specs.Block.{Block, simple_block_with}
 use Rattle.block_format.specs.Content.{content_in}
 use Rattle.block_format.specs.Elements.{Rules, with_limits, without_limits, too_long, timestamp_or, timestamp_for, at_place, in_time, simple_block, group_children, block_or, too_many_references, group_with, group_among, block_group}
 use Rattle.block_format.specs.Events.{Found, Event, found_in_timestamp, found_at, timestamp_behind, found_among, found_behind, cluster_run, found_in, first_wrong, is_closed, events_then, events_among, events_of, damages_of}
-
-pub and_then-ok : {A B : Type 0} (r : Result A Damage) (f : A → Result B Damage) (y : B) → and_then r f ≡ Ok y → (x : A) × ((r ≡ Ok x) × (f x ≡ Ok y))
-and_then-ok (Ok x) f y is = (x, (refl, is))
-and_then-ok (Err d) f y is = absurd (cc)
-
-unless-ok : {A : Type 0} (o : Option Damage) (x y : A) → unless o x ≡ Ok y → x ≡ y
-unless-ok None x y is = cc
-unless-ok (Some d) x y is = absurd (cc)
+use Rattle.matroska_format.proofs.OutlineLemmas.{and_then-ok, unless-ok}
 
 -- ---- one block
 
 timestamp-unlimited : (s : ℕ) (ts : Option ℕ) (h : Header) (t : ℕ) → timestamp_for (with_limits s) ts h ≡ Ok t → timestamp_for (without_limits s) ts h ≡ Ok t
 timestamp-unlimited s ts h t is =
     let parts = and_then-ok (unless (too_long (with_limits s) h) ts) (timestamp_or h) t is in
-    ap (timestamp_or h) (unless-ok (too_long (with_limits s) h) ts parts.0 parts.1.0) ∙ parts.1.1
+    ap (timestamp_or h) (unless-ok (too_long (with_limits s) h) ts parts.0 parts.1.0).1 ∙ parts.1.1
 
 in_time-unlimited : (s id : ℕ) (b c : Block) → in_time (with_limits s) id b ≡ Ok c → in_time (without_limits s) id b ≡ Ok c
-in_time-unlimited s id b c is = ap (λ (x : Block). Ok x) (unless-ok _ b c is)
+in_time-unlimited s id b c is = ap (λ (x : Block). Ok x) (unless-ok _ b c is).1
 
 simple-unlimited : (s : ℕ) (bytes : List ℕ) (ts : Option ℕ) (h : Header) (b : Block) → simple_block (with_limits s) bytes ts h ≡ Ok b → simple_block (without_limits s) bytes ts h ≡ Ok b
 unfolding simple_block
@@ -42,7 +35,7 @@ among-unlimited : (s : ℕ) (bytes : List ℕ) (t offset : ℕ) (children : List
 among-unlimited s bytes t offset children h b is =
     let content = and_then-ok (at_place BLOCK offset (content_in (body_of bytes h))) (λ c. and_then (unless (too_many_references (with_limits s) children) c) (λ c. in_time (with_limits s) BLOCK (group_with s bytes t offset children c))) b is in
     let few = and_then-ok (unless (too_many_references (with_limits s) children) content.0) (λ c. in_time (with_limits s) BLOCK (group_with s bytes t offset children c)) b content.1.1 in
-    let same : content.0 ≡ few.0 = unless-ok (too_many_references (with_limits s) children) content.0 few.0 few.1.0 in
+    let same : content.0 ≡ few.0 = (unless-ok (too_many_references (with_limits s) children) content.0 few.0 few.1.0).1 in
     ap (λ r. and_then r (λ c. and_then (unless (too_many_references (without_limits s) children) c) (λ c. in_time (without_limits s) BLOCK (group_with s bytes t offset children c)))) content.1.0
     ∙ ap (λ c. in_time (without_limits s) BLOCK (group_with s bytes t offset children c)) same
     ∙ in_time-unlimited s BLOCK (group_with s bytes t offset children few.0) b few.1.1

@@ -22,13 +22,10 @@ use Rattle.block_format.specs.Content.{Content, content_in, lace_of}
 use Rattle.block_format.specs.Elements.{with_limits, at_place, too_long, timestamp_or, timestamp_for, in_time, simple_block, group_run, group_refusal, group_children, block_or, references_among, too_many_references, kept_of, group_with, group_among, block_group}
 use Rattle.block_format.specs.Events.{Found, Event, found_in_timestamp, found_at, timestamp_behind, found_among, found_behind, cluster_run, found_in, is_closed, events_then, events_among, events_of, blocks_of}
 use Rattle.block_laws.specs.Laws.{CanBeLaced, IsSmall}
-use Rattle.block_laws.proofs.FrameLemmas.{sizes_of, AreOctets-drop, content-laces}
+use Rattle.block_laws.proofs.FrameLemmas.{sizes_of, content-laces}
 use Rattle.block_laws.proofs.GroupLemmas.{kept-short, block-short}
-use Rattle.block_laws.proofs.LimitLemmas.{and_then-ok}
-
-unless-both : {A : Type 0} (o : Option Damage) (x y : A) → unless o x ≡ Ok y → (o ≡ None) × (x ≡ y)
-unless-both None x y is = (refl, cc)
-unless-both (Some d) x y is = absurd (cc)
+use Rattle.matroska_format.proofs.OutlineLemmas.{and_then-ok, unless-ok}
+use Rattle.ebml_format.proofs.SpelledLemmas.{AreOctets-take, AreOctets-drop}
 
 no-cause : (t : Bool) (d : Damage) → where_it t d ≡ None → t ≡ false
 no-cause true d is = absurd (cc)
@@ -68,7 +65,7 @@ IsSmall-of b small few frames kept =
 -- one that is in time
 IsSmall-in_time : (s id : ℕ) (made b : Block) → length made.references ≤ MOST_REFERENCES → CanBeLaced made.lace (sizes_of made.frames) → length made.kept ≤ MOST_OF_BLOCK → in_time (with_limits s) id made ≡ Ok b → IsSmall b
 IsSmall-in_time s id made b few frames kept is =
-    let good = unless-both _ made b is in
+    let good = unless-ok _ made b is in
     subst IsSmall good.1 (IsSmall-of made (no-cause _ _ good.0) few frames kept)
 
 -- ---- bodies
@@ -80,24 +77,11 @@ told-ok id offset (Err k) c is = absurd (cc)
 short-enough : (s : ℕ) (ts : Option ℕ) (h : Header) (t : ℕ) → timestamp_for (with_limits s) ts h ≡ Ok t → known h.size ≤ MOST_OF_BLOCK
 short-enough s ts h t is =
     let parts = and_then-ok (unless (too_long (with_limits s) h) ts) (timestamp_or h) t is in
-    let none = unless-both (too_long (with_limits s) h) ts parts.0 parts.1.0 in
+    let none = unless-ok (too_long (with_limits s) h) ts parts.0 parts.1.0 in
     within (known h.size) (no-cause _ _ none.0)
   where
     within : (n : ℕ) → nat_lt MOST_OF_BLOCK n ≡ false → n ≤ MOST_OF_BLOCK
     within n test = grind (arith, nat_tests)
-
-none-octets : (i : ℕ) → get_or {A = ℕ} [] i 0 < 256
-none-octets zero = omega arith
-none-octets (suc i) = omega arith
-
-front-octets : (x : ℕ) (l : List ℕ) → x < 256 → AreOctets l → (i : ℕ) → get_or (x ∷ l) i 0 < 256
-front-octets x l first octets zero = first
-front-octets x l first octets (suc i) = octets i
-
-AreOctets-take : (n : ℕ) (o : List ℕ) → AreOctets o → AreOctets (take n o)
-AreOctets-take zero o octets = none-octets
-AreOctets-take (suc n) [] octets = octets
-AreOctets-take (suc n) (x ∷ o) octets = front-octets x (take n o) (octets 0) (AreOctets-take n o (λ i. octets (suc i)))
 
 body-octets : (bytes : List ℕ) (h : Header) → AreOctets bytes → AreOctets (body_of bytes h)
 body-octets bytes h octets = AreOctets-drop h.body _ (AreOctets-take (stated_end h) bytes octets)
@@ -135,7 +119,7 @@ among-small : (s : ℕ) (bytes : List ℕ) (t offset : ℕ) (children : List Hea
 among-small s bytes t offset children h b octets short kept is =
     let content = and_then-ok (at_place BLOCK offset (content_in (body_of bytes h))) (λ c. and_then (unless (too_many_references (with_limits s) children) c) (λ c. in_time (with_limits s) BLOCK (group_with s bytes t offset children c))) b is in
     let few = and_then-ok (unless (too_many_references (with_limits s) children) content.0) (λ c. in_time (with_limits s) BLOCK (group_with s bytes t offset children c)) b content.1.1 in
-    let taken = unless-both (too_many_references (with_limits s) children) content.0 few.0 few.1.0 in
+    let taken = unless-ok (too_many_references (with_limits s) children) content.0 few.0 few.1.0 in
     let count = few-references (references_among children) MOST_REFERENCES (none-too_many (slice_get (references_among children) MOST_REFERENCES) taken.0) in
     let scaled = length-map (references_among children) (λ (c : Header). nanoseconds s (int_of (body_of bytes c))) in
     let laces = content-laces (body_of bytes h) content.0 (body-octets bytes h octets) short (told-ok BLOCK offset (content_in (body_of bytes h)) content.0 content.1.0) in
@@ -153,7 +137,7 @@ group-small s bytes ts h b octets is =
     let kids = and_then-ok (group_children bytes h) (λ cs. and_then (block_or h (first_of BLOCK cs)) (group_among (with_limits s) bytes time.0 h.offset cs)) b time.1.1 in
     let first = and_then-ok (block_or h (first_of BLOCK kids.0)) (group_among (with_limits s) bytes time.0 h.offset kids.0) b kids.1.1 in
     let short = short-enough s ts h time.0 time.1.0 in
-    let list : (group_run bytes h).list ≡ kids.0 = (unless-both (group_refusal bytes (group_run bytes h)) (group_run bytes h).list kids.0 kids.1.0).1 in
+    let list : (group_run bytes h).list ≡ kids.0 = (unless-ok (group_refusal bytes (group_run bytes h)) (group_run bytes h).list kids.0 kids.1.0).1 in
     let block = block-short bytes h first.0 BLOCK (ap (first_of BLOCK) list ∙ block_or-ok h (first_of BLOCK kids.0) first.0 first.1.0) in
     let kept = kept-short bytes h in
     let octets_kept : length (kept_of bytes (group_run bytes h).list) ≡ length (kept_of bytes kids.0) = ap (λ (l : List Header). length (kept_of bytes l)) list in

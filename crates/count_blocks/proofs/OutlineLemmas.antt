@@ -3,15 +3,7 @@ use Rattle.std.proofs.Common.{◌≡◌, ℕ, List, [], Option, Some, None, Resu
 use Rattle.mkv_values.specs.declared.damage.Damage.{Damage}
 use Rattle.matroska_format.specs.Outline.{Outlined, outline_of, ebml_header, segment_of, limits_from, segment_run, outlined, and_then, unless}
 use Rattle.element_reader.specs.Outline.{FileOutline, outline_in, shown}
-
--- what stood behind an answer
-and_then-ok : {A B : Type 0} (r : Result A Damage) (f : A → Result B Damage) (y : B) → and_then r f ≡ Ok y → (x : A) × (r ≡ Ok x) × (f x ≡ Ok y)
-and_then-ok (Ok x) f y is = (x, refl, is)
-and_then-ok (Err d) f y is = absurd (cc)
-
-unless-ok : {A : Type 0} (o : Option Damage) (x y : A) → unless o x ≡ Ok y → x ≡ y
-unless-ok None x y is = cc
-unless-ok (Some d) x y is = absurd (cc)
+use Rattle.matroska_format.proofs.OutlineLemmas.{and_then-ok, unless-ok}
 
 -- The outline of a content, whose Elements are those of its Segment.
 pub record Says (bytes : List ℕ) (o : FileOutline) : Type 0 where
@@ -24,9 +16,9 @@ list-of : (bytes : List ℕ) (o : Outlined) → outline_of 0 bytes ≡ Ok o → 
 unfolding outline_of
 list-of bytes o is =
     let first = and_then-ok (ebml_header bytes) _ o is in
-    let second = and_then-ok (segment_of bytes first.0) _ o first.2 in
+    let second = and_then-ok (segment_of bytes first.0) _ o first.1.1 in
     let run = segment_run bytes second.0 in
-    let made = unless-ok (limits_from 0 [] run.list) (outlined bytes first.0 second.0 run) o second.2 in
+    let made = (unless-ok (limits_from 0 [] run.list) (outlined bytes first.0 second.0 run) o second.1.1).1 in
     ap (λ (x : Outlined). x.list) (sym made) ∙ ap (λ (x : Outlined). (segment_run bytes x.segment).list) made
 
 pub Says-read : (bytes : List ℕ) (o : FileOutline) → outline_in 0 bytes ≡ Ok o → Says bytes o
@@ -35,7 +27,7 @@ Says-read bytes o is =
     let shows : o ≡ shown bytes found.0 = cc in
     record {
       of = found.0;
-      is = found.1;
+      is = found.1.0;
       shows = shows;
-      list = list-of bytes found.0 found.1 ∙ ap (λ (x : FileOutline). (segment_run bytes x.segment).list) (sym shows);
+      list = list-of bytes found.0 found.1.0 ∙ ap (λ (x : FileOutline). (segment_run bytes x.segment).list) (sym shows);
     }

@@ -20,6 +20,7 @@ use Rattle.lacing.specs.declared.kind.Lace.{Lace}
 use Rattle.lacing.specs.declared.kind.Lace.TheVariants as lace
 use Rattle.lacing.specs.Lace.{xiph_octets, IsFirstSize, bias, IsDifference, IsSpelling, Spells, but_last, AreEqual, IsHead, IsLace, FindsLace, HasNoLace}
 use Rattle.lacing.specs.Reading.{xiph_size, known_size, first_size, data_of, next_size, any_size, fitting, size_in, with_size, size_then, sizes_in, with_last, frames_in, is_frame_count, lace_in}
+use Rattle.ebml_format.proofs.SpelledLemmas.{AreOctets-drop}
 
 -- a pair that is there under a test
 if_some : {T : Type 0} (b : Bool) (x y : T) (m n : ℕ) → cond {A = Option (T × ℕ)} b (Some (x, m)) None ≡ Some (y, n) → (b ≡ true) × (x ≡ y) × (m ≡ n)
@@ -261,11 +262,6 @@ size_then-found (Some (s, l)) others sizes head is = go (others s l) refl is
           sizes_are = ap (λ (x : List ℕ × ℕ). x.0) pair;
           head_is = ap (λ (x : List ℕ × ℕ). x.1) pair;
         }
-
-AreOctets-drop : (n : ℕ) (o : List ℕ) → AreOctets o → AreOctets (drop n o)
-AreOctets-drop zero o octets = octets
-AreOctets-drop (suc n) [] octets = octets
-AreOctets-drop (suc n) (x ∷ o) octets = AreOctets-drop n o (λ i. octets (suc i))
 
 take-add : (m n : ℕ) (o : List ℕ) → take (m + n) o ≡ take m o ++ take n (drop m o)
 take-add zero n o = ap (λ (x : ℕ). take x o) (omega arith)

@@ -18,26 +18,8 @@ use Rattle.tree_format.specs.Reading.{Grove, Grown, header_at, inside, behind, i
 use Rattle.tree_format.specs.Standing.{StandsIn, AllStandIn, IsSound, KeepsLimits, IsReadAgain}
 use Rattle.tree_format.proofs.ReadingLemmas.{grove-more, grove-end, header_at-fits, length-inside, length-behind, id-of-size}
 use Rattle.tree_format.proofs.AgainLemmas.{IsReadIn, display-parent, sound-again, kept-le}
-
--- ---- octets
-
-none-octets : (i : ℕ) → slice_index [] i < 256
-none-octets zero = omega arith
-none-octets (suc i) = omega arith
-
-pub AreOctets-drop : (k : ℕ) (l : List ℕ) → AreOctets l → AreOctets (drop k l)
-AreOctets-drop zero l octets = octets
-AreOctets-drop (suc k) [] octets = octets
-AreOctets-drop (suc k) (x ∷ l) octets = AreOctets-drop k l (λ i. octets (suc i))
-
-front-octets : (x : ℕ) (l : List ℕ) → x < 256 → AreOctets l → (i : ℕ) → slice_index (x ∷ l) i < 256
-front-octets x l first octets zero = first
-front-octets x l first octets (suc i) = octets i
-
-pub AreOctets-take : (k : ℕ) (l : List ℕ) → AreOctets l → AreOctets (take k l)
-AreOctets-take zero l octets = none-octets
-AreOctets-take (suc k) [] octets = octets
-AreOctets-take (suc k) (x ∷ l) octets = front-octets x (take k l) (octets 0) (AreOctets-take k l (λ i. octets (suc i)))
+use Rattle.matroska_format.proofs.OutlineLemmas.{and_then-ok}
+use Rattle.ebml_format.proofs.SpelledLemmas.{AreOctets-take, AreOctets-drop}
 
 -- ---- an ID
 
@@ -76,11 +58,6 @@ leaf-id parent id (inr (display, atom)) leaf_here =
     absurd (cc)
 
 -- ---- trees
-
--- what stood behind an answer
-pub and_then-ok : {A B : Type 0} (r : Result A Damage) (f : A → Result B Damage) (y : B) → and_then r f ≡ Ok y → (x : A) × ((r ≡ Ok x) × (f x ≡ Ok y))
-and_then-ok (Ok x) f y is = (x, (refl, is))
-and_then-ok (Err d) f y is = absurd (cc)
 
 -- an Element that was read stands under its parent
 grown-stands : (room left parent : ℕ) (h : Header) (body : List ℕ) (g : Grown) → IsReadIn parent h.id → ((inner : Grove) → grove (room - 1) (left - 1) h.id h.body body ≡ Ok inner → AllStandIn h.id (nodes_of inner.trees))

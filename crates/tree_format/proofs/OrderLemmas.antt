@@ -14,6 +14,7 @@ use Rattle.tree_format.specs.NormalForm.{content}
 use Rattle.tree_format.proofs.ReadingLemmas.{header_at-fits, length-inside, length-behind}
 use Rattle.tree_format.proofs.AgainLemmas.{sound-again}
 use Rattle.tree_format.specs.Order.{Listed, Found, Listing, found, followed, listed_from, elements_within, elements_in, Spot, in_order, all_in_order, told_at, too_deep, no_value, one_too_many, causes, first_refused, tree_in_order, tree_without_limits}
+use Rattle.matroska_format.proofs.OutlineLemmas.{unless-ok}
 
 -- ---- the first refusal of lists in a row
 
@@ -333,10 +334,6 @@ tree_of-in_order id offset body base nodes = split (nodes == 0) refl
         ∙ sym (goes nodes 0 root inner all.damage tree cause)
 
 -- ---- without a reader's limits
-
-unless-ok : {A : Type 0} (o : Option Damage) (x y : A) → unless o x ≡ Ok y → (o ≡ None) × (x ≡ y)
-unless-ok None x y is = (refl, cc)
-unless-ok (Some d) x y is = absurd (cc)
 
 -- an Element that nothing refuses is a value of its kind
 value-stands : (nodes before : ℕ) (s : Spot) → first_damage (causes nodes before s) ≡ None → no_value s ≡ None
