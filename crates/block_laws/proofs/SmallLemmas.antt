@@ -1,5 +1,5 @@
 -- Blocks that are read with limits are small.
-use Rattle.std.proofs.Common.{◌≡◌, ℕ, zero, suc, ◌<◌, ◌≤◌, ◌==◌, nat_lt, nat_abs, Bool, true, false, ◌||◌, if◌then◌else◌, ℤ, pos, inl, inr, List, [], ◌∷◌, length, take, get_or, Option, Some, None, Result, Ok, Err, refl, ap, ◌∙◌, subst, arith}
+use Rattle.std.proofs.Common.{◌≡◌, ℕ, zero, suc, ◌<◌, ◌≤◌, ◌==◌, nat_lt, nat_abs, Bool, true, false, ◌||◌, if◌then◌else◌, ℤ, pos, inl, inr, List, [], ◌∷◌, length, Option, Some, None, Result, Ok, Err, refl, ap, ◌∙◌, subst, arith}
 use Rattle.std.specs.List.{All, list_any, slice_get}
 use Rattle.std.specs.Option.{IfSome, option_map, option_map_or}
 use Rattle.std.proofs.lemmas.Bool.{cases_lt}

@@ -1,7 +1,6 @@
 -- What an outline that was read says of its file.
-use Rattle.std.proofs.Common.{◌≡◌, ℕ, List, [], Option, Some, None, Result, Ok, Err, refl, sym, ◌∙◌, ap}
-use Rattle.mkv_values.specs.declared.damage.Damage.{Damage}
-use Rattle.matroska_format.specs.Outline.{Outlined, outline_of, ebml_header, segment_of, limits_from, segment_run, outlined, and_then, unless}
+use Rattle.std.proofs.Common.{◌≡◌, ℕ, List, [], Ok, sym, ◌∙◌, ap}
+use Rattle.matroska_format.specs.Outline.{Outlined, outline_of, ebml_header, segment_of, limits_from, segment_run, outlined}
 use Rattle.element_reader.specs.Outline.{FileOutline, outline_in, shown}
 use Rattle.matroska_format.proofs.OutlineLemmas.{and_then-ok, unless-ok}
 

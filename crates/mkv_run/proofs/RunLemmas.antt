@@ -1,12 +1,12 @@
 -- A run that ends by a fault of the files.
 use Rattle.std.proofs.Math.Seq.{drop-cons}
-use Rattle.std.proofs.Common.{◌≡◌, ℕ, suc, ◌+◌, ◌<◌, length, drop, get_or, add-one, List, [], ◌∷◌, ◌++◌, Option, Result, Ok, Err, inl, inr, refl, sym, ◌∙◌, ap, subst}
+use Rattle.std.proofs.Common.{◌≡◌, ℕ, suc, ◌+◌, ◌<◌, length, drop, get_or, add-one, List, [], ◌∷◌, ◌++◌, Result, Ok, Err, inl, inr, refl, sym, ◌∙◌, ap, subst}
 use Rattle.mkv_io.specs.Faults.{HasRisen}
 use Rattle.mkv_io.specs.Lines.{with_lines}
 use Rattle.mkv_lines.specs.Faults.{Counts, FilesRose}
 use Rattle.mkv_lines.specs.Line.{files_fault_line}
 use Rattle.mkv_lines.specs.Said.{HasSayCause, ReportLines, Says, SaysPart, SaysUpTo}
-use Rattle.mkv_lines.specs.Verdict.{Ends, EndsOutside, IsDone, Reaches, SaysFault, Verdict}
+use Rattle.mkv_lines.specs.Verdict.{Ends, EndsOutside, Reaches, SaysFault, Verdict}
 use Rattle.mkv_lines.specs.Ordinary.{IsOrdinary}
 use Rattle.mkv_lines.specs.Seen.{Seen}
 use Rattle.mkv_lines.specs.declared.status.Status.{Status}
