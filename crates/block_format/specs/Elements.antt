@@ -16,7 +16,7 @@ use Rattle.block_format.specs.declared.limits.TheConstants.{SLICES, MOST_OF_BLOC
 use Rattle.block_format.specs.Content.{Content, content_in, is_invisible, lace_of}
 use Rattle.block_format.specs.Block.{Block, nanoseconds, time_of, has_too_large_time, simple_block_with}
 
--- How blocks are read: with the limits of a with_limits or without, and how many nanoseconds a tick has.
+-- How blocks are read: with the limits of a reader or without, and how many nanoseconds a tick has.
 pub record Rules : Type 0 where
   pub limits : Bool
   pub scale : ℕ
@@ -30,7 +30,7 @@ without_limits scale = record { limits = false; scale = scale }
 
 -- ---- of every block
 
--- its body is longer than a with_limits takes
+-- its body is longer than a reader takes
 abbrev pub too_long : Rules → Header → Option Damage
 too_long r h = where_it (r.limits && nat_lt MOST_OF_BLOCK (known h.size)) (damage BlockTooLarge h.id h.offset)
 

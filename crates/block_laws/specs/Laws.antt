@@ -12,7 +12,7 @@ use Rattle.block_format.specs.Block.{Block}
 use Rattle.block_format.specs.Elements.{Rules, with_limits, without_limits}
 use Rattle.block_format.specs.Events.{Event, stopped, Found, first_wrong, events_then, events_of, blocks_of, damages_of}
 
--- Where limits tell no damage, they change nothing.
+-- Where a file is read with limits and no damage of any kind is told, limits change nothing.
 abbrev pub LimitsChangeNothing : Type 0
 LimitsChangeNothing =
     (scale : ℕ) (bytes : List ℕ) (segment : Header) → damages_of (events_of (with_limits scale) bytes segment) ≡ []

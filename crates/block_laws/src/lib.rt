@@ -1,7 +1,7 @@
 #![tactic(auto)]
 
-//! Laws of the blocks of a file: what a reader's limits change, and how large a block can be that is read with
-//! them. No code that reads stands on this crate.
+//! Laws of the blocks of a file: what a reader's limits change, how large a block can be that is read with them,
+//! and which damages are told. No code that reads stands on this crate.
 
 ghost use Rattle.block_laws.specs.Laws.{BlocksAreSmall, LimitsChangeNothing, StopsAtTheEnd, TellsTheFirstWrong};
 

@@ -66,7 +66,7 @@ header_in-whole o r is whole =
     has_header : (o : List ℕ) → header_len o ≤ length o → (slice_index o 0 ≡ 0 → ⊥) → has_no_header o ≡ false
     has_header o whole never = grind (arith, nat_tests)
 
--- the same as a with_limits has its parts
+-- the same as a reader has its parts
 pub header_in-found : (o : List ℕ) (r : SizeRead) (w t : ℕ) (z : ℤ) → size_at o ≡ Ok r → w ≡ r.len → w + 3 ≤ length o → t ≡ data_of r.size r.len → z ≡ int_of (take (w + 2 - w) (drop w o)) → header_in o ≡ Some (record { track = t; relative = z; flags = slice_index o (w + 2); len = w + 3 })
 header_in-found o r w t z is width whole track relative =
     let two : w + 2 - w ≡ 2 = omega arith in

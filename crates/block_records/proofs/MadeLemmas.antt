@@ -110,7 +110,7 @@ group_found-gathered scale timestamp offset bytes children s frames g large gath
 pub group_found-large : (scale timestamp offset : ℕ) (bytes : List ℕ) (children : List Header) (s : Spelled) (frames : List (List ℕ)) (g : Gathered) → Gathers bytes children g → g.too_many ≡ None → has_too_large_ticks scale (pos timestamp +ℤ s.relative) g.duration g.references.items ≡ true → group_found scale bytes timestamp offset children s frames ≡ Err (damage TimeTooLarge BLOCK offset)
 group_found-large scale timestamp offset bytes children s frames g gathers none times = group_found-gathered scale timestamp offset bytes children s frames g true gathers none times
 
--- the same as a with_limits has its parts
+-- the same as a reader has its parts
 pub group_found-ok : (scale timestamp offset : ℕ) (bytes : List ℕ) (children : List Header) (s : Spelled) (frames : List (List ℕ)) (g now : Gathered) (t : Times) (ticks time : ℤ) (key invisible : Bool) (kind : Lace) → Gathers bytes children g → g.too_many ≡ None → HasTimes scale ticks g now t → ticks ≡ pos timestamp +ℤ s.relative → now.kept ≡ g.kept → time ≡ t.time → key ≡ (length g.references.items == 0) → invisible ≡ is_invisible s.flags → kind ≡ lace_of s.flags → group_found scale bytes timestamp offset children s frames ≡ Ok (block_with (record { track = s.track; time = time; key = key; invisible = invisible; discardable = false; group = true; lace = kind; duration = t.duration; offset = offset }) frames now.references.items now.kept.items)
 group_found-ok scale timestamp offset bytes children s frames g now t ticks time key invisible kind gathers none times ticks_are kept time_is key_is invisible_is kind_is =
     let made : ℤ → Bool → Bool → Lace → Option ℕ → List ℤ → List ℕ → Result Block Damage = λ z k i l duration references octets.

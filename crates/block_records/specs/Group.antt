@@ -14,7 +14,7 @@ use Rattle.block_records.specs.declared.gathered.Gathered.{Gathered}
 use Rattle.block_records.specs.declared.gathered.Part.{Part}
 use Rattle.block_records.specs.declared.gathered.Part.TheVariants as part
 
--- the first Block, the ticks of the first BlockDuration and of the ReferenceBlocks that a with_limits takes, the
+-- the first Block, the ticks of the first BlockDuration and of the ReferenceBlocks that a reader takes, the
 -- first that is one too many, and the octets of what is kept
 pub record Gathers (bytes : List ℕ) (children : List Header) (g : Gathered) : Type 0 where
   pub block : g.block ≡ first_of BLOCK children

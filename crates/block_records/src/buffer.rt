@@ -13,6 +13,7 @@ ghost use Rattle.block_records.specs.Buffered.{Makes};
 ghost use Rattle.block_records.specs.Lendable.{HasSmallTimes, IsLendable, LendsNothing};
 ghost use Rattle.block_records.specs.Time.{IsSmallTime};
 ghost use Rattle.mkv_values.specs.declared.outside.TheConstants.{LONGEST_FILE};
+ghost use Rattle.block_format.specs.declared.limits.TheConstants.{MOST_REFERENCES};
 
 use crate::body::read_body;
 use crate::head::BlockHead;
@@ -160,7 +161,7 @@ impl BlockBuffer {
     pub fn references(&self) -> &[i64]
         ensures exact { result.now ≡ self.now.references }
         ensures small { All IsSmallTime result.now }
-        ensures most { length result.now ≤ 64 }
+        ensures most { length result.now ≤ MOST_REFERENCES }
     {
         self.parts.gathered.references.as_slice()
     }

@@ -19,7 +19,7 @@ use Rattle.cluster_reader.specs.declared.step.Step.{Step}
 use Rattle.cluster_reader.specs.declared.step.Step.TheVariants.{Block, Damaged, End}
 
 -- The file and its scale; the place of what is looked at next; what is held of the file; the block that was
--- given last; how many blocks and damages were given; and whether the damage that was given last ends
+-- given last, or nothing; how many blocks and damages were given; and whether the damage that was given last ends
 -- what is read.
 pub record Reading : Type 0 where
   pub file : FileId
@@ -113,7 +113,7 @@ pub record Moves (old new : Reading) (result : Result Step ReadEnd) : Type 0 whe
 abbrev pub IsFull : ℕ → ReadAhead → Type 0
 IsFull size w = (w.octets ≡ []) ⊎ (end_ahead w ≡ size) ⊎ (65536 ≤ length w.octets)
 
--- The place is in a live file, and what is held is this file's and not behind the place.
+-- The place is in a live file; what is held is this file's, not behind the place, and as much as one read takes.
 pub record CanRead (files : LiveFiles) (c : Reading) : Type 0 where
   pub live : files.live c.file.n ≡ true
   pub inside : c.place.end ≤ files.size c.file.n

@@ -2,10 +2,7 @@
 use Rattle.std.specs.Prelude.{◌≡◌, ℕ, ◌-◌, nat_lt, min, if◌then◌else◌, List, [], ◌∷◌, ◌++◌, length, take}
 use Rattle.mkv_io.specs.Faults.{counted, last_count}
 use Rattle.mkv_values.specs.declared.damage.Damage.{Damage}
-
--- how many are told one by one
-abbrev pub MOST_TOLD : ℕ
-MOST_TOLD = 100
+use Rattle.cluster_reader.specs.declared.damages.TheConstants.{MOST_TOLD}
 
 -- the damages that are told one by one, and how many others there are
 pub record ToldDamages : Type 0 where

@@ -11,6 +11,7 @@ ghost use Rattle.block_records.specs.Time.{IsSmallTime};
 ghost use Rattle.block_format.specs.Elements.{with_limits};
 ghost use Rattle.block_format.specs.Events.{events_of};
 ghost use Rattle.cluster_reader.specs.Reading.{Begins, Counts, Gives, CanRead, Moves, Spends, left_of};
+ghost use Rattle.block_format.specs.declared.limits.TheConstants.{MOST_REFERENCES};
 
 use crate::next_step::next_step;
 use crate::place::Place;
@@ -98,7 +99,7 @@ impl Cursor {
         ensures standing { R.standing src.new ≡ R.standing src.old }
         ensures cause { HasCause is_read_fault (R.reading_faults src.old) (R.reading_faults src.new) result }
 
-        // What is read adds up to at most four octets for each of the file.
+        // What is read adds up to at most four octets for each of the file, and two for each call that fails.
         ensures spends { Spends (file_size R.Reads src.old self.old.file) self.old self.new (R.octets_read src.old) (R.octets_read src.new) result }
     {
         let step = next_step(&mut self.walk, src)?;
@@ -149,7 +150,7 @@ impl Cursor {
     pub fn refs(&self) -> &[i64]
         ensures exact { result.now ≡ self.now.block.references }
         ensures small { All IsSmallTime result.now }
-        ensures most { length result.now ≤ 64 }
+        ensures most { length result.now ≤ MOST_REFERENCES }
     {
         self.walk.block.references()
     }

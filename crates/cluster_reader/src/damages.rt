@@ -26,7 +26,9 @@ impl Model for Damages {
 
     ghost view = { λ d. record { first = d.first.items; more = d.more } };
 
-    ghost invariant = { λ d. 100 ≤ vec_capacity d.first };
+    ghost use Rattle.cluster_reader.specs.declared.damages.TheConstants.{MOST_TOLD};
+
+    ghost invariant = { λ d. MOST_TOLD ≤ vec_capacity d.first };
 }
 
 impl Damages {

@@ -9,6 +9,7 @@ pub enum Step {
     Block,
     /// All blocks and damages were given.
     End,
-    /// Something is wrong here; what was given before it is right. The next call goes on behind it.
+    /// Something is wrong here; what was given before it is right. The next call goes on behind it, or
+    /// answers `End` where this damage ends what is read (`Cursor::stopped`).
     Damaged(Damage),
 }

@@ -1,4 +1,4 @@
--- The body of a master that is read whole.
+-- The children of an EBML header, and what refuses them: RFC 8794, section 11.2 (EBML Header Elements).
 use Rattle.std.specs.Prelude.{◌≡◌, true, ℕ, ◌≤◌, List, [], ◌∷◌, length, Option}
 use Rattle.mkv_schema.specs.declared.ids.TheConstants.{EBML, EBML_READ_VERSION, DOC_TYPE_READ_VERSION, EBML_MAX_ID_LENGTH, EBML_MAX_SIZE_LENGTH}
 use Rattle.mkv_values.specs.declared.damage.Damage.{Damage}

@@ -16,7 +16,7 @@ use crate::ebml_children::child_refusal;
 use crate::ebml_values::{above, wrong_doc_type};
 use crate::limits::over;
 use element_bodies::known;
-use element_headers::{Header, LONGEST_HEADER, Parent, read_header};
+use element_headers::{Header, LONGEST_HEADER, Parent, damage, read_header};
 use element_window::Window;
 use matroska_format::limits::MOST_OF_HEADER;
 use mkv_io::Reads;
@@ -91,11 +91,7 @@ fn first_element<R: Reads>(
     window.hold(src, file, 0, len)?;
     let octets = window.octets_at(0, usize::from(len));
     if !octets.starts_with(&EBML_MARK) {
-        return Ok(Err(Damage {
-            kind: Kind::NotEbml,
-            id: 0,
-            offset: 0,
-        }));
+        return Ok(Err(damage(Kind::NotEbml, 0, 0)));
     }
     Ok(read_header(octets, Parent::File, total, 0, total))
 }

@@ -10,7 +10,7 @@ ghost use Rattle.element_reader.specs.EbmlChildren.{child_refusal, children};
 ghost use Rattle.mkv_values.specs.declared.outside.TheConstants.{LONGEST_FILE};
 
 use element_bodies::{body_in, child_at, is_known_value};
-use element_headers::{Header, Parent};
+use element_headers::{Header, Parent, damage_at};
 use element_walks::end_in;
 use mkv_schema::ids::EBML;
 use mkv_values::{Damage, Kind};
@@ -27,11 +27,7 @@ pub fn child_refusal(body: &[u8], base: u64, total: u64) -> Option<Damage>
         match child_at(Parent::Tree(EBML), body, base, total, at) {
             Ok(child) => {
                 if !is_known_value(EBML, child.id, body_in(body, base, &child)) {
-                    return Some(Damage {
-                        kind: Kind::BadValue,
-                        id: child.id,
-                        offset: child.offset,
-                    });
+                    return Some(damage_at(Kind::BadValue, &child));
                 }
                 at = end_in(&child, end);
             }

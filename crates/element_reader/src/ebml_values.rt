@@ -12,6 +12,7 @@ ghost use Rattle.mkv_values.specs.declared.outside.TheConstants.{LONGEST_FILE};
 use crate::ebml_children::first_child;
 use ebml_numbers::read_uint;
 use element_bodies::{body_in, text_of};
+use element_headers::damage;
 use mkv_schema::ids::DOC_TYPE;
 use mkv_schema::{text_default, uint_default};
 use mkv_values::{Damage, Kind};
@@ -81,11 +82,8 @@ pub fn wrong_doc_type(body: &[u8], base: u64, total: u64) -> Option<Damage>
     if has_doc_type(body, base, total) {
         return None;
     }
-    Some(Damage {
-        kind: Kind::DocType,
-        id: DOC_TYPE,
-        offset: place_of(body, base, total, DOC_TYPE),
-    })
+    let offset = place_of(body, base, total, DOC_TYPE);
+    Some(damage(Kind::DocType, DOC_TYPE, offset))
 }
 
 /// What refuses an integer that is above what is read.
@@ -99,9 +97,5 @@ pub fn above(body: &[u8], base: u64, total: u64, id: u32, limit: u64, kind: Kind
     if uint_in(body, base, total, id) <= limit {
         return None;
     }
-    Some(Damage {
-        kind,
-        id,
-        offset: place_of(body, base, total, id),
-    })
+    Some(damage(kind, id, place_of(body, base, total, id)))
 }

@@ -7,7 +7,7 @@ ghost use Rattle.element_window.specs.Looks.{Goes};
 ghost use Rattle.element_window.specs.Window.{Holds, IsEmptyWithin};
 ghost use Rattle.element_reader.specs.Segment.{segment_from, body_or};
 
-use element_headers::{Header, Parent};
+use element_headers::{Header, Parent, damage};
 use element_walks::{end_in, id_of};
 use element_window::{Lookahead, Window};
 use mkv_io::Reads;
@@ -46,9 +46,5 @@ pub fn find_segment<R: Reads>(
             Err(damage) => return Ok(Err(damage)),
         }
     }
-    Ok(Err(Damage {
-        kind: Kind::NoSegment,
-        id: 0,
-        offset: total,
-    }))
+    Ok(Err(damage(Kind::NoSegment, 0, total)))
 }

@@ -23,7 +23,7 @@ pub struct FileWords {
     pub attachments: bool,
     /// Whether the tags of tracks are kept.
     pub track_tags: bool,
-    /// Whether the tags of no track are kept.
+    /// Whether tags that name no track are kept.
     pub global_tags: bool,
     /// Whether the chapters are kept.
     pub chapters: bool,

@@ -51,8 +51,8 @@ impl<'a, R: fs::Files<File = File>> RealFiles<'a, R> {
         self.opened.len() as u64 == u64::MAX
     }
 
-    /// Makes an empty file, or empties the one of that name. One that is open is refused before it is
-    /// touched, under whatever name it was opened.
+    /// Makes an empty file, or empties the one of that name. One that is open already is refused and keeps its
+    /// octets, under whatever name it was opened.
     fn make(&self, name: &str) -> io::Result<(File, Node)>
         ensures { IfOk result (λ made. list_any (is_node made.1) self.now.opened.items ≡ false) }
     {

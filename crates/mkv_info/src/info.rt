@@ -15,7 +15,7 @@ use mkv_lines::{Line, Status, Stop, say};
 use mkv_values::OpenFault;
 use std::alloc::Global;
 
-/// Lists the Elements of the file of a name, which is open in the meantime.
+/// Lists the Elements and tracks of the file of a name, which is open in the meantime.
 pub fn info_of<F: Files, P: Report>(
     alloc: Global,
     name: &str,

@@ -1,6 +1,6 @@
 #![tactic(auto)]
 
-//! The command `info`, which lists a file's Elements.
+//! The command `info`, which lists a file's Elements and tracks.
 
 mod info;
 mod list;

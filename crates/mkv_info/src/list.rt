@@ -20,8 +20,8 @@ use mkv_lines::{Line, Status, Stop, say};
 use mkv_values::{Damage, FileId};
 use std::alloc::Global;
 
-/// Lists a live file's Elements, and warns of the damage that ends them. A file whose outline is refused
-/// isn't listed.
+/// Lists a live file's Elements and tracks, and warns of the damage that ends them. A file whose outline or
+/// tracks are refused isn't listed.
 pub fn list_file<R: Reads, P: Report>(
     alloc: Global,
     name: &str,

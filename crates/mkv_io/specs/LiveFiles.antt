@@ -19,7 +19,7 @@ pub record IsSameFile (old new : LiveFiles) (file : ℕ) : Type 0 where
 abbrev pub KeepsFiles : LiveFiles → LiveFiles → (ℕ → Type 0) → Type 0
 KeepsFiles old new Is = (file : ℕ) → Is file → IsSameFile old new file
 
--- Every live file has the name under which it was opened.
+-- Every live file keeps the name under which it was opened.
 abbrev pub KeepsHolders : (ℕ → Bool) → (ℕ → List ℕ) → (ℕ → List ℕ) → Type 0
 KeepsHolders live old new = (file : ℕ) → live file ≡ true → new file ≡ old file
 

@@ -14,8 +14,8 @@ pub record KeepsOthers {S : Type 0} (r : Ghosts S) (f : writing.Ghosts S) (names
   pub holders : KeepsHolders (live_files r old).live (f.holder old) (f.holder new)
   pub others : KeepsFiles (live_files r old) (live_files r new) (λ file. AreOthers (f.holder old file) names)
 
--- A call that only writes under these names keeps the others. It gives no number and reads nothing, and its count of
--- faults doesn't fall.
+-- A call that only writes under these names keeps the live files of all others; what the names then tell is said
+-- elsewhere. It gives no number and reads nothing, and its count of faults doesn't fall.
 pub record WritesOnly {S : Type 0} (r : Ghosts S) (f : writing.Ghosts S) (names : List (List ℕ)) (old new : S) : Type 0 where
   pub kept : KeepsOthers r f names old new
   pub given : f.given new ≡ f.given old

@@ -43,8 +43,8 @@ impl From<ReadEnd> for RemuxEnd {
     }
 }
 
-/// Whatever reads in a run tells a `ReadEnd`: a bare failure is that of octets which were to be written
-/// over others.
+/// A bare failure is that of octets which were to be written over others. Whoever calls `read_at` turns its
+/// failure into a `ReadEnd` first.
 impl From<Failed> for RemuxEnd {
     ghost from_gives = { λ _ end. end ≡ remux_end.WriteFault };
 

@@ -12,7 +12,7 @@ pub enum Status {
     Done,
     /// All is done, and a line warns of what was found on the way.
     Warned,
-    /// Nothing is done, and a line says why.
+    /// Nothing is done, and a line says why, but where a word can't be read.
     Refused,
     /// There was no memory.
     NoMemory,

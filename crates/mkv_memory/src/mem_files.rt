@@ -88,7 +88,7 @@ impl MemFiles {
     }
 }
 
-/// How many octets a failing append keeps: as many as it is told to, and never all.
+/// How many octets a failing append keeps: as many as it is told to, and never the last of them.
 fn kept_of(len: usize, kept: u64) -> usize
     ensures { result ≡ min kept (len - 1) }
 {

@@ -14,14 +14,14 @@ use Rattle.mkv_io.specs.Writing.{KeepsOthers, WritesOnly}
 use Rattle.mkv_io.specs.declared.reads.Reads.{Ghosts}
 use Rattle.mkv_io.specs.declared.files.Files as writing
 use Rattle.mkv_io.proofs.WritingLemmas.{IsSameFile-twice, KeepsOthers-more, WritesOnly-more, WritesOnly-none, WritesOnly-then}
-use Rattle.mkv_outputs.specs.Sinks.{AreLive, AreOpen, ArePassed, AreRising, EndsOnly, IsNoneOf, MadeSince, MakesOnly, WritesOutputs, files_of, holders_of, names_under}
+use Rattle.mkv_outputs.specs.Sinks.{AreLive, AreOpen, ArePassed, AreRising, EndsOnly, IsNoneOf, MadeSince, MakesOnly, WritesOutputs, ids_of, holders_of, names_under}
 use Rattle.mkv_outputs.specs.declared.sink.Sink.{Sink}
-use Rattle.mkv_outputs.proofs.GivenLemmas.{files_of-at, holders_of-kept, length-files_of}
+use Rattle.mkv_outputs.proofs.GivenLemmas.{ids_of-at, holders_of-kept, length-ids_of}
 
 -- one of the files is live
-pub AreLive-at : (live : ℕ → Bool) (sinks : List Sink) (k : ℕ) (was : Sink) → AreLive live (files_of sinks) → k < length sinks → was ≡ get_or sinks k was → live was.file.n ≡ true
+pub AreLive-at : (live : ℕ → Bool) (sinks : List Sink) (k : ℕ) (was : Sink) → AreLive live (ids_of sinks) → k < length sinks → was ≡ get_or sinks k was → live was.file.n ≡ true
 AreLive-at live sinks k was are below is =
-    ap (λ (s : Sink). live s.file.n) is ∙ ap (λ (f : FileId). live f.n) (sym (files_of-at sinks k was was.file below)) ∙ are k was.file (omega (arith, length-files_of sinks))
+    ap (λ (s : Sink). live s.file.n) is ∙ ap (λ (f : FileId). live f.n) (sym (ids_of-at sinks k was was.file below)) ∙ are k was.file (omega (arith, length-ids_of sinks))
 
 -- what is live stays so
 pub AreLive-on : (old new : ℕ → Bool) (list : List FileId) → AreLive old list → ((file : ℕ) → new file ≡ old file) → AreLive new list
@@ -48,25 +48,25 @@ OnOk-map (Err fault) gives holds = tt
 
 -- ---- one more file
 
-pub files_of-added : (sinks : List Sink) (s : Sink) → files_of (sinks ++ s ∷ []) ≡ files_of sinks ++ s.file ∷ []
-files_of-added [] s = refl
-files_of-added (first ∷ ss) s = ap (λ (fs : List FileId). first.file ∷ fs) (files_of-added ss s)
+pub ids_of-added : (sinks : List Sink) (s : Sink) → ids_of (sinks ++ s ∷ []) ≡ ids_of sinks ++ s.file ∷ []
+ids_of-added [] s = refl
+ids_of-added (first ∷ ss) s = ap (λ (fs : List FileId). first.file ∷ fs) (ids_of-added ss s)
 
-pub AreLive-added : (live : ℕ → Bool) (sinks : List Sink) (s : Sink) → AreLive live (files_of sinks) → live s.file.n ≡ true → AreLive live (files_of (sinks ++ s ∷ []))
-AreLive-added live sinks s are is = subst (AreLive live) (sym (files_of-added sinks s)) (All-push (λ (f : FileId). live f.n ≡ true) (files_of sinks) s.file are is)
+pub AreLive-added : (live : ℕ → Bool) (sinks : List Sink) (s : Sink) → AreLive live (ids_of sinks) → live s.file.n ≡ true → AreLive live (ids_of (sinks ++ s ∷ []))
+AreLive-added live sinks s are is = subst (AreLive live) (sym (ids_of-added sinks s)) (All-push (λ (f : FileId). live f.n ≡ true) (ids_of sinks) s.file are is)
 
 -- files below a number stay live
 pub AreLive-below : (old new : ℕ → Bool) (high : ℕ) (list : List FileId) → AreLive old list → ((file : ℕ) → old file ≡ true → file < high) → ((file : ℕ) → file < high → new file ≡ old file) → AreLive new list
 AreLive-below old new high list are numbered alive = λ k d below. alive (get_or list k d).n (numbered (get_or list k d).n (are k d below)) ∙ are k d below
 
 -- a further file has a higher number than the others
-pub AreRising-added : (high : ℕ) (sinks : List Sink) (s : Sink) → AreRising (files_of sinks) → All (λ (f : FileId). f.n < high) (files_of sinks) → high ≤ s.file.n → AreRising (files_of (sinks ++ s ∷ []))
-AreRising-added high sinks s rising below next = subst AreRising (sym (files_of-added sinks s))
-    (all_pairs_push (λ (a b : FileId). a.n < b.n) (files_of sinks) s.file rising (λ k d within. let lower = below k d within in omega (arith, lower)))
+pub AreRising-added : (high : ℕ) (sinks : List Sink) (s : Sink) → AreRising (ids_of sinks) → All (λ (f : FileId). f.n < high) (ids_of sinks) → high ≤ s.file.n → AreRising (ids_of (sinks ++ s ∷ []))
+AreRising-added high sinks s rising below next = subst AreRising (sym (ids_of-added sinks s))
+    (all_pairs_push (λ (a b : FileId). a.n < b.n) (ids_of sinks) s.file rising (λ k d within. let lower = below k d within in omega (arith, lower)))
 
 -- files that have no number below one, and one more
-pub AreNewer-added : (least : ℕ) (sinks : List Sink) (s : Sink) → All (λ (f : FileId). least ≤ f.n) (files_of sinks) → least ≤ s.file.n → All (λ (f : FileId). least ≤ f.n) (files_of (sinks ++ s ∷ []))
-AreNewer-added least sinks s newer next = subst (All (λ (f : FileId). least ≤ f.n)) (sym (files_of-added sinks s)) (All-push (λ (f : FileId). least ≤ f.n) (files_of sinks) s.file newer next)
+pub AreNewer-added : (least : ℕ) (sinks : List Sink) (s : Sink) → All (λ (f : FileId). least ≤ f.n) (ids_of sinks) → least ≤ s.file.n → All (λ (f : FileId). least ≤ f.n) (ids_of (sinks ++ s ∷ []))
+AreNewer-added least sinks s newer next = subst (All (λ (f : FileId). least ≤ f.n)) (sym (ids_of-added sinks s)) (All-push (λ (f : FileId). least ≤ f.n) (ids_of sinks) s.file newer next)
 
 -- what holds anyway holds after any answer
 pub OnErr-always : {T E A : Type 0} (result : Result T E) → A → OnErr result A
@@ -100,11 +100,11 @@ still-live live ended file is are same = let both : true ≡ false = sym are ∙
 -- ---- which files are live besides
 
 -- a file that is none of some and one more is none of these
-pub IsNoneOf-added : (sinks : List Sink) (s : Sink) (file : ℕ) → IsNoneOf file (files_of (sinks ++ s ∷ [])) → IsNoneOf file (files_of sinks) × (file ≢ s.file.n)
-IsNoneOf-added sinks s file none = (first_differ (files_of sinks) s.file none', λ same. last_differs (files_of sinks) s.file none' (sym same))
+pub IsNoneOf-added : (sinks : List Sink) (s : Sink) (file : ℕ) → IsNoneOf file (ids_of (sinks ++ s ∷ [])) → IsNoneOf file (ids_of sinks) × (file ≢ s.file.n)
+IsNoneOf-added sinks s file none = (first_differ (ids_of sinks) s.file none', λ same. last_differs (ids_of sinks) s.file none' (sym same))
   where
-    none' : IsNoneOf file (files_of sinks ++ s.file ∷ [])
-    none' = subst (IsNoneOf file) (files_of-added sinks s) none
+    none' : IsNoneOf file (ids_of sinks ++ s.file ∷ [])
+    none' = subst (IsNoneOf file) (ids_of-added sinks s) none
 
     last_differs : (list : List FileId) (f : FileId) → IsNoneOf file (list ++ f ∷ []) → f.n ≢ file
     last_differs [] f others = others 0 f (omega arith)
@@ -141,9 +141,9 @@ is_ended live file (f ∷ fs) ended = step (is_ended live file fs (λ k d below.
 -- ---- outputs stay open
 
 -- the same files, all of which are live as before
-pub AreOpen-kept : {S : Type 0} (r : Ghosts S) (old new : S) (sinks later : List Sink) → AreOpen r old sinks → files_of later ≡ files_of sinks → ((file : ℕ) → (live_files r new).live file ≡ (live_files r old).live file) → AreOpen r new later
+pub AreOpen-kept : {S : Type 0} (r : Ghosts S) (old new : S) (sinks later : List Sink) → AreOpen r old sinks → ids_of later ≡ ids_of sinks → ((file : ℕ) → (live_files r new).live file ≡ (live_files r old).live file) → AreOpen r new later
 AreOpen-kept r old new sinks later outputs same alive = record {
-  live = subst (AreLive (live_files r new).live) (sym same) (AreLive-on (live_files r old).live (live_files r new).live (files_of sinks) outputs.live alive);
+  live = subst (AreLive (live_files r new).live) (sym same) (AreLive-on (live_files r old).live (live_files r new).live (ids_of sinks) outputs.live alive);
   rising = subst AreRising (sym same) outputs.rising;
 }
 
@@ -154,12 +154,12 @@ AreOthers-at holder (f ∷ fs) zero d name below others = (others.0, tt)
 AreOthers-at holder (f ∷ fs) (suc k) d name below others = AreOthers-at holder fs k d name (omega arith) others.1
 
 -- a call that wrote to one of the outputs wrote to them
-pub WritesOnly-sink : {S : Type 0} (r : Ghosts S) (f : writing.Ghosts S) (old new : S) (sinks : List Sink) (k : ℕ) (was : Sink) → k < length sinks → was ≡ get_or sinks k was → WritesOnly r f (f.holder old was.file.n ∷ []) old new → WritesOnly r f (holders_of (f.holder old) (files_of sinks)) old new
+pub WritesOnly-sink : {S : Type 0} (r : Ghosts S) (f : writing.Ghosts S) (old new : S) (sinks : List Sink) (k : ℕ) (was : Sink) → k < length sinks → was ≡ get_or sinks k was → WritesOnly r f (f.holder old was.file.n ∷ []) old new → WritesOnly r f (holders_of (f.holder old) (ids_of sinks)) old new
 WritesOnly-sink r f old new sinks k was below is only =
-    WritesOnly-more r f (f.holder old was.file.n ∷ []) (holders_of (f.holder old) (files_of sinks)) old new (λ name others.
-    let file : get_or (files_of sinks) k was.file ≡ was.file = files_of-at sinks k was was.file below ∙ ap (λ (s : Sink). s.file) (sym is) in
+    WritesOnly-more r f (f.holder old was.file.n ∷ []) (holders_of (f.holder old) (ids_of sinks)) old new (λ name others.
+    let file : get_or (ids_of sinks) k was.file ≡ was.file = ids_of-at sinks k was was.file below ∙ ap (λ (s : Sink). s.file) (sym is) in
     let P : FileId → Type 0 = λ each. AreOthers name (f.holder old each.n ∷ []) in
-    subst P file (AreOthers-at (f.holder old) (files_of sinks) k was.file name (omega (arith, length-files_of sinks)) others)) only
+    subst P file (AreOthers-at (f.holder old) (ids_of sinks) k was.file name (omega (arith, length-ids_of sinks)) others)) only
 
 -- ---- two calls that write
 
@@ -174,7 +174,7 @@ WritesOutputs-then r f a b c sinks now later outputs first next = record {
   outputs = next.outputs;
   only = WritesOnly-then r f (names_under f a sinks) a b c first.only
       (subst (λ (names : List (List ℕ)). WritesOnly r f names b c)
-      (ap (holders_of (f.holder b)) first.same ∙ holders_of-kept (live_files r a).live (f.holder a) (f.holder b) (files_of sinks) outputs.live first.only.kept.holders) next.only);
+      (ap (holders_of (f.holder b)) first.same ∙ holders_of-kept (live_files r a).live (f.holder a) (f.holder b) (ids_of sinks) outputs.live first.only.kept.holders) next.only);
 }
 
 -- ---- what became of the files since outputs were first made
@@ -204,10 +204,10 @@ MadeSince-added r f names name a b c sinks later numbered among first next = rec
     high file live = let below = numbered file live in let more = first.given in omega arith
 
     stays : (file : ℕ) → (live_files r a).live file ≡ true → (live_files r b).live file ≡ true
-    stays file live = first.besides file (IsNoneOf-below (files_of sinks) (f.given a) file first.newer (numbered file live)) ∙ live
+    stays file live = first.besides file (IsNoneOf-below (ids_of sinks) (f.given a) file first.newer (numbered file live)) ∙ live
 
 -- outputs are written, or other files are read
-pub MadeSince-kept : {S : Type 0} (r : Ghosts S) (f : writing.Ghosts S) (names : List (List ℕ)) (a b c : S) (sinks later : List Sink) → ((file : ℕ) → (live_files r a).live file ≡ true → file < f.given a) → MadeSince r f names a b sinks → files_of later ≡ files_of sinks → KeepsOthers r f names b c → MadeSince r f names a c later
+pub MadeSince-kept : {S : Type 0} (r : Ghosts S) (f : writing.Ghosts S) (names : List (List ℕ)) (a b c : S) (sinks later : List Sink) → ((file : ℕ) → (live_files r a).live file ≡ true → file < f.given a) → MadeSince r f names a b sinks → ids_of later ≡ ids_of sinks → KeepsOthers r f names b c → MadeSince r f names a c later
 MadeSince-kept r f names a b c sinks later numbered first same next = record {
   newer = subst (All (λ (s : FileId). f.given a ≤ s.n)) (sym same) first.newer;
   besides = λ file none. next.live file ∙ first.besides file (subst (IsNoneOf file) same none);
@@ -218,10 +218,10 @@ MadeSince-kept r f names a b c sinks later numbered first same next = record {
 }
   where
     stays : (file : ℕ) → (live_files r a).live file ≡ true → (live_files r b).live file ≡ true
-    stays file live = first.besides file (IsNoneOf-below (files_of sinks) (f.given a) file first.newer (numbered file live)) ∙ live
+    stays file live = first.besides file (IsNoneOf-below (ids_of sinks) (f.given a) file first.newer (numbered file live)) ∙ live
 
 -- the outputs are closed: what is live is what was live before they were made
-pub KeepsOthers-ended : {S : Type 0} (r : Ghosts S) (f : writing.Ghosts S) (names : List (List ℕ)) (a b c : S) (sinks : List Sink) → ((file : ℕ) → (live_files r a).live file ≡ true → file < f.given a) → MadeSince r f names a b sinks → EndsOnly r f b c (files_of sinks) → KeepsOthers r f names a c
+pub KeepsOthers-ended : {S : Type 0} (r : Ghosts S) (f : writing.Ghosts S) (names : List (List ℕ)) (a b c : S) (sinks : List Sink) → ((file : ℕ) → (live_files r a).live file ≡ true → file < f.given a) → MadeSince r f names a b sinks → EndsOnly r f b c (ids_of sinks) → KeepsOthers r f names a c
 KeepsOthers-ended r f names a b c sinks numbered first ends = record {
   live = alive;
   given = let earlier = first.given in omega (arith, ends.given);
@@ -233,20 +233,20 @@ KeepsOthers-ended r f names a b c sinks numbered first ends = record {
   };
 }
   where
-    old : (file : ℕ) → (live_files r a).live file ≡ true → IsNoneOf file (files_of sinks)
-    old file live = IsNoneOf-below (files_of sinks) (f.given a) file first.newer (numbered file live)
+    old : (file : ℕ) → (live_files r a).live file ≡ true → IsNoneOf file (ids_of sinks)
+    old file live = IsNoneOf-below (ids_of sinks) (f.given a) file first.newer (numbered file live)
 
     same : (file : ℕ) → AreOthers (f.holder a file) names → (live_files r a).live file ≡ true → IsSameFile (live_files r a) (live_files r c) file
     same file other live = IsSameFile-twice (live_files r a) (live_files r b) (live_files r c) file (first.others file (live, other)) (ends.others file (old file live))
 
     -- a number is that of an output, whose file has ended and wasn't live before, or it isn't
-    at : (file : ℕ) (was : Bool) → (live_files r a).live file ≡ was → (IsNoneOf file (files_of sinks) ⊎ ((live_files r c).live file ≡ false)) → (live_files r c).live file ≡ was
+    at : (file : ℕ) (was : Bool) → (live_files r a).live file ≡ was → (IsNoneOf file (ids_of sinks) ⊎ ((live_files r c).live file ≡ false)) → (live_files r c).live file ≡ was
     at file true is among = (ends.others file (old file is)).alive ∙ first.besides file (old file is) ∙ is
     at file false is (inl none) = (ends.others file none).alive ∙ first.besides file none ∙ is
     at file false is (inr ended) = ended
 
     alive : (file : ℕ) → (live_files r c).live file ≡ (live_files r a).live file
-    alive file = at file ((live_files r a).live file) refl (is_ended (live_files r c).live file (files_of sinks) ends.ended) ∙ refl
+    alive file = at file ((live_files r a).live file) refl (is_ended (live_files r c).live file (ids_of sinks) ends.ended) ∙ refl
 
 -- outputs are written, whose names are among these
 pub MadeSince-written : {S : Type 0} (r : Ghosts S) (f : writing.Ghosts S) (names : List (List ℕ)) (a b c : S) (sinks later : List Sink) → ((file : ℕ) → (live_files r a).live file ≡ true → file < f.given a) → ((name : List ℕ) → AreOthers name names → AreOthers name (names_under f b sinks)) → MadeSince r f names a b sinks → WritesOutputs r f b c sinks later → MadeSince r f names a c later

@@ -9,7 +9,7 @@ use Rattle.mkv_io.specs.Names.{Names, with_change, with_content}
 use Rattle.mkv_io.specs.Names.{AreApart, AreOthers}
 use Rattle.mkv_outputs.specs.Outputs.{Output, empty, names_of, with_empty, with_end, with_more, with_outputs}
 use Rattle.mkv_outputs.specs.Starts.{AreBegun, StandsInPart}
-use Rattle.mkv_outputs.specs.Sinks.{AreLive, ArePassed, Finishes, Gives, HaveBeenGiven, files_of, holders_of, with_waiting}
+use Rattle.mkv_outputs.specs.Sinks.{AreLive, ArePassed, Finishes, Gives, HaveBeenGiven, ids_of, holders_of, with_waiting}
 use Rattle.mkv_outputs.specs.Written.{Passes, PassesOn}
 use Rattle.mkv_outputs.specs.declared.sink.Sink.{Sink}
 use Rattle.mkv_outputs.proofs.OutputsLemmas.{names_of-more, with_more-none, with_outputs-added, with_outputs-more}
@@ -35,16 +35,16 @@ with_waiting-more (o ∷ os) (s ∷ ss) (suc k) d next written more same is =
 -- ---- the files
 
 -- the files stay the same ones
-pub files_of-set : (sinks : List Sink) (k : ℕ) (d next : Sink) → next.file ≡ (get_or sinks k d).file → files_of (set sinks k next) ≡ files_of sinks
-files_of-set [] k d next is = refl
-files_of-set (s ∷ ss) zero d next is = ap (λ (f : FileId). f ∷ files_of ss) is
-files_of-set (s ∷ ss) (suc k) d next is = ap (λ (fs : List FileId). s.file ∷ fs) (files_of-set ss k d next is)
+pub ids_of-set : (sinks : List Sink) (k : ℕ) (d next : Sink) → next.file ≡ (get_or sinks k d).file → ids_of (set sinks k next) ≡ ids_of sinks
+ids_of-set [] k d next is = refl
+ids_of-set (s ∷ ss) zero d next is = ap (λ (f : FileId). f ∷ ids_of ss) is
+ids_of-set (s ∷ ss) (suc k) d next is = ap (λ (fs : List FileId). s.file ∷ fs) (ids_of-set ss k d next is)
 
 -- the k-th of them
-pub files_of-at : (sinks : List Sink) (k : ℕ) (d : Sink) (f : FileId) → k < length sinks → get_or (files_of sinks) k f ≡ (get_or sinks k d).file
-files_of-at [] k d f below = absurd (omega arith)
-files_of-at (s ∷ ss) zero d f below = refl
-files_of-at (s ∷ ss) (suc k) d f below = files_of-at ss k d f (omega arith)
+pub ids_of-at : (sinks : List Sink) (k : ℕ) (d : Sink) (f : FileId) → k < length sinks → get_or (ids_of sinks) k f ≡ (get_or sinks k d).file
+ids_of-at [] k d f below = absurd (omega arith)
+ids_of-at (s ∷ ss) zero d f below = refl
+ids_of-at (s ∷ ss) (suc k) d f below = ids_of-at ss k d f (omega arith)
 
 pub holders_of-kept : (live : ℕ → Bool) (old new : ℕ → List ℕ) (list : List FileId) → AreLive live list → KeepsHolders live old new → holders_of new list ≡ holders_of old list
 holders_of-kept live old new [] are kept = refl
@@ -63,24 +63,24 @@ pub length_of_map : {A B : Type 0} (f : A → B) (xs : List A) → length (map f
 length_of_map f [] = refl
 length_of_map f (x ∷ xs) = ap suc (length_of_map f xs)
 
-pub length-files_of : (sinks : List Sink) → length (files_of sinks) ≡ length sinks
-length-files_of sinks = length_of_map (λ (s : Sink). s.file) sinks
+pub length-ids_of : (sinks : List Sink) → length (ids_of sinks) ≡ length sinks
+length-ids_of sinks = length_of_map (λ (s : Sink). s.file) sinks
 
 pub HaveBeenGiven-length : {old new : Names} {holder : ℕ → List ℕ} {sinks : List Sink} {given : List Output} (has : HaveBeenGiven old new holder sinks given) → length has.stand ≡ length sinks
 HaveBeenGiven-length {holder = holder} {sinks = sinks} has =
-    sym (length_of_map (λ (o : Output). o.name) has.stand) ∙ ap length has.holders ∙ length_of_map (λ (f : FileId). holder f.n) (files_of sinks) ∙ length-files_of sinks
+    sym (length_of_map (λ (o : Output). o.name) has.stand) ∙ ap length has.holders ∙ length_of_map (λ (f : FileId). holder f.n) (ids_of sinks) ∙ length-ids_of sinks
 
 -- ---- one output is given more
 
-pub HaveBeenGiven-on : (old mid new : Names) (live : ℕ → Bool) (holder later : ℕ → List ℕ) (sinks : List Sink) (k : ℕ) (d next : Sink) (more : List ℕ) (given : List Output) → HaveBeenGiven old mid holder sinks given → k < length sinks → next.file ≡ (get_or sinks k d).file → AreLive live (files_of sinks) → KeepsHolders live holder later → PassesOn mid new (holder (get_or sinks k d).file.n) ((get_or sinks k d).waiting ++ more) next.waiting → HaveBeenGiven old new later (set sinks k next) (with_more k more given)
+pub HaveBeenGiven-on : (old mid new : Names) (live : ℕ → Bool) (holder later : ℕ → List ℕ) (sinks : List Sink) (k : ℕ) (d next : Sink) (more : List ℕ) (given : List Output) → HaveBeenGiven old mid holder sinks given → k < length sinks → next.file ≡ (get_or sinks k d).file → AreLive live (ids_of sinks) → KeepsHolders live holder later → PassesOn mid new (holder (get_or sinks k d).file.n) ((get_or sinks k d).waiting ++ more) next.waiting → HaveBeenGiven old new later (set sinks k next) (with_more k more given)
 HaveBeenGiven-on old mid new live holder later sinks k d next more given has below same are kept passed =
     let count : length has.stand ≡ length sinks = HaveBeenGiven-length has in
-    let named : holders_of later (files_of (set sinks k next)) ≡ holders_of holder (files_of sinks) =
-    ap (holders_of later) (files_of-set sinks k d next same) ∙ holders_of-kept live holder later (files_of sinks) are kept in
+    let named : holders_of later (ids_of (set sinks k next)) ≡ holders_of holder (ids_of sinks) =
+    ap (holders_of later) (ids_of-set sinks k d next same) ∙ holders_of-kept live holder later (ids_of sinks) are kept in
     let apart : AreApart (names_of has.stand) = subst AreApart (sym has.holders) has.apart in
-    let within : k < length (files_of sinks) = omega (arith, length-files_of sinks) in
+    let within : k < length (ids_of sinks) = omega (arith, length-ids_of sinks) in
     let name : holder (get_or sinks k d).file.n ≡ get_or (names_of has.stand) k [] =
-    ap (λ (f : FileId). holder f.n) (sym (files_of-at sinks k d d.file below)) ∙ sym (holders_of-at holder (files_of sinks) k d.file within) ∙ ap (λ (names : List (List ℕ)). get_or names k []) (sym has.holders) in
+    ap (λ (f : FileId). holder f.n) (sym (ids_of-at sinks k d d.file below)) ∙ sym (holders_of-at holder (ids_of sinks) k d.file within) ∙ ap (λ (names : List (List ℕ)). get_or names k []) (sym has.holders) in
     record {
       stand = with_more k passed.written has.stand;
       names = passed.added ∙ ap (λ (names : Names). with_change names (holder (get_or sinks k d).file.n) (with_appended passed.written)) has.names
@@ -99,20 +99,20 @@ HaveBeenGiven-part old new holder sinks given has = record {
 }
 
 -- an output is given more, or a first part of it is written
-pub HaveBeenGiven-passes : {T E : Type 0} (result : Result T E) (old mid new : Names) (live : ℕ → Bool) (holder later : ℕ → List ℕ) (sinks : List Sink) (k : ℕ) (d next : Sink) (more : List ℕ) (given : List Output) → HaveBeenGiven old mid holder sinks given → k < length sinks → next.file ≡ (get_or sinks k d).file → AreLive live (files_of sinks) → KeepsHolders live holder later → Passes mid new (holder (get_or sinks k d).file.n) ((get_or sinks k d).waiting ++ more) next.waiting result → OnOk result (HaveBeenGiven old new later (set sinks k next) (with_more k more given)) × OnErr result (StandsInPart old new (with_more k more given))
+pub HaveBeenGiven-passes : {T E : Type 0} (result : Result T E) (old mid new : Names) (live : ℕ → Bool) (holder later : ℕ → List ℕ) (sinks : List Sink) (k : ℕ) (d next : Sink) (more : List ℕ) (given : List Output) → HaveBeenGiven old mid holder sinks given → k < length sinks → next.file ≡ (get_or sinks k d).file → AreLive live (ids_of sinks) → KeepsHolders live holder later → Passes mid new (holder (get_or sinks k d).file.n) ((get_or sinks k d).waiting ++ more) next.waiting result → OnOk result (HaveBeenGiven old new later (set sinks k next) (with_more k more given)) × OnErr result (StandsInPart old new (with_more k more given))
 HaveBeenGiven-passes (Ok done) old mid new live holder later sinks k d next more given has below same are kept passes =
     (HaveBeenGiven-on old mid new live holder later sinks k d next more given has below same are kept passes, tt)
 HaveBeenGiven-passes (Err fault) old mid new live holder later sinks k d next more given has below same are kept passes =
     (tt, HaveBeenGiven-part old new later _ _ (HaveBeenGiven-on old mid new live holder later sinks k d (record { file = (get_or sinks k d).file; waiting = passes.left }) more given has below refl are kept passes.passed))
 
 -- the same of the k-th of the files as it was and as it is
-pub HaveBeenGiven-wrote : {T E : Type 0} (result : Result T E) (old mid new : Names) (live : ℕ → Bool) (holder later : ℕ → List ℕ) (sinks : List Sink) (k : ℕ) (was next : Sink) (more : List ℕ) (given : List Output) → was ≡ get_or sinks k was → next.file ≡ was.file → k < length sinks → AreLive live (files_of sinks) → KeepsHolders live holder later → Passes mid new (holder was.file.n) (was.waiting ++ more) next.waiting result → HaveBeenGiven old mid holder sinks given → OnOk result (HaveBeenGiven old new later (set sinks k next) (with_more k more given)) × OnErr result (StandsInPart old new (with_more k more given))
+pub HaveBeenGiven-wrote : {T E : Type 0} (result : Result T E) (old mid new : Names) (live : ℕ → Bool) (holder later : ℕ → List ℕ) (sinks : List Sink) (k : ℕ) (was next : Sink) (more : List ℕ) (given : List Output) → was ≡ get_or sinks k was → next.file ≡ was.file → k < length sinks → AreLive live (ids_of sinks) → KeepsHolders live holder later → Passes mid new (holder was.file.n) (was.waiting ++ more) next.waiting result → HaveBeenGiven old mid holder sinks given → OnOk result (HaveBeenGiven old new later (set sinks k next) (with_more k more given)) × OnErr result (StandsInPart old new (with_more k more given))
 HaveBeenGiven-wrote result old mid new live holder later sinks k was next more given is same below are kept passes has =
     HaveBeenGiven-passes result old mid new live holder later sinks k was next more given has below (same ∙ ap (λ (s : Sink). s.file) is) are kept
     (subst (λ (s : Sink). Passes mid new (holder s.file.n) (s.waiting ++ more) next.waiting result) is passes)
 
 -- what waits is written
-pub HaveBeenGiven-flushed : {T E : Type 0} (result : Result T E) (old mid new : Names) (live : ℕ → Bool) (holder later : ℕ → List ℕ) (sinks : List Sink) (k : ℕ) (was next : Sink) (given : List Output) → was ≡ get_or sinks k was → next.file ≡ was.file → k < length sinks → AreLive live (files_of sinks) → KeepsHolders live holder later → Passes mid new (holder was.file.n) was.waiting next.waiting result → HaveBeenGiven old mid holder sinks given → OnOk result (HaveBeenGiven old new later (set sinks k next) given) × OnErr result (StandsInPart old new given)
+pub HaveBeenGiven-flushed : {T E : Type 0} (result : Result T E) (old mid new : Names) (live : ℕ → Bool) (holder later : ℕ → List ℕ) (sinks : List Sink) (k : ℕ) (was next : Sink) (given : List Output) → was ≡ get_or sinks k was → next.file ≡ was.file → k < length sinks → AreLive live (ids_of sinks) → KeepsHolders live holder later → Passes mid new (holder was.file.n) was.waiting next.waiting result → HaveBeenGiven old mid holder sinks given → OnOk result (HaveBeenGiven old new later (set sinks k next) given) × OnErr result (StandsInPart old new given)
 HaveBeenGiven-flushed result old mid new live holder later sinks k was next given is same below are kept passes has =
     subst (λ (outputs : List Output). OnOk result (HaveBeenGiven old new later (set sinks k next) outputs) × OnErr result (StandsInPart old new outputs)) (with_more-none k given)
     (HaveBeenGiven-wrote result old mid new live holder later sinks k was next [] given is same below are kept
@@ -142,7 +142,7 @@ names_of-added : (outputs : List Output) (o : Output) → names_of (outputs ++ o
 names_of-added [] o = refl
 names_of-added (first ∷ os) o = ap (λ (names : List (List ℕ)). first.name ∷ names) (names_of-added os o)
 
-holders_of-added : (holder : ℕ → List ℕ) (sinks : List Sink) (s : Sink) → holders_of holder (files_of (sinks ++ s ∷ [])) ≡ holders_of holder (files_of sinks) ++ holder s.file.n ∷ []
+holders_of-added : (holder : ℕ → List ℕ) (sinks : List Sink) (s : Sink) → holders_of holder (ids_of (sinks ++ s ∷ [])) ≡ holders_of holder (ids_of sinks) ++ holder s.file.n ∷ []
 holders_of-added holder [] s = refl
 holders_of-added holder (first ∷ ss) s = ap (λ (names : List (List ℕ)). holder first.file.n ∷ names) (holders_of-added holder ss s)
 
@@ -155,11 +155,11 @@ pub AreApart-added : (names : List (List ℕ)) (name : List ℕ) → AreApart na
 AreApart-added [] name apart others = (tt, tt)
 AreApart-added (first ∷ names) name apart others = (AreOthers-added first name names apart.0 (λ is. others.0 (sym is)), AreApart-added names name apart.1 others.1)
 
-pub HaveBeenGiven-added : (old mid new : Names) (live : ℕ → Bool) (holder later : ℕ → List ℕ) (sinks : List Sink) (s : Sink) (given : List Output) (name : List ℕ) → HaveBeenGiven old mid holder sinks given → new ≡ with_content mid name [] → s.waiting ≡ [] → later s.file.n ≡ name → AreLive live (files_of sinks) → KeepsHolders live holder later → AreOthers name (holders_of holder (files_of sinks)) → HaveBeenGiven old new later (sinks ++ s ∷ []) (given ++ empty name ∷ [])
+pub HaveBeenGiven-added : (old mid new : Names) (live : ℕ → Bool) (holder later : ℕ → List ℕ) (sinks : List Sink) (s : Sink) (given : List Output) (name : List ℕ) → HaveBeenGiven old mid holder sinks given → new ≡ with_content mid name [] → s.waiting ≡ [] → later s.file.n ≡ name → AreLive live (ids_of sinks) → KeepsHolders live holder later → AreOthers name (holders_of holder (ids_of sinks)) → HaveBeenGiven old new later (sinks ++ s ∷ []) (given ++ empty name ∷ [])
 HaveBeenGiven-added old mid new live holder later sinks s given name has made none under are kept others =
-    let same : holders_of later (files_of sinks) ≡ holders_of holder (files_of sinks) = holders_of-kept live holder later (files_of sinks) are kept in
-    let named : holders_of later (files_of (sinks ++ s ∷ [])) ≡ holders_of holder (files_of sinks) ++ name ∷ [] =
-    holders_of-added later sinks s ∙ ap (λ (names : List (List ℕ)). names ++ later s.file.n ∷ []) same ∙ ap (λ (n : List ℕ). holders_of holder (files_of sinks) ++ n ∷ []) under in
+    let same : holders_of later (ids_of sinks) ≡ holders_of holder (ids_of sinks) = holders_of-kept live holder later (ids_of sinks) are kept in
+    let named : holders_of later (ids_of (sinks ++ s ∷ [])) ≡ holders_of holder (ids_of sinks) ++ name ∷ [] =
+    holders_of-added later sinks s ∙ ap (λ (names : List (List ℕ)). names ++ later s.file.n ∷ []) same ∙ ap (λ (n : List ℕ). holders_of holder (ids_of sinks) ++ n ∷ []) under in
     record {
       stand = has.stand ++ empty name ∷ [];
       names = made ∙ ap (λ (n : Names). with_content n name []) has.names ∙ sym (with_outputs-added old has.stand (empty name));
@@ -167,7 +167,7 @@ HaveBeenGiven-added old mid new live holder later sinks s given name has made no
           ∙ ap (λ (octets : List ℕ). with_waiting has.stand sinks ++ with_end octets (empty name) ∷ []) (sym none)
           ∙ sym (with_waiting-added has.stand sinks (empty name) s (HaveBeenGiven-length has));
       holders = names_of-added has.stand (empty name) ∙ ap (λ (names : List (List ℕ)). names ++ name ∷ []) has.holders ∙ sym named;
-      apart = subst AreApart (sym named) (AreApart-added (holders_of holder (files_of sinks)) name has.apart others);
+      apart = subst AreApart (sym named) (AreApart-added (holders_of holder (ids_of sinks)) name has.apart others);
     }
 
 -- another output, which was made in the place of what stood there
@@ -188,20 +188,20 @@ HaveBeenGiven-refused old mid new holder sinks given name has (inr made) = recor
 }
 
 -- as many files as before
-pub length-same : (sinks now : List Sink) → files_of now ≡ files_of sinks → length now ≡ length sinks
-length-same sinks now same = sym (length-files_of now) ∙ ap length same ∙ length-files_of sinks
+pub length-same : (sinks now : List Sink) → ids_of now ≡ ids_of sinks → length now ≡ length sinks
+length-same sinks now same = sym (length-ids_of now) ∙ ap length same ∙ length-ids_of sinks
 
 -- ---- what a call gives, by its answer
 
 -- a call that wrote to one of the outputs gives it more
-pub Gives-wrote : {S T E : Type 0} (f : Ghosts S) (old new : S) (result : Result T E) (live : ℕ → Bool) (sinks : List Sink) (k : ℕ) (was next : Sink) (more : List ℕ) → was ≡ get_or sinks k was → next.file ≡ was.file → k < length sinks → AreLive live (files_of sinks) → KeepsHolders live (f.holder old) (f.holder new) → Passes (f.names old) (f.names new) (f.holder old was.file.n) (was.waiting ++ more) next.waiting result → Gives f old new sinks (set sinks k next) (with_more k more) result
+pub Gives-wrote : {S T E : Type 0} (f : Ghosts S) (old new : S) (result : Result T E) (live : ℕ → Bool) (sinks : List Sink) (k : ℕ) (was next : Sink) (more : List ℕ) → was ≡ get_or sinks k was → next.file ≡ was.file → k < length sinks → AreLive live (ids_of sinks) → KeepsHolders live (f.holder old) (f.holder new) → Passes (f.names old) (f.names new) (f.holder old was.file.n) (was.waiting ++ more) next.waiting result → Gives f old new sinks (set sinks k next) (with_more k more) result
 Gives-wrote {T = T} {E = E} f old new (Ok done) live sinks k was next more is same below are kept passes = λ since given has.
     (HaveBeenGiven-wrote {T = T} {E = E} (Ok done) since (f.names old) (f.names new) live (f.holder old) (f.holder new) sinks k was next more given is same below are kept passes has).0
 Gives-wrote {T = T} {E = E} f old new (Err fault) live sinks k was next more is same below are kept passes = λ since given has.
     (HaveBeenGiven-wrote {T = T} {E = E} (Err fault) since (f.names old) (f.names new) live (f.holder old) (f.holder new) sinks k was next more given is same below are kept passes has).1
 
 -- a call that wrote what waits gives nothing more
-pub Gives-flushed : {S T E : Type 0} (f : Ghosts S) (old new : S) (result : Result T E) (live : ℕ → Bool) (sinks : List Sink) (k : ℕ) (was next : Sink) → was ≡ get_or sinks k was → next.file ≡ was.file → k < length sinks → AreLive live (files_of sinks) → KeepsHolders live (f.holder old) (f.holder new) → Passes (f.names old) (f.names new) (f.holder old was.file.n) was.waiting next.waiting result → Gives f old new sinks (set sinks k next) (λ given. given) result
+pub Gives-flushed : {S T E : Type 0} (f : Ghosts S) (old new : S) (result : Result T E) (live : ℕ → Bool) (sinks : List Sink) (k : ℕ) (was next : Sink) → was ≡ get_or sinks k was → next.file ≡ was.file → k < length sinks → AreLive live (ids_of sinks) → KeepsHolders live (f.holder old) (f.holder new) → Passes (f.names old) (f.names new) (f.holder old was.file.n) was.waiting next.waiting result → Gives f old new sinks (set sinks k next) (λ given. given) result
 Gives-flushed {T = T} {E = E} f old new (Ok done) live sinks k was next is same below are kept passes = λ since given has.
     (HaveBeenGiven-flushed {T = T} {E = E} (Ok done) since (f.names old) (f.names new) live (f.holder old) (f.holder new) sinks k was next given is same below are kept passes has).0
 Gives-flushed {T = T} {E = E} f old new (Err fault) live sinks k was next is same below are kept passes = λ since given has.
@@ -225,7 +225,7 @@ names_of-waiting (o ∷ os) [] same = absurd (omega (arith, same))
 names_of-waiting (o ∷ os) (s ∷ ss) same = ap (λ (names : List (List ℕ)). o.name ∷ names) (names_of-waiting os ss (omega (arith, same)))
 
 -- the outputs have the names of what was given
-pub HaveBeenGiven-names : (old new : Names) (holder : ℕ → List ℕ) (sinks : List Sink) (given : List Output) → HaveBeenGiven old new holder sinks given → holders_of holder (files_of sinks) ≡ names_of given
+pub HaveBeenGiven-names : (old new : Names) (holder : ℕ → List ℕ) (sinks : List Sink) (given : List Output) → HaveBeenGiven old new holder sinks given → holders_of holder (ids_of sinks) ≡ names_of given
 HaveBeenGiven-names old new holder sinks given has =
     sym has.holders ∙ sym (names_of-waiting has.stand sinks (HaveBeenGiven-length has)) ∙ ap names_of (sym has.whole)
 
@@ -233,10 +233,10 @@ HaveBeenGiven-names old new holder sinks given has =
 pub HaveBeenGiven-count : (old new : Names) (holder : ℕ → List ℕ) (sinks : List Sink) (given : List Output) → HaveBeenGiven old new holder sinks given → length given ≡ length sinks
 HaveBeenGiven-count old new holder sinks given has =
     sym (length_of_map (λ (o : Output). o.name) given) ∙ ap length (sym (HaveBeenGiven-names old new holder sinks given has))
-    ∙ length_of_map (λ (f : FileId). holder f.n) (files_of sinks) ∙ length-files_of sinks
+    ∙ length_of_map (λ (f : FileId). holder f.n) (ids_of sinks) ∙ length-ids_of sinks
 
 -- a name that none of these outputs has may be that of another one
-pub HaveBeenGiven-apart : (old new : Names) (holder : ℕ → List ℕ) (sinks : List Sink) (given : List Output) (name : List ℕ) → HaveBeenGiven old new holder sinks given → AreOthers name (names_of given) → AreOthers name (holders_of holder (files_of sinks))
+pub HaveBeenGiven-apart : (old new : Names) (holder : ℕ → List ℕ) (sinks : List Sink) (given : List Output) (name : List ℕ) → HaveBeenGiven old new holder sinks given → AreOthers name (names_of given) → AreOthers name (holders_of holder (ids_of sinks))
 HaveBeenGiven-apart old new holder sinks given name has others = subst (AreOthers name) (sym (HaveBeenGiven-names old new holder sinks given has)) others
 
 -- after a flush all stands whole, or in part

@@ -1,5 +1,4 @@
 pub mod DraftsLemmas
-pub mod EndsLemmas
 pub mod FilesLemmas
 pub mod GivenLemmas
 pub mod OutputsLemmas

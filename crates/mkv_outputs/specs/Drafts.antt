@@ -13,7 +13,7 @@ pub record Patch : Type 0 where
 -- A name, what is appended to it, and what is then written over that, in this order.
 pub record Draft : Type 0 where
   pub name : List ℕ
-  pub opened : List ℕ
+  pub appended : List ℕ
   pub patches : List Patch
 
 -- octets after each of these patches was written over them
@@ -23,7 +23,7 @@ patched bytes (p ∷ ps) = patched (overwritten bytes p.at p.octets) ps
 
 -- the output that a draft becomes
 abbrev pub output_of : Draft → Output
-output_of d = record { name = d.name; content = patched d.opened d.patches }
+output_of d = record { name = d.name; content = patched d.appended d.patches }
 
 abbrev pub outputs_of : List Draft → List Output
 outputs_of drafts = map output_of drafts
@@ -35,14 +35,14 @@ IsPatchedAt k (p ∷ ps) = ((p.at ≤ k) × (k < p.at + length p.octets)) ⊎ Is
 
 -- As many octets as were appended, which differ from these in the places of the patches only.
 pub record IsPatched (octets : List ℕ) (d : Draft) : Type 0 where
-  pub count : length octets ≡ length d.opened
-  pub each : (k : ℕ) → (slice_index octets k ≡ slice_index d.opened k) ⊎ IsPatchedAt k d.patches
+  pub count : length octets ≡ length d.appended
+  pub each : (k : ℕ) → (slice_index octets k ≡ slice_index d.appended k) ⊎ IsPatchedAt k d.patches
 
 -- An output is what stands of a draft on the way: a first part of what is appended, or all of it, changed in
 -- its patches.
 pub record IsDrafted (o : Output) (d : Draft) : Type 0 where
   pub name : o.name ≡ d.name
-  pub content : IsStart o.content d.opened ⊎ IsPatched o.content d
+  pub content : IsStart o.content d.appended ⊎ IsPatched o.content d
 
 -- These are the first drafts of a list, each of them whole, but for the last one, which may be on the way.
 abbrev pub AreDrafted : List Output → List Draft → Type 0

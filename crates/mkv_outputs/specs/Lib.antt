@@ -1,6 +1,6 @@
 pub mod Drafts
-pub mod Ends
 pub mod Outputs
 pub mod Sinks
 pub mod Starts
+pub mod Waiting
 pub mod Written

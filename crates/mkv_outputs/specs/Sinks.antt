@@ -12,9 +12,9 @@ use Rattle.mkv_outputs.specs.Outputs.{Output, names_of, with_end, with_outputs}
 use Rattle.mkv_outputs.specs.Starts.{StandsInPart}
 use Rattle.mkv_outputs.specs.declared.sink.Sink.{Sink}
 
--- the files of outputs, in their order
-abbrev pub files_of : List Sink → List FileId
-files_of sinks = map (λ (s : Sink). s.file) sinks
+-- the numbers of the files of outputs, in their order
+abbrev pub ids_of : List Sink → List FileId
+ids_of sinks = map (λ (s : Sink). s.file) sinks
 
 -- ---- the files
 
@@ -30,26 +30,26 @@ AreRising list = AllPairs (λ (a b : FileId). a.n < b.n) list
 abbrev pub IsNoneOf : ℕ → List FileId → Type 0
 IsNoneOf file list = All (λ (f : FileId). f.n ≢ file) list
 
--- The files of outputs are live, and each has a number of its own.
+-- The files of outputs are live, and their numbers rise.
 pub record AreOpen {S : Type 0} (r : Ghosts S) (files : S) (sinks : List Sink) : Type 0 where
-  pub live : AreLive (live_files r files).live (files_of sinks)
-  pub rising : AreRising (files_of sinks)
+  pub live : AreLive (live_files r files).live (ids_of sinks)
+  pub rising : AreRising (ids_of sinks)
 
 -- the names under which these files were opened
 abbrev pub holders_of : (ℕ → List ℕ) → List FileId → List (List ℕ)
 holders_of holder list = map (λ (f : FileId). holder f.n) list
 
--- the names of outputs
+-- the names under which the files of outputs were opened
 abbrev pub names_under : {S : Type 0} → writing.Ghosts S → S → List Sink → List (List ℕ)
-names_under f files sinks = holders_of (f.holder files) (files_of sinks)
+names_under f files sinks = holders_of (f.holder files) (ids_of sinks)
 
 -- An output of this name is made, or isn't: no other file becomes live, live files keep their names, and those of other
 -- names stay. Nothing is read.
 pub record MakesOnly {S : Type 0} (r : Ghosts S) (f : writing.Ghosts S) (name : List ℕ) (old new : S) (sinks later : List Sink) : Type 0 where
   pub outputs : AreOpen r new later
-  pub newer : (least : ℕ) → least ≤ f.given old → All (λ (s : FileId). least ≤ s.n) (files_of sinks) → All (λ (s : FileId). least ≤ s.n) (files_of later)
-  pub among : (file : ℕ) → IsNoneOf file (files_of later) → IsNoneOf file (files_of sinks)
-  pub besides : (file : ℕ) → IsNoneOf file (files_of later) → (live_files r new).live file ≡ (live_files r old).live file
+  pub newer : (least : ℕ) → least ≤ f.given old → All (λ (s : FileId). least ≤ s.n) (ids_of sinks) → All (λ (s : FileId). least ≤ s.n) (ids_of later)
+  pub among : (file : ℕ) → IsNoneOf file (ids_of later) → IsNoneOf file (ids_of sinks)
+  pub besides : (file : ℕ) → IsNoneOf file (ids_of later) → (live_files r new).live file ≡ (live_files r old).live file
   pub given : f.given old ≤ f.given new
   pub alive : (file : ℕ) → file < f.given old → (live_files r new).live file ≡ (live_files r old).live file
   pub holders : KeepsHolders (live_files r old).live (f.holder old) (f.holder new)
@@ -57,9 +57,9 @@ pub record MakesOnly {S : Type 0} (r : Ghosts S) (f : writing.Ghosts S) (name : 
   pub reading : r.reading_faults new ≡ r.reading_faults old
   pub octets : r.octets_read new ≡ r.octets_read old
 
--- Outputs are written: their files are the same and stay open, and nothing but their names is written.
+-- Outputs are written: their files are the same and stay open, and of the live files only those of their names are written.
 pub record WritesOutputs {S : Type 0} (r : Ghosts S) (f : writing.Ghosts S) (old new : S) (sinks later : List Sink) : Type 0 where
-  pub same : files_of later ≡ files_of sinks
+  pub same : ids_of later ≡ ids_of sinks
   pub outputs : AreOpen r new later
   pub only : WritesOnly r f (names_under f old sinks) old new
 
@@ -77,8 +77,8 @@ pub record EndsOnly {S : Type 0} (r : Ghosts S) (f : writing.Ghosts S) (old new 
 -- Since the files were so, these outputs were made, and names among these were written: every other file is live as
 -- before, each keeps its name, and the files of other names stay the same.
 pub record MadeSince {S : Type 0} (r : Ghosts S) (f : writing.Ghosts S) (names : List (List ℕ)) (old new : S) (sinks : List Sink) : Type 0 where
-  pub newer : All (λ (s : FileId). f.given old ≤ s.n) (files_of sinks)
-  pub besides : (file : ℕ) → IsNoneOf file (files_of sinks) → (live_files r new).live file ≡ (live_files r old).live file
+  pub newer : All (λ (s : FileId). f.given old ≤ s.n) (ids_of sinks)
+  pub besides : (file : ℕ) → IsNoneOf file (ids_of sinks) → (live_files r new).live file ≡ (live_files r old).live file
   pub given : f.given old ≤ f.given new
   pub holders : KeepsHolders (live_files r old).live (f.holder old) (f.holder new)
   pub others : KeepsFiles (live_files r old) (live_files r new) (λ file. ((live_files r old).live file ≡ true) × AreOthers (f.holder old file) names)
@@ -96,8 +96,8 @@ pub record HaveBeenGiven (old new : Names) (holder : ℕ → List ℕ) (sinks : 
   pub stand : List Output
   pub names : new ≡ with_outputs old stand
   pub whole : given ≡ with_waiting stand sinks
-  pub holders : names_of stand ≡ holders_of holder (files_of sinks)
-  pub apart : AreApart (holders_of holder (files_of sinks))
+  pub holders : names_of stand ≡ holders_of holder (ids_of sinks)
+  pub apart : AreApart (holders_of holder (ids_of sinks))
 
 -- Whatever the outputs were given before, they have then been given what the call makes of it. After a refusal that
 -- stands in part.

@@ -4,7 +4,7 @@ ghost use Rattle.std.specs.Prelude.{◌≡◌, ◌+◌, ◌<◌, [], length, OnE
 ghost use Rattle.mkv_io.specs.Faults.{HasCause, is_make_failure};
 ghost use Rattle.mkv_io.specs.Names.{AreOthers};
 ghost use Rattle.mkv_outputs.specs.Outputs.{with_empty, with_more};
-ghost use Rattle.mkv_outputs.specs.Sinks.{AreOpen, ArePassed, EndsOnly, Finishes, Gives, MakesOnly, WritesOutputs, files_of, names_under};
+ghost use Rattle.mkv_outputs.specs.Sinks.{AreOpen, ArePassed, EndsOnly, Finishes, Gives, MakesOnly, WritesOutputs, ids_of, names_under};
 
 use crate::sink::{ROOM, Sink, flush, write};
 use mkv_io::Files;
@@ -29,7 +29,11 @@ impl Model for Outputs {
 
     ghost Value = { List Sink };
 
+    ghost use Rattle.mkv_outputs.specs.Waiting.{EachWaitsFew};
+
     ghost view = { λ outputs. outputs.sinks.items };
+
+    ghost invariant = { λ outputs. EachWaitsFew outputs.sinks.items };
 }
 
 impl Outputs {
@@ -92,6 +96,8 @@ impl Outputs {
     pub fn flush<F: Files>(&mut self, files: &mut F) -> Result<(), MakeFault>
         requires { AreOpen F.Reads files.old self.old }
         ensures finishes { Finishes F.Files.own files.old files.new self.old result }
+        ensures gives { Gives F.Files.own files.old files.new self.old self.new (λ given. given) result }
+        ensures passed { OnOk result (ArePassed (length self.new) self.new) }
         ensures only { WritesOutputs F.Reads F.Files.own files.old files.new self.old self.new }
         ensures cause { HasCause is_make_failure (F.writing_faults files.old) (F.writing_faults files.new) result }
     {
@@ -104,7 +110,7 @@ impl Outputs {
     /// Ends the files of the outputs, whatever was answered before. What waits is dropped.
     pub fn close<F: Files>(self, files: &mut F)
         requires { AreOpen F.Reads files.old self }
-        ensures { EndsOnly F.Reads F.Files.own files.old files.new (files_of self) }
+        ensures { EndsOnly F.Reads F.Files.own files.old files.new (ids_of self) }
     {
         for sink in &self.sinks {
             files.close(sink.file);

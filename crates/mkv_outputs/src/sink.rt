@@ -5,6 +5,7 @@ ghost use Rattle.mkv_io.specs.Faults.{HasCause, is_make_failure};
 ghost use Rattle.mkv_io.specs.Sources.{IsLive};
 ghost use Rattle.mkv_io.specs.Writing.{WritesOnly};
 ghost use Rattle.mkv_outputs.specs.Written.{PassesTo};
+ghost use Rattle.mkv_outputs.specs.Waiting.{WaitFew};
 
 use mkv_io::Files;
 use mkv_values::{Bytes, FileId, MakeFault};
@@ -21,9 +22,11 @@ pub struct Sink {
 
 /// Writes what waits.
 pub fn flush<F: Files>(sink: &mut Sink, files: &mut F) -> Result<(), MakeFault>
-    requires { IsLive F.Reads files.old sink.old.file }
+    requires live { IsLive F.Reads files.old sink.old.file }
+    requires few { WaitFew sink.old }
     ensures ok { OnOk result (sink.new.waiting ≡ []) }
     ensures passes { PassesTo F.Files.own sink.old.file files.old files.new sink.old.waiting sink.new.waiting result }
+    ensures few { WaitFew sink.new }
     ensures file { sink.new.file ≡ sink.old.file }
     ensures only { WritesOnly F.Reads F.Files.own (F.holder files.old sink.old.file.n ∷ []) files.old files.new }
     ensures cause { HasCause is_make_failure (F.writing_faults files.old) (F.writing_faults files.new) result }
@@ -37,9 +40,11 @@ pub fn flush<F: Files>(sink: &mut Sink, files: &mut F) -> Result<(), MakeFault>
 
 /// Writes octets, which may wait.
 pub fn write<F: Files>(sink: &mut Sink, files: &mut F, bytes: &[u8]) -> Result<(), MakeFault>
-    requires { IsLive F.Reads files.old sink.old.file }
+    requires live { IsLive F.Reads files.old sink.old.file }
+    requires few { WaitFew sink.old }
     ensures passes { PassesTo F.Files.own sink.old.file files.old files.new (sink.old.waiting ++ bytes.now)
         sink.new.waiting result }
+    ensures few { WaitFew sink.new }
     ensures file { sink.new.file ≡ sink.old.file }
     ensures only { WritesOnly F.Reads F.Files.own (F.holder files.old sink.old.file.n ∷ []) files.old files.new }
     ensures cause { HasCause is_make_failure (F.writing_faults files.old) (F.writing_faults files.new) result }
@@ -52,11 +57,12 @@ pub fn write<F: Files>(sink: &mut Sink, files: &mut F, bytes: &[u8]) -> Result<(
     pass(sink, files, bytes)
 }
 
-// Writes octets where none wait: many at once, and few wait.
+/// Writes octets where none wait: at once where they would fill the buffer, else they wait.
 fn pass<F: Files>(sink: &mut Sink, files: &mut F, bytes: &[u8]) -> Result<(), MakeFault>
     requires live { IsLive F.Reads files.old sink.old.file }
     requires none { sink.old.waiting ≡ [] }
     ensures passes { PassesTo F.Files.own sink.old.file files.old files.new bytes.now sink.new.waiting result }
+    ensures few { WaitFew sink.new }
     ensures file { sink.new.file ≡ sink.old.file }
     ensures only { WritesOnly F.Reads F.Files.own (F.holder files.old sink.old.file.n ∷ []) files.old files.new }
     ensures cause { HasCause is_make_failure (F.writing_faults files.old) (F.writing_faults files.new) result }

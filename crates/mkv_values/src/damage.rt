@@ -51,7 +51,7 @@ pub enum Kind {
     NoTimestamp,
     /// Something is there more often, or deeper, than the limit.
     TooMany,
-    /// An Element other than Segment or Cluster has an unknown size.
+    /// An Element has an unknown size that is neither a Segment at level 0 nor a Cluster in its Segment.
     UnknownSize,
     /// A frame isn't of its codec's form.
     BadFrame,

@@ -36,10 +36,6 @@ is_leaf (master id at kids) = false
 abbrev pub IsMaster : Node → Type 0
 IsMaster n = is_leaf n ≡ false
 
--- it has octets
-abbrev pub IsLeaf : Node → Type 0
-IsLeaf n = is_leaf n ≡ true
-
 -- a leaf's octets
 abbrev pub body_of : Node → List ℕ
 body_of (leaf id at body) = body

@@ -1,4 +1,5 @@
--- What the octets of a master that is read whole mean: RFC 8794, section 7.7 (Master Element).
+-- What the octets of a master that is read whole mean, one behind the other: RFC 8794, section 7.7 (Master Element).
+-- `Order` says the same over all its Elements.
 use Rattle.std.specs.Prelude.{ℕ, zero, suc, ◌+◌, ◌-◌, ◌==◌, Bool, ◌&&◌, if◌then◌else◌, List, [], ◌∷◌, length, take, drop, Result, Ok, Err}
 use Rattle.mkv_schema.specs.Schema.{is_master, may_stand}
 use Rattle.mkv_values.specs.declared.damage.Damage.{Damage}

@@ -25,7 +25,7 @@ pub enum SplitWords {
     Parts { spans: List<SpanWords> },
     /// At the start of each chapter.
     AllChapters,
-    /// At the start of these chapters, from 1.
+    /// At the start of these chapters, the first being 1; a number that no chapter has is accepted here.
     Chapters { numbers: List<u64> },
     /// After so many octets of blocks.
     Size { limit: u64 },

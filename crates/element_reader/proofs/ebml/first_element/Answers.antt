@@ -1,4 +1,4 @@
-use Rattle.std.proofs.Common.{◌≡◌, ℕ, ◌-◌, ◌≤◌, arith, min, nat_eq, List, length, take, drop, sym, ◌∙◌, ap}
+use Rattle.std.proofs.Common.{◌≡◌, Err, ℕ, ◌-◌, ◌≤◌, arith, min, nat_eq, List, length, take, drop, sym, ◌∙◌, ap}
 use Rattle.std.specs.List.{starts_with}
 use Rattle.mkv_io.specs.Contents.{octets_from}
 use Rattle.matroska_format.specs.Element.{at_level_0, element_in, stated_end}
@@ -16,7 +16,7 @@ returns-then-not-starts_with-clause-ok g c = λ bytes told.
     let len = c.min-len.result in
     let octets = c.octets_at-octets.ensures ∙ ap (octets_from c.hold.new.self.octets (0 - c.hold.new.self.at)) c.from.ensures ∙ octets_from-held bytes c.hold.new.self 0 len (c.hold.ensures.holds bytes told) c.in_ok-hold.ensures.looks.range in
     let test = c.starts_with.ensures.value ∙ ap (λ (o : List ℕ). starts_with nat_eq o ebml_mark) octets ∙ starts_with-front bytes len (c.min-len.ensures ∙ ap (λ n. min n 12) total) in
-    first_element-other bytes c.starts_with.result test c.if-not-starts_with.true
+    ap Err c.damage.ensures ∙ first_element-other bytes c.starts_with.result test c.if-not-starts_with.true
 
 -- what is held of the file is enough for a header
 pub returns-clause-ok : goal.returns-clause-ok

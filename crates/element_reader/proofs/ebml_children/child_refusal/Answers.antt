@@ -1,4 +1,4 @@
-use Rattle.std.proofs.Common.{◌+◌, ◌≤◌, length, sym, ◌∙◌, ap, arith}
+use Rattle.std.proofs.Common.{Some, ◌+◌, ◌≤◌, length, sym, ◌∙◌, ap, arith}
 use Rattle.mkv_schema.specs.declared.ids.TheConstants.{EBML}
 use Rattle.matroska_format.specs.Value.{is_known_value}
 use Rattle.element_reader.specs.EbmlChildren.{children, child_refusal}
@@ -11,7 +11,7 @@ returns-then-not-is_known_value c = λ bytes is.
     let e = c.args.base + length c.args.body.now in
     let h = c.in-Ok.child in
     let bad = sym (c.is_known_value.ensures ∙ ap (is_known_value EBML h.id) (c.body_in.ensures bytes c.args.total is)) ∙ c.if-not-is_known_value.true in
-    sym (c.loop-at.invariant.rest bytes is ∙ child_refusal-bad bytes c.loop-at.at e h c.loop-at-test.true (c.in-Ok.ensures.exact bytes is) bad)
+    ap Some c.damage_at.ensures ∙ sym (c.loop-at.invariant.rest bytes is ∙ child_refusal-bad bytes c.loop-at.at e h c.loop-at-test.true (c.in-Ok.ensures.exact bytes is) bad)
 
 -- a damage stands among them
 pub returns-in-Err : goal.returns-in-Err

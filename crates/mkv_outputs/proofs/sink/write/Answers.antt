@@ -17,5 +17,5 @@ returns-in_err-flush-clause-passes g c =
 pub returns-clause-passes : goal.returns-clause-passes
 returns-clause-passes g c =
     Passes-behind c.pass.result _ _ _ _ _ c.args.sink.now.waiting c.args.bytes.now _ _ c.in_ok-flush.ensures.ok
-    (ap (λ (f : FileId). g.F.Files.holder c.flush.new.files f.n) c.flush.ensures.file ∙ c.flush.ensures.only.kept.holders c.args.sink.now.file.n c.requires)
+    (ap (λ (f : FileId). g.F.Files.holder c.flush.new.files f.n) c.flush.ensures.file ∙ c.flush.ensures.only.kept.holders c.args.sink.now.file.n c.requires.live)
     c.in_ok-flush.ensures.passes c.pass.ensures.passes

@@ -1,7 +1,7 @@
 use Rattle.mkv_values.specs.declared.outside.FileId.{FileId}
 use Rattle.std.proofs.Common.{ℕ, length, ◌<◌, ◌≡◌, ◌++◌, ◌∷◌, [], List, ap, arith, inl, refl, sym, subst, ◌∙◌}
 use Rattle.mkv_outputs.specs.Outputs.{empty}
-use Rattle.mkv_outputs.specs.Sinks.{HaveBeenGiven, MakesOnly, files_of}
+use Rattle.mkv_outputs.specs.Sinks.{HaveBeenGiven, MakesOnly, ids_of}
 use Rattle.mkv_outputs.specs.declared.sink.Sink.{Sink}
 use Rattle.mkv_outputs.proofs.FilesLemmas.{AreLive-added, AreLive-below, AreNewer-added, AreRising-added, IsNoneOf-added}
 use Rattle.mkv_outputs.proofs.GivenLemmas.{Gives-refused, HaveBeenGiven-added}
@@ -32,11 +32,11 @@ pub returns-clause-only : goal.returns-clause-only
 returns-clause-only g c =
     let added : c.push_reserved.new.self.items ≡ c.args.self.now ++ record { file = c.in_ok-file.file; waiting = c.in_ok-waiting.waiting } ∷ [] =
     c.push_reserved.ensures.items ∙ ap (λ (ss : List Sink). ss ++ record { file = c.in_ok-file.file; waiting = c.in_ok-waiting.waiting } ∷ []) (c.reserve.ensures.items ∙ c.self.view_is) in
-    let numbered = λ (k : ℕ) (d : FileId) (below : k < length (files_of c.args.self.now)). g.met.F.Files.numbered c.args.files.now _ (c.requires.outputs.live k d below) in
+    let numbered = λ (k : ℕ) (d : FileId) (below : k < length (ids_of c.args.self.now)). g.met.F.Files.numbered c.args.files.now _ (c.requires.outputs.live k d below) in
     subst (λ (ss : List Sink). MakesOnly g.F.Reads g.F.Files c.args.name.now c.args.files.now c.create.new.self c.args.self.now ss) (sym added) (record {
       outputs = record {
         live = AreLive-added (g.F.Reads.files (g.F.Reads.standing c.create.new.self)).live c.args.self.now (record { file = c.in_ok-file.file; waiting = c.in_ok-waiting.waiting })
-            (AreLive-below (g.F.Reads.files (g.F.Reads.standing c.args.files.now)).live (g.F.Reads.files (g.F.Reads.standing c.create.new.self)).live (g.F.Files.given c.args.files.now) (files_of c.args.self.now)
+            (AreLive-below (g.F.Reads.files (g.F.Reads.standing c.args.files.now)).live (g.F.Reads.files (g.F.Reads.standing c.create.new.self)).live (g.F.Files.given c.args.files.now) (ids_of c.args.self.now)
             c.requires.outputs.live (λ file live. g.met.F.Files.numbered c.args.files.now file live) c.create.ensures.alive)
             c.in_ok-file.ensures.live;
         rising = AreRising-added (g.F.Files.given c.args.files.now) c.args.self.now (record { file = c.in_ok-file.file; waiting = c.in_ok-waiting.waiting }) c.requires.outputs.rising numbered c.in_ok-file.ensures.number.0;

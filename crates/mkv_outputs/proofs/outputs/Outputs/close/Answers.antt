@@ -1,10 +1,10 @@
 use Rattle.std.proofs.Common.{◌≡◌, ◌<◌, List, length, get_or, ap, ◌∙◌, sym, arith}
 use Rattle.mkv_values.specs.declared.outside.FileId.{FileId}
-use Rattle.mkv_outputs.specs.Sinks.{files_of}
+use Rattle.mkv_outputs.specs.Sinks.{ids_of}
 use Rattle.mkv_outputs.specs.declared.sink.Sink.{Sink}
 use Rattle.mkv_io.proofs.WritingLemmas.{IsSameFile-twice}
 use Rattle.mkv_outputs.proofs.FilesLemmas.{closed-more, still-live}
-use Rattle.mkv_outputs.proofs.GivenLemmas.{files_of-at, length-files_of}
+use Rattle.mkv_outputs.proofs.GivenLemmas.{ids_of-at, length-ids_of}
 use Rattle.mkv_outputs.proofs.outputs.Outputs.close.Goals as goal
 
 -- the file is none of those that were closed
@@ -15,8 +15,8 @@ close-requires g c =
     let is : c.sink-item.result ≡ get_or c.args.self c.loop-sink.sink-index c.sink-item.result =
     c.sink-item.is ∙ ap (λ (ss : List Sink). get_or ss c.loop-sink.sink-index c.sink-item.result) items in
     ap (λ (s : Sink). (g.F.Reads.files (g.F.Reads.standing c.loop-sink.files)).live s.file.n) is
-    ∙ ap (λ (f : FileId). (g.F.Reads.files (g.F.Reads.standing c.loop-sink.files)).live f.n) (sym (files_of-at c.args.self c.loop-sink.sink-index c.sink-item.result c.sink-item.result.file below))
-    ∙ c.loop-sink.invariant.left c.loop-sink.sink-index c.sink-item.result.file (omega arith) (omega (arith, length-files_of c.args.self))
+    ∙ ap (λ (f : FileId). (g.F.Reads.files (g.F.Reads.standing c.loop-sink.files)).live f.n) (sym (ids_of-at c.args.self c.loop-sink.sink-index c.sink-item.result c.sink-item.result.file below))
+    ∙ c.loop-sink.invariant.left c.loop-sink.sink-index c.sink-item.result.file (omega arith) (omega (arith, length-ids_of c.args.self))
 
 -- one more file is closed
 pub loop-sink-preserved : goal.loop-sink-preserved
@@ -25,10 +25,10 @@ loop-sink-preserved g c =
     let below : c.loop-sink.sink-index < length c.args.self = omega (arith, c.loop-sink-test.true, ap length items) in
     let is : c.sink-item.result ≡ get_or c.args.self c.loop-sink.sink-index c.sink-item.result =
     c.sink-item.is ∙ ap (λ (ss : List Sink). get_or ss c.loop-sink.sink-index c.sink-item.result) items in
-    let at : (d : FileId) → get_or (files_of c.args.self) c.loop-sink.sink-index d ≡ c.sink-item.result.file =
-    λ d. files_of-at c.args.self c.loop-sink.sink-index c.sink-item.result d below ∙ ap (λ (s : Sink). s.file) (sym is) in
-    let within : c.loop-sink.sink-index < length (files_of c.args.self) = omega (arith, length-files_of c.args.self) in
-    let more = closed-more (g.F.Reads.files (g.F.Reads.standing c.loop-sink.files)).live (g.F.Reads.files (g.F.Reads.standing c.close.new.self)).live (files_of c.args.self) c.loop-sink.sink-index c.sink-item.result.file
+    let at : (d : FileId) → get_or (ids_of c.args.self) c.loop-sink.sink-index d ≡ c.sink-item.result.file =
+    λ d. ids_of-at c.args.self c.loop-sink.sink-index c.sink-item.result d below ∙ ap (λ (s : Sink). s.file) (sym is) in
+    let within : c.loop-sink.sink-index < length (ids_of c.args.self) = omega (arith, length-ids_of c.args.self) in
+    let more = closed-more (g.F.Reads.files (g.F.Reads.standing c.loop-sink.files)).live (g.F.Reads.files (g.F.Reads.standing c.close.new.self)).live (ids_of c.args.self) c.loop-sink.sink-index c.sink-item.result.file
     c.requires.rising within at c.close.ensures.ended (λ file other. (c.close.ensures.others file other).alive) c.loop-sink.invariant.ended c.loop-sink.invariant.left in
     record {
       ended = more.0;

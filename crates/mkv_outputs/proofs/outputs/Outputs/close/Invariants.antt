@@ -3,14 +3,14 @@ use Rattle.std.proofs.Common.{◌≡◌, length, true, false}
 use Rattle.std.specs.List.{AllWithin}
 use Rattle.mkv_values.specs.declared.outside.FileId.{FileId}
 use Rattle.mkv_io.specs.LiveFiles.{KeepsFiles, KeepsHolders}
-use Rattle.mkv_outputs.specs.Sinks.{IsNoneOf, files_of}
+use Rattle.mkv_outputs.specs.Sinks.{IsNoneOf, ids_of}
 use Rattle.mkv_outputs.proofs.outputs.Outputs.close.Given as goal
 
 abbrev pub invariant-loop-sink : goal.invariant-loop-sink
 invariant-loop-sink g l = record {
-  ended : AllWithin (λ (f : FileId). (g.F.Reads.files (g.F.Reads.standing l.files)).live f.n ≡ false) (files_of l.fn.self) 0 l.sink-index;
-  left : AllWithin (λ (f : FileId). (g.F.Reads.files (g.F.Reads.standing l.files)).live f.n ≡ true) (files_of l.fn.self) l.sink-index (length (files_of l.fn.self));
-  others : KeepsFiles (g.F.Reads.files (g.F.Reads.standing l.initial.files)) (g.F.Reads.files (g.F.Reads.standing l.files)) (λ file. IsNoneOf file (files_of l.fn.self));
+  ended : AllWithin (λ (f : FileId). (g.F.Reads.files (g.F.Reads.standing l.files)).live f.n ≡ false) (ids_of l.fn.self) 0 l.sink-index;
+  left : AllWithin (λ (f : FileId). (g.F.Reads.files (g.F.Reads.standing l.files)).live f.n ≡ true) (ids_of l.fn.self) l.sink-index (length (ids_of l.fn.self));
+  others : KeepsFiles (g.F.Reads.files (g.F.Reads.standing l.initial.files)) (g.F.Reads.files (g.F.Reads.standing l.files)) (λ file. IsNoneOf file (ids_of l.fn.self));
   names : g.F.Files.names l.files ≡ g.F.Files.names l.initial.files;
   holders : KeepsHolders (g.F.Reads.files (g.F.Reads.standing l.files)).live (g.F.Files.holder l.initial.files) (g.F.Files.holder l.files);
   numbers : g.F.Files.given l.files ≡ g.F.Files.given l.initial.files;

@@ -1,12 +1,12 @@
 use Rattle.std.proofs.Common.{ap, ◌∙◌}
 use Rattle.mkv_outputs.specs.declared.sink.Sink.{Sink}
 use Rattle.mkv_outputs.proofs.FilesLemmas.{AreLive-at, AreOpen-kept, ArePassed-more, OnOk-map, WritesOnly-sink}
-use Rattle.mkv_outputs.proofs.GivenLemmas.{Gives-flushed, files_of-set}
+use Rattle.mkv_outputs.proofs.GivenLemmas.{Gives-flushed, ids_of-set}
 use Rattle.mkv_outputs.proofs.outputs.Outputs.flush_one.Goals as goal
 
 -- the file of each output is live
-pub flush-requires : goal.flush-requires
-flush-requires g c =
+pub flush-requires-clause-live : goal.flush-requires-clause-live
+flush-requires-clause-live g c =
     AreLive-at (g.F.Reads.files (g.F.Reads.standing c.args.files.now)).live c.self.inside.sinks.items c.args.k c.index_mut.result.now
     (rw (← c.self.view_is) at c.requires.outputs.live) (rw (← c.self.view_is) at c.requires.below) c.index_mut.ensures.value
 
@@ -20,7 +20,7 @@ returns-clause-gives g c = rw (← c.self.view_is)
 -- the files are the same and stay open, and only that one is written
 pub returns-clause-only : goal.returns-clause-only
 returns-clause-only g c = rw (← c.self.view_is)
-    (let same = files_of-set c.self.inside.sinks.items c.args.k c.index_mut.result.now c.flush.new.sink (c.flush.ensures.file ∙ ap (λ (s : Sink). s.file) c.index_mut.ensures.value) in
+    (let same = ids_of-set c.self.inside.sinks.items c.args.k c.index_mut.result.now c.flush.new.sink (c.flush.ensures.file ∙ ap (λ (s : Sink). s.file) c.index_mut.ensures.value) in
     record {
       same = same;
       outputs = AreOpen-kept g.F.Reads c.args.files.now c.flush.new.files c.self.inside.sinks.items _ (rw (← c.self.view_is) at c.requires.outputs) same c.flush.ensures.only.kept.live;

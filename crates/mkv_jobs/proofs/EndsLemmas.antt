@@ -9,7 +9,7 @@ use Rattle.mkv_io.specs.declared.reads.Reads.{Ghosts}
 use Rattle.mkv_io.specs.declared.files.Files as writing
 use Rattle.mkv_jobs.specs.RemuxEnd.{end_of_make, end_of_read}
 use Rattle.mkv_jobs.specs.declared.remux_end.RemuxEnd.{RemuxEnd}
-use Rattle.mkv_outputs.specs.Ends.{HasRemuxCause, is_remux_read_fault, is_remux_write_fault}
+use Rattle.mkv_jobs.specs.Ends.{HasRemuxCause, is_remux_read_fault, is_remux_write_fault}
 
 -- a refused call that writes, and reads nothing
 pub HasRemuxCause-make : {S T : Type 0} (r : Ghosts S) (f : writing.Ghosts S) (old new : S) (fault : MakeFault) → r.reading_faults new ≡ r.reading_faults old → MatchBool (is_make_failure fault) (HasRisen (f.writing_faults old) (f.writing_faults new)) (f.writing_faults new ≡ f.writing_faults old) → HasRemuxCause {T = T} r f old new (Err (end_of_make fault))
