@@ -1,0 +1,4 @@
+pub mod HeldLemmas
+pub mod ReadLemmas
+pub mod AskedLemmas
+pub mod WrittenLemmas
