@@ -1,0 +1,28 @@
+-- The area in front of an output: RFC 9559, sections 5.1.1 (SeekHead Element) and 6.3 (SeekHead). Its length is this project's.
+use Rattle.std.specs.Prelude.{ℕ, ◌+◌, ◌-◌, List, [], ◌∷◌, length, map}
+use Rattle.byteorder.specs.Endian.{big_bytes}
+use Rattle.ebml_format.specs.Number.{id_octets}
+use Rattle.mkv_schema.specs.declared.ids.TheConstants.{SEEK_HEAD, SEEK, SEEK_ID, SEEK_POSITION}
+use Rattle.element_octets.specs.Element.{Element, element, master_element, octets_of, void_element}
+use Rattle.output_model.specs.declared.TheConstants.{AREA}
+use Rattle.output_model.specs.declared.places.Seek.{Seek}
+
+-- the position takes eight octets
+abbrev pub seek_element : Seek → Element
+seek_element s = master_element SEEK (element SEEK_ID (id_octets s.id) ∷ element SEEK_POSITION (big_bytes 8 s.position) ∷ [])
+
+abbrev pub seek_head : List Seek → Element
+seek_head seeks = master_element SEEK_HEAD (map seek_element seeks)
+
+-- the SeekHead, and a Void that fills the area
+abbrev pub area_elements : List Seek → List Element
+area_elements seeks = seek_head seeks ∷ void_element (AREA - length (octets_of (seek_head seeks))) ∷ []
+
+-- before the positions are known the area is one Void
+abbrev pub open_area : List Element
+open_area = void_element AREA ∷ []
+
+-- where Elements stand, one behind the other, the first of them so many octets inside the Segment
+abbrev pub seeks_from : ℕ → List Element → List Seek
+seeks_from position [] = []
+seeks_from position (e ∷ es) = record { id = e.id; position = position } ∷ seeks_from (position + length (octets_of e)) es

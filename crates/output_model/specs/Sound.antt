@@ -1,0 +1,114 @@
+-- Which outputs can be written and read back: RFC 9559, sections 5.1 (Segment Element) and 10 (Cluster Blocks).
+use Rattle.std.specs.Prelude.{◌≡◌, ◌≤◌, ◌<◌, ◌^◌, ⊤, ℕ, ◌+◌, ◌==◌, true, false, Bool, List, [], ◌∷◌, length, map, All, None, IfSome, Ok}
+use Rattle.ebml_format.specs.Number.{magnitude}
+use Rattle.mkv_schema.specs.declared.ids.TheConstants.{BLOCK_GROUP, INFO, TRACKS, ATTACHED_FILE, FILE_DATA, CHAPTERS, TAGS}
+use Rattle.matroska_format.specs.Value.{is_known_value}
+use Rattle.lacing.specs.declared.kind.Lace.TheVariants as lace
+use Rattle.lacing.specs.Writing.{CanLace}
+use Rattle.tree_format.specs.Node.{Node, id_of, children, IsMaster}
+use Rattle.tree_format.specs.Changes.{part}
+use Rattle.tree_format.specs.Standing.{IsSound as IsSoundTree, KeepsLimits}
+use Rattle.track_format.specs.Entry.{entries_of, number_of}
+use Rattle.track_format.specs.File.{entries_in}
+use Rattle.meta_format.specs.Info.{scale_of}
+use Rattle.block_format.specs.Elements.{is_kept}
+use Rattle.element_octets.specs.Element.{Element, IsElement, joined}
+use Rattle.output_model.specs.declared.TheConstants.{MOST_LANES, MOST_OF_OUTPUT}
+use Rattle.output_model.specs.OutputBlock.{OutputBlock}
+use Rattle.output_model.specs.Cluster.{OutputCluster, is_near}
+use Rattle.output_model.specs.Document.{Document, cues_for, layout}
+
+-- ---- a block
+
+-- An Element that is kept of a group says what the block doesn't say by itself, and is a value of its kind.
+pub record IsKeptElement (e : Element) : Type 0 where
+  pub element : IsElement e
+  pub left : is_kept e.id ≡ true
+  pub value : is_known_value BLOCK_GROUP e.id e.body ≡ true
+
+-- the octets of Elements that are kept, one behind the other
+abbrev pub AreKept : List ℕ → Type 0
+AreKept octets = (es : List Element) × (octets ≡ joined es) × All IsKeptElement es
+
+-- A SimpleBlock says nothing besides its frames and its flags.
+pub record IsSimple (b : OutputBlock) : Type 0 where
+  pub duration : b.duration ≡ None
+  pub references : b.references ≡ []
+  pub kept : b.kept ≡ []
+
+-- A group is key where it refers to nothing; nothing says that it may be left out.
+pub record IsGroup (b : OutputBlock) : Type 0 where
+  pub key : b.key ≡ (length b.references == 0)
+  pub discardable : b.discardable ≡ false
+  pub duration : IfSome b.duration (λ ticks. ticks < 2 ^ 63)
+  pub references : All (λ ticks. magnitude ticks < 2 ^ 63) b.references
+  pub kept : AreKept b.kept
+
+-- A block whose frames its lace can hold, one frame without lace.
+pub record IsSoundBlock (b : OutputBlock) : Type 0 where
+  pub tick : b.tick < 2 ^ 63
+  pub frames : CanLace b.lace (map length b.frames)
+  pub one : length b.frames ≡ 1 → b.lace ≡ lace.None
+  pub simple : b.group ≡ false → IsSimple b
+  pub group : b.group ≡ true → IsGroup b
+
+-- It stands in a Cluster of this Timestamp, in one of so many lanes.
+pub record IsSoundIn (lanes timestamp : ℕ) (b : OutputBlock) : Type 0 where
+  pub sound : IsSoundBlock b
+  pub near : is_near timestamp b.tick ≡ true
+  pub lane_some : 1 ≤ b.lane
+  pub lane_most : b.lane ≤ lanes
+
+-- ---- a Cluster
+
+-- the Timestamp is the tick of the first block, so there is one
+abbrev pub BeginsAt : ℕ → List OutputBlock → Type 0
+BeginsAt timestamp [] = ⊥
+BeginsAt timestamp (b ∷ bs) = timestamp ≡ b.tick
+
+pub record IsSoundCluster (lanes : ℕ) (c : OutputCluster) : Type 0 where
+  pub begins : BeginsAt c.timestamp c.blocks
+  pub blocks : All (IsSoundIn lanes c.timestamp) c.blocks
+
+-- ---- a document
+
+-- A record that is read again: a sound master of its ID, not too long and not too deep.
+pub record IsRecord (own : ℕ) (n : Node) : Type 0 where
+  pub id : id_of n ≡ own
+  pub master : IsMaster n
+  pub sound : IsSoundTree n
+  pub limits : KeepsLimits n
+
+-- an AttachedFile has one FileData
+pub record IsAttachment (n : Node) : Type 0 where
+  pub is : IsRecord ATTACHED_FILE n
+  pub one : length (part FILE_DATA (children n)) ≡ 1
+
+-- the numbers are this one and those behind it, in order
+abbrev pub CountFrom : ℕ → List ℕ → Type 0
+CountFrom n [] = ⊤
+CountFrom n (number ∷ numbers) = (number ≡ n) × CountFrom (n + 1) numbers
+
+-- The TrackEntries are read without refusal, and their numbers count from 1: each is a lane.
+pub record AreTracks (tracks : Node) : Type 0 where
+  pub is : IsRecord TRACKS tracks
+  pub read : entries_in tracks ≡ Ok (entries_of tracks)
+  pub numbers : CountFrom 1 (map number_of (entries_of tracks))
+  pub few : length (entries_of tracks) ≤ MOST_LANES
+
+abbrev pub lanes_of : Document → ℕ
+lanes_of d = length (entries_of d.front.tracks)
+
+-- A document whose records are read again, whose Clusters are sound and whose cue points are those of some of its
+-- blocks, of 2^48 octets at most.
+pub record IsSoundDocument (d : Document) : Type 0 where
+  pub info : IsRecord INFO d.front.info
+  pub scale : 1 ≤ scale_of d.front.info
+  pub tracks : AreTracks d.front.tracks
+  pub attachments : All IsAttachment d.front.attachments
+  pub clusters : All (IsSoundCluster (lanes_of d)) d.clusters
+  pub cued : OutputBlock → Bool
+  pub cues : d.cues ≡ cues_for cued d.front d.clusters
+  pub chapters : IfSome d.chapters (IsRecord CHAPTERS)
+  pub tags : IfSome d.tags (IsRecord TAGS)
+  pub short : length (layout d) ≤ MOST_OF_OUTPUT

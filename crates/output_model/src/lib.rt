@@ -1,0 +1,30 @@
+#![tactic(auto)]
+
+//! An output: its blocks, the Clusters that they are cut into, its cue points, and the octets of the whole
+//! file, as RFC 9559, sections 4.5 (Data Layout), 5.1 (Segment Element) and 10 (Cluster Blocks), has them. The
+//! definitions, which the crates above cite, stand in `specs/`.
+
+mod heads;
+mod places;
+
+pub use heads::{ClusterLimits, OutHead};
+pub use lacing::Lace;
+pub use places::{CuePoint, Seek};
+
+/// The most octets of a Cluster's body, where it has more than one block.
+pub const MOST_OF_CLUSTER: u64 = 1 << 20;
+
+/// The octets of the area in front, a SeekHead and the Void behind it.
+pub const AREA: u64 = 256;
+
+/// The most cue points of an output.
+pub const MOST_CUES: usize = 1 << 20;
+
+/// The most octets that a lane puts back in front of each frame.
+pub const MOST_OF_PREFIX: usize = 4096;
+
+/// The most lanes of an output.
+pub const MOST_LANES: usize = 64;
+
+/// The most octets of an output.
+pub const MOST_OF_OUTPUT: u64 = 1 << 48;
