@@ -1,0 +1,6 @@
+#![tactic(auto)]
+
+//! Clusters and files as they are written, against octets from outside: tests alone.
+
+#[cfg(test)]
+mod clusters;
