@@ -1,0 +1,3 @@
+pub mod AttachedLemmas
+pub mod FrontLemmas
+pub mod PlacesLemmas

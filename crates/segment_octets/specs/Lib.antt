@@ -1,0 +1,3 @@
+pub mod Attached
+pub mod Front
+pub mod Places
