@@ -1,0 +1,83 @@
+-- The Seeks of what stands behind the Clusters.
+use Rattle.std.proofs.Common.{◌≡◌, ◌≤◌, ℕ, suc, ◌+◌, List, [], ◌∷◌, ◌++◌, length, true, Option, Some, None, IfSome, refl, sym, ap, ◌∙◌, arith, subst}
+use Rattle.std.proofs.lemmas.List.{length-append}
+use Rattle.std.proofs.lemmas.List.Elements.{All-from_recursion, All-append}
+use Rattle.std.specs.List.{AllByRecursion}
+use Rattle.ebml_format.specs.Number.{is_id}
+use Rattle.mkv_schema.specs.declared.ids.TheConstants.{CHAPTERS, TAGS}
+use Rattle.tree_format.specs.Node.{Node, id_of}
+use Rattle.element_octets.specs.Element.{Element, octets_of}
+use Rattle.output_model.specs.declared.places.CuePoint.{CuePoint}
+use Rattle.output_model.specs.declared.places.Seek.{Seek}
+use Rattle.output_model.specs.Cues.{cues_elements}
+use Rattle.output_model.specs.SeekHead.{seeks_from}
+use Rattle.output_model.specs.Document.{tree_elements, back_with}
+use Rattle.segment_octets.specs.Places.{Adds, AreIds}
+
+abbrev HaveIds : List Element → Type 0
+HaveIds [] = Unit {0}
+HaveIds (e ∷ es) = (is_id e.id ≡ true) × HaveIds es
+
+seeks-valid : (p : ℕ) (es : List Element) → HaveIds es → AllByRecursion (λ s. is_id s.id ≡ true) (seeks_from p es)
+seeks-valid p [] ids = tt
+seeks-valid p (e ∷ es) ids = (ids.0, seeks-valid (p + length (octets_of e)) es ids.1)
+
+HaveIds-append : (xs ys : List Element) → HaveIds xs → HaveIds ys → HaveIds (xs ++ ys)
+HaveIds-append [] ys one two = two
+HaveIds-append (x ∷ xs) ys one two = (one.0, HaveIds-append xs ys one.1 two)
+
+cues-valid : (points : List CuePoint) → HaveIds (cues_elements points)
+unfolding is_id
+cues-valid [] = tt
+cues-valid (p ∷ ps) = (refl, tt)
+
+tree-valid : (id : ℕ) (n : Option Node) → is_id id ≡ true → IfSome n (λ n. id_of n ≡ id) → HaveIds (tree_elements n)
+tree-valid id None valid is = tt
+tree-valid id (Some n) valid is = (ap is_id is ∙ valid, tt)
+
+chapters-valid : is_id CHAPTERS ≡ true
+unfolding is_id
+chapters-valid = refl
+
+tags-valid : is_id TAGS ≡ true
+unfolding is_id
+tags-valid = refl
+
+-- they are of valid IDs
+pub ids-behind : (at : ℕ) (points : List CuePoint) (chapters tags : Option Node) (out out' : List ℕ) (seeks seeks' : List Seek) → IfSome chapters (λ n. id_of n ≡ CHAPTERS) → IfSome tags (λ n. id_of n ≡ TAGS)
+    → Adds at (back_with points chapters tags) out out' seeks seeks' → AreIds seeks → AreIds seeks'
+ids-behind at points chapters tags out out' seeks seeks' is_chapters is_tags adds ids =
+    let valid = HaveIds-append (cues_elements points) (tree_elements chapters ++ tree_elements tags) (cues-valid points)
+    (HaveIds-append (tree_elements chapters) (tree_elements tags) (tree-valid CHAPTERS chapters chapters-valid is_chapters) (tree-valid TAGS tags tags-valid is_tags)) in
+    let more = All-from_recursion (λ (s : Seek). is_id s.id ≡ true) (seeks_from (at + length out) (back_with points chapters tags)) (seeks-valid (at + length out) (back_with points chapters tags) valid) in
+    let P : List Seek → Type 0 = AreIds in
+    subst P (sym adds.places) (All-append (λ s. is_id s.id ≡ true) seeks (seeks_from (at + length out) (back_with points chapters tags)) ids more)
+
+length-seeks : (p : ℕ) (es : List Element) → length (seeks_from p es) ≡ length es
+length-seeks p [] = refl
+length-seeks p (e ∷ es) = ap suc (length-seeks (p + length (octets_of e)) es)
+
+cues-few : (points : List CuePoint) → length (cues_elements points) ≤ 1
+cues-few [] = omega arith
+cues-few (p ∷ ps) = omega arith
+
+tree-few : (n : Option Node) → length (tree_elements n) ≤ 1
+tree-few None = omega arith
+tree-few (Some n) = omega arith
+
+-- they are three at most
+pub few-behind : (at : ℕ) (points : List CuePoint) (chapters tags : Option Node) (out out' : List ℕ) (seeks seeks' : List Seek)
+    → Adds at (back_with points chapters tags) out out' seeks seeks' → length seeks' ≤ length seeks + 3
+few-behind at points chapters tags out out' seeks seeks' adds =
+    let es = back_with points chapters tags in
+    omega (
+      arith,
+      ap length adds.places,
+      length-append seeks (seeks_from (at + length out) es),
+      length-seeks (at + length out) es,
+      length-append (cues_elements points) (tree_elements chapters ++ tree_elements tags),
+      length-append (tree_elements chapters) (tree_elements tags),
+      cues-few points,
+      tree-few chapters,
+      tree-few tags,
+    )

@@ -1,0 +1,129 @@
+-- The octets of an output grow at their end, and are overwritten in their middle.
+use Rattle.std.proofs.Common.{◌≡◌, ℕ, ◌+◌, ◌-◌, Bool, true, false, List, ◌++◌, length, drop, refl, sym, ap, append_assoc, ◌∙◌, arith}
+use Rattle.std.proofs.lemmas.List.{length-append, take_at, drop_at, drop-drop}
+use Rattle.std.proofs.lemmas.List.Concat.{flat_map-append}
+use Rattle.ebml_format.specs.Number.{all_ones, id_octets, uint_width, least_size_width}
+use Rattle.ebml_format.proofs.NumberLemmas.{length-size_octets}
+use Rattle.mkv_schema.specs.declared.ids.TheConstants.{SEGMENT}
+use Rattle.mkv_io.specs.Contents.{overwritten}
+use Rattle.mkv_outputs.specs.Drafts.{patched}
+use Rattle.element_octets.specs.Element.{joined, octets_of}
+use Rattle.output_model.specs.SeekHead.{open_area, area_elements}
+use Rattle.output_model.specs.Document.{Front, Document, ebml_element, front_elements, back_elements, clusters_elements, clusters_at, elements_behind_area, segment_size, seeks_of, unknown_size, opened_with, opened, layout}
+use Rattle.segment_octets.specs.Front.{body_start}
+use Rattle.segment_octets.proofs.FrontLemmas.{file_with-append}
+use Rattle.cues_seekhead.specs.Draft.{draft_of}
+
+-- ---- at the end
+
+pub opened-more : (f : Front) (behind more : List ℕ) → opened_with f behind ++ more ≡ opened_with f (behind ++ more)
+opened-more f behind more =
+    file_with-append f.webm unknown_size open_area (joined (front_elements f) ++ behind) more
+    ∙ ap (λ w. octets_of (ebml_element f.webm) ++ (id_octets SEGMENT ++ (unknown_size ++ (joined open_area ++ w)))) (append_assoc (joined (front_elements f)) behind more)
+
+-- ---- in the middle
+
+-- octets in the middle are written over by as many others
+overwritten-middle : (front old back now : List ℕ) (at : ℕ) → length front ≡ at → length now ≡ length old → overwritten (front ++ (old ++ back)) at now ≡ front ++ (now ++ back)
+overwritten-middle front old back now at is same =
+    let behind : drop (at + length now) (front ++ (old ++ back)) ≡ back =
+    sym (drop-drop (length now) at (front ++ (old ++ back))) ∙ ap (drop (length now)) (drop_at front (old ++ back) at is) ∙ drop_at old back (length now) (sym same) in
+    ap (λ w. w ++ (now ++ drop (at + length now) (front ++ (old ++ back)))) (take_at front (old ++ back) at is)
+    ∙ ap (λ w. front ++ (now ++ w)) behind
+
+-- an output with these octets as size and area
+abbrev spelled : Bool → List ℕ → List ℕ → List ℕ → List ℕ
+spelled webm size area rest = octets_of (ebml_element webm) ++ (id_octets SEGMENT ++ (size ++ (area ++ rest)))
+
+four : length (id_octets SEGMENT) ≡ 4
+unfolding uint_width
+four = refl
+
+-- the EBML header, the Segment's ID and its size
+header-long : (webm : Bool) → length (octets_of (ebml_element webm)) + 12 ≡ body_start webm
+unfolding uint_width least_size_width
+header-long true = refl
+header-long false = refl
+
+overwritten-size : (webm : Bool) (size now area rest : List ℕ) → length size ≡ 8 → length now ≡ 8 → overwritten (spelled webm size area rest) (body_start webm - 8) now ≡ spelled webm now area rest
+overwritten-size webm size now area rest eight is =
+    let head = octets_of (ebml_element webm) in
+    let id = id_octets SEGMENT in
+    ap (λ w. overwritten w (body_start webm - 8) now) (sym (append_assoc head id (size ++ (area ++ rest))))
+    ∙ overwritten-middle (head ++ id) size (area ++ rest) now (body_start webm - 8) (omega (arith, length-append head id, four, header-long webm)) (is ∙ sym eight)
+    ∙ append_assoc head id (now ++ (area ++ rest))
+
+overwritten-area : (webm : Bool) (size area now rest : List ℕ) → length size ≡ 8 → length area ≡ 256 → length now ≡ 256 → overwritten (spelled webm size area rest) (body_start webm) now ≡ spelled webm size now rest
+overwritten-area webm size area now rest eight filled is =
+    let head = octets_of (ebml_element webm) in
+    let id = id_octets SEGMENT in
+    ap (λ w. overwritten w (body_start webm) now) (regroup head id size (area ++ rest))
+    ∙ overwritten-middle ((head ++ id) ++ size) area rest now (body_start webm) (omega (arith, length-append (head ++ id) size, length-append head id, four, header-long webm, eight)) (is ∙ sym filled)
+    ∙ sym (regroup head id size (now ++ rest))
+  where
+    regroup : (a b c d : List ℕ) → a ++ (b ++ (c ++ d)) ≡ ((a ++ b) ++ c) ++ d
+    regroup a b c d = sym (append_assoc (a ++ b) c d ∙ append_assoc a b (c ++ d))
+
+area-long : length (joined open_area) ≡ 256
+unfolding uint_width
+area-long = refl
+
+size-long : length unknown_size ≡ 8
+size-long = length-size_octets (all_ones 8) 8
+
+-- how long an open output is
+pub length-opened : (f : Front) (behind : List ℕ) → length (opened_with f behind) ≡ body_start f.webm + (clusters_at f + length behind)
+length-opened f behind =
+    let head = octets_of (ebml_element f.webm) in
+    let id = id_octets SEGMENT in
+    let rest = joined (front_elements f) ++ behind in
+    omega (
+      arith,
+      length-append head (id ++ (unknown_size ++ (joined open_area ++ rest))),
+      length-append id (unknown_size ++ (joined open_area ++ rest)),
+      length-append unknown_size (joined open_area ++ rest),
+      length-append (joined open_area) rest,
+      length-append (joined (front_elements f)) behind,
+      four,
+      area-long,
+      size-long,
+      header-long f.webm,
+    )
+
+-- how long a whole one is
+pub length-layout : (d : Document) → length (joined (area_elements (seeks_of d))) ≡ 256 → length (layout d) ≡ body_start d.front.webm + (256 + length (joined (elements_behind_area d)))
+length-layout d filled =
+    let head = octets_of (ebml_element d.front.webm) in
+    let id = id_octets SEGMENT in
+    let rest = joined (elements_behind_area d) in
+    let size = segment_size (length rest) in
+    let area = joined (area_elements (seeks_of d)) in
+    omega (
+      arith,
+      length-append head (id ++ (size ++ (area ++ rest))),
+      length-append id (size ++ (area ++ rest)),
+      length-append size (area ++ rest),
+      length-append area rest,
+      four,
+      filled,
+      length-size_octets (256 + length rest) 8,
+      header-long d.front.webm,
+    )
+
+-- all that stands behind the area
+pub behind-area : (d : Document) → joined (front_elements d.front) ++ (joined (clusters_elements d.clusters) ++ joined (back_elements d)) ≡ joined (elements_behind_area d)
+behind-area d =
+    ap (λ w. joined (front_elements d.front) ++ w) (sym (flat_map-append octets_of (clusters_elements d.clusters) (back_elements d)))
+    ∙ sym (flat_map-append octets_of (front_elements d.front) (clusters_elements d.clusters ++ back_elements d))
+
+-- The patches make the layout of the open output.
+pub draft-layout : (name : List ℕ) (d : Document) → length (joined (area_elements (seeks_of d))) ≡ 256 → patched (opened d) (draft_of name d).patches ≡ layout d
+draft-layout name d filled =
+    let webm = d.front.webm in
+    let rest = joined (elements_behind_area d) in
+    let area = joined (area_elements (seeks_of d)) in
+    let size = segment_size (length rest) in
+    let before : opened d ≡ spelled webm unknown_size (joined open_area) rest = ap (λ w. spelled webm unknown_size (joined open_area) w) (behind-area d) in
+    ap (λ w. overwritten (overwritten w (body_start webm) area) (body_start webm - 8) size) before
+    ∙ ap (λ w. overwritten w (body_start webm - 8) size) (overwritten-area webm unknown_size (joined open_area) area rest size-long area-long filled)
+    ∙ overwritten-size webm unknown_size size area rest size-long (length-size_octets (256 + length rest) 8)

@@ -1,0 +1,9 @@
+pub mod AppendingLemmas
+pub mod AttachingLemmas
+pub mod BeginLemmas
+pub mod DraftLemmas
+pub mod EndingLemmas
+pub mod FinishLemmas
+pub mod LayoutLemmas
+pub mod MadeLemmas
+pub mod OpenLemmas

@@ -1,0 +1,40 @@
+-- What stands of an output whose last writes may be refused.
+use Rattle.std.specs.Prelude.{◌≡◌, ◌≤◌, ℕ, ◌-◌, List, [], ◌∷◌, ◌++◌, length, Result, Ok, Err}
+use Rattle.mkv_values.specs.declared.outside.FileId.{FileId}
+use Rattle.mkv_io.specs.Names.{Names, with_content}
+use Rattle.mkv_io.specs.declared.files.Files.{Ghosts}
+use Rattle.mkv_outputs.specs.Outputs.{Output}
+use Rattle.mkv_outputs.specs.Drafts.{Draft, Patch, IsDrafted, patched}
+use Rattle.element_octets.specs.Element.{joined}
+use Rattle.output_model.specs.SeekHead.{area_elements}
+use Rattle.output_model.specs.Document.{Document, seeks_of, elements_behind_area, segment_size, opened}
+use Rattle.segment_octets.specs.Front.{body_start}
+
+-- Under the name of a draft stands what becomes of it on the way, and every other name has what it had before.
+pub record StandsDrafted (before now : Names) (d : Draft) : Type 0 where
+  pub output : Output
+  pub drafted : IsDrafted output d
+  pub names : now ≡ with_content before output.name output.content
+
+-- The area of a Segment's body that begins so many octets behind the file's first, and the eight octets of the
+-- Segment's size, which stand in front of it.
+abbrev pub patches_at : ℕ → List ℕ → List ℕ → List Patch
+patches_at start area size = record { at = start; octets = area } ∷ record { at = start - 8; octets = size } ∷ []
+
+-- An output is written as it is while its size and its area aren't known; these are then written over.
+abbrev pub draft_of : List ℕ → Document → Draft
+draft_of name d = record {
+  name = name;
+  appended = opened d;
+  patches = patches_at (body_start d.front.webm) (joined (area_elements (seeks_of d))) (segment_size (length (joined (elements_behind_area d))));
+}
+
+-- Octets are appended to the content of a file's name, and then the patches are written over it. After a refusal
+-- that stands as a draft.
+abbrev pub Drafts : {S T E : Type 0} → Ghosts S → FileId → ℕ → List ℕ → List Patch → S → S → Result T E → Type 0
+Drafts f file least back patches old new (Ok _) =
+    (before : Names) (content : List ℕ) → least ≤ length content → f.names old ≡ with_content before (f.holder old file.n) content
+    → f.names new ≡ with_content before (f.holder old file.n) (patched (content ++ back) patches)
+Drafts f file least back patches old new (Err _) =
+    (before : Names) (content : List ℕ) → least ≤ length content → f.names old ≡ with_content before (f.holder old file.n) content
+    → StandsDrafted before (f.names new) (record { name = f.holder old file.n; appended = content ++ back; patches = patches })

@@ -1,0 +1,35 @@
+-- A file that is made, written and ended.
+use Rattle.std.specs.Prelude.{◌≡◌, ◌≢◌, ◌≤◌, ℕ, List, [], ◌∷◌, true, Result, Ok, Err}
+use Rattle.mkv_values.specs.declared.outside.FileId.{FileId}
+use Rattle.mkv_io.specs.LiveFiles.{KeepsFiles, KeepsHolders}
+use Rattle.mkv_io.specs.Names.{AreOthers}
+use Rattle.mkv_io.specs.Sources.{live_files}
+use Rattle.mkv_io.specs.Writing.{KeepsOthers, WritesOnly}
+use Rattle.mkv_io.specs.declared.reads.Reads.{Ghosts}
+use Rattle.mkv_io.specs.declared.files.Files as writing
+use Rattle.mkv_jobs.specs.declared.remux_end.RemuxEnd.{RemuxEnd}
+use Rattle.mkv_outputs.specs.Sinks.{EndsOnly}
+use Rattle.cues_seekhead.specs.OpenOutput.{OpenOutput}
+
+-- A file was made under a name, and is live under a new number. Which other files are live stays, and under which
+-- names; and the files of other names stay the same.
+pub record MakesFile {S : Type 0} (r : Ghosts S) (f : writing.Ghosts S) (name : List ℕ) (file : FileId) (old new : S) : Type 0 where
+  pub newer : f.given old ≤ file.n
+  pub live : (live_files r new).live file.n ≡ true
+  pub holder : f.holder new file.n ≡ name
+  pub besides : (other : ℕ) → other ≢ file.n → (live_files r new).live other ≡ (live_files r old).live other
+  pub given : f.given old ≤ f.given new
+  pub holders : KeepsHolders (live_files r old).live (f.holder old) (f.holder new)
+  pub others : KeepsFiles (live_files r old) (live_files r new) (λ other. ((live_files r old).live other ≡ true) × AreOthers (f.holder old other) (name ∷ []))
+
+-- A file is made for an output. After a refusal none is open: the same files are live as before, and those of other
+-- names are the same.
+abbrev pub Makes : {S : Type 0} → Ghosts S → writing.Ghosts S → List ℕ → S → S → Result OpenOutput RemuxEnd → Type 0
+Makes r f name old new (Ok o) = MakesFile r f name o.file old new
+Makes r f name old new (Err _) = KeepsOthers r f (name ∷ []) old new
+
+-- Of all files only this one's name is written, and then it ends.
+pub record WritesAndEnds {S : Type 0} (r : Ghosts S) (f : writing.Ghosts S) (file : FileId) (old new : S) : Type 0 where
+  pub before : S
+  pub written : WritesOnly r f (f.holder old file.n ∷ []) old before
+  pub ended : EndsOnly r f before new (file ∷ [])

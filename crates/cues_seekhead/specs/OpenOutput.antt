@@ -1,0 +1,69 @@
+-- An output that is being written.
+use Rattle.std.specs.Prelude.{◌≡◌, ◌≢◌, ◌≤◌, ℕ, ◌+◌, Bool, List, [], ◌∷◌, ◌++◌, length}
+use Rattle.mkv_values.specs.declared.outside.FileId.{FileId}
+use Rattle.mkv_io.specs.Names.{Names, with_content}
+use Rattle.mkv_io.specs.Sources.{IsLive, file_size}
+use Rattle.mkv_io.specs.declared.reads.Reads.{Ghosts}
+use Rattle.mkv_io.specs.declared.files.Files as writing
+use Rattle.mkv_schema.specs.declared.ids.TheConstants.{ATTACHED_FILE}
+use Rattle.tree_format.specs.Node.{id_of, IsMaster}
+use Rattle.attachment_records.specs.declared.attachment.Attachment.{Attachment}
+use Rattle.output_model.specs.declared.TheConstants.{AREA, MOST_CUES}
+use Rattle.output_model.specs.declared.places.CuePoint.{CuePoint}
+use Rattle.output_model.specs.declared.places.Seek.{Seek}
+use Rattle.output_model.specs.SeekHead.{seeks_from}
+use Rattle.output_model.specs.Document.{Front, front_elements, clusters_at, opened_with}
+use Rattle.segment_octets.specs.Front.{body_start}
+use Rattle.segment_octets.specs.Places.{AreIds}
+
+-- The file; whether it is WebM; how many octets the Segment's body has so far; where the Elements in front of the
+-- Clusters stand; and the cue points so far.
+pub record OpenOutput : Type 0 where
+  pub file : FileId
+  pub webm : Bool
+  pub len : ℕ
+  pub seeks : List Seek
+  pub cues : List CuePoint
+
+-- what always holds of it
+pub record HasBegun (o : OpenOutput) : Type 0 where
+  pub cues : length o.cues ≤ MOST_CUES
+  pub seeks : length o.seeks ≤ 3
+  pub ids : AreIds o.seeks
+  pub area : AREA ≤ o.len
+
+-- with another cue point
+abbrev pub with_cue : OpenOutput → CuePoint → OpenOutput
+with_cue o point = record o { cues = o.cues ++ point ∷ [] }
+
+-- with so many octets more
+abbrev pub grown : OpenOutput → ℕ → OpenOutput
+grown o more = record o { len = o.len + more }
+
+-- Its file is live, and as long as it knows.
+pub record IsOpen {S : Type 0} (r : Ghosts S) (files : S) (o : OpenOutput) : Type 0 where
+  pub live : IsLive r files o.file
+  pub size : file_size r files o.file ≡ body_start o.webm + o.len
+
+-- It knows an output that has this in front of the Clusters, and these octets behind that.
+pub record Knows (front : Front) (behind : List ℕ) (o : OpenOutput) : Type 0 where
+  pub webm : o.webm ≡ front.webm
+  pub len : o.len ≡ clusters_at front + length behind
+  pub seeks : o.seeks ≡ seeks_from AREA (front_elements front)
+
+-- It is open, and under its name stand what is in front of the Clusters, and these octets behind that; every other
+-- name has what it had before.
+pub record StandsOpen {S : Type 0} (r : Ghosts S) (f : writing.Ghosts S) (before : Names) (name : List ℕ) (front : Front) (behind : List ℕ) (files : S) (o : OpenOutput) : Type 0 where
+  pub is_open : IsOpen r files o
+  pub holder : f.holder files o.file.n ≡ name
+  pub names : f.names files ≡ with_content before name (opened_with front behind)
+  pub known : Knows front behind o
+
+-- An attached file can be written into an output of a name: it is an AttachedFile, and its data stand in a live file of
+-- another name.
+pub record CanAttach {S : Type 0} (r : Ghosts S) (f : writing.Ghosts S) (files : S) (name : List ℕ) (a : Attachment) : Type 0 where
+  pub id : id_of a.entry ≡ ATTACHED_FILE
+  pub master : IsMaster a.entry
+  pub live : IsLive r files a.file
+  pub inside : a.at + a.len ≤ file_size r files a.file
+  pub apart : f.holder files a.file.n ≢ name

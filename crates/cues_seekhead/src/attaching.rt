@@ -1,0 +1,88 @@
+//! Attached files that are written, each with its data.
+
+ghost use Rattle.std.specs.Prelude.{◌≤◌, All, length, map, sum_by};
+ghost use Rattle.mkv_io.specs.Sources.{IsLive, live_files};
+ghost use Rattle.attachment_records.specs.declared.attachment.Attachment.{Attachment as AttachmentSeen};
+ghost use Rattle.attachment_records.specs.Attached.{attached_file};
+ghost use Rattle.element_octets.specs.Element.{joined, octets_of};
+ghost use Rattle.output_model.specs.Document.{tree_element};
+ghost use Rattle.cues_seekhead.specs.Appending.{AppendsOnly};
+ghost use Rattle.cues_seekhead.specs.OpenOutput.{CanAttach};
+
+use crate::OutEnd;
+use crate::copying::{append, copy_data};
+use attachment_records::Attachment;
+use mkv_io::{Files, Reads};
+use mkv_values::FileId;
+use segment_octets::{octets_before_data, octets_behind_data};
+use std::alloc::Global;
+
+// So many octets of data are copied at once.
+const CHUNK: usize = 65_536;
+
+/// Adds an AttachedFile.
+fn add_attachment<F: Files>(
+    alloc: Global,
+    files: &mut F,
+    file: FileId,
+    attachment: &Attachment,
+    buffer: &mut [u8],
+) -> Result<(), OutEnd>
+    requires live { IsLive F.Reads files.old file }
+    requires attached { CanAttach F.Reads F.Files.own files.old (F.holder files.old file.n) attachment.now }
+    requires buffer { 1 ≤ length buffer.old }
+    ensures { AppendsOnly F.Reads F.Files.own file
+        (octets_of (tree_element (attached_file (live_files F.Reads files.old) attachment.now))) attachment.now.len files.old files.new result }
+{
+    let before = octets_before_data(alloc, attachment)?;
+    let behind = octets_behind_data(alloc, attachment)?;
+    append(files, file, before.as_slice())?;
+    copy_data(
+        files,
+        attachment.file,
+        attachment.at,
+        attachment.len,
+        file,
+        buffer,
+    )?;
+    append(files, file, behind.as_slice())
+}
+
+// Adds AttachedFiles through a buffer.
+fn add_each<F: Files>(
+    alloc: Global,
+    files: &mut F,
+    file: FileId,
+    attachments: &[Attachment],
+    buffer: &mut [u8],
+) -> Result<(), OutEnd>
+    requires live { IsLive F.Reads files.old file }
+    requires attached { All (CanAttach F.Reads F.Files.own files.old (F.holder files.old file.n)) attachments.now }
+    requires buffer { 1 ≤ length buffer.old }
+    ensures { AppendsOnly F.Reads F.Files.own file (joined (map tree_element (map (attached_file (live_files F.Reads files.old)) attachments.now)))
+        (sum_by (λ (a : AttachmentSeen). a.len) attachments.now) files.old files.new result }
+{
+    for attachment in attachments {
+        add_attachment(alloc, files, file, attachment, buffer)?;
+    }
+    Ok(())
+}
+
+/// Adds AttachedFiles, one behind the other.
+pub(crate) fn add_attachments<F: Files>(
+    alloc: Global,
+    files: &mut F,
+    file: FileId,
+    attachments: &[Attachment],
+) -> Result<(), OutEnd>
+    requires live { IsLive F.Reads files.old file }
+    requires attached { All (CanAttach F.Reads F.Files.own files.old (F.holder files.old file.n)) attachments.now }
+    ensures { AppendsOnly F.Reads F.Files.own file (joined (map tree_element (map (attached_file (live_files F.Reads files.old)) attachments.now)))
+        (sum_by (λ (a : AttachmentSeen). a.len) attachments.now) files.old files.new result }
+{
+    if attachments.is_empty() {
+        return Ok(());
+    }
+    let mut buffer = vec![in alloc; 0u8; CHUNK]?;
+    add_each(alloc, files, file, attachments, &mut buffer)
+}

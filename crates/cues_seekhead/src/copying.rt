@@ -1,0 +1,65 @@
+//! Octets of one file that are added to another.
+
+ghost use Rattle.std.specs.Prelude.{◌≢◌, ◌+◌, ◌≤◌, length};
+ghost use Rattle.mkv_io.specs.Sources.{IsLive, file_size, live_files};
+ghost use Rattle.attachment_records.specs.Attached.{octets_told};
+ghost use Rattle.cues_seekhead.specs.Appending.{AppendsOnly};
+
+use crate::OutEnd;
+use mkv_io::{Files, Reads};
+use mkv_values::FileId;
+
+/// Adds octets at the end of a file.
+pub(crate) fn append<F: Files>(files: &mut F, file: FileId, octets: &[u8]) -> Result<(), OutEnd>
+    requires { IsLive F.Reads files.old file }
+    ensures { AppendsOnly F.Reads F.Files.own file octets.now 0 files.old files.new result }
+{
+    files.append(file, octets)?;
+    Ok(())
+}
+
+// Adds as many octets as the chunk holds, read from another file.
+fn copy_chunk<F: Files>(
+    files: &mut F,
+    from: FileId,
+    at: u64,
+    to: FileId,
+    chunk: &mut [u8],
+) -> Result<(), OutEnd>
+    requires from { IsLive F.Reads files.old from }
+    requires to { IsLive F.Reads files.old to }
+    requires inside { at + length chunk.old ≤ file_size F.Reads files.old from }
+    ensures { AppendsOnly F.Reads F.Files.own to
+        (octets_told ((live_files F.Reads files.old).content from.n) at (length chunk.old)) (length chunk.old) files.old files.new result }
+{
+    match files.read_at(from, at, chunk) {
+        Ok(()) => append(files, to, chunk),
+        Err(_) => Err(OutEnd::ReadFault),
+    }
+}
+
+/// Adds so many octets of one file, from a place on, to another, as many at a time as the buffer holds.
+pub(crate) fn copy_data<F: Files>(
+    files: &mut F,
+    from: FileId,
+    at: u64,
+    len: u64,
+    to: FileId,
+    buffer: &mut [u8],
+) -> Result<(), OutEnd>
+    requires from { IsLive F.Reads files.old from }
+    requires to { IsLive F.Reads files.old to }
+    requires apart { F.holder files.old from.n ≢ F.holder files.old to.n }
+    requires inside { at + len ≤ file_size F.Reads files.old from }
+    requires buffer { 1 ≤ length buffer.old }
+    ensures { AppendsOnly F.Reads F.Files.own to
+        (octets_told ((live_files F.Reads files.old).content from.n) at len) len files.old files.new result }
+{
+    let mut done = 0;
+    while done < len {
+        let count = (len - done).min(buffer.len() as u64);
+        copy_chunk(files, from, at + done, to, &mut buffer[..count as usize])?;
+        done += count;
+    }
+    Ok(())
+}

@@ -1,0 +1,87 @@
+//! The last writes of an output.
+
+ghost use Rattle.std.specs.Prelude.{◌≡◌, ◌+◌, ◌≤◌, [], ◌∷◌, length, IfOk, IfSome};
+ghost use Rattle.ebml_format.specs.Number.{size_octets};
+ghost use Rattle.mkv_io.specs.Sources.{IsLive, file_size};
+ghost use Rattle.mkv_io.specs.Writing.{WritesOnly};
+ghost use Rattle.mkv_jobs.specs.Ends.{HasRemuxCause};
+ghost use Rattle.mkv_schema.specs.declared.ids.TheConstants.{CHAPTERS, TAGS};
+ghost use Rattle.tree_format.specs.Node.{id_of};
+ghost use Rattle.tree_format.specs.NormalForm.{longest};
+ghost use Rattle.element_octets.specs.Element.{joined};
+ghost use Rattle.output_model.specs.declared.TheConstants.{AREA, MOST_CUES};
+ghost use Rattle.output_model.specs.SeekHead.{area_elements, seeks_from};
+ghost use Rattle.output_model.specs.Document.{back_with};
+ghost use Rattle.segment_octets.specs.Places.{AreIds};
+ghost use Rattle.cues_seekhead.specs.Draft.{Drafts, patches_at};
+ghost use Rattle.cues_seekhead.specs.Ending.{IsEnding};
+
+use crate::OutEnd;
+use ebml_numbers::put_size;
+use ebml_tree::Tree;
+use mkv_io::{Files, Reads};
+use mkv_values::{Bytes, FileId};
+use output_model::{CuePoint, Seek};
+use segment_octets::{area_octets, back_octets, sized};
+use std::alloc::{AllocError, Global};
+
+/// The octets of an output's last writes.
+#[derive(Drop)]
+pub(crate) struct Ending {
+    // what stands behind the Clusters
+    back: Bytes,
+    area: Bytes,
+    // octets of the Segment's body
+    pub(crate) total: u64,
+}
+
+impl Ending {
+    /// What is written behind the Clusters, the first of it `len` octets inside the Segment, and then over the
+    /// area and the Segment's size. An output that is longer than a size can tell has no memory.
+    pub(crate) fn new(
+        alloc: Global,
+        len: u64,
+        mut seeks: Vec<Seek>,
+        cues: &[CuePoint],
+        chapters: &Option<Tree>,
+        tags: &Option<Tree>,
+    ) -> Result<Ending, AllocError>
+        requires few { length seeks.items ≤ 3 }
+        requires ids { AreIds seeks.items }
+        requires cues { length cues.now ≤ MOST_CUES }
+        requires chapters { IfSome chapters.now (λ n. id_of n ≡ CHAPTERS) }
+        requires tags { IfSome tags.now (λ n. id_of n ≡ TAGS) }
+        ensures { IfOk result (IsEnding len seeks.items (back_with cues.now chapters.now tags.now)) }
+    {
+        let back = back_octets(alloc, len, cues, chapters, tags, &mut seeks)?;
+        let area = area_octets(alloc, &seeks)?;
+        let total = len.checked_add(back.len() as u64).ok_or(AllocError)?;
+        let total = sized(total)?;
+        Ok(Ending { back, area, total })
+    }
+
+    /// Adds what stands behind the Clusters, and then writes the area and the size. The Segment's body
+    /// begins `start` octets behind the file's first.
+    pub(crate) fn write<F: Files>(
+        &self,
+        files: &mut F,
+        file: FileId,
+        start: u64,
+    ) -> Result<(), OutEnd>
+        requires live { IsLive F.Reads files.old file }
+        requires long { start + AREA ≤ file_size F.Reads files.old file }
+        requires start { 8 ≤ start }
+        requires area { length self.now.area ≡ AREA }
+        requires total { self.now.total ≤ longest }
+        ensures drafts { Drafts F.Files.own file (start + AREA) self.now.back
+            (patches_at start self.now.area (size_octets self.now.total 8)) files.old files.new result }
+        ensures only { WritesOnly F.Reads F.Files.own (F.holder files.old file.n ∷ []) files.old files.new }
+        ensures cause { HasRemuxCause F.Reads F.Files.own files.old files.new result }
+    {
+        let size = put_size(self.total, 8);
+        files.append(file, self.back.as_slice())?;
+        files.overwrite(file, start, self.area.as_slice())?;
+        files.overwrite(file, start - 8, size.as_slice())?;
+        Ok(())
+    }
+}

@@ -1,0 +1,225 @@
+//! An output that is being written.
+
+ghost use Rattle.std.specs.Prelude.{◌≡◌, ◌+◌, ◌<◌, ◌≤◌, [], ◌∷◌, ◌++◌, length, map, All, sum_by, OnOk, OnErr, IfOk, IfSome, IsOk};
+ghost use Rattle.mkv_io.specs.Sources.{IsLive, live_files};
+ghost use Rattle.mkv_io.specs.Writing.{WritesOnly};
+ghost use Rattle.mkv_jobs.specs.Ends.{HasRemuxCause};
+ghost use Rattle.mkv_outputs.specs.Sinks.{EndsOnly};
+ghost use Rattle.mkv_outputs.specs.Starts.{StandsInPart};
+ghost use Rattle.mkv_schema.specs.declared.ids.TheConstants.{INFO, TRACKS, CHAPTERS, TAGS};
+ghost use Rattle.tree_format.specs.Node.{id_of};
+ghost use Rattle.attachment_records.specs.declared.attachment.Attachment.{Attachment as AttachmentSeen};
+ghost use Rattle.attachment_records.specs.Attached.{attached_file};
+ghost use Rattle.element_octets.specs.Element.{joined};
+ghost use Rattle.output_model.specs.declared.TheConstants.{MOST_CUES as MOST};
+ghost use Rattle.output_model.specs.Document.{opened_with, tree_element};
+ghost use Rattle.segment_octets.specs.Front.{front_with};
+ghost use Rattle.cues_seekhead.specs.Appending.{AppendsOnly, IsAppended};
+ghost use Rattle.cues_seekhead.specs.Finished.{Finishes};
+ghost use Rattle.cues_seekhead.specs.Made.{Makes, WritesAndEnds};
+ghost use Rattle.cues_seekhead.specs.OpenOutput.{CanAttach, IsOpen, StandsOpen, grown, with_cue};
+
+use crate::OutEnd;
+use crate::attaching::add_attachments;
+use crate::copying::append;
+use crate::ending::Ending;
+use ebml_tree::Tree;
+use mkv_io::{Files, Reads};
+use mkv_values::FileId;
+use output_model::{CuePoint, MOST_CUES, Seek};
+use segment_octets::{Front, Opening, body_start, open_octets};
+use std::alloc::{AllocError, Global};
+use std::marker::Model;
+
+/// An output that is being written. After a refusal of `cluster` or `cue` it can only be given up.
+#[derive(Drop)]
+pub struct OutFile {
+    alloc: Global,
+    file: FileId,
+    webm: bool,
+    // octets of the Segment's body so far
+    len: u64,
+    seeks: Vec<Seek>,
+    cues: Vec<CuePoint>,
+}
+
+impl Model for OutFile {
+    ghost use Rattle.cues_seekhead.specs.OpenOutput.{OpenOutput};
+
+    ghost Value = { OpenOutput };
+
+    ghost use Rattle.cues_seekhead.specs.OpenOutput.{HasBegun};
+
+    ghost view = { λ o. record { file = o.file; webm = o.webm; len = o.len; seeks = o.seeks.items; cues = o.cues.items } };
+
+    ghost invariant = { λ o. HasBegun (record { file = o.file; webm = o.webm; len = o.len; seeks = o.seeks.items; cues = o.cues.items }) };
+}
+
+impl OutFile {
+    /// Makes an output, and writes what stands in front of its Clusters. Of an attached file no more is read than
+    /// its data, 64 KiB at once. After a refusal no file of the output is open.
+    pub fn begin<F: Files>(
+        alloc: Global,
+        files: &mut F,
+        name: &str,
+        front: &Front,
+    ) -> Result<OutFile, OutEnd>
+        requires info { id_of front.now.info ≡ INFO }
+        requires tracks { id_of front.now.tracks ≡ TRACKS }
+        requires attached { All (CanAttach F.Reads F.Files.own files.old name.now) front.now.attachments }
+        ensures ok { IfOk result (StandsOpen F.Reads F.Files.own (F.names files.old) name.now
+            (front_with (live_files F.Reads files.old) front.now) [] files.new) }
+        ensures cues { IfOk result (λ out. out.cues ≡ []) }
+        ensures err { OnErr result (StandsInPart (F.names files.old) (F.names files.new)
+            (record { name = name.now; content = opened_with (front_with (live_files F.Reads files.old) front.now) [] } ∷ [])) }
+        ensures made { Makes F.Reads F.Files.own name.now files.old files.new result }
+        ensures cause { HasRemuxCause F.Reads F.Files.own files.old files.new result }
+        ensures reads { F.octets_read files.new ≤ F.octets_read files.old
+            + sum_by (λ (a : AttachmentSeen). a.len) front.now.attachments }
+    {
+        let opening = open_octets(alloc, front)?;
+        let Opening { octets, seeks, len } = opening;
+        let file = files.create(name)?;
+        match write_front(alloc, files, file, octets.as_slice(), front) {
+            Ok(()) => Ok(OutFile {
+                alloc,
+                file,
+                webm: front.webm,
+                len,
+                seeks,
+                cues: Vec::new(alloc),
+            }),
+            Err(end) => {
+                files.close(file);
+                Err(end)
+            }
+        }
+    }
+
+    /// Adds a cue point to a block of the Cluster that is written next, which stands `relative` octets behind that
+    /// Cluster's header. Of more than 1,048,576 points the first are kept.
+    pub fn cue(&mut self, tick: u64, lane: u8, relative: u64) -> Result<(), AllocError>
+        ensures ok { OnOk result (length self.old.cues < MOST
+            → self.new ≡ with_cue self.old (record { tick = tick; lane = lane; cluster = self.old.len; relative = relative })) }
+        ensures err { OnErr result (self.new ≡ self.old) }
+        ensures full { MOST ≤ length self.old.cues → IsOk result × (self.new ≡ self.old) }
+        ensures most { length self.new.cues ≤ MOST }
+    {
+        if self.cues.len() < MOST_CUES {
+            self.cues.push(CuePoint {
+                tick,
+                lane,
+                cluster: self.len,
+                relative,
+            })?;
+        }
+        Ok(())
+    }
+
+    /// Adds the octets of a Cluster.
+    pub fn cluster<F: Files>(&mut self, files: &mut F, bytes: &[u8]) -> Result<(), OutEnd>
+        requires { IsOpen F.Reads files.old self.old }
+        ensures appended { IsAppended (F.names files.old) (F.names files.new) (F.holder files.old self.old.file.n) bytes.now result }
+        ensures ok { OnOk result (self.new ≡ grown self.old (length bytes.now)) }
+        ensures open { OnOk result (IsOpen F.Reads files.new self.new) }
+        ensures err { OnErr result (self.new ≡ self.old) }
+        ensures only { WritesOnly F.Reads F.Files.own (F.holder files.old self.old.file.n ∷ []) files.old files.new }
+        ensures cause { HasRemuxCause F.Reads F.Files.own files.old files.new result }
+    {
+        files.append(self.file, bytes)?;
+        self.len += bytes.len() as u64;
+        Ok(())
+    }
+
+    /// Adds Cues, Chapters and Tags, and writes the SeekHead and the Segment's size over what was reserved for
+    /// them. Whatever it answers, the file is closed. Answers the file's length.
+    pub fn finish<F: Files>(
+        self,
+        files: &mut F,
+        chapters: Option<Tree>,
+        tags: Option<Tree>,
+    ) -> Result<u64, OutEnd>
+        requires open { IsOpen F.Reads files.old self }
+        requires chapters { IfSome chapters (λ n. id_of n ≡ CHAPTERS) }
+        requires tags { IfSome tags (λ n. id_of n ≡ TAGS) }
+        ensures finishes { Finishes F.Reads F.Files.own self chapters tags files.old files.new result }
+        ensures ended { WritesAndEnds F.Reads F.Files.own self.file files.old files.new }
+        ensures cause { HasRemuxCause F.Reads F.Files.own files.old files.new result }
+    {
+        self.finish_with(files, &chapters, &tags)
+    }
+
+    /// The same with Chapters and Tags that are lent, as those that several outputs have.
+    pub fn finish_with<F: Files>(
+        self,
+        files: &mut F,
+        chapters: &Option<Tree>,
+        tags: &Option<Tree>,
+    ) -> Result<u64, OutEnd>
+        requires open { IsOpen F.Reads files.old self }
+        requires chapters { IfSome chapters.now (λ n. id_of n ≡ CHAPTERS) }
+        requires tags { IfSome tags.now (λ n. id_of n ≡ TAGS) }
+        ensures finishes { Finishes F.Reads F.Files.own self chapters.now tags.now files.old files.new result }
+        ensures ended { WritesAndEnds F.Reads F.Files.own self.file files.old files.new }
+        ensures cause { HasRemuxCause F.Reads F.Files.own files.old files.new result }
+    {
+        let id = self.file;
+        let done = self.write_end(files, chapters, tags);
+        files.close(id);
+        done
+    }
+
+    // Does what `finish` does, but for the closing.
+    fn write_end<F: Files>(
+        self,
+        files: &mut F,
+        chapters: &Option<Tree>,
+        tags: &Option<Tree>,
+    ) -> Result<u64, OutEnd>
+        requires open { IsOpen F.Reads files.old self }
+        requires chapters { IfSome chapters.now (λ n. id_of n ≡ CHAPTERS) }
+        requires tags { IfSome tags.now (λ n. id_of n ≡ TAGS) }
+        ensures finishes { Finishes F.Reads F.Files.own self chapters.now tags.now files.old files.new result }
+        ensures only { WritesOnly F.Reads F.Files.own (F.holder files.old self.file.n ∷ []) files.old files.new }
+        ensures cause { HasRemuxCause F.Reads F.Files.own files.old files.new result }
+    {
+        let OutFile {
+            alloc,
+            file,
+            webm,
+            len,
+            seeks,
+            cues,
+        } = self;
+        let ending = Ending::new(alloc, len, seeks, cues.as_slice(), chapters, tags)?;
+        let start = body_start(webm);
+        ending.write(files, file, start)?;
+        Ok(start + ending.total)
+    }
+
+    /// Closes the file, and leaves it as it is. So an output is given up after a refusal.
+    pub fn abandon<F: Files>(self, files: &mut F)
+        requires { IsLive F.Reads files.old self.file }
+        ensures { EndsOnly F.Reads F.Files.own files.old files.new (self.file ∷ []) }
+    {
+        files.close(self.file);
+    }
+}
+
+// Writes what stands in front of the Clusters, of which these are the octets up to the first AttachedFile.
+fn write_front<F: Files>(
+    alloc: Global,
+    files: &mut F,
+    file: FileId,
+    octets: &[u8],
+    front: &Front,
+) -> Result<(), OutEnd>
+    requires live { IsLive F.Reads files.old file }
+    requires attached { All (CanAttach F.Reads F.Files.own files.old (F.holder files.old file.n)) front.now.attachments }
+    ensures { AppendsOnly F.Reads F.Files.own file
+        (octets.now ++ joined (map tree_element (map (attached_file (live_files F.Reads files.old)) front.now.attachments)))
+        (sum_by (λ (a : AttachmentSeen). a.len) front.now.attachments) files.old files.new result }
+{
+    append(files, file, octets)?;
+    add_attachments(alloc, files, file, front.attachments.as_slice())
+}
