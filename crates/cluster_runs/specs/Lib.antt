@@ -1,0 +1,2 @@
+pub mod Cued
+pub mod Stands
