@@ -54,10 +54,12 @@ frame_octets kind frames = lace_octets kind (map length frames) ++ concat frames
 abbrev pub relative_to : ℕ → OutputBlock → ℤ
 relative_to timestamp b = pos b.tick -ℤ pos timestamp
 
--- The track number, which takes one octet, the relative timestamp, which takes two, the flags and the frames.
+-- the track number, which takes one octet, the relative timestamp, which takes two, and the flags
+abbrev pub block_header : ℕ → OutputBlock → List ℕ
+block_header timestamp b = (0x80 + b.lane) ∷ int_octets_in 2 (relative_to timestamp b) ++ flags_of b ∷ []
+
 abbrev pub block_octets : ℕ → OutputBlock → List ℕ
-block_octets timestamp b =
-    (0x80 + b.lane) ∷ int_octets_in 2 (relative_to timestamp b) ++ flags_of b ∷ frame_octets b.lace b.frames
+block_octets timestamp b = block_header timestamp b ++ frame_octets b.lace b.frames
 
 -- ---- the Element of a block
 

@@ -60,14 +60,18 @@ lent_block l = record {
 abbrev pub in_output : ℕ → ℕ → OutputBlock → OutputBlock
 in_output lane tick b = record b { lane = lane; tick = tick }
 
--- Of a block a lane hands out 1 to 256 frames whose sizes its lace can tell, 32 MiB in all, a prefix of 4,096
--- octets, 64 references, and 32 MiB of what else is kept, at most.
+-- A lane hands out 1 to 256 frames whose sizes its lace can tell, 32 MiB in all, a prefix of 4,096 octets, 64
+-- references, and 32 MiB of what else is kept, at most.
+pub record CanBeLent (kind : Lace) (prefix : ℕ) (sizes : List ℕ) (references kept : ℕ) : Type 0 where
+  pub some : 1 ≤ length sizes
+  pub most : length sizes ≤ 256
+  pub fits : FitsKind kind sizes
+  pub total : sum sizes ≤ MOST_OF_BLOCK
+  pub prefix_most : prefix ≤ MOST_OF_PREFIX
+  pub references_most : references ≤ MOST_REFERENCES
+  pub kept_most : kept ≤ MOST_OF_BLOCK
+
+-- A block is handed out within these limits, and its sizes cut its octets.
 pub record IsLent (l : Lent) : Type 0 where
-  pub some : 1 ≤ length l.sizes
-  pub most : length l.sizes ≤ 256
-  pub fits : FitsKind l.head.lace l.sizes
-  pub total : sum l.sizes ≤ MOST_OF_BLOCK
+  pub limits : CanBeLent l.head.lace (length l.prefix) l.sizes (length l.references) (length l.kept)
   pub whole : length l.body ≡ sum l.sizes
-  pub prefix_most : length l.prefix ≤ MOST_OF_PREFIX
-  pub references_most : length l.references ≤ MOST_REFERENCES
-  pub kept_most : length l.kept ≤ MOST_OF_BLOCK

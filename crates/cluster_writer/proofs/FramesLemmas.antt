@@ -1,0 +1,114 @@
+-- Frames, one after the other.
+use Rattle.std.proofs.Common.{◌≡◌, ◌≤◌, ◌<◌, ℕ, ◌+◌, List, [], ◌∷◌, ◌++◌, length, map, take, drop, sum, slice_index, refl, sym, ap, ap₂, ◌*◌, append_assoc, append-nil, ◌∙◌, arith}
+use Rattle.std.specs.List.{concat}
+use Rattle.std.proofs.lemmas.List.{length-append, length-take-le, length-drop, length-map, at_drop_more, at_drop_all}
+use Rattle.std.proofs.lemmas.List.Sums.{sum_by-drop_more, get_or-le-sum_by, sum_by-cons}
+use Rattle.std.proofs.lemmas.List.Elements.{All-map}
+use Rattle.std.proofs.Math.Nat.{mul-le-mul}
+use Rattle.lacing.specs.declared.kind.Lace.{Lace}
+use Rattle.lacing.specs.declared.kind.Lace.TheVariants as lace
+use Rattle.lacing.specs.Lace.{AreEqual}
+use Rattle.lacing.specs.Writing.{FitsKind, CanLace}
+use Rattle.block_format.specs.Content.{frames_cut}
+use Rattle.output_model.specs.OutputBlock.{CanBeLent, prefixed}
+use Rattle.cluster_writer.specs.Lengths.{prefixed_sizes}
+
+-- frames of these sizes, each with a prefix in front
+abbrev pub prefixed_frames : List ℕ → List ℕ → List ℕ → List (List ℕ)
+prefixed_frames prefix sizes body = prefixed prefix (frames_cut sizes body)
+
+-- the frame of the size at a place, and those behind it
+pub frames-more : (prefix : List ℕ) (sizes rest : List ℕ) (i size : ℕ) → i < length sizes → size ≡ slice_index sizes i
+    → concat (prefixed_frames prefix (drop i sizes) rest) ≡ (prefix ++ take size rest) ++ concat (prefixed_frames prefix (drop (i + 1) sizes) (drop size rest))
+frames-more prefix sizes rest i size within is =
+    at_drop_more (λ ss. concat (prefixed_frames prefix ss rest)) sizes i 0 within
+    ∙ ap (λ s. (prefix ++ take s rest) ++ concat (prefixed_frames prefix (drop (i + 1) sizes) (drop s rest))) (sym is)
+
+pub frames-end : (prefix : List ℕ) (sizes rest : List ℕ) (i : ℕ) → length sizes ≤ i → concat (prefixed_frames prefix (drop i sizes) rest) ≡ []
+frames-end prefix sizes rest i end = at_drop_all (λ ss. concat (prefixed_frames prefix ss rest)) sizes i end
+
+pub sum-more : (sizes : List ℕ) (i size : ℕ) → i < length sizes → size ≡ slice_index sizes i → sum (drop i sizes) ≡ size + sum (drop (i + 1) sizes)
+sum-more sizes i size within is = sum_by-drop_more (λ x. x) sizes i 0 within ∙ ap (λ s. s + sum (drop (i + 1) sizes)) (sym is)
+
+pub within-sum : (sizes : List ℕ) (i size : ℕ) → i < length sizes → size ≡ slice_index sizes i → size ≤ sum sizes
+within-sum sizes i size within is = omega (arith, get_or-le-sum_by (λ x. x) sizes i 0 within, is)
+
+-- what is written, and what is left
+pub record Goes (prefix body sizes rest written before : List ℕ) (i : ℕ) : Type 0 where
+  pub same : written ++ concat (prefixed_frames prefix (drop i sizes) rest) ≡ before ++ concat (prefixed_frames prefix sizes body)
+  pub whole : length rest ≡ sum (drop i sizes)
+
+pub Goes-next : (prefix body sizes rest written before now : List ℕ) (i size : ℕ) → Goes prefix body sizes rest written before i
+    → i < length sizes → size ≡ slice_index sizes i → now ≡ written ++ prefix ++ take size rest → Goes prefix body sizes (drop size rest) now before (i + 1)
+Goes-next prefix body sizes rest written before now i size goes within is added = record {
+  same =
+      ap (λ w. w ++ concat (prefixed_frames prefix (drop (i + 1) sizes) (drop size rest))) (added ∙ append_assoc written prefix (take size rest))
+      ∙ append_assoc written (prefix ++ take size rest) (concat (prefixed_frames prefix (drop (i + 1) sizes) (drop size rest)))
+      ∙ ap (λ w. written ++ w) (sym (frames-more prefix sizes rest i size within is)) ∙ goes.same;
+  whole = omega (arith, length-drop size rest, sum-more sizes i size within is, goes.whole);
+}
+
+-- a frame and its prefix are among what is left
+pub Goes-room : (prefix body sizes rest written before : List ℕ) (i size : ℕ) → Goes prefix body sizes rest written before i
+    → i < length sizes → size ≡ slice_index sizes i → length written + (length prefix + size) ≤ length before + length (concat (prefixed_frames prefix sizes body))
+Goes-room prefix body sizes rest written before i size goes within is =
+    let fits : size ≤ length rest = omega (arith, sum-more sizes i size within is, goes.whole) in
+    let behind = concat (prefixed_frames prefix (drop (i + 1) sizes) (drop size rest)) in
+    omega (
+      arith,
+      ap length goes.same,
+      length-append written (concat (prefixed_frames prefix (drop i sizes) rest)),
+      length-append before (concat (prefixed_frames prefix sizes body)),
+      ap length (frames-more prefix sizes rest i size within is),
+      length-append (prefix ++ take size rest) behind,
+      length-append prefix (take size rest),
+      length-take-le size rest fits,
+    )
+
+pub Goes-end : (prefix body sizes rest written before : List ℕ) (i : ℕ) → Goes prefix body sizes rest written before i → length sizes ≤ i
+    → written ≡ before ++ concat (prefixed_frames prefix sizes body)
+Goes-end prefix body sizes rest written before i goes end =
+    sym (append-nil written) ∙ ap (λ w. written ++ w) (sym (frames-end prefix sizes rest i end)) ∙ goes.same
+
+-- ---- the sizes of frames with a prefix
+
+-- frames that are cut from octets that are enough have the sizes that they are cut to
+pub sizes-prefixed : (prefix sizes body : List ℕ) → sum sizes ≤ length body → map length (prefixed_frames prefix sizes body) ≡ prefixed_sizes (length prefix) sizes
+sizes-prefixed prefix [] body enough = refl
+sizes-prefixed prefix (s ∷ ss) body enough =
+    let whole : s + sum ss ≤ length body = omega (arith, sum_by-cons (λ x. x) s ss) in
+    let fits : s ≤ length body = omega arith in
+    let first : length (prefix ++ take s body) ≡ length prefix + s = length-append prefix (take s body) ∙ ap (λ n. length prefix + n) (length-take-le s body fits) in
+    let rest = sizes-prefixed prefix ss (drop s body) (omega (arith, length-drop s body)) in
+    ap₂ (λ x xs. x ∷ xs) first rest
+
+pub sum-prefixed : (p : ℕ) (sizes : List ℕ) → sum (prefixed_sizes p sizes) ≡ p * length sizes + sum sizes
+sum-prefixed p [] = omega arith
+sum-prefixed p (s ∷ ss) = omega (arith, sum-prefixed p ss, sum_by-cons (λ x. x) s ss, sum_by-cons (λ x. x) (p + s) (prefixed_sizes p ss))
+
+-- frames joined are as long as their sizes together
+pub length-concat : (frames : List (List ℕ)) → length (concat frames) ≡ sum (map length frames)
+length-concat [] = refl
+length-concat (f ∷ fs) = length-append f (concat fs) ∙ ap (λ n. length f + n) (length-concat fs) ∙ sym (sum_by-cons (λ x. x) (length f) (map length fs))
+
+equal-prefixed : (p : ℕ) (sizes : List ℕ) → AreEqual sizes → AreEqual (prefixed_sizes p sizes)
+equal-prefixed p [] same = tt
+equal-prefixed p (s ∷ ss) same = All-map (λ other. other ≡ p + s) (λ size. p + size) ss (λ k d within. ap (λ x. p + x) (same k d within))
+
+fits-prefixed : (kind : Lace) (p : ℕ) (sizes : List ℕ) → FitsKind kind sizes → FitsKind kind (prefixed_sizes p sizes)
+fits-prefixed lace.None p sizes fits = length-map sizes (λ size. p + size) ∙ fits
+fits-prefixed lace.Xiph p sizes fits = fits
+fits-prefixed lace.Fixed p sizes fits = equal-prefixed p sizes fits
+fits-prefixed lace.Ebml p sizes fits = fits
+
+-- what a lane lends can be laced with its prefix
+pub can-prefixed : (kind : Lace) (p : ℕ) (sizes : List ℕ) (references kept : ℕ) → CanBeLent kind p sizes references kept → CanLace kind (prefixed_sizes p sizes)
+can-prefixed kind p sizes references kept lent =
+    let count = length-map sizes (λ size. p + size) in
+    let most = mul-le-mul lent.prefix_most lent.most in
+    record {
+      some = omega (arith, count, lent.some);
+      most = omega (arith, count, lent.most);
+      total = omega (arith, sum-prefixed p sizes, most, lent.total);
+      fits = fits-prefixed kind p sizes lent.fits;
+    }

@@ -1,0 +1,4 @@
+pub mod FramesLemmas
+pub mod LengthLemmas
+pub mod BlockLemmas
+pub mod BufferLemmas

@@ -1,0 +1,102 @@
+-- What a Cluster's buffer holds.
+use Rattle.std.specs.Prelude.{◌≡◌, ◌≤◌, ◌<◌, ℕ, ◌+◌, Bool, true, List, [], ◌++◌, length, Option, Some, None, unwrap_or}
+use Rattle.mkv_schema.specs.declared.ids.TheConstants.{CLUSTER}
+use Rattle.element_octets.specs.Element.{element, octets_of, joined}
+use Rattle.output_model.specs.declared.heads.ClusterLimits.{ClusterLimits}
+use Rattle.output_model.specs.OutputBlock.{OutputBlock, Lent, IsLent}
+use Rattle.output_model.specs.Block.{block_element}
+use Rattle.output_model.specs.Cluster.{OutputCluster, timestamp_element, block_elements, begun, with_block, joins, may_have}
+use Rattle.cluster_writer.specs.Lent.{block_put}
+use Rattle.cluster_writer.specs.Lengths.{octets_taken}
+
+-- Where Clusters end; the Timestamp, where there is a block; how many blocks there are, and the octets of
+-- their Elements; and how many octets more take no memory.
+pub record Gathered : Type 0 where
+  pub limits : ClusterLimits
+  pub timestamp : Option ℕ
+  pub count : ℕ
+  pub elements : List ℕ
+  pub spare : ℕ
+
+-- ---- the Cluster that is held
+
+-- none before the first block
+abbrev pub empty_with : ClusterLimits → ℕ → Gathered
+empty_with limits spare = record { limits = limits; timestamp = None; count = 0; elements = []; spare = spare }
+
+abbrev pub gathered_with : ClusterLimits → ℕ → Option OutputCluster → Gathered
+gathered_with limits spare None = empty_with limits spare
+gathered_with limits spare (Some c) =
+    record { limits = limits; timestamp = Some c.timestamp; count = length c.blocks; elements = joined (block_elements c.timestamp c.blocks); spare = spare }
+
+-- The buffer holds this Cluster, or none.
+abbrev pub Holds : Option OutputCluster → Gathered → Type 0
+Holds c g = g ≡ gathered_with g.limits g.spare c
+
+-- with a further block, which begins a Cluster where there is none
+abbrev pub with_next : Option OutputCluster → OutputBlock → OutputCluster
+with_next None b = begun b
+with_next (Some c) b = with_block c b
+
+-- a first block always joins
+abbrev pub joins_next : ClusterLimits → Option OutputCluster → OutputBlock → Bool
+joins_next limits None b = true
+joins_next limits (Some c) b = joins limits c b
+
+-- ---- the same by what the buffer knows
+
+-- the octets of a Cluster; without a block there is none
+abbrev pub cluster_with : Option ℕ → List ℕ → List ℕ
+cluster_with None elements = []
+cluster_with (Some timestamp) elements = octets_of (element CLUSTER (octets_of (timestamp_element timestamp) ++ elements))
+
+-- how many octets the body of a Cluster of this Timestamp has
+abbrev pub size_with : ℕ → List ℕ → ℕ
+size_with timestamp elements = length (octets_of (timestamp_element timestamp)) + length elements
+
+-- a block at this tick, whose Element has so many octets, joins
+abbrev pub joins_at : ClusterLimits → Option ℕ → ℕ → List ℕ → ℕ → ℕ → Bool
+joins_at limits None count elements tick len = true
+joins_at limits (Some timestamp) count elements tick len = may_have limits timestamp (count + 1) tick (size_with timestamp elements + len)
+
+abbrev pub has_place : Gathered → ℕ → ℕ → Bool
+has_place g tick len = joins_at g.limits g.timestamp g.count g.elements tick len
+
+-- the Timestamp that a block at this tick counts from
+abbrev pub timestamp_for : Gathered → ℕ → ℕ
+timestamp_for g tick = unwrap_or g.timestamp tick
+
+-- the octets that stand before the next block in the Cluster's body
+abbrev pub place_in : Gathered → ℕ → ℕ
+place_in g tick = size_with (timestamp_for g tick) g.elements
+
+-- A block can be put into the buffer: it is within what a lane hands out; one octet tells the number of its lane; it
+-- joins the Cluster that is held; and there is room for its Element.
+pub record CanPut (g : Gathered) (lane tick : ℕ) (l : Lent) : Type 0 where
+  pub lent : IsLent l
+  pub number : lane < 128
+  pub fits : has_place g tick (octets_taken (block_put lane tick l)) ≡ true
+  pub room : octets_taken (block_put lane tick l) ≤ g.spare
+
+-- What is held, and a block behind it, which takes the room of its Element.
+pub record AddsBlock (b : OutputBlock) (old new : Gathered) : Type 0 where
+  pub limits : new.limits ≡ old.limits
+  pub timestamp : new.timestamp ≡ Some (timestamp_for old b.tick)
+  pub count : new.count ≡ old.count + 1
+  pub elements : new.elements ≡ old.elements ++ octets_of (block_element (timestamp_for old b.tick) b)
+  pub spare : old.spare ≤ new.spare + octets_taken b
+
+-- ---- what a caller follows: the Cluster that is held
+
+-- It is told whether a block at this tick, whose Element has so many octets, joins the Cluster.
+abbrev pub TellsJoining : Gathered → ℕ → ℕ → Bool → Type 0
+TellsJoining g tick len answer =
+    (c : Option OutputCluster) (b : OutputBlock) → Holds c g → b.tick ≡ tick → octets_taken b ≡ len → answer ≡ joins_next g.limits c b
+
+-- the Cluster stays
+abbrev pub HoldsSame : Gathered → Gathered → Type 0
+HoldsSame old new = (c : Option OutputCluster) → Holds c old → Holds c new
+
+-- the Cluster has one block more
+abbrev pub HoldsNext : OutputBlock → Gathered → Gathered → Type 0
+HoldsNext b old new = (c : Option OutputCluster) → Holds c old → Holds (Some (with_next c b)) new

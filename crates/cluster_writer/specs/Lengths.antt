@@ -1,0 +1,50 @@
+-- How long a block is as it is written: what the code counts.
+use Rattle.std.specs.Prelude.{ℕ, ℤ, ◌+◌, if◌then◌else◌, List, ◌++◌, length, map, sum, Option}
+use Rattle.lacing.specs.declared.kind.Lace.{Lace}
+use Rattle.mkv_schema.specs.declared.ids.TheConstants.{SIMPLE_BLOCK, BLOCK_GROUP, BLOCK}
+use Rattle.tree_format.specs.NormalForm.{header_octets}
+use Rattle.element_octets.specs.Element.{octets_of, joined}
+use Rattle.output_model.specs.declared.heads.OutHead.{OutHead}
+use Rattle.output_model.specs.OutputBlock.{OutputBlock}
+use Rattle.output_model.specs.Block.{lace_octets, duration_elements, reference_element, block_element}
+
+-- how many octets a block's Element has, the same in every Cluster
+abbrev pub octets_taken : OutputBlock → ℕ
+octets_taken b = length (octets_of (block_element b.tick b))
+
+-- ---- part by part
+
+-- the sizes of frames with a prefix in front of each
+abbrev pub prefixed_sizes : ℕ → List ℕ → List ℕ
+prefixed_sizes prefix sizes = map (λ size. prefix + size) sizes
+
+-- a Block with frames of these sizes
+abbrev pub block_len : Lace → List ℕ → ℕ
+block_len kind sizes = 4 + length (lace_octets kind sizes) + sum sizes
+
+abbrev pub duration_len : Option ℕ → ℕ
+duration_len duration = length (joined (duration_elements duration))
+
+abbrev pub references_len : List ℤ → ℕ
+references_len references = length (joined (map reference_element references))
+
+-- an Element with so many octets behind its header
+abbrev pub whole_len : ℕ → ℕ → ℕ
+whole_len id len = length (header_octets id len) + len
+
+-- behind the header of a group whose Block has so many octets, and behind its Block alone
+abbrev pub behind_len : Option ℕ → List ℤ → ℕ → ℕ
+behind_len duration references kept = duration_len duration + references_len references + kept
+
+abbrev pub group_len : OutHead → ℕ → List ℤ → ℕ → ℕ
+group_len head block references kept = whole_len BLOCK block + behind_len head.duration references kept
+
+-- what stands behind the Block of a group
+abbrev pub behind_octets : OutputBlock → List ℕ
+behind_octets b = joined (duration_elements b.duration ++ map reference_element b.references) ++ b.kept
+
+-- the Element of a block
+abbrev pub taken_len : OutHead → ℕ → List ℕ → List ℤ → ℕ → ℕ
+taken_len head prefix sizes references kept =
+    let block = block_len head.lace (prefixed_sizes prefix sizes) in
+    if head.group then whole_len BLOCK_GROUP (group_len head block references kept) else whole_len SIMPLE_BLOCK block

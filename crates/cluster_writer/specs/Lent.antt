@@ -1,0 +1,52 @@
+-- A block that is put into a Cluster, and what it is in the output.
+use Rattle.std.specs.Prelude.{◌≡◌, ◌<◌, ℕ, ℤ, true, List, length}
+use Rattle.output_model.specs.declared.heads.OutHead.{OutHead}
+use Rattle.output_model.specs.OutputBlock.{OutputBlock, Lent, IsLent, lent_block, in_output}
+use Rattle.mkv_schema.specs.declared.ids.TheConstants.{BLOCK_GROUP}
+use Rattle.output_model.specs.Cluster.{is_near}
+use Rattle.cluster_writer.specs.Lengths.{prefixed_sizes, block_len, group_len, whole_len}
+use Rattle.cluster_writer.specs.declared.lent.LentBlock.{LentBlock}
+
+-- what a lane hands out, of these parts
+abbrev pub lent : OutHead → List ℕ → List ℕ → List ℕ → List ℤ → List ℕ → Lent
+lent head prefix body sizes references kept =
+    record { head = head; prefix = prefix; body = body; sizes = sizes; references = references; kept = kept }
+
+abbrev pub lent_of : LentBlock → Lent
+lent_of b = lent b.head.now b.prefix.now b.body.now b.sizes.now b.references.now b.kept.now
+
+-- the block as it stands in the output: in a lane of this number, at this tick of its part
+abbrev pub block_put : ℕ → ℕ → Lent → OutputBlock
+block_put lane tick l = in_output lane tick (lent_block l)
+
+abbrev pub block_of : LentBlock → OutputBlock
+block_of b = block_put b.lane b.tick (lent_of b)
+
+-- It is within what a lane hands out, and one octet tells the number of its lane.
+pub record CanBePut (b : LentBlock) : Type 0 where
+  pub lent : IsLent (lent_of b)
+  pub lane : b.lane < 128
+
+-- What a lane hands out says this of itself, has a prefix of so many octets, these sizes and references, and so
+-- many octets of what else is kept.
+pub record Measures (own : OutHead) (front : ℕ) (parts : List ℕ) (others : List ℤ) (extra : ℕ) (l : Lent) : Type 0 where
+  pub head : l.head ≡ own
+  pub prefix : length l.prefix ≡ front
+  pub sizes : l.sizes ≡ parts
+  pub references : l.references ≡ others
+  pub kept : length l.kept ≡ extra
+
+-- ---- while it is written
+
+-- It can be put, a Cluster of this Timestamp can tell its time, and its frames have these sizes with their prefix.
+pub record CanStand (timestamp : ℕ) (b : LentBlock) (all : List ℕ) : Type 0 where
+  pub put : CanBePut b
+  pub near : is_near timestamp b.tick ≡ true
+  pub sizes : all ≡ prefixed_sizes (length b.prefix.now) b.sizes.now
+
+-- how many octets it takes as an Element of this ID, and as a group
+abbrev pub alone_len : ℕ → LentBlock → List ℕ → ℕ
+alone_len id b sizes = whole_len id (block_len b.head.now.lace sizes)
+
+abbrev pub grouped_len : LentBlock → List ℕ → ℕ
+grouped_len b sizes = whole_len BLOCK_GROUP (group_len b.head.now (block_len b.head.now.lace sizes) b.references.now (length b.kept.now))

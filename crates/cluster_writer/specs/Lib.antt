@@ -1,0 +1,4 @@
+pub mod Lent
+pub mod Lengths
+pub mod Gathered
+pub mod Buffer

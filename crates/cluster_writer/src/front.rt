@@ -1,0 +1,66 @@
+//! What stands in front of a Cluster's blocks: its header, which is known last, and the Timestamp.
+
+ghost use Rattle.std.specs.Prelude.{◌≡◌, ◌+◌, ◌^◌, ◌≤◌, ◌++◌, ℕ, length, drop, Some};
+ghost use Rattle.element_octets.specs.Element.{octets_of};
+ghost use Rattle.output_model.specs.Cluster.{timestamp_element};
+ghost use Rattle.cluster_writer.specs.Gathered.{cluster_with};
+
+use ebml_numbers::{put_id, put_size, put_uint, size_width};
+use element_writer::uint_len;
+use mkv_schema::ids::{CLUSTER, TIMESTAMP};
+
+/// So many octets are enough for what stands in front of the blocks.
+pub(crate) const FRONT: usize = 40;
+
+// Writes octets up to a place, and answers where they begin.
+fn put_before(octets: &mut [u8], at: usize, part: &[u8]) -> usize
+    requires inside { at ≤ length octets.old }
+    requires room { length part.now ≤ at }
+    ensures place { result + length part.now ≡ at }
+    ensures written { drop result octets.new ≡ part.now ++ drop at octets.old }
+    ensures same { (k : ℕ) → at ≤ k → drop k octets.new ≡ drop k octets.old }
+{
+    let start = at - part.len();
+    octets[start..at].copy_from_slice(part);
+    start
+}
+
+/// How many octets a Timestamp has.
+#[tactic(auto, unfolding(ebml_format::specs::Number::is_id))]
+pub(crate) fn timestamp_len(timestamp: u64) -> u64
+    ensures exact { result ≡ length (octets_of (timestamp_element timestamp)) }
+    ensures most { result ≤ 24 }
+{
+    uint_len(TIMESTAMP, timestamp)
+}
+
+// Writes a Timestamp in front of the blocks, and answers where it begins.
+#[tactic(auto, unfolding(ebml_format::specs::Number::is_id))]
+fn put_timestamp(octets: &mut [u8], timestamp: u64) -> usize
+    requires { FRONT ≤ length octets.old }
+    ensures place { FRONT ≤ result + 24 }
+    ensures inside { result ≤ FRONT }
+    ensures written { drop result octets.new ≡ octets_of (timestamp_element timestamp) ++ drop FRONT octets.old }
+    ensures same { (k : ℕ) → FRONT ≤ k → drop k octets.new ≡ drop k octets.old }
+{
+    let value = put_uint(timestamp);
+    let len = u64::from(value.len);
+    let at = put_before(octets, FRONT, value.as_slice());
+    let at = put_before(octets, at, put_size(len, size_width(len)).as_slice());
+    put_before(octets, at, put_id(TIMESTAMP).as_slice())
+}
+
+/// Writes the header of a Cluster and its Timestamp in front of its blocks, and answers where it begins.
+#[tactic(auto, unfolding(ebml_format::specs::Number::is_id))]
+pub(crate) fn put_front(octets: &mut [u8], timestamp: u64) -> usize
+    requires front { FRONT ≤ length octets.old }
+    requires most { length octets.old ≤ 2 ^ 29 }
+    ensures inside { result ≤ FRONT }
+    ensures written { drop result octets.new ≡ cluster_with (Some timestamp) (drop FRONT octets.old) }
+    ensures same { drop FRONT octets.new ≡ drop FRONT octets.old }
+{
+    let at = put_timestamp(octets, timestamp);
+    let len = (octets.len() - at) as u64;
+    let at = put_before(octets, at, put_size(len, size_width(len)).as_slice());
+    put_before(octets, at, put_id(CLUSTER).as_slice())
+}

@@ -1,0 +1,98 @@
+//! What a BlockGroup holds besides its Block: RFC 9559, section 5.1.3 (Cluster Element).
+
+ghost use Rattle.std.specs.Prelude.{◌≡◌, ◌+◌, ◌*◌, ◌^◌, ◌<◌, ◌≤◌, ◌++◌, length, map};
+ghost use Rattle.element_octets.specs.Element.{joined, octets_of};
+ghost use Rattle.element_writer.specs.Room.{Adds, HasRoom};
+ghost use Rattle.output_model.specs.Block.{duration_elements, reference_element};
+ghost use Rattle.cluster_writer.specs.Lent.{block_of};
+ghost use Rattle.cluster_writer.specs.Lengths.{duration_len, references_len, behind_len, group_len, behind_octets};
+
+use crate::lent::LentBlock;
+use ebml_numbers::put_int;
+use element_writer::{add, add_header, add_uint, element_len, uint_len};
+use mkv_schema::ids::{BLOCK, BLOCK_DURATION, REFERENCE_BLOCK};
+use output_model::OutHead;
+
+/// How many octets stand behind the header of a group whose Block has so many.
+#[tactic(auto, unfolding(ebml_format::specs::Number::is_id))]
+pub(crate) fn group_len(head: &OutHead, block: u64, references: &[i64], kept: u64) -> u64
+    requires block { block ≤ 2 ^ 26 + 2 ^ 21 }
+    requires references { length references.now ≤ 64 }
+    requires kept { kept ≤ 2 ^ 25 }
+    ensures exact { result ≡ group_len head.now block references.now kept }
+    ensures most { result ≤ 2 ^ 26 + 2 ^ 25 + 2 ^ 22 }
+{
+    element_len(BLOCK, block) + duration_len(head.duration) + references_len(references) + kept
+}
+
+#[tactic(auto, unfolding(ebml_format::specs::Number::is_id))]
+fn duration_len(duration: Option<u64>) -> u64
+    ensures exact { result ≡ duration_len duration }
+    ensures most { result ≤ 24 }
+{
+    match duration {
+        None => 0,
+        Some(ticks) => uint_len(BLOCK_DURATION, ticks),
+    }
+}
+
+/// Adds what stands behind the Block of a group.
+pub(crate) fn add_behind(out: &mut Vec<u8>, block: &LentBlock<'_>)
+    requires { HasRoom out.old (behind_len block.now.head.now.duration block.now.references.now (length block.now.kept.now)) }
+    ensures { Adds out.old out.new (behind_octets (block_of block.now)) }
+{
+    add_duration(out, block.head.duration);
+    add_references(out, block.references);
+    add(out, block.kept);
+}
+
+// Adds the BlockDuration, where there is one.
+#[tactic(auto, unfolding(ebml_format::specs::Number::is_id))]
+fn add_duration(out: &mut Vec<u8>, duration: Option<u64>)
+    requires { HasRoom out.old (duration_len duration) }
+    ensures { Adds out.old out.new (joined (duration_elements duration)) }
+{
+    if let Some(ticks) = duration {
+        add_uint(out, BLOCK_DURATION, ticks);
+    }
+}
+
+#[tactic(auto, unfolding(ebml_format::specs::Number::is_id))]
+fn reference_len(ticks: i64) -> u64
+    ensures exact { result ≡ length (octets_of (reference_element ticks)) }
+    ensures most { result ≤ 24 }
+{
+    element_len(REFERENCE_BLOCK, u64::from(put_int(ticks).len))
+}
+
+#[tactic(auto, unfolding(ebml_format::specs::Number::is_id))]
+fn add_reference(out: &mut Vec<u8>, ticks: i64)
+    requires { HasRoom out.old (length (octets_of (reference_element ticks))) }
+    ensures { Adds out.old out.new (octets_of (reference_element ticks)) }
+{
+    let octets = put_int(ticks);
+    add_header(out, REFERENCE_BLOCK, u64::from(octets.len));
+    add(out, octets.as_slice());
+}
+
+fn references_len(references: &[i64]) -> u64
+    requires { length references.now ≤ 64 }
+    ensures exact { result ≡ references_len references.now }
+    ensures most { result ≤ 2048 }
+{
+    let mut total = 0;
+    for ticks in references {
+        total += reference_len(*ticks);
+    }
+    total
+}
+
+// Adds a ReferenceBlock for each reference.
+fn add_references(out: &mut Vec<u8>, references: &[i64])
+    requires { HasRoom out.old (references_len references.now) }
+    ensures { Adds out.old out.new (joined (map reference_element references.now)) }
+{
+    for ticks in references {
+        add_reference(out, *ticks);
+    }
+}

@@ -1,0 +1,40 @@
+//! Where a Cluster ends.
+
+ghost use Rattle.std.specs.Prelude.{◌≡◌, ◌≤◌, ◌+◌, ◌^◌};
+ghost use Rattle.output_model.specs.Cluster.{is_near, may_have};
+
+use output_model::{ClusterLimits, MOST_OF_CLUSTER};
+
+// Sixteen bits with a sign tell a block's time from the Timestamp.
+fn is_near(timestamp: u64, tick: u64) -> bool
+    ensures { result ≡ is_near timestamp tick }
+{
+    if timestamp <= tick {
+        tick - timestamp <= 32767
+    } else {
+        timestamp - tick <= 32768
+    }
+}
+
+/// Whether a Cluster of this Timestamp, of so many blocks and so many octets in its body, may have one more, at
+/// this tick and of so many octets.
+pub(crate) fn may_have(
+    limits: ClusterLimits,
+    timestamp: u64,
+    count: u32,
+    tick: u64,
+    size: u64,
+    len: u64,
+) -> bool
+    requires { size ≤ 2 ^ 40 }
+    ensures { result ≡ may_have limits timestamp (count + 1) tick (size + len) }
+{
+    if count >= limits.blocks || !is_near(timestamp, tick) {
+        return false;
+    }
+    let nanoseconds = u128::from(tick.saturating_sub(timestamp)) * u128::from(limits.scale);
+    if nanoseconds > u128::from(limits.span) {
+        return false;
+    }
+    len <= MOST_OF_CLUSTER && size + len <= MOST_OF_CLUSTER
+}

@@ -1,0 +1,16 @@
+#![tactic(auto)]
+
+//! Clusters, written block by block into a buffer that is used again: RFC 9559, section 5.1.3 (Cluster Element).
+
+mod adding;
+mod block;
+mod buffer;
+mod front;
+mod group;
+mod joining;
+mod lace;
+mod lent;
+
+pub use buffer::ClusterBuf;
+pub use lent::{LentBlock, element_len};
+pub use output_model::{ClusterLimits, Lace, OutHead};
