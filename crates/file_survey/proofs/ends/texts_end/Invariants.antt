@@ -1,0 +1,6 @@
+use Rattle.std.proofs.Common.{◌≡◌, max, drop}
+use Rattle.file_survey.specs.Ends.{texts_end}
+use Rattle.file_survey.proofs.ends.texts_end.Given as goal
+
+abbrev pub invariant-loop-link : goal.invariant-loop-link
+invariant-loop-link l = max l.end (texts_end (drop l.link-index l.links)) ≡ texts_end l.links

@@ -1,0 +1,371 @@
+-- A turn at a link, one answer of its cursor after the other: what it gives, how far it goes, and what it reads.
+use Rattle.std.proofs.Common.{◌≡◌, ℕ, suc, zero, ◌+◌, ◌-◌, ◌*◌, ◌<◌, ◌≤◌, Bool, false, List, [], ◌∷◌, ◌++◌, length, drop, Option, Some, None, Result, Ok, Err, refl, sym, ◌∙◌, ap, subst, add-one, arith}
+use Rattle.std.specs.Prelude.{◌||◌}
+use Rattle.std.specs.Result.{IsErr}
+use Rattle.std.specs.List.{All, slice_get}
+use Rattle.std.proofs.Math.ListN.{set}
+use Rattle.std.proofs.lemmas.List.Elements.{All-head, All-tail}
+use Rattle.std.proofs.lemmas.Option.{slice_get_within}
+use Rattle.mkv_values.specs.declared.damage.Damage.{Damage}
+use Rattle.mkv_values.specs.declared.outside.ReadEnd.{ReadEnd}
+use Rattle.mkv_io.specs.LiveFiles.{LiveFiles}
+use Rattle.mkv_io.specs.Told.{Told}
+use Rattle.block_format.specs.Block.{Block}
+use Rattle.block_format.specs.Events.{Event, block, events_of}
+use Rattle.block_format.specs.Elements.{with_limits}
+use Rattle.matroska_format.specs.declared.element.Header.{Header}
+use Rattle.cluster_reader.specs.Reading.{CanRead, Gives, Reading, damage_event, left_of, paid}
+use Rattle.cluster_reader.specs.ToldDamages.{ToldDamages, with_damage}
+use Rattle.cluster_reader.specs.declared.step.Step.{Step}
+use Rattle.output_model.specs.OutputBlock.{IsLent, Lent}
+use Rattle.merge_model.specs.Links.{given_blocks}
+use Rattle.text_entries.specs.declared.Entry.{Entry}
+use Rattle.lane_blocks.specs.Lent.{HasFewTicks, IsPlaced, lent_ordered}
+use Rattle.lane_blocks.specs.Links.{IsToldLink, given_in, octets_in, text_with, track_events}
+use Rattle.lane_blocks.specs.Placed.{entry_placed, text_lent, track_lent, track_placed}
+use Rattle.lane_blocks.specs.declared.link.Link.{Link}
+use Rattle.lane_blocks.specs.declared.link.Link.TheVariants.{Track, Entries}
+use Rattle.lane_blocks.specs.declared.link.TextLink.{TextLink}
+use Rattle.lane_blocks.specs.declared.link.TrackLink.{TrackLink}
+use Rattle.lanes.specs.Turns.{GivesFirst, LendsBlock, Pays, Turns}
+use Rattle.lanes.specs.Walks.{IsAt, IsReady, due, files_length, left, lent_by, lent_by_track, lent_in, links_left, text_of, told_in_all, track_behind, track_due, track_left, track_way, way}
+use Rattle.lanes.specs.declared.turn.Turn.{Turn}
+use Rattle.lanes.specs.declared.turn.Turn.TheVariants.{Passed, Gives as GivesBlock}
+use Rattle.lanes.specs.declared.walk.Walk.{Walk}
+use Rattle.lanes.proofs.LinkLemmas.{damage-blocks, damage-stops, damage-told, end-stops, track-block}
+use Rattle.lanes.proofs.ListLemmas.{drop-at, drop-past}
+use Rattle.lanes.proofs.ToldLemmas.{told-damage, told-leaves, told-passes}
+use Rattle.lanes.proofs.WalkLemmas.{HasLeft, Leaves, Stays, later, left-gives, left-leaves, left-passes, links_left-at}
+use Rattle.lanes.proofs.WayLemmas.{due-leaves, due-stays, length-at, way-leaves, way-stays}
+
+-- ---- what is known of the link
+
+-- what holds of all holds of the one at a place
+pub all-at : {X : Type 0} (P : X → Type 0) (xs : List X) (k : ℕ) (x : X) → All P xs → slice_get xs k ≡ Some x → P x
+all-at P [] k x all is = absurd (cc)
+all-at P (y ∷ ys) zero x all is = let e : y ≡ x = cc in subst P e (All-head P y ys all)
+all-at P (y ∷ ys) (suc k) x all is = all-at P ys k x (All-tail P y ys all) is
+
+-- the element at a place
+pub element-at : {X : Type 0} (xs : List X) (k : ℕ) → k < length xs → (x : X) × (slice_get xs k ≡ Some x)
+element-at [] k inside = absurd (omega arith)
+element-at (x ∷ xs) zero inside = (x, refl)
+element-at (x ∷ xs) (suc k) inside = element-at xs k (omega arith)
+
+-- the cursor is in the file of the track
+pub at-track : (f : LiveFiles) (links : List Link) (w : Walk) (t : TrackLink) (c : Reading) → IsReady f links w → slice_get links w.at ≡ Some (Track t) → w.cursor ≡ Some c → CanRead f c × (c.file ≡ t.file)
+at-track f links w t c ready is cursor =
+    let here : IsAt f (Some c) (slice_get links w.at) = subst (λ each. IsAt f each (slice_get links w.at)) cursor ready.here in
+    subst (IsAt f (Some c)) is here
+
+-- at a text there is none
+pub at-text : (f : LiveFiles) (links : List Link) (w : Walk) (e : TextLink) → IsReady f links w → slice_get links w.at ≡ Some (Entries e) → w.cursor ≡ None
+at-text f links w e ready is = step w.cursor (subst (IsAt f w.cursor) is ready.here)
+  where
+    step : (o : Option Reading) → IsAt f o (Some (Entries e)) → o ≡ None
+    step None here = refl
+    step (Some c) here = absurd here
+
+-- what the cursor gives, of the octets that are told
+pub cursor-gives : (f : LiveFiles) (links : List Link) (k : ℕ) (t : TrackLink) (c d : Reading) (result : Result Step ReadEnd) → All (IsToldLink f) links → slice_get links k ≡ Some (Track t) → c.file ≡ t.file → Told (f.content c.file.n) (λ bytes. Gives bytes c d result) → Gives (octets_in f t.file.n) c d result
+cursor-gives f links k t c d result all is file gives =
+    gives (octets_in f t.file.n) (ap (λ each. f.content each.n) file ∙ all-at (IsToldLink f) links k (Track t) all is)
+
+-- the blocks and damages of a track's file, with a Segment
+abbrev pub events_with : LiveFiles → TrackLink → Header → List Event
+events_with f t segment = events_of (with_limits t.scale) (octets_in f t.file.n) segment
+
+-- the content of the file at a place
+pub content-at : (f : LiveFiles) (links : List Link) (k : ℕ) (t : TrackLink) → All (IsToldLink f) links → slice_get links k ≡ Some (Track t) → f.content t.file.n ≡ Some (octets_in f t.file.n)
+content-at f links k t all is = all-at (IsToldLink f) links k (Track t) all is
+
+-- what is paid for
+sums : (before now total c d : ℕ) → now + c ≤ before + d → d ≤ total → now + (total - d) ≤ before + (total - c)
+sums before now total c d pays most = omega arith
+
+-- ---- a turn in the file of a track, whose cursor was c and is d
+
+pub record Reads (links : List Link) (t : TrackLink) (old new : Walk) (c d : Reading) : Type 0 where
+  pub at : slice_get links old.at ≡ Some (Track t)
+  pub same : new.at ≡ old.at
+  pub before : old.cursor ≡ Some c
+  pub now : new.cursor ≡ Some d
+
+module _ (links : List Link) (t : TrackLink) (old new : Walk) (c d : Reading) (is : Reads links t old new c d) where
+  at_new : slice_get links new.at ≡ Some (Track t)
+  at_new = ap (slice_get links) is.same ∙ is.at
+
+  -- what is lent
+  pub lent-here : lent_in links new ≡ track_lent t d.block new.placed
+  lent-here = ap (lent_by new) at_new ∙ ap (lent_by_track new.placed t) is.now
+
+  pub reads-on : c.place.at < d.place.at → d.place.at ≤ d.place.end → d.place.end ≡ c.place.end → way links new < way links old
+  reads-on on inside end = way-stays links (Track t) old new is.at is.same
+      (let was : track_way t old.cursor ≡ track_way t (Some c) = ap (track_way t) is.before in
+      let will : track_way t new.cursor ≡ track_way t (Some d) = ap (track_way t) is.now in
+      omega arith)
+
+module _ (f : LiveFiles) (scale : ℕ) (links : List Link) (t : TrackLink) (old new : Walk) (c d : Reading) (is : Reads links t old new c d) where
+  -- what its link has left
+  was : links_left f links old ≡ track_behind t old.stopped (left_of (octets_in f t.file.n) c) ∷ later f links old.at
+  was = links_left-at f links old (Track t) is.at ∙ ap (λ each. track_left f t old.stopped each ∷ later f links old.at) is.before
+
+  now : links_left f links new ≡ track_behind t new.stopped (left_of (octets_in f t.file.n) d) ∷ later f links old.at
+  now = links_left-at f links new (Track t) (at_new links t old new c d is)
+      ∙ ap (λ each. track_left f t new.stopped each ∷ later f links new.at) is.now
+      ∙ ap (λ (k : ℕ). track_behind t new.stopped (left_of (octets_in f t.file.n) d) ∷ later f links k) is.same
+
+  stays : (track_behind t old.stopped (left_of (octets_in f t.file.n) c)).stops ≡ (track_behind t new.stopped (left_of (octets_in f t.file.n) d)).stops
+      → Stays f links old new (track_behind t old.stopped (left_of (octets_in f t.file.n) c)) (track_behind t new.stopped (left_of (octets_in f t.file.n) d))
+  stays stops = record { rest = later f links old.at; was = was; now = now; stops = stops; at = is.same }
+
+  -- a call that gives nothing
+  pub turns-same : new.stopped ≡ old.stopped → new.greatest ≡ old.greatest → new.told ≡ old.told → left_of (octets_in f t.file.n) d ≡ left_of (octets_in f t.file.n) c → (result : Result Turn ReadEnd) → IsErr result → Turns f scale links old new result
+  turns-same stopped greatest told gives result err = record {
+    blocks = refused result err (left-passes f scale links old new _ _ (stays (ap (λ g. g.stops) same)) (ap (given_blocks scale) same) greatest);
+    damages = told-passes f links old new _ _ (stays (ap (λ g. g.stops) same)) (ap (λ g. g.damages) same) told;
+  }
+    where
+      same : track_behind t old.stopped (left_of (octets_in f t.file.n) c) ≡ track_behind t new.stopped (left_of (octets_in f t.file.n) d)
+      same = ap (λ es. track_behind t old.stopped es) (sym gives) ∙ ap (λ st. track_behind t st (left_of (octets_in f t.file.n) d)) (sym stopped)
+
+      refused : (r : Result Turn ReadEnd) → IsErr r → left f scale links new ≡ left f scale links old → GivesFirst (left f scale links old) (left f scale links new) (lent_in links new) r
+      refused (Ok turn) err passes = absurd (cc)
+      refused (Err end) err passes = passes
+
+  -- ---- a block
+
+  module _ (b : Block) (stopped : new.stopped ≡ old.stopped) (told : new.told ≡ old.told) (gives : left_of (octets_in f t.file.n) c ≡ block b ∷ left_of (octets_in f t.file.n) d) where
+    block-stays : Stays f links old new (track_behind t old.stopped (left_of (octets_in f t.file.n) c)) (track_behind t new.stopped (left_of (octets_in f t.file.n) d))
+    block-stays = stays (
+        ap (λ es. (track_behind t old.stopped es).stops) gives
+        ∙ ap (λ st. (track_behind t st (left_of (octets_in f t.file.n) d)).stops) (sym stopped))
+
+    block-blocks : given_blocks scale (track_behind t old.stopped (left_of (octets_in f t.file.n) c)) ≡ track_placed scale t b ++ given_blocks scale (track_behind t new.stopped (left_of (octets_in f t.file.n) d))
+    block-blocks = ap (λ es. given_blocks scale (track_behind t old.stopped es)) gives ∙ track-block scale t old.stopped b (left_of (octets_in f t.file.n) d)
+
+    block-told : told_in_all f links new ≡ told_in_all f links old
+    block-told = told-passes f links old new _ _ block-stays (ap (λ es. (track_behind t old.stopped es).damages) gives) told
+
+    -- one that isn't the lane's
+    pub turns-other : new.greatest ≡ old.greatest → track_placed scale t b ≡ [] → Turns f scale links old new (Ok Passed)
+    turns-other greatest none = record {
+      blocks = left-passes f scale links old new _ _ block-stays
+          (block-blocks ∙ ap (λ bs. bs ++ given_blocks scale (track_behind t new.stopped (left_of (octets_in f t.file.n) d))) none) greatest;
+      damages = block-told;
+    }
+
+    -- one that is
+    pub turns-gives : IsPlaced (track_placed scale t b) old.greatest (track_lent t d.block new.placed) → new.greatest ≡ new.placed.head.order → Turns f scale links old new (Ok GivesBlock)
+    turns-gives placed greatest = record {
+      blocks =
+          left-gives f scale links old new _ _ (track_lent t d.block new.placed) block-stays
+          (block-blocks ∙ ap (λ bs. bs ++ given_blocks scale (track_behind t new.stopped (left_of (octets_in f t.file.n) d))) placed.block) placed.order greatest
+          ∙ ap (λ l. lent_ordered l ∷ left f scale links new) (sym (lent-here links t old new c d is));
+      damages = block-told;
+    }
+
+  -- ---- a damage
+
+  pub turns-damage : (last : Bool) (x : Damage) (r : ToldDamages) → new.stopped ≡ (last || old.stopped) → new.greatest ≡ old.greatest → left_of (octets_in f t.file.n) c ≡ damage_event last x ∷ left_of (octets_in f t.file.n) d
+      → slice_get old.told.items old.at ≡ Some r → old.at < length old.told.items → new.told.items ≡ set old.told.items old.at (with_damage r x) → Turns f scale links old new (Ok Passed)
+  turns-damage last x r stopped greatest gives here inside told = record {
+    blocks = left-passes f scale links old new _ _ damage-stays
+        (ap (λ es. given_blocks scale (track_behind t old.stopped es)) gives ∙ damage-blocks scale t old.stopped last new.stopped x (left_of (octets_in f t.file.n) d)) greatest;
+    damages = told-damage f links old new _ _ x r damage-stays
+        (ap (λ es. (track_behind t old.stopped es).damages) gives ∙ damage-told t old.stopped last new.stopped x (left_of (octets_in f t.file.n) d)) here inside told;
+  }
+    where
+      damage-stays : Stays f links old new (track_behind t old.stopped (left_of (octets_in f t.file.n) c)) (track_behind t new.stopped (left_of (octets_in f t.file.n) d))
+      damage-stays = stays (
+          ap (λ es. (track_behind t old.stopped es).stops) gives
+          ∙ damage-stops t old.stopped last x (left_of (octets_in f t.file.n) d)
+          ∙ ap (λ st. (track_behind t st (left_of (octets_in f t.file.n) d)).stops) (sym stopped))
+
+  -- ---- how far it goes, and what it reads
+
+  due-both : (track_due f t old.cursor ≡ 4 * f.size t.file.n - paid (f.size t.file.n) c) × (track_due f t new.cursor ≡ 4 * f.size t.file.n - paid (f.size t.file.n) d)
+  due-both = (ap (track_due f t) is.before, ap (track_due f t) is.now)
+
+  pub reads-pays : c.file ≡ t.file → (before now : ℕ) → now + paid (f.size c.file.n) c ≤ before + paid (f.size c.file.n) d → paid (f.size c.file.n) d ≤ 4 * f.size c.file.n → now + due f links new ≤ before + due f links old
+  reads-pays file before now pays most =
+      let both = due-both in
+      let size : f.size c.file.n ≡ f.size t.file.n = ap (λ each. f.size each.n) file in
+      let pays_here : now + paid (f.size t.file.n) c ≤ before + paid (f.size t.file.n) d = subst (λ (n : ℕ). now + paid n c ≤ before + paid n d) size pays in
+      let most_here : paid (f.size t.file.n) d ≤ 4 * f.size t.file.n = subst (λ (n : ℕ). paid n d ≤ 4 * n) size most in
+      let less : now + (4 * f.size t.file.n - paid (f.size t.file.n) d) ≤ before + (4 * f.size t.file.n - paid (f.size t.file.n) c) =
+      sums before now (4 * f.size t.file.n) (paid (f.size t.file.n) c) (paid (f.size t.file.n) d) pays_here most_here in
+      due-stays f links (Track t) old new before now is.at is.same (omega (arith, less, both.0, both.1))
+
+  -- one that is refused
+  pub refused-pays : c.file ≡ t.file → (before now : ℕ) (result : Result Turn ReadEnd) → IsErr result → now + paid (f.size c.file.n) c ≤ before + paid (f.size c.file.n) d + 2 * f.size c.file.n → paid (f.size c.file.n) d ≤ 4 * f.size c.file.n → Pays f links old new before now result
+  refused-pays file before now (Ok turn) err pays most = absurd (cc)
+  refused-pays file before now (Err end) err pays most =
+      let size : f.size c.file.n ≡ f.size t.file.n = ap (λ each. f.size each.n) file in
+      let small : f.size t.file.n ≤ files_length f links = length-at f links old.at (Track t) is.at in
+      let less : now + due f links new ≤ before + 2 * f.size c.file.n + due f links old = reads-pays file (before + 2 * f.size c.file.n) now (omega arith) most in
+      omega arith
+
+-- ---- the end of its file
+
+module _ (f : LiveFiles) (scale : ℕ) (links : List Link) (t : TrackLink) (old new : Walk) (c : Reading) (at : slice_get links old.at ≡ Some (Track t)) (cursor : old.cursor ≡ Some c) (has : HasLeft (length links) old new) where
+  pub turns-ends : (r : ToldDamages) → left_of (octets_in f t.file.n) c ≡ [] → slice_get old.told.items old.at ≡ Some r → length old.told.items ≡ length links → Turns f scale links old new (Ok Passed)
+  turns-ends r none here long = record {
+    blocks = left-leaves f scale links old new (track_behind t old.stopped (left_of (octets_in f t.file.n) c)) leaves (ap (λ es. given_blocks scale (track_behind t old.stopped es)) none);
+    damages = told-leaves f links old new (track_behind t old.stopped (left_of (octets_in f t.file.n) c)) r leaves (ap (λ es. (track_behind t old.stopped es).damages) none) here long;
+  }
+    where
+      leaves : Leaves f links old new (track_behind t old.stopped (left_of (octets_in f t.file.n) c))
+      leaves = record {
+        was = links_left-at f links old (Track t) at ∙ ap (λ each. track_left f t old.stopped each ∷ later f links old.at) cursor;
+        left = has;
+        stops = ap (λ es. (track_behind t old.stopped es).stops) none ∙ end-stops t old.stopped;
+      }
+
+  pub ends-on : way links new < way links old
+  ends-on = way-leaves links (Track t) old new at has (let was : track_way t old.cursor ≡ track_way t (Some c) = ap (track_way t) cursor in omega arith)
+
+  pub ends-pays : (d : Reading) → c.file ≡ t.file → (before now : ℕ) → now + paid (f.size c.file.n) c ≤ before + paid (f.size c.file.n) d → paid (f.size c.file.n) d ≤ 4 * f.size c.file.n → now + due f links new ≤ before + due f links old
+  ends-pays d file before now pays most =
+      let was : track_due f t old.cursor ≡ 4 * f.size t.file.n - paid (f.size t.file.n) c = ap (track_due f t) cursor in
+      let size : f.size c.file.n ≡ f.size t.file.n = ap (λ each. f.size each.n) file in
+      let pays_here : now + paid (f.size t.file.n) c ≤ before + paid (f.size t.file.n) d = subst (λ (n : ℕ). now + paid n c ≤ before + paid n d) size pays in
+      let most_here : paid (f.size t.file.n) d ≤ 4 * f.size t.file.n = subst (λ (n : ℕ). paid n d ≤ 4 * n) size most in
+      due-leaves f links (Track t) old new before now at has (omega (arith, pays_here, most_here, was))
+
+-- ---- the beginning of its file
+
+module _ (f : LiveFiles) (scale : ℕ) (links : List Link) (t : TrackLink) (old new : Walk) (d : Reading) (at : slice_get links old.at ≡ Some (Track t)) (before : old.cursor ≡ None) (is : new ≡ record old { cursor = Some d }) where
+  opened_same : new.at ≡ old.at
+  opened_same = ap (λ (w : Walk). w.at) is
+
+  opened_at : slice_get links new.at ≡ Some (Track t)
+  opened_at = ap (slice_get links) opened_same ∙ at
+
+  opened_now : new.cursor ≡ Some d
+  opened_now = ap (λ (w : Walk). w.cursor) is
+
+  pub turns-opened : old.stopped ≡ false → left_of (octets_in f t.file.n) d ≡ track_events f t → Turns f scale links old new (Ok Passed)
+  turns-opened stopped begins = record {
+    blocks = left-passes f scale links old new (given_in f (Track t)) (given_in f (Track t)) stays refl (ap (λ (w : Walk). w.greatest) is);
+    damages = told-passes f links old new (given_in f (Track t)) (given_in f (Track t)) stays refl (ap (λ (w : Walk). w.told) is);
+  }
+    where
+      stays : Stays f links old new (given_in f (Track t)) (given_in f (Track t))
+      stays = record {
+        rest = later f links old.at;
+        was = links_left-at f links old (Track t) at ∙ ap (λ each. track_left f t old.stopped each ∷ later f links old.at) before;
+        now =
+            links_left-at f links new (Track t) opened_at
+            ∙ ap (λ each. track_left f t new.stopped each ∷ later f links new.at) opened_now
+            ∙ ap (λ (k : ℕ). track_behind t new.stopped (left_of (octets_in f t.file.n) d) ∷ later f links k) opened_same
+            ∙ ap (λ (st : Bool). track_behind t st (left_of (octets_in f t.file.n) d) ∷ later f links old.at) (ap (λ (w : Walk). w.stopped) is ∙ stopped)
+            ∙ ap (λ (es : List Event). track_behind t false es ∷ later f links old.at) begins;
+        stops = refl;
+        at = opened_same;
+      }
+
+  pub opened-on : d.place.end ≤ t.outline.value.total → way links new < way links old
+  opened-on within = way-stays links (Track t) old new at opened_same
+      (let was : track_way t old.cursor ≡ track_way t None = ap (track_way t) before in
+      let will : track_way t new.cursor ≡ track_way t (Some d) = ap (track_way t) opened_now in
+      omega arith)
+
+  pub opened-pays : (read : ℕ) → read + due f links new ≤ read + due f links old
+  opened-pays read = due-stays f links (Track t) old new read read at opened_same
+      (let was : track_due f t old.cursor ≡ 4 * f.size t.file.n = ap (track_due f t) before in
+      let will : track_due f t new.cursor ≡ 4 * f.size t.file.n - paid (f.size t.file.n) d = ap (track_due f t) opened_now in
+      omega arith)
+
+  pub ready-opened : IsReady f links old → CanRead f d → d.file ≡ t.file → IsReady f links new
+  ready-opened ready can file = record {
+    files = ready.files;
+    here =
+        let there : IsAt f (Some d) (slice_get links new.at) = subst (IsAt f (Some d)) (sym opened_at) (can, file) in
+        subst (λ each. IsAt f each (slice_get links new.at)) (sym opened_now) there;
+    told = ap (λ (w : Walk). length w.told.items) is ∙ ready.told;
+    stopped = λ none. absurd (cc);
+  }
+
+-- ---- a turn in a text
+
+-- It went on behind the entries before the next one.
+pub record ReadsText (links : List Link) (t : TextLink) (old new : Walk) (e : Entry) : Type 0 where
+  pub at : slice_get links old.at ≡ Some (Entries t)
+  pub same : new.at ≡ old.at
+  pub here : slice_get t.entries old.next ≡ Some e
+  pub next : new.next ≡ old.next + 1
+  pub told : new.told ≡ old.told
+
+module _ (links : List Link) (t : TextLink) (old new : Walk) (e : Entry) (is : ReadsText links t old new e) where
+  text_new : slice_get links new.at ≡ Some (Entries t)
+  text_new = ap (slice_get links) is.same ∙ is.at
+
+  -- what is lent
+  pub text-here : lent_in links new ≡ text_lent e.text new.placed
+  text-here =
+      ap (lent_by new) text_new
+      ∙ ap (λ (k : ℕ). text_lent (text_of (slice_get t.entries k)) new.placed) (let one : new.next - 1 ≡ old.next = omega (arith, is.next) in one)
+      ∙ ap (λ each. text_lent (text_of each) new.placed) is.here
+
+  pub text-on : way links new < way links old
+  text-on = way-stays links (Entries t) old new is.at is.same (let inside : old.next < length t.entries = slice_get_within t.entries old.next e is.here in omega (arith, is.next))
+
+  pub text-pays : (f : LiveFiles) → due f links new ≤ due f links old
+  text-pays f = let less : 0 + due f links new ≤ 0 + due f links old = due-stays f links (Entries t) old new 0 0 is.at is.same (omega arith) in omega arith
+
+module _ (f : LiveFiles) (scale : ℕ) (links : List Link) (t : TextLink) (old new : Walk) (e : Entry) (is : ReadsText links t old new e) where
+  text-stays : Stays f links old new (text_with t (e ∷ drop (suc old.next) t.entries)) (text_with t (drop (suc old.next) t.entries))
+  text-stays = record {
+    rest = later f links old.at;
+    was = links_left-at f links old (Entries t) is.at ∙ ap (λ es. text_with t es ∷ later f links old.at) (drop-at t.entries old.next e is.here);
+    now =
+        links_left-at f links new (Entries t) (text_new links t old new e is)
+        ∙ ap (λ (k : ℕ). text_with t (drop k t.entries) ∷ later f links new.at) (is.next ∙ add-one old.next)
+        ∙ ap (λ (k : ℕ). text_with t (drop (suc old.next) t.entries) ∷ later f links k) is.same;
+    stops = refl;
+    at = is.same;
+  }
+
+  -- an entry that is dropped
+  pub text-other : new.greatest ≡ old.greatest → entry_placed scale t e ≡ [] → Turns f scale links old new (Ok Passed)
+  text-other greatest none = record {
+    blocks = left-passes f scale links old new _ _ text-stays (ap (λ bs. bs ++ given_blocks scale (text_with t (drop (suc old.next) t.entries))) none) greatest;
+    damages = told-passes f links old new _ _ text-stays refl is.told;
+  }
+
+  -- one that is given
+  pub text-gives : IsPlaced (entry_placed scale t e) old.greatest (text_lent e.text new.placed) → new.greatest ≡ new.placed.head.order → Turns f scale links old new (Ok GivesBlock)
+  text-gives placed greatest = record {
+    blocks =
+        left-gives f scale links old new _ _ (text_lent e.text new.placed) text-stays (ap (λ bs. bs ++ given_blocks scale (text_with t (drop (suc old.next) t.entries))) placed.block) placed.order greatest
+        ∙ ap (λ l. lent_ordered l ∷ left f scale links new) (sym (text-here links t old new e is));
+    damages = told-passes f links old new _ _ text-stays refl is.told;
+  }
+
+-- ---- the end of a text
+
+module _ (f : LiveFiles) (scale : ℕ) (links : List Link) (t : TextLink) (old new : Walk) (at : slice_get links old.at ≡ Some (Entries t)) (past : slice_get t.entries old.next ≡ None) (has : HasLeft (length links) old new) where
+  pub turns-text_ends : (r : ToldDamages) → old.stopped ≡ false → slice_get old.told.items old.at ≡ Some r → length old.told.items ≡ length links → Turns f scale links old new (Ok Passed)
+  turns-text_ends r stopped here long = record {
+    blocks = left-leaves f scale links old new (text_with t []) leaves refl;
+    damages = told-leaves f links old new (text_with t []) r leaves refl here long;
+  }
+    where
+      leaves : Leaves f links old new (text_with t [])
+      leaves = record {
+        was = links_left-at f links old (Entries t) at ∙ ap (λ es. text_with t es ∷ later f links old.at) (drop-past t.entries old.next past);
+        left = has;
+        stops = sym stopped;
+      }
+
+pub text_ends-on : (links : List Link) (t : TextLink) (old new : Walk) → slice_get links old.at ≡ Some (Entries t) → HasLeft (length links) old new → way links new < way links old
+text_ends-on links t old new at has = way-leaves links (Entries t) old new at has (omega arith)
+
+pub text_ends-pays : (f : LiveFiles) (links : List Link) (t : TextLink) (old new : Walk) → slice_get links old.at ≡ Some (Entries t) → HasLeft (length links) old new → due f links new ≤ due f links old
+text_ends-pays f links t old new at has = let less : 0 + due f links new ≤ 0 + due f links old = due-leaves f links (Entries t) old new 0 0 at has (omega arith) in omega arith
+
+-- ---- what is lent can be written
+
+pub lends-here : (scale : ℕ) (links : List Link) (w : Walk) (l : Lent) → lent_in links w ≡ l → IsLent l → HasFewTicks scale w.placed → w.greatest ≡ w.placed.head.order → LendsBlock scale links w
+lends-here scale links w l here lends ticks greatest = record { lent = subst IsLent (sym here) lends; ticks = ticks; order = sym greatest }

@@ -1,0 +1,270 @@
+use Rattle.std.proofs.Common.{◌≡◌, length, Some, None, Ok, Err, Bool, ◌<◌, refl, sym, ◌∙◌, ap, arith}
+use Rattle.std.specs.Prelude.{◌||◌}
+use Rattle.std.proofs.lemmas.Option.{slice_get_within, slice_get_read}
+use Rattle.mkv_values.specs.declared.outside.FileId.{FileId}
+use Rattle.mkv_io.specs.Sources.{live_files}
+use Rattle.block_records.specs.Buffered.{block_of}
+use Rattle.cluster_reader.specs.Reading.{left_of}
+use Rattle.lane_blocks.specs.Links.{IsOpenLink, IsSmallLink, octets_in, track_events}
+use Rattle.lane_blocks.specs.Placed.{track_lent}
+use Rattle.lane_blocks.specs.declared.link.Link.TheVariants.{Track}
+use Rattle.lanes.specs.declared.walk.Walk.{Walk}
+use Rattle.std.specs.Vec.{with_item}
+use Rattle.lanes.proofs.TrackLemmas as turns
+use Rattle.lanes.proofs.WalkLemmas.{has-left}
+use Rattle.lanes.proofs.turn.turn_track.Goals as goal
+use Rattle.lanes.proofs.turn.turn_track.Goals.{then-stopped, else-stopped}
+
+-- ---- the cursor is opened
+
+pub returns-in_default-clause-gives : goal.returns-in_default-clause-gives
+returns-in_default-clause-gives g c = λ told.
+    let f = live_files g.R.Reads c.args.src.now in
+    let w = c.args.walk.now in
+    let t = c.args.track.now in
+    let d = c.in_ok-cursor.cursor in
+    let none : w.cursor ≡ None = sym c.in_default.ensures.value in
+    let opened = turns.all-at (IsOpenLink f) c.args.links.now w.at (Track t) c.requires.ready.files c.requires.here in
+    let content = turns.content-at f c.args.links.now w.at t told c.requires.here in
+    let total : f.size t.file.n ≡ c.deref.result.now.total = opened.size ∙ ap (λ o. o.total) (sym c.deref.ensures) in
+    let whole : c.deref.result.now.total ≡ length (octets_in f t.file.n) = sym total ∙ sym (g.met.R.Reads.told_size (g.R.Reads.standing c.args.src.now) t.file.n (octets_in f t.file.n) content) in
+    let begins : left_of (octets_in f t.file.n) d ≡ track_events f t = c.in_ok-cursor.ensures.left (octets_in f t.file.n) whole ∙ ap (λ o. turns.events_with f t o.segment) c.deref.ensures in
+    turns.turns-opened f c.args.scale c.args.links.now t w (record w { cursor = Some d }) d c.requires.here none refl (c.requires.ready.stopped none) begins
+
+pub returns-in_default-clause-moves : goal.returns-in_default-clause-moves
+returns-in_default-clause-moves g c =
+    let f = live_files g.R.Reads c.args.src.now in
+    let w = c.args.walk.now in
+    let t = c.args.track.now in
+    let d = c.in_ok-cursor.cursor in
+    let none : w.cursor ≡ None = sym c.in_default.ensures.value in
+    let opened = turns.all-at (IsOpenLink f) c.args.links.now w.at (Track t) c.requires.ready.files c.requires.here in
+    let total : f.size t.file.n ≡ c.deref.result.now.total = opened.size ∙ ap (λ o. o.total) (sym c.deref.ensures) in
+    let can = c.in_ok-cursor.ensures.stands f opened.live total in
+    let size : f.size d.file.n ≡ t.outline.value.total = ap (λ (each : FileId). f.size each.n) c.in_ok-cursor.ensures.begins.file ∙ opened.size in
+    record {
+      on = turns.opened-on f c.args.scale c.args.links.now t w (record w { cursor = Some d }) d c.requires.here none refl (omega (arith, can.inside, size));
+      lends = tt;
+    }
+
+pub returns-in_default-clause-ready : goal.returns-in_default-clause-ready
+returns-in_default-clause-ready g c =
+    let f = live_files g.R.Reads c.args.src.now in
+    let w = c.args.walk.now in
+    let t = c.args.track.now in
+    let d = c.in_ok-cursor.cursor in
+    let opened = turns.all-at (IsOpenLink f) c.args.links.now w.at (Track t) c.requires.ready.files c.requires.here in
+    let total : f.size t.file.n ≡ c.deref.result.now.total = opened.size ∙ ap (λ o. o.total) (sym c.deref.ensures) in
+    let can = c.in_ok-cursor.ensures.stands f opened.live total in
+    turns.ready-opened f c.args.scale c.args.links.now t w (record w { cursor = Some d }) d c.requires.here (sym c.in_default.ensures.value) refl c.requires.ready can c.in_ok-cursor.ensures.begins.file
+
+pub returns-in_default-clause-pays : goal.returns-in_default-clause-pays
+returns-in_default-clause-pays g c =
+    let f = live_files g.R.Reads c.args.src.now in
+    let w = c.args.walk.now in
+    let d = c.in_ok-cursor.cursor in
+    turns.opened-pays f c.args.scale c.args.links.now c.args.track.now w (record w { cursor = Some d }) d c.requires.here (sym c.in_default.ensures.value) refl (g.R.Reads.octets_read c.args.src.now)
+
+-- ---- its call is refused
+
+pub returns-in_err-advance-clause-gives : goal.returns-in_err-advance-clause-gives
+returns-in_err-advance-clause-gives g c = λ told.
+    let f = live_files g.R.Reads c.args.src.now in
+    let w = c.args.walk.now in
+    let t = c.args.track.now in
+    let old = c.in-Some.cursor.now in
+    let d = c.advance.new.self in
+    let new : Walk = record w { cursor = Some d } in
+    let at = turns.at-track f c.args.links.now w t old c.requires.ready c.requires.here (sym c.in-Some.ensures.value) in
+    let reads : turns.Reads c.args.links.now t w new old d = record { at = c.requires.here; same = refl; before = sym c.in-Some.ensures.value; now = refl } in
+    let gives = turns.cursor-gives f c.args.links.now w.at t old d (Err c.in_err-advance.field-0.0) told c.requires.here at.1 c.in_err-advance.ensures.gives in
+    turns.turns-same f c.args.scale c.args.links.now t w new old d reads refl refl refl gives c.from_residual-in_err-advance.result c.from_residual-in_err-advance.ensures.0
+
+pub returns-in_err-advance-clause-pays : goal.returns-in_err-advance-clause-pays
+returns-in_err-advance-clause-pays g c =
+    let f = live_files g.R.Reads c.args.src.now in
+    let w = c.args.walk.now in
+    let t = c.args.track.now in
+    let old = c.in-Some.cursor.now in
+    let d = c.advance.new.self in
+    let new : Walk = record w { cursor = Some d } in
+    let at = turns.at-track f c.args.links.now w t old c.requires.ready c.requires.here (sym c.in-Some.ensures.value) in
+    let reads : turns.Reads c.args.links.now t w new old d = record { at = c.requires.here; same = refl; before = sym c.in-Some.ensures.value; now = refl } in
+    turns.refused-pays f c.args.scale c.args.links.now t w new old d reads at.1 (g.R.Reads.octets_read c.args.src.now) (g.R.Reads.octets_read c.advance.new.src) c.from_residual-in_err-advance.result c.from_residual-in_err-advance.ensures.0 c.in_err-advance.ensures.spends.pays c.in_err-advance.ensures.spends.most
+
+-- ---- a block
+
+pub place_block-requires-clause-small : goal.place_block-requires-clause-small
+place_block-requires-clause-small g c = turns.all-at IsSmallLink c.args.links.now c.args.walk.now.at (Track c.args.track.now) c.requires.small c.requires.here
+
+pub returns-else-place_block-clause-gives : goal.returns-else-place_block-clause-gives
+returns-else-place_block-clause-gives g c = λ told.
+    let f = live_files g.R.Reads c.args.src.now in
+    let w = c.args.walk.now in
+    let t = c.args.track.now in
+    let old = c.in-Some.cursor.now in
+    let d = c.advance.new.self in
+    let new : Walk = record w { cursor = Some d; placed = c.place_block.new.placed } in
+    let at = turns.at-track f c.args.links.now w t old c.requires.ready c.requires.here (sym c.in-Some.ensures.value) in
+    let reads : turns.Reads c.args.links.now t w new old d = record { at = c.requires.here; same = refl; before = sym c.in-Some.ensures.value; now = refl } in
+    let gives = turns.cursor-gives f c.args.links.now w.at t old d (Ok c.in_ok-advance.field-0) told c.requires.here at.1 c.in_ok-advance.ensures.gives in
+    turns.turns-other f c.args.scale c.args.links.now t w new old d reads (block_of d.block) refl refl (rw c.in-Block.is at gives) refl (rw c.if-place_block.false at c.place_block.ensures.becomes)
+
+pub returns-else-place_block-clause-moves : goal.returns-else-place_block-clause-moves
+returns-else-place_block-clause-moves g c =
+    let f = live_files g.R.Reads c.args.src.now in
+    let w = c.args.walk.now in
+    let t = c.args.track.now in
+    let old = c.in-Some.cursor.now in
+    let d = c.advance.new.self in
+    let new : Walk = record w { cursor = Some d; placed = c.place_block.new.placed } in
+    let reads : turns.Reads c.args.links.now t w new old d = record { at = c.requires.here; same = refl; before = sym c.in-Some.ensures.value; now = refl } in
+    let moves = c.in_ok-advance.ensures.moves in
+    record {
+      on = turns.reads-on c.args.links.now t w new old d reads (rw c.in-Block.is at moves.on) moves.inside moves.same.end;
+      lends = tt;
+    }
+
+pub returns-else-place_block-clause-pays : goal.returns-else-place_block-clause-pays
+returns-else-place_block-clause-pays g c =
+    let f = live_files g.R.Reads c.args.src.now in
+    let w = c.args.walk.now in
+    let t = c.args.track.now in
+    let old = c.in-Some.cursor.now in
+    let d = c.advance.new.self in
+    let new : Walk = record w { cursor = Some d; placed = c.place_block.new.placed } in
+    let at = turns.at-track f c.args.links.now w t old c.requires.ready c.requires.here (sym c.in-Some.ensures.value) in
+    let reads : turns.Reads c.args.links.now t w new old d = record { at = c.requires.here; same = refl; before = sym c.in-Some.ensures.value; now = refl } in
+    turns.reads-pays f c.args.scale c.args.links.now t w new old d reads at.1 (g.R.Reads.octets_read c.args.src.now) (g.R.Reads.octets_read c.advance.new.src) c.in_ok-advance.ensures.spends.pays c.in_ok-advance.ensures.spends.most
+
+pub returns-then-place_block-clause-gives : goal.returns-then-place_block-clause-gives
+returns-then-place_block-clause-gives g c = λ told.
+    let f = live_files g.R.Reads c.args.src.now in
+    let w = c.args.walk.now in
+    let t = c.args.track.now in
+    let old = c.in-Some.cursor.now in
+    let d = c.advance.new.self in
+    let new : Walk = record w { cursor = Some d; placed = c.place_block.new.placed; greatest = c.place_block.new.placed.head.order } in
+    let at = turns.at-track f c.args.links.now w t old c.requires.ready c.requires.here (sym c.in-Some.ensures.value) in
+    let reads : turns.Reads c.args.links.now t w new old d = record { at = c.requires.here; same = refl; before = sym c.in-Some.ensures.value; now = refl } in
+    let gives = turns.cursor-gives f c.args.links.now w.at t old d (Ok c.in_ok-advance.field-0) told c.requires.here at.1 c.in_ok-advance.ensures.gives in
+    turns.turns-gives f c.args.scale c.args.links.now t w new old d reads (block_of d.block) refl refl (rw c.in-Block.is at gives) (rw c.if-place_block.true at c.place_block.ensures.becomes) refl
+
+pub returns-then-place_block-clause-moves : goal.returns-then-place_block-clause-moves
+returns-then-place_block-clause-moves g c =
+    let f = live_files g.R.Reads c.args.src.now in
+    let w = c.args.walk.now in
+    let t = c.args.track.now in
+    let old = c.in-Some.cursor.now in
+    let d = c.advance.new.self in
+    let new : Walk = record w { cursor = Some d; placed = c.place_block.new.placed; greatest = c.place_block.new.placed.head.order } in
+    let reads : turns.Reads c.args.links.now t w new old d = record { at = c.requires.here; same = refl; before = sym c.in-Some.ensures.value; now = refl } in
+    let moves = c.in_ok-advance.ensures.moves in
+    record {
+      on = turns.reads-on c.args.links.now t w new old d reads (rw c.in-Block.is at moves.on) moves.inside moves.same.end;
+      lends = turns.lends-here c.args.scale c.args.links.now new (track_lent t d.block c.place_block.new.placed) (turns.lent-here c.args.links.now t w new old d reads)
+          ((rw c.if-place_block.true at c.place_block.ensures.lent) (rw c.in-Block.is at moves.lends)) (rw c.if-place_block.true at c.place_block.ensures.ticks) refl;
+    }
+
+pub returns-then-place_block-clause-pays : goal.returns-then-place_block-clause-pays
+returns-then-place_block-clause-pays g c =
+    let f = live_files g.R.Reads c.args.src.now in
+    let w = c.args.walk.now in
+    let t = c.args.track.now in
+    let old = c.in-Some.cursor.now in
+    let d = c.advance.new.self in
+    let new : Walk = record w { cursor = Some d; placed = c.place_block.new.placed; greatest = c.place_block.new.placed.head.order } in
+    let at = turns.at-track f c.args.links.now w t old c.requires.ready c.requires.here (sym c.in-Some.ensures.value) in
+    let reads : turns.Reads c.args.links.now t w new old d = record { at = c.requires.here; same = refl; before = sym c.in-Some.ensures.value; now = refl } in
+    turns.reads-pays f c.args.scale c.args.links.now t w new old d reads at.1 (g.R.Reads.octets_read c.args.src.now) (g.R.Reads.octets_read c.advance.new.src) c.in_ok-advance.ensures.spends.pays c.in_ok-advance.ensures.spends.most
+
+-- ---- a damage
+
+pub index_mut-requires : goal.index_mut-requires
+index_mut-requires g c =
+    let before : c.args.walk.now.at < length c.args.links.now = slice_get_within c.args.links.now c.args.walk.now.at (Track c.args.track.now) c.requires.here in
+    omega (arith, c.requires.ready.told)
+
+pub returns-after-stopped-clause-gives : goal.returns-after-stopped-clause-gives
+returns-after-stopped-clause-gives g c = λ told.
+    let f = live_files g.R.Reads c.args.src.now in
+    let w = c.args.walk.now in
+    let t = c.args.track.now in
+    let old = c.in-Some.cursor.now in
+    let d = c.advance.new.self in
+    let new : Walk = record w { cursor = Some d; stopped = c.if-stopped.walk; told = with_item w.told w.at c.add.new.self } in
+    let at = turns.at-track f c.args.links.now w t old c.requires.ready c.requires.here (sym c.in-Some.ensures.value) in
+    let reads : turns.Reads c.args.links.now t w new old d = record { at = c.requires.here; same = refl; before = sym c.in-Some.ensures.value; now = refl } in
+    let gives = turns.cursor-gives f c.args.links.now w.at t old d (Ok c.in_ok-advance.field-0) told c.requires.here at.1 c.in_ok-advance.ensures.gives in
+    let stopped : c.if-stopped.walk ≡ (d.stopped || w.stopped) = elim c.if-stopped.branch [
+      | then-stopped v ↦ v.walk-is ∙ v.if-stopped.true ∙ ap (λ (b : Bool). b || w.stopped) (sym v.if-stopped.true ∙ c.stopped.ensures)
+      | else-stopped v ↦ v.walk-is ∙ ap (λ (b : Bool). b || w.stopped) (sym v.if-stopped.false ∙ c.stopped.ensures)
+    ] in
+    let before : w.at < length c.args.links.now = slice_get_within c.args.links.now w.at (Track t) c.requires.here in
+    let inside : w.at < length w.told.items = omega (arith, c.requires.ready.told) in
+    let r = c.index_mut.result.now in
+    let here = slice_get_read w.told.items (length w.told.items) w.at r refl inside c.index_mut.ensures.value in
+    turns.turns-damage f c.args.scale c.args.links.now t w new old d reads d.stopped c.in-Damaged.damage r stopped refl (rw c.in-Damaged.is at gives) here inside (ap (λ x. (with_item w.told w.at x).items) c.add.ensures)
+
+pub returns-after-stopped-clause-moves : goal.returns-after-stopped-clause-moves
+returns-after-stopped-clause-moves g c =
+    let f = live_files g.R.Reads c.args.src.now in
+    let w = c.args.walk.now in
+    let t = c.args.track.now in
+    let old = c.in-Some.cursor.now in
+    let d = c.advance.new.self in
+    let new : Walk = record w { cursor = Some d; stopped = c.if-stopped.walk; told = with_item w.told w.at c.add.new.self } in
+    let reads : turns.Reads c.args.links.now t w new old d = record { at = c.requires.here; same = refl; before = sym c.in-Some.ensures.value; now = refl } in
+    let moves = c.in_ok-advance.ensures.moves in
+    record {
+      on = turns.reads-on c.args.links.now t w new old d reads (rw c.in-Damaged.is at moves.on) moves.inside moves.same.end;
+      lends = tt;
+    }
+
+pub returns-after-stopped-clause-pays : goal.returns-after-stopped-clause-pays
+returns-after-stopped-clause-pays g c =
+    let f = live_files g.R.Reads c.args.src.now in
+    let w = c.args.walk.now in
+    let t = c.args.track.now in
+    let old = c.in-Some.cursor.now in
+    let d = c.advance.new.self in
+    let new : Walk = record w { cursor = Some d; stopped = c.if-stopped.walk; told = with_item w.told w.at c.add.new.self } in
+    let at = turns.at-track f c.args.links.now w t old c.requires.ready c.requires.here (sym c.in-Some.ensures.value) in
+    let reads : turns.Reads c.args.links.now t w new old d = record { at = c.requires.here; same = refl; before = sym c.in-Some.ensures.value; now = refl } in
+    turns.reads-pays f c.args.scale c.args.links.now t w new old d reads at.1 (g.R.Reads.octets_read c.args.src.now) (g.R.Reads.octets_read c.advance.new.src) c.in_ok-advance.ensures.spends.pays c.in_ok-advance.ensures.spends.most
+
+-- ---- the end
+
+pub leave-requires : goal.leave-requires
+leave-requires g c = slice_get_within c.args.links.now c.args.walk.now.at (Track c.args.track.now) c.requires.here
+
+pub returns-in-End-clause-gives : goal.returns-in-End-clause-gives
+returns-in-End-clause-gives g c = λ told.
+    let f = live_files g.R.Reads c.args.src.now in
+    let w = c.args.walk.now in
+    let t = c.args.track.now in
+    let old = c.in-Some.cursor.now in
+    let has = has-left (length c.args.links.now) w c.leave.new.self c.leave.ensures in
+    let at = turns.at-track f c.args.links.now w t old c.requires.ready c.requires.here (sym c.in-Some.ensures.value) in
+    let gives = turns.cursor-gives f c.args.links.now w.at t old c.advance.new.self (Ok c.in_ok-advance.field-0) told c.requires.here at.1 c.in_ok-advance.ensures.gives in
+    let before : w.at < length c.args.links.now = slice_get_within c.args.links.now w.at (Track t) c.requires.here in
+    let inside : w.at < length w.told.items = omega (arith, c.requires.ready.told) in
+    let r = turns.element-at w.told.items w.at inside in
+    turns.turns-ends f c.args.scale c.args.links.now t w c.leave.new.self old c.requires.here (sym c.in-Some.ensures.value) has r.0 (rw c.in-End.is at gives).0 r.1 c.requires.ready.told
+
+pub returns-in-End-clause-moves : goal.returns-in-End-clause-moves
+returns-in-End-clause-moves g c =
+    let f = live_files g.R.Reads c.args.src.now in
+    let w = c.args.walk.now in
+    let has = has-left (length c.args.links.now) w c.leave.new.self c.leave.ensures in
+    record { on = turns.ends-on f c.args.scale c.args.links.now c.args.track.now w c.leave.new.self c.in-Some.cursor.now c.requires.here (sym c.in-Some.ensures.value) has; lends = tt }
+
+pub returns-in-End-clause-pays : goal.returns-in-End-clause-pays
+returns-in-End-clause-pays g c =
+    let f = live_files g.R.Reads c.args.src.now in
+    let w = c.args.walk.now in
+    let t = c.args.track.now in
+    let old = c.in-Some.cursor.now in
+    let has = has-left (length c.args.links.now) w c.leave.new.self c.leave.ensures in
+    let at = turns.at-track f c.args.links.now w t old c.requires.ready c.requires.here (sym c.in-Some.ensures.value) in
+    turns.ends-pays f c.args.scale c.args.links.now t w c.leave.new.self old c.requires.here (sym c.in-Some.ensures.value) has c.advance.new.self at.1 (g.R.Reads.octets_read c.args.src.now) (g.R.Reads.octets_read c.advance.new.src) c.in_ok-advance.ensures.spends.pays c.in_ok-advance.ensures.spends.most

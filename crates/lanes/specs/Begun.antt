@@ -1,0 +1,13 @@
+-- A walk that has not begun.
+use Rattle.std.specs.Prelude.{◌≡◌, ℕ, false, [], None, replicate}
+use Rattle.cluster_reader.specs.ToldDamages.{told_damages}
+use Rattle.lanes.specs.declared.walk.Walk.{Walk}
+
+-- It stands at the first of so many links, nothing was opened, and no damage was reached.
+pub record Begins (count : ℕ) (w : Walk) : Type 0 where
+  pub at : w.at ≡ 0
+  pub cursor : w.cursor ≡ None
+  pub next : w.next ≡ 0
+  pub stopped : w.stopped ≡ false
+  pub greatest : w.greatest ≡ 0
+  pub told : w.told.items ≡ replicate count (told_damages [])

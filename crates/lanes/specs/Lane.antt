@@ -1,0 +1,119 @@
+-- A lane: its links, and the walk over them.
+use Rattle.std.specs.Prelude.{◌≡◌, ℕ, ◌+◌, ◌*◌, ◌<◌, ◌≤◌, ⊤, List, [], ◌∷◌, map, Result, Ok, Err}
+use Rattle.std.specs.List.{All}
+use Rattle.mkv_values.specs.declared.outside.ReadEnd.{ReadEnd}
+use Rattle.mkv_io.specs.Faults.{counted}
+use Rattle.mkv_io.specs.LiveFiles.{LiveFiles}
+use Rattle.cluster_reader.specs.ToldDamages.{ToldDamages, told_damages}
+use Rattle.output_model.specs.OutputBlock.{Lent}
+use Rattle.merge_model.specs.Lanes.{lane_blocks, lane_damages}
+use Rattle.merge_model.specs.Merged.{Ordered, ordered}
+use Rattle.lane_blocks.specs.Lent.{lent_ordered}
+use Rattle.lane_blocks.specs.Links.{IsOpenLink, IsToldLink, KeepsLink, given_in}
+use Rattle.lane_blocks.specs.declared.link.Link.{Link}
+use Rattle.lanes.specs.Turns.{LendsBlock}
+use Rattle.lanes.specs.Walks as walks
+use Rattle.lanes.specs.declared.lane.LaneStep.{LaneStep}
+use Rattle.lanes.specs.declared.lane.LaneStep.TheVariants.{Block, End}
+use Rattle.lanes.specs.declared.walk.Walk.{Walk}
+
+-- its links, nanoseconds for a tick of the output, where it stands, and how many blocks it has given
+pub record LaneSeen : Type 0 where
+  pub links : List Link
+  pub scale : ℕ
+  pub walk : Walk
+  pub given : ℕ
+
+-- the blocks that are left of a lane, among these files
+abbrev pub left : LiveFiles → LaneSeen → List Ordered
+left f l = walks.left f l.scale l.links l.walk
+
+-- the damages of each link that will have been told in the end
+abbrev pub told_in_all : LiveFiles → LaneSeen → List ToldDamages
+told_in_all f l = walks.told_in_all f l.links l.walk
+
+-- what it lends
+abbrev pub lent : LaneSeen → Lent
+lent l = walks.lent_in l.links l.walk
+
+-- ---- among which files
+
+-- It stands among these files, and may be advanced.
+abbrev pub IsReady : LiveFiles → LaneSeen → Type 0
+IsReady f l = walks.IsReady f l.links l.walk
+
+-- the files of its links are told
+abbrev pub IsTold : LiveFiles → LaneSeen → Type 0
+IsTold f l = All (IsToldLink f) l.links
+
+-- the files of its links are the same as before
+abbrev pub KeepsLane : LiveFiles → LiveFiles → LaneSeen → Type 0
+KeepsLane old new l = All (KeepsLink old new) l.links
+
+-- ---- the start
+
+-- A lane over these links that has given nothing: its blocks are left, and the damages of its links will have been told.
+pub record Starts (f : LiveFiles) (scale : ℕ) (links : List Link) (l : LaneSeen) : Type 0 where
+  pub left : left f l ≡ ordered (lane_blocks scale (map (given_in f) links))
+  pub told : told_in_all f l ≡ map told_damages (lane_damages (map (given_in f) links))
+  pub ready : All (IsOpenLink f) links → IsReady f l
+  pub due : walks.due f l.links l.walk ≡ 4 * walks.files_length f links
+
+pub record Begins (ticks : ℕ) (chain : List Link) (l : LaneSeen) : Type 0 where
+  pub links : l.links ≡ chain
+  pub scale : l.scale ≡ ticks
+  pub given : l.given ≡ 0
+
+-- ---- a call
+
+-- The first block that was left is given, or none is left. After a read that failed or want of memory the same is left.
+abbrev pub GivesBlock : LiveFiles → LaneSeen → LaneSeen → Result LaneStep ReadEnd → Type 0
+GivesBlock f old new (Ok Block) = left f old ≡ lent_ordered (lent new) ∷ left f new
+GivesBlock f old new (Ok End) = (left f old ≡ []) × (left f new ≡ [])
+GivesBlock f old new (Err end) = left f new ≡ left f old
+
+-- What is left by what is answered; and the damages that will have been told in the end stay.
+pub record Gives (f : LiveFiles) (old new : LaneSeen) (result : Result LaneStep ReadEnd) : Type 0 where
+  pub blocks : GivesBlock f old new result
+  pub damages : told_in_all f new ≡ told_in_all f old
+
+abbrev pub given_by : Result LaneStep ReadEnd → ℕ
+given_by (Ok Block) = 1
+given_by (Ok End) = 0
+given_by (Err end) = 0
+
+-- at most so many turns are left
+abbrev pub way : LaneSeen → ℕ
+way l = walks.way l.links l.walk
+
+-- A block that is given can be written, its order number is the greatest tick so far, and fewer are left.
+pub record StepsTo (old new : LaneSeen) : Type 0 where
+  pub lends : LendsBlock new.scale new.links new.walk
+  pub on : way new < way old
+
+abbrev pub Steps : LaneSeen → LaneSeen → Result LaneStep ReadEnd → Type 0
+Steps old new (Ok Block) = StepsTo old new
+Steps old new (Ok End) = way new ≤ way old
+Steps old new (Err end) = ⊤
+
+-- Its links and its scale stay, and what is given is counted.
+pub record Moves (old new : LaneSeen) (result : Result LaneStep ReadEnd) : Type 0 where
+  pub links : new.links ≡ old.links
+  pub scale : new.scale ≡ old.scale
+  pub given : new.given ≡ counted old.given (given_by result)
+  pub steps : Steps old new result
+
+-- ---- how much is read
+
+-- what may still be read for it, and the lengths of the files of its links
+abbrev pub due : LiveFiles → LaneSeen → ℕ
+due f l = walks.due f l.links l.walk
+
+abbrev pub files_length : LiveFiles → LaneSeen → ℕ
+files_length f l = walks.files_length f l.links
+
+-- What a call reads is taken from what may still be read. One that a failed read or want of memory ends may read
+-- two octets besides for each of the files.
+abbrev pub Pays : {T : Type 0} → LiveFiles → LaneSeen → LaneSeen → ℕ → ℕ → Result T ReadEnd → Type 0
+Pays f old new before now (Ok answer) = now + due f new ≤ before + due f old
+Pays f old new before now (Err end) = now + due f new ≤ before + due f old + 2 * files_length f old

@@ -1,0 +1,18 @@
+-- What holds of every lane.
+use Rattle.std.specs.Prelude.{◌≡◌}
+use Rattle.mkv_io.specs.LiveFiles.{LiveFiles}
+use Rattle.lanes.specs.Lane.{IsReady, IsTold, KeepsLane, LaneSeen, due, files_length, left, told_in_all}
+
+-- It stands among the new files as it stood among the old ones: it may be advanced, the same is left, and as much may
+-- still be read.
+pub record StandsAmong (old new : LiveFiles) (l : LaneSeen) : Type 0 where
+  pub ready : IsReady new l
+  pub told : IsTold old l → IsTold new l
+  pub left : left new l ≡ left old l
+  pub damages : told_in_all new l ≡ told_in_all old l
+  pub due : due new l ≡ due old l
+  pub length : files_length new l ≡ files_length old l
+
+-- A lane stands over what is written to files that aren't its links'.
+abbrev pub StandOverWrites : Type 0
+StandOverWrites = (old new : LiveFiles) (l : LaneSeen) → KeepsLane old new l → IsReady old l → StandsAmong old new l

@@ -1,0 +1,52 @@
+-- What a turn makes of a walk.
+use Rattle.std.specs.Prelude.{◌≡◌, ℕ, ◌+◌, ◌*◌, ◌<◌, ◌≤◌, ⊤, List, [], ◌∷◌, Result, Ok, Err}
+use Rattle.mkv_values.specs.declared.outside.ReadEnd.{ReadEnd}
+use Rattle.mkv_io.specs.LiveFiles.{LiveFiles}
+use Rattle.output_model.specs.OutputBlock.{IsLent, Lent}
+use Rattle.merge_model.specs.Merged.{Ordered}
+use Rattle.lane_blocks.specs.Lent.{HasFewTicks, lent_ordered}
+use Rattle.lane_blocks.specs.declared.link.Link.{Link}
+use Rattle.lanes.specs.Walks.{due, files_length, left, lent_in, told_in_all, way}
+use Rattle.lanes.specs.declared.turn.Turn.{Turn}
+use Rattle.lanes.specs.declared.turn.Turn.TheVariants.{Passed, Gives, End}
+use Rattle.lanes.specs.declared.walk.Walk.{Walk}
+
+-- The first of these blocks is lent and the others are left, the same are left, or none is.
+abbrev pub GivesFirst : List Ordered → List Ordered → Lent → Result Turn ReadEnd → Type 0
+GivesFirst old new lent (Ok Passed) = new ≡ old
+GivesFirst old new lent (Ok Gives) = old ≡ lent_ordered lent ∷ new
+GivesFirst old new lent (Ok End) = (old ≡ []) × (new ≡ [])
+GivesFirst old new lent (Err end) = new ≡ old
+
+-- What is left of the blocks, by what a turn gives; and the damages that will have been told in the end stay.
+pub record Turns (f : LiveFiles) (scale : ℕ) (links : List Link) (old new : Walk) (result : Result Turn ReadEnd) : Type 0 where
+  pub blocks : GivesFirst (left f scale links old) (left f scale links new) (lent_in links new) result
+  pub damages : told_in_all f links new ≡ told_in_all f links old
+
+-- The block that is lent can be written, and its order number is the greatest tick so far.
+pub record LendsBlock (scale : ℕ) (links : List Link) (w : Walk) : Type 0 where
+  pub lent : IsLent (lent_in links w)
+  pub ticks : HasFewTicks scale w.placed
+  pub order : w.placed.head.order ≡ w.greatest
+
+abbrev pub LendsFor : ℕ → List Link → Walk → Turn → Type 0
+LendsFor scale links w Passed = ⊤
+LendsFor scale links w Gives = LendsBlock scale links w
+LendsFor scale links w End = ⊤
+
+-- Fewer turns are left, but where no block is.
+abbrev pub GoesOn : List Link → Walk → Walk → Turn → Type 0
+GoesOn links old new Passed = way links new < way links old
+GoesOn links old new Gives = way links new < way links old
+GoesOn links old new End = way links new ≤ way links old
+
+-- A turn goes on, and what it lends can be written.
+pub record Moves (scale : ℕ) (links : List Link) (old new : Walk) (turn : Turn) : Type 0 where
+  pub on : GoesOn links old new turn
+  pub lends : LendsFor scale links new turn
+
+-- What a call reads is taken from what may still be read. One that a failed read or want of memory ends may read
+-- two octets besides for each of the files.
+abbrev pub Pays : {T : Type 0} → LiveFiles → List Link → Walk → Walk → ℕ → ℕ → Result T ReadEnd → Type 0
+Pays f links old new before now (Ok answer) = now + due f links new ≤ before + due f links old
+Pays f links old new before now (Err end) = now + due f links new ≤ before + due f links old + 2 * files_length f links

@@ -1,0 +1,142 @@
+-- A walk over the links of a lane: what is left of them, what it lends, and how it stands among the files.
+use Rattle.std.specs.Prelude.{◌≡◌, ℕ, ◌+◌, ◌-◌, ◌*◌, ⊤, Bool, false, ◌||◌, List, [], ◌∷◌, ◌++◌, length, map, take, drop, Option, Some, None, is_some}
+use Rattle.std.specs.List.{All, slice_get}
+use Rattle.mkv_io.specs.LiveFiles.{LiveFiles}
+use Rattle.block_format.specs.Events.{Event, last_of}
+use Rattle.cluster_reader.specs.Reading.{Reading, CanRead, left_of, paid}
+use Rattle.cluster_reader.specs.ToldDamages.{ToldDamages}
+use Rattle.output_model.specs.OutputBlock.{Lent}
+use Rattle.merge_model.specs.Links.{Given}
+use Rattle.merge_model.specs.Lanes.{lane_blocks, lane_damages}
+use Rattle.merge_model.specs.Merged.{Ordered, ordered_from}
+use Rattle.text_entries.specs.declared.Entry.{Entry}
+use Rattle.lane_blocks.specs.Links.{IsOpenLink, given_in, octets_in, text_with, track_with}
+use Rattle.lane_blocks.specs.Placed.{nothing_lent, text_lent, track_lent}
+use Rattle.lane_blocks.specs.declared.link.Link.{Link}
+use Rattle.lane_blocks.specs.declared.link.Link.TheVariants.{Track, Entries}
+use Rattle.lane_blocks.specs.declared.link.TrackLink.{TrackLink}
+use Rattle.lane_blocks.specs.declared.place.Placed.{Placed}
+use Rattle.lanes.specs.Told.{with_all}
+use Rattle.lanes.specs.declared.walk.Walk.{Walk}
+
+-- ---- what is left
+
+-- what a track gives of these blocks and damages, before which one may have ended what is read
+abbrev pub track_behind : TrackLink → Bool → List Event → Given
+track_behind t stopped events = record (track_with t events) { stops = stopped || is_some (last_of events) }
+
+-- what is left of a track: all of it, or what its cursor has left
+abbrev pub track_left : LiveFiles → TrackLink → Bool → Option Reading → Given
+track_left f t stopped None = given_in f (Track t)
+track_left f t stopped (Some c) = track_behind t stopped (left_of (octets_in f t.file.n) c)
+
+-- what is left of the link at which a walk stands
+abbrev pub here_left : LiveFiles → Walk → Link → Given
+here_left f w (Track t) = track_left f t w.stopped w.cursor
+here_left f w (Entries e) = text_with e (drop w.next e.entries)
+
+-- of the links from there on
+abbrev pub links_from : LiveFiles → Walk → List Link → List Given
+links_from f w [] = []
+links_from f w (link ∷ links) = here_left f w link ∷ map (given_in f) links
+
+abbrev pub links_left : LiveFiles → List Link → Walk → List Given
+links_left f links w = links_from f w (drop w.at links)
+
+-- the blocks that are left, with their order numbers
+abbrev pub left : LiveFiles → ℕ → List Link → Walk → List Ordered
+left f scale links w = ordered_from w.greatest (lane_blocks scale (links_left f links w))
+
+-- The damages that will have been told in the end, link by link: those that were reached, and those that are left.
+abbrev pub told_in_all : LiveFiles → List Link → Walk → List ToldDamages
+told_in_all f links w = take w.at w.told.items ++ with_all (drop w.at w.told.items) (lane_damages (links_left f links w))
+
+-- ---- what is lent
+
+-- of a track the block that its cursor has given
+abbrev pub lent_by_track : Placed → TrackLink → Option Reading → Lent
+lent_by_track p t None = nothing_lent p
+lent_by_track p t (Some c) = track_lent t c.block p
+
+abbrev pub text_of : Option Entry → List ℕ
+text_of None = []
+text_of (Some e) = e.text
+
+-- of a text the entry before the one that is next
+abbrev pub lent_by : Walk → Option Link → Lent
+lent_by w None = nothing_lent w.placed
+lent_by w (Some (Track t)) = lent_by_track w.placed t w.cursor
+lent_by w (Some (Entries e)) = text_lent (text_of (slice_get e.entries (w.next - 1))) w.placed
+
+-- what is lent at the link at which a walk stands
+abbrev pub lent_in : List Link → Walk → Lent
+lent_in links w = lent_by w (slice_get links w.at)
+
+-- ---- where it stands
+
+-- The cursor, if there is one, is in the file of the track at which the walk stands.
+abbrev pub IsAt : LiveFiles → Option Reading → Option Link → Type 0
+IsAt f None link = ⊤
+IsAt f (Some c) (Some (Track t)) = CanRead f c × (c.file ≡ t.file)
+IsAt f (Some c) (Some (Entries e)) = ⊥
+IsAt f (Some c) None = ⊥
+
+-- A walk over these links may go on among these files.
+pub record IsReady (f : LiveFiles) (links : List Link) (w : Walk) : Type 0 where
+  pub files : All (IsOpenLink f) links
+  pub here : IsAt f w.cursor (slice_get links w.at)
+  pub told : length w.told.items ≡ length links
+  pub stopped : w.cursor ≡ None → w.stopped ≡ false
+
+-- ---- how far it can go on
+
+-- at most so many turns for a link
+abbrev pub way_of : Link → ℕ
+way_of (Track t) = t.outline.value.total + 2
+way_of (Entries e) = length e.entries + 1
+
+abbrev pub way_all : List Link → ℕ
+way_all [] = 0
+way_all (link ∷ links) = way_of link + way_all links
+
+abbrev pub track_way : TrackLink → Option Reading → ℕ
+track_way t None = t.outline.value.total + 2
+track_way t (Some c) = (c.place.end - c.place.at) + 1
+
+abbrev pub here_way : Walk → Link → ℕ
+here_way w (Track t) = track_way t w.cursor
+here_way w (Entries e) = (length e.entries - w.next) + 1
+
+abbrev pub way_from : Walk → List Link → ℕ
+way_from w [] = 0
+way_from w (link ∷ links) = here_way w link + way_all links
+
+abbrev pub way : List Link → Walk → ℕ
+way links w = way_from w (drop w.at links)
+
+-- ---- how much is read
+
+-- the length of a link's file; a text has none
+abbrev pub file_length : LiveFiles → Link → ℕ
+file_length f (Track t) = f.size t.file.n
+file_length f (Entries e) = 0
+
+abbrev pub files_length : LiveFiles → List Link → ℕ
+files_length f [] = 0
+files_length f (link ∷ links) = file_length f link + files_length f links
+
+-- what may still be read: four octets for each of a file, less what the way of its cursor has paid for
+abbrev pub track_due : LiveFiles → TrackLink → Option Reading → ℕ
+track_due f t None = 4 * f.size t.file.n
+track_due f t (Some c) = 4 * f.size t.file.n - paid (f.size t.file.n) c
+
+abbrev pub here_due : LiveFiles → Walk → Link → ℕ
+here_due f w (Track t) = track_due f t w.cursor
+here_due f w (Entries e) = 0
+
+abbrev pub due_from : LiveFiles → Walk → List Link → ℕ
+due_from f w [] = 0
+due_from f w (link ∷ links) = here_due f w link + 4 * files_length f links
+
+abbrev pub due : LiveFiles → List Link → Walk → ℕ
+due f links w = due_from f w (drop w.at links)

@@ -1,0 +1,201 @@
+//! The lane.
+
+ghost use Rattle.std.specs.Prelude.{◌≡◌, ◌-◌, ◌≤◌, length, IfOk};
+ghost use Rattle.std.specs.List.{All, slice_get};
+ghost use Rattle.mkv_io.specs.Faults.{HasCause, is_read_fault};
+ghost use Rattle.mkv_io.specs.LiveFiles.{LiveFiles};
+ghost use Rattle.mkv_io.specs.Sources.{live_files};
+ghost use Rattle.block_format.specs.declared.limits.TheConstants.{MOST_OF_BLOCK, MOST_REFERENCES};
+ghost use Rattle.output_model.specs.declared.TheConstants.{MOST_OF_PREFIX};
+ghost use Rattle.merge_model.specs.declared.limits.TheConstants.{MOST_LINKS};
+ghost use Rattle.lane_blocks.specs.Links.{IsSmallEntry, IsSmallLink};
+ghost use Rattle.lanes.specs.Lane.{Begins, Gives, IsReady, IsTold, Moves, Pays, Starts, lent};
+ghost use Rattle.lanes.specs.Told.{link_damages, more_of};
+ghost use Rattle.lanes.specs.Walks.{text_of};
+
+use crate::told::{LinkDamage, damage_at, more_of};
+use crate::turn::{Turn, take_turn};
+use crate::walk::Walk;
+use lane_blocks::{LaneSpec, Link, OutHead, TextLink};
+use mkv_io::Reads;
+use mkv_values::ReadEnd;
+use std::alloc::{AllocError, Global};
+use std::marker::Model;
+
+/// What a lane gives.
+#[derive(Clone, Copy, Debug, PartialEq, Eq)]
+pub enum LaneStep {
+    /// A block, which the lane lends until it is advanced again.
+    Block,
+    /// All blocks were given.
+    End,
+}
+
+// The text of the entry before this one, from 0.
+fn text_before(text: &TextLink, next: usize) -> &[u8]
+    ensures exact { result.now ≡ text_of (slice_get text.now.entries (next - 1)) }
+    ensures most { All IsSmallEntry text.now.entries → length result.now ≤ MOST_OF_BLOCK }
+{
+    match text.entries.get(next.saturating_sub(1)) {
+        Some(entry) => entry.text.as_str().as_bytes(),
+        None => &[],
+    }
+}
+
+/// The blocks of one output track, one after the other.
+#[derive(Drop)]
+pub struct Lane {
+    alloc: Global,
+    links: Vec<Link>,
+    scale: u64,
+    walk: Walk,
+    given: u64,
+}
+
+impl Model for Lane {
+    ghost use Rattle.std.specs.Prelude.{◌≤◌};
+    ghost use Rattle.std.specs.List.{All};
+    ghost use Rattle.lane_blocks.specs.Links.{IsSmallLink};
+    ghost use Rattle.lanes.specs.Lane.{LaneSeen};
+
+    ghost Value = { LaneSeen };
+
+    ghost view = { λ l. record { links = l.links.items; scale = l.scale; walk = l.walk; given = l.given } };
+
+    ghost invariant = { λ l. (1 ≤ l.scale) × All IsSmallLink l.links.items };
+}
+
+impl Lane {
+    /// A lane over these links, in an output of so many nanoseconds a tick. It takes memory for the damages that
+    /// are told, and reads nothing.
+    pub fn start(alloc: Global, spec: LaneSpec, scale: u64) -> Result<Lane, AllocError>
+        requires scale { 1 ≤ scale }
+        requires most { length spec.links ≤ MOST_LINKS }
+        requires small { All IsSmallLink spec.links }
+        ensures starts { (f : LiveFiles) → IfOk result (Starts f scale spec.links) }
+        ensures begins { IfOk result (Begins scale spec.links) }
+    {
+        let links = spec.links.into_vec();
+        let walk = Walk::start(alloc, links.len())?;
+        Ok(Lane {
+            alloc,
+            links,
+            scale,
+            walk,
+            given: 0,
+        })
+    }
+
+    /// Gives the next block. `End` is answered where none is left, and again from then on. After a refusal the
+    /// same block is looked for again; damages that were reached on the way stay so.
+    pub fn advance<R: Reads>(&mut self, src: &mut R) -> Result<LaneStep, ReadEnd>
+        requires { IsReady (live_files R.Reads src.old) self.old }
+        ensures gives { IsTold (live_files R.Reads src.old) self.old → Gives (live_files R.Reads src.old) self.old self.new result }
+        ensures moves { Moves self.old self.new result }
+        ensures ready { IsReady (live_files R.Reads src.new) self.new }
+        ensures standing { R.standing src.new ≡ R.standing src.old }
+        ensures cause { HasCause is_read_fault (R.reading_faults src.old) (R.reading_faults src.new) result }
+
+        // What is read adds up to at most four octets for each of the files, and two for each call that fails.
+        ensures pays { Pays (live_files R.Reads src.old) self.old self.new (R.octets_read src.old) (R.octets_read src.new) result }
+    {
+        'turns: loop {
+            match take_turn(
+                self.alloc,
+                self.links.as_slice(),
+                self.scale,
+                &mut self.walk,
+                src,
+            )? {
+                Turn::Passed => {}
+                Turn::Gives => {
+                    self.given = self.given.saturating_add(1);
+                    return Ok(LaneStep::Block);
+                }
+                Turn::End => return Ok(LaneStep::End),
+            }
+        }
+    }
+
+    /// The k-th damage that was reached, from 0: of each link the first hundred, link after link.
+    pub fn damage(&self, k: usize) -> Option<LinkDamage>
+        ensures { result ≡ slice_get (link_damages self.now.walk.told.items) k }
+    {
+        damage_at(self.walk.told.as_slice(), k)
+    }
+
+    /// How many other damages of a link were reached, which counts from 0.
+    pub fn more(&self, link: usize) -> u64
+        ensures { result ≡ more_of self.now.walk.told.items link }
+    {
+        more_of(self.walk.told.as_slice(), link)
+    }
+
+    /// What the block says of itself.
+    pub fn head(&self) -> &OutHead
+        ensures { result.now ≡ (lent self.now).head }
+    {
+        &self.walk.placed.head
+    }
+
+    /// What stands in front of each frame; of a text nothing.
+    pub fn prefix(&self) -> &[u8]
+        ensures exact { result.now ≡ (lent self.now).prefix }
+        ensures most { length result.now ≤ MOST_OF_PREFIX }
+    {
+        match (self.links.get(self.walk.at), &self.walk.cursor) {
+            (Some(Link::Track(track)), Some(_)) => track.prefix.as_slice(),
+            _ => &[],
+        }
+    }
+
+    /// The octets of its frames, one behind the other.
+    pub fn body(&self) -> &[u8]
+        ensures exact { result.now ≡ (lent self.now).body }
+        ensures most { length result.now ≤ MOST_OF_BLOCK }
+    {
+        match (self.links.get(self.walk.at), &self.walk.cursor) {
+            (Some(Link::Track(_)), Some(cursor)) => cursor.body(),
+            (Some(Link::Entries(text)), _) => text_before(text, self.walk.next),
+            _ => &[],
+        }
+    }
+
+    /// How many octets each frame has.
+    pub fn sizes(&self) -> &[u32]
+        ensures exact { result.now ≡ (lent self.now).sizes }
+        ensures most { length result.now ≤ 256 }
+    {
+        match (self.links.get(self.walk.at), &self.walk.cursor) {
+            (Some(Link::Track(_)), Some(cursor)) => cursor.sizes(),
+            (Some(Link::Entries(_)), _) => &self.walk.placed.one_size,
+            _ => &[],
+        }
+    }
+
+    /// The ticks from it to the blocks that it refers to.
+    pub fn refs(&self) -> &[i64]
+        ensures exact { result.now ≡ (lent self.now).references }
+        ensures most { length result.now ≤ MOST_REFERENCES }
+    {
+        self.walk.placed.references.as_slice()
+    }
+
+    /// The octets of what else its group has, one Element behind the other, as they were found; of a text nothing.
+    pub fn extra(&self) -> &[u8]
+        ensures exact { result.now ≡ (lent self.now).kept }
+        ensures most { length result.now ≤ MOST_OF_BLOCK }
+    {
+        match (self.links.get(self.walk.at), &self.walk.cursor) {
+            (Some(Link::Track(_)), Some(cursor)) => cursor.extra(),
+            _ => &[],
+        }
+    }
+
+    /// How many blocks were given.
+    pub fn given(&self) -> u64
+        ensures { result ≡ self.now.given }
+    {
+        self.given
+    }
+}

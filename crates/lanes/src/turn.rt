@@ -1,0 +1,124 @@
+//! One turn of a walk: what the next thing of a link makes of what is left.
+
+ghost use Rattle.std.specs.Prelude.{◌≡◌, ◌≤◌, Some, Ok, None, IfOk};
+ghost use Rattle.std.specs.List.{All, slice_get};
+ghost use Rattle.mkv_io.specs.Faults.{HasCause, is_read_fault};
+ghost use Rattle.mkv_io.specs.LiveFiles.{LiveFiles};
+ghost use Rattle.mkv_io.specs.Sources.{live_files};
+ghost use Rattle.lane_blocks.specs.Links.{IsSmallLink, IsToldLink};
+ghost use Rattle.lane_blocks.specs.declared.link.Link.TheVariants.{Track as ATrack, Entries as AText};
+ghost use Rattle.lanes.specs.Walks.{IsReady, due};
+ghost use Rattle.lanes.specs.Turns.{Moves, Pays, Turns};
+
+use crate::walk::Walk;
+use cluster_reader::{Cursor, Step};
+use lane_blocks::{Link, TextLink, TrackLink, place_block, place_entry};
+use mkv_io::Reads;
+use mkv_values::ReadEnd;
+use std::alloc::Global;
+
+/// What a turn gives.
+#[derive(Clone, Copy)]
+pub enum Turn {
+    /// Nothing; the walk has gone on.
+    Passed,
+    /// A block, which is lent.
+    Gives,
+    /// No block is left.
+    End,
+}
+
+// One turn in the file of a track.
+fn turn_track<R: Reads>(
+    alloc: Global,
+    links: &[Link],
+    track: &TrackLink,
+    scale: u64,
+    walk: &mut Walk,
+    src: &mut R,
+) -> Result<Turn, ReadEnd>
+    requires here { slice_get links.now walk.old.at ≡ Some (ATrack track.now) }
+    requires scale { 1 ≤ scale }
+    requires small { All IsSmallLink links.now }
+    requires ready { IsReady (live_files R.Reads src.old) links.now walk.old }
+    ensures gives { All (IsToldLink (live_files R.Reads src.old)) links.now → Turns (live_files R.Reads src.old) scale links.now walk.old walk.new result }
+    ensures moves { IfOk result (Moves scale links.now walk.old walk.new) }
+    ensures ready { IsReady (live_files R.Reads src.new) links.now walk.new }
+    ensures standing { R.standing src.new ≡ R.standing src.old }
+    ensures cause { HasCause is_read_fault (R.reading_faults src.old) (R.reading_faults src.new) result }
+    ensures pays { Pays (live_files R.Reads src.old) links.now walk.old walk.new (R.octets_read src.old) (R.octets_read src.new) result }
+{
+    let Some(cursor) = walk.cursor.as_mut() else {
+        let cursor = Cursor::start(alloc, &*track.outline, track.file, track.scale)?;
+        walk.cursor = Some(cursor);
+        return Ok(Turn::Passed);
+    };
+    match cursor.advance(src)? {
+        Step::Block => {
+            if place_block(track, scale, cursor, walk.greatest, &mut walk.placed) {
+                walk.greatest = walk.placed.head.order;
+                Ok(Turn::Gives)
+            } else {
+                Ok(Turn::Passed)
+            }
+        }
+        Step::Damaged(damage) => {
+            walk.stopped = cursor.stopped() || walk.stopped;
+            walk.told[walk.at].add(damage);
+            Ok(Turn::Passed)
+        }
+        Step::End => {
+            walk.leave(links.len());
+            Ok(Turn::Passed)
+        }
+    }
+}
+
+// One turn in a text.
+fn turn_text(links: &[Link], text: &TextLink, scale: u64, walk: &mut Walk) -> Turn
+    requires here { slice_get links.now walk.old.at ≡ Some (AText text.now) }
+    requires scale { 1 ≤ scale }
+    requires small { All IsSmallLink links.now }
+    requires cursor { walk.old.cursor ≡ None }
+    ensures gives { (f : LiveFiles) → IsReady f links.now walk.old → Turns f scale links.now walk.old walk.new (Ok result) }
+    ensures moves { Moves scale links.now walk.old walk.new result }
+    ensures ready { (f : LiveFiles) → IsReady f links.now walk.old → IsReady f links.now walk.new }
+    ensures pays { (f : LiveFiles) → due f links.now walk.new ≤ due f links.now walk.old }
+{
+    let Some(entry) = text.entries.get(walk.next) else {
+        walk.leave(links.len());
+        return Turn::Passed;
+    };
+    walk.next += 1;
+    if place_entry(text, scale, entry, walk.greatest, &mut walk.placed) {
+        walk.greatest = walk.placed.head.order;
+        Turn::Gives
+    } else {
+        Turn::Passed
+    }
+}
+
+/// One turn of a walk over these links.
+pub fn take_turn<R: Reads>(
+    alloc: Global,
+    links: &[Link],
+    scale: u64,
+    walk: &mut Walk,
+    src: &mut R,
+) -> Result<Turn, ReadEnd>
+    requires scale { 1 ≤ scale }
+    requires small { All IsSmallLink links.now }
+    requires ready { IsReady (live_files R.Reads src.old) links.now walk.old }
+    ensures gives { All (IsToldLink (live_files R.Reads src.old)) links.now → Turns (live_files R.Reads src.old) scale links.now walk.old walk.new result }
+    ensures moves { IfOk result (Moves scale links.now walk.old walk.new) }
+    ensures ready { IsReady (live_files R.Reads src.new) links.now walk.new }
+    ensures standing { R.standing src.new ≡ R.standing src.old }
+    ensures cause { HasCause is_read_fault (R.reading_faults src.old) (R.reading_faults src.new) result }
+    ensures pays { Pays (live_files R.Reads src.old) links.now walk.old walk.new (R.octets_read src.old) (R.octets_read src.new) result }
+{
+    match links.get(walk.at) {
+        Some(Link::Track(track)) => turn_track(alloc, links, track, scale, walk, src),
+        Some(Link::Entries(text)) => Ok(turn_text(links, text, scale, walk)),
+        None => Ok(Turn::End),
+    }
+}

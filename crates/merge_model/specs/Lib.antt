@@ -1,0 +1,6 @@
+pub mod Ends
+pub mod Heads
+pub mod Lanes
+pub mod Links
+pub mod Merged
+pub mod Ticks

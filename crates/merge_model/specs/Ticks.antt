@@ -1,0 +1,28 @@
+-- Times of an output, in ticks of its scale: RFC 9559, section 11 (Timestamps). The rounding is this project's.
+use Rattle.std.specs.Prelude.{ℕ, ◌+◌, ◌-◌, ◌/◌, ℤ, pos, negsuc, ◌+ℤ◌, ◌-ℤ◌, Option, Some, None}
+
+-- nanoseconds from the start on, none where they stand before it
+abbrev pub since_start : ℤ → Option ℕ
+since_start (pos t) = Some t
+since_start (negsuc n) = None
+
+-- the greatest whole number that isn't above z / n
+abbrev pub floor_div : ℤ → ℕ → ℤ
+floor_div (pos t) n = pos (t / n)
+floor_div (negsuc t) n = negsuc (t / n)
+
+-- the tick nearest to a time from the start on, of two the later one
+abbrev pub tick_of : ℕ → ℕ → ℕ
+tick_of scale t = (t + scale / 2) / scale
+
+-- the same of a time that may stand before the start
+abbrev pub tick_near : ℕ → ℤ → ℤ
+tick_near scale t = floor_div (t +ℤ pos (scale / 2)) scale
+
+-- so many nanoseconds from a time on, in ticks
+abbrev pub ticks_for : ℕ → ℕ → ℕ → ℕ
+ticks_for scale t duration = tick_of scale (t + duration) - tick_of scale t
+
+-- so many nanoseconds from a time, forwards or backwards, in ticks
+abbrev pub ticks_to : ℕ → ℕ → ℤ → ℤ
+ticks_to scale t away = tick_near scale (pos t +ℤ away) -ℤ pos (tick_of scale t)

@@ -1,0 +1,3 @@
+pub mod KeptLemmas
+pub mod LeastLemmas
+pub mod QueueLemmas

@@ -1,0 +1,113 @@
+//! The merge.
+
+ghost use Rattle.std.specs.Prelude.{◌≡◌, ◌<◌, ◌≤◌, length, Some, IfOk, OnOk, option_map};
+ghost use Rattle.std.specs.List.{All, slice_get};
+ghost use Rattle.mkv_io.specs.Faults.{HasCause, is_read_fault};
+ghost use Rattle.mkv_io.specs.LiveFiles.{LiveFiles};
+ghost use Rattle.mkv_io.specs.Sources.{live_files};
+ghost use Rattle.output_model.specs.declared.TheConstants.{MOST_LANES};
+ghost use Rattle.time_merge.specs.Merge.{AreFilled, AreReady, Begins, Gives, IsReady, IsTold, KeepsLeft, Moves, Pays, PaysOf, Starts, StayQueues};
+ghost use Rattle.time_merge.specs.Queues.{IsQueue};
+
+use crate::least::first_least;
+use crate::queue::{Head, Queue};
+use lanes::Lane;
+use mkv_io::Reads;
+use mkv_values::{List, ReadEnd};
+use std::alloc::Global;
+use std::marker::Model;
+
+/// Looks for the next block of each lane that is due.
+fn fill<R: Reads>(queues: &mut Vec<Queue>, src: &mut R) -> Result<(), ReadEnd>
+    requires ready { AreReady (live_files R.Reads src.old) queues.old.items }
+    requires queues { All IsQueue queues.old.items }
+    ensures left { KeepsLeft (live_files R.Reads src.old) queues.old.items queues.new.items }
+    ensures filled { OnOk result (AreFilled queues.old.items queues.new.items) }
+    ensures stay { StayQueues queues.old.items queues.new.items }
+    ensures ready { AreReady (live_files R.Reads src.new) queues.new.items }
+    ensures standing { R.standing src.new ≡ R.standing src.old }
+    ensures cause { HasCause is_read_fault (R.reading_faults src.old) (R.reading_faults src.new) result }
+    ensures pays { PaysOf (live_files R.Reads src.old) queues.old.items queues.new.items (R.octets_read src.old) (R.octets_read src.new) result }
+{
+    let count = queues.len();
+    for k in 0..count {
+        queues[k].fill(src)?;
+    }
+    Ok(())
+}
+
+/// The blocks of all lanes by their order numbers, then lanes, then places in the lane.
+#[derive(Drop)]
+pub struct Merge {
+    queues: Vec<Queue>,
+    given: u64,
+}
+
+impl Model for Merge {
+    ghost use Rattle.std.specs.List.{All};
+    ghost use Rattle.time_merge.specs.Merge.{MergeSeen};
+    ghost use Rattle.time_merge.specs.Queues.{IsQueue};
+
+    ghost Value = { MergeSeen };
+
+    ghost view = { λ m. record { queues = m.queues.items; given = m.given } };
+
+    ghost invariant = { λ m. All IsQueue m.queues.items };
+}
+
+impl Merge {
+    /// A merge of these lanes, none of which has given a block. Nothing is read: the first step looks for the first
+    /// block of each lane.
+    pub fn start<R: Reads>(alloc: Global, lanes: List<Lane>, _src: &mut R) -> Result<Merge, ReadEnd>
+        requires { length lanes ≤ MOST_LANES }
+        ensures starts { (f : LiveFiles) → IfOk result (Starts f lanes) }
+        ensures begins { IfOk result (Begins lanes) }
+        ensures idle { _src.new ≡ _src.old }
+    {
+        let mut queues = Vec::with_capacity(alloc, lanes.len())?;
+        for lane in lanes.into_vec() {
+            queues.push(Queue {
+                lane,
+                head: Head::Due,
+            })?;
+        }
+        Ok(Merge { queues, given: 0 })
+    }
+
+    /// Gives the next block: answers the number of its lane, from 0, which lends it until the next call. Nothing is
+    /// answered where none is left, and again from then on. After a refusal the same block is looked for again.
+    pub fn step<R: Reads>(&mut self, src: &mut R) -> Result<Option<usize>, ReadEnd>
+        requires { IsReady (live_files R.Reads src.old) self.old }
+        ensures gives { IsTold (live_files R.Reads src.old) self.old → Gives (live_files R.Reads src.old) self.old self.new result }
+        ensures moves { Moves self.old self.new result }
+        ensures ready { IsReady (live_files R.Reads src.new) self.new }
+        ensures standing { R.standing src.new ≡ R.standing src.old }
+        ensures cause { HasCause is_read_fault (R.reading_faults src.old) (R.reading_faults src.new) result }
+
+        // What is read adds up to at most four octets for each of the files, and two for each call that fails.
+        ensures pays { Pays (live_files R.Reads src.old) self.old self.new (R.octets_read src.old) (R.octets_read src.new) result }
+    {
+        fill(&mut self.queues, src)?;
+        let Some(least) = first_least(self.queues.as_slice()) else {
+            return Ok(None);
+        };
+        self.queues[least.at].head = Head::Due;
+        self.given = self.given.saturating_add(1);
+        Ok(Some(least.at))
+    }
+
+    /// The lane of this number, from 0.
+    pub fn lane(&self, k: usize) -> &Lane
+        requires { k < length self.now.queues }
+        ensures { option_map (λ q. q.lane) (slice_get self.now.queues k) ≡ Some result.now }
+    {
+        &self.queues[k].lane
+    }
+
+    /// How many blocks were given.
+    pub fn given(&self) -> u64
+        ensures { result ≡ self.now.given }
+    {
+        self.given
+    }
+}

@@ -1,0 +1,52 @@
+//! A lane that waits for its turn.
+
+ghost use Rattle.std.specs.Prelude.{◌≡◌, OnOk};
+ghost use Rattle.mkv_io.specs.Faults.{HasCause, is_read_fault};
+ghost use Rattle.mkv_io.specs.Sources.{live_files};
+ghost use Rattle.lanes.specs.Lane.{IsReady};
+ghost use Rattle.time_merge.specs.Queues.{IsFilled, IsQueue, KeepsWaiting, Pays, StaysQueue};
+
+use lanes::{Lane, LaneStep};
+use mkv_io::Reads;
+use mkv_values::ReadEnd;
+
+/// Where a lane stands.
+#[derive(Clone, Copy)]
+pub enum Head {
+    /// Its next block is to be looked for.
+    Due,
+    /// A block of this order number waits in it.
+    Waits(u64),
+    /// No block is left.
+    Ended,
+}
+
+/// A lane that waits for its turn.
+#[derive(Drop)]
+pub struct Queue {
+    pub lane: Lane,
+    pub head: Head,
+}
+
+impl Queue {
+    /// Looks for the next block, if it is due.
+    pub fn fill<R: Reads>(&mut self, src: &mut R) -> Result<(), ReadEnd>
+        requires ready { IsReady (live_files R.Reads src.old) self.old.lane }
+        requires queue { IsQueue self.old }
+        ensures waiting { KeepsWaiting (live_files R.Reads src.old) self.old self.new }
+        ensures filled { OnOk result (IsFilled self.old self.new) }
+        ensures stays { StaysQueue self.old self.new }
+        ensures ready { IsReady (live_files R.Reads src.new) self.new.lane }
+        ensures standing { R.standing src.new ≡ R.standing src.old }
+        ensures cause { HasCause is_read_fault (R.reading_faults src.old) (R.reading_faults src.new) result }
+        ensures pays { Pays (live_files R.Reads src.old) self.old self.new (R.octets_read src.old) (R.octets_read src.new) result }
+    {
+        if let Head::Due = self.head {
+            match self.lane.advance(src)? {
+                LaneStep::Block => self.head = Head::Waits(self.lane.head().order),
+                LaneStep::End => self.head = Head::Ended,
+            }
+        }
+        Ok(())
+    }
+}
