@@ -1,4 +1,4 @@
--- An output and its octets: RFC 8794, section 8 (EBML Document), and RFC 9559, sections 4.5 (Data Layout) and 5.1 (Segment Element). The order of the Elements is this project's.
+-- An output and its octets: RFC 8794, section 8 (EBML Document), and RFC 9559, sections 4.5 (Data Layout), 5.1 (Segment Element) and 6 (Matroska Element Ordering). The order of the Elements is this project's.
 use Rattle.std.specs.Prelude.{ℕ, ◌+◌, Bool, if◌then◌else◌, List, [], ◌∷◌, ◌++◌, length, map, take, codes, Option, Some, None}
 use Rattle.ebml_format.specs.Number.{all_ones, id_octets, size_octets}
 use Rattle.mkv_schema.specs.declared.ids.TheConstants.{EBML, EBML_VERSION, EBML_READ_VERSION, EBML_MAX_ID_LENGTH, EBML_MAX_SIZE_LENGTH, DOC_TYPE, DOC_TYPE_VERSION, DOC_TYPE_READ_VERSION, SEGMENT, ATTACHMENTS}

@@ -1,4 +1,4 @@
--- The area in front of an output: RFC 9559, sections 5.1.1 (SeekHead Element) and 6.3 (SeekHead). Its length is this project's.
+-- The area in front of an output: RFC 9559, sections 5.1.1 (SeekHead Element) and 16 (Segment Position). Its length is this project's.
 use Rattle.std.specs.Prelude.{ℕ, ◌+◌, ◌-◌, List, [], ◌∷◌, length, map}
 use Rattle.byteorder.specs.Endian.{big_bytes}
 use Rattle.ebml_format.specs.Number.{id_octets}

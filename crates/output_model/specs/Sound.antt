@@ -2,6 +2,7 @@
 use Rattle.std.specs.Prelude.{◌≡◌, ◌≤◌, ◌<◌, ◌^◌, ⊤, ℕ, ◌+◌, ◌==◌, true, false, Bool, List, [], ◌∷◌, length, map, All, None, IfSome, Ok}
 use Rattle.ebml_format.specs.Number.{magnitude}
 use Rattle.mkv_schema.specs.declared.ids.TheConstants.{BLOCK_GROUP, INFO, TRACKS, ATTACHED_FILE, FILE_DATA, CHAPTERS, TAGS}
+use Rattle.mkv_values.specs.declared.outside.TheConstants.{LONGEST_FILE}
 use Rattle.matroska_format.specs.Value.{is_known_value}
 use Rattle.lacing.specs.declared.kind.Lace.TheVariants as lace
 use Rattle.lacing.specs.Writing.{CanLace}
@@ -13,7 +14,7 @@ use Rattle.track_format.specs.File.{entries_in}
 use Rattle.meta_format.specs.Info.{scale_of}
 use Rattle.block_format.specs.Elements.{is_kept}
 use Rattle.element_octets.specs.Element.{Element, IsElement, joined}
-use Rattle.output_model.specs.declared.TheConstants.{MOST_LANES, MOST_OF_OUTPUT}
+use Rattle.output_model.specs.declared.TheConstants.{MOST_LANES}
 use Rattle.output_model.specs.OutputBlock.{OutputBlock}
 use Rattle.output_model.specs.Cluster.{OutputCluster, is_near}
 use Rattle.output_model.specs.Document.{Document, cues_for, layout}
@@ -111,4 +112,4 @@ pub record IsSoundDocument (d : Document) : Type 0 where
   pub cues : d.cues ≡ cues_for cued d.front d.clusters
   pub chapters : IfSome d.chapters (IsRecord CHAPTERS)
   pub tags : IfSome d.tags (IsRecord TAGS)
-  pub short : length (layout d) ≤ MOST_OF_OUTPUT
+  pub short : length (layout d) ≤ LONGEST_FILE

@@ -25,6 +25,3 @@ pub const MOST_OF_PREFIX: usize = 4096;
 
 /// The most lanes of an output.
 pub const MOST_LANES: usize = 64;
-
-/// The most octets of an output.
-pub const MOST_OF_OUTPUT: u64 = 1 << 48;
