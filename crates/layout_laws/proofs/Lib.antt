@@ -1,0 +1,6 @@
+mod PartLemmas
+mod AreaLemmas
+mod ScaleLemmas
+mod HeaderLemmas
+mod RecordLemmas
+pub mod LayoutLemmas

@@ -1,0 +1,6 @@
+mod MergedLemmas
+mod ClusterLemmas
+mod TickLemmas
+mod AgainLemmas
+mod SoundLemmas
+mod KindLemmas

@@ -1,0 +1,97 @@
+-- Where the blocks of an output are read: RFC 9559, sections 5.1 (Segment Element) and 5.1.3 (Cluster Element).
+use Rattle.std.specs.Prelude.{◌≡◌, ◌<◌, ◌==◌, false, ℕ, ◌+◌, ◌*◌, pos, List, [], ◌∷◌, ◌++◌, length, map, All, Ok}
+use Rattle.std.specs.Option.{option_map}
+use Rattle.ebml_format.specs.Number.{all_ones}
+use Rattle.mkv_schema.specs.declared.ids.TheConstants.{CLUSTER, SEGMENT}
+use Rattle.block_format.specs.Block.{Block, nanoseconds}
+use Rattle.block_format.specs.Events.{Found, Event, block}
+use Rattle.element_octets.specs.Element.{Element, IsElement, header_of, octets_of, joined}
+use Rattle.output_model.specs.declared.TheConstants.{MOST_LANES}
+use Rattle.output_model.specs.OutputBlock.{OutputBlock}
+use Rattle.output_model.specs.Block.{block_element}
+use Rattle.output_model.specs.Cluster.{OutputCluster, timestamp_element, cluster_element}
+use Rattle.output_model.specs.Document.{clusters_elements}
+use Rattle.output_model.specs.Sound.{IsSoundCluster}
+
+-- Eight octets can tell how long an Element's body is.
+abbrev pub HasSize : Element → Type 0
+HasSize e = length e.body < all_ones 8
+
+-- ---- blocks
+
+-- The block that is read of a written one, where a tick has so many nanoseconds and its Element stands at a place.
+abbrev pub block_in_place : ℕ → ℕ → OutputBlock → Block
+block_in_place scale place b = record {
+  track = b.lane;
+  time = nanoseconds scale (pos b.tick);
+  key = b.key;
+  invisible = b.invisible;
+  discardable = b.discardable;
+  group = b.group;
+  lace = b.lace;
+  frames = b.frames;
+  duration = option_map (λ ticks. ticks * scale) b.duration;
+  references = map (nanoseconds scale) b.references;
+  kept = b.kept;
+  offset = place;
+}
+
+-- blocks of a Cluster of this Timestamp, one behind the other, the first of them at a place
+abbrev pub blocks_in_place : ℕ → ℕ → ℕ → List OutputBlock → List Block
+blocks_in_place scale timestamp p [] = []
+blocks_in_place scale timestamp p (b ∷ bs) =
+    block_in_place scale p b ∷ blocks_in_place scale timestamp (p + length (octets_of (block_element timestamp b))) bs
+
+-- these blocks are found, and nothing wrong
+abbrev pub found_blocks : List Block → List Found
+found_blocks bs = map (λ (b : Block). Ok b) bs
+
+-- these blocks, and no damage
+abbrev pub block_events : List Block → List Event
+block_events bs = map (λ (b : Block). block b) bs
+
+-- ---- Clusters
+
+-- where the first block of a Cluster stands: behind the Cluster's header and its Timestamp
+abbrev pub first_block : ℕ → OutputCluster → ℕ
+first_block p c = p + length (header_of (cluster_element c)) + length (octets_of (timestamp_element c.timestamp))
+
+-- the blocks of a Cluster that stands at a place
+abbrev pub cluster_blocks : ℕ → ℕ → OutputCluster → List Block
+cluster_blocks scale p c = blocks_in_place scale c.timestamp (first_block p c) c.blocks
+
+-- the blocks of Clusters, one behind the other, the first of them at a place
+abbrev pub clusters_blocks : ℕ → ℕ → List OutputCluster → List Block
+clusters_blocks scale p [] = []
+clusters_blocks scale p (c ∷ cs) = cluster_blocks scale p c ++ clusters_blocks scale (p + length (octets_of (cluster_element c))) cs
+
+-- ---- a Segment
+
+-- What stands in a Segment: Elements, then Clusters, then Elements.
+pub record OutputSegment : Type 0 where
+  pub front : List Element
+  pub clusters : List OutputCluster
+  pub behind : List Element
+
+abbrev pub segment_elements : OutputSegment → List Element
+segment_elements s = s.front ++ (clusters_elements s.clusters ++ s.behind)
+
+-- its size takes eight octets
+abbrev pub segment_element : OutputSegment → Element
+segment_element s = record { id = SEGMENT; width = 8; body = joined (segment_elements s) }
+
+-- An Element besides the Clusters.
+pub record IsOther (e : Element) : Type 0 where
+  pub element : IsElement e
+  pub other : (e.id == CLUSTER) ≡ false
+
+-- A Segment whose Clusters are sound, with lanes as an output may have, and whose size eight octets can tell.
+pub record IsSoundSegment (s : OutputSegment) : Type 0 where
+  pub size : HasSize (segment_element s)
+  pub front : All IsOther s.front
+  pub clusters : All (IsSoundCluster MOST_LANES) s.clusters
+  pub behind : All IsOther s.behind
+
+-- the blocks of a Segment that stands at a place
+abbrev pub segment_blocks : ℕ → ℕ → OutputSegment → List Block
+segment_blocks scale p s = clusters_blocks scale (p + length (header_of (segment_element s)) + length (joined s.front)) s.clusters

@@ -1,0 +1,24 @@
+-- What a cue point points at: RFC 9559, sections 5.1.5 (Cues Element) and 22 (Cueing).
+use Rattle.std.specs.Prelude.{◌≡◌, ℕ, ◌+◌, pos, List, Contains, Ok}
+use Rattle.mkv_schema.specs.declared.ids.TheConstants.{CLUSTER}
+use Rattle.matroska_format.specs.declared.element.Header.{Header}
+use Rattle.matroska_format.specs.Element.{in_segment, element_at}
+use Rattle.matroska_format.specs.Outline.{segment_bound}
+use Rattle.block_format.specs.Block.{Block, nanoseconds}
+use Rattle.block_format.specs.Elements.{without_limits}
+use Rattle.block_format.specs.Events.{found_in}
+use Rattle.output_model.specs.declared.places.CuePoint.{CuePoint}
+
+-- So many octets inside the Segment stands a Cluster, and so many octets inside the Cluster one of its blocks, of this
+-- lane and this tick.
+pub record PointsAt (scale : ℕ) (bytes : List ℕ) (segment : Header) (point : CuePoint) (cluster : Header) (block : Block) : Type 0 where
+  pub stands : element_at in_segment bytes (segment.body + point.cluster) (segment_bound bytes segment) ≡ Ok cluster
+  pub is_cluster : cluster.id ≡ CLUSTER
+  pub found : Contains (found_in (without_limits scale) bytes (segment_bound bytes segment) cluster) (Ok block)
+  pub place : block.offset ≡ cluster.body + point.relative
+  pub track : block.track ≡ point.lane
+  pub time : block.time ≡ nanoseconds scale (pos point.tick)
+
+-- it points at a block
+abbrev pub PointsAtBlock : ℕ → List ℕ → Header → CuePoint → Type 0
+PointsAtBlock scale bytes segment point = (cluster : Header) × (block : Block) × PointsAt scale bytes segment point cluster block
