@@ -1,0 +1,3 @@
+pub mod DigitsLemmas
+pub mod LineLemmas
+pub mod ChaptersLemmas
