@@ -26,13 +26,17 @@ clock word = do
 abbrev pub is_tail : List ℕ → Bool
 is_tail word = length word == 0 || slice_index word 0 == 32
 
+-- from a start to an end
+abbrev pub span : ℕ → ℕ → Times
+span start end = record { start = start; end = end }
+
 -- two times with ` --> ` between them, and a tail
 unfoldable pub times : List ℕ → Option Times
 times line = do
   start ← clock line
   rest ← behind (codes " --> ") start.1
   end ← clock rest
-  if is_tail end.1 then Some (record { start = start.0; end = end.0 }) else None
+  if is_tail end.1 then Some (span start.0 end.0) else None
 
 -- a space or a tab
 abbrev pub is_blank : ℕ → Bool
