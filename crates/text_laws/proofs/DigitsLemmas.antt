@@ -13,7 +13,7 @@ use Rattle.text_lines.specs.Pieces.{digit, two_digits, three_digits, two_or_more
 use Rattle.text_laws.specs.Plain.{lacks}
 
 -- ---- digits are no other octet
-digit_is_not : (o b : ℕ) → is_ascii_digit o ≡ false → is_ascii_digit b ≡ true → (b == o) ≡ false
+pub digit_is_not : (o b : ℕ) → is_ascii_digit o ≡ false → is_ascii_digit b ≡ true → (b == o) ≡ false
 digit_is_not o b other is = split (b == o) refl
   where
     split : (c : Bool) → (b == o) ≡ c → (b == o) ≡ false

@@ -36,7 +36,7 @@ lacks_each o (b ∷ bs) none = split (b == o) refl none (λ h. lacks_each o bs h
     split false is none more = All-cons (λ d. (d == o) ≡ false) b bs is (more none)
 
 -- ---- the end of a text
-ends_more : (x y : ℕ) (ys : List ℕ) → ends_with_return (x ∷ y ∷ ys) ≡ ends_with_return (y ∷ ys)
+pub ends_more : (x y : ℕ) (ys : List ℕ) → ends_with_return (x ∷ y ∷ ys) ≡ ends_with_return (y ∷ ys)
 ends_more x y ys =
     let a : suc (suc (length ys)) - 1 ≡ suc (length ys) = omega arith in
     let b : suc (length ys) - 1 ≡ length ys = omega arith in
@@ -107,7 +107,7 @@ stamp_lacks o point ms other colon at small =
     lacks_both o (two_or_more (ms / 3600000)) (58 ∷ minutes) h (lacks_more o 58 minutes colon from_minutes)
 
 -- it ends with a digit
-digit_no_return : (n : ℕ) → (digit n == 13) ≡ false
+pub digit_no_return : (n : ℕ) → (digit n == 13) ≡ false
 digit_no_return n = grind (arith, nat_tests)
 
 pub stamp_ends : (front : List ℕ) (point ms : ℕ) → ends_with_return (front ++ stamp point ms) ≡ false

@@ -1,2 +1,3 @@
 pub mod Plain
 pub mod Chapters
+pub mod SubRip
