@@ -1,0 +1,4 @@
+-- Pieces that are written one after the other.
+use Rattle.std.proofs.Common.{append_assoc, append-nil}
+
+pub ruleset pieces = (append_assoc, append-nil)

@@ -1,0 +1,3 @@
+pub mod ChaptersLemmas
+pub mod ExtractedLemmas
+pub mod SoundLemmas

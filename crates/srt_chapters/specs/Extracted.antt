@@ -1,0 +1,35 @@
+-- A Chapters Element as simple chapters: the top atoms of its first edition.
+use Rattle.std.specs.Prelude.{ℕ, ◌+◌, ◌==◌, List, [], ◌∷◌, ◌++◌, filter}
+use Rattle.std.specs.Option.{option_map_or}
+use Rattle.mkv_schema.specs.declared.ids.TheConstants.{EDITION_ENTRY, CHAPTER_ATOM, CHAPTER_TIME_START, CHAPTER_DISPLAY, CHAP_STRING}
+use Rattle.matroska_format.specs.Value.{text_of}
+use Rattle.tree_format.specs.Node.{Node, id_of, body_of, children}
+use Rattle.tree_format.specs.Values.{first_child, integer_of}
+use Rattle.chapter_texts.specs.Writing.{put_pair}
+
+-- where an atom starts, in nanoseconds: at 0, where it doesn't say
+abbrev pub start_of : Node → ℕ
+start_of atom = option_map_or integer_of (first_child CHAPTER_TIME_START atom) 0
+
+-- the name in a display, and the name of the first display: nothing where there is none
+abbrev pub name_in : Node → List ℕ
+name_in display = option_map_or (λ s. text_of (body_of s)) (first_child CHAP_STRING display) []
+
+abbrev pub name_of : Node → List ℕ
+name_of atom = option_map_or name_in (first_child CHAPTER_DISPLAY atom) []
+
+-- the atoms directly in an edition
+abbrev pub atoms_in : List Node → List Node
+atoms_in ns = filter (λ n. id_of n == CHAPTER_ATOM) ns
+
+abbrev pub top_atoms : Node → List Node
+top_atoms chapters = option_map_or (λ edition. atoms_in (children edition)) (first_child EDITION_ENTRY chapters) []
+
+-- atoms as pairs of lines, of which the first has this number
+abbrev pub put_atoms : ℕ → List Node → List ℕ
+put_atoms k [] = []
+put_atoms k (a ∷ as') = put_pair k (start_of a) (name_of a) ++ put_atoms (k + 1) as'
+
+-- a Chapters Element as simple chapters, numbered from 1
+abbrev pub put_simple : Node → List ℕ
+put_simple chapters = put_atoms 1 (top_atoms chapters)

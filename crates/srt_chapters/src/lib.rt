@@ -1,0 +1,11 @@
+#![tactic(auto)]
+
+//! Text files of subtitles and chapters, read and written: SubRip as entries, simple chapters as a Chapters
+//! Element (RFC 9559, section 5.1.7, Chapters Element).
+
+mod reading;
+mod writing;
+
+pub use reading::{chapters_tree, read_simple};
+pub use srt_texts::{Entry, TextEnd, put_srt, read_srt};
+pub use writing::put_simple;

@@ -1,0 +1,4 @@
+pub mod TimesLemmas
+pub mod SrtLemmas
+pub mod SortLemmas
+pub mod WritingLemmas

@@ -1,0 +1,4 @@
+pub mod Times
+pub mod Srt
+pub mod Reading
+pub mod Writing

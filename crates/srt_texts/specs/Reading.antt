@@ -1,0 +1,53 @@
+-- What is known while a SubRip file is read.
+use Rattle.std.specs.Prelude.{◌≡◌, ◌<◌, ◌≤◌, ⊤, All, ℕ, zero, suc, ◌+◌, List, [], ◌∷◌, length, Option, Some, None, Result, Ok, Err}
+use Rattle.std.specs.Str.Lines.{lines}
+use Rattle.srt_texts.specs.declared.reading.Head.{Head}
+use Rattle.text_entries.specs.declared.Entry.{Entry}
+use Rattle.text_lines.specs.declared.end.TextEnd.{TextEnd}
+use Rattle.text_lines.specs.Ends.{Blames}
+use Rattle.srt_texts.specs.Times.{latest}
+use Rattle.srt_texts.specs.Srt.{Place, Second, Behind, head, before_head, entry, entries, first_bad}
+use Rattle.srt_texts.specs.declared.times.Times.{Times}
+
+-- the entries from a head on
+abbrev pub entries_at : Option Head → List Entry
+entries_at None = []
+entries_at (Some h) = entry h.times (before_head (lines h.rest.now)) ∷ entries (lines h.rest.now)
+
+-- the first bad line behind a head
+abbrev pub bad_at : Option Head → Option ℕ
+bad_at None = None
+bad_at (Some h) = first_bad Behind (h.number + 1) (lines h.rest.now)
+
+-- These lines, which stand at this place and of which the first has this number, have the entries from the head
+-- on, and the first bad line behind it.
+abbrev pub GoesOn : Place → ℕ → List (List ℕ) → Option Head → Type 0
+GoesOn place n ls h = (entries ls ≡ entries_at h) × (first_bad place n ls ≡ bad_at h)
+
+-- The head was read from these octets, before which so many lines stand: what is behind it is shorter, and its
+-- times are in order and not too late.
+abbrev pub IsWithin : ℕ → List ℕ → Option Head → Type 0
+IsWithin before from None = ⊤
+IsWithin before from (Some h) =
+    (h.number + length h.rest.now ≤ before + length from) × (length h.rest.now < length from) × (h.times.start ≤ h.times.end) × (h.times.end < latest)
+
+-- how many octets are left where a head was read, the end of its lines counted
+abbrev pub left : Option Head → ℕ
+left None = 0
+left (Some h) = 1 + length h.rest.now
+
+-- At most so many entries, each of which ends within 10,000 hours.
+abbrev pub AreWithin : ℕ → List Entry → Type 0
+AreWithin most es = (length es ≤ most) × All (λ (e : Entry). e.start + e.duration < latest) es
+
+-- so many line feeds
+abbrev pub breaks : ℕ → List ℕ
+breaks zero = []
+breaks (suc n) = 10 ∷ breaks n
+
+-- what is known of a line, of those behind it, and of the head that may begin with it
+abbrev pub HeadRead : List ℕ → List (List ℕ) → ℕ → Result (Option Head) TextEnd → Type 0
+HeadRead l ls n (Ok None) = head (l ∷ ls) ≡ None
+HeadRead l ls n (Ok (Some h)) =
+    (head (l ∷ ls) ≡ Some h.times) × (entries (l ∷ ls) ≡ entries_at (Some h)) × (first_bad (Second h.times) (n + 1) ls ≡ bad_at (Some h))
+HeadRead l ls n (Err e) = (t : Times) × (head (l ∷ ls) ≡ Some t) × Blames e (first_bad (Second t) (n + 1) ls)

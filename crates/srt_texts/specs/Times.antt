@@ -1,0 +1,53 @@
+-- The two lines that begin an entry of SubRip: its number and its times.
+use Rattle.std.specs.Prelude.{ℕ, ◌+◌, ◌*◌, Bool, ◌&&◌, ◌||◌, ◌==◌, nat_le, if◌then◌else◌, List, length, take, drop, slice_index, codes, Option, Some, None}
+use Rattle.std.specs.List.{list_all, prefix_len}
+use Rattle.std.specs.Char.{is_ascii_digit}
+use Rattle.text_lines.specs.Fields.{◌>>=◌, cut, behind, digits, sixtieth}
+use Rattle.srt_texts.specs.declared.times.Times.{Times}
+
+-- `SS,mmm` or `SS.mmm` in front, in milliseconds
+unfoldable pub seconds : List ℕ → Option ℕ
+seconds word = do
+  s ← sixtieth (take 2 word)
+  m ← digits 3 3 (take 3 (drop 3 word))
+  if slice_index word 2 == 44 || slice_index word 2 == 46 then Some (s * 1000 + m) else None
+
+-- a time in front, in nanoseconds, and what stands behind it
+unfoldable pub clock : List ℕ → Option (ℕ × List ℕ)
+clock word = do
+  h ← cut 58 word
+  m ← cut 58 h.1
+  hours ← digits 2 4 h.0
+  minutes ← sixtieth m.0
+  rest ← seconds m.1
+  Some (((hours * 60 + minutes) * 60000 + rest) * 1000000, drop 6 m.1)
+
+-- nothing, or a space and anything
+abbrev pub is_tail : List ℕ → Bool
+is_tail word = length word == 0 || slice_index word 0 == 32
+
+-- from a start to an end
+abbrev pub span : ℕ → ℕ → Times
+span start end = record { start = start; end = end }
+
+-- two times with ` --> ` between them, and a tail
+unfoldable pub times : List ℕ → Option Times
+times line = do
+  start ← clock line
+  rest ← behind (codes " --> ") start.1
+  end ← clock rest
+  if is_tail end.1 then Some (span start.0 end.0) else None
+
+-- a space or a tab
+abbrev pub is_blank : ℕ → Bool
+is_blank b = b == 32 || b == 9
+
+-- 1 to 9 digits, and spaces and tabs behind them
+unfoldable pub is_number : List ℕ → Bool
+is_number line =
+    let n = prefix_len is_ascii_digit line in
+    nat_le 1 n && nat_le n 9 && list_all is_blank (drop n line)
+
+-- 10,000 hours in nanoseconds, which no time of four digits of hours reaches
+abbrev pub latest : ℕ
+latest = 36000000000000000

@@ -1,0 +1,24 @@
+-- How an entry of SubRip is written.
+use Rattle.std.specs.Prelude.{ℕ, ℤ, pos, negsuc, ◌+ℤ◌, ◌/◌, List, [], ◌∷◌, ◌++◌, codes}
+use Rattle.std.specs.Fmt.{decimal}
+use Rattle.text_lines.specs.declared.pieces.Piece.{Piece}
+use Rattle.text_lines.specs.declared.pieces.Piece.TheVariants.{Time}
+use Rattle.text_lines.specs.Pieces.{stamp}
+
+-- whole milliseconds of a time in nanoseconds; one before 0 is 0
+abbrev pub milliseconds : ℤ → ℕ
+milliseconds (pos t) = t / 1000000
+milliseconds (negsuc t) = 0
+
+abbrev pub time : ℕ → Piece
+time ms = Time 44 ms
+
+-- the times of an entry's start and of its end
+abbrev pub time_line : ℤ → ℕ → List ℕ
+time_line start duration =
+    stamp 44 (milliseconds start) ++ (codes " --> " ++ stamp 44 (milliseconds (start +ℤ pos duration)))
+
+-- an entry: its number, its times and its text, each ended by LF, and an empty line
+unfoldable pub put_srt : ℕ → ℤ → ℕ → List ℕ → List ℕ
+put_srt number start duration text =
+    decimal number ++ (10 ∷ (time_line start duration ++ (10 ∷ (text ++ (10 ∷ 10 ∷ [])))))

@@ -1,0 +1,7 @@
+pub mod DigitsLemmas
+pub mod LineLemmas
+pub mod ChaptersLemmas
+pub mod PartsLemmas
+pub mod ArrowLemmas
+pub mod SubRipLemmas
+pub mod LengthLemmas

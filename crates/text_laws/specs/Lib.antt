@@ -1,0 +1,4 @@
+pub mod Plain
+pub mod Chapters
+pub mod SubRip
+pub mod Lengths

@@ -1,0 +1,16 @@
+-- Texts that a text file can hold in a line of its own.
+use Rattle.std.specs.Prelude.{◌≡◌, ℕ, ◌-◌, ◌==◌, Bool, true, false, not, List, length, slice_index}
+use Rattle.std.specs.List.{list_all}
+
+-- no octet of a text is this one
+abbrev pub lacks : ℕ → List ℕ → Bool
+lacks octet text = list_all (λ b. not (b == octet)) text
+
+-- the last octet of a text is CR
+abbrev pub ends_with_return : List ℕ → Bool
+ends_with_return text = slice_index text (length text - 1) == 13
+
+-- A text is one line: it has no LF, and no CR at its end, which would be taken for the line's.
+pub record IsLine (text : List ℕ) : Type 0 where
+  pub no_break : lacks 10 text ≡ true
+  pub no_return : ends_with_return text ≡ false
