@@ -3,6 +3,7 @@
 //! What the suite's crates share, for their users: plain values, the outside as traits, and files
 //! and a report in memory.
 
+pub use mkv_disk::{Disk, MEDIA, SIDECAR};
 pub use mkv_io::{Files, Reads, Report};
 pub use mkv_memory::{MemFiles, MemReport};
 pub use mkv_values::{

@@ -1,0 +1,30 @@
+-- The two files of a disk: a medium, and the sidecar beside it.
+use Rattle.std.specs.Prelude.{◌≡◌, ℕ, zero, suc, List}
+use Rattle.mkv_disk.specs.Image.{DiskFile, IsImage, clean}
+
+pub record Pair : Type 0 where
+  pub media : DiskFile
+  pub sidecar : DiskFile
+
+-- What a crash may leave of the two: an image of each, chosen apart.
+pub record IsPairImage (p : Pair) (m s : List ℕ) : Type 0 where
+  pub media : IsImage p.media m
+  pub sidecar : IsImage p.sidecar s
+
+-- the file of a number: 0 is the medium, any other the sidecar
+abbrev pub file_of : ℕ → Pair → DiskFile
+file_of zero p = p.media
+file_of (suc _) p = p.sidecar
+
+-- One of the two is changed.
+abbrev pub on : ℕ → (DiskFile → DiskFile) → Pair → Pair
+on zero change p = record { media = change p.media; sidecar = p.sidecar }
+on (suc _) change p = record { media = p.media; sidecar = change p.sidecar }
+
+-- A pair of which nothing is pending.
+abbrev pub both : List ℕ → List ℕ → Pair
+both media sidecar = record { media = clean media; sidecar = clean sidecar }
+
+-- Nothing is pending: what is read is all that a crash leaves.
+abbrev pub IsSynced : Pair → Type 0
+IsSynced p = p ≡ both p.media.reads p.sidecar.reads

@@ -1,0 +1,13 @@
+use Rattle.mkv_disk.proofs.MomentsLemmas.{weaker, written_then}
+use Rattle.sidecar_edit.proofs.GateLemmas.{record_write_image}
+use Rattle.sidecar_edit.proofs.edit.write_record.Goals as goal
+
+pub returns-in_err-write_at-clause-any_moment : goal.returns-in_err-write_at-clause-any_moment
+returns-in_err-write_at-clause-any_moment g c = λ told.
+    weaker _ _ _ _ _ _ (λ m s image. record_write_image (g.D.Disk.pair c.args.disk.now) (g.D.Disk.pair c.args.disk.now).media.reads c.body.result.now m s (c.requires.settled told) image) (c.write_at.ensures.any_moment told)
+
+-- until the sync, it may be there or not
+pub returns-clause-any_moment : goal.returns-clause-any_moment
+returns-clause-any_moment g c = λ told.
+    written_then _ _ g.D.Disk.pair _ _ _ _ _ (λ m s image. record_write_image (g.D.Disk.pair c.args.disk.now) (g.D.Disk.pair c.args.disk.now).media.reads c.body.result.now m s (c.requires.settled told) image)
+    (c.write_at.ensures.any_moment told) (c.in_ok-write_at.ensures.ok told) (c.sync.ensures.any_moment told)

@@ -1,0 +1,25 @@
+-- Writes that are made one after the other, and not yet synced.
+use Rattle.std.specs.Prelude.{◌≡◌, ◌⊎◌, ℕ, ◌+◌, ◌<◌, ◌≤◌, max, List, length, take}
+use Rattle.mkv_io.specs.Contents.{overwritten}
+use Rattle.mkv_disk.specs.Image.{InRanges, clean}
+use Rattle.mkv_disk.specs.Pair.{Pair}
+use Rattle.sidecar_format.specs.Writes.{Write, Touches, applied, extent}
+
+-- These octets are written from this place of the medium on, in any pieces: it reads as after one write, and a crash leaves no
+-- more than after one.
+pub record IsWritten (at : ℕ) (bytes : List ℕ) (old new : Pair) : Type 0 where
+  pub sidecar : new.sidecar ≡ old.sidecar
+  pub reads : new.media.reads ≡ overwritten old.media.reads at bytes
+  pub synced : new.media.synced ≡ old.media.synced
+  pub least : new.media.least ≡ old.media.least
+  pub greatest : new.media.greatest ≤ max old.media.greatest (at + length bytes)
+  pub within : (k : ℕ) → InRanges new.media.written k → ((at ≤ k) × (k < at + length bytes)) ⊎ InRanges old.media.written k
+
+-- The first i writes are made, in any pieces, and nothing of them is synced.
+pub record IsPartly (ws : List Write) (i : ℕ) (file beside : List ℕ) (p : Pair) : Type 0 where
+  pub sidecar : p.sidecar ≡ clean beside
+  pub reads : p.media.reads ≡ applied file (take i ws)
+  pub synced : p.media.synced ≡ file
+  pub least : p.media.least ≡ length file
+  pub greatest : p.media.greatest ≤ extent (length file) (take i ws)
+  pub within : (k : ℕ) → InRanges p.media.written k → Touches (take i ws) k

@@ -1,0 +1,70 @@
+//! The gate of a sidecar, its first octet, and what stands behind it.
+
+ghost use Rattle.std.specs.Prelude.{◌≡◌, ◌≤◌, ℕ, [], ◌∷◌, length, drop, take, OnOk, IsTrue};
+ghost use Rattle.mkv_io.specs.Faults.{HasCause, is_failure};
+ghost use Rattle.mkv_io.specs.Sources.{IsLive};
+ghost use Rattle.mkv_disk.specs.Pair.{both};
+ghost use Rattle.mkv_disk.specs.Calls.{AnyMoment, AtRest, Makes, OfReads};
+ghost use Rattle.mkv_disk.specs.Writing.{OnlyWrites};
+ghost use Rattle.sidecar_format.specs.Recovery.{IsClosed, IsQuiet};
+ghost use Rattle.sidecar_edit.specs.Leaves.{IsGated};
+
+use mkv_disk::{Disk, SIDECAR};
+use mkv_values::Failed;
+
+/// Writes the gate, and makes sure of it.
+pub fn set_gate<D: Disk>(disk: &mut D, gate: u8) -> Result<(), Failed>
+    requires live { IsLive D.Reads disk.old SIDECAR }
+    requires at_rest { AtRest D.Disk.own disk.old }
+    ensures ok { Makes D.Disk.own disk.old disk.new result (λ M S. both M (gate ∷ drop 1 S)) }
+    ensures any_moment { AnyMoment D.Disk.own disk.old disk.new (λ M S m s. (m ≡ M) × IsGated S s) }
+    ensures only { OnlyWrites D.Reads D.Disk.own disk.old disk.new }
+    ensures cause { HasCause is_failure (D.writing_faults disk.old) (D.writing_faults disk.new) result }
+{
+    disk.write_at(SIDECAR, 0, &[gate])?;
+    disk.sync(SIDECAR)
+}
+
+/// Cuts a sidecar whose gate is closed to its gate, and makes sure of it.
+pub fn cut_down<D: Disk>(disk: &mut D) -> Result<(), Failed>
+    requires live { IsLive D.Reads disk.old SIDECAR }
+    requires at_rest { AtRest D.Disk.own disk.old }
+    requires closed { OfReads D.Disk.own disk.old (λ M S. (1 ≤ length S) × IsClosed S) }
+    ensures ok { Makes D.Disk.own disk.old disk.new result (λ M S. both M (take 1 S)) }
+    ensures any_moment { AnyMoment D.Disk.own disk.old disk.new (λ M S m s. (m ≡ M) × IsClosed s) }
+    ensures only { OnlyWrites D.Reads D.Disk.own disk.old disk.new }
+    ensures cause { HasCause is_failure (D.writing_faults disk.old) (D.writing_faults disk.new) result }
+{
+    disk.cut(SIDECAR, 1)?;
+    disk.sync(SIDECAR)
+}
+
+/// Closes the gate, and cuts the sidecar to it.
+pub fn close<D: Disk>(disk: &mut D) -> Result<(), Failed>
+    requires live { IsLive D.Reads disk.old SIDECAR }
+    requires at_rest { AtRest D.Disk.own disk.old }
+    ensures ok { Makes D.Disk.own disk.old disk.new result (λ M S. both M (0 ∷ [])) }
+    ensures any_moment { AnyMoment D.Disk.own disk.old disk.new (λ M S m s. (m ≡ M) × IsGated S s) }
+    ensures only { OnlyWrites D.Reads D.Disk.own disk.old disk.new }
+    ensures cause { HasCause is_failure (D.writing_faults disk.old) (D.writing_faults disk.new) result }
+{
+    set_gate(disk, 0)?;
+    cut_down(disk)
+}
+
+/// Makes of a quiet sidecar one octet, a closed gate. A longer one is cut first: behind a gate that is torn
+/// open, an older record would count.
+pub fn settle<D: Disk>(disk: &mut D) -> Result<(), Failed>
+    requires live { IsLive D.Reads disk.old SIDECAR }
+    requires at_rest { AtRest D.Disk.own disk.old }
+    requires quiet { OfReads D.Disk.own disk.old (λ M S. IsQuiet S) }
+    ensures ok { Makes D.Disk.own disk.old disk.new result (λ M S. both M (0 ∷ [])) }
+    ensures any_moment { AnyMoment D.Disk.own disk.old disk.new (λ M S m s. (m ≡ M) × IsQuiet s) }
+    ensures only { OnlyWrites D.Reads D.Disk.own disk.old disk.new }
+    ensures cause { HasCause is_failure (D.writing_faults disk.old) (D.writing_faults disk.new) result }
+{
+    if disk.size(SIDECAR) > 1 {
+        cut_down(disk)?;
+    }
+    set_gate(disk, 0)
+}
