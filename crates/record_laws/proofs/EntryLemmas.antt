@@ -1,0 +1,145 @@
+-- An entry that was written and read is written as it was.
+use Rattle.std.proofs.Common.{◌≡◌, ℕ, ◌+◌, ◌==◌, Bool, true, false, List, [], ◌∷◌, ◌++◌, length, map, flat_map, Option, Some, None, refl, sym, ap, ◌∙◌}
+use Rattle.std.proofs.lemmas.List.Elements.{All-nil, All-cons, All-head, All-tail, All-append}
+use Rattle.mkv_schema.specs.declared.ids.TheConstants.{TRACK_NUMBER, TRACK_UID, NAME, LANGUAGE, LANGUAGE_BCP47, FLAG_DEFAULT, FLAG_FORCED, CONTENT_ENCODINGS}
+use Rattle.tree_format.specs.Node.{Node, Nodes, leaf, master, nodes_of, list_of, id_of}
+use Rattle.tree_format.specs.NormalForm.{header_octets, kept_octets, octets, octets_all}
+use Rattle.tree_format.specs.Changes.{without, with_child, part, HasNone}
+use Rattle.tree_format.specs.Standing.{placed, placed_all}
+use Rattle.tree_format.proofs.NodeLemmas.{list-nodes, nodes-list, octets_all-flat}
+use Rattle.tree_format.proofs.PartLemmas.{without-none, part-none, part-without, none-without, part-other, part-set}
+use Rattle.record_changes.specs.declared.track_change.TrackChange.{TrackChange}
+use Rattle.record_changes.specs.Children.{uint_leaf, set_each, removed_each, given}
+use Rattle.record_changes.specs.Entry.{flag_leaf, children_set, ids_removed, written_entry}
+use Rattle.record_laws.specs.Again.{plain, read_of, EntriesStay}
+use Rattle.record_laws.proofs.SameLemmas.{HasOnly, none-part, same-only, part-read, octets-read}
+
+-- ---- changes as lists of children
+
+abbrev with_each : List Node → List Node → List Node
+with_each [] ns = ns
+with_each (c ∷ cs) ns = with_each cs (with_child c ns)
+
+abbrev without_each : List ℕ → List Node → List Node
+without_each [] ns = ns
+without_each (id ∷ ids) ns = without_each ids (without id ns)
+
+-- the children that are written of an entry's
+abbrev pub entry_list : TrackChange → List Node → List Node
+entry_list c ns = with_each (children_set c) (without_each (ids_removed c.language) ns)
+
+set-master : (cs : List Node) (id at : ℕ) (ns : List Node) → set_each cs (master id at (nodes_of ns)) ≡ master id at (nodes_of (with_each cs ns))
+set-master [] id at ns = refl
+set-master (c ∷ cs) id at ns = ap (λ ms. set_each cs (master id at (nodes_of (with_child c ms)))) (list-nodes ns) ∙ set-master cs id at (with_child c ns)
+
+removed-master : (ids : List ℕ) (id at : ℕ) (ns : List Node) → removed_each ids (master id at (nodes_of ns)) ≡ master id at (nodes_of (without_each ids ns))
+removed-master [] id at ns = refl
+removed-master (i ∷ ids) id at ns = ap (λ ms. removed_each ids (master id at (nodes_of (without i ms)))) (list-nodes ns) ∙ removed-master ids id at (without i ns)
+
+pub written-master : (c : TrackChange) (id at : ℕ) (kids : Nodes) → written_entry c (master id at kids) ≡ master id at (nodes_of (entry_list c (list_of kids)))
+written-master c id at kids =
+    ap (λ ns. written_entry c (master id at ns)) (sym (nodes-list kids))
+    ∙ ap (set_each (children_set c)) (removed-master (ids_removed c.language) id at (list_of kids))
+    ∙ set-master (children_set c) id at (without_each (ids_removed c.language) (list_of kids))
+
+-- ---- what a change leaves of an ID
+
+part-with_each : (id : ℕ) (cs ns : List Node) → HasNone id cs → part id (with_each cs ns) ≡ part id ns
+part-with_each id [] ns others = refl
+part-with_each id (c ∷ cs) ns others =
+    part-with_each id cs (with_child c ns) (All-tail (λ n. (id_of n == id) ≡ false) c cs others) ∙ part-other id c ns (All-head (λ n. (id_of n == id) ≡ false) c cs others)
+
+none-given : {A : Type 0} (id : ℕ) (make : A → Node) (o : Option A) → ((a : A) → (id_of (make a) == id) ≡ false) → HasNone id (given make o)
+none-given id make None other = All-nil (λ n. (id_of n == id) ≡ false)
+none-given id make (Some a) other = All-cons (λ n. (id_of n == id) ≡ false) (make a) [] (other a) (All-nil (λ n. (id_of n == id) ≡ false))
+
+flag-id : (own id : ℕ) → (own == id) ≡ false → (b : Bool) → (id_of (flag_leaf own b) == id) ≡ false
+flag-id own id other true = other
+flag-id own id other false = other
+
+-- what a user gives
+abbrev options : TrackChange → List Node
+options c = given (leaf NAME 0) c.name ++ given (leaf LANGUAGE 0) c.language ++ given (flag_leaf FLAG_DEFAULT) c.flag_default ++ given (flag_leaf FLAG_FORCED) c.flag_forced
+
+none-options : (id : ℕ) (c : TrackChange) → (NAME == id) ≡ false → (LANGUAGE == id) ≡ false → (FLAG_DEFAULT == id) ≡ false → (FLAG_FORCED == id) ≡ false → HasNone id (options c)
+none-options id c name language default forced =
+    let P : Node → Type 0 = λ n. (id_of n == id) ≡ false in
+    let named : List Node = given (leaf NAME 0) c.name in
+    let spoken : List Node = given (leaf LANGUAGE 0) c.language in
+    let by_default : List Node = given (flag_leaf FLAG_DEFAULT) c.flag_default in
+    let are_forced : List Node = given (flag_leaf FLAG_FORCED) c.flag_forced in
+    All-append P (named ++ spoken ++ by_default) are_forced
+    (All-append P (named ++ spoken) by_default
+    (All-append P named spoken (none-given id (leaf NAME 0) c.name (λ t. name)) (none-given id (leaf LANGUAGE 0) c.language (λ t. language)))
+    (none-given id (flag_leaf FLAG_DEFAULT) c.flag_default (flag-id FLAG_DEFAULT id default)))
+    (none-given id (flag_leaf FLAG_FORCED) c.flag_forced (flag-id FLAG_FORCED id forced))
+
+-- number and identifier come first, then what a user gives
+entry_list-is : (c : TrackChange) (ns : List Node)
+    → entry_list c ns ≡ with_each (options c) (with_child (uint_leaf TRACK_UID c.uid) (with_child (uint_leaf TRACK_NUMBER c.number) (without_each (ids_removed c.language) ns)))
+entry_list-is c ns = ap (λ cs. with_each cs (without_each (ids_removed c.language) ns)) (shape (given (leaf NAME 0) c.name) (given (leaf LANGUAGE 0) c.language) (given (flag_leaf FLAG_DEFAULT) c.flag_default) (given (flag_leaf FLAG_FORCED) c.flag_forced))
+  where
+    shape : (a b d e : List Node) → uint_leaf TRACK_NUMBER c.number ∷ uint_leaf TRACK_UID c.uid ∷ a ++ b ++ d ++ e ≡ uint_leaf TRACK_NUMBER c.number ∷ uint_leaf TRACK_UID c.uid ∷ (a ++ b ++ d ++ e)
+    shape a b d e = refl
+
+module _ (c : TrackChange) (ns : List Node) where
+  bare : List Node
+  bare = without_each (ids_removed c.language) ns
+
+  pub part-uid : part TRACK_UID (entry_list c ns) ≡ uint_leaf TRACK_UID c.uid ∷ []
+  unfolding bare
+  part-uid =
+      ap (part TRACK_UID) (entry_list-is c ns)
+      ∙ part-with_each TRACK_UID (options c) (with_child (uint_leaf TRACK_UID c.uid) (with_child (uint_leaf TRACK_NUMBER c.number) bare)) (none-options TRACK_UID c refl refl refl refl)
+      ∙ part-set (uint_leaf TRACK_UID c.uid) (with_child (uint_leaf TRACK_NUMBER c.number) bare)
+
+  part-number : part TRACK_NUMBER (entry_list c ns) ≡ uint_leaf TRACK_NUMBER c.number ∷ []
+  unfolding bare
+  part-number =
+      ap (part TRACK_NUMBER) (entry_list-is c ns)
+      ∙ part-with_each TRACK_NUMBER (options c) (with_child (uint_leaf TRACK_UID c.uid) (with_child (uint_leaf TRACK_NUMBER c.number) bare)) (none-options TRACK_NUMBER c refl refl refl refl)
+      ∙ part-other TRACK_NUMBER (uint_leaf TRACK_UID c.uid) (with_child (uint_leaf TRACK_NUMBER c.number) bare) refl
+      ∙ part-set (uint_leaf TRACK_NUMBER c.number) bare
+
+  part-encodings : part CONTENT_ENCODINGS (entry_list c ns) ≡ []
+  unfolding bare
+  part-encodings =
+      ap (part CONTENT_ENCODINGS) (entry_list-is c ns)
+      ∙ part-with_each CONTENT_ENCODINGS (options c) (with_child (uint_leaf TRACK_UID c.uid) (with_child (uint_leaf TRACK_NUMBER c.number) bare)) (none-options CONTENT_ENCODINGS c refl refl refl refl)
+      ∙ part-other CONTENT_ENCODINGS (uint_leaf TRACK_UID c.uid) (with_child (uint_leaf TRACK_NUMBER c.number) bare) refl
+      ∙ part-other CONTENT_ENCODINGS (uint_leaf TRACK_NUMBER c.number) bare refl
+      ∙ gone c.language
+    where
+      gone : (o : Option (List ℕ)) → part CONTENT_ENCODINGS (without_each (ids_removed o) ns) ≡ []
+      gone None = part-none CONTENT_ENCODINGS (without CONTENT_ENCODINGS ns) (none-without CONTENT_ENCODINGS ns)
+      gone (Some language) =
+          part-without CONTENT_ENCODINGS LANGUAGE_BCP47 (without CONTENT_ENCODINGS ns) refl ∙ part-none CONTENT_ENCODINGS (without CONTENT_ENCODINGS ns) (none-without CONTENT_ENCODINGS ns)
+
+  -- ---- once more
+
+  list-again : (q : ℕ) → flat_map octets (entry_list (plain c.number c.uid) (read_of q (entry_list c ns))) ≡ flat_map octets (entry_list c ns)
+  list-again q =
+      let number : Node = uint_leaf TRACK_NUMBER c.number in
+      let own : Node = uint_leaf TRACK_UID c.uid in
+      let first : List Node = entry_list c ns in
+      let read : List Node = read_of q first in
+      let same : without CONTENT_ENCODINGS read ≡ read = without-none CONTENT_ENCODINGS read (none-part CONTENT_ENCODINGS read (part-read CONTENT_ENCODINGS q first refl ∙ ap (map octets) part-encodings)) in
+      let one_number : HasOnly number read = part-read TRACK_NUMBER q first refl ∙ ap (map octets) part-number in
+      let one_own : HasOnly own read = part-read TRACK_UID q first refl ∙ ap (map octets) part-uid in
+      let still : HasOnly own (with_child number read) = ap (map octets) (part-other TRACK_UID number read refl) ∙ one_own in
+      ap (λ l. flat_map octets (with_child own (with_child number l))) same
+      ∙ same-only own (with_child number read) still
+      ∙ same-only number read one_number
+      ∙ octets-read q first
+
+pub entries-stay : EntriesStay
+entries-stay c (leaf id at body) place is = absurd (cc)
+entries-stay c (master id at kids) place is =
+    let first : List Node = entry_list c (list_of kids) in
+    let q : ℕ = place + length (header_octets id (length (octets_all (nodes_of first)))) in
+    let again : List Node = entry_list (plain c.number c.uid) (read_of q first) in
+    let flat : octets_all (nodes_of again) ≡ octets_all (nodes_of first) = octets_all-flat again ∙ list-again c (list_of kids) q ∙ sym (octets_all-flat first) in
+    ap (λ n. octets (written_entry (plain c.number c.uid) (placed place n))) (written-master c id at kids)
+    ∙ ap octets (written-master (plain c.number c.uid) id place (placed_all q (nodes_of first)))
+    ∙ ap (kept_octets id) flat
+    ∙ sym (ap octets (written-master c id at kids))

@@ -1,0 +1,5 @@
+pub mod SameLemmas
+pub mod EntryLemmas
+pub mod TrackLemmas
+pub mod WholeLemmas
+pub mod DifferenceLemmas

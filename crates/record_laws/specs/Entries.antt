@@ -1,0 +1,18 @@
+-- TrackEntries that are read, and what is told of two: RFC 9559, section 5.1.4 (Tracks Element).
+use Rattle.std.specs.Prelude.{◌≡◌, ◌<◌, ◌↔◌, All, None}
+use Rattle.mkv_schema.specs.declared.ids.TheConstants.{TRACKS}
+use Rattle.tree_format.specs.Node.{Node, nodes_of, children, depth_all, deepest}
+use Rattle.tree_format.specs.Standing.{StandsIn, IsSoundOf}
+use Rattle.track_format.specs.Entry.{entries_of}
+use Rattle.record_changes.specs.declared.fields.TheConstants.{FIELDS}
+use Rattle.record_changes.specs.Entry.{IsWholeEntry}
+use Rattle.record_changes.specs.Difference.{octets_at, first_difference}
+
+-- The entries of a Tracks Element that was read are whole; and what is whole stands in one.
+pub record ReadEntriesAreWhole : Type 0 where
+  pub read : (tracks : Node) → IsSoundOf TRACKS tracks → depth_all (nodes_of (children tracks)) < deepest → All IsWholeEntry (entries_of tracks)
+  pub stands : (entry : Node) → IsWholeEntry entry → StandsIn TRACKS entry
+
+-- No difference of two entries is told exactly where they have the same octets in every field.
+abbrev pub DifferencesAreTold : Type 0
+DifferencesAreTold = (a b : Node) → (first_difference a b ≡ None) ↔ All (λ f. octets_at f a ≡ octets_at f b) FIELDS
