@@ -1,0 +1,44 @@
+-- What an output has of the blocks of a file, whose track it takes.
+use Rattle.std.specs.Prelude.{ℕ, List, [], ◌++◌, map, codes}
+use Rattle.std.specs.List.{flat_map}
+use Rattle.block_format.specs.Block.{Block}
+use Rattle.mkv_outputs.specs.Outputs.{Output}
+use Rattle.extract_model.specs.Frames.{Frame, frames_of}
+use Rattle.extract_model.specs.Times.{time_line}
+use Rattle.extract_model.specs.declared.track_output.Format.{Format}
+use Rattle.extract_model.specs.declared.track_output.Format.TheVariants.{Frames, Times}
+use Rattle.extract_model.specs.declared.track_output.TrackOutput.{TrackOutput}
+
+-- the first line of a file of times
+abbrev pub times_head : List ℕ
+times_head = codes "# timestamp format v2\n"
+
+-- what stands before the first frame
+abbrev pub head_of : Format → List ℕ
+head_of (Frames head prefix) = head
+head_of Times = times_head
+
+-- what is written of a frame
+abbrev pub entry_of : Format → Frame → List ℕ
+entry_of (Frames head prefix) f = prefix ++ f.octets
+entry_of Times f = time_line f.time
+
+-- of frames, one after the other
+abbrev pub entries_of : Format → List Frame → List ℕ
+entries_of format frames = flat_map (λ (f : Frame). entry_of format f) frames
+
+-- what an output has of blocks: what stands before the first frame, and the frames of its track
+abbrev pub content_of : TrackOutput → List Block → List ℕ
+content_of o blocks = head_of o.format ++ entries_of o.format (frames_of o.step o.track blocks)
+
+-- the output whole
+abbrev pub output_of : TrackOutput → List Block → Output
+output_of o blocks = record { name = o.name; content = content_of o blocks }
+
+-- all of them
+abbrev pub outputs_of : List TrackOutput → List Block → List Output
+outputs_of list blocks = map (λ (o : TrackOutput). output_of o blocks) list
+
+-- the names of the outputs
+abbrev pub names_in : List TrackOutput → List (List ℕ)
+names_in list = map (λ (o : TrackOutput). o.name) list

@@ -1,0 +1,76 @@
+-- What a job takes of the tracks of a file: RFC 9559, section 5.1.4 (Tracks Element).
+use Rattle.std.specs.Prelude.{ℕ, List, [], ◌∷◌, map, Option, Some, None, slice_get, unwrap_or}
+use Rattle.std.specs.List.{flat_map}
+use Rattle.std.specs.Option.{option_map_or}
+use Rattle.mkv_jobs.specs.declared.job.Job.{Job}
+use Rattle.mkv_jobs.specs.declared.job.Job.TheVariants as jobs
+use Rattle.mkv_jobs.specs.declared.job.Form.TheVariants as form
+use Rattle.mkv_jobs.specs.declared.job.Target.{Target}
+use Rattle.mkv_schema.specs.declared.ids.TheConstants.{CODEC_PRIVATE}
+use Rattle.tree_format.specs.Node.{Node, body_of}
+use Rattle.tree_format.specs.Values.{first_child}
+use Rattle.track_format.specs.Entry.{default_duration_of, number_of}
+use Rattle.track_format.specs.Encoding.{prefix_of}
+use Rattle.extract_model.specs.declared.taken.Taken.{Taken}
+use Rattle.extract_model.specs.declared.taken.Taken.TheVariants as taken
+use Rattle.extract_model.specs.declared.track_output.Format.{Format}
+use Rattle.extract_model.specs.declared.track_output.Format.TheVariants as format
+use Rattle.extract_model.specs.declared.track_output.TrackOutput.{TrackOutput}
+
+-- what a job takes of tracks; the other jobs aren't built
+abbrev pub taken_of : Job → Option Taken
+taken_of (jobs.Tracks form.Raw list) = Some taken.Raw
+taken_of (jobs.Tracks form.Full list) = Some taken.Full
+taken_of (jobs.Tracks form.SubRip list) = None
+taken_of (jobs.Timestamps list) = Some taken.Times
+taken_of (jobs.Attachments list) = None
+taken_of (jobs.Cues list) = None
+taken_of (jobs.Chapters name) = None
+
+-- what it takes it from, and where it goes
+abbrev pub targets_of : Job → List Target
+targets_of (jobs.Tracks form list) = list
+targets_of (jobs.Timestamps list) = list
+targets_of (jobs.Attachments list) = list
+targets_of (jobs.Cues list) = list
+targets_of (jobs.Chapters name) = []
+
+-- the names of the files that targets are written to
+abbrev pub names_of : List Target → List (List ℕ)
+names_of targets = map (λ (t : Target). t.name) targets
+
+-- the CodecPrivate of a track, empty where it has none
+abbrev pub private_of : Node → List ℕ
+private_of entry = option_map_or body_of (first_child CODEC_PRIVATE entry) []
+
+-- what is written of the frames of a track
+abbrev pub format_of : Taken → Node → Format
+format_of taken.Raw entry = format.Frames [] (prefix_of entry)
+format_of taken.Full entry = format.Frames (private_of entry) (prefix_of entry)
+format_of taken.Times entry = format.Times
+
+-- the output of a target whose track has this entry
+abbrev pub track_output : Taken → List ℕ → Node → TrackOutput
+track_output kind name entry = record {
+  name = name;
+  track = number_of entry;
+  step = unwrap_or (default_duration_of entry) 0;
+  format = format_of kind entry;
+}
+
+-- the output of a target, if the file has the track: by its place in Tracks, from 0
+abbrev pub output_for : Taken → Target → Option Node → List TrackOutput
+output_for kind t None = []
+output_for kind t (Some entry) = track_output kind t.name entry ∷ []
+
+-- the outputs of targets, in their order
+abbrev pub outputs_for : Taken → List Target → List Node → List TrackOutput
+outputs_for kind targets entries = flat_map (λ (t : Target). output_for kind t (slice_get entries t.id)) targets
+
+abbrev pub outputs_taken : Option Taken → List Target → List Node → List TrackOutput
+outputs_taken None targets entries = []
+outputs_taken (Some kind) targets entries = outputs_for kind targets entries
+
+-- the outputs that a job comes to, where these are the entries of the tracks
+abbrev pub job_outputs : Job → List Node → List TrackOutput
+job_outputs job entries = outputs_taken (taken_of job) (targets_of job) entries

@@ -1,0 +1,4 @@
+pub mod Content
+pub mod Frames
+pub mod Job
+pub mod Times

@@ -1,0 +1,5 @@
+pub mod BlocksLemmas
+pub mod FramesLemmas
+pub mod JobLemmas
+pub mod MakeLemmas
+pub mod WalkLemmas

@@ -1,0 +1,175 @@
+-- A walk over the blocks of a file that is open while outputs are written.
+use Rattle.std.proofs.Common.{◌≡◌, ℕ, ◌+◌, ◌*◌, ◌≤◌, List, [], ◌∷◌, ◌++◌, Bool, true, false, refl, sym, ◌∙◌, ap, subst, append_assoc, append-nil, arith}
+use Rattle.mkv_values.specs.declared.damage.Damage.{Damage}
+use Rattle.mkv_io.specs.Names.{AreOthers, Names}
+use Rattle.mkv_io.specs.Sources.{live_files}
+use Rattle.mkv_io.specs.Writing.{KeepsOthers}
+use Rattle.mkv_io.specs.declared.reads.Reads.{Ghosts}
+use Rattle.mkv_io.specs.declared.files.Files as writing
+use Rattle.mkv_io.proofs.WritingLemmas.{KeepsOthers-none, KeepsOthers-then}
+use Rattle.block_format.specs.Block.{Block}
+use Rattle.block_format.specs.Events.{Event, block, blocks_of, damages_of}
+use Rattle.cluster_reader.specs.Reading.{Reading, damage_event, paid}
+use Rattle.cluster_reader.specs.ToldDamages.{ToldDamages, told_damages, with_damage}
+use Rattle.cluster_reader.proofs.ToldDamagesLemmas.{with_damage-told}
+use Rattle.mkv_outputs.specs.Outputs.{Output}
+use Rattle.mkv_outputs.specs.Sinks.{AreOpen, HaveBeenGiven, WritesOutputs, holders_of, ids_of, names_under}
+use Rattle.mkv_outputs.specs.Starts.{AreBegun, StandsInPart}
+use Rattle.mkv_outputs.specs.declared.sink.Sink.{Sink}
+use Rattle.mkv_outputs.proofs.FilesLemmas.{AreOpen-kept}
+use Rattle.mkv_outputs.proofs.GivenLemmas.{HaveBeenGiven-part, holders_of-kept}
+use Rattle.mkv_outputs.proofs.StartsLemmas.{StandsInPart-then}
+use Rattle.extract_model.specs.Content.{outputs_of}
+use Rattle.extract_model.specs.declared.track_output.TrackOutput.{TrackOutput}
+use Rattle.extract_model.proofs.ContentLemmas.{outputs_of-begun}
+use Rattle.extractors.specs.Walks.{WritesAndReads}
+
+-- ---- the events of a file
+
+-- what was met of the events of a file, and what is left
+pub record MetUpTo (all left : List Event) (passed : List Block) (damages : ToldDamages) : Type 0 where
+  pub blocks : blocks_of all ≡ passed ++ blocks_of left
+  pub met : List Damage
+  pub kept : damages ≡ told_damages met
+  pub split : damages_of all ≡ met ++ damages_of left
+
+pub MetUpTo-begins : (all : List Event) (damages : ToldDamages) → damages ≡ told_damages [] → MetUpTo all all [] damages
+MetUpTo-begins all damages none = record { blocks = refl; met = []; kept = none; split = refl }
+
+pub MetUpTo-block : (all left later : List Event) (passed : List Block) (damages : ToldDamages) (b : Block) → MetUpTo all left passed damages → left ≡ block b ∷ later → MetUpTo all later (passed ++ b ∷ []) damages
+MetUpTo-block all left later passed damages b met is = record {
+  blocks = met.blocks ∙ ap (λ (es : List Event). passed ++ blocks_of es) is ∙ sym (append_assoc passed (b ∷ []) (blocks_of later));
+  met = met.met;
+  kept = met.kept;
+  split = met.split ∙ ap (λ (es : List Event). met.met ++ damages_of es) is;
+}
+
+pub MetUpTo-damage : (all left later : List Event) (passed : List Block) (before damages : ToldDamages) (last : Bool) (d : Damage) → MetUpTo all left passed before → left ≡ damage_event last d ∷ later → damages ≡ with_damage before d → MetUpTo all later passed damages
+MetUpTo-damage all left later passed before damages last d met is adds = record {
+  blocks = met.blocks ∙ ap (λ (es : List Event). passed ++ blocks_of es) is ∙ ap (λ (bs : List Block). passed ++ bs) (no_block last);
+  met = met.met ++ d ∷ [];
+  kept = adds ∙ ap (λ (told : ToldDamages). with_damage told d) met.kept ∙ with_damage-told met.met d;
+  split = met.split ∙ ap (λ (ds : List Damage). met.met ++ ds) (ap damages_of is ∙ one_damage last) ∙ sym (append_assoc met.met (d ∷ []) (damages_of later));
+}
+  where
+    no_block : (last : Bool) → blocks_of (damage_event last d ∷ later) ≡ blocks_of later
+    no_block true = refl
+    no_block false = refl
+
+    one_damage : (last : Bool) → damages_of (damage_event last d ∷ later) ≡ d ∷ damages_of later
+    one_damage true = refl
+    one_damage false = refl
+
+-- at the end all was met
+pub MetUpTo-blocks : (all left : List Event) (passed : List Block) (damages : ToldDamages) → MetUpTo all left passed damages → left ≡ [] → passed ≡ blocks_of all
+MetUpTo-blocks all left passed damages met none = sym (met.blocks ∙ ap (λ (es : List Event). passed ++ blocks_of es) none ∙ append-nil passed)
+
+pub MetUpTo-damages : (all left : List Event) (passed : List Block) (damages : ToldDamages) → MetUpTo all left passed damages → left ≡ [] → damages ≡ told_damages (damages_of all)
+MetUpTo-damages all left passed damages met none =
+    met.kept ∙ ap told_damages (sym (met.split ∙ ap (λ (es : List Event). met.met ++ damages_of es) none ∙ append-nil met.met))
+
+-- the outputs of what was met are first parts of all
+pub MetUpTo-begun : (list : List TrackOutput) (before : List Block) (all left : List Event) (passed : List Block) (damages : ToldDamages) → MetUpTo all left passed damages → AreBegun (outputs_of list (before ++ passed)) (outputs_of list (before ++ blocks_of all))
+MetUpTo-begun list before all left passed damages met =
+    subst (λ (bs : List Block). AreBegun (outputs_of list (before ++ passed)) (outputs_of list bs))
+    (append_assoc before passed (blocks_of left) ∙ ap (λ (bs : List Block). before ++ bs) (sym met.blocks))
+    (outputs_of-begun list (before ++ passed) (blocks_of left))
+
+-- ---- what was given
+
+-- what was given stands so where names and holders are the same
+pub HaveBeenGiven-moved : (since old new : Names) (holder later : ℕ → List ℕ) (sinks : List Sink) (given : List Output) → HaveBeenGiven since old holder sinks given → new ≡ old → ((file : ℕ) → later file ≡ holder file) → HaveBeenGiven since new later sinks given
+HaveBeenGiven-moved since old new holder later sinks given has names holders =
+    subst (λ (n : Names). HaveBeenGiven since n later sinks given) (sym names)
+    (subst (λ (h : ℕ → List ℕ). HaveBeenGiven since old h sinks given) (sym (λ i file. holders file i)) has)
+
+-- whatever blocks were given before, these have been given too
+abbrev pub Given : {S : Type 0} → writing.Ghosts S → List TrackOutput → S → S → List Sink → List Sink → List Block → Type 0
+Given f list old new sinks later more = (since : Names) (blocks : List Block) → HaveBeenGiven since (f.names old) (f.holder old) sinks (outputs_of list blocks) → HaveBeenGiven since (f.names new) (f.holder new) later (outputs_of list (blocks ++ more))
+
+-- none at first
+pub Given-none : {S : Type 0} (f : writing.Ghosts S) (list : List TrackOutput) (files : S) (sinks : List Sink) → Given f list files files sinks sinks []
+Given-none f list files sinks = λ since blocks has. subst (λ (bs : List Block). HaveBeenGiven since (f.names files) (f.holder files) sinks (outputs_of list bs)) (sym (append-nil blocks)) has
+
+-- what reading leaves changes nothing
+pub Given-read : {S : Type 0} (f : writing.Ghosts S) (list : List TrackOutput) (a b c : S) (sinks now : List Sink) (passed : List Block) → Given f list a b sinks now passed → f.names c ≡ f.names b → ((file : ℕ) → f.holder c file ≡ f.holder b file) → Given f list a c sinks now passed
+Given-read f list a b c sinks now passed gave names holders = λ since blocks has.
+    HaveBeenGiven-moved since (f.names b) (f.names c) (f.holder b) (f.holder c) now (outputs_of list (blocks ++ passed)) (gave since blocks has) names holders
+
+-- one block more
+pub Given-more : {S : Type 0} (f : writing.Ghosts S) (list : List TrackOutput) (a b c : S) (sinks now later : List Sink) (passed : List Block) (next : Block) → Given f list a b sinks now passed → Given f list b c now later (next ∷ []) → Given f list a c sinks later (passed ++ next ∷ [])
+Given-more f list a b c sinks now later passed next gave gives = λ since blocks has.
+    subst (λ (bs : List Block). HaveBeenGiven since (f.names c) (f.holder c) later (outputs_of list bs)) (append_assoc blocks passed (next ∷ [])) (gives since (blocks ++ passed) (gave since blocks has))
+
+-- a refused block stands in part of all
+pub Given-part : {S : Type 0} (f : writing.Ghosts S) (list : List TrackOutput) (a b c : S) (sinks now : List Sink) (passed more all : List Block) → Given f list a b sinks now passed → ((since : Names) (blocks : List Block) → HaveBeenGiven since (f.names b) (f.holder b) now (outputs_of list blocks) → StandsInPart since (f.names c) (outputs_of list (blocks ++ more))) → ((before : List Block) → AreBegun (outputs_of list (before ++ (passed ++ more))) (outputs_of list (before ++ all))) → (since : Names) (blocks : List Block) → HaveBeenGiven since (f.names a) (f.holder a) sinks (outputs_of list blocks) → StandsInPart since (f.names c) (outputs_of list (blocks ++ all))
+Given-part f list a b c sinks now passed more all gave part begun since blocks has =
+    StandsInPart-then since (f.names c) (outputs_of list (blocks ++ (passed ++ more))) (outputs_of list (blocks ++ all))
+    (subst (λ (bs : List Block). StandsInPart since (f.names c) (outputs_of list bs)) (append_assoc blocks passed more) (part since (blocks ++ passed) (gave since blocks has)))
+    (begun blocks)
+
+-- what was given so far stands in part of all
+pub Given-begun : {S : Type 0} (f : writing.Ghosts S) (list : List TrackOutput) (a b : S) (sinks now : List Sink) (passed all : List Block) → Given f list a b sinks now passed → ((before : List Block) → AreBegun (outputs_of list (before ++ passed)) (outputs_of list (before ++ all))) → (since : Names) (blocks : List Block) → HaveBeenGiven since (f.names a) (f.holder a) sinks (outputs_of list blocks) → StandsInPart since (f.names b) (outputs_of list (blocks ++ all))
+Given-begun f list a b sinks now passed all gave begun since blocks has =
+    StandsInPart-then since (f.names b) (outputs_of list (blocks ++ passed)) (outputs_of list (blocks ++ all))
+    (HaveBeenGiven-part since (f.names b) (f.holder b) now (outputs_of list (blocks ++ passed)) (gave since blocks has))
+    (begun blocks)
+
+-- ---- the files
+
+-- nothing was done yet
+pub WritesAndReads-none : {S : Type 0} (r : Ghosts S) (f : writing.Ghosts S) (files : S) (sinks : List Sink) → AreOpen r files sinks → WritesAndReads r f files files sinks sinks
+WritesAndReads-none r f files sinks outputs = record { same = refl; outputs = outputs; kept = KeepsOthers-none r f (names_under f files sinks) files }
+
+-- what reading leaves keeps all names
+KeepsOthers-standing : {S : Type 0} (r : Ghosts S) (f : writing.Ghosts S) (names : List (List ℕ)) (old new : S) → r.standing new ≡ r.standing old → f.given new ≡ f.given old → ((file : ℕ) → f.holder new file ≡ f.holder old file) → KeepsOthers r f names old new
+KeepsOthers-standing r f names old new same given holders = record {
+  live = λ file. ap (λ standing. (r.files standing).live file) same;
+  given = omega (arith, given);
+  holders = λ file live. holders file;
+  others = λ file is. record {
+    alive = ap (λ standing. (r.files standing).live file) same;
+    size = λ live. ap (λ standing. (r.files standing).size file) same;
+    content = λ live. ap (λ standing. (r.files standing).content file) same;
+  };
+}
+
+-- a file was read
+pub WritesAndReads-read : {S : Type 0} (r : Ghosts S) (f : writing.Ghosts S) (a b c : S) (sinks now : List Sink) → WritesAndReads r f a b sinks now → r.standing c ≡ r.standing b → f.given c ≡ f.given b → ((file : ℕ) → f.holder c file ≡ f.holder b file) → WritesAndReads r f a c sinks now
+WritesAndReads-read r f a b c sinks now walks same given holders = record {
+  same = walks.same;
+  outputs = AreOpen-kept r b c now now walks.outputs refl (λ file. ap (λ standing. (r.files standing).live file) same);
+  kept = KeepsOthers-then r f (names_under f a sinks) a b c walks.kept (KeepsOthers-standing r f (names_under f a sinks) b c same given holders);
+}
+
+-- the outputs keep their names
+names_kept : {S : Type 0} (r : Ghosts S) (f : writing.Ghosts S) (a b : S) (sinks now : List Sink) → AreOpen r a sinks → WritesAndReads r f a b sinks now → names_under f b now ≡ names_under f a sinks
+names_kept r f a b sinks now open_before walks =
+    ap (holders_of (f.holder b)) walks.same ∙ holders_of-kept (live_files r a).live (f.holder a) (f.holder b) (ids_of sinks) open_before.live walks.kept.holders
+
+-- a file that isn't an output is none later
+pub input-other : {S : Type 0} (r : Ghosts S) (f : writing.Ghosts S) (a b : S) (sinks now : List Sink) (file : ℕ) → AreOpen r a sinks → WritesAndReads r f a b sinks now → (live_files r a).live file ≡ true → AreOthers (f.holder a file) (names_under f a sinks) → AreOthers (f.holder b file) (names_under f b now)
+input-other r f a b sinks now file open_before walks live others =
+    let P : List (List ℕ) → Type 0 = λ names. AreOthers (f.holder b file) names in
+    subst P (sym (names_kept r f a b sinks now open_before walks))
+    (let Q : List ℕ → Type 0 = λ name. AreOthers name (names_under f a sinks) in subst Q (sym (walks.kept.holders file live)) others)
+
+-- outputs were written
+pub WritesAndReads-write : {S : Type 0} (r : Ghosts S) (f : writing.Ghosts S) (a b c : S) (sinks now later : List Sink) → AreOpen r a sinks → WritesAndReads r f a b sinks now → WritesOutputs r f b c now later → WritesAndReads r f a c sinks later
+WritesAndReads-write r f a b c sinks now later open_before walks wrote = record {
+  same = wrote.same ∙ walks.same;
+  outputs = wrote.outputs;
+  kept = KeepsOthers-then r f (names_under f a sinks) a b c walks.kept
+      (subst (λ (names : List (List ℕ)). KeepsOthers r f names b c) (names_kept r f a b sinks now open_before walks) wrote.only.kept);
+}
+
+-- ---- how much is read
+
+-- the way that a call went pays for what it read
+pub pays-next : (before mid now first old new : ℕ) → mid + first ≤ before + old → now + old ≤ mid + new → now + first ≤ before + new
+pays-next before mid now first old new so more = omega arith
+
+-- the same, by the size of the file as it is
+pub pays-step : (size here before mid now first : ℕ) (old new : Reading) → here ≡ size → mid + first ≤ before + paid size old → now + paid here old ≤ mid + paid here new → now + first ≤ before + paid size new
+pays-step size here before mid now first old new is so more =
+    pays-next before mid now first (paid size old) (paid size new) so (subst (λ (n : ℕ). now + paid n old ≤ mid + paid n new) is more)

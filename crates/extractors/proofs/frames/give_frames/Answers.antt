@@ -1,0 +1,94 @@
+use Rattle.std.proofs.Common.{◌≡◌, ◌<◌, ◌+◌, ◌-◌, ◌*◌, ℕ, ℤ, pos, ◌+ℤ◌, List, length, take, drop, get_or, sum, refl, sym, ◌∙◌, ap, subst, rules, arith, w64, to_z, of_z, SFits}
+use Rattle.std.proofs.lemmas.Int.{to_z-of_z}
+use Rattle.block_format.specs.Content.{frames_cut}
+use Rattle.block_records.specs.Buffered.{block_of}
+use Rattle.block_records.specs.declared.head.BlockHead.{BlockHead}
+use Rattle.mkv_outputs.proofs.FilesLemmas.{WritesOutputs-none, WritesOutputs-then}
+use Rattle.mkv_outputs.proofs.GivenLemmas.{length-same}
+use Rattle.extract_model.specs.Content.{entries_of, entry_of}
+use Rattle.extract_model.specs.Frames.{frames_from, frames_in}
+use Rattle.extractors.specs.Walks.{frame}
+use Rattle.extractors.proofs.FramesLemmas.{Gives-err, GivesUpTo, GivesUpTo-begins, GivesUpTo-ends, GivesUpTo-more, GivesUpTo-part, HasGiven, HasPart, entries_left, entries_left-block, entries_left-next, entries_left-none, rest-next}
+use Rattle.extractors.proofs.frames.give_frames.Goals as goal
+
+-- no frame was given yet
+pub loop-i-init : goal.loop-i-init
+loop-i-init g c = record {
+  so = GivesUpTo-begins g.F.Files c.args.files.now c.args.outputs.now c.args.k _;
+  rest = none (sum c.sizes-sizes.result.now) ∙ ap sum c.sizes-sizes.ensures.exact ∙ c.body-body.ensures.cut;
+  count = refl;
+  wrote = WritesOutputs-none g.F.Reads g.F.Files c.args.files.now c.args.outputs.now c.requires.open;
+  writing = refl;
+}
+  where
+    none : (n : ℕ) → 0 + n ≡ n
+    none n = omega arith
+
+less : (a b : ℕ) → (a + b) - a ≡ b
+less a b = omega arith
+
+-- the next frame was given
+pub loop-i-preserved : goal.loop-i-preserved
+loop-i-preserved g c =
+    let format = c.args.output.now.format in
+    let step = c.args.output.now.step in
+    let sizes = c.sizes-sizes.result.now in
+    let body = c.body-body.result.now in
+    let i = c.loop-i.i in
+    let at = c.loop-i.at in
+    let size : ℕ = get_or sizes i 0 in
+    let below : i < length sizes = c.loop-i-test.true in
+    let time : ℤ = c.frame_time-time.result in
+    let fits : SFits w64 time = search rules in
+    let octets : List ℕ = take ((at + size) - at) (drop at body) in
+    let next = entries_left-next format step c.head-head.result.now.time (to_z w64 (of_z w64 time)) sizes body octets i at size below refl (ap (λ (n : ℕ). take n (drop at body)) (less at size)) (to_z-of_z w64 time fits ∙ c.frame_time-time.ensures) in
+    record {
+      so = GivesUpTo-more g.F.Files c.args.files.now c.loop-i.files c.give_frame.new.files c.args.outputs.now c.loop-i.outputs c.give_frame.new.outputs c.args.k _
+          (entry_of format (frame octets (to_z w64 (of_z w64 time)))) (entries_left format step c.head-head.result.now.time sizes body (i + 1) (at + size))
+          (subst (GivesUpTo g.F.Files c.args.files.now c.loop-i.files c.args.outputs.now c.loop-i.outputs c.args.k (entries_left format step c.head-head.result.now.time sizes body 0 0)) next c.loop-i.invariant.so)
+          c.in_ok-give_frame.ensures.gives;
+      rest = rest-next sizes i at size (length body) below refl c.loop-i.invariant.rest;
+      count = length-same c.loop-i.outputs c.give_frame.new.outputs c.give_frame.ensures.only.same ∙ c.loop-i.invariant.count;
+      wrote = WritesOutputs-then g.F.Reads g.F.Files c.args.files.now c.loop-i.files c.give_frame.new.files c.args.outputs.now c.loop-i.outputs c.give_frame.new.outputs c.requires.open c.loop-i.invariant.wrote c.give_frame.ensures.only;
+      writing = c.in_ok-give_frame.ensures.cause ∙ c.loop-i.invariant.writing;
+    }
+
+-- it was given in part
+pub returns-in_err-give_frame-clause-gives : goal.returns-in_err-give_frame-clause-gives
+returns-in_err-give_frame-clause-gives g c =
+    let format = c.args.output.now.format in
+    let step = c.args.output.now.step in
+    let sizes = c.sizes-sizes.result.now in
+    let body = c.body-body.result.now in
+    let i = c.loop-i.i in
+    let at = c.loop-i.at in
+    let size : ℕ = get_or sizes i 0 in
+    let below : i < length sizes = c.loop-i-test.true in
+    let time : ℤ = c.frame_time-time.result in
+    let fits : SFits w64 time = search rules in
+    let octets : List ℕ = take ((at + size) - at) (drop at body) in
+    let next = entries_left-next format step c.head-head.result.now.time (to_z w64 (of_z w64 time)) sizes body octets i at size below refl (ap (λ (n : ℕ). take n (drop at body)) (less at size)) (to_z-of_z w64 time fits ∙ c.frame_time-time.ensures) in
+    let all = entries_left-block format step sizes body c.head-head.result.now c.args.cursor.now.block c.head-head.ensures.exact c.sizes-sizes.ensures.exact c.body-body.ensures.exact in
+    Gives-err g.F.Files c.args.files.now c.give_frame.new.files c.args.outputs.now c.give_frame.new.outputs c.args.k _ c.from_residual.result c.from_residual.ensures.0
+    (subst (HasPart g.F.Files c.args.files.now c.give_frame.new.files c.args.outputs.now c.args.k) all
+    (GivesUpTo-part g.F.Files c.args.files.now c.loop-i.files c.give_frame.new.files c.args.outputs.now c.loop-i.outputs c.args.k _
+    (entry_of format (frame octets (to_z w64 (of_z w64 time)))) (entries_left format step c.head-head.result.now.time sizes body (i + 1) (at + size))
+    (subst (GivesUpTo g.F.Files c.args.files.now c.loop-i.files c.args.outputs.now c.loop-i.outputs c.args.k (entries_left format step c.head-head.result.now.time sizes body 0 0)) next c.loop-i.invariant.so)
+    c.in_err-give_frame.ensures.gives))
+
+-- what was written until then
+pub returns-in_err-give_frame-clause-only : goal.returns-in_err-give_frame-clause-only
+returns-in_err-give_frame-clause-only g c =
+    WritesOutputs-then g.F.Reads g.F.Files c.args.files.now c.loop-i.files c.give_frame.new.files c.args.outputs.now c.loop-i.outputs c.give_frame.new.outputs c.requires.open c.loop-i.invariant.wrote c.give_frame.ensures.only
+
+-- all were given
+pub returns-clause-gives : goal.returns-clause-gives
+returns-clause-gives g c =
+    let format = c.args.output.now.format in
+    let step = c.args.output.now.step in
+    let sizes = c.sizes-sizes.result.now in
+    let body = c.body-body.result.now in
+    let all = entries_left-block format step sizes body c.head-head.result.now c.args.cursor.now.block c.head-head.ensures.exact c.sizes-sizes.ensures.exact c.body-body.ensures.exact in
+    subst (HasGiven g.F.Files c.args.files.now c.loop-i.files c.args.outputs.now c.loop-i.outputs c.args.k) all
+    (GivesUpTo-ends g.F.Files c.args.files.now c.loop-i.files c.args.outputs.now c.loop-i.outputs c.args.k _ _ c.loop-i.invariant.so
+    (entries_left-none format step c.head-head.result.now.time sizes body c.loop-i.i c.loop-i.at c.loop-i-test.false))

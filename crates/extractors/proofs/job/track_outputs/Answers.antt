@@ -1,0 +1,30 @@
+use Rattle.std.proofs.Common.{◌≡◌, ◌<◌, List, [], ◌∷◌, ◌++◌, length, map, take, Some, None, slice_get, sym, ◌∙◌, ap}
+use Rattle.std.specs.Option.{option_copied}
+use Rattle.extract_model.specs.Job.{outputs_for}
+use Rattle.extract_model.specs.declared.track_output.TrackOutput.{TrackOutput}
+use Rattle.extractors.specs.Source.{entry_in}
+use Rattle.extractors.proofs.JobLemmas.{outputs_for-found, outputs_for-none, usable-at}
+use Rattle.extractors.proofs.job.track_outputs.Goals as goal
+
+-- the file hasn't the track
+pub loop-target-preserved-in_default : goal.loop-target-preserved-in_default
+loop-target-preserved-in_default c =
+    let found : slice_get c.args.tracks.now c.target-item.result.id ≡ None = sym c.get.ensures ∙ ap option_copied c.in_default.is in
+    c.loop-target.invariant
+    ∙ sym (outputs_for-none c.args.taken c.args.targets.now c.args.tracks.now c.loop-target.target-index c.target-item.result c.loop-target-test.true c.target-item.is found)
+
+-- the frames of the track can be used
+pub track_output-requires-clause-usable : goal.track_output-requires-clause-usable
+track_output-requires-clause-usable c =
+    let found : slice_get c.args.tracks.now c.target-item.result.id ≡ Some c.in-Some.track.now = sym c.get.ensures ∙ ap option_copied c.in-Some.is in
+    usable-at c.args.targets.now c.args.tracks.now c.loop-target.target-index c.target-item.result c.in-Some.track.now c.requires.usable c.loop-target-test.true c.target-item.is found
+
+-- another output
+pub loop-target-preserved : goal.loop-target-preserved
+loop-target-preserved c =
+    let found : slice_get c.args.tracks.now c.target-item.result.id ≡ Some c.in-Some.track.now = sym c.get.ensures ∙ ap option_copied c.in-Some.is in
+    let first = outputs_for c.args.taken (take c.loop-target.target-index c.args.targets.now) (map entry_in c.args.tracks.now) in
+    c.in_ok-push.ensures.items
+    ∙ ap (λ (list : List TrackOutput). list ++ c.in_ok-track_output.field-0 ∷ []) c.loop-target.invariant
+    ∙ ap (λ (o : TrackOutput). first ++ o ∷ []) c.in_ok-track_output.ensures
+    ∙ sym (outputs_for-found c.args.taken c.args.targets.now c.args.tracks.now c.loop-target.target-index c.target-item.result c.in-Some.track.now c.loop-target-test.true c.target-item.is found)

@@ -1,0 +1,53 @@
+-- A file of which something is taken, and what is taken of it.
+use Rattle.std.specs.Prelude.{◌≡◌, ℕ, List, map, None, IfSome, slice_get}
+use Rattle.std.specs.List.{All}
+use Rattle.mkv_io.specs.Sources.{IsLive, file_size}
+use Rattle.mkv_io.specs.declared.reads.Reads.{Ghosts}
+use Rattle.mkv_jobs.specs.declared.job.Job.{Job}
+use Rattle.mkv_jobs.specs.declared.job.Target.{Target}
+use Rattle.matroska_format.specs.Outline.{first_damage}
+use Rattle.tree_format.specs.Node.{Node}
+use Rattle.track_format.specs.Encoding.{usable_causes}
+use Rattle.track_records.specs.declared.track.Track.{Track}
+use Rattle.file_records.specs.Records.{AreRead, IsGoodInfo, scale_of_info}
+use Rattle.block_format.specs.Elements.{with_limits}
+use Rattle.block_format.specs.Events.{Event, events_of}
+use Rattle.extract_model.specs.Job.{job_outputs}
+use Rattle.extract_model.specs.declared.track_output.TrackOutput.{TrackOutput}
+use Rattle.extractors.specs.declared.source.Source.{Source}
+
+-- the entry of a track
+abbrev pub entry_in : Track → Node
+entry_in t = t.entry
+
+-- the entries of the tracks of a source
+abbrev pub entries_in : Source → List Node
+entries_in s = map entry_in s.tracks
+
+-- the blocks and damages of a source whose file has this content
+abbrev pub events_in : Source → List ℕ → List Event
+events_in s bytes = events_of (with_limits (scale_of_info s.info)) bytes s.outline.segment
+
+-- the outputs that a job comes to
+abbrev pub outputs_in : Source → Job → List TrackOutput
+outputs_in s job = job_outputs job (entries_in s)
+
+-- ---- what is asked of a source
+
+-- The file is live and has the length of its outline, and its records are such as nothing refuses.
+pub record IsSource {S : Type 0} (r : Ghosts S) (files : S) (s : Source) : Type 0 where
+  pub live : IsLive r files s.file
+  pub whole : s.outline.total ≡ file_size r files s.file
+  pub info : IfSome s.info IsGoodInfo
+  pub tracks : AreRead s.tracks
+
+-- Nothing keeps the frames of a track from being used.
+abbrev pub IsUsable : Node → Type 0
+IsUsable entry = first_damage (usable_causes entry) ≡ None
+
+-- The frames of the tracks that targets name can be used.
+abbrev pub AreUsableOf : List Node → List Target → Type 0
+AreUsableOf entries targets = All (λ (t : Target). IfSome (slice_get entries t.id) IsUsable) targets
+
+abbrev pub AreUsable : Source → List Target → Type 0
+AreUsable s targets = AreUsableOf (entries_in s) targets

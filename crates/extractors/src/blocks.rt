@@ -1,0 +1,101 @@
+//! The blocks of a file are written into the outputs.
+
+ghost use Rattle.std.specs.Prelude.{◌≡◌, ◌<◌, ◌∷◌, [], ◌^◌, length, IfOk};
+ghost use Rattle.std.specs.List.{All};
+ghost use Rattle.mkv_io.specs.Faults.{HasCause, is_make_failure};
+ghost use Rattle.mkv_io.specs.Names.{AreOthers};
+ghost use Rattle.mkv_io.specs.Sources.{IfTold, file_size, live_files};
+ghost use Rattle.mkv_jobs.specs.Ends.{HasRemuxCause};
+ghost use Rattle.block_format.specs.Events.{blocks_of, damages_of};
+ghost use Rattle.block_records.specs.Buffered.{block_of};
+ghost use Rattle.cluster_reader.specs.Reading.{CanRead, left_of};
+ghost use Rattle.cluster_reader.specs.ToldDamages.{told_damages};
+ghost use Rattle.mkv_outputs.specs.Outputs.{with_more};
+ghost use Rattle.mkv_outputs.specs.Sinks.{AreOpen, Gives, WritesOutputs, names_under};
+ghost use Rattle.extractors.specs.Walks.{GivesBlocks, HasSmallStep, ReadsFew, WritesAndReads, piece};
+
+use crate::frames::give_frames;
+use cluster_reader::{Cursor, Damages, Step};
+use extract_model::TrackOutput;
+use mkv_io::Files;
+use mkv_jobs::RemuxEnd;
+use mkv_outputs::Outputs;
+use mkv_values::MakeFault;
+use std::alloc::Global;
+
+/// Gives a block to the k-th output, which takes the frames of its track.
+fn give_to<F: Files>(
+    outputs: &mut Outputs,
+    files: &mut F,
+    k: usize,
+    output: &TrackOutput,
+    cursor: &Cursor,
+    text: &mut String,
+) -> Result<(), MakeFault>
+    requires below { k < length outputs.old }
+    requires open { AreOpen F.Reads files.old outputs.old }
+    requires step { HasSmallStep output.now }
+    ensures gives { Gives F.Files.own files.old files.new outputs.old outputs.new
+        (with_more k (piece output.now (block_of cursor.now.block))) result }
+    ensures only { WritesOutputs F.Reads F.Files.own files.old files.new outputs.old outputs.new }
+    ensures cause { HasCause is_make_failure (F.writing_faults files.old) (F.writing_faults files.new) result }
+{
+    if cursor.head().track != output.track {
+        return Ok(());
+    }
+    give_frames(outputs, files, k, output, cursor, text)
+}
+
+/// Gives a block to the outputs of its track.
+fn give_block<F: Files>(
+    list: &[TrackOutput],
+    outputs: &mut Outputs,
+    files: &mut F,
+    cursor: &Cursor,
+    text: &mut String,
+) -> Result<(), MakeFault>
+    requires count { length list.now ≡ length outputs.old }
+    requires open { AreOpen F.Reads files.old outputs.old }
+    requires steps { All HasSmallStep list.now }
+    ensures gives { GivesBlocks F.Files.own list.now files.old files.new outputs.old outputs.new
+        (block_of cursor.now.block ∷ []) result }
+    ensures only { WritesOutputs F.Reads F.Files.own files.old files.new outputs.old outputs.new }
+    ensures cause { HasCause is_make_failure (F.writing_faults files.old) (F.writing_faults files.new) result }
+{
+    for k in 0..list.len() {
+        give_to(outputs, files, k, &list[k], cursor, text)?;
+    }
+    Ok(())
+}
+
+/// Gives all blocks that a cursor has left to the outputs of their tracks, and answers the damages.
+pub fn write_blocks<F: Files>(
+    alloc: Global,
+    list: &[TrackOutput],
+    outputs: &mut Outputs,
+    files: &mut F,
+    cursor: &mut Cursor,
+) -> Result<Damages, RemuxEnd>
+    requires count { length list.now ≡ length outputs.old }
+    requires open { AreOpen F.Reads files.old outputs.old }
+    requires steps { All HasSmallStep list.now }
+    requires stands { CanRead (live_files F.Reads files.old) cursor.old }
+    requires other { AreOthers (F.holder files.old cursor.old.file.n) (names_under F.Files.own files.old outputs.old) }
+    ensures gives { IfTold F.Reads files.old cursor.old.file (λ bytes.
+        GivesBlocks F.Files.own list.now files.old files.new outputs.old outputs.new (blocks_of (left_of bytes cursor.old)) result) }
+    ensures damages { IfTold F.Reads files.old cursor.old.file (λ bytes.
+        IfOk result (λ damages. damages ≡ told_damages (damages_of (left_of bytes cursor.old)))) }
+    ensures walks { WritesAndReads F.Reads F.Files.own files.old files.new outputs.old outputs.new }
+    ensures cause { HasRemuxCause F.Reads F.Files.own files.old files.new result }
+    ensures octets { ReadsFew (file_size F.Reads files.old cursor.old.file) (F.octets_read files.old) (F.octets_read files.new) result }
+{
+    let mut text = String::new(alloc);
+    let mut damages = Damages::new(alloc)?;
+    'steps: loop {
+        match cursor.advance(files)? {
+            Step::Block => give_block(list, outputs, files, cursor, &mut text)?,
+            Step::Damaged(damage) => damages.add(damage),
+            Step::End => return Ok(damages),
+        }
+    }
+}

@@ -1,0 +1,169 @@
+//! An extraction: the outputs are made, written and closed.
+
+ghost use Rattle.std.specs.Prelude.{◌≡◌, ◌<◌, ◌≤◌, [], length, IfOk, IfSome, IsSome};
+ghost use Rattle.std.specs.List.{All};
+ghost use Rattle.mkv_io.specs.Faults.{HasCause, is_make_failure};
+ghost use Rattle.mkv_io.specs.Names.{AreApart, AreOthers};
+ghost use Rattle.mkv_io.specs.Sources.{IfTold, file_size, live_files};
+ghost use Rattle.mkv_io.specs.Writing.{KeepsOthers};
+ghost use Rattle.mkv_jobs.specs.Ends.{HasRemuxCause};
+ghost use Rattle.block_format.specs.Events.{blocks_of, damages_of};
+ghost use Rattle.cluster_reader.specs.Reading.{CanRead, left_of};
+ghost use Rattle.cluster_reader.specs.ToldDamages.{told_damages};
+ghost use Rattle.mkv_outputs.specs.Sinks.{AreOpen, HaveBeenGiven, MadeSince};
+ghost use Rattle.extract_model.specs.Content.{head_of, names_in, outputs_of};
+ghost use Rattle.extract_model.specs.Job.{names_of, taken_of, targets_of};
+ghost use Rattle.file_records.specs.Records.{IsGoodInfo, scale_of_info};
+ghost use Rattle.extractors.specs.Source.{AreUsable, IsSource, events_in, outputs_in};
+ghost use Rattle.extractors.specs.Walks.{HasSmallStep, Makes, ReadsFew, Writes};
+
+use crate::blocks::write_blocks;
+use crate::job::{taken_of, targets_of, track_outputs};
+use crate::source::Source;
+use cluster_reader::{Cursor, Damages};
+use ebml_tree::Tree;
+use extract_model::{Format, TrackOutput};
+use meta_records::{DEFAULT_SCALE, read_info};
+use mkv_io::Files;
+use mkv_jobs::{Job, RemuxEnd};
+use mkv_outputs::Outputs;
+use mkv_values::MakeFault;
+use std::alloc::Global;
+
+/// Takes frames of tracks, or their times, out of a file, each target into a file of its own, and answers what
+/// is wrong with the file that they are taken from. A target whose track the file hasn't makes no file.
+///
+/// The records of the source were read from its file; what is asked for can be taken of its tracks, whose frames
+/// can be used.
+pub fn extract<F: Files>(
+    alloc: Global,
+    files: &mut F,
+    source: &Source,
+    job: &Job,
+) -> Result<Damages, RemuxEnd>
+    requires source { IsSource F.Reads files.old source.now }
+    requires takes { IsSome (taken_of job.now) }
+    requires usable { AreUsable source.now (targets_of job.now) }
+    requires apart { AreApart (names_of (targets_of job.now)) }
+    requires other { AreOthers (F.holder files.old source.now.file.n) (names_of (targets_of job.now)) }
+
+    // Each output is what its target asks for, and no other name changes. After a refusal first outputs stand, each a
+    // first part.
+    ensures writes { IfTold F.Reads files.old source.now.file (λ bytes. Writes F.Files.own files.old files.new
+        (outputs_of (outputs_in source.now job.now) (blocks_of (events_in source.now bytes))) result) }
+    ensures damages { IfTold F.Reads files.old source.now.file (λ bytes.
+        IfOk result (λ damages. damages ≡ told_damages (damages_of (events_in source.now bytes)))) }
+
+    // No file stays open, whatever the answer.
+    ensures kept { KeepsOthers F.Reads F.Files.own (names_in (outputs_in source.now job.now)) files.old files.new }
+    ensures cause { HasRemuxCause F.Reads F.Files.own files.old files.new result }
+    ensures octets { ReadsFew (file_size F.Reads files.old source.now.file) (F.octets_read files.old) (F.octets_read files.new) result }
+{
+    let Some(taken) = taken_of(job) else {
+        unreachable!()
+    };
+    let list = track_outputs(alloc, taken, targets_of(job), &source.tracks)?;
+    let mut cursor = Cursor::start(alloc, &source.outline, source.file, scale_of(&source.info))?;
+    write_tracks(alloc, &list, files, &mut cursor)
+}
+
+/// Nanoseconds a tick of a file whose first Info this is.
+fn scale_of(info: &Option<Tree>) -> u64
+    requires { IfSome info.now IsGoodInfo }
+    ensures value { result ≡ scale_of_info info.now }
+    ensures some { 1 ≤ result }
+{
+    let Some(info) = info else {
+        return DEFAULT_SCALE;
+    };
+    match read_info(info) {
+        Ok(values) => values.scale,
+        Err(_) => unreachable!(),
+    }
+}
+
+/// Writes the outputs, all in one walk over the blocks that the cursor has left.
+fn write_tracks<F: Files>(
+    alloc: Global,
+    list: &[TrackOutput],
+    files: &mut F,
+    cursor: &mut Cursor,
+) -> Result<Damages, RemuxEnd>
+    requires apart { AreApart (names_in list.now) }
+    requires steps { All HasSmallStep list.now }
+    requires stands { CanRead (live_files F.Reads files.old) cursor.old }
+    requires other { AreOthers (F.holder files.old cursor.old.file.n) (names_in list.now) }
+    ensures writes { IfTold F.Reads files.old cursor.old.file (λ bytes. Writes F.Files.own files.old files.new
+        (outputs_of list.now (blocks_of (left_of bytes cursor.old))) result) }
+    ensures damages { IfTold F.Reads files.old cursor.old.file (λ bytes.
+        IfOk result (λ damages. damages ≡ told_damages (damages_of (left_of bytes cursor.old)))) }
+    ensures kept { KeepsOthers F.Reads F.Files.own (names_in list.now) files.old files.new }
+    ensures cause { HasRemuxCause F.Reads F.Files.own files.old files.new result }
+    ensures octets { ReadsFew (file_size F.Reads files.old cursor.old.file) (F.octets_read files.old) (F.octets_read files.new) result }
+{
+    let mut outputs = Outputs::new(alloc);
+    let ended = write_all(alloc, list, &mut outputs, files, cursor);
+    outputs.close(files);
+    ended
+}
+
+/// Makes the outputs and writes them. They stay open, whatever the answer.
+fn write_all<F: Files>(
+    alloc: Global,
+    list: &[TrackOutput],
+    outputs: &mut Outputs,
+    files: &mut F,
+    cursor: &mut Cursor,
+) -> Result<Damages, RemuxEnd>
+    requires none { outputs.old ≡ [] }
+    requires apart { AreApart (names_in list.now) }
+    requires steps { All HasSmallStep list.now }
+    requires stands { CanRead (live_files F.Reads files.old) cursor.old }
+    requires other { AreOthers (F.holder files.old cursor.old.file.n) (names_in list.now) }
+    ensures writes { IfTold F.Reads files.old cursor.old.file (λ bytes. Writes F.Files.own files.old files.new
+        (outputs_of list.now (blocks_of (left_of bytes cursor.old))) result) }
+    ensures damages { IfTold F.Reads files.old cursor.old.file (λ bytes.
+        IfOk result (λ damages. damages ≡ told_damages (damages_of (left_of bytes cursor.old)))) }
+    ensures open { AreOpen F.Reads files.new outputs.new }
+    ensures made { MadeSince F.Reads F.Files.own (names_in list.now) files.old files.new outputs.new }
+    ensures cause { HasRemuxCause F.Reads F.Files.own files.old files.new result }
+    ensures octets { ReadsFew (file_size F.Reads files.old cursor.old.file) (F.octets_read files.old) (F.octets_read files.new) result }
+{
+    make_all(list, outputs, files)?;
+    let damages = write_blocks(alloc, list, outputs, files, cursor)?;
+    outputs.flush(files)?;
+    Ok(damages)
+}
+
+/// What stands before the first frame.
+fn head_of(format: &Format) -> &[u8]
+    ensures { result.now ≡ head_of format.now }
+{
+    match format {
+        Format::Frames { head, .. } => head.as_slice(),
+        Format::Times => b"# timestamp format v2\n",
+    }
+}
+
+/// Makes the outputs, and gives each of them what stands before the first frame.
+fn make_all<F: Files>(
+    list: &[TrackOutput],
+    outputs: &mut Outputs,
+    files: &mut F,
+) -> Result<(), MakeFault>
+    requires none { outputs.old ≡ [] }
+    requires apart { AreApart (names_in list.now) }
+    ensures makes { Makes F.Files.own files.old files.new outputs.new (outputs_of list.now []) result }
+    ensures open { AreOpen F.Reads files.new outputs.new }
+    ensures made { MadeSince F.Reads F.Files.own (names_in list.now) files.old files.new outputs.new }
+    ensures cause { HasCause is_make_failure (F.writing_faults files.old) (F.writing_faults files.new) result }
+    ensures reading { F.reading_faults files.new ≡ F.reading_faults files.old }
+    ensures octets { F.octets_read files.new ≡ F.octets_read files.old }
+{
+    for k in 0..list.len() {
+        let output = &list[k];
+        outputs.add(files, output.name.as_str())?;
+        outputs.write(files, k, head_of(&output.format))?;
+    }
+    Ok(())
+}

@@ -1,0 +1,39 @@
+//! Times of frames, and their text.
+
+ghost use Rattle.std.specs.Prelude.{◌≡◌, ◌++◌, ◌<◌, ◌*◌, ◌^◌, pos, ◌+ℤ◌, OnOk};
+ghost use Rattle.std.specs.String.{string_bytes};
+ghost use Rattle.block_records.specs.Time.{IsSmallTime};
+ghost use Rattle.extract_model.specs.Times.{time_line};
+
+use cluster_reader::BlockHead;
+use std::alloc::AllocError;
+use std::fmt::Write;
+
+/// The time of the i-th frame of a lace, from 0, in nanoseconds: the block's time and so many steps.
+pub fn frame_time(head: &BlockHead, i: usize, step: u64) -> i64
+    requires small { IsSmallTime head.now.time }
+    requires few { i < 256 }
+    requires short { step < 2 ^ 48 }
+    ensures { result ≡ head.now.time +ℤ pos (i * step) }
+{
+    head.time + (i as u64 * step) as i64
+}
+
+/// Adds a time as a line, in milliseconds.
+pub fn push_time(text: &mut String, time: i64) -> Result<(), AllocError>
+    ensures { OnOk result (string_bytes text.new ≡ string_bytes text.old ++ time_line time) }
+{
+    if time < 0 {
+        text.push_str("-")?;
+    }
+    let size = time.unsigned_abs();
+    let (whole, rest) = (size / 1_000_000, size % 1_000_000);
+    if rest == 0 {
+        write!(text, "{whole}\n")?;
+        return Ok(());
+    }
+    let (a, b, c) = (rest / 100_000, rest / 10_000 % 10, rest / 1_000 % 10);
+    let (d, e, f) = (rest / 100 % 10, rest / 10 % 10, rest % 10);
+    write!(text, "{whole}.{a}{b}{c}{d}{e}{f}\n")?;
+    Ok(())
+}

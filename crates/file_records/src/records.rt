@@ -1,0 +1,87 @@
+//! The records of a file.
+
+ghost use Rattle.std.specs.Prelude.{◌≡◌, false, List, ℕ, Ok, IfOk, IfErr, IfSome};
+ghost use Rattle.mkv_schema.specs.declared.ids.TheConstants.{INFO as INFO_ID, TRACKS as TRACKS_ID};
+ghost use Rattle.mkv_io.specs.Faults.{HasCause};
+ghost use Rattle.mkv_io.specs.Sources.{IfTold, IsLive, file_size};
+ghost use Rattle.tree_format.specs.Standing.{IsSoundOf};
+ghost use Rattle.element_reader.specs.Outline.{is_outline_fault, outline_in};
+ghost use Rattle.file_records.specs.Records.{AreGood, AreRead, ReadsAs, file_records, good_info, good_tracks};
+
+use crate::first_tree::first_tree;
+use ebml_tree::{Tree, TreeEnd};
+use element_reader::{Header, Outline, OutlineEnd};
+use meta_records::read_info;
+use mkv_io::Reads;
+use mkv_schema::ids::{INFO, TRACKS};
+use mkv_values::{Damage, FileId, Kind, List};
+use std::alloc::Global;
+use track_records::{Track, read_tracks};
+
+/// What stands before the blocks of a file and describes them.
+#[derive(Drop)]
+pub struct Records {
+    /// Its first Info, if it has one.
+    pub info: Option<Tree>,
+    /// The tracks of its first Tracks.
+    pub tracks: List<Track>,
+}
+
+/// The records of a file with this outline, or the first thing that refuses them: of Info and then of Tracks, first what
+/// is wrong inside, and then a value that is refused. A file without Tracks is refused.
+pub fn read_records<R: Reads>(
+    alloc: Global,
+    outline: &Outline,
+    src: &mut R,
+    file: FileId,
+) -> Result<Records, OutlineEnd>
+    requires live { IsLive R.Reads src.old file }
+    requires whole { outline.now.total ≡ file_size R.Reads src.old file }
+    ensures exact { IfTold R.Reads src.old file (λ bytes.
+        outline_in 0 bytes ≡ Ok outline.now → ReadsAs (file_records bytes outline.now.segment) result) }
+    ensures good { IfOk result AreGood }
+    ensures standing { R.standing src.new ≡ R.standing src.old }
+    ensures cause { HasCause is_outline_fault (R.reading_faults src.old) (R.reading_faults src.new) result }
+{
+    let info = first_tree(alloc, outline, src, file, INFO)?;
+    let info = good_info(info)?;
+    let tracks = first_tree(alloc, outline, src, file, TRACKS)?;
+    let tracks = good_tracks(alloc, &outline.segment(), tracks)?;
+    Ok(Records { info, tracks })
+}
+
+/// An Info, unless something refuses it.
+fn good_info(info: Option<Tree>) -> Result<Option<Tree>, Damage>
+    requires { IfSome info (IsSoundOf INFO_ID) }
+    ensures { result ≡ good_info info }
+{
+    if let Some(tree) = &info {
+        read_info(tree)?;
+    }
+    Ok(info)
+}
+
+/// The tracks of a Tracks, which has to be there.
+fn good_tracks(
+    alloc: Global,
+    segment: &Header,
+    tracks: Option<Tree>,
+) -> Result<List<Track>, OutlineEnd>
+    requires { IfSome tracks (IsSoundOf TRACKS_ID) }
+    ensures exact { ReadsAs (good_tracks segment.now tracks) result }
+    ensures good { IfOk result AreRead }
+    ensures cause { IfErr result (λ end. is_outline_fault end ≡ false) }
+{
+    let Some(tracks) = tracks else {
+        return Err(OutlineEnd::Refused(Damage {
+            kind: Kind::NoTracks,
+            id: 0,
+            offset: segment.offset,
+        }));
+    };
+    match read_tracks(alloc, &tracks) {
+        Ok(tracks) => Ok(tracks),
+        Err(TreeEnd::Damage(damage)) => Err(OutlineEnd::Refused(damage)),
+        Err(TreeEnd::Memory) => Err(OutlineEnd::Memory),
+    }
+}
