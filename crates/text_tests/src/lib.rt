@@ -1,0 +1,8 @@
+#![tactic(auto)]
+
+//! Text files with what must be read of them, and what must be written: tests alone.
+
+#[cfg(test)]
+mod chapters;
+#[cfg(test)]
+mod subrip;
