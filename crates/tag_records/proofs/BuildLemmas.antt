@@ -1,0 +1,157 @@
+-- Masters that are built child by child.
+use Rattle.std.proofs.Common.{◌≡◌, ◌≤◌, ◌<◌, ℕ, zero, suc, ◌+◌, ◌-◌, true, false, List, [], ◌∷◌, ◌++◌, length, take, map, flat_map, get_or, Option, Some, None, IfSome, Ok, refl, sym, ap, subst, ◌∙◌, arith, add-one, append-nil}
+use Rattle.std.specs.Option.{option_to_list}
+use Rattle.std.proofs.lemmas.Grind.{flat_map-append}
+use Rattle.std.proofs.lemmas.List.{map_more}
+use Rattle.std.proofs.Math.Seq.{take-suc}
+use Rattle.mkv_schema.specs.declared.ids.TheConstants.{TAGS, TAG, TARGETS}
+use Rattle.mkv_schema.specs.Table.{table}
+use Rattle.mkv_schema.specs.Schema.{entry_of, is_master}
+use Rattle.tree_format.specs.Node.{Node, leaf, master, none, nodes_of, id_of, offset_of, children, with_children, depth, depth_all, deepest, IsMaster, HasRoom}
+use Rattle.tree_format.specs.Reading.{tree_of, as_root, is_master_in}
+use Rattle.tree_format.specs.Standing.{StandsIn, AllStandIn}
+use Rattle.tree_format.proofs.NodeLemmas.{list-nodes, nodes-list, depth_all-append}
+use Rattle.tree_format.proofs.ReadingLemmas.{grove-end}
+use Rattle.matroska_format.specs.Outline.{and_then}
+use Rattle.tree_format.proofs.ChildLemmas.{child-stands}
+use Rattle.tag_records.specs.Building.{IsBuilt, IsRead, IsInPlace}
+
+stand-push : (id : ℕ) (ns : List Node) (n : Node) → AllStandIn id (nodes_of ns) → StandsIn id n → AllStandIn id (nodes_of (ns ++ n ∷ []))
+stand-push id [] n stand one = (one, tt)
+stand-push id (m ∷ ns) n stand one = (stand.0, stand-push id ns n stand.1 one)
+
+-- one child more
+pub built-push : (id at deep : ℕ) (ns : List Node) (old child new : Node) → IsBuilt id at deep ns old → new ≡ with_children old (children old ++ child ∷ []) → StandsIn id child → depth child ≤ deep → IsBuilt id at deep (ns ++ child ∷ []) new
+built-push id at deep ns old child new built is stands low =
+    let shallow = built.shallow in
+    record {
+      is = is ∙ ap (λ t. with_children t (children t ++ child ∷ [])) built.is ∙ ap (λ l. master id at (nodes_of (l ++ child ∷ []))) (list-nodes ns);
+      stand = stand-push id ns child built.stand stands;
+      shallow = omega (arith, depth_all-append ns (child ∷ []));
+    }
+
+pub built-master : (id at deep : ℕ) (ns : List Node) (t : Node) → IsBuilt id at deep ns t → IsMaster t
+built-master id at deep ns t built = let P : Node → Type 0 = IsMaster in subst P (sym built.is) refl
+
+-- what is built of a master's children takes its place
+pub built-with : (n t : Node) (deep : ℕ) (ns : List Node) → IsMaster n → IsBuilt (id_of n) (offset_of n) deep ns t → t ≡ with_children n ns
+built-with (leaf id at body) t deep ns is built = absurd (cc)
+built-with (master id at kids) t deep ns is built = built.is
+
+-- ---- what the table has as masters
+
+pub targets-master : is_master TARGETS ≡ true
+unfolding entry_of table
+targets-master = refl
+
+pub tag-master : is_master TAG ≡ true
+unfolding entry_of table
+tag-master = refl
+
+pub tags-master : is_master TAGS ≡ true
+unfolding entry_of table
+tags-master = refl
+
+pub targets-in : is_master_in TAG TARGETS ≡ true
+unfolding entry_of table
+targets-in = refl
+
+pub tag-in : is_master_in TAGS TAG ≡ true
+unfolding entry_of table
+tag-in = refl
+
+-- no octets are no children
+pub empty-tree : (id offset : ℕ) → tree_of id offset [] 0 1 ≡ Ok (master id offset none)
+empty-tree id offset = ap (λ r. and_then r (as_root id offset)) (grove-end (deepest - 1) (1 - 1) id 0)
+
+-- ---- children of a master that was read
+
+pub child-of : (own : ℕ) (tree n : Node) (ns : List Node) (i : ℕ) → IsRead own tree → ns ≡ children tree → i < length ns → n ≡ get_or ns i n → StandsIn own n
+child-of own tree n ns i read are inside is =
+    let P : ℕ → Type 0 = λ p. StandsIn p n in
+    subst P read.id (child-stands tree n ns i read.sound are inside is)
+
+-- a master stands where the table has it
+pub stands-read : (parent own : ℕ) (n : Node) → is_master_in parent own ≡ true → StandsIn parent n → id_of n ≡ own → IsRead own n
+stands-read parent own (leaf id at body) has stands is =
+    let never : true ≡ false = sym has ∙ ap (is_master_in parent) (sym is) ∙ stands.no_master in
+    absurd (cc)
+stands-read parent own (master id at kids) has stands is = record { id = is; master = refl; sound = stands.1 }
+
+pub deep-get : (ns : List Node) (i : ℕ) (n : Node) → i < length ns → n ≡ get_or ns i n → depth n ≤ depth_all (nodes_of ns)
+deep-get [] i n inside is = absurd (omega arith)
+deep-get (m ∷ ns) zero n inside is = omega (arith, ap depth is)
+deep-get (m ∷ ns) (suc i) n inside is = let rest = deep-get ns i n (omega arith) is in omega arith
+
+pub room-of : (ns : List Node) (i parent : ℕ) (n m : Node) → depth_all (nodes_of ns) < deepest → i < length ns → n ≡ get_or ns i n → IsInPlace parent n m → HasRoom m
+room-of ns i parent n m low inside is place = let deep = deep-get ns i n inside is in let shallow = place.shallow in omega arith
+
+pub built-in_place : (parent own at : ℕ) (n t : Node) (ks ns : List Node) → is_master_in parent own ≡ true → IsRead own n → ks ≡ children n → IsBuilt own at (depth_all (nodes_of ks)) ns t → IsInPlace parent n t
+built-in_place parent own at (leaf id at' body) t ks ns has read are built = absurd (read-leaf id at' body read)
+  where
+    read-leaf : (id at' : ℕ) (body : List ℕ) → IsRead own (leaf id at' body) → ⊥
+    read-leaf id at' body read = let never = read.master in absurd (cc)
+built-in_place parent own at (master id at' kids) t ks ns has read are built =
+    let shallow = built.shallow in
+    let same : depth_all (nodes_of ks) ≡ depth_all kids = ap (λ l. depth_all (nodes_of l)) are ∙ ap depth_all (nodes-list kids) in
+    let P : Node → Type 0 = IsInPlace parent (master id at' kids) in
+    subst P (sym built.is) (record { stands = (has, built.stand); shallow = omega arith })
+
+-- ---- one child more
+
+take-step : (xs : List Node) (i : ℕ) (x : Node) → i < length xs → x ≡ get_or xs i x → take (i + 1) xs ≡ take i xs ++ x ∷ []
+take-step xs i x inside is = rw add-one (take-suc xs i x inside ∙ ap (λ y. take i xs ++ y ∷ []) (sym is))
+
+flat-step : (f : Node → List Node) (xs : List Node) (i : ℕ) (x : Node) → i < length xs → x ≡ get_or xs i x → flat_map f (take (i + 1) xs) ≡ flat_map f (take i xs) ++ f x
+flat-step f xs i x inside is =
+    ap (flat_map f) (take-step xs i x inside is) ∙ flat_map-append f (take i xs) (x ∷ []) ∙ ap (λ l. flat_map f (take i xs) ++ l) (append-nil (f x))
+
+module _ (own at i : ℕ) (xs : List Node) (x old : Node) (inside : i < length xs) (is : x ≡ get_or xs i x) where
+  pub flat-none : (f : Node → List Node) → IsBuilt own at (depth_all (nodes_of xs)) (flat_map f (take i xs)) old → f x ≡ [] → IsBuilt own at (depth_all (nodes_of xs)) (flat_map f (take (i + 1) xs)) old
+  flat-none f built lacks =
+      let P : List Node → Type 0 = λ ns. IsBuilt own at (depth_all (nodes_of xs)) ns old in
+      subst P (sym (flat-step f xs i x inside is ∙ ap (λ l. flat_map f (take i xs) ++ l) lacks ∙ append-nil (flat_map f (take i xs)))) built
+
+  pub flat-one : (f : Node → List Node) (m new : Node) → IsBuilt own at (depth_all (nodes_of xs)) (flat_map f (take i xs)) old → f x ≡ m ∷ [] → IsInPlace own x m → new ≡ with_children old (children old ++ m ∷ [])
+      → IsBuilt own at (depth_all (nodes_of xs)) (flat_map f (take (i + 1) xs)) new
+  flat-one f m new built one place grown =
+      let low = deep-get xs i x inside is in
+      let shallow = place.shallow in
+      let P : List Node → Type 0 = λ ns. IsBuilt own at (depth_all (nodes_of xs)) ns new in
+      subst P (sym (flat-step f xs i x inside is ∙ ap (λ l. flat_map f (take i xs) ++ l) one)) (built-push own at (depth_all (nodes_of xs)) (flat_map f (take i xs)) old m new built grown place.stands (omega arith))
+
+  pub map-one : (f : Node → Node) (m new : Node) → IsBuilt own at (depth_all (nodes_of xs)) (map f (take i xs)) old → m ≡ f x → IsInPlace own x m → new ≡ with_children old (children old ++ m ∷ [])
+      → IsBuilt own at (depth_all (nodes_of xs)) (map f (take (i + 1) xs)) new
+  map-one f m new built one place grown =
+      let low = deep-get xs i x inside is in
+      let shallow = place.shallow in
+      let P : List Node → Type 0 = λ ns. IsBuilt own at (depth_all (nodes_of xs)) ns new in
+      subst P (sym (map_more f xs i x inside ∙ ap (λ y. map f (take i xs) ++ y ∷ []) (ap f (sym is) ∙ sym one))) (built-push own at (depth_all (nodes_of xs)) (map f (take i xs)) old m new built grown place.stands (omega arith))
+
+pub empty-built : (id at deep : ℕ) (t : Node) → tree_of id at [] 0 1 ≡ Ok t → IsBuilt id at deep [] t
+empty-built id at deep t is =
+    let whole : Ok (master id at none) ≡ tree_of id at [] 0 1 = sym (empty-tree id at) in
+    let same : t ≡ master id at none = cc in
+    record { is = same; stand = tt; shallow = omega arith }
+
+pub some-of : (o : Option Node) (P : Node → Type 0) (t : Node) → IfSome o P → o ≡ Some t → P t
+some-of None P t has is = absurd (cc)
+some-of (Some u) P t has is = let same : u ≡ t = cc in subst P same has
+
+-- nothing is built yet
+pub built-none : (id at at' deep : ℕ) (t : Node) → at ≡ at' → ((d : ℕ) → IsBuilt id at d [] t) → IsBuilt id at' deep [] t
+built-none id at at' deep t same built = let P : ℕ → Type 0 = λ a. IsBuilt id a deep [] t in subst P same (built deep)
+
+-- what is written of a child is added, or there is nothing
+module _ (own at i : ℕ) (xs : List Node) (x old : Node) (inside : i < length xs) (is : x ≡ get_or xs i x) (f : Node → List Node) (o : Option Node)
+    (built : IsBuilt own at (depth_all (nodes_of xs)) (flat_map f (take i xs)) old) (exact : option_to_list o ≡ f x) where
+  pub step-some : (m new final : Node) → IfSome o (IsInPlace own x) → o ≡ Some m → new ≡ with_children old (children old ++ m ∷ []) → final ≡ new
+      → IsBuilt own at (depth_all (nodes_of xs)) (flat_map f (take (i + 1) xs)) final
+  step-some m new final place some grown last =
+      let P : Node → Type 0 = IsBuilt own at (depth_all (nodes_of xs)) (flat_map f (take (i + 1) xs)) in
+      subst P (sym last) (flat-one own at i xs x old inside is f m new built (sym exact ∙ ap option_to_list some) (some-of o (IsInPlace own x) m place some) grown)
+
+  pub step-none : (final : Node) → o ≡ None → final ≡ old → IsBuilt own at (depth_all (nodes_of xs)) (flat_map f (take (i + 1) xs)) final
+  step-none final lacks last =
+      let P : Node → Type 0 = IsBuilt own at (depth_all (nodes_of xs)) (flat_map f (take (i + 1) xs)) in
+      subst P (sym last) (flat-none own at i xs x old inside is f built (sym exact ∙ ap option_to_list lacks))

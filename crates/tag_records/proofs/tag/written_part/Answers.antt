@@ -1,0 +1,7 @@
+-- Targets in a Tag are a master.
+use Rattle.std.proofs.Common.{sym, ◌∙◌}
+use Rattle.tag_records.proofs.BuildLemmas.{targets-in, stands-read}
+use Rattle.tag_records.proofs.tag.written_part.Goals as goal
+
+pub written_targets-requires : goal.written_targets-requires
+written_targets-requires c = stands-read _ _ _ targets-in c.requires (sym c.id.ensures ∙ c.if-id-eq-TARGETS.true)

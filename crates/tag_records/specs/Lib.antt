@@ -1,0 +1,3 @@
+pub mod Tags
+pub mod Numbers
+pub mod Building
