@@ -39,7 +39,14 @@ pub fn first_tree<R: Reads>(
         Err(LoadEnd::ReadFault) => return Err(OutlineEnd::ReadFault),
         Err(LoadEnd::Memory) => return Err(OutlineEnd::Memory),
     };
-    match Tree::parse(alloc, id, header.offset, body.as_slice(), header.body, MOST_NODES) {
+    match Tree::parse(
+        alloc,
+        id,
+        header.offset,
+        body.as_slice(),
+        header.body,
+        MOST_NODES,
+    ) {
         Ok(tree) => Ok(Some(tree)),
         Err(TreeEnd::Damage(damage)) => Err(OutlineEnd::Refused(damage)),
         Err(TreeEnd::Memory) => Err(OutlineEnd::Memory),
