@@ -4,3 +4,5 @@
 
 #[cfg(test)]
 mod clusters;
+#[cfg(test)]
+mod files;
