@@ -39,7 +39,15 @@ pub fn give_frames<F: Files>(
     for (i, size) in sizes.iter().enumerate() {
         let end = at + *size as usize;
         let time = frame_time(head, i, output.step);
-        give_frame(outputs, files, k, &output.format, &body[at..end], time, text)?;
+        give_frame(
+            outputs,
+            files,
+            k,
+            &output.format,
+            &body[at..end],
+            time,
+            text,
+        )?;
         at = end;
     }
     Ok(())

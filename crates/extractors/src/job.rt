@@ -21,8 +21,14 @@ pub fn taken_of(job: &Job) -> Option<Taken>
     ensures { result ≡ taken_of job.now }
 {
     match job {
-        Job::Tracks { form: Form::Raw, .. } => Some(Taken::Raw),
-        Job::Tracks { form: Form::Full, .. } => Some(Taken::Full),
+        Job::Tracks {
+            form: Form::Raw,
+            ..
+        } => Some(Taken::Raw),
+        Job::Tracks {
+            form: Form::Full,
+            ..
+        } => Some(Taken::Full),
         Job::Timestamps { .. } => Some(Taken::Times),
         _ => None,
     }
