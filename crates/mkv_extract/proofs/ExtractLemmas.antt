@@ -58,10 +58,13 @@ reaches-begun old new why v first rest lines part names = record {
 
 -- the outputs stand whole, and the others are said
 reaches-told : (old new : Seen) (mid : ReportLines) (r : Result Status Stop) (v : Verdict) (first rest : List (List ℕ)) (outputs : List Output) → v.lines ≡ first ++ rest → v.outputs ≡ at_once outputs → mid ≡ with_lines old.lines first → Says mid new.lines rest r → IfOk r (λ s. s ≡ v.status) → new.names ≡ with_outputs old.names outputs → Reaches old new r v
-reaches-told old new mid (Ok s) v first rest outputs lines writes said says status names = (status, record {
-  lines = Says-then old.lines mid new.lines first rest (Ok s) said says ∙ ap (with_lines old.lines) (sym lines);
-  names = names ∙ ap (λ o. with_outputs old.names (list_of o)) (sym writes);
-})
+reaches-told old new mid (Ok s) v first rest outputs lines writes said says status names = (
+  status,
+  record {
+    lines = Says-then old.lines mid new.lines first rest (Ok s) said says ∙ ap (with_lines old.lines) (sym lines);
+    names = names ∙ ap (λ o. with_outputs old.names (list_of o)) (sym writes);
+  },
+)
 reaches-told old new mid (Err why) v first rest outputs lines writes said says status names = record {
   lines = subst (SaysPart old.lines new.lines) (sym lines) (SaysPart-behind old.lines mid new.lines first rest said says);
   names = subst (Leaves old.names new.names) (sym writes) (StandsInPart-whole old.names new.names outputs names);

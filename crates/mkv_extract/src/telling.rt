@@ -88,12 +88,7 @@ fn say_wrote<P: Report>(
 }
 
 /// A warning for each of the first damages, and the number of the others.
-fn warn<P: Report>(
-    alloc: Global,
-    name: &str,
-    damages: &Damages,
-    report: &mut P,
-) -> Result<(), Stop>
+fn warn<P: Report>(alloc: Global, name: &str, damages: &Damages, report: &mut P) -> Result<(), Stop>
     ensures said { Says (P.lines report.old) (P.lines report.new) (damage_lines name.now damages.now) result }
     ensures cause { HasSayCause (P.faults report.old) (P.faults report.new) result }
 {

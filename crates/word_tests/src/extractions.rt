@@ -294,9 +294,7 @@ fn run_failing(
     report.fail_at(report_call)?;
     let words = words_of(
         alloc,
-        &[
-            "extract", "a.mkv", "timestamps_v2", "0:r", "4:s", "0:q",
-        ],
+        &["extract", "a.mkv", "timestamps_v2", "0:r", "4:s", "0:q"],
     )?;
     let status = run(alloc, &words, &mut files, &mut report);
     Ok((status, files, report))
