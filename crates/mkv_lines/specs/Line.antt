@@ -5,7 +5,7 @@ use Rattle.mkv_values.specs.declared.damage.Damage.{Damage}
 use Rattle.matroska_format.specs.declared.element.Header.{Header}
 use Rattle.mkv_lines.specs.Shown.{damage_text, level_0_name, level_1_name, place_text, shown_text, track_text}
 use Rattle.mkv_lines.specs.declared.line.Line.{Line}
-use Rattle.mkv_lines.specs.declared.line.Line.TheVariants.{Level0, Level1, Track, Refused, Warned, Missing, Word, FilesFault}
+use Rattle.mkv_lines.specs.declared.line.Line.TheVariants.{Level0, Level1, Track, Refused, Warned, MoreDamages, NoTrack, Missing, OutputIsInput, Wrote, Word, FilesFault}
 
 -- an Element at the top of a file
 abbrev pub level_0_line : Header → List ℕ
@@ -23,9 +23,25 @@ refusal_line name d = codes "error: " ++ (shown_text name ++ (codes ": " ++ dama
 abbrev pub warning_line : List ℕ → Damage → List ℕ
 warning_line name d = codes "warning: " ++ (shown_text name ++ (codes ": " ++ damage_text d))
 
+-- more of a file's damages than are told one by one
+abbrev pub more_damages_line : List ℕ → ℕ → List ℕ
+more_damages_line name more = codes "warning: " ++ (shown_text name ++ (codes ": " ++ (decimal more ++ codes " more damages")))
+
+-- a file that hasn't the track of a number, counted from 0
+abbrev pub no_track_line : List ℕ → ℕ → List ℕ
+no_track_line name number = codes "warning: " ++ (shown_text name ++ (codes ": no track " ++ decimal number))
+
 -- a file that isn't there
 abbrev pub missing_line : List ℕ → List ℕ
 missing_line name = codes "error: " ++ (shown_text name ++ codes ": Missing")
+
+-- an output that has the name of the file that it would be made of
+abbrev pub output_is_input_line : List ℕ → List ℕ
+output_is_input_line name = codes "error: " ++ (shown_text name ++ codes ": OutputIsInput")
+
+-- an output that stands whole
+abbrev pub wrote_line : List ℕ → List ℕ
+wrote_line name = codes "wrote " ++ shown_text name
 
 -- words that aren't obeyed, from this one on
 abbrev pub word_line : ℕ → List ℕ → List ℕ
@@ -46,6 +62,10 @@ text_of (Level1 header) = level_1_line header
 text_of (Track t) = track_text t.index t.type_name.now t.codec.now t.number t.uid t.language.now
 text_of (Refused name damage) = refusal_line name.now damage
 text_of (Warned name damage) = warning_line name.now damage
+text_of (MoreDamages name more) = more_damages_line name.now more
+text_of (NoTrack name number) = no_track_line name.now number
 text_of (Missing name) = missing_line name.now
+text_of (OutputIsInput name) = output_is_input_line name.now
+text_of (Wrote name) = wrote_line name.now
 text_of (Word word why) = word_line word why.now
 text_of FilesFault = files_fault_line

@@ -19,8 +19,16 @@ pub enum Line<'a> {
     Refused { name: &'a str, damage: Damage },
     /// A file is damaged from a place on.
     Warned { name: &'a str, damage: Damage },
+    /// More of a file's damages than are told one by one.
+    MoreDamages { name: &'a str, more: u64 },
+    /// A file hasn't the track of a number, counted from 0.
+    NoTrack { name: &'a str, number: u64 },
     /// A file isn't there.
     Missing { name: &'a str },
+    /// An output has the name of the file that it would be made of.
+    OutputIsInput { name: &'a str },
+    /// An output stands whole under its name.
+    Wrote { name: &'a str },
     /// The words aren't obeyed, from this one on, counted from 0.
     Word { word: usize, why: &'a str },
     /// The files failed.
@@ -52,9 +60,25 @@ impl fmt::Display for Line<'_> {
                 let (name, damage) = (ShownText(name), ShownDamage(damage));
                 write!(f, "warning: {name}: {damage}")
             }
+            Line::MoreDamages { name, more } => {
+                let name = ShownText(name);
+                write!(f, "warning: {name}: {more} more damages")
+            }
+            Line::NoTrack { name, number } => {
+                let name = ShownText(name);
+                write!(f, "warning: {name}: no track {number}")
+            }
             Line::Missing { name } => {
                 let name = ShownText(name);
                 write!(f, "error: {name}: Missing")
+            }
+            Line::OutputIsInput { name } => {
+                let name = ShownText(name);
+                write!(f, "error: {name}: OutputIsInput")
+            }
+            Line::Wrote { name } => {
+                let name = ShownText(name);
+                write!(f, "wrote {name}")
             }
             Line::Word { word, why } => write!(f, "error: word {word}: {why}"),
             Line::FilesFault => f.write_str("fault: files"),

@@ -1,6 +1,6 @@
 -- A run that ends by a fault of the files.
 use Rattle.std.proofs.Math.Seq.{drop-cons}
-use Rattle.std.proofs.Common.{◌≡◌, ℕ, suc, ◌+◌, ◌<◌, length, drop, get_or, add-one, List, [], ◌∷◌, ◌++◌, Result, Ok, Err, inl, inr, refl, sym, ◌∙◌, ap, subst}
+use Rattle.std.proofs.Common.{◌≡◌, ℕ, suc, ◌+◌, ◌<◌, length, drop, get_or, add-one, List, [], ◌∷◌, ◌++◌, IsSome, Result, Ok, Err, inl, inr, refl, sym, ◌∙◌, ap, subst}
 use Rattle.mkv_io.specs.Faults.{HasRisen}
 use Rattle.mkv_io.specs.Lines.{with_lines}
 use Rattle.mkv_lines.specs.Faults.{Counts, FilesRose}
@@ -13,6 +13,11 @@ use Rattle.mkv_lines.specs.declared.status.Status.{Status}
 use Rattle.mkv_lines.specs.declared.status.Status.TheVariants as status
 use Rattle.mkv_lines.specs.declared.status.Stop.{Stop}
 use Rattle.mkv_lines.specs.declared.status.Stop.TheVariants as stop
+use Rattle.mkv_io.specs.Names.{AreApart}
+use Rattle.mkv_jobs.specs.declared.job.Job.{Job}
+use Rattle.mkv_jobs.specs.declared.job.Job.TheVariants as jobs
+use Rattle.mkv_args.specs.Sound.{IsSoundJob}
+use Rattle.extract_model.specs.Job.{names_of, taken_of, targets_of}
 use Rattle.mkv_lines.proofs.SaidLemmas.{with_lines-both, with_lines-none}
 
 -- the line of the fault stands behind a first part of the lines
@@ -61,3 +66,13 @@ pub texts-next : (old now : ReportLines) (all : List (List ℕ)) (k : ℕ) (text
 texts-next old now all k texts t below is way =
     subst (λ (lines : List (List ℕ)). SaysUpTo old now all lines)
     (drop-cons texts k t below ∙ ap (λ (one : List ℕ). one ∷ drop (suc k) texts) (sym is) ∙ rw add-one refl) way
+
+-- ---- an extraction
+
+-- no two outputs of a job that takes something of tracks have one name
+pub outputs-apart : (job : Job) → IsSoundJob job → IsSome (taken_of job) → AreApart (names_of (targets_of job))
+outputs-apart (jobs.Tracks form list) sound takes = sound.apart
+outputs-apart (jobs.Timestamps list) sound takes = sound.apart
+outputs-apart (jobs.Attachments list) sound takes = sound.apart
+outputs-apart (jobs.Cues list) sound takes = sound.apart
+outputs-apart (jobs.Chapters name) sound takes = tt

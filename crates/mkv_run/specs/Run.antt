@@ -1,5 +1,5 @@
 -- What the words of a command line come to.
-use Rattle.std.specs.Prelude.{ℕ, Bool, true, false, if◌then◌else◌, List, [], ◌∷◌, Option, Some, option_map, Result, Ok, Err}
+use Rattle.std.specs.Prelude.{ℕ, Bool, true, false, if◌then◌else◌, List, [], ◌∷◌, Option, Some, is_some, option_map, Result, Ok, Err}
 use Rattle.mkv_io.specs.Names.{Names}
 use Rattle.word_values.specs.Why.{why_name}
 use Rattle.word_values.specs.declared.usage.Usage.{Usage}
@@ -10,6 +10,8 @@ use Rattle.mkv_args.specs.declared.command.Command.TheVariants.{Help, Version, I
 use Rattle.mkv_lines.specs.Line.{not_built_line, word_line}
 use Rattle.mkv_lines.specs.Verdict.{Verdict, done, refused}
 use Rattle.mkv_info.specs.Info.{info_verdict}
+use Rattle.extract_model.specs.Job.{taken_of}
+use Rattle.mkv_extract.specs.Extract.{extract_verdict}
 
 -- the first word that is wrong, and why
 abbrev pub usage_line : Usage → List ℕ
@@ -24,7 +26,7 @@ is_built (Identify file) = false
 is_built (Recover file) = false
 is_built (Reindex file) = false
 is_built (Generate n prefix) = false
-is_built (Extract file job) = false
+is_built (Extract file job) = is_some (taken_of job)
 is_built (Propedit file edits) = false
 is_built (Merge words) = false
 
@@ -34,6 +36,7 @@ abbrev pub built_verdict : Names → Command → Option Verdict
 built_verdict names Help = Some (done usage_lines)
 built_verdict names Version = Some (done (version_line ∷ []))
 built_verdict names (Info file) = option_map (λ world. info_verdict world file) names
+built_verdict names (Extract file job) = option_map (λ world. extract_verdict world file job) names
 built_verdict names _ = Some (refused not_built_line)
 
 -- what a command comes to; one that isn't built is refused

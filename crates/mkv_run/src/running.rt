@@ -3,7 +3,7 @@
 ghost use Rattle.std.specs.Prelude.{◌≡◌, ℕ, IfOk};
 ghost use Rattle.mkv_io.specs.Sources.{live_files};
 ghost use Rattle.mkv_io.specs.Told.{Told};
-ghost use Rattle.mkv_args.specs.Sound.{IsSound};
+ghost use Rattle.mkv_args.specs.Sound.{IsSound, IsSoundJob};
 ghost use Rattle.mkv_lines.specs.Faults.{HasStatusCause, HasStopCause};
 ghost use Rattle.mkv_lines.specs.Ordinary.{IsOrdinary};
 ghost use Rattle.mkv_lines.specs.Line.{word_line};
@@ -14,10 +14,14 @@ ghost use Rattle.word_values.specs.Place.{texts};
 ghost use Rattle.mkv_run.specs.Run.{verdict_in, verdict_of};
 
 use crate::help::{help, version};
+use extractors::taken_of;
 use mkv_args::{ArgsEnd, Command, read_words};
+use mkv_extract::extract_of;
 use mkv_info::info_of;
 use mkv_io::{Files, Report};
+use mkv_jobs::Job;
 use mkv_lines::{Line, Status, Stop, say, say_files_fault};
+use mkv_values::Text;
 use std::alloc::Global;
 
 /// Does what the words of a command line ask for, and says its lines.
@@ -96,8 +100,33 @@ fn obey<F: Files, R: Report>(
         Command::Help => help(alloc, report),
         Command::Version => version(report),
         Command::Info { file } => info_of(alloc, file.as_str(), files, report),
+        Command::Extract { file, job } => extract(alloc, file, job, files, report),
         _ => refuse(alloc, 0, "NotBuilt", report),
     }
+}
+
+// Takes something out of a file, where that is built.
+fn extract<F: Files, R: Report>(
+    alloc: Global,
+    file: &Text,
+    job: &Job,
+    files: &mut F,
+    report: &mut R,
+) -> Result<Status, Stop>
+    requires { IsSoundJob job.now }
+    ensures verdict { Told (verdict_of (F.names files.old) (Command.Extract file.now job.now)) (Reaches
+        (seen F.Reads F.writing_faults F.names R.Report files.old report.old)
+        (seen F.Reads F.writing_faults F.names R.Report files.new report.new) result) }
+    ensures ordinary { IfOk result IsOrdinary }
+    ensures cause { HasStopCause
+        (seen F.Reads F.writing_faults F.names R.Report files.old report.old).counts
+        (seen F.Reads F.writing_faults F.names R.Report files.new report.new).counts result }
+    ensures closed { (file : ℕ) → (live_files F.Reads files.new).live file ≡ (live_files F.Reads files.old).live file }
+{
+    if taken_of(job).is_none() {
+        return refuse(alloc, 0, "NotBuilt", report);
+    }
+    extract_of(alloc, file.as_str(), job, files, report)
 }
 
 // Words that aren't obeyed.

@@ -4,6 +4,8 @@
 //! user reads, and runs over files in memory: tests alone.
 
 #[cfg(test)]
+mod extractions;
+#[cfg(test)]
 mod lines;
 #[cfg(test)]
 mod runs;

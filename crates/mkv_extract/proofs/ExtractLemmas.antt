@@ -1,0 +1,104 @@
+-- How an extraction comes to its verdict.
+use Rattle.std.proofs.Common.{◌≡◌, ◌≢◌, ℕ, List, [], ◌∷◌, ◌++◌, length, Bool, true, false, ◌||◌, map, Option, Some, None, IsSome, Result, Ok, Err, IfOk, refl, sym, ◌∙◌, ap, subst}
+use Rattle.std.specs.Str.{bytes_eq}
+use Rattle.std.proofs.lemmas.List.{length-map}
+use Rattle.std.proofs.lemmas.Slice.Eq.{bytes_eq-Decides}
+use Rattle.mkv_io.specs.Lines.{with_lines}
+use Rattle.mkv_io.specs.Names.{AreOthers}
+use Rattle.mkv_jobs.specs.declared.job.Job.{Job}
+use Rattle.mkv_jobs.specs.declared.job.Target.{Target}
+use Rattle.mkv_outputs.specs.Outputs.{Output, names_of, with_outputs}
+use Rattle.mkv_outputs.proofs.StartsLemmas.{StandsInPart-whole}
+use Rattle.tree_format.specs.Node.{Node}
+use Rattle.track_records.specs.declared.track.Track.{Track}
+use Rattle.block_format.specs.Events.{Event, blocks_of, damages_of}
+use Rattle.cluster_reader.specs.ToldDamages.{ToldDamages, told_damages}
+use Rattle.extract_model.specs.Content.{names_in, outputs_of}
+use Rattle.extract_model.specs.Job.{job_outputs, outputs_taken, taken_of, targets_of}
+use Rattle.extract_model.specs.Job as jobs
+use Rattle.extract_model.specs.declared.taken.Taken.{Taken}
+use Rattle.extract_model.proofs.ContentLemmas.{names_of-outputs}
+use Rattle.extractors.specs.Source.{entry_in}
+use Rattle.mkv_lines.specs.Line.{no_track_line, wrote_line}
+use Rattle.mkv_lines.specs.Said.{ReportLines, Says, SaysPart}
+use Rattle.mkv_lines.specs.Seen.{Seen}
+use Rattle.mkv_lines.specs.Verdict.{Leaves, Reaches, Verdict, at_once, list_of}
+use Rattle.mkv_lines.specs.declared.status.Status.{Status}
+use Rattle.mkv_lines.specs.declared.status.Stop.{Stop}
+use Rattle.mkv_lines.proofs.SaidLemmas.{SaysPart-before, SaysPart-behind, Says-then}
+use Rattle.mkv_lines.proofs.VerdictLemmas.{Leaves-same}
+use Rattle.mkv_extract.specs.Extract.{absent, damage_lines, has_absent, is_input, status_of, taken_verdict}
+use Rattle.mkv_extract.specs.Told.{written}
+use Rattle.mkv_extract.proofs.ToldLemmas.{written-names}
+
+-- ---- the names of the outputs
+
+-- no output has the name of the file
+pub others-named : (name holder : List ℕ) (targets : List Target) → is_input name targets ≡ false → holder ≡ name → AreOthers holder (jobs.names_of targets)
+others-named name holder [] none same = tt
+others-named name holder (t ∷ ts) none same = (λ one. let yes : bytes_eq t.name name ≡ true = (bytes_eq-Decides t.name name).1 (one ∙ same) in let never : true ≡ false = sym (ap (λ (a : Bool). a || is_input name ts) yes) ∙ none in absurd (cc), others-named name holder ts (behind (bytes_eq t.name name) none) same)
+  where
+    behind : (a : Bool) → (a || is_input name ts) ≡ false → is_input name ts ≡ false
+    behind true bad = absurd (cc)
+    behind false is = is
+
+-- the outputs of a job have the names of those targets whose tracks the file has
+taken-names : (kind : Option Taken) (targets : List Target) (entries : List Node) → IsSome kind → names_in (outputs_taken kind targets entries) ≡ written (length entries) targets
+taken-names None targets entries some = absurd (cc)
+taken-names (Some kind) targets entries some = written-names kind targets entries
+
+-- ---- lines and outputs
+
+-- the first lines couldn't be said
+reaches-begun : (old new : Seen) (why : Stop) (v : Verdict) (first rest : List (List ℕ)) → v.lines ≡ first ++ rest → SaysPart old.lines new.lines first → new.names ≡ old.names → Reaches old new (Err why) v
+reaches-begun old new why v first rest lines part names = record {
+  lines = subst (SaysPart old.lines new.lines) (sym lines) (SaysPart-before old.lines new.lines first rest part);
+  names = Leaves-same old.names new.names v.outputs names;
+}
+
+-- the outputs stand whole, and the others are said
+reaches-told : (old new : Seen) (mid : ReportLines) (r : Result Status Stop) (v : Verdict) (first rest : List (List ℕ)) (outputs : List Output) → v.lines ≡ first ++ rest → v.outputs ≡ at_once outputs → mid ≡ with_lines old.lines first → Says mid new.lines rest r → IfOk r (λ s. s ≡ v.status) → new.names ≡ with_outputs old.names outputs → Reaches old new r v
+reaches-told old new mid (Ok s) v first rest outputs lines writes said says status names = (
+  status,
+  record {
+    lines = Says-then old.lines mid new.lines first rest (Ok s) said says ∙ ap (with_lines old.lines) (sym lines);
+    names = names ∙ ap (λ o. with_outputs old.names (list_of o)) (sym writes);
+  },
+)
+reaches-told old new mid (Err why) v first rest outputs lines writes said says status names = record {
+  lines = subst (SaysPart old.lines new.lines) (sym lines) (SaysPart-behind old.lines mid new.lines first rest said says);
+  names = subst (Leaves old.names new.names) (sym writes) (StandsInPart-whole old.names new.names outputs names);
+}
+
+-- a warning of an absent track couldn't be said
+pub taken-begun : (old new : Seen) (why : Stop) (name : List ℕ) (job : Job) (tracks : List Track) (events : List Event) (targets : List Target) (count : ℕ) → targets ≡ targets_of job → count ≡ length tracks → SaysPart old.lines new.lines (map (no_track_line name) (absent count targets)) → new.names ≡ old.names → Reaches old new (Err why) (taken_verdict name job tracks events)
+taken-begun old new why name job tracks events targets count is counted part names =
+    reaches-begun old new why (taken_verdict name job tracks events) (map (no_track_line name) (absent (length tracks) (targets_of job)))
+    (map wrote_line (names_of (outputs_of (job_outputs job (map entry_in tracks)) (blocks_of events))) ++ damage_lines name (told_damages (damages_of events)))
+    refl
+    (subst (λ (n : ℕ). SaysPart old.lines new.lines (map (no_track_line name) (absent n (targets_of job)))) counted
+    (subst (λ (ts : List Target). SaysPart old.lines new.lines (map (no_track_line name) (absent count ts))) is part))
+    names
+
+-- all that isn't there was warned of, and the outputs stand whole
+pub taken-told : (old new : Seen) (mid : ReportLines) (r : Result Status Stop) (name : List ℕ) (job : Job) (tracks : List Track) (events : List Event) (targets : List Target) (count : ℕ) (damages : ToldDamages) → IsSome (taken_of job) → targets ≡ targets_of job → count ≡ length tracks → damages ≡ told_damages (damages_of events) → mid ≡ with_lines old.lines (map (no_track_line name) (absent count targets)) → Says mid new.lines (map wrote_line (written count targets) ++ damage_lines name damages) r → IfOk r (λ s. s ≡ status_of (has_absent count targets) (damages_of events)) → new.names ≡ with_outputs old.names (outputs_of (job_outputs job (map entry_in tracks)) (blocks_of events)) → Reaches old new r (taken_verdict name job tracks events)
+taken-told old new mid r name job tracks events targets count damages takes is counted whole said says status names =
+    reaches-told old new mid r (taken_verdict name job tracks events) (map (no_track_line name) (absent (length tracks) (targets_of job)))
+    (map wrote_line (names_of outputs) ++ damage_lines name (told_damages (damages_of events)))
+    outputs refl refl
+    (said ∙ ap (λ (n : ℕ). with_lines old.lines (map (no_track_line name) (absent n targets))) counted ∙ ap (λ (ts : List Target). with_lines old.lines (map (no_track_line name) (absent (length tracks) ts))) is)
+    (subst (λ (d : ToldDamages). Says mid new.lines (map wrote_line (names_of outputs) ++ damage_lines name d) r) whole
+    (subst (λ (names : List (List ℕ)). Says mid new.lines (map wrote_line names ++ damage_lines name damages) r) named says))
+    (subst (λ (ts : List Target). IfOk r (λ s. s ≡ status_of (has_absent (length tracks) ts) (damages_of events))) is
+    (subst (λ (n : ℕ). IfOk r (λ s. s ≡ status_of (has_absent n targets) (damages_of events))) counted status))
+    names
+  where
+    outputs : List Output
+    outputs = outputs_of (job_outputs job (map entry_in tracks)) (blocks_of events)
+
+    named : written count targets ≡ names_of outputs
+    named =
+        ap (λ (ts : List Target). written count ts) is
+        ∙ ap (λ (n : ℕ). written n (targets_of job)) (counted ∙ sym (length-map tracks entry_in))
+        ∙ sym (taken-names (taken_of job) (targets_of job) (map entry_in tracks) takes)
+        ∙ sym (names_of-outputs (job_outputs job (map entry_in tracks)) (blocks_of events))

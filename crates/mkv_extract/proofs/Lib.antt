@@ -1,0 +1,3 @@
+pub mod ExtractLemmas
+pub mod ReadLemmas
+pub mod ToldLemmas

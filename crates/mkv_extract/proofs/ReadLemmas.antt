@@ -1,0 +1,163 @@
+-- The tracks that targets name, and what keeps their frames from being used.
+use Rattle.std.proofs.Common.{◌≡◌, ℕ, zero, suc, ◌+◌, ◌<◌, ◌≤◌, ◌==◌, Bool, true, false, ◌||◌, if◌then◌else◌, List, [], ◌∷◌, ◌++◌, length, drop, get_or, map, Option, Some, None, IfSome, slice_get, Result, Ok, Err, refl, sym, ◌∙◌, ap, subst, arith, eq-eqb}
+use Rattle.std.specs.List.{All, list_any}
+use Rattle.std.proofs.Math.Seq.{drop-cons}
+use Rattle.std.proofs.lemmas.List.{drop_all}
+use Rattle.mkv_values.specs.declared.damage.Damage.{Damage}
+use Rattle.mkv_jobs.specs.declared.job.Job.{Job}
+use Rattle.mkv_jobs.specs.declared.job.Target.{Target}
+use Rattle.matroska_format.specs.declared.element.Header.{Header}
+use Rattle.matroska_format.specs.Outline.{Outlined, and_then, first_damage, outline_of, unless}
+use Rattle.element_reader.specs.Outline.{FileOutline, outline_in}
+use Rattle.element_reader.proofs.OutlineLemmas.{Outlines, Outlines-shown, outline_of-refused}
+use Rattle.block_format.specs.Elements.{with_limits}
+use Rattle.block_format.specs.Events.{events_of}
+use Rattle.file_blocks.specs.File.{file_events}
+use Rattle.file_records.specs.Records.{file_records, scale_of_info}
+use Rattle.file_records.specs.declared.records.Records.{Records}
+use Rattle.file_records.proofs.RecordsLemmas.{file_records-scale}
+use Rattle.extract_model.specs.Job.{targets_of}
+use Rattle.tree_format.specs.Node.{Node}
+use Rattle.track_format.specs.Encoding.{prefix_of, usable_causes, usable_prefix}
+use Rattle.track_records.specs.declared.track.Track.{Track}
+use Rattle.extractors.specs.Source.{AreUsableOf, IsUsable, entry_in}
+use Rattle.mkv_extract.specs.Read.{FileRead, causes_from, causes_of, first_unusable, is_named, read_of}
+
+-- ---- the first of several causes
+
+first_damage-front : (xs ys : List (Option Damage)) → first_damage (xs ++ ys) ≡ None → first_damage xs ≡ None
+first_damage-front [] ys none = refl
+first_damage-front (None ∷ xs) ys none = first_damage-front xs ys none
+first_damage-front (Some d ∷ xs) ys none = absurd (cc)
+
+first_damage-behind : (xs ys : List (Option Damage)) → first_damage xs ≡ None → first_damage (xs ++ ys) ≡ first_damage ys
+first_damage-behind [] ys none = refl
+first_damage-behind (None ∷ xs) ys none = first_damage-behind xs ys none
+first_damage-behind (Some d ∷ xs) ys none = absurd (cc)
+
+first_damage-some : (xs ys : List (Option Damage)) (d : Damage) → first_damage xs ≡ Some d → first_damage (xs ++ ys) ≡ Some d
+first_damage-some [] ys d some = absurd (cc)
+first_damage-some (None ∷ xs) ys d some = first_damage-some xs ys d some
+first_damage-some (Some e ∷ xs) ys d some = some
+
+-- ---- in a walk over the tracks
+
+-- what is left from a track on
+causes-next : (targets : List Target) (tracks : List Track) (k : ℕ) (t : Track) → k < length tracks → t ≡ get_or tracks k t → causes_from targets k (drop k tracks) ≡ causes_of targets k t ++ causes_from targets (k + 1) (drop (k + 1) tracks)
+causes-next targets tracks k t below is =
+    ap (causes_from targets k) (drop-cons tracks k t below ∙ ap (λ (each : Track). each ∷ drop (suc k) tracks) (sym is))
+    ∙ ap (λ (n : ℕ). causes_of targets k t ++ causes_from targets (k + 1) (drop n tracks)) (one_more k)
+  where
+    one_more : (n : ℕ) → suc n ≡ n + 1
+    one_more n = omega arith
+
+-- a track that isn't named or whose frames can be used is passed
+pub causes-passed : (targets : List Target) (tracks : List Track) (k : ℕ) (t : Track) → k < length tracks → t ≡ get_or tracks k t → first_damage (causes_of targets k t) ≡ None → first_damage (causes_from targets k (drop k tracks)) ≡ first_damage (causes_from targets (k + 1) (drop (k + 1) tracks))
+causes-passed targets tracks k t below is none =
+    ap first_damage (causes-next targets tracks k t below is)
+    ∙ first_damage-behind (causes_of targets k t) (causes_from targets (k + 1) (drop (k + 1) tracks)) none
+
+-- one whose frames can't be used refuses the file
+pub causes-bad : (targets : List Target) (tracks : List Track) (k : ℕ) (t : Track) (d : Damage) → k < length tracks → t ≡ get_or tracks k t → first_damage (causes_of targets k t) ≡ Some d → first_damage (causes_from targets k (drop k tracks)) ≡ Some d
+causes-bad targets tracks k t d below is some =
+    ap first_damage (causes-next targets tracks k t below is)
+    ∙ first_damage-some (causes_of targets k t) (causes_from targets (k + 1) (drop (k + 1) tracks)) d some
+
+-- at last none is left
+pub causes-none : (targets : List Target) (tracks : List Track) (k : ℕ) → length tracks ≤ k → first_damage (causes_from targets k (drop k tracks)) ≡ None
+causes-none targets tracks k all = ap (λ (ts : List Track). first_damage (causes_from targets k ts)) (drop_all k tracks all)
+
+-- what a call answers of a track
+pub usable-none : (entry : Node) (prefix : List ℕ) → usable_prefix entry ≡ Ok prefix → first_damage (usable_causes entry) ≡ None
+usable-none entry prefix is = step (first_damage (usable_causes entry)) is
+  where
+    step : (refusal : Option Damage) → unless refusal (prefix_of entry) ≡ Ok prefix → refusal ≡ None
+    step None made = refl
+    step (Some d) made = absurd (cc)
+
+pub usable-some : (entry : Node) (d : Damage) → usable_prefix entry ≡ Err d → first_damage (usable_causes entry) ≡ Some d
+usable-some entry d is = step (first_damage (usable_causes entry)) is
+  where
+    step : (refusal : Option Damage) → unless refusal (prefix_of entry) ≡ Err d → refusal ≡ Some d
+    step None made = absurd (cc)
+    step (Some e) made = let same : e ≡ d = cc in ap (λ (x : Damage). Some x) same
+
+-- ---- where nothing refuses the file
+
+-- a target names its track
+named-at : (targets : List Target) (i : ℕ) (d : Target) → i < length targets → is_named targets (get_or targets i d).id ≡ true
+named-at [] i d below = absurd (omega arith)
+named-at (t ∷ ts) zero d below = ap (λ (a : Bool). a || is_named ts t.id) (eq-eqb t.id t.id refl)
+named-at (t ∷ ts) (suc i) d below = ap (λ (a : Bool). (t.id == (get_or ts i d).id) || a) (named-at ts i d (omega arith)) ∙ or_true (t.id == (get_or ts i d).id)
+  where
+    or_true : (a : Bool) → (a || true) ≡ true
+    or_true true = refl
+    or_true false = refl
+
+-- each track that is named can be used
+each-usable : (targets : List Target) (k : ℕ) (tracks : List Track) (j : ℕ) → first_damage (causes_from targets k tracks) ≡ None → is_named targets (k + j) ≡ true → IfSome (slice_get (map entry_in tracks) j) IsUsable
+each-usable targets k [] j none named = tt
+each-usable targets k (t ∷ ts) zero none named =
+    let own : is_named targets k ≡ true = ap (is_named targets) (plus_none k) ∙ named in
+    ap (λ (a : Bool). first_damage (if a then usable_causes t.entry else [])) (sym own)
+    ∙ first_damage-front (causes_of targets k t) (causes_from targets (k + 1) ts) none
+  where
+    plus_none : (n : ℕ) → n ≡ n + 0
+    plus_none n = omega arith
+each-usable targets k (t ∷ ts) (suc j) none named =
+    let first : first_damage (causes_of targets k t) ≡ None = first_damage-front (causes_of targets k t) (causes_from targets (k + 1) ts) none in
+    each-usable targets (k + 1) ts j
+    (sym (first_damage-behind (causes_of targets k t) (causes_from targets (k + 1) ts) first) ∙ none)
+    (ap (is_named targets) (one_further k j) ∙ named)
+  where
+    one_further : (n m : ℕ) → (n + 1) + m ≡ n + suc m
+    one_further n m = omega arith
+
+pub AreUsableOf-read : (targets : List Target) (tracks : List Track) → first_unusable targets tracks ≡ None → AreUsableOf (map entry_in tracks) targets
+AreUsableOf-read targets tracks none = λ i d below.
+    each-usable targets 0 tracks (get_or targets i d).id none (ap (is_named targets) (zero_plus (get_or targets i d).id) ∙ named-at targets i d below)
+  where
+    zero_plus : (n : ℕ) → 0 + n ≡ n
+    zero_plus n = omega arith
+
+-- ---- what is read
+
+-- behind an outline
+abbrev behind : Job → List ℕ → Header → Result FileRead Damage
+behind job bytes segment = and_then (file_records bytes segment) (λ (r : Records). unless (first_unusable (targets_of job) r.tracks) (record { segment = segment; records = r }))
+
+read_of-behind : (job : Job) (bytes : List ℕ) (v : FileOutline) → outline_in 0 bytes ≡ Ok v → read_of job bytes ≡ behind job bytes v.segment
+read_of-behind job bytes v outline =
+    let of = Outlines-shown 0 bytes v outline in
+    ap (λ (found : Result Outlined Damage). and_then found (λ (o : Outlined). behind job bytes o.segment)) of.is
+    ∙ ap (λ (w : FileOutline). behind job bytes w.segment) (sym of.shows)
+
+-- nothing, where the outline refuses the file
+pub read_of-refused : (job : Job) (bytes : List ℕ) (d : Damage) → outline_in 0 bytes ≡ Err d → read_of job bytes ≡ Err d
+read_of-refused job bytes d outline = ap (λ (found : Result Outlined Damage). and_then found (λ (o : Outlined). behind job bytes o.segment)) (outline_of-refused 0 bytes d outline)
+
+-- nor where a record does
+pub read_of-records : (job : Job) (bytes : List ℕ) (v : FileOutline) (d : Damage) → outline_in 0 bytes ≡ Ok v → file_records bytes v.segment ≡ Err d → read_of job bytes ≡ Err d
+read_of-records job bytes v d outline records =
+    read_of-behind job bytes v outline
+    ∙ ap (λ (found : Result Records Damage). and_then found (λ (r : Records). unless (first_unusable (targets_of job) r.tracks) (record { segment = v.segment; records = r }))) records
+
+-- the records, unless a track that is named refuses the file
+read_of-unless : (job : Job) (bytes : List ℕ) (v : FileOutline) (r : Records) → outline_in 0 bytes ≡ Ok v → file_records bytes v.segment ≡ Ok r → read_of job bytes ≡ unless (first_unusable (targets_of job) r.tracks) (record { segment = v.segment; records = r })
+read_of-unless job bytes v r outline records =
+    read_of-behind job bytes v outline
+    ∙ ap (λ (found : Result Records Damage). and_then found (λ (each : Records). unless (first_unusable (targets_of job) each.tracks) (record { segment = v.segment; records = each }))) records
+
+pub read_of-unusable : (job : Job) (bytes : List ℕ) (v : FileOutline) (r : Records) (d : Damage) → outline_in 0 bytes ≡ Ok v → file_records bytes v.segment ≡ Ok r → first_unusable (targets_of job) r.tracks ≡ Some d → read_of job bytes ≡ Err d
+read_of-unusable job bytes v r d outline records bad =
+    read_of-unless job bytes v r outline records
+    ∙ ap (λ (refusal : Option Damage). unless refusal (record { segment = v.segment; records = r })) bad
+
+pub read_of-all : (job : Job) (bytes : List ℕ) (v : FileOutline) (r : Records) → outline_in 0 bytes ≡ Ok v → file_records bytes v.segment ≡ Ok r → first_unusable (targets_of job) r.tracks ≡ None → read_of job bytes ≡ Ok (record { segment = v.segment; records = r })
+read_of-all job bytes v r outline records good =
+    read_of-unless job bytes v r outline records
+    ∙ ap (λ (refusal : Option Damage). unless refusal (record { segment = v.segment; records = r })) good
+
+-- its blocks and damages are the file's own
+pub events-read : (bytes : List ℕ) (segment : Header) (r : Records) → file_records bytes segment ≡ Ok r → events_of (with_limits (scale_of_info r.info)) bytes segment ≡ file_events true bytes segment
+events-read bytes segment r is = ap (λ (scale : ℕ). events_of (with_limits scale) bytes segment) (file_records-scale bytes segment r is)

@@ -1,0 +1,27 @@
+use Rattle.std.proofs.Common.{refl}
+use Rattle.std.proofs.lemmas.Result.{err_from_is_err_and}
+use Rattle.block_format.specs.Events.{damages_of}
+use Rattle.extractors.specs.Source.{events_in}
+use Rattle.mkv_lines.specs.Seen.{seen}
+use Rattle.mkv_extract.proofs.ExtractLemmas.{taken-begun, taken-told}
+use Rattle.mkv_extract.proofs.extract.extract_source.Goals as goal
+
+-- a warning of a track that isn't there couldn't be said
+pub returns-in_err-say_absent-clause-verdict : goal.returns-in_err-say_absent-clause-verdict
+returns-in_err-say_absent-clause-verdict g c = λ bytes told.
+    let p = err_from_is_err_and c.from_residual.result c.from_residual.ensures.1 in
+    rw p.1
+    (taken-begun (seen g.F.Reads g.F.Files.writing_faults g.F.Files.names g.P.Report c.args.files.now c.args.report.now)
+    (seen g.F.Reads g.F.Files.writing_faults g.F.Files.names g.P.Report c.args.files.now c.say_absent.new.report)
+    p.0 c.args.name.now c.args.job.now c.args.source.now.tracks (events_in c.args.source.now bytes) c.targets_of-targets.result.now c.len-count.result
+    c.targets_of-targets.ensures c.len-count.ensures c.in_err-say_absent.ensures.said refl)
+
+-- the outputs stand whole
+pub returns-clause-verdict : goal.returns-clause-verdict
+returns-clause-verdict g c = λ bytes told.
+    let events = events_in c.args.source.now bytes in
+    let damages = c.in-Ok.ensures.damages bytes told in
+    taken-told (seen g.F.Reads g.F.Files.writing_faults g.F.Files.names g.P.Report c.args.files.now c.args.report.now)
+    (seen g.F.Reads g.F.Files.writing_faults g.F.Files.names g.P.Report c.extract.new.files c.tell.new.report)
+    (g.P.Report.lines c.say_absent.new.report) c.tell.result c.args.name.now c.args.job.now c.args.source.now.tracks events c.targets_of-targets.result.now c.len-count.result c.in-Ok.damages
+    c.requires.takes c.targets_of-targets.ensures c.len-count.ensures damages c.in_ok-say_absent.ensures.said c.tell.ensures.said (c.tell.ensures.status (damages_of events) damages) (c.in-Ok.ensures.writes bytes told)

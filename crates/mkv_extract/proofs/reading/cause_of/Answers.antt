@@ -1,0 +1,11 @@
+use Rattle.std.proofs.Common.{◌≡◌, Bool, true, [], if◌then◌else◌, sym, ◌∙◌, ap}
+use Rattle.matroska_format.specs.Outline.{first_damage}
+use Rattle.track_format.specs.Encoding.{usable_causes}
+use Rattle.mkv_extract.proofs.ReadLemmas.{usable-some}
+use Rattle.mkv_extract.proofs.reading.cause_of.Goals as goal
+
+-- its frames can't be used
+pub returns-in-Err : goal.returns-in-Err
+returns-in-Err c =
+    sym (ap (λ (a : Bool). first_damage (if a then usable_causes c.args.track.now.entry else [])) (sym c.is_named.ensures ∙ c.if-not-is_named.false)
+    ∙ usable-some c.args.track.now.entry c.in-Err.damage (sym c.in-Err.ensures.exact))

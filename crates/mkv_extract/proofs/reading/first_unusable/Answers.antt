@@ -1,0 +1,9 @@
+use Rattle.std.proofs.Common.{◌≡◌, sym, ◌∙◌}
+use Rattle.mkv_extract.proofs.ReadLemmas.{causes-bad}
+use Rattle.mkv_extract.proofs.reading.first_unusable.Goals as goal
+
+-- a track refuses the file
+pub returns-in-Some : goal.returns-in-Some
+returns-in-Some c =
+    sym (c.loop-k.invariant
+    ∙ causes-bad c.args.targets.now c.args.tracks.now c.loop-k.k c.index-tracks-k.result c.in-Some.damage c.loop-k-test.true c.index-tracks-k.is (sym c.cause_of.ensures ∙ c.in-Some.is))

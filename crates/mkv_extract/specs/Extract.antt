@@ -1,0 +1,83 @@
+-- What `extract` comes to.
+use Rattle.std.specs.Prelude.{ℕ, ◌==◌, nat_le, Bool, true, false, not, if◌then◌else◌, List, [], ◌∷◌, ◌++◌, length, map, filter, Option, Some, None, Result, Ok, Err}
+use Rattle.std.specs.List.{list_any}
+use Rattle.std.specs.Str.{bytes_eq}
+use Rattle.mkv_values.specs.declared.damage.Damage.{Damage}
+use Rattle.mkv_jobs.specs.declared.job.Job.{Job}
+use Rattle.mkv_jobs.specs.declared.job.Target.{Target}
+use Rattle.track_records.specs.declared.track.Track.{Track}
+use Rattle.block_format.specs.Events.{Event, blocks_of, damages_of}
+use Rattle.file_blocks.specs.File.{file_events}
+use Rattle.cluster_reader.specs.ToldDamages.{ToldDamages, told_damages}
+use Rattle.mkv_outputs.specs.Outputs.{Output, names_of}
+use Rattle.extract_model.specs.Content.{outputs_of}
+use Rattle.extract_model.specs.Job.{job_outputs, targets_of}
+use Rattle.extractors.specs.Source.{entry_in}
+use Rattle.mkv_lines.specs.Line.{missing_line, more_damages_line, no_track_line, output_is_input_line, refusal_line, warning_line, wrote_line}
+use Rattle.mkv_lines.specs.Verdict.{Verdict, at_once, refused}
+use Rattle.mkv_lines.specs.declared.status.Status.{Status}
+use Rattle.mkv_lines.specs.declared.status.Status.TheVariants.{Done, Warned}
+use Rattle.mkv_extract.specs.Read.{FileRead, read_of}
+
+-- ---- the tracks that a file hasn't
+
+-- numbers in their order, each where it stands first
+abbrev pub once : List ℕ → List ℕ
+once [] = []
+once (n ∷ ns) = n ∷ filter (λ m. not (n == m)) (once ns)
+
+-- the numbers that targets name, each once, which a file of so many tracks hasn't
+abbrev pub absent : ℕ → List Target → List ℕ
+absent count targets = filter (λ n. nat_le count n) (once (map (λ (t : Target). t.id) targets))
+
+-- a target names a track that a file of so many tracks hasn't
+abbrev pub has_absent : ℕ → List Target → Bool
+has_absent count targets = list_any (λ (t : Target). nat_le count t.id) targets
+
+-- ---- the damages
+
+-- the number of the damages that aren't told one by one
+abbrev pub more_lines : List ℕ → ℕ → List (List ℕ)
+more_lines name more = if more == 0 then [] else more_damages_line name more ∷ []
+
+-- a warning for each of the first damages, and the number of the others
+abbrev pub damage_lines : List ℕ → ToldDamages → List (List ℕ)
+damage_lines name d = map (warning_line name) d.first ++ more_lines name d.more
+
+-- ---- the verdict
+
+-- all is done; a track that isn't there and a damage are warned of
+abbrev pub status_of : Bool → List Damage → Status
+status_of false [] = Done
+status_of false (d ∷ ds) = Warned
+status_of true damages = Warned
+
+-- the tracks that the file hasn't; the outputs, in the order of the words; and what is wrong with the file
+abbrev pub extracted : List ℕ → List Target → ℕ → List Output → List Damage → Verdict
+extracted name targets count outputs damages = record {
+  status = status_of (has_absent count targets) damages;
+  lines = map (no_track_line name) (absent count targets) ++ (map wrote_line (names_of outputs) ++ damage_lines name (told_damages damages));
+  outputs = at_once outputs;
+}
+
+-- what a job takes of a file with these tracks, and these blocks and damages
+abbrev pub taken_verdict : List ℕ → Job → List Track → List Event → Verdict
+taken_verdict name job tracks events =
+    extracted name (targets_of job) (length tracks) (outputs_of (job_outputs job (map entry_in tracks)) (blocks_of events)) (damages_of events)
+
+abbrev pub read_verdict : List ℕ → Job → List ℕ → Result FileRead Damage → Verdict
+read_verdict name job bytes (Err d) = refused (refusal_line name d)
+read_verdict name job bytes (Ok file) = taken_verdict name job file.records.tracks (file_events true bytes file.segment)
+
+-- what is told of a name, which may have no content
+abbrev pub name_verdict : List ℕ → Job → Option (List ℕ) → Verdict
+name_verdict name job None = refused (missing_line name)
+name_verdict name job (Some bytes) = read_verdict name job bytes (read_of job bytes)
+
+-- an output has the name of the file
+abbrev pub is_input : List ℕ → List Target → Bool
+is_input name targets = list_any (λ (t : Target). bytes_eq t.name name) targets
+
+-- what `extract` comes to in a world of names
+abbrev pub extract_verdict : (List ℕ → Option (List ℕ)) → List ℕ → Job → Verdict
+extract_verdict world name job = if is_input name (targets_of job) then refused (output_is_input_line name) else name_verdict name job (world name)

@@ -1,0 +1,4 @@
+pub mod End
+pub mod Extract
+pub mod Read
+pub mod Told

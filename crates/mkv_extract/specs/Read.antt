@@ -1,0 +1,55 @@
+-- What is read of a file before its blocks, for a job that takes something of its tracks.
+use Rattle.std.specs.Prelude.{◌≡◌, ⊤, ℕ, ◌+◌, ◌==◌, Bool, if◌then◌else◌, List, [], ◌∷◌, ◌++◌, Option, Result, Ok, Err}
+use Rattle.std.specs.List.{list_any}
+use Rattle.mkv_values.specs.declared.damage.Damage.{Damage}
+use Rattle.mkv_jobs.specs.declared.job.Job.{Job}
+use Rattle.mkv_jobs.specs.declared.job.Target.{Target}
+use Rattle.matroska_format.specs.declared.element.Header.{Header}
+use Rattle.matroska_format.specs.Outline.{Outlined, and_then, first_damage, outline_of, unless}
+use Rattle.element_reader.specs.declared.outline_end.OutlineEnd.{OutlineEnd}
+use Rattle.element_reader.specs.declared.outline_end.OutlineEnd.TheVariants as outline_end
+use Rattle.track_format.specs.Encoding.{usable_causes}
+use Rattle.track_records.specs.declared.track.Track.{Track}
+use Rattle.file_records.specs.Records.{file_records}
+use Rattle.file_records.specs.declared.records.Records.{Records}
+use Rattle.extract_model.specs.Job.{targets_of}
+use Rattle.extractors.specs.declared.source.Source.{Source}
+
+-- a target names the track of this number, from 0
+abbrev pub is_named : List Target → ℕ → Bool
+is_named targets k = list_any (λ (t : Target). t.id == k) targets
+
+-- what keeps the frames of a track of this number from being used, if a target names it
+abbrev pub causes_of : List Target → ℕ → Track → List (Option Damage)
+causes_of targets k t = if is_named targets k then usable_causes t.entry else []
+
+-- the same of tracks, in their order, of which the first has the number k
+abbrev pub causes_from : List Target → ℕ → List Track → List (Option Damage)
+causes_from targets k [] = []
+causes_from targets k (t ∷ ts) = causes_of targets k t ++ causes_from targets (k + 1) ts
+
+abbrev pub first_unusable : List Target → List Track → Option Damage
+first_unusable targets tracks = first_damage (causes_from targets 0 tracks)
+
+-- the Segment of a file and its records
+pub record FileRead : Type 0 where
+  pub segment : Header
+  pub records : Records
+
+-- what is read of a source
+abbrev pub read_in : Source → FileRead
+read_in s = record { segment = s.outline.segment; records = record { info = s.info; tracks = s.tracks } }
+
+-- what is read of a content, or the first thing that refuses it: its outline, its records, and then the tracks that are named
+abbrev pub read_of : Job → List ℕ → Result FileRead Damage
+read_of job bytes =
+    and_then (outline_of 0 bytes) (λ (o : Outlined).
+    and_then (file_records bytes o.segment) (λ (r : Records).
+    unless (first_unusable (targets_of job) r.tracks) (record { segment = o.segment; records = r })))
+
+-- A source was read so, or what refuses the file; a read may fail, and there may be no memory.
+abbrev pub ReadsSource : Result FileRead Damage → Result Source OutlineEnd → Type 0
+ReadsSource found (Ok s) = found ≡ Ok (read_in s)
+ReadsSource found (Err (outline_end.Refused d)) = found ≡ Err d
+ReadsSource found (Err outline_end.ReadFault) = ⊤
+ReadsSource found (Err outline_end.Memory) = ⊤

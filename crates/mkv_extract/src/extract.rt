@@ -1,0 +1,163 @@
+//! A file is opened, its tracks are taken out, and it is closed.
+
+ghost use Rattle.std.specs.Prelude.{◌≡◌, true, ℕ, IfOk, IsSome};
+ghost use Rattle.mkv_io.specs.Names.{AreApart, AreOthers};
+ghost use Rattle.mkv_io.specs.Sources.{IfTold, IsLive, live_files};
+ghost use Rattle.mkv_io.specs.Told.{Told};
+ghost use Rattle.extract_model.specs.Job.{names_of, taken_of, targets_of};
+ghost use Rattle.extractors.specs.Source.{AreUsable, IsSource, events_in};
+ghost use Rattle.mkv_lines.specs.Faults.{HasStopCause};
+ghost use Rattle.mkv_lines.specs.Line.{refusal_line};
+ghost use Rattle.mkv_lines.specs.Ordinary.{IsOrdinary};
+ghost use Rattle.mkv_lines.specs.Said.{HasSayCause};
+ghost use Rattle.mkv_lines.specs.Seen.{seen};
+ghost use Rattle.mkv_lines.specs.Verdict.{Reaches, SaysVerdict, refused};
+ghost use Rattle.mkv_extract.specs.End.{stop_of};
+ghost use Rattle.mkv_extract.specs.Extract.{extract_verdict, is_input, read_verdict, taken_verdict};
+ghost use Rattle.mkv_extract.specs.Read.{read_of};
+
+use crate::reading::read_source;
+use crate::telling::{say_absent, tell};
+use element_reader::OutlineEnd;
+use extractors::{Source, extract, targets_of};
+use mkv_io::{Files, Report};
+use mkv_jobs::{Job, RemuxEnd, Target};
+use mkv_lines::{Line, Status, Stop, say};
+use mkv_values::{Damage, FileId, OpenFault};
+use std::alloc::Global;
+
+/// Takes what a job asks for out of the file of a name, each target into a file of its own. The job takes something
+/// of tracks, and no two of its targets have one name.
+pub fn extract_of<F: Files, P: Report>(
+    alloc: Global,
+    name: &str,
+    job: &Job,
+    files: &mut F,
+    report: &mut P,
+) -> Result<Status, Stop>
+    requires takes { IsSome (taken_of job.now) }
+    requires apart { AreApart (names_of (targets_of job.now)) }
+    ensures verdict { Told (F.names files.old) (λ world. Reaches
+        (seen F.Reads F.writing_faults F.names P.Report files.old report.old)
+        (seen F.Reads F.writing_faults F.names P.Report files.new report.new)
+        result (extract_verdict world name.now job.now)) }
+    ensures ordinary { IfOk result IsOrdinary }
+    ensures live { (file : ℕ) → (live_files F.Reads files.new).live file ≡ (live_files F.Reads files.old).live file }
+    ensures cause { HasStopCause
+        (seen F.Reads F.writing_faults F.names P.Report files.old report.old).counts
+        (seen F.Reads F.writing_faults F.names P.Report files.new report.new).counts result }
+{
+    if is_input(name, targets_of(job)) {
+        say(alloc, report, &Line::OutputIsInput { name })?;
+        return Ok(Status::Refused);
+    }
+    let file = match files.open_file(name) {
+        Ok(file) => file,
+        Err(OpenFault::Missing) => {
+            say(alloc, report, &Line::Missing { name })?;
+            return Ok(Status::Refused);
+        }
+        Err(OpenFault::Failed) => return Err(Stop::Files),
+        Err(OpenFault::Memory) => return Err(Stop::Memory),
+    };
+    let ended = extract_file(alloc, name, job, files, file, report);
+    files.close(file);
+    ended
+}
+
+/// Whether an output has the name of the file.
+fn is_input(name: &str, targets: &[Target]) -> bool
+    ensures { result ≡ is_input name.now targets.now }
+{
+    targets.iter().any(|target| target.name.as_str() == name)
+}
+
+/// Takes what a job asks for out of a live file, unless something refuses it.
+fn extract_file<F: Files, P: Report>(
+    alloc: Global,
+    name: &str,
+    job: &Job,
+    files: &mut F,
+    file: FileId,
+    report: &mut P,
+) -> Result<Status, Stop>
+    requires takes { IsSome (taken_of job.now) }
+    requires apart { AreApart (names_of (targets_of job.now)) }
+    requires live { IsLive F.Reads files.old file }
+    requires other { AreOthers (F.holder files.old file.n) (names_of (targets_of job.now)) }
+    ensures verdict { IfTold F.Reads files.old file (λ bytes. Reaches
+        (seen F.Reads F.writing_faults F.names P.Report files.old report.old)
+        (seen F.Reads F.writing_faults F.names P.Report files.new report.new)
+        result (read_verdict name.now job.now bytes (read_of job.now bytes))) }
+    ensures ordinary { IfOk result IsOrdinary }
+    ensures live { (file : ℕ) → (live_files F.Reads files.new).live file ≡ (live_files F.Reads files.old).live file }
+    ensures cause { HasStopCause
+        (seen F.Reads F.writing_faults F.names P.Report files.old report.old).counts
+        (seen F.Reads F.writing_faults F.names P.Report files.new report.new).counts result }
+{
+    match read_source(alloc, job, files, file) {
+        Ok(source) => extract_source(alloc, name, job, &source, files, report),
+        Err(OutlineEnd::Refused(damage)) => refuse(alloc, name, damage, report),
+        Err(OutlineEnd::ReadFault) => Err(Stop::Files),
+        Err(OutlineEnd::Memory) => Err(Stop::Memory),
+    }
+}
+
+/// A file isn't taken.
+fn refuse<P: Report>(
+    alloc: Global,
+    name: &str,
+    damage: Damage,
+    report: &mut P,
+) -> Result<Status, Stop>
+    ensures verdict { SaysVerdict (P.lines report.old) (P.lines report.new) result (refused (refusal_line name.now damage)) }
+    ensures ordinary { IfOk result IsOrdinary }
+    ensures cause { HasSayCause (P.faults report.old) (P.faults report.new) result }
+{
+    say(alloc, report, &Line::Refused { name, damage })?;
+    Ok(Status::Refused)
+}
+
+/// Takes what a job asks for out of a source, and tells of it.
+fn extract_source<F: Files, P: Report>(
+    alloc: Global,
+    name: &str,
+    job: &Job,
+    source: &Source,
+    files: &mut F,
+    report: &mut P,
+) -> Result<Status, Stop>
+    requires takes { IsSome (taken_of job.now) }
+    requires apart { AreApart (names_of (targets_of job.now)) }
+    requires source { IsSource F.Reads files.old source.now }
+    requires usable { AreUsable source.now (targets_of job.now) }
+    requires other { AreOthers (F.holder files.old source.now.file.n) (names_of (targets_of job.now)) }
+    ensures verdict { IfTold F.Reads files.old source.now.file (λ bytes. Reaches
+        (seen F.Reads F.writing_faults F.names P.Report files.old report.old)
+        (seen F.Reads F.writing_faults F.names P.Report files.new report.new)
+        result (taken_verdict name.now job.now source.now.tracks (events_in source.now bytes))) }
+    ensures ordinary { IfOk result IsOrdinary }
+    ensures live { (file : ℕ) → (live_files F.Reads files.new).live file ≡ (live_files F.Reads files.old).live file }
+    ensures cause { HasStopCause
+        (seen F.Reads F.writing_faults F.names P.Report files.old report.old).counts
+        (seen F.Reads F.writing_faults F.names P.Report files.new report.new).counts result }
+{
+    let targets = targets_of(job);
+    let count = source.tracks.len() as u64;
+    say_absent(alloc, name, targets, count, report)?;
+    let damages = match extract(alloc, files, source, job) {
+        Ok(damages) => damages,
+        Err(end) => return Err(stop_of(end)),
+    };
+    tell(alloc, name, targets, count, &damages, report)
+}
+
+/// Why a command stops whose extraction ended early.
+fn stop_of(end: RemuxEnd) -> Stop
+    ensures { result ≡ stop_of end }
+{
+    match end {
+        RemuxEnd::ReadFault | RemuxEnd::WriteFault => Stop::Files,
+        RemuxEnd::Memory => Stop::Memory,
+    }
+}

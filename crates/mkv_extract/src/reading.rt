@@ -1,0 +1,89 @@
+//! What is read of a file before its blocks.
+
+ghost use Rattle.std.specs.Prelude.{◌≡◌, true, None, IfOk};
+ghost use Rattle.mkv_io.specs.Faults.{HasCause};
+ghost use Rattle.mkv_io.specs.Sources.{IfTold, IsLive};
+ghost use Rattle.element_reader.specs.Outline.{is_outline_fault};
+ghost use Rattle.file_records.specs.Records.{AreRead};
+ghost use Rattle.file_blocks.specs.File.{file_events};
+ghost use Rattle.extract_model.specs.Job.{targets_of};
+ghost use Rattle.extractors.specs.Source.{AreUsable, IsSource, events_in};
+ghost use Rattle.matroska_format.specs.Outline.{first_damage};
+ghost use Rattle.track_records.specs.Sound.{IsEntry};
+ghost use Rattle.mkv_extract.specs.Read.{ReadsSource, causes_of, first_unusable, is_named, read_of};
+
+use element_reader::{Outline, OutlineEnd};
+use extractors::{Source, targets_of};
+use file_records::read_records;
+use mkv_io::Reads;
+use mkv_jobs::{Job, Target};
+use mkv_values::{Damage, FileId};
+use std::alloc::Global;
+use track_records::{Track, usable};
+
+/// What is read of a live file before its blocks, or the first thing that refuses it: its outline, its records, and
+/// then the tracks that the job names, in their order.
+pub fn read_source<R: Reads>(
+    alloc: Global,
+    job: &Job,
+    src: &mut R,
+    file: FileId,
+) -> Result<Source, OutlineEnd>
+    requires { IsLive R.Reads src.old file }
+    ensures exact { IfTold R.Reads src.old file (λ bytes. ReadsSource (read_of job.now bytes) result) }
+    ensures source { IfOk result (IsSource R.Reads src.new) }
+    ensures usable { IfOk result (λ source. AreUsable source (targets_of job.now)) }
+    ensures file { IfOk result (λ source. source.file ≡ file) }
+
+    // A tick has as many nanoseconds as in the file's own blocks and damages.
+    ensures events { IfOk result (λ source. IfTold R.Reads src.old file (λ bytes.
+        events_in source bytes ≡ file_events true bytes source.outline.segment)) }
+    ensures standing { R.standing src.new ≡ R.standing src.old }
+    ensures cause { HasCause is_outline_fault (R.reading_faults src.old) (R.reading_faults src.new) result }
+{
+    let outline = Outline::read(alloc, src, file)?;
+    let records = read_records(alloc, &outline, src, file)?;
+    if let Some(damage) = first_unusable(targets_of(job), records.tracks.as_slice()) {
+        return Err(OutlineEnd::Refused(damage));
+    }
+    Ok(Source {
+        file,
+        outline,
+        info: records.info,
+        tracks: records.tracks,
+    })
+}
+
+/// Whether a target names the track of this number, from 0.
+pub fn is_named(targets: &[Target], k: u64) -> bool
+    ensures { result ≡ is_named targets.now k }
+{
+    targets.iter().any(|target| target.id == k)
+}
+
+/// What keeps the frames of a named track from being used: of the first such track.
+fn first_unusable(targets: &[Target], tracks: &[Track]) -> Option<Damage>
+    requires { AreRead tracks.now }
+    ensures { result ≡ first_unusable targets.now tracks.now }
+{
+    for (k, track) in tracks.iter().enumerate() {
+        if let Some(damage) = cause_of(targets, k as u64, track) {
+            return Some(damage);
+        }
+    }
+    None
+}
+
+/// What keeps the frames of the k-th track from being used, if a target names it.
+fn cause_of(targets: &[Target], k: u64, track: &Track) -> Option<Damage>
+    requires { IsEntry track.now.entry }
+    ensures { result ≡ first_damage (causes_of targets.now k track.now) }
+{
+    if !is_named(targets, k) {
+        return None;
+    }
+    match usable(track) {
+        Ok(_) => None,
+        Err(damage) => Some(damage),
+    }
+}
