@@ -318,13 +318,13 @@ const LINES: [&str; 4] = [
 
 #[test]
 fn a_call_of_the_files_that_fails_leaves_first_parts(rt: HostRuntime) -> Result<(), Fail> {
-    let mut stopped = 0;
+    let mut stopped = 0u32;
     for call in 0..32 {
         for kept in [0, 1, u64::MAX] {
             let (status, files, report) = run_failing(rt.alloc(), call, kept, u64::MAX)?;
             assert!(rt; files.bytes("s").is_none());
             if status == Status::Outside {
-                stopped += 1;
+                stopped = stopped.saturating_add(1);
                 assert!(rt; is_left(&files, TIMES, TIMES), "call {call}");
                 let said = usize::from(report.line(0) == Some(LINES[0]));
                 assert_eq!(rt; report.line(said), Some("fault: files"));
