@@ -6,7 +6,7 @@ use Rattle.mkv_io.specs.declared.reads.Reads.{Ghosts}
 use Rattle.matroska_format.specs.declared.element.Header.{Header}
 use Rattle.matroska_format.specs.Element.{Setting}
 use Rattle.matroska_format.specs.Placed.{StandsAt, IsWhole}
-use Rattle.element_window.specs.Window.{ReadAhead, nothing_at, HasRange, read_from, HasNotPassed, MovesTo, Spends}
+use Rattle.element_window.specs.Window.{ReadAhead, nothing_at, HasRange, read_from, wanted_at, HasNotPassed, MovesTo, Spends}
 
 -- An Element that was found at a place stands there, and is whole where it may not be open.
 pub record IsFound (s : Setting) (at end : ℕ) (h : Header) : Type 0 where
@@ -17,18 +17,18 @@ pub record IsFound (s : Setting) (at end : ℕ) (h : Header) : Type 0 where
 
 -- So many octets of a file of `size` octets, from a place on, are looked at through a window of `room`
 -- octets: it then holds them. What it held isn't read again; else it holds what was read from there on, as
--- many octets as it has room for, or up to the file's end.
+-- many octets as were wanted, or up to the file's end.
 pub record LooksAt (room size at len : ℕ) (old new : ReadAhead) (before now : ℕ) : Type 0 where
   pub range : HasRange new at len
   pub kept : HasRange old at len → (new ≡ old) × (now ≡ before)
-  pub read : (HasRange old at len → ⊥) → (new.at ≡ at) × (length new.octets ≡ read_from room size at)
-  pub cost : now ≤ before + read_from room size at
+  pub read : (HasRange old at len → ⊥) → (new.at ≡ at) × (length new.octets ≡ read_from (wanted_at room old at) size at)
+  pub cost : now ≤ before + read_from (wanted_at room old at) size at
 
 -- They couldn't be read: the window, which didn't hold them, stands there and holds nothing.
 pub record Misses (room size at len : ℕ) (old new : ReadAhead) (before now : ℕ) : Type 0 where
   pub held_less : HasRange old at len → ⊥
   pub nothing : new ≡ nothing_at at
-  pub cost : now ≤ before + read_from room size at
+  pub cost : now ≤ before + read_from (wanted_at room old at) size at
 
 -- the one or the other, by the answer
 abbrev pub Looks : {S T E : Type 0} → Ghosts S → FileId → ℕ → ℕ → ℕ → ReadAhead → ReadAhead → S → S → Result T E → Type 0

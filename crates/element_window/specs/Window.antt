@@ -1,7 +1,8 @@
 -- What a window holds of a file.
-use Rattle.std.specs.Prelude.{◌≡◌, ℕ, ◌+◌, ◌*◌, ◌-◌, ◌≤◌, ◌==◌, min, List, [], length, if◌then◌else◌}
+use Rattle.std.specs.Prelude.{◌≡◌, ℕ, ◌+◌, ◌*◌, ◌-◌, ◌≤◌, ◌==◌, min, nat_lt, List, [], length, if◌then◌else◌}
 use Rattle.mkv_io.specs.Contents.{octets_from}
 use Rattle.matroska_format.specs.declared.limits.TheConstants.{LONGEST_HEADER}
+use Rattle.element_window.specs.declared.TheConstants.{LITTLE}
 
 -- octets, and the place of the first of them
 pub record ReadAhead : Type 0 where
@@ -35,9 +36,14 @@ pub record HasRange (w : ReadAhead) (at len : ℕ) : Type 0 where
 abbrev pub header_room : ℕ → ℕ → ℕ
 header_room at end = min (end - at) LONGEST_HEADER
 
--- how many octets are read at once from a place of a file of `size` octets, where there is room for so many
+-- How many octets a window of so much room is to read from a place on: few where it jumps over more than its room, as
+-- over the body of a Cluster, behind which one header may be all that is looked at; else as many as it has room for.
+abbrev pub wanted_at : ℕ → ReadAhead → ℕ → ℕ
+wanted_at room w at = if nat_lt (end_ahead w + room) at then min room LITTLE else room
+
+-- how many octets are read at once from a place of a file of `size` octets, where so many are wanted
 abbrev pub read_from : ℕ → ℕ → ℕ → ℕ
-read_from room size at = min room (size - at)
+read_from wanted size at = min wanted (size - at)
 
 -- The window begins at this place or before it, and ends with a file of `size` octets or before.
 pub record HasNotPassed (w : ReadAhead) (at size : ℕ) : Type 0 where

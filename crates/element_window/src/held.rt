@@ -7,8 +7,9 @@ ghost use Rattle.mkv_io.specs.Sources.{IfTold, IsLive, OnlyReads, file_size};
 ghost use Rattle.matroska_format.specs.Element.{element_at};
 ghost use Rattle.element_headers.specs.Parent.{setting_of};
 ghost use Rattle.element_window.specs.Looks.{IsFound};
-ghost use Rattle.element_window.specs.Window.{HasRange, header_room, read_from};
+ghost use Rattle.element_window.specs.Window.{HasRange, header_room, read_from, wanted_at};
 
+use crate::LITTLE;
 use element_headers::{Header, LONGEST_HEADER, Parent, read_header};
 use mkv_io::Reads;
 use mkv_values::{Damage, Failed, FileId};
@@ -45,6 +46,19 @@ impl Held {
         &buffer[start..start + len]
     }
 
+    // How many octets are to be read from a place on, where there is room for so many.
+    fn wanted_at(self, room: usize, at: u64, buffer: &[u8]) -> usize
+        requires { self.len ≤ length buffer.now }
+        ensures { result ≡ wanted_at room (held_in self buffer.now) at }
+    {
+        let jump = at.saturating_sub(self.at).saturating_sub(self.len as u64);
+        if jump > room as u64 {
+            room.min(LITTLE)
+        } else {
+            room
+        }
+    }
+
     /// Makes a buffer hold so many octets from `at` octets behind the file's start on.
     pub fn hold<R: Reads>(
         &mut self,
@@ -56,6 +70,7 @@ impl Held {
     ) -> Result<(), Failed>
         requires live { IsLive R.Reads src.old file }
         requires few { 2 * len ≤ length buffer.old }
+        requires little { 2 * len ≤ LITTLE }
         requires range { at + len ≤ file_size R.Reads src.old file }
         requires holds { HoldsIn R.Reads file src.old self.old buffer.old }
         ensures looks { LooksIn R.Reads file at len self.old buffer.old self.new buffer.new src.old src.new result }
@@ -67,8 +82,9 @@ impl Held {
         if self.has(at, len, buffer) {
             return Ok(());
         }
+        let wanted = self.wanted_at(buffer.len(), at, buffer);
         *self = Held { at, len: 0 };
-        self.len = read_ahead(src, file, at, buffer)?;
+        self.len = read_ahead(src, file, at, &mut buffer[..wanted])?;
         Ok(())
     }
 

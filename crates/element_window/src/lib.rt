@@ -11,3 +11,6 @@ mod window;
 pub use lookahead::Lookahead;
 pub use small_window::SmallWindow;
 pub use window::Window;
+
+/// How many octets are read at once where a few headers are looked at.
+pub(crate) const LITTLE: usize = 1024;

@@ -3,6 +3,7 @@
 ghost use Rattle.std.specs.Prelude.{◌≡◌};
 ghost use Rattle.element_window.specs.Window.{nothing_at};
 
+use crate::LITTLE;
 use crate::held::Held;
 use crate::lookahead::Lookahead;
 use element_headers::{Header, Parent};
@@ -10,13 +11,10 @@ use mkv_io::Reads;
 use mkv_values::{Damage, Failed, FileId};
 use std::marker::Model;
 
-/// How many octets are read at once.
-const SMALL: usize = 1024;
-
 /// Octets of one file, read at once from a place on, as many as a few headers have.
 #[derive(Drop)]
 pub struct SmallWindow {
-    buffer: [u8; SMALL],
+    buffer: [u8; LITTLE],
     held: Held,
 }
 
@@ -24,13 +22,13 @@ impl Model for SmallWindow {
     ghost use Rattle.std.specs.Prelude.{◌≤◌};
     ghost use Rattle.element_window.specs.Window.{ReadAhead};
     ghost use Rattle.element_window.specs.Held.{held_in};
-    ghost use Rattle.element_window.specs.declared.small_window.TheConstants.{SMALL};
+    ghost use Rattle.element_window.specs.declared.TheConstants.{LITTLE};
 
     ghost Value = { ReadAhead };
 
     ghost view = { λ w. held_in w.held w.buffer };
 
-    ghost invariant = { λ w. w.held.len ≤ SMALL };
+    ghost invariant = { λ w. w.held.len ≤ LITTLE };
 }
 
 impl SmallWindow {
@@ -39,7 +37,7 @@ impl SmallWindow {
         ensures { result ≡ nothing_at 0 }
     {
         SmallWindow {
-            buffer: [0; SMALL],
+            buffer: [0; LITTLE],
             held: Held { at: 0, len: 0 },
         }
     }
@@ -53,11 +51,11 @@ impl SmallWindow {
 }
 
 impl Lookahead for SmallWindow {
-    ghost use Rattle.element_window.specs.declared.small_window.TheConstants.{SMALL};
+    ghost use Rattle.element_window.specs.declared.TheConstants.{LITTLE};
 
     ghost ahead = { λ w. w };
 
-    ghost room = { SMALL };
+    ghost room = { LITTLE };
 
     fn element<R: Reads>(
         &mut self,
