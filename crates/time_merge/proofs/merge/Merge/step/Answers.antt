@@ -1,4 +1,4 @@
-use Rattle.std.proofs.Common.{◌≤◌, ◌<◌, List, length, map, refl, sym, ◌∙◌, ap, subst, arith, set}
+use Rattle.std.proofs.Common.{◌≤◌, ◌<◌, List, length, map, refl, sym, ◌∙◌, ap, subst, arith, rules, set}
 use Rattle.std.proofs.Math.Seq.{map-set_same}
 use Rattle.std.proofs.lemmas.List.Elements.{All-set, All-get_or}
 use Rattle.std.proofs.lemmas.Option.{slice_get_read}
@@ -10,7 +10,7 @@ use Rattle.time_merge.specs.Merge.{AreTold, left_of, way_of}
 use Rattle.time_merge.specs.Queues.{lane_kept, order_of}
 use Rattle.time_merge.specs.declared.queue.Head.TheVariants.{Due}
 use Rattle.time_merge.specs.declared.queue.Queue.{Queue}
-use Rattle.time_merge.proofs.QueueLemmas.{left-step, left-end, least-inside, lends-first, set-here, way-step}
+use Rattle.time_merge.proofs.QueueLemmas.{all-ended, left-step, left-end, least-inside, lends-first, set-here, way-step}
 use Rattle.time_merge.proofs.merge.Merge.step.Goals as goal
 
 pub returns-in_default-clause-gives : goal.returns-in_default-clause-gives
@@ -20,6 +20,19 @@ returns-in_default-clause-gives g c = λ told.
     let empty = subst (λ (qs : List Queue). HasNoHead (map order_of qs)) c.as_slice.ensures.value c.in_default.ensures in
     let none = left-end f c.fill.new.queues.items c.in_ok-fill.ensures.stay.queues c.in_ok-fill.ensures.filled.known empty in
     (ap (λ m. left_of f m.queues) (sym c.self.view_is) ∙ sym same ∙ none, none)
+
+pub returns-in_default-clause-moves : goal.returns-in_default-clause-moves
+returns-in_default-clause-moves g c =
+    let qs = c.fill.new.queues.items in
+    let empty = subst (λ (each : List Queue). HasNoHead (map order_of each)) c.as_slice.ensures.value c.in_default.ensures in
+    record {
+      keeps = c.in_ok-fill.ensures.stay.keeps ∙ ap (λ m. map lane_kept m.queues) c.self.view_is;
+      given = search rules;
+      steps = record {
+        on = subst (λ m. way_of qs ≤ way_of m.queues) c.self.view_is c.in_ok-fill.ensures.filled.on;
+        ended = all-ended qs c.in_ok-fill.ensures.stay.queues c.in_ok-fill.ensures.filled.known empty;
+      };
+    }
 
 pub index_mut-requires : goal.index_mut-requires
 index_mut-requires g c =
