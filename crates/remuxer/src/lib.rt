@@ -1,0 +1,5 @@
+#![tactic(auto)]
+
+//! Merges: the blocks of all lanes, in their order, as one whole output.
+
+mod writer;
