@@ -1,6 +1,8 @@
 -- An output that takes the blocks of a merge: a block is read, and then something is written.
-use Rattle.std.proofs.Common.{◌≡◌, ◌≤◌, ℕ, ◌+◌, ◌-◌, ◌*◌, Bool, List, [], ◌∷◌, length, min, Option, Some, Result, Ok, Err, OnOk, refl, sym, ◌∙◌, ap, subst, arith, option_map}
-use Rattle.std.specs.List.{slice_get}
+use Rattle.std.proofs.Common.{◌≡◌, ◌≤◌, ℕ, ◌+◌, ◌-◌, ◌*◌, Bool, List, [], ◌∷◌, length, min, Option, Some, Result, Ok, Err, OnOk, refl, sym, ◌∙◌, ap, subst, arith, map, ap₂, ◌++◌, take, drop, append-nil}
+use Rattle.std.proofs.lemmas.List.{drop_all, take_all}
+use Rattle.std.specs.List.{All}
+use Rattle.std.proofs.lemmas.List.Elements.{All-head, All-tail}
 use Rattle.mkv_values.specs.declared.outside.FileId.{FileId}
 use Rattle.mkv_io.specs.Faults.{counted}
 use Rattle.mkv_io.specs.LiveFiles.{LiveFiles}
@@ -21,14 +23,19 @@ use Rattle.cluster_runs.specs.Cued.{is_cue}
 use Rattle.cluster_runs.specs.Stands.{Adds, Ends, Stands}
 use Rattle.cluster_runs.proofs.StandsLemmas.{stands-drafted}
 use Rattle.cluster_runs.specs.declared.rule.CueRule.{CueRule}
+use Rattle.cluster_reader.specs.ToldDamages.{ToldDamages}
 use Rattle.lanes.specs.Lane.{LaneSeen}
+use Rattle.lanes.specs.Lane as lanes
+use Rattle.lanes.specs.Told.{with_all}
+use Rattle.merge_model.specs.Lanes.{lane_damages}
+use Rattle.lanes.specs.Walks.{links_left}
 use Rattle.time_merge.specs.Laws.{IsApart, IsApartLink, StandsAmong}
-use Rattle.time_merge.specs.Merge.{GivesBlock, IsReady, IsTold, KeepsMerge, MergeSeen, due, files_length, left}
+use Rattle.time_merge.specs.Merge.{IsEnded, IsReady, IsTold, MergeSeen, damages, damages_of, due, files_length, left}
 use Rattle.time_merge.specs.Queues.{KeepsQueues}
 use Rattle.time_merge.specs.declared.queue.Queue.{Queue}
 use Rattle.time_merge.proofs.KeptLemmas.{apart-kept, keeps-merge, stands-kept}
-use Rattle.time_merge.proofs.QueueLemmas.{apart-same, count-kept, length-same, told-kept}
-use Rattle.remuxer.specs.Taking.{CanTake, GoesOn, GoesOnTold, HasNone, StaysDraft, StaysOnTheWay, TakesAll, TakesNext}
+use Rattle.time_merge.proofs.QueueLemmas.{apart-same, count-kept, length-same}
+use Rattle.remuxer.specs.Taking.{CanTake, GoesOn, GoesOnTold, HasGivenAll, HasNone, StaysDraft, StaysOnTheWay, TakesAll, TakesNext, told_by}
 use Rattle.remuxer.specs.declared.writer.BlockWriter.{BlockWriter}
 
 -- ---- files that were only read
@@ -128,15 +135,16 @@ module _ {S : Type 0} (r : Ghosts S) (f : writing.Ghosts S) (rules : List CueRul
 
   -- the merge goes on
   pub turn-goes : r.octets_read c ≡ r.octets_read b → r.octets_read b + due (live_files r a) m' ≤ r.octets_read a + due (live_files r a) m
-      → (IsTold (live_files r a) m → counted m'.given (length (left (live_files r a) m')) ≡ counted m.given (length (left (live_files r a) m))) → GoesOn r a c m m'
-  turn-goes octets paid given = record {
+      → (IsTold (live_files r a) m → GoesOnTold (live_files r a) (live_files r a) m m') → GoesOn r a c m m'
+  turn-goes octets paid gives = record {
     lanes = lanes;
     ready = turn-stands.ready;
     length = turn-stands.length ∙ ap (λ s. files_length s m') same ∙ length-same (live_files r a) m.queues m'.queues lanes;
     paid = let owed : due (live_files r c) m' ≡ due (live_files r a) m' = turn-stands.due ∙ ap (λ s. due s m') same in omega arith;
     told = λ told. record {
-      told = turn-stands.told (let P : LiveFiles → Type 0 = λ s. IsTold s m' in subst P (sym same) (told-kept (live_files r a) m.queues m'.queues lanes told));
-      given = ap (λ bs. counted m'.given (length bs)) turn-left ∙ given told;
+      told = turn-stands.told (let P : LiveFiles → Type 0 = λ s. IsTold s m' in subst P (sym same) (gives told).told);
+      given = ap (λ bs. counted m'.given (length bs)) turn-left ∙ (gives told).given;
+      damages = turn-stands.damages ∙ ap (λ s. damages s m') same ∙ (gives told).damages;
     };
   }
 
@@ -192,7 +200,29 @@ pub ends-all : {S T : Type 0} (r : Ghosts S) (f : writing.Ghosts S) (rules : Lis
     → Ends r f b c v.out w'.out v.buffer result → TakesAll r f rules a c w w' m result
 ends-all r f rules a b c w v w' m m' (Ok done) takes none ends = λ told before name d cues stands.
     let P : List OutputBlock → Type 0 = λ bs. Stands r f before name rules d b v.out v.buffer bs in
-    ends before name rules d (subst P (none told) (takes told before name d stands)) cues
+    ends before name rules d (subst P (none.left told) (takes told before name d stands)) cues
 ends-all r f rules a b c w v w' m m' (Err end) takes none ends = λ told before name d stands.
     let P : List OutputBlock → Type 0 = λ bs. Stands r f before name rules d b v.out v.buffer bs in
-    ends before name rules d (subst P (none told) (takes told before name d stands))
+    ends before name rules d (subst P (none.left told) (takes told before name d stands))
+
+-- ---- all lanes have ended
+
+-- one lane has told all its damages
+lane-told : (f : LiveFiles) (l : LaneSeen) → lanes.IsReady f l → lanes.IsEnded l → lanes.told_in_all f l ≡ l.walk.told.items
+lane-told f l ready ended =
+    let told = l.walk.told.items in
+    let past : length told ≤ l.walk.at = omega (arith, ready.told, ended) in
+    ap (λ ts. take l.walk.at told ++ with_all ts (lane_damages (links_left f l.links l.walk))) (drop_all l.walk.at told past) ∙ append-nil (take l.walk.at told) ∙ take_all l.walk.at told past
+
+ended-told : (f : LiveFiles) (qs : List Queue) → All (λ (q : Queue). lanes.IsReady f q.lane) qs → All (λ (q : Queue). lanes.IsEnded q.lane) qs → map (λ (q : Queue). q.lane.walk.told.items) qs ≡ damages_of f qs
+ended-told f [] ready ended = refl
+ended-told f (q ∷ qs) ready ended =
+    let here = All-head (λ (each : Queue). lanes.IsReady f each.lane) q qs ready in
+    ap₂ (λ (d : List ToldDamages) ds. d ∷ ds) (sym (lane-told f q.lane here (All-head (λ (each : Queue). lanes.IsEnded each.lane) q qs ended)))
+    (ended-told f qs (All-tail (λ (each : Queue). lanes.IsReady f each.lane) q qs ready) (All-tail (λ (each : Queue). lanes.IsEnded each.lane) q qs ended))
+
+pub given-all : {S : Type 0} (r : Ghosts S) (a b : S) (m m' : MergeSeen) → GoesOn r a b m m' → HasNone r a b m m' → IsTold (live_files r a) m → HasGivenAll (live_files r a) m m'
+given-all r a b m m' goes none told = record {
+  given = ap (λ bs. counted m'.given (length bs)) (sym (none.left told)) ∙ (goes.told told).given;
+  damages = ended-told (live_files r b) m'.queues goes.ready none.ended ∙ (goes.told told).damages;
+}

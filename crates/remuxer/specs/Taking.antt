@@ -1,5 +1,5 @@
 -- An output that takes the blocks of a merge, and what a call makes of both.
-use Rattle.std.specs.Prelude.{◌≡◌, ◌<◌, ◌≤◌, ⊤, ℕ, ◌+◌, ◌*◌, Bool, true, false, List, [], ◌∷◌, length, Result, Ok, Err, OnOk}
+use Rattle.std.specs.Prelude.{◌≡◌, ◌<◌, ◌≤◌, ⊤, ℕ, ◌+◌, ◌*◌, Bool, true, false, List, [], ◌∷◌, length, map, Result, Ok, Err, OnOk}
 use Rattle.mkv_io.specs.Faults.{counted}
 use Rattle.mkv_io.specs.LiveFiles.{LiveFiles}
 use Rattle.mkv_io.specs.Names.{Names}
@@ -16,11 +16,13 @@ use Rattle.cues_seekhead.specs.Draft.{StandsDrafted, draft_of}
 use Rattle.cluster_runs.specs.Cued.{is_cue}
 use Rattle.cluster_runs.specs.Stands.{HasAll, Stands}
 use Rattle.cluster_runs.specs.declared.rule.CueRule.{CueRule}
+use Rattle.cluster_reader.specs.ToldDamages.{ToldDamages}
 use Rattle.merge_model.specs.Merged.{in_lane}
 use Rattle.lanes.specs.Lane.{LaneSeen, lent}
 use Rattle.time_merge.specs.Laws.{IsApart}
-use Rattle.time_merge.specs.Merge.{IsReady, IsTold, MergeSeen, due, files_length, left, way}
+use Rattle.time_merge.specs.Merge.{IsEnded, IsReady, IsTold, MergeSeen, damages, due, files_length, left, way}
 use Rattle.time_merge.specs.Queues.{KeepsQueues}
+use Rattle.time_merge.specs.declared.queue.Queue.{Queue}
 use Rattle.remuxer.specs.declared.writer.BlockWriter.{BlockWriter}
 
 -- An output can take the blocks of a merge: its file is open; the merge has at most 64 lanes, and may go on; and no file
@@ -77,10 +79,12 @@ TakesAll r f rules old new w w' m (Err _) = IsTold (live_files r old) m → Stay
 
 -- ---- the merge
 
--- The links' files are told still, and as many blocks as before have been given or are left.
+-- The links' files are told still; as many blocks as before have been given or are left; and the same damages will
+-- have been told in the end.
 pub record GoesOnTold (f h : LiveFiles) (m m' : MergeSeen) : Type 0 where
   pub told : IsTold h m'
   pub given : counted m'.given (length (left h m')) ≡ counted m.given (length (left f m))
+  pub damages : damages h m' ≡ damages f m
 
 -- Its lanes have the same links, and it may go on among the new files. What was read is taken from what may be read.
 pub record GoesOn {S : Type 0} (r : Ghosts S) (old new : S) (m m' : MergeSeen) : Type 0 where
@@ -95,9 +99,10 @@ abbrev pub Goes : {S T : Type 0} → Ghosts S → S → S → MergeSeen → Merg
 Goes r old new m m' (Ok _) = GoesOn r old new m m'
 Goes r old new m m' (Err _) = r.octets_read new ≤ r.octets_read old + due (live_files r old) m + 2 * files_length (live_files r old) m
 
--- It has no block left.
-abbrev pub HasNone : {S : Type 0} → Ghosts S → S → S → MergeSeen → MergeSeen → Type 0
-HasNone r old new m m' = IsTold (live_files r old) m → left (live_files r new) m' ≡ []
+-- All its lanes have ended, and it has no block left.
+pub record HasNone {S : Type 0} (r : Ghosts S) (old new : S) (m m' : MergeSeen) : Type 0 where
+  pub ended : IsEnded m'
+  pub left : IsTold (live_files r old) m → left (live_files r new) m' ≡ []
 
 -- Where there was a block, fewer are left; else none is.
 abbrev pub Finds : {S : Type 0} → Ghosts S → S → S → MergeSeen → MergeSeen → Result Bool RemuxEnd → Type 0
@@ -105,6 +110,11 @@ Finds r old new m m' (Ok true) = way m' < way m
 Finds r old new m m' (Ok false) = HasNone r old new m m'
 Finds r old new m m' (Err _) = ⊤
 
--- All blocks that it had left were given.
+-- the damages that were told of each link of each lane
+abbrev pub told_by : MergeSeen → List (List ToldDamages)
+told_by m = map (λ (q : Queue). q.lane.walk.told.items) m.queues
+
+-- All blocks that it had left were given, and all damages were told.
 pub record HasGivenAll (f : LiveFiles) (m m' : MergeSeen) : Type 0 where
   pub given : counted m'.given 0 ≡ counted m.given (length (left f m))
+  pub damages : told_by m' ≡ damages f m

@@ -2,4 +2,5 @@
 
 //! Merges: the blocks of all lanes, in their order, as one whole output.
 
+mod output;
 mod writer;

@@ -5,7 +5,7 @@ use Rattle.mkv_io.specs.Sources.{live_files}
 use Rattle.mkv_io.proofs.WritingLemmas.{KeepsOthers-none}
 use Rattle.lanes.specs.Lane.{LaneSeen}
 use Rattle.time_merge.specs.Merge.{left}
-use Rattle.time_merge.proofs.QueueLemmas.{count-kept, same-lane}
+use Rattle.time_merge.proofs.QueueLemmas.{count-kept, same-lane, told-kept}
 use Rattle.remuxer.specs.Taking.{block_lent}
 use Rattle.remuxer.proofs.TakingLemmas.{given-next, given-none, only-read, read-drafted, turn-drafted, turn-goes, turn-keeps, turn-takes}
 use Rattle.remuxer.proofs.writer.BlockWriter.add_next.Goals as goal
@@ -23,7 +23,14 @@ returns-in_default-clause-goes g c =
     let read = only-read g.F.Reads g.F.Files c.args.files.now c.step.new.src c.in_ok-k.ensures.standing g.met.F.Files.names_stand g.met.F.Files.holders_stand g.met.F.Files.given_stands in
     turn-goes g.F.Reads g.F.Files c.args.rules.now c.args.files.now c.step.new.src c.step.new.src c.args.self.now c.args.self.now c.args.merge.now c.step.new.self
     read c.requires c.in_ok-k.ensures.moves.keeps c.in_ok-k.ensures.ready (KeepsOthers-none g.F.Reads g.F.Files _ c.step.new.src) refl c.in_ok-k.ensures.pays
-    (λ told. let gives = rw c.in_default.is at (c.in_ok-k.ensures.gives told).blocks in let given = rw c.in_default.is at c.in_ok-k.ensures.moves.given in given-none c.args.merge.now.given c.step.new.self.given _ _ given gives.0 gives.1)
+    (λ told.
+    let gives = rw c.in_default.is at (c.in_ok-k.ensures.gives told).blocks in
+    let given = rw c.in_default.is at c.in_ok-k.ensures.moves.given in
+    record {
+      told = told-kept (live_files g.F.Reads c.args.files.now) c.args.merge.now.queues c.step.new.self.queues c.in_ok-k.ensures.moves.keeps told;
+      given = given-none c.args.merge.now.given c.step.new.self.given _ _ given gives.0 gives.1;
+      damages = (c.in_ok-k.ensures.gives told).damages;
+    })
 
 pub lane-requires : goal.lane-requires
 lane-requires g c = let steps = rw c.in-Some.is at c.in_ok-k.ensures.moves.steps in slice_get_within c.step.new.self.queues c.in-Some.k steps.queue steps.here
@@ -84,4 +91,8 @@ returns-clause-goes g c =
     (λ told.
     let gives = rw c.in-Some.is at (c.in_ok-k.ensures.gives told).blocks in
     let given = rw c.in-Some.is at c.in_ok-k.ensures.moves.given in
-    given-next c.args.merge.now.given c.step.new.self.given _ _ _ given gives.gives)
+    record {
+      told = told-kept (live_files g.F.Reads c.args.files.now) c.args.merge.now.queues c.step.new.self.queues c.in_ok-k.ensures.moves.keeps told;
+      given = given-next c.args.merge.now.given c.step.new.self.given _ _ _ given gives.gives;
+      damages = (c.in_ok-k.ensures.gives told).damages;
+    })
