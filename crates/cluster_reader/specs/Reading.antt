@@ -109,9 +109,9 @@ pub record Moves (old new : Reading) (result : Result Step ReadEnd) : Type 0 whe
   pub inside : new.place.at ≤ new.place.end
   pub lends : IfOk result (λ step. LendsFor step new.block)
 
--- What is held has been read as far as one read goes: nothing, or up to the file's end, or 65,536 octets.
+-- What is held has been read as far as one read goes: nothing, or up to the file's end, or 1,024 octets at least.
 abbrev pub IsFull : ℕ → ReadAhead → Type 0
-IsFull size w = (w.octets ≡ []) ⊎ (end_ahead w ≡ size) ⊎ (65536 ≤ length w.octets)
+IsFull size w = (w.octets ≡ []) ⊎ (end_ahead w ≡ size) ⊎ (1024 ≤ length w.octets)
 
 -- The place is in a live file; what is held is this file's, not behind the place, and as much as one read takes.
 pub record CanRead (files : LiveFiles) (c : Reading) : Type 0 where

@@ -3,9 +3,9 @@ use Rattle.std.specs.Prelude.{ℕ, ◌++◌, List, codes}
 use Rattle.std.specs.Fmt.{decimal}
 use Rattle.mkv_values.specs.declared.damage.Damage.{Damage}
 use Rattle.matroska_format.specs.declared.element.Header.{Header}
-use Rattle.mkv_lines.specs.Shown.{damage_text, level_0_name, level_1_name, place_text, shown_text, track_text}
+use Rattle.mkv_lines.specs.Shown.{damage_text, id_text, level_0_name, level_1_name, place_text, shown_text, track_text}
 use Rattle.mkv_lines.specs.declared.line.Line.{Line}
-use Rattle.mkv_lines.specs.declared.line.Line.TheVariants.{Level0, Level1, Track, Refused, Warned, MoreDamages, NoTrack, Missing, OutputIsInput, Wrote, Word, FilesFault}
+use Rattle.mkv_lines.specs.declared.line.Line.TheVariants.{Level0, Level1, Track, Refused, Warned, MoreDamages, NoTrack, Missing, OutputIsInput, NotTaken, NoLane, TooManyLanes, NotWebm, TooLarge, Wrote, WroteBlocks, Word, FilesFault}
 
 -- an Element at the top of a file
 abbrev pub level_0_line : Header → List ℕ
@@ -39,9 +39,32 @@ missing_line name = codes "error: " ++ (shown_text name ++ codes ": Missing")
 abbrev pub output_is_input_line : List ℕ → List ℕ
 output_is_input_line name = codes "error: " ++ (shown_text name ++ codes ": OutputIsInput")
 
+-- a file that has an Element which isn't taken over yet, and isn't left out
+abbrev pub not_taken_line : List ℕ → ℕ → List ℕ
+not_taken_line name id = codes "error: " ++ (shown_text name ++ (codes ": NotBuilt, element " ++ id_text id))
+
+-- an output that would have no lane, or too many
+abbrev pub no_lane_line : List ℕ
+no_lane_line = codes "error: NoLane"
+
+abbrev pub too_many_lanes_line : List ℕ
+too_many_lanes_line = codes "error: TooManyLanes"
+
+-- a codec that WebM doesn't have
+abbrev pub not_webm_line : List ℕ → List ℕ
+not_webm_line codec = codes "error: NotWebm, " ++ shown_text codec
+
+-- an output of which an Element would be too large
+abbrev pub too_large_line : List ℕ → ℕ → List ℕ
+too_large_line name id = codes "error: " ++ (shown_text name ++ (codes ": HeaderTooLarge, element " ++ id_text id))
+
 -- an output that stands whole
 abbrev pub wrote_line : List ℕ → List ℕ
 wrote_line name = codes "wrote " ++ shown_text name
+
+-- the same with the number of its blocks
+abbrev pub wrote_blocks_line : List ℕ → ℕ → List ℕ
+wrote_blocks_line name blocks = wrote_line name ++ (codes ": " ++ (decimal blocks ++ codes " blocks"))
 
 -- words that aren't obeyed, from this one on
 abbrev pub word_line : ℕ → List ℕ → List ℕ
@@ -66,6 +89,12 @@ text_of (MoreDamages name more) = more_damages_line name.now more
 text_of (NoTrack name number) = no_track_line name.now number
 text_of (Missing name) = missing_line name.now
 text_of (OutputIsInput name) = output_is_input_line name.now
+text_of (NotTaken name id) = not_taken_line name.now id
+text_of NoLane = no_lane_line
+text_of TooManyLanes = too_many_lanes_line
+text_of (NotWebm codec) = not_webm_line codec.now
+text_of (TooLarge name id) = too_large_line name.now id
 text_of (Wrote name) = wrote_line name.now
+text_of (WroteBlocks name blocks) = wrote_blocks_line name.now blocks
 text_of (Word word why) = word_line word why.now
 text_of FilesFault = files_fault_line

@@ -27,8 +27,20 @@ pub enum Line<'a> {
     Missing { name: &'a str },
     /// An output has the name of the file that it would be made of.
     OutputIsInput { name: &'a str },
+    /// A file has an Element of this ID, which isn't taken over yet, and which the words don't leave out.
+    NotTaken { name: &'a str, id: u32 },
+    /// No track is taken.
+    NoLane,
+    /// More tracks are taken than an output may have.
+    TooManyLanes,
+    /// A track is taken whose codec WebM doesn't have.
+    NotWebm { codec: &'a str },
+    /// The Element of this ID of an output would be too large.
+    TooLarge { name: &'a str, id: u32 },
     /// An output stands whole under its name.
     Wrote { name: &'a str },
+    /// The same, with the number of its blocks.
+    WroteBlocks { name: &'a str, blocks: u64 },
     /// The words aren't obeyed, from this one on, counted from 0.
     Word { word: usize, why: &'a str },
     /// The files failed.
@@ -76,9 +88,27 @@ impl fmt::Display for Line<'_> {
                 let name = ShownText(name);
                 write!(f, "error: {name}: OutputIsInput")
             }
+            Line::NotTaken { name, id } => {
+                let name = ShownText(name);
+                write!(f, "error: {name}: NotBuilt, element {id:X}")
+            }
+            Line::NoLane => f.write_str("error: NoLane"),
+            Line::TooManyLanes => f.write_str("error: TooManyLanes"),
+            Line::NotWebm { codec } => {
+                let codec = ShownText(codec);
+                write!(f, "error: NotWebm, {codec}")
+            }
+            Line::TooLarge { name, id } => {
+                let name = ShownText(name);
+                write!(f, "error: {name}: HeaderTooLarge, element {id:X}")
+            }
             Line::Wrote { name } => {
                 let name = ShownText(name);
                 write!(f, "wrote {name}")
+            }
+            Line::WroteBlocks { name, blocks } => {
+                let name = ShownText(name);
+                write!(f, "wrote {name}: {blocks} blocks")
             }
             Line::Word { word, why } => write!(f, "error: word {word}: {why}"),
             Line::FilesFault => f.write_str("fault: files"),

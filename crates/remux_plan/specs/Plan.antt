@@ -1,0 +1,29 @@
+-- The output that a plan comes to.
+use Rattle.std.specs.Prelude.{List, map}
+use Rattle.mkv_io.specs.LiveFiles.{LiveFiles}
+use Rattle.output_model.specs.OutputBlock.{OutputBlock}
+use Rattle.output_model.specs.Document.{Document}
+use Rattle.segment_octets.specs.Front.{front_with}
+use Rattle.merge_model.specs.Merged.{merged}
+use Rattle.lane_blocks.specs.declared.link.Link.{Link}
+use Rattle.cluster_runs.specs.Cued.{document_of}
+use Rattle.cluster_runs.specs.declared.rule.CueRule.{CueRule}
+use Rattle.time_merge.specs.Laws.{lanes_over}
+use Rattle.remux_plan.specs.declared.plan.MergePlan.{MergePlan}
+use Rattle.remux_plan.specs.declared.plan.PlannedLane.{PlannedLane}
+
+-- the links of its lanes
+abbrev pub links_of : List PlannedLane → List (List Link)
+links_of lanes = map (λ (l : PlannedLane). l.spec.links) lanes
+
+-- the rules by which their blocks get cue points
+abbrev pub rules_of : List PlannedLane → List CueRule
+rules_of lanes = map (λ (l : PlannedLane). l.cues) lanes
+
+-- the merged list of its lanes, among these files
+abbrev pub blocks_of : LiveFiles → MergePlan → List OutputBlock
+blocks_of f p = merged (lanes_over f p.limits.scale (links_of p.lanes))
+
+-- the output: what stands in front, the merged list in Clusters, its cue points, Chapters and Tags
+abbrev pub document_in : LiveFiles → MergePlan → Document
+document_in f p = document_of p.limits (rules_of p.lanes) (front_with f p.front) p.chapters p.tags (blocks_of f p)

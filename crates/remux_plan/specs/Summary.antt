@@ -1,0 +1,50 @@
+-- What is known of a merge whose output stands.
+use Rattle.std.specs.Prelude.{◌≡◌, ℕ, suc, max, ◌==◌, if◌then◌else◌, List, [], ◌∷◌, length, map, find}
+use Rattle.std.specs.List.{flat_map, range_with_len, zip}
+use Rattle.std.specs.Option.{option_map_or}
+use Rattle.mkv_values.specs.declared.damage.Damage.{Damage}
+use Rattle.mkv_io.specs.Faults.{counted}
+use Rattle.mkv_io.specs.LiveFiles.{LiveFiles}
+use Rattle.cluster_reader.specs.ToldDamages.{ToldDamages, told_damages}
+use Rattle.merge_model.specs.Lanes.{lane_damages}
+use Rattle.lane_blocks.specs.Links.{given_in}
+use Rattle.remux_plan.specs.Plan.{blocks_of}
+use Rattle.remux_plan.specs.declared.plan.MergePlan.{MergePlan}
+use Rattle.remux_plan.specs.declared.plan.PlannedLane.{PlannedLane}
+use Rattle.remux_plan.specs.declared.summary.InputDamage.{InputDamage}
+use Rattle.remux_plan.specs.declared.summary.MoreDamage.{MoreDamage}
+use Rattle.remux_plan.specs.declared.summary.Summary.{Summary}
+
+-- ---- the damages of the inputs
+
+-- the links of a lane: of each the number of its input, and the damages of its file, where it counts
+abbrev pub link_damages : LiveFiles → PlannedLane → List (ℕ × List Damage)
+link_damages f l = zip l.inputs (lane_damages (map (given_in f) l.spec.links))
+
+-- those of an input: all of its links tell the same, so the first of them counts
+abbrev pub damages_of : LiveFiles → List PlannedLane → ℕ → List Damage
+damages_of f lanes input = option_map_or (λ (link : ℕ × List Damage). link.1) (find (λ (link : ℕ × List Damage). link.0 == input) (flat_map (link_damages f) lanes)) []
+
+-- one more than the greatest of numbers, or 0
+abbrev pub count_to : List ℕ → ℕ
+count_to [] = 0
+count_to (n ∷ ns) = max (suc n) (count_to ns)
+
+-- the numbers of the inputs, as far as a lane has a link of one
+abbrev pub inputs_of : List PlannedLane → List ℕ
+inputs_of lanes = range_with_len 0 (count_to (flat_map (λ (l : PlannedLane). l.inputs) lanes))
+
+-- the first hundred of an input, and the number of the others, if there are any
+abbrev pub first_damages : ℕ → ToldDamages → List InputDamage
+first_damages input told = map (λ damage. record { input = input; damage = damage }) told.first
+
+abbrev pub more_damages : ℕ → ToldDamages → List MoreDamage
+more_damages input told = if told.more == 0 then [] else record { input = input; count = told.more } ∷ []
+
+-- ---- the summary
+
+-- The output has the blocks of the merged list, and these are the damages of the inputs.
+pub record IsSummary (f : LiveFiles) (p : MergePlan) (s : Summary) : Type 0 where
+  pub outputs : s.outputs ≡ record { name = p.output; blocks = counted 0 (length (blocks_of f p)) } ∷ []
+  pub damages : s.damages ≡ flat_map (λ input. first_damages input (told_damages (damages_of f p.lanes input))) (inputs_of p.lanes)
+  pub more : s.more ≡ flat_map (λ input. more_damages input (told_damages (damages_of f p.lanes input))) (inputs_of p.lanes)
