@@ -1,17 +1,19 @@
 -- Masters that are built child by child.
-use Rattle.std.proofs.Common.{◌≡◌, ◌≤◌, ◌<◌, ℕ, zero, suc, ◌+◌, ◌-◌, true, false, List, [], ◌∷◌, ◌++◌, length, take, map, flat_map, get_or, Option, Some, None, IfSome, Ok, refl, sym, ap, subst, ◌∙◌, arith, add-one, append-nil}
+use Rattle.std.proofs.Common.{◌≡◌, ◌≤◌, ◌<◌, ℕ, zero, suc, ◌+◌, ◌-◌, nat_lt, Bool, true, false, List, [], ◌∷◌, ◌++◌, length, take, map, flat_map, get_or, Option, Some, None, IfSome, Ok, refl, sym, ap, subst, ◌∙◌, arith, add-one, append-nil}
 use Rattle.std.specs.Prelude.{IsErr}
 use Rattle.std.specs.declared.alloc.AllocError.{AllocError}
 use Rattle.std.specs.Option.{option_to_list}
+use Rattle.std.proofs.lemmas.Bool.Decides.{nat_tests}
 use Rattle.std.proofs.lemmas.Grind.{flat_map-append}
 use Rattle.std.proofs.lemmas.List.{map_more}
 use Rattle.std.proofs.Math.Seq.{take-suc}
 use Rattle.matroska_format.specs.Outline.{and_then}
 use Rattle.tree_format.specs.Node.{Node, leaf, master, none, nodes_of, id_of, offset_of, children, with_children, depth, depth_all, deepest, IsMaster, HasRoom}
+use Rattle.tree_format.specs.NormalForm.{octets, longest}
 use Rattle.tree_format.specs.Changes.{AreTooLong}
 use Rattle.tree_format.specs.Reading.{tree_of, as_root, is_master_in}
-use Rattle.tree_format.specs.Standing.{StandsIn, AllStandIn}
-use Rattle.tree_format.proofs.NodeLemmas.{list-nodes, nodes-list, depth_all-append}
+use Rattle.tree_format.specs.Standing.{StandsIn, AllStandIn, KeepsLimits}
+use Rattle.tree_format.proofs.NodeLemmas.{list-nodes, nodes-list, depth_all-append, octets_all-flat}
 use Rattle.tree_format.proofs.ReadingLemmas.{grove-end}
 use Rattle.tree_format.proofs.ChildLemmas.{child-stands}
 use Rattle.tree_building.specs.Building.{IsBuilt, IsRead, IsInPlace}
@@ -150,3 +152,23 @@ module _ (old child new : Node) (u : Unit {0}) where
   -- it was taken
   pub put-is : new ≡ with_children old (children old ++ child ∷ []) → (AreTooLong (children old ++ child ∷ []) → IsErr {T = Unit {0}} {E = AllocError} (Ok u)) → IsPut old child new
   put-is ok full = record { grown = ok; short = λ long. (let never = full long in absurd (cc)) }
+
+-- a leaf more
+pub built-leaf : (id at deep own : ℕ) (ns : List Node) (body : List ℕ) (old child new : Node) → IsBuilt id at deep ns old → IsPut old child new → child ≡ leaf own 0 body → StandsIn id child → IsBuilt id at deep (ns ++ leaf own 0 body ∷ []) new
+built-leaf id at deep own ns body old child new built put is stands =
+    let P : Node → Type 0 = λ c. IsBuilt id at deep (ns ++ c ∷ []) new in
+    subst P is (built-push id at deep ns old child new built put stands (omega (arith, ap depth is)))
+
+-- it keeps the limits of what is read again
+pub built-limits : (id at deep : ℕ) (ns : List Node) (t : Node) → IsBuilt id at deep ns t → deep < deepest → KeepsLimits t
+built-limits id at deep ns t built low =
+    let shallow = built.shallow in
+    let P : Node → Type 0 = KeepsLimits in
+    subst P (sym built.is) (record { long = rw (octets_all-flat ns) (at-most (flat_map octets ns) built.short); deep = omega arith })
+  where
+    at-most : (l : List ℕ) → (longest < length l → ⊥) → length l ≤ longest
+    at-most l short = split (nat_lt longest (length l)) refl
+      where
+        split : (b : Bool) → nat_lt longest (length l) ≡ b → length l ≤ longest
+        split true is = absurd (short (grind (arith, nat_tests)))
+        split false is = grind (arith, nat_tests)
