@@ -86,14 +86,23 @@ given_by (Err end) = 0
 abbrev pub way : LaneSeen → ℕ
 way l = walks.way l.links l.walk
 
+-- It has given all its blocks, and left all its links.
+abbrev pub IsEnded : LaneSeen → Type 0
+IsEnded l = walks.IsEnded l.links l.walk
+
 -- A block that is given can be written, its order number is the greatest tick so far, and fewer are left.
 pub record StepsTo (old new : LaneSeen) : Type 0 where
   pub lends : LendsBlock new.scale new.links new.walk
   pub on : way new < way old
 
+-- No more turns are left than before, and the lane has ended.
+pub record Ends (old new : LaneSeen) : Type 0 where
+  pub on : way new ≤ way old
+  pub ended : IsEnded new
+
 abbrev pub Steps : LaneSeen → LaneSeen → Result LaneStep ReadEnd → Type 0
 Steps old new (Ok Block) = StepsTo old new
-Steps old new (Ok End) = way new ≤ way old
+Steps old new (Ok End) = Ends old new
 Steps old new (Err end) = ⊤
 
 -- Its links and its scale stay, and what is given is counted.

@@ -1,7 +1,7 @@
 -- What holds of every lane.
 use Rattle.std.specs.Prelude.{◌≡◌}
 use Rattle.mkv_io.specs.LiveFiles.{LiveFiles}
-use Rattle.lanes.specs.Lane.{IsReady, IsTold, KeepsLane, LaneSeen, due, files_length, left, told_in_all}
+use Rattle.lanes.specs.Lane.{IsEnded, IsReady, IsTold, KeepsLane, LaneSeen, due, files_length, left, told_in_all}
 
 -- It stands among the new files as it stood among the old ones: it may be advanced, the same is left, and as much may
 -- still be read.
@@ -16,3 +16,7 @@ pub record StandsAmong (old new : LiveFiles) (l : LaneSeen) : Type 0 where
 -- A lane stands over what is written to files that aren't its links'.
 abbrev pub StandOverWrites : Type 0
 StandOverWrites = (old new : LiveFiles) (l : LaneSeen) → KeepsLane old new l → IsReady old l → StandsAmong old new l
+
+-- Where a lane has ended, the damages that will have been told in the end are those that were reached.
+abbrev pub EndedHaveToldAll : Type 0
+EndedHaveToldAll = (f : LiveFiles) (l : LaneSeen) → IsReady f l → IsEnded l → told_in_all f l ≡ l.walk.told.items

@@ -6,7 +6,7 @@ use Rattle.output_model.specs.OutputBlock.{IsLent, Lent}
 use Rattle.merge_model.specs.Merged.{Ordered}
 use Rattle.lane_blocks.specs.Lent.{HasFewTicks, lent_ordered}
 use Rattle.lane_blocks.specs.declared.link.Link.{Link}
-use Rattle.lanes.specs.Walks.{due, files_length, left, lent_in, told_in_all, way}
+use Rattle.lanes.specs.Walks.{IsEnded, due, files_length, left, lent_in, told_in_all, way}
 use Rattle.lanes.specs.declared.turn.Turn.{Turn}
 use Rattle.lanes.specs.declared.turn.Turn.TheVariants.{Passed, Gives, End}
 use Rattle.lanes.specs.declared.walk.Walk.{Walk}
@@ -34,11 +34,16 @@ LendsFor scale links w Passed = ⊤
 LendsFor scale links w Gives = LendsBlock scale links w
 LendsFor scale links w End = ⊤
 
--- Fewer turns are left, but where no block is.
+-- No more turns are left than before, and all links were left.
+pub record Ends (links : List Link) (old new : Walk) : Type 0 where
+  pub on : way links new ≤ way links old
+  pub ended : IsEnded links new
+
+-- Fewer turns are left, or all links were left.
 abbrev pub GoesOn : List Link → Walk → Walk → Turn → Type 0
 GoesOn links old new Passed = way links new < way links old
 GoesOn links old new Gives = way links new < way links old
-GoesOn links old new End = way links new ≤ way links old
+GoesOn links old new End = Ends links old new
 
 -- A turn goes on, and what it lends can be written.
 pub record Moves (scale : ℕ) (links : List Link) (old new : Walk) (turn : Turn) : Type 0 where

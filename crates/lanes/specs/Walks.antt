@@ -1,5 +1,5 @@
 -- A walk over the links of a lane: what is left of them, what it lends, and how it stands among the files.
-use Rattle.std.specs.Prelude.{◌≡◌, ℕ, ◌+◌, ◌-◌, ◌*◌, ⊤, Bool, false, ◌||◌, List, [], ◌∷◌, ◌++◌, length, map, take, drop, Option, Some, None, is_some}
+use Rattle.std.specs.Prelude.{◌≡◌, ℕ, ◌+◌, ◌-◌, ◌*◌, ◌≤◌, ⊤, Bool, false, ◌||◌, List, [], ◌∷◌, ◌++◌, length, map, take, drop, Option, Some, None, is_some}
 use Rattle.std.specs.List.{All, slice_get}
 use Rattle.mkv_io.specs.LiveFiles.{LiveFiles}
 use Rattle.block_format.specs.Events.{Event, last_of}
@@ -87,6 +87,10 @@ pub record IsReady (f : LiveFiles) (links : List Link) (w : Walk) : Type 0 where
   pub here : IsAt f w.cursor (slice_get links w.at)
   pub told : length w.told.items ≡ length links
   pub stopped : w.cursor ≡ None → w.stopped ≡ false
+
+-- All links were left.
+abbrev pub IsEnded : List Link → Walk → Type 0
+IsEnded links w = length links ≤ w.at
 
 -- ---- how far it can go on
 

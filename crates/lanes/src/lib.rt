@@ -11,5 +11,5 @@ mod walk;
 
 pub use lane::{Lane, LaneStep};
 pub use lane_blocks::{Entry, LaneSpec, Link, OutHead, TextLink, TrackLink};
-pub use laws::lanes_stand_over_writes;
+pub use laws::{ended_lanes_have_told_all, lanes_stand_over_writes};
 pub use told::LinkDamage;

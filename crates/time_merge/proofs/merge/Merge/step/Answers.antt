@@ -1,4 +1,4 @@
-use Rattle.std.proofs.Common.{◌≤◌, ◌<◌, List, length, map, refl, sym, ◌∙◌, ap, subst, arith, set}
+use Rattle.std.proofs.Common.{◌≤◌, ◌<◌, List, length, map, refl, sym, ◌∙◌, ap, subst, arith, rules, set}
 use Rattle.std.proofs.Math.Seq.{map-set_same}
 use Rattle.std.proofs.lemmas.List.Elements.{All-set, All-get_or}
 use Rattle.std.proofs.lemmas.Option.{slice_get_read}
@@ -6,11 +6,11 @@ use Rattle.mkv_io.specs.Faults.{counted}
 use Rattle.mkv_io.specs.Sources.{live_files}
 use Rattle.merge_model.specs.Heads.{IsFirstLeast, HasNoHead}
 use Rattle.lanes.specs.Lane as lanes
-use Rattle.time_merge.specs.Merge.{AreTold, left_of, way_of}
+use Rattle.time_merge.specs.Merge.{AreTold, damages_of, left_of, way_of}
 use Rattle.time_merge.specs.Queues.{lane_kept, order_of}
 use Rattle.time_merge.specs.declared.queue.Head.TheVariants.{Due}
 use Rattle.time_merge.specs.declared.queue.Queue.{Queue}
-use Rattle.time_merge.proofs.QueueLemmas.{left-step, left-end, least-inside, lends-first, set-here, way-step}
+use Rattle.time_merge.proofs.QueueLemmas.{all-ended, damages-one, left-step, left-end, least-inside, lends-first, set-here, way-step}
 use Rattle.time_merge.proofs.merge.Merge.step.Goals as goal
 
 pub returns-in_default-clause-gives : goal.returns-in_default-clause-gives
@@ -19,7 +19,23 @@ returns-in_default-clause-gives g c = λ told.
     let same = c.in_ok-fill.ensures.left (subst (λ m. AreTold f m.queues) (sym c.self.view_is) told) in
     let empty = subst (λ (qs : List Queue). HasNoHead (map order_of qs)) c.as_slice.ensures.value c.in_default.ensures in
     let none = left-end f c.fill.new.queues.items c.in_ok-fill.ensures.stay.queues c.in_ok-fill.ensures.filled.known empty in
-    (ap (λ m. left_of f m.queues) (sym c.self.view_is) ∙ sym same ∙ none, none)
+    record {
+      blocks = (ap (λ m. left_of f m.queues) (sym c.self.view_is) ∙ sym same.left ∙ none, none);
+      damages = same.damages ∙ ap (λ m. damages_of f m.queues) c.self.view_is;
+    }
+
+pub returns-in_default-clause-moves : goal.returns-in_default-clause-moves
+returns-in_default-clause-moves g c =
+    let qs = c.fill.new.queues.items in
+    let empty = subst (λ (each : List Queue). HasNoHead (map order_of each)) c.as_slice.ensures.value c.in_default.ensures in
+    record {
+      keeps = c.in_ok-fill.ensures.stay.keeps ∙ ap (λ m. map lane_kept m.queues) c.self.view_is;
+      given = search rules;
+      steps = record {
+        on = subst (λ m. way_of qs ≤ way_of m.queues) c.self.view_is c.in_ok-fill.ensures.filled.on;
+        ended = all-ended qs c.in_ok-fill.ensures.stay.queues c.in_ok-fill.ensures.filled.known empty;
+      };
+    }
 
 pub index_mut-requires : goal.index_mut-requires
 index_mut-requires g c =
@@ -38,9 +54,12 @@ returns-clause-gives g c = λ told.
     let here = slice_get_read qs (length qs) k q refl inside c.index_mut.ensures.value in
     let same = c.in_ok-fill.ensures.left (subst (λ m. AreTold f m.queues) (sym c.self.view_is) told) in
     record {
-      queue = record q { head = Due };
-      here = set-here qs k q (record q { head = Due }) inside;
-      gives = ap (λ m. left_of f m.queues) (sym c.self.view_is) ∙ sym same ∙ left-step f qs k c.in-Some.least.order q c.in_ok-fill.ensures.stay.queues c.in_ok-fill.ensures.filled.known here first;
+      blocks = record {
+        queue = record q { head = Due };
+        here = set-here qs k q (record q { head = Due }) inside;
+        gives = ap (λ m. left_of f m.queues) (sym c.self.view_is) ∙ sym same.left ∙ left-step f qs k c.in-Some.least.order q c.in_ok-fill.ensures.stay.queues c.in_ok-fill.ensures.filled.known here first;
+      };
+      damages = damages-one f qs k q (record q { head = Due }) c.index_mut.ensures.value refl ∙ same.damages ∙ ap (λ m. damages_of f m.queues) c.self.view_is;
     }
 
 pub returns-clause-moves : goal.returns-clause-moves
