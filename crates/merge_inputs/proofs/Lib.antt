@@ -1,0 +1,4 @@
+pub mod InputLemmas
+pub mod SelectLemmas
+pub mod TakenLemmas
+pub mod TitleLemmas
