@@ -2,13 +2,13 @@
 
 ghost use Rattle.std.specs.Prelude.{ℕ, [], IfOk, IsTrue};
 ghost use Rattle.mkv_schema.specs.Schema.{is_master};
-ghost use Rattle.tag_records.specs.Building.{IsBuilt};
+ghost use Rattle.tree_building.specs.Building.{IsBuilt};
 
 use ebml_tree::Tree;
 use std::alloc::{AllocError, Global};
 
-/// A master without children.
-pub(crate) fn empty(alloc: Global, id: u32, offset: u64) -> Result<Tree, AllocError>
+/// A master without children. Its header stands `offset` octets from the start of the file; 0 says that it was made.
+pub fn empty(alloc: Global, id: u32, offset: u64) -> Result<Tree, AllocError>
     requires { IsTrue (is_master id) }
     ensures { (deep : ℕ) → IfOk result (IsBuilt id offset deep []) }
 {
