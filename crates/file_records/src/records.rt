@@ -27,9 +27,9 @@ pub struct Records {
     pub tracks: List<Track>,
 }
 
-/// The records of a file with this outline, or the first thing that refuses them: of Info and then of Tracks, first what
-/// is wrong inside, and then a value that is refused. A file without Tracks is refused. Earlier inputs may have held
-/// any number of octets when the outline was read.
+/// The records of a file with this outline, or the first thing that refuses them: of Info and then of Tracks, first
+/// what is wrong inside, and then a value that is refused. A file without Tracks is refused. Earlier inputs may have
+/// held any number of octets when the outline was read.
 pub fn read_records<R: Reads>(
     alloc: Global,
     outline: &Outline,

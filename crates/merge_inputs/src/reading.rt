@@ -25,9 +25,9 @@ use mkv_values::FileId;
 use std::alloc::Global;
 use std::rc::Rc;
 
-/// What is read of a live file before its blocks, or the first thing that refuses it: its outline, its records, then the
-/// tracks that the words take, in their order, and at last what isn't built yet. Earlier inputs have held so many octets
-/// of Info, Tracks, Chapters and Tags. A WebM output leaves attached files and chapters out.
+/// What is read of a live file before its blocks, or the first thing that refuses it: its outline, its records,
+/// then the tracks that the words take, in their order, and at last what isn't built yet. Earlier inputs have held
+/// so many octets of Info, Tracks, Chapters and Tags. A WebM output leaves attached files and chapters out.
 pub fn read_input<R: Reads>(
     alloc: Global,
     words: &FileWords,
@@ -66,8 +66,8 @@ pub fn read_input<R: Reads>(
     })
 }
 
-/// What refuses an input whose records are good: of the tracks that are taken the first that can't be used, and then
-/// what isn't built.
+/// What refuses an input whose records are good: of the tracks that are taken the first that can't be used, and
+/// then what isn't built.
 fn refusal_of(
     words: &FileWords,
     webm: bool,
