@@ -13,4 +13,4 @@ returns-clause-ok g c = λ bytes told.
     let count : c.in_ok-count.count ≡ min HEAD (length bytes) = c.in_ok-count.ensures.count ∙ ap (λ n. min HEAD n) (sym size) in
     let head : take c.in_ok-count.count c.read_head.new.head ≡ head_of bytes = c.in_ok-count.ensures.ok bytes told ∙ ap (λ n. take n bytes) count ∙ take_min HEAD bytes in
     let len : c.size.result ≡ length bytes = c.size.ensures.exact ∙ ap (λ s. (g.R.Reads.files s).size c.args.file.n) c.in_ok-count.ensures.only.standing ∙ sym size in
-    c.gate_of.ensures ∙ ap (λ (h : List ℕ). gate_of h c.size.result) head ∙ ap (λ n. gate_of (head_of bytes) n) len
+    c.gate_of.ensures.exact ∙ ap (λ (h : List ℕ). gate_of h c.size.result) head ∙ ap (λ n. gate_of (head_of bytes) n) len
