@@ -41,7 +41,7 @@ use Rattle.time_merge.specs.Merge.{KeepsMerge, MergeSeen}
 use Rattle.time_merge.specs.Merge as merges
 use Rattle.time_merge.proofs.KeptLemmas.{stands-kept}
 use Rattle.remuxer.specs.Output.{Writes}
-use Rattle.remuxer.specs.Taking.{CanTake, HasGivenAll}
+use Rattle.remuxer.specs.Taking.{CanTake, Ends}
 use Rattle.remuxer.specs.declared.writer.BlockWriter.{BlockWriter}
 
 -- ---- one draft of one output
@@ -132,11 +132,14 @@ module _ {S : Type 0} (r : Ghosts S) (f : writing.Ghosts S) (a b : S) (name : Li
     apart = subst (λ (id : FileId). IsApart (f.holder b) (f.holder b id.n ∷ []) m) (sym same) begun-apart;
   }
 
-  -- all blocks were given
-  pub given-among : (m' : MergeSeen) → HasGivenAll (live_files r b) m m' → HasGivenAll (live_files r a) m m'
-  given-among m' given = record {
-    given = given.given ∙ ap (λ bs. counted m.given (length bs)) begun-among.left;
-    damages = given.damages ∙ begun-among.damages;
+  -- it has ended
+  pub ends-among : (m' : MergeSeen) → Ends (live_files r b) m m' → Ends (live_files r a) m m'
+  ends-among m' ends = record {
+    lanes = ends.lanes;
+    all = λ told. record {
+      given = (ends.all (begun-among.told told)).given ∙ ap (λ bs. counted m.given (length bs)) begun-among.left;
+      damages = (ends.all (begun-among.told told)).damages ∙ begun-among.damages;
+    };
   }
 
 -- ---- the output's file has ended

@@ -35,7 +35,8 @@ use Rattle.time_merge.specs.Queues.{KeepsQueues}
 use Rattle.time_merge.specs.declared.queue.Queue.{Queue}
 use Rattle.time_merge.proofs.KeptLemmas.{apart-kept, keeps-merge, stands-kept}
 use Rattle.time_merge.proofs.QueueLemmas.{apart-same, count-kept, length-same}
-use Rattle.remuxer.specs.Taking.{CanTake, GoesOn, GoesOnTold, HasGivenAll, HasNone, StaysDraft, StaysOnTheWay, TakesAll, TakesNext, told_by}
+use Rattle.remuxer.specs.Taking.{CanTake, GoesOn, GoesOnTold, HasNone, StaysDraft, StaysOnTheWay, TakesAll, TakesNext}
+use Rattle.remuxer.specs.Taking as taking
 use Rattle.remuxer.specs.declared.writer.BlockWriter.{BlockWriter}
 
 -- ---- files that were only read
@@ -221,8 +222,11 @@ ended-told f (q ∷ qs) ready ended =
     ap₂ (λ (d : List ToldDamages) ds. d ∷ ds) (sym (lane-told f q.lane here (All-head (λ (each : Queue). lanes.IsEnded each.lane) q qs ended)))
     (ended-told f qs (All-tail (λ (each : Queue). lanes.IsReady f each.lane) q qs ready) (All-tail (λ (each : Queue). lanes.IsEnded each.lane) q qs ended))
 
-pub given-all : {S : Type 0} (r : Ghosts S) (a b : S) (m m' : MergeSeen) → GoesOn r a b m m' → HasNone r a b m m' → IsTold (live_files r a) m → HasGivenAll (live_files r a) m m'
-given-all r a b m m' goes none told = record {
-  given = ap (λ bs. counted m'.given (length bs)) (sym (none.left told)) ∙ (goes.told told).given;
-  damages = ended-told (live_files r b) m'.queues goes.ready none.ended ∙ (goes.told told).damages;
+pub merge-ends : {S : Type 0} (r : Ghosts S) (a b : S) (m m' : MergeSeen) → GoesOn r a b m m' → HasNone r a b m m' → taking.Ends (live_files r a) m m'
+merge-ends r a b m m' goes none = record {
+  lanes = count-kept m.queues m'.queues goes.lanes;
+  all = λ told. record {
+    given = ap (λ bs. counted m'.given (length bs)) (sym (none.left told)) ∙ (goes.told told).given;
+    damages = ended-told (live_files r b) m'.queues goes.ready none.ended ∙ (goes.told told).damages;
+  };
 }

@@ -118,3 +118,8 @@ told_by m = map (λ (q : Queue). q.lane.walk.told.items) m.queues
 pub record HasGivenAll (f : LiveFiles) (m m' : MergeSeen) : Type 0 where
   pub given : counted m'.given 0 ≡ counted m.given (length (left f m))
   pub damages : told_by m' ≡ damages f m
+
+-- It has as many lanes as before, and has given all where the links' files are told.
+pub record Ends (f : LiveFiles) (m m' : MergeSeen) : Type 0 where
+  pub lanes : length m'.queues ≡ length m.queues
+  pub all : IsTold f m → HasGivenAll f m m'

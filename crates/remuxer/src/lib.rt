@@ -1,6 +1,11 @@
 #![tactic(auto)]
 
-//! Merges: the blocks of all lanes, in their order, as one whole output.
+//! Merges: the blocks of all lanes of a plan, in their order, in Clusters of one output.
 
+mod merging;
 mod output;
+mod planned;
+mod summary;
 mod writer;
+
+pub use merging::remux;

@@ -9,7 +9,7 @@ ghost use Rattle.output_model.specs.declared.TheConstants.{MOST_LANES};
 ghost use Rattle.time_merge.specs.Laws.{IsApart};
 ghost use Rattle.time_merge.specs.Merge.{IsReady, IsTold, due, files_length, left};
 ghost use Rattle.remuxer.specs.Output.{HasRecords, Writes, document_with};
-ghost use Rattle.remuxer.specs.Taking.{HasGivenAll};
+ghost use Rattle.remuxer.specs.Taking.{Ends};
 
 use crate::writer::BlockWriter;
 use cluster_runs::CueRule;
@@ -49,7 +49,7 @@ pub(crate) fn write_output<F: Files>(
     requires records { HasRecords F.Reads F.Files.own files.old spec.now.name spec.now.front spec.now.chapters spec.now.tags }
     ensures writes { IsTold (live_files F.Reads files.old) merge.old → Writes (F.names files.old) (F.names files.new) spec.now.name
         (document_with (live_files F.Reads files.old) spec.now (left (live_files F.Reads files.old) merge.old)) result }
-    ensures given { OnOk result (IsTold (live_files F.Reads files.old) merge.old → HasGivenAll (live_files F.Reads files.old) merge.old merge.new) }
+    ensures ends { OnOk result (Ends (live_files F.Reads files.old) merge.old merge.new) }
     ensures kept { KeepsOthers F.Reads F.Files.own (spec.now.name ∷ []) files.old files.new }
     ensures octets { F.octets_read files.new ≤ F.octets_read files.old
         + due (live_files F.Reads files.old) merge.old + 2 * files_length (live_files F.Reads files.old) merge.old

@@ -9,7 +9,7 @@ ghost use Rattle.output_model.specs.declared.TheConstants.{MOST_LANES};
 ghost use Rattle.output_model.specs.OutputBlock.{IsLent, lent_block};
 ghost use Rattle.merge_model.specs.Merged.{in_lane};
 ghost use Rattle.lanes.specs.Lane.{lent};
-ghost use Rattle.time_merge.specs.Merge.{IsTold, due, files_length};
+ghost use Rattle.time_merge.specs.Merge.{due, files_length};
 ghost use Rattle.cluster_writer.specs.Lent.{CanBePut, block_of};
 ghost use Rattle.cluster_runs.specs.Cued.{is_cue_by};
 ghost use Rattle.cluster_runs.specs.declared.rule.CueRule.TheVariants as cue_rule;
@@ -60,7 +60,7 @@ pub(crate) struct BlockWriter {
 
 impl BlockWriter {
     ghost use Rattle.cues_seekhead.specs.OpenOutput.{IsOpen};
-    ghost use Rattle.remuxer.specs.Taking.{CanTake, Finds, Goes, HasGivenAll, HasNone, TakesAll, TakesFrom, TakesNext, WritesInto, block_lent};
+    ghost use Rattle.remuxer.specs.Taking.{CanTake, Ends, Finds, Goes, HasNone, TakesAll, TakesFrom, TakesNext, WritesInto, block_lent};
 
     // Adds the block that the k-th lane lends, from 0.
     fn add_lent<F: Files>(
@@ -132,7 +132,7 @@ impl BlockWriter {
         requires { CanTake F.Reads F.Files.own files.old self.old merge.old }
         ensures takes { TakesAll F.Reads F.Files.own rules.now files.old files.new self.old self.new merge.old result }
         ensures writes { WritesInto F.Reads F.Files.own files.old files.new self.old self.new result }
-        ensures given { OnOk result (IsTold (live_files F.Reads files.old) merge.old → HasGivenAll (live_files F.Reads files.old) merge.old merge.new) }
+        ensures ends { OnOk result (Ends (live_files F.Reads files.old) merge.old merge.new) }
         ensures octets { F.octets_read files.new ≤ F.octets_read files.old
             + due (live_files F.Reads files.old) merge.old + 2 * files_length (live_files F.Reads files.old) merge.old }
         ensures cause { HasRemuxCause F.Reads F.Files.own files.old files.new result }

@@ -13,7 +13,7 @@ use Rattle.mkv_io.specs.Names.{Names}
 use Rattle.cues_seekhead.specs.Draft.{draft_of}
 use Rattle.time_merge.specs.Merge.{due, files_length, left}
 use Rattle.remuxer.specs.Output.{document_with}
-use Rattle.remuxer.proofs.OutputLemmas.{abandoned-keeps, begun-among, begun-can, begun-in_turn, cued-as, drafted-in_turn, finished-keeps, finishes-all, given-among, stands-begun}
+use Rattle.remuxer.proofs.OutputLemmas.{abandoned-keeps, begun-among, begun-can, begun-in_turn, cued-as, drafted-in_turn, ends-among, finished-keeps, finishes-all, stands-begun}
 use Rattle.remuxer.proofs.output.write_output.Goals as goal
 
 -- the output couldn't be begun
@@ -54,16 +54,15 @@ returns-in-Ok-clause-writes g c = λ told.
     finishes-all g.F.Reads g.F.Files before spec.name d c.add_clusters.new.files c.finish_with.new.files c.add_clusters.new.self.out c.finish_with.result c.finish_with.ensures.finishes
     (c.in-Ok.ensures.takes (among.told told) before spec.name d (cued-as spec.rules c.as_slice.result.now d c.as_slice.ensures refl) begun)
 
-pub returns-in-Ok-clause-given : goal.returns-in-Ok-clause-given
-returns-in-Ok-clause-given g c = OnOk-always c.finish_with.result (λ told.
+pub returns-in-Ok-clause-ends : goal.returns-in-Ok-clause-ends
+returns-in-Ok-clause-ends g c = OnOk-always c.finish_with.result (
     let a = c.args.files.now in
     let b = c.begin.new.files in
     let spec = c.args.spec.now in
     let m = c.args.merge.now in
     let file = c.in_ok-out.out.file in
     let made = subst (λ (n : List ℕ). MakesFile g.F.Reads g.F.Files n file a b) c.as_str.ensures.same c.in_ok-out.ensures.made in
-    let among = begun-among g.F.Reads g.F.Files a b spec.name file m made c.requires.ready c.requires.apart in
-    given-among g.F.Reads g.F.Files a b spec.name file m made c.requires.ready c.requires.apart c.add_clusters.new.merge (c.in-Ok.ensures.given (among.told told)))
+    ends-among g.F.Reads g.F.Files a b spec.name file m made c.requires.ready c.requires.apart c.add_clusters.new.merge c.in-Ok.ensures.ends)
 
 pub returns-in-Ok-clause-kept : goal.returns-in-Ok-clause-kept
 returns-in-Ok-clause-kept g c =

@@ -1,0 +1,61 @@
+-- A plan that can be written, and what becomes of it.
+use Rattle.std.specs.Prelude.{◌≡◌, ◌<◌, ◌≤◌, ℕ, List, [], ◌∷◌, ◌++◌, All, length, map, sum_by, Result, Ok, Err}
+use Rattle.std.specs.List.{AllZip}
+use Rattle.mkv_io.specs.LiveFiles.{LiveFiles}
+use Rattle.mkv_io.specs.Names.{Names, with_content}
+use Rattle.mkv_io.specs.Sources.{live_files}
+use Rattle.mkv_io.specs.declared.reads.Reads.{Ghosts}
+use Rattle.mkv_io.specs.declared.files.Files as writing
+use Rattle.mkv_jobs.specs.declared.remux_end.RemuxEnd.{RemuxEnd}
+use Rattle.mkv_outputs.specs.Drafts.{StandsInTurn}
+use Rattle.attachment_records.specs.declared.attachment.Attachment.{Attachment}
+use Rattle.output_model.specs.declared.TheConstants.{MOST_LANES}
+use Rattle.output_model.specs.Document.{Document, layout}
+use Rattle.merge_model.specs.declared.limits.TheConstants.{MOST_LINKS}
+use Rattle.lane_blocks.specs.Links.{IsOpenLink, IsSmallLink, IsToldLink}
+use Rattle.lanes.specs.Walks.{files_length}
+use Rattle.time_merge.specs.Laws.{IsApartLink}
+use Rattle.cues_seekhead.specs.Draft.{draft_of}
+use Rattle.remux_plan.specs.declared.TheConstants.{MOST_INPUTS}
+use Rattle.remux_plan.specs.declared.plan.MergePlan.{MergePlan}
+use Rattle.remux_plan.specs.declared.plan.PlannedLane.{PlannedLane}
+use Rattle.remuxer.specs.Output.{HasRecords}
+
+-- ---- what is asked of a plan
+
+-- A lane has at most 64 links, which keep the limits of what a lane lends, and of each the number of its input. Their
+-- files are live, and none of them was opened under the output's name.
+pub record IsPlannedLane {S : Type 0} (r : Ghosts S) (f : writing.Ghosts S) (files : S) (name : List ℕ) (l : PlannedLane) : Type 0 where
+  pub few : length l.spec.links ≤ MOST_LINKS
+  pub small : All IsSmallLink l.spec.links
+  pub live : All (IsOpenLink (live_files r files)) l.spec.links
+  pub apart : All (IsApartLink (f.holder files) (name ∷ [])) l.spec.links
+  pub numbered : length l.inputs ≡ length l.spec.links
+  pub inputs : All (λ input. input < MOST_INPUTS) l.inputs
+
+-- A tick has nanoseconds, there are at most 64 lanes, and what stands around the Clusters can be written.
+pub record IsPlan {S : Type 0} (r : Ghosts S) (f : writing.Ghosts S) (files : S) (p : MergePlan) : Type 0 where
+  pub scale : 1 ≤ p.limits.scale
+  pub few : length p.lanes ≤ MOST_LANES
+  pub lanes : All (IsPlannedLane r f files p.output) p.lanes
+  pub records : HasRecords r f files p.output p.front p.chapters p.tags
+
+-- The files of all links tell their contents.
+abbrev pub IsToldPlan : LiveFiles → MergePlan → Type 0
+IsToldPlan f p = All (λ (l : PlannedLane). All (IsToldLink f) l.spec.links) p.lanes
+
+-- the lengths of the files of all links, each as often as a link names it
+abbrev pub inputs_length : LiveFiles → MergePlan → ℕ
+inputs_length f p = sum_by (λ (l : PlannedLane). files_length f l.spec.links) p.lanes
+
+-- how many octets the attachments' data are
+abbrev pub data_length : MergePlan → ℕ
+data_length p = sum_by (λ (a : Attachment). a.len) p.front.attachments
+
+-- ---- what becomes of it
+
+-- The output has the octets of the document. After a refusal it stands as a draft, or the name is as before. No other
+-- name changes.
+abbrev pub WritesOutput : {T : Type 0} → Names → Names → List ℕ → Document → Result T RemuxEnd → Type 0
+WritesOutput old new name d (Ok _) = new ≡ with_content old name (layout d)
+WritesOutput old new name d (Err _) = StandsInTurn old new (draft_of name d ∷ [])

@@ -1,0 +1,38 @@
+-- The lanes of a plan, started.
+use Rattle.std.specs.Prelude.{◌≡◌, ◌≤◌, ℕ, List, [], ◌∷◌, ◌++◌, All, length, map}
+use Rattle.std.specs.List.{AllZip}
+use Rattle.mkv_io.specs.LiveFiles.{LiveFiles}
+use Rattle.merge_model.specs.declared.limits.TheConstants.{MOST_LINKS}
+use Rattle.lane_blocks.specs.Links.{IsSmallLink}
+use Rattle.lanes.specs.Lane.{Begins, LaneSeen, Starts}
+use Rattle.remux_plan.specs.Plan.{rules_of}
+use Rattle.remux_plan.specs.declared.plan.PlannedLane.{PlannedLane}
+use Rattle.remuxer.specs.declared.planned.StartedLanes.{StartedLanes}
+
+-- A lane can be started: it has at most 64 links, which keep the limits of what a lane lends.
+pub record CanStart (p : PlannedLane) : Type 0 where
+  pub few : length p.spec.links ≤ MOST_LINKS
+  pub small : All IsSmallLink p.spec.links
+
+-- It was started over its links, and has given nothing.
+pub record IsStarted (scale : ℕ) (p : PlannedLane) (l : LaneSeen) : Type 0 where
+  pub starts : (f : LiveFiles) → Starts f scale p.spec.links l
+  pub begins : Begins scale p.spec.links l
+
+-- One lane more was started.
+pub record AddsLane (scale : ℕ) (p : PlannedLane) (old new : StartedLanes) : Type 0 where
+  pub lane : LaneSeen
+  pub started : IsStarted scale p lane
+  pub lanes : new.lanes ≡ old.lanes ++ lane ∷ []
+  pub rules : new.rules ≡ old.rules ++ p.cues ∷ []
+  pub inputs : new.inputs ≡ old.inputs ++ p.inputs ∷ []
+
+-- the numbers of the inputs of the links of lanes
+abbrev pub numbers_of : List PlannedLane → List (List ℕ)
+numbers_of planned = map (λ (p : PlannedLane). p.inputs) planned
+
+-- All lanes were started, in their order.
+pub record AreStarted (scale : ℕ) (planned : List PlannedLane) (s : StartedLanes) : Type 0 where
+  pub lanes : AllZip (IsStarted scale) planned s.lanes
+  pub rules : s.rules ≡ rules_of planned
+  pub inputs : s.inputs ≡ numbers_of planned

@@ -1,0 +1,55 @@
+//! The lanes of a plan.
+
+ghost use Rattle.std.specs.Prelude.{◌≤◌, All, IfOk, OnOk};
+
+use cluster_runs::CueRule;
+use lanes::Lane;
+use mkv_values::List;
+use remux_plan::PlannedLane;
+use std::alloc::{AllocError, Global};
+
+/// The lanes of a plan, none of which has given a block: of each its rule of cue points, and for each of its links the
+/// number of the input.
+#[derive(Drop)]
+pub(crate) struct StartedLanes {
+    pub(crate) lanes: List<Lane>,
+    pub(crate) rules: List<CueRule>,
+    pub(crate) inputs: List<List<usize>>,
+}
+
+impl StartedLanes {
+    ghost use Rattle.remuxer.specs.Started.{AddsLane, AreStarted, CanStart};
+
+    /// Starts the lanes of an output of so many nanoseconds a tick. Nothing is read.
+    pub(crate) fn start(
+        alloc: Global,
+        planned: List<PlannedLane>,
+        scale: u64,
+    ) -> Result<StartedLanes, AllocError>
+        requires scale { 1 ≤ scale }
+        requires lanes { All CanStart planned }
+        ensures { IfOk result (AreStarted scale planned) }
+    {
+        let mut started = StartedLanes {
+            lanes: List::new(alloc),
+            rules: List::new(alloc),
+            inputs: List::new(alloc),
+        };
+        for lane in planned.into_vec() {
+            started.add(alloc, lane, scale)?;
+        }
+        Ok(started)
+    }
+
+    // Starts one lane more.
+    fn add(&mut self, alloc: Global, planned: PlannedLane, scale: u64) -> Result<(), AllocError>
+        requires scale { 1 ≤ scale }
+        requires lane { CanStart planned }
+        ensures { OnOk result (AddsLane scale planned self.old self.new) }
+    {
+        let PlannedLane { spec, inputs, cues } = planned;
+        self.lanes.push(Lane::start(alloc, spec, scale)?)?;
+        self.rules.push(cues)?;
+        self.inputs.push(inputs)
+    }
+}

@@ -1,0 +1,81 @@
+//! What is known of a merge whose output stands.
+
+ghost use Rattle.std.specs.Prelude.{◌≡◌, ◌∷◌, [], length, IfOk, OnOk};
+ghost use Rattle.std.specs.List.{range_with_len};
+ghost use Rattle.std.specs.Option.{option_copied};
+ghost use Rattle.remux_plan.specs.declared.TheConstants.{MOST_INPUTS as INPUTS};
+ghost use Rattle.remuxer.specs.Taking.{told_by};
+ghost use Rattle.remuxer.specs.Told.{AddsDamages, HasDamages, told_at, told_of};
+
+use cluster_reader::Damages;
+use lanes::Lane;
+use mkv_values::List;
+use remux_plan::{InputDamage, MOST_INPUTS, MoreDamage, Summary, Written};
+use std::alloc::{AllocError, Global};
+use time_merge::Merge;
+
+// What a lane, whose links are of these inputs, has told of an input.
+fn told_at<'a>(inputs: &[usize], lane: &'a Lane, input: usize) -> Option<&'a Damages>
+    ensures { option_copied result ≡ told_at inputs.now lane.now.walk.told.items input }
+{
+    let link = inputs.iter().position(|number| *number == input)?;
+    lane.damages(link)
+}
+
+// What a merge has told of an input. All its links tell the same, so the first of them counts.
+fn told_of<'a>(inputs: &[List<usize>], merge: &'a Merge, input: usize) -> Option<&'a Damages>
+    requires { length inputs.now ≡ length merge.now.queues }
+    ensures { option_copied result ≡ told_of inputs.now (told_by merge.now) input }
+{
+    for (k, numbers) in inputs.iter().enumerate() {
+        let told = told_at(numbers.as_slice(), merge.lane(k), input);
+        if told.is_some() {
+            return told;
+        }
+    }
+    None
+}
+
+// Adds the damages of an input.
+fn add_damages(summary: &mut Summary, input: usize, told: &Damages) -> Result<(), AllocError>
+    ensures { OnOk result (AddsDamages input told.now summary.old summary.new) }
+{
+    for damage in told.first() {
+        summary.damages.push(InputDamage {
+            input,
+            damage: *damage,
+        })?;
+    }
+    let count = told.more();
+    if count > 0 {
+        summary.more.push(MoreDamage { input, count })?;
+    }
+    Ok(())
+}
+
+/// The summary of an output that was written, with the damages that a merge has told, whose lanes have links of these
+/// inputs.
+pub(crate) fn summary_of(
+    alloc: Global,
+    written: Written,
+    inputs: &[List<usize>],
+    merge: &Merge,
+) -> Result<Summary, AllocError>
+    requires { length inputs.now ≡ length merge.now.queues }
+    ensures outputs { IfOk result (λ s. s.outputs ≡ written ∷ []) }
+    ensures damages { IfOk result (HasDamages inputs.now (told_by merge.now) (range_with_len 0 INPUTS)) }
+{
+    let mut outputs = List::new(alloc);
+    outputs.push(written)?;
+    let mut summary = Summary {
+        outputs,
+        damages: List::new(alloc),
+        more: List::new(alloc),
+    };
+    for input in 0..MOST_INPUTS {
+        if let Some(told) = told_of(inputs, merge, input) {
+            add_damages(&mut summary, input, told)?;
+        }
+    }
+    Ok(summary)
+}
