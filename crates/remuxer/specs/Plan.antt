@@ -1,13 +1,12 @@
 -- A plan that can be written, and what becomes of it.
-use Rattle.std.specs.Prelude.{◌≡◌, ◌<◌, ◌≤◌, ℕ, List, [], ◌∷◌, ◌++◌, All, length, map, sum_by, Result, Ok, Err}
-use Rattle.std.specs.List.{AllZip}
+use Rattle.std.specs.Prelude.{◌≡◌, ◌<◌, ◌≤◌, ℕ, ◌+◌, ◌*◌, List, [], ◌∷◌, All, IfOk, length, sum_by, Result, Ok, Err}
 use Rattle.mkv_io.specs.LiveFiles.{LiveFiles}
 use Rattle.mkv_io.specs.Names.{Names, with_content}
 use Rattle.mkv_io.specs.Sources.{live_files}
 use Rattle.mkv_io.specs.declared.reads.Reads.{Ghosts}
 use Rattle.mkv_io.specs.declared.files.Files as writing
 use Rattle.mkv_jobs.specs.declared.remux_end.RemuxEnd.{RemuxEnd}
-use Rattle.mkv_outputs.specs.Drafts.{StandsInTurn}
+use Rattle.mkv_outputs.specs.Drafts.{StandsInTurn, output_of}
 use Rattle.attachment_records.specs.declared.attachment.Attachment.{Attachment}
 use Rattle.output_model.specs.declared.TheConstants.{MOST_LANES}
 use Rattle.output_model.specs.Document.{Document, layout}
@@ -16,9 +15,12 @@ use Rattle.lane_blocks.specs.Links.{IsOpenLink, IsSmallLink, IsToldLink}
 use Rattle.lanes.specs.Walks.{files_length}
 use Rattle.time_merge.specs.Laws.{IsApartLink}
 use Rattle.cues_seekhead.specs.Draft.{draft_of}
+use Rattle.remux_plan.specs.Plan.{document_in}
+use Rattle.remux_plan.specs.Summary.{IsSummary}
 use Rattle.remux_plan.specs.declared.TheConstants.{MOST_INPUTS}
 use Rattle.remux_plan.specs.declared.plan.MergePlan.{MergePlan}
 use Rattle.remux_plan.specs.declared.plan.PlannedLane.{PlannedLane}
+use Rattle.remux_plan.specs.declared.summary.Summary.{Summary}
 use Rattle.remuxer.specs.Output.{HasRecords}
 
 -- ---- what is asked of a plan
@@ -54,8 +56,24 @@ data_length p = sum_by (λ (a : Attachment). a.len) p.front.attachments
 
 -- ---- what becomes of it
 
--- The output has the octets of the document. After a refusal it stands as a draft, or the name is as before. No other
--- name changes.
+-- At most six octets are read for each of the links' files, and the data of the attachments.
+abbrev pub ReadsFew : {S : Type 0} → Ghosts S → S → S → MergePlan → Type 0
+ReadsFew r old new p = r.octets_read new ≤ r.octets_read old + 6 * inputs_length (live_files r old) p + data_length p
+
+-- The octets of the document stand under the name, and no other name changes; they are what its draft becomes.
+pub record WritesLayout (old new : Names) (name : List ℕ) (d : Document) : Type 0 where
+  pub names : new ≡ with_content old name (layout d)
+  pub becomes : output_of (draft_of name d) ≡ record { name = name; content = layout d }
+
+-- After a refusal the output stands as a draft, or the name is as before.
 abbrev pub WritesOutput : {T : Type 0} → Names → Names → List ℕ → Document → Result T RemuxEnd → Type 0
-WritesOutput old new name d (Ok _) = new ≡ with_content old name (layout d)
+WritesOutput old new name d (Ok _) = WritesLayout old new name d
 WritesOutput old new name d (Err _) = StandsInTurn old new (draft_of name d ∷ [])
+
+-- Where the links' files are told, the output is that of the plan.
+abbrev pub WritesPlan : {S T : Type 0} → Ghosts S → writing.Ghosts S → S → S → MergePlan → Result T RemuxEnd → Type 0
+WritesPlan r f old new p result = IsToldPlan (live_files r old) p → WritesOutput (f.names old) (f.names new) p.output (document_in (live_files r old) p) result
+
+-- And so is the summary that is answered.
+abbrev pub SumsUp : {S : Type 0} → Ghosts S → S → MergePlan → Result Summary RemuxEnd → Type 0
+SumsUp r old p result = IsToldPlan (live_files r old) p → IfOk result (IsSummary (live_files r old) p)

@@ -1,12 +1,9 @@
 //! A merge by its plan.
 
-ghost use Rattle.std.specs.Prelude.{◌+◌, ◌*◌, ◌≤◌, [], ◌∷◌, IfOk};
-ghost use Rattle.mkv_io.specs.Sources.{live_files};
+ghost use Rattle.std.specs.Prelude.{[], ◌∷◌};
 ghost use Rattle.mkv_io.specs.Writing.{KeepsOthers};
 ghost use Rattle.mkv_jobs.specs.Ends.{HasRemuxCause};
-ghost use Rattle.remux_plan.specs.Plan.{document_in};
-ghost use Rattle.remux_plan.specs.Summary.{IsSummary};
-ghost use Rattle.remuxer.specs.Plan.{IsPlan, IsToldPlan, WritesOutput, data_length, inputs_length};
+ghost use Rattle.remuxer.specs.Plan.{IsPlan, ReadsFew, SumsUp, WritesPlan};
 
 use crate::output::{OutputSpec, write_output};
 use crate::planned::StartedLanes;
@@ -28,15 +25,13 @@ pub fn remux<F: Files>(
 ) -> Result<Summary, RemuxEnd>
     requires { IsPlan F.Reads F.Files.own files.old plan }
 
-    // Where the contents of the inputs are told, so are the output's and the summary.
-    ensures output { IsToldPlan (live_files F.Reads files.old) plan → WritesOutput (F.names files.old) (F.names files.new) plan.output
-        (document_in (live_files F.Reads files.old) plan) result }
-    ensures summary { IsToldPlan (live_files F.Reads files.old) plan → IfOk result (IsSummary (live_files F.Reads files.old) plan) }
+    ensures output { WritesPlan F.Reads F.Files.own files.old files.new plan result }
+    ensures summary { SumsUp F.Reads files.old plan result }
 
     // No file stays open, whatever the answer.
     ensures kept { KeepsOthers F.Reads F.Files.own (plan.output ∷ []) files.old files.new }
     ensures cause { HasRemuxCause F.Reads F.Files.own files.old files.new result }
-    ensures octets { F.octets_read files.new ≤ F.octets_read files.old + 6 * inputs_length (live_files F.Reads files.old) plan + data_length plan }
+    ensures octets { ReadsFew F.Reads files.old files.new plan }
 {
     let MergePlan {
         output,

@@ -114,7 +114,7 @@ returns-clause-output g c = λ told.
     let now = g.F.Files.names c.write_output.new.files in
     let writes = subst (λ files. IsTold (live_files g.F.Reads files) m → Writes (g.F.Files.names files) now plan.output (document_with (live_files g.F.Reads files) (record { name = plan.output; limits = plan.limits; rules = lanes.rules; front = plan.front; chapters = plan.chapters; tags = plan.tags }) (left (live_files g.F.Reads files) m)) (Ok c.in_ok-write_output.field-0)) c.in_ok-merge.ensures.idle c.in_ok-write_output.ensures.writes in
     let holds = plan-writes g.F.Reads g.F.Files a plan c.requires lanes m c.in_ok-lanes.ensures (c.in_ok-merge.ensures.starts f) c.in_ok-merge.ensures.begins now (Ok c.in_ok-write_output.field-0) writes told in
-    holds.names
+    record { names = holds.names; becomes = holds.becomes }
 
 pub returns-clause-octets : goal.returns-clause-octets
 returns-clause-octets g c =
