@@ -1,5 +1,5 @@
 -- Blocks that are given to outputs one after the other.
-use Rattle.std.proofs.Common.{◌≡◌, ◌≢◌, ◌==◌, Bool, true, false, if◌then◌else◌, ℕ, zero, suc, ◌+◌, ◌<◌, ◌≤◌, List, [], ◌∷◌, ◌++◌, length, get_or, Result, Ok, Err, IsErr, refl, sym, ◌∙◌, ap, subst, arith, eq-eqb}
+use Rattle.std.proofs.Common.{◌≡◌, ◌≢◌, ◌==◌, Bool, true, false, if◌then◌else◌, ℕ, zero, suc, ◌+◌, ◌<◌, ◌≤◌, List, [], ◌∷◌, ◌++◌, length, get_or, Result, Ok, Err, IsErr, refl, sym, ◌∙◌, ap, arith, eq-eqb}
 use Rattle.std.proofs.lemmas.Bool.{eqb-true}
 use Rattle.mkv_io.specs.Names.{Names}
 use Rattle.mkv_io.specs.declared.files.Files.{Ghosts}
@@ -10,7 +10,7 @@ use Rattle.mkv_outputs.specs.Starts.{AreBegun, StandsInPart}
 use Rattle.mkv_outputs.specs.declared.sink.Sink.{Sink}
 use Rattle.mkv_outputs.proofs.StartsLemmas.{IsBegun-whole}
 use Rattle.extract_model.specs.Content.{entries_of, output_of, outputs_of}
-use Rattle.extract_model.specs.Frames.{Frame, frames_in}
+use Rattle.extract_model.specs.Frames.{frames_in}
 use Rattle.extract_model.specs.declared.track_output.TrackOutput.{TrackOutput}
 use Rattle.extract_model.proofs.ContentLemmas.{output_of-more, outputs_of-begun}
 use Rattle.extractors.specs.Walks.{GivesBlocks, piece}

@@ -1,6 +1,6 @@
 //! An extraction: the outputs are made, written and closed.
 
-ghost use Rattle.std.specs.Prelude.{◌≡◌, ◌<◌, ◌≤◌, [], length, IfOk, IfSome, IsSome};
+ghost use Rattle.std.specs.Prelude.{◌≡◌, ◌<◌, [], length, IfOk, IsSome};
 ghost use Rattle.std.specs.List.{All};
 ghost use Rattle.mkv_io.specs.Faults.{HasCause, is_make_failure};
 ghost use Rattle.mkv_io.specs.Names.{AreApart, AreOthers};
@@ -13,7 +13,6 @@ ghost use Rattle.cluster_reader.specs.ToldDamages.{told_damages};
 ghost use Rattle.mkv_outputs.specs.Sinks.{AreOpen, HaveBeenGiven, MadeSince};
 ghost use Rattle.extract_model.specs.Content.{head_of, names_in, outputs_of};
 ghost use Rattle.extract_model.specs.Job.{names_of, taken_of, targets_of};
-ghost use Rattle.file_records.specs.Records.{IsGoodInfo, scale_of_info};
 ghost use Rattle.extractors.specs.Source.{AreUsable, IsSource, events_in, outputs_in};
 ghost use Rattle.extractors.specs.Walks.{HasSmallStep, Makes, ReadsFew, Writes};
 
@@ -21,9 +20,8 @@ use crate::blocks::write_blocks;
 use crate::job::{taken_of, targets_of, track_outputs};
 use crate::source::Source;
 use cluster_reader::{Cursor, Damages};
-use ebml_tree::Tree;
 use extract_model::{Format, TrackOutput};
-use meta_records::{DEFAULT_SCALE, read_info};
+use file_records::scale_of;
 use mkv_io::Files;
 use mkv_jobs::{Job, RemuxEnd};
 use mkv_outputs::Outputs;
@@ -65,21 +63,6 @@ pub fn extract<F: Files>(
     let list = track_outputs(alloc, taken, targets_of(job), &source.tracks)?;
     let mut cursor = Cursor::start(alloc, &source.outline, source.file, scale_of(&source.info))?;
     write_tracks(alloc, &list, files, &mut cursor)
-}
-
-/// Nanoseconds a tick of a file whose first Info this is.
-fn scale_of(info: &Option<Tree>) -> u64
-    requires { IfSome info.now IsGoodInfo }
-    ensures value { result ≡ scale_of_info info.now }
-    ensures some { 1 ≤ result }
-{
-    let Some(info) = info else {
-        return DEFAULT_SCALE;
-    };
-    match read_info(info) {
-        Ok(values) => values.scale,
-        Err(_) => unreachable!(),
-    }
 }
 
 /// Writes the outputs, all in one walk over the blocks that the cursor has left.

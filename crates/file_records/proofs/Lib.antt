@@ -1,1 +1,2 @@
+pub mod CausesLemmas
 pub mod RecordsLemmas

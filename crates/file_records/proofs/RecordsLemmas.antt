@@ -15,7 +15,7 @@ use Rattle.matroska_format.specs.declared.limits.TheConstants.{MOST_OF_ALL, MOST
 use Rattle.matroska_format.specs.Outline.{and_then, described, first_damage, first_refusal, is_described, limits_from, over, passes_count, passes_size, segment_run, unless, where_it}
 use Rattle.matroska_format.specs.Value.{body_of, first_of}
 use Rattle.tree_format.specs.declared.limits.TheConstants.{MOST_NODES}
-use Rattle.tree_format.specs.Node.{Node}
+use Rattle.tree_format.specs.Node.{HasRoom, Node}
 use Rattle.tree_format.specs.Reading.{tree_of}
 use Rattle.element_reader.specs.Collected.{others_of}
 use Rattle.element_reader.specs.Load.{limit_of, too_large}
@@ -86,26 +86,26 @@ pub record IsFirst (id : ℕ) (bytes : List ℕ) (v : FileOutline) (h : Header) 
   pub small : too_large h ≡ None
 
 -- the first of those that the outline has
-first_listed : (id : ℕ) (bytes : List ℕ) (v : FileOutline) → IsHeld id → (of : Outlines 0 bytes v) → first_in id v ≡ first_of id of.outlined.list
-first_listed id bytes v held of =
+first_listed : (id before : ℕ) (bytes : List ℕ) (v : FileOutline) → IsHeld id → (of : Outlines before bytes v) → first_in id v ≡ first_of id of.outlined.list
+first_listed id before bytes v held of =
     ap (λ (w : FileOutline). first_in id w) of.shows
     ∙ cond-false (id == CLUSTER) (first_of CLUSTER of.outlined.list) (first_of id (others_of of.outlined.list)) held.other
     ∙ first_in-others id of.outlined.list held.other
 
 -- is that of the Segment
-first_same : (id : ℕ) (bytes : List ℕ) (v : FileOutline) → IsHeld id → (of : Outlines 0 bytes v) → first_in id v ≡ first_of id (segment_run bytes v.segment).list
-first_same id bytes v held of =
-    first_listed id bytes v held of ∙ ap (first_of id) of.list
+first_same : (id before : ℕ) (bytes : List ℕ) (v : FileOutline) → IsHeld id → (of : Outlines before bytes v) → first_in id v ≡ first_of id (segment_run bytes v.segment).list
+first_same id before bytes v held of =
+    first_listed id before bytes v held of ∙ ap (first_of id) of.list
     ∙ ap (λ (w : FileOutline). first_of id (segment_run bytes w.segment).list) (sym of.shows)
 
-pub IsFirst-shown : (id : ℕ) (bytes : List ℕ) (v : FileOutline) (h : Header) → IsHeld id → outline_in 0 bytes ≡ Ok v → first_in id v ≡ Some h → IsFirst id bytes v h
-IsFirst-shown id bytes v h held outline found =
-    let of = Outlines-shown 0 bytes v outline in
+pub IsFirst-shown : (id before : ℕ) (bytes : List ℕ) (v : FileOutline) (h : Header) → IsHeld id → outline_in before bytes ≡ Ok v → first_in id v ≡ Some h → IsFirst id bytes v h
+IsFirst-shown id before bytes v h held outline found =
+    let of = Outlines-shown before bytes v outline in
     let o = of.outlined in
-    let first : first_of id o.list ≡ Some h = sym (first_listed id bytes v held of) ∙ found in
-    let small = small_first id 0 [] o.list h held.described (outline_of-limits 0 bytes o of.is) first in
+    let first : first_of id o.list ≡ Some h = sym (first_listed id before bytes v held of) ∙ found in
+    let small = small_first id before [] o.list h held.described (outline_of-limits before bytes o of.is) first in
     record {
-      first = sym (first_same id bytes v held of) ∙ found;
+      first = sym (first_same id before bytes v held of) ∙ found;
       own = small.0;
       small = limited h small.0 small.1;
     }
@@ -121,8 +121,8 @@ IsFirst-shown id bytes v h held outline found =
 -- ---- as a tree
 
 -- there is none
-pub first_tree-none : (id : ℕ) (bytes : List ℕ) (v : FileOutline) → IsHeld id → outline_in 0 bytes ≡ Ok v → first_in id v ≡ None → first_tree id bytes v.segment ≡ Ok None
-first_tree-none id bytes v held outline found = ap (tree_at bytes) (sym (first_same id bytes v held (Outlines-shown 0 bytes v outline)) ∙ found)
+pub first_tree-none : (id before : ℕ) (bytes : List ℕ) (v : FileOutline) → IsHeld id → outline_in before bytes ≡ Ok v → first_in id v ≡ None → first_tree id bytes v.segment ≡ Ok None
+first_tree-none id before bytes v held outline found = ap (tree_at bytes) (sym (first_same id before bytes v held (Outlines-shown before bytes v outline)) ∙ found)
 
 -- there is one
 pub first_tree-some : (id : ℕ) (bytes : List ℕ) (v : FileOutline) (h : Header) (body : List ℕ) → IsFirst id bytes v h → body ≡ body_of bytes h → first_tree id bytes v.segment ≡ and_then (tree_of id h.offset body h.body MOST_NODES) (λ (tree : Node). Ok (Some tree))
@@ -157,13 +157,14 @@ file_records-scale bytes segment r is =
 -- ---- the tracks
 
 -- what is read of entries that nothing refuses
-pub AreRead-made : (tree : Node) (tracks : List Track) → tracks_of tree ≡ Ok tracks → AreTracks (entries_of tree) → All (λ (t : Track). IsEntry t.entry) tracks → AreRead tracks
-AreRead-made tree tracks is are sound =
+pub AreRead-made : (tree : Node) (tracks : List Track) → tracks_of tree ≡ Ok tracks → AreTracks (entries_of tree) → All (λ (t : Track). IsEntry t.entry) tracks → All (λ (t : Track). HasRoom t.entry) tracks → AreRead tracks
+AreRead-made tree tracks is are sound room =
     let same : map track_of (entries_of tree) ≡ tracks = (unless-ok (refusal_of tree) (map track_of (entries_of tree)) tracks is).1 in
     record {
       said = subst (All (λ (t : Track). t ≡ track_of t.entry)) same (said_all (entries_of tree));
       sound = sound;
       each = subst (All (λ (t : Track). IsTrack t.entry)) same (each_all (entries_of tree) are.each);
+      room = room;
     }
   where
     said_all : (entries : List Node) → All (λ (t : Track). t ≡ track_of t.entry) (map track_of entries)

@@ -14,7 +14,7 @@ use Rattle.element_reader.specs.Load.{limit_of}
 use Rattle.element_reader.specs.declared.outline_end.OutlineEnd.{OutlineEnd}
 use Rattle.element_reader.specs.declared.outline_end.OutlineEnd.TheVariants as outline_end
 use Rattle.tree_format.specs.declared.limits.TheConstants.{MOST_NODES}
-use Rattle.tree_format.specs.Node.{Node}
+use Rattle.tree_format.specs.Node.{HasRoom, Node}
 use Rattle.tree_format.specs.Reading.{tree_of}
 use Rattle.tree_format.specs.Standing.{IsSoundOf}
 use Rattle.track_format.specs.Tracks.{IsTrack}
@@ -77,11 +77,12 @@ pub record IsGoodInfo (info : Node) : Type 0 where
   pub sound : IsSoundOf INFO info
   pub good : info_refusal info ≡ None
 
--- The tracks are what their entries say, which nothing refuses.
+-- The tracks are what their entries say, which nothing refuses, and which fit into a Tracks Element.
 pub record AreRead (tracks : List Track) : Type 0 where
   pub said : All (λ (t : Track). t ≡ track_of t.entry) tracks
   pub sound : All (λ (t : Track). IsEntry t.entry) tracks
   pub each : All (λ (t : Track). IsTrack t.entry) tracks
+  pub room : All (λ (t : Track). HasRoom t.entry) tracks
 
 -- The records are such as nothing refuses.
 pub record AreGood (r : Records) : Type 0 where

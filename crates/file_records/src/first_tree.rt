@@ -1,6 +1,6 @@
 //! The first Element of an ID, as a tree.
 
-ghost use Rattle.std.specs.Prelude.{◌≡◌, List, ℕ, Ok, IfOk, IfSome};
+ghost use Rattle.std.specs.Prelude.{◌≡◌, ◌+◌, ◌≤◌, List, ℕ, Ok, IfOk, IfSome};
 ghost use Rattle.mkv_io.specs.Faults.{HasCause};
 ghost use Rattle.mkv_io.specs.Sources.{IfTold, IsLive, file_size};
 ghost use Rattle.tree_format.specs.Standing.{IsSoundOf};
@@ -24,11 +24,12 @@ pub fn first_tree<R: Reads>(
     requires live { IsLive R.Reads src.old file }
     requires whole { outline.now.total ≡ file_size R.Reads src.old file }
     requires held { IsHeld id }
-    ensures exact { IfTold R.Reads src.old file (λ bytes.
-        outline_in 0 bytes ≡ Ok outline.now → ReadsAs (first_tree id bytes outline.now.segment) result) }
+    ensures exact { IfTold R.Reads src.old file (λ bytes. (held : ℕ) → outline_in held bytes ≡ Ok outline.now
+        → ReadsAs (first_tree id bytes outline.now.segment) result) }
     ensures sound { IfOk result (λ tree. IfSome tree (IsSoundOf id)) }
     ensures standing { R.standing src.new ≡ R.standing src.old }
     ensures cause { HasCause is_outline_fault (R.reading_faults src.old) (R.reading_faults src.new) result }
+    ensures octets { R.octets_read src.new ≤ R.octets_read src.old + file_size R.Reads src.old file }
 {
     let Some(header) = outline.first(id) else {
         return Ok(None);

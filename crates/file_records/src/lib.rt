@@ -6,4 +6,4 @@
 mod first_tree;
 mod records;
 
-pub use records::{Records, read_records};
+pub use records::{Records, read_records, scale_of};

@@ -1,17 +1,17 @@
 //! The records of a file.
 
-ghost use Rattle.std.specs.Prelude.{◌≡◌, false, List, ℕ, Ok, IfOk, IfErr, IfSome};
+ghost use Rattle.std.specs.Prelude.{◌≡◌, ◌+◌, ◌*◌, ◌≤◌, false, List, ℕ, Ok, IfOk, IfErr, IfSome};
 ghost use Rattle.mkv_schema.specs.declared.ids.TheConstants.{INFO as INFO_ID, TRACKS as TRACKS_ID};
 ghost use Rattle.mkv_io.specs.Faults.{HasCause};
 ghost use Rattle.mkv_io.specs.Sources.{IfTold, IsLive, file_size};
 ghost use Rattle.tree_format.specs.Standing.{IsSoundOf};
 ghost use Rattle.element_reader.specs.Outline.{is_outline_fault, outline_in};
-ghost use Rattle.file_records.specs.Records.{AreGood, AreRead, ReadsAs, file_records, good_info, good_tracks};
+ghost use Rattle.file_records.specs.Records.{AreGood, AreRead, IsGoodInfo, ReadsAs, file_records, good_info, good_tracks, scale_of_info};
 
 use crate::first_tree::first_tree;
 use ebml_tree::{Tree, TreeEnd};
 use element_reader::{Header, Outline, OutlineEnd};
-use meta_records::read_info;
+use meta_records::{DEFAULT_SCALE, read_info};
 use mkv_io::Reads;
 use mkv_schema::ids::{INFO, TRACKS};
 use mkv_values::{Damage, FileId, Kind, List};
@@ -27,8 +27,9 @@ pub struct Records {
     pub tracks: List<Track>,
 }
 
-/// The records of a file with this outline, or the first thing that refuses them: of Info and then of Tracks, first what
-/// is wrong inside, and then a value that is refused. A file without Tracks is refused.
+/// The records of a file with this outline, or the first thing that refuses them: of Info and then of Tracks, first
+/// what is wrong inside, and then a value that is refused. A file without Tracks is refused. Earlier inputs may have
+/// held any number of octets when the outline was read.
 pub fn read_records<R: Reads>(
     alloc: Global,
     outline: &Outline,
@@ -37,17 +38,33 @@ pub fn read_records<R: Reads>(
 ) -> Result<Records, OutlineEnd>
     requires live { IsLive R.Reads src.old file }
     requires whole { outline.now.total ≡ file_size R.Reads src.old file }
-    ensures exact { IfTold R.Reads src.old file (λ bytes.
-        outline_in 0 bytes ≡ Ok outline.now → ReadsAs (file_records bytes outline.now.segment) result) }
+    ensures exact { IfTold R.Reads src.old file (λ bytes. (held : ℕ) → outline_in held bytes ≡ Ok outline.now
+        → ReadsAs (file_records bytes outline.now.segment) result) }
     ensures good { IfOk result AreGood }
     ensures standing { R.standing src.new ≡ R.standing src.old }
     ensures cause { HasCause is_outline_fault (R.reading_faults src.old) (R.reading_faults src.new) result }
+    ensures octets { R.octets_read src.new ≤ R.octets_read src.old + 2 * file_size R.Reads src.old file }
 {
     let info = first_tree(alloc, outline, src, file, INFO)?;
     let info = good_info(info)?;
     let tracks = first_tree(alloc, outline, src, file, TRACKS)?;
     let tracks = good_tracks(alloc, &outline.segment(), tracks)?;
     Ok(Records { info, tracks })
+}
+
+/// Nanoseconds a tick of a file whose first Info this is.
+pub fn scale_of(info: &Option<Tree>) -> u64
+    requires { IfSome info.now IsGoodInfo }
+    ensures value { result ≡ scale_of_info info.now }
+    ensures some { 1 ≤ result }
+{
+    let Some(info) = info else {
+        return DEFAULT_SCALE;
+    };
+    match read_info(info) {
+        Ok(values) => values.scale,
+        Err(_) => unreachable!(),
+    }
 }
 
 /// An Info, unless something refuses it.

@@ -32,7 +32,7 @@ with-all : (dss : List (List Damage)) → with_all (replicate (length dss) (told
 with-all [] = refl
 with-all (ds ∷ dss) = ap (λ t. t ∷ with_all (replicate (length dss) (told_damages [])) dss) (with-told [] ds) ∙ ap (λ ts. told_damages ds ∷ ts) (with-all dss)
 
-length-damages : (gs : List Given) → length (lane_damages gs) ≡ length gs
+pub length-damages : (gs : List Given) → length (lane_damages gs) ≡ length gs
 length-damages [] = refl
 length-damages (g ∷ gs) = ap suc (split (length-damages gs) g.stops)
   where

@@ -2,6 +2,7 @@
 
 ghost use Rattle.std.specs.Prelude.{◌≡◌, ◌-◌, ◌≤◌, length, IfOk};
 ghost use Rattle.std.specs.List.{All, slice_get};
+ghost use Rattle.std.specs.Option.{option_copied};
 ghost use Rattle.mkv_io.specs.Faults.{HasCause, is_read_fault};
 ghost use Rattle.mkv_io.specs.LiveFiles.{LiveFiles};
 ghost use Rattle.mkv_io.specs.Sources.{live_files};
@@ -16,6 +17,7 @@ ghost use Rattle.lanes.specs.Walks.{text_of};
 use crate::told::{LinkDamage, damage_at, more_of};
 use crate::turn::{Turn, take_turn};
 use crate::walk::Walk;
+use cluster_reader::Damages;
 use lane_blocks::{LaneSpec, Link, OutHead, TextLink};
 use mkv_io::Reads;
 use mkv_values::ReadEnd;
@@ -129,6 +131,13 @@ impl Lane {
         ensures { result ≡ more_of self.now.walk.told.items link }
     {
         more_of(self.walk.told.as_slice(), link)
+    }
+
+    /// The damages of the link of this number, from 0, that were reached: the first hundred, and how many others.
+    pub fn damages(&self, link: usize) -> Option<&Damages>
+        ensures { option_copied result ≡ slice_get self.now.walk.told.items link }
+    {
+        self.walk.told.get(link)
     }
 
     /// What the block says of itself.

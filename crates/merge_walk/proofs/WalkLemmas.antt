@@ -79,33 +79,3 @@ meets-end all old lanes walked meets none few small = record {
   where
     alone : (n : ℕ) → n ≤ last_count → n ≡ counted n 0
     alone n most = grind arith
-
--- the lane that a merge lends is the one that gave the block
-pub same-lane : (f : LiveFiles) (old new : MergeSeen) (k : ℕ) (l : LaneSeen) → (gives : GivesBlock f old new k) → option_map (λ (q : Queue). q.lane) (slice_get new.queues k) ≡ Some l → gives.queue.lane ≡ l
-same-lane f old new k l gives is = let e : Some gives.queue.lane ≡ Some l = sym (ap (option_map (λ (q : Queue). q.lane)) gives.here) ∙ is in cc
-
--- the lane that it lends is the one of which a block can be written
-pub steps-lane : (old new : MergeSeen) (k : ℕ) (l : LaneSeen) → StepsTo old new k → option_map (λ (q : Queue). q.lane) (slice_get new.queues k) ≡ Some l → IsLent (lent l)
-steps-lane old new k l steps is =
-    let same : steps.queue.lane ≡ l = let e : Some steps.queue.lane ≡ Some l = sym (ap (option_map (λ (q : Queue). q.lane)) steps.here) ∙ is in cc in
-    subst (λ (each : LaneSeen). IsLent (lent each)) same steps.lends.lent
-
--- what stays of lanes keeps how many there are, and which files they read
-pub count-kept : (old new : List Queue) → KeepsQueues old new → length new ≡ length old
-count-kept old new keeps = sym (length-map new lane_kept) ∙ ap length keeps ∙ length-map old lane_kept
-
-pub told-kept : (f : LiveFiles) (old new : List Queue) → KeepsQueues old new → AreTold f old → AreTold f new
-told-kept f old new keeps told =
-    all-of-map new (subst (λ ks. All (λ (k : LaneKept). All (IsToldLink f) k.links) ks) (sym keeps) (all-to-map old told))
-  where
-    all-of-map : (qs : List Queue) → All (λ (k : LaneKept). All (IsToldLink f) k.links) (map lane_kept qs) → AreTold f qs
-    all-of-map [] all = All-nil (λ (q : Queue). All (IsToldLink f) q.lane.links)
-    all-of-map (q ∷ qs) all =
-        All-cons (λ (each : Queue). All (IsToldLink f) each.lane.links) q qs (All-head (λ (k : LaneKept). All (IsToldLink f) k.links) (lane_kept q) (map lane_kept qs) all)
-        (all-of-map qs (All-tail (λ (k : LaneKept). All (IsToldLink f) k.links) (lane_kept q) (map lane_kept qs) all))
-
-    all-to-map : (qs : List Queue) → AreTold f qs → All (λ (k : LaneKept). All (IsToldLink f) k.links) (map lane_kept qs)
-    all-to-map [] all = All-nil (λ (k : LaneKept). All (IsToldLink f) k.links)
-    all-to-map (q ∷ qs) all =
-        All-cons (λ (k : LaneKept). All (IsToldLink f) k.links) (lane_kept q) (map lane_kept qs) (All-head (λ (each : Queue). All (IsToldLink f) each.lane.links) q qs all)
-        (all-to-map qs (All-tail (λ (each : Queue). All (IsToldLink f) each.lane.links) q qs all))

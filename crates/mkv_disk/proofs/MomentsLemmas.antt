@@ -1,5 +1,5 @@
 -- How runs of calls join, by what a crash may leave at any moment of them.
-use Rattle.std.proofs.Common.{◌≡◌, inl, inr, ⊎_elim, ℕ, List, arith, subst}
+use Rattle.std.proofs.Common.{◌≡◌, inl, inr, ⊎_elim, ℕ, List, arith, subst, sym}
 use Rattle.mkv_disk.specs.Moments.{LeavesOnly}
 use Rattle.mkv_disk.specs.Pair.{Pair, IsPairImage}
 
@@ -46,4 +46,16 @@ module _ {D : Type 0} (moment : D → ℕ) (left_since : D → ℕ → List ℕ 
     each = λ m s left. here m s (back (moment old) m s left);
     before = λ t m s le left. inl (back t m s left);
     keeps = λ t m s le left. forth t m s left;
+  }
+
+  -- a run behind such a call
+  pub after_same : (old mid new : D) (P : List ℕ → List ℕ → Type 0) → moment mid ≡ moment old
+      → ((t : ℕ) (m s : List ℕ) → left_since mid t m s → left_since old t m s)
+      → ((t : ℕ) (m s : List ℕ) → left_since old t m s → left_since mid t m s)
+      → LeavesOnly moment left_since mid new P → LeavesOnly moment left_since old new P
+  after_same old mid new P time back forth run = record {
+    later = let later = run.later in omega arith;
+    each = λ m s left. run.each m s (subst (λ t. left_since new t m s) (sym time) left);
+    before = λ t m s le left. ⊎_elim (λ was. inl (back t m s was)) (λ has. inr has) (run.before t m s (omega arith) left);
+    keeps = λ t m s le left. run.keeps t m s (omega arith) (forth t m s left);
   }

@@ -27,7 +27,7 @@ use Rattle.mkv_lines.specs.declared.status.Status.{Status}
 use Rattle.mkv_lines.specs.declared.status.Stop.{Stop}
 use Rattle.mkv_lines.proofs.SaidLemmas.{SaysPart-before, SaysPart-behind, Says-then}
 use Rattle.mkv_lines.proofs.VerdictLemmas.{Leaves-same}
-use Rattle.mkv_extract.specs.Extract.{absent, damage_lines, has_absent, is_input, status_of, taken_verdict}
+use Rattle.mkv_extract.specs.Extract.{absent, told_lines, has_absent, is_input, status_of, taken_verdict}
 use Rattle.mkv_extract.specs.Told.{written}
 use Rattle.mkv_extract.proofs.ToldLemmas.{written-names}
 
@@ -74,21 +74,21 @@ reaches-told old new mid (Err why) v first rest outputs lines writes said says s
 pub taken-begun : (old new : Seen) (why : Stop) (name : List ℕ) (job : Job) (tracks : List Track) (events : List Event) (targets : List Target) (count : ℕ) → targets ≡ targets_of job → count ≡ length tracks → SaysPart old.lines new.lines (map (no_track_line name) (absent count targets)) → new.names ≡ old.names → Reaches old new (Err why) (taken_verdict name job tracks events)
 taken-begun old new why name job tracks events targets count is counted part names =
     reaches-begun old new why (taken_verdict name job tracks events) (map (no_track_line name) (absent (length tracks) (targets_of job)))
-    (map wrote_line (names_of (outputs_of (job_outputs job (map entry_in tracks)) (blocks_of events))) ++ damage_lines name (told_damages (damages_of events)))
+    (map wrote_line (names_of (outputs_of (job_outputs job (map entry_in tracks)) (blocks_of events))) ++ told_lines name (told_damages (damages_of events)))
     refl
     (subst (λ (n : ℕ). SaysPart old.lines new.lines (map (no_track_line name) (absent n (targets_of job)))) counted
     (subst (λ (ts : List Target). SaysPart old.lines new.lines (map (no_track_line name) (absent count ts))) is part))
     names
 
 -- all that isn't there was warned of, and the outputs stand whole
-pub taken-told : (old new : Seen) (mid : ReportLines) (r : Result Status Stop) (name : List ℕ) (job : Job) (tracks : List Track) (events : List Event) (targets : List Target) (count : ℕ) (damages : ToldDamages) → IsSome (taken_of job) → targets ≡ targets_of job → count ≡ length tracks → damages ≡ told_damages (damages_of events) → mid ≡ with_lines old.lines (map (no_track_line name) (absent count targets)) → Says mid new.lines (map wrote_line (written count targets) ++ damage_lines name damages) r → IfOk r (λ s. s ≡ status_of (has_absent count targets) (damages_of events)) → new.names ≡ with_outputs old.names (outputs_of (job_outputs job (map entry_in tracks)) (blocks_of events)) → Reaches old new r (taken_verdict name job tracks events)
+pub taken-told : (old new : Seen) (mid : ReportLines) (r : Result Status Stop) (name : List ℕ) (job : Job) (tracks : List Track) (events : List Event) (targets : List Target) (count : ℕ) (damages : ToldDamages) → IsSome (taken_of job) → targets ≡ targets_of job → count ≡ length tracks → damages ≡ told_damages (damages_of events) → mid ≡ with_lines old.lines (map (no_track_line name) (absent count targets)) → Says mid new.lines (map wrote_line (written count targets) ++ told_lines name damages) r → IfOk r (λ s. s ≡ status_of (has_absent count targets) (damages_of events)) → new.names ≡ with_outputs old.names (outputs_of (job_outputs job (map entry_in tracks)) (blocks_of events)) → Reaches old new r (taken_verdict name job tracks events)
 taken-told old new mid r name job tracks events targets count damages takes is counted whole said says status names =
     reaches-told old new mid r (taken_verdict name job tracks events) (map (no_track_line name) (absent (length tracks) (targets_of job)))
-    (map wrote_line (names_of outputs) ++ damage_lines name (told_damages (damages_of events)))
+    (map wrote_line (names_of outputs) ++ told_lines name (told_damages (damages_of events)))
     outputs refl refl
     (said ∙ ap (λ (n : ℕ). with_lines old.lines (map (no_track_line name) (absent n targets))) counted ∙ ap (λ (ts : List Target). with_lines old.lines (map (no_track_line name) (absent (length tracks) ts))) is)
-    (subst (λ (d : ToldDamages). Says mid new.lines (map wrote_line (names_of outputs) ++ damage_lines name d) r) whole
-    (subst (λ (names : List (List ℕ)). Says mid new.lines (map wrote_line names ++ damage_lines name damages) r) named says))
+    (subst (λ (d : ToldDamages). Says mid new.lines (map wrote_line (names_of outputs) ++ told_lines name d) r) whole
+    (subst (λ (names : List (List ℕ)). Says mid new.lines (map wrote_line names ++ told_lines name damages) r) named says))
     (subst (λ (ts : List Target). IfOk r (λ s. s ≡ status_of (has_absent (length tracks) ts) (damages_of events))) is
     (subst (λ (n : ℕ). IfOk r (λ s. s ≡ status_of (has_absent n targets) (damages_of events))) counted status))
     names

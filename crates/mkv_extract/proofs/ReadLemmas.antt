@@ -1,44 +1,26 @@
 -- The tracks that targets name, and what keeps their frames from being used.
-use Rattle.std.proofs.Common.{◌≡◌, ℕ, zero, suc, ◌+◌, ◌<◌, ◌≤◌, ◌==◌, Bool, true, false, ◌||◌, if◌then◌else◌, List, [], ◌∷◌, ◌++◌, length, drop, get_or, map, Option, Some, None, IfSome, slice_get, Result, Ok, Err, refl, sym, ◌∙◌, ap, subst, arith, eq-eqb}
-use Rattle.std.specs.List.{All, list_any}
+use Rattle.std.proofs.Common.{◌≡◌, ℕ, zero, suc, ◌+◌, ◌<◌, ◌≤◌, ◌==◌, Bool, true, false, ◌||◌, if◌then◌else◌, List, [], ◌∷◌, ◌++◌, length, drop, get_or, map, Option, Some, None, IfSome, slice_get, Result, Ok, Err, refl, sym, ◌∙◌, ap, arith, eq-eqb}
 use Rattle.std.proofs.Math.Seq.{drop-cons}
 use Rattle.std.proofs.lemmas.List.{drop_all}
 use Rattle.mkv_values.specs.declared.damage.Damage.{Damage}
 use Rattle.mkv_jobs.specs.declared.job.Job.{Job}
 use Rattle.mkv_jobs.specs.declared.job.Target.{Target}
 use Rattle.matroska_format.specs.declared.element.Header.{Header}
-use Rattle.matroska_format.specs.Outline.{Outlined, and_then, first_damage, outline_of, unless}
+use Rattle.matroska_format.specs.Outline.{Outlined, and_then, first_damage, unless}
 use Rattle.element_reader.specs.Outline.{FileOutline, outline_in}
-use Rattle.element_reader.proofs.OutlineLemmas.{Outlines, Outlines-shown, outline_of-refused}
+use Rattle.element_reader.proofs.OutlineLemmas.{Outlines-shown, outline_of-refused}
 use Rattle.block_format.specs.Elements.{with_limits}
 use Rattle.block_format.specs.Events.{events_of}
 use Rattle.file_blocks.specs.File.{file_events}
 use Rattle.file_records.specs.Records.{file_records, scale_of_info}
 use Rattle.file_records.specs.declared.records.Records.{Records}
+use Rattle.file_records.proofs.CausesLemmas.{first_damage-behind, first_damage-front, first_damage-some}
 use Rattle.file_records.proofs.RecordsLemmas.{file_records-scale}
 use Rattle.extract_model.specs.Job.{targets_of}
-use Rattle.tree_format.specs.Node.{Node}
-use Rattle.track_format.specs.Encoding.{prefix_of, usable_causes, usable_prefix}
+use Rattle.track_format.specs.Encoding.{usable_causes}
 use Rattle.track_records.specs.declared.track.Track.{Track}
 use Rattle.extractors.specs.Source.{AreUsableOf, IsUsable, entry_in}
 use Rattle.mkv_extract.specs.Read.{FileRead, causes_from, causes_of, first_unusable, is_named, read_of}
-
--- ---- the first of several causes
-
-first_damage-front : (xs ys : List (Option Damage)) → first_damage (xs ++ ys) ≡ None → first_damage xs ≡ None
-first_damage-front [] ys none = refl
-first_damage-front (None ∷ xs) ys none = first_damage-front xs ys none
-first_damage-front (Some d ∷ xs) ys none = absurd (cc)
-
-first_damage-behind : (xs ys : List (Option Damage)) → first_damage xs ≡ None → first_damage (xs ++ ys) ≡ first_damage ys
-first_damage-behind [] ys none = refl
-first_damage-behind (None ∷ xs) ys none = first_damage-behind xs ys none
-first_damage-behind (Some d ∷ xs) ys none = absurd (cc)
-
-first_damage-some : (xs ys : List (Option Damage)) (d : Damage) → first_damage xs ≡ Some d → first_damage (xs ++ ys) ≡ Some d
-first_damage-some [] ys d some = absurd (cc)
-first_damage-some (None ∷ xs) ys d some = first_damage-some xs ys d some
-first_damage-some (Some e ∷ xs) ys d some = some
 
 -- ---- in a walk over the tracks
 
@@ -66,21 +48,6 @@ causes-bad targets tracks k t d below is some =
 -- at last none is left
 pub causes-none : (targets : List Target) (tracks : List Track) (k : ℕ) → length tracks ≤ k → first_damage (causes_from targets k (drop k tracks)) ≡ None
 causes-none targets tracks k all = ap (λ (ts : List Track). first_damage (causes_from targets k ts)) (drop_all k tracks all)
-
--- what a call answers of a track
-pub usable-none : (entry : Node) (prefix : List ℕ) → usable_prefix entry ≡ Ok prefix → first_damage (usable_causes entry) ≡ None
-usable-none entry prefix is = step (first_damage (usable_causes entry)) is
-  where
-    step : (refusal : Option Damage) → unless refusal (prefix_of entry) ≡ Ok prefix → refusal ≡ None
-    step None made = refl
-    step (Some d) made = absurd (cc)
-
-pub usable-some : (entry : Node) (d : Damage) → usable_prefix entry ≡ Err d → first_damage (usable_causes entry) ≡ Some d
-usable-some entry d is = step (first_damage (usable_causes entry)) is
-  where
-    step : (refusal : Option Damage) → unless refusal (prefix_of entry) ≡ Err d → refusal ≡ Some d
-    step None made = absurd (cc)
-    step (Some e) made = let same : e ≡ d = cc in ap (λ (x : Damage). Some x) same
 
 -- ---- where nothing refuses the file
 

@@ -13,7 +13,7 @@ use Rattle.mkv_outputs.specs.Outputs.{Output, names_of}
 use Rattle.extract_model.specs.Content.{outputs_of}
 use Rattle.extract_model.specs.Job.{job_outputs, targets_of}
 use Rattle.extractors.specs.Source.{entry_in}
-use Rattle.mkv_lines.specs.Line.{missing_line, more_damages_line, no_track_line, output_is_input_line, refusal_line, warning_line, wrote_line}
+use Rattle.mkv_lines.specs.Line.{damage_lines, missing_line, no_track_line, output_is_input_line, refusal_line, wrote_line}
 use Rattle.mkv_lines.specs.Verdict.{Verdict, at_once, refused}
 use Rattle.mkv_lines.specs.declared.status.Status.{Status}
 use Rattle.mkv_lines.specs.declared.status.Status.TheVariants.{Done, Warned}
@@ -36,13 +36,9 @@ has_absent count targets = list_any (λ (t : Target). nat_le count t.id) targets
 
 -- ---- the damages
 
--- the number of the damages that aren't told one by one
-abbrev pub more_lines : List ℕ → ℕ → List (List ℕ)
-more_lines name more = if more == 0 then [] else more_damages_line name more ∷ []
-
--- a warning for each of the first damages, and the number of the others
-abbrev pub damage_lines : List ℕ → ToldDamages → List (List ℕ)
-damage_lines name d = map (warning_line name) d.first ++ more_lines name d.more
+-- a warning for each of the damages that are told one by one, and the number of the others
+abbrev pub told_lines : List ℕ → ToldDamages → List (List ℕ)
+told_lines name d = damage_lines name d.first d.more
 
 -- ---- the verdict
 
@@ -56,7 +52,7 @@ status_of true damages = Warned
 abbrev pub extracted : List ℕ → List Target → ℕ → List Output → List Damage → Verdict
 extracted name targets count outputs damages = record {
   status = status_of (has_absent count targets) damages;
-  lines = map (no_track_line name) (absent count targets) ++ (map wrote_line (names_of outputs) ++ damage_lines name (told_damages damages));
+  lines = map (no_track_line name) (absent count targets) ++ (map wrote_line (names_of outputs) ++ told_lines name (told_damages damages));
   outputs = at_once outputs;
 }
 

@@ -6,7 +6,7 @@ ghost use Rattle.cluster_reader.specs.ToldDamages.{told_damages};
 ghost use Rattle.mkv_lines.specs.Line.{no_track_line, warning_line, wrote_line};
 ghost use Rattle.mkv_lines.specs.Ordinary.{IsOrdinary};
 ghost use Rattle.mkv_lines.specs.Said.{HasSayCause, Says};
-ghost use Rattle.mkv_extract.specs.Extract.{absent, damage_lines, has_absent, status_of};
+ghost use Rattle.mkv_extract.specs.Extract.{absent, told_lines, has_absent, status_of};
 ghost use Rattle.mkv_extract.specs.Read.{is_named};
 ghost use Rattle.mkv_extract.specs.Told.{written};
 
@@ -56,7 +56,7 @@ pub fn tell<P: Report>(
     report: &mut P,
 ) -> Result<Status, Stop>
     ensures said { Says (P.lines report.old) (P.lines report.new)
-        (map wrote_line (written count targets.now) ++ damage_lines name.now damages.now) result }
+        (map wrote_line (written count targets.now) ++ told_lines name.now damages.now) result }
     ensures status { (list : List Damage) → damages.now ≡ told_damages list
         → IfOk result (λ status. status ≡ status_of (has_absent count targets.now) list) }
     ensures ordinary { IfOk result IsOrdinary }
@@ -89,7 +89,7 @@ fn say_wrote<P: Report>(
 
 /// A warning for each of the first damages, and the number of the others.
 fn warn<P: Report>(alloc: Global, name: &str, damages: &Damages, report: &mut P) -> Result<(), Stop>
-    ensures said { Says (P.lines report.old) (P.lines report.new) (damage_lines name.now damages.now) result }
+    ensures said { Says (P.lines report.old) (P.lines report.new) (told_lines name.now damages.now) result }
     ensures cause { HasSayCause (P.faults report.old) (P.faults report.new) result }
 {
     let first = damages.first();

@@ -1,9 +1,9 @@
 -- The lines that a user is told, each without its line end.
-use Rattle.std.specs.Prelude.{ℕ, ◌++◌, List, codes}
+use Rattle.std.specs.Prelude.{ℕ, ◌==◌, ◌++◌, if◌then◌else◌, List, [], ◌∷◌, map, codes}
 use Rattle.std.specs.Fmt.{decimal}
 use Rattle.mkv_values.specs.declared.damage.Damage.{Damage}
 use Rattle.matroska_format.specs.declared.element.Header.{Header}
-use Rattle.mkv_lines.specs.Shown.{damage_text, id_text, level_0_name, level_1_name, place_text, shown_text, track_text}
+use Rattle.mkv_lines.specs.Shown.{damage_text, element_text, level_0_name, level_1_name, place_text, shown_text, track_text}
 use Rattle.mkv_lines.specs.declared.line.Line.{Line}
 use Rattle.mkv_lines.specs.declared.line.Line.TheVariants.{Level0, Level1, Track, Refused, Warned, MoreDamages, NoTrack, Missing, OutputIsInput, NotTaken, NoLane, TooManyLanes, NotWebm, TooLarge, Wrote, WroteBlocks, Word, FilesFault}
 
@@ -27,6 +27,14 @@ warning_line name d = codes "warning: " ++ (shown_text name ++ (codes ": " ++ da
 abbrev pub more_damages_line : List ℕ → ℕ → List ℕ
 more_damages_line name more = codes "warning: " ++ (shown_text name ++ (codes ": " ++ (decimal more ++ codes " more damages")))
 
+-- the number of a file's damages that aren't told one by one, if there are any
+abbrev pub more_lines : List ℕ → ℕ → List (List ℕ)
+more_lines name more = if more == 0 then [] else more_damages_line name more ∷ []
+
+-- a warning for each of a file's first damages, and the number of the others
+abbrev pub damage_lines : List ℕ → List Damage → ℕ → List (List ℕ)
+damage_lines name first more = map (warning_line name) first ++ more_lines name more
+
 -- a file that hasn't the track of a number, counted from 0
 abbrev pub no_track_line : List ℕ → ℕ → List ℕ
 no_track_line name number = codes "warning: " ++ (shown_text name ++ (codes ": no track " ++ decimal number))
@@ -41,7 +49,7 @@ output_is_input_line name = codes "error: " ++ (shown_text name ++ codes ": Outp
 
 -- a file that has an Element which isn't taken over yet, and isn't left out
 abbrev pub not_taken_line : List ℕ → ℕ → List ℕ
-not_taken_line name id = codes "error: " ++ (shown_text name ++ (codes ": NotBuilt, element " ++ id_text id))
+not_taken_line name id = codes "error: " ++ (shown_text name ++ (codes ": NotBuilt" ++ element_text id))
 
 -- an output that would have no lane, or too many
 abbrev pub no_lane_line : List ℕ
@@ -56,7 +64,7 @@ not_webm_line codec = codes "error: NotWebm, " ++ shown_text codec
 
 -- an output of which an Element would be too large
 abbrev pub too_large_line : List ℕ → ℕ → List ℕ
-too_large_line name id = codes "error: " ++ (shown_text name ++ (codes ": HeaderTooLarge, element " ++ id_text id))
+too_large_line name id = codes "error: " ++ (shown_text name ++ (codes ": " ++ (codes "HeaderTooLarge" ++ element_text id)))
 
 -- an output that stands whole
 abbrev pub wrote_line : List ℕ → List ℕ

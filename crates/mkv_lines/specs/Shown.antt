@@ -35,6 +35,10 @@ shown_text text = flat_map shown_char (chars text)
 abbrev pub id_text : ℕ → List ℕ
 id_text id = digits 16 true id
 
+-- the Element of which something is told, by its ID
+abbrev pub element_text : ℕ → List ℕ
+element_text id = codes ", element " ++ id_text id
+
 -- the ID at a place where something is wrong: none is told by 0
 abbrev pub damaged_id : ℕ → List ℕ
 damaged_id id = if id == 0 then codes "-" else id_text id

@@ -1,6 +1,6 @@
 //! The lines that a user is told.
 
-use crate::shown::{Level0Name, Level1Name, ShownDamage, ShownPlace, ShownTrack};
+use crate::shown::{Level0Name, Level1Name, ShownDamage, ShownElement, ShownPlace, ShownTrack};
 use crate::shown_text::ShownText;
 use matroska_format::Header;
 use mkv_values::Damage;
@@ -89,8 +89,8 @@ impl fmt::Display for Line<'_> {
                 write!(f, "error: {name}: OutputIsInput")
             }
             Line::NotTaken { name, id } => {
-                let name = ShownText(name);
-                write!(f, "error: {name}: NotBuilt, element {id:X}")
+                let (name, element) = (ShownText(name), ShownElement(id));
+                write!(f, "error: {name}: NotBuilt{element}")
             }
             Line::NoLane => f.write_str("error: NoLane"),
             Line::TooManyLanes => f.write_str("error: TooManyLanes"),
@@ -99,8 +99,8 @@ impl fmt::Display for Line<'_> {
                 write!(f, "error: NotWebm, {codec}")
             }
             Line::TooLarge { name, id } => {
-                let name = ShownText(name);
-                write!(f, "error: {name}: HeaderTooLarge, element {id:X}")
+                let (name, why, element) = (ShownText(name), "HeaderTooLarge", ShownElement(id));
+                write!(f, "error: {name}: {why}{element}")
             }
             Line::Wrote { name } => {
                 let name = ShownText(name);

@@ -8,6 +8,22 @@ use mkv_schema::{may_stand, row};
 use mkv_values::Damage;
 use std::fmt;
 
+/// The Element of which something is told, by its ID.
+#[derive(Clone, Copy)]
+pub struct ShownElement(pub u32);
+
+impl fmt::Display for ShownElement {
+    ghost use Rattle.std.specs.Prelude.{Some};
+    ghost use Rattle.mkv_lines.specs.Shown.{element_text};
+
+    ghost output = { λ id. Some (element_text id.0) };
+
+    fn fmt<W: fmt::Write>(&self, f: &mut fmt::Formatter<W>) -> fmt::Result {
+        let id = self.0;
+        write!(f, ", element {id:X}")
+    }
+}
+
 /// The ID at a place where something is wrong, `-` where there is none.
 #[derive(Clone, Copy)]
 pub struct DamagedId(pub u32);

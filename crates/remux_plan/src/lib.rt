@@ -12,3 +12,6 @@ pub use output_model::ClusterLimits;
 pub use plan::{MergePlan, PlannedLane};
 pub use segment_octets::Front;
 pub use summary::{InputDamage, MoreDamage, Summary, Written};
+
+/// The most inputs of a merge.
+pub const MOST_INPUTS: usize = 64;

@@ -161,3 +161,15 @@ module _ {D : Type 0} (moment : D → ℕ) (left_since : D → ℕ → List ℕ 
     pub closed : (b c : D) → pair b ≡ both (applied M (writes_of p)) (OPEN ∷ body_of p) → Run b → Gates b c → Run c
     closed b c is run next = followed moment left_since a b c (IsEditing p M) (λ m s. (m ≡ (pair b).media.reads) × IsGated (pair b).sidecar.reads s)
         (λ m s has. editing-closing p M plan some made m s (subst (λ (q : Pair). (m ≡ q.media.reads) × IsGated q.sidecar.reads s) is has)) run next
+
+  -- of an edit that is redone
+  module _ (a : D) (applies : recovery (pair a).media.reads (pair a).sidecar.reads ≡ Ok Applied) where
+    abbrev pub Redo : D → Type 0
+    Redo b = LeavesOnly moment left_since a b (IsRedoing (pair a).media.reads (pair a).sidecar.reads)
+
+    pub rewritten : (b : D) → Writes (writes_in (pair a).sidecar.reads) a b → Redo b
+    rewritten b run = weaker moment left_since a b _ (IsRedoing (pair a).media.reads (pair a).sidecar.reads) (λ m s has. redoing-writes (pair a).media.reads (pair a).sidecar.reads applies m s has) run
+
+    pub shut : (b c : D) → pair b ≡ both (applied (pair a).media.reads (writes_in (pair a).sidecar.reads)) (pair a).sidecar.reads → Redo b → Gates b c → Redo c
+    shut b c is run next = followed moment left_since a b c (IsRedoing (pair a).media.reads (pair a).sidecar.reads) (λ m s. (m ≡ (pair b).media.reads) × IsGated (pair b).sidecar.reads s)
+        (λ m s has. redoing-closing (pair a).media.reads (pair a).sidecar.reads applies m s (subst (λ (q : Pair). (m ≡ q.media.reads) × IsGated q.sidecar.reads s) is has)) run next

@@ -1,3 +1,5 @@
+pub mod CopiesLemmas
 pub mod EditLemmas
 pub mod GateLemmas
 pub mod PartlyLemmas
+pub mod RecoverLemmas

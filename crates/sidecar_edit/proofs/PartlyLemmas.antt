@@ -126,14 +126,14 @@ cut_at (p ∷ ps) bytes (suc i) d e inside =
     cut_at ps (drop p.len bytes) i d e (omega arith)
     ∙ ap (λ rest. record { at = (get_or ps i d).at; bytes = take (get_or ps i d).len rest }) (drop-drop (sum_of (take i ps)) p.len bytes)
 
-sum_more : (ps : List Place) (i : ℕ) (d : Place) → i < length ps → sum_of (take (i + 1) ps) ≡ sum_of (take i ps) + (get_or ps i d).len
+pub sum_more : (ps : List Place) (i : ℕ) (d : Place) → i < length ps → sum_of (take (i + 1) ps) ≡ sum_of (take i ps) + (get_or ps i d).len
 sum_more [] i d inside = absurd (omega arith)
 sum_more (p ∷ ps) zero d inside = omega arith
 sum_more (p ∷ ps) (suc i) d inside =
     let more = sum_more ps i d (omega arith) in
     ap (λ n. sum_of (take n (p ∷ ps))) (add-one (suc i)) ∙ ap (λ n. p.len + sum_of (take n ps)) (sym (add-one i)) ∙ omega arith
 
-sum_within : (ps : List Place) (i : ℕ) (d : Place) → i < length ps → sum_of (take i ps) + (get_or ps i d).len ≤ sum_of ps
+pub sum_within : (ps : List Place) (i : ℕ) (d : Place) → i < length ps → sum_of (take i ps) + (get_or ps i d).len ≤ sum_of ps
 sum_within [] i d inside = absurd (omega arith)
 sum_within (p ∷ ps) zero d inside = omega arith
 sum_within (p ∷ ps) (suc i) d inside = let more = sum_within ps i d (omega arith) in omega arith

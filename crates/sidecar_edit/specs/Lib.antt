@@ -1,2 +1,4 @@
+pub mod Copies
 pub mod Leaves
 pub mod Partly
+pub mod Recovering

@@ -1,29 +1,29 @@
 //! What a sidecar holds, read from a file.
 
-ghost use Rattle.std.specs.Prelude.{◌≡◌, ◌+◌, ◌≤◌, ℕ, min, IfOk, length, take};
-ghost use Rattle.mkv_io.specs.Contents.{octets_from};
+ghost use Rattle.std.specs.Prelude.{◌≡◌, ◌+◌, ◌≤◌, ℕ, min, false, IfOk, IfSome, length, take};
 ghost use Rattle.mkv_io.specs.Faults.{HasCause, is_failure};
 ghost use Rattle.mkv_io.specs.Sources.{IfTold, IsLive, OnlyReads, file_size};
-ghost use Rattle.sidecar_format.specs.Gate.{state};
-ghost use Rattle.sidecar_format.specs.declared.place.TheConstants.{HEAD};
+ghost use Rattle.sidecar_format.specs.Gate.{IsLiveHead, state};
+ghost use Rattle.sidecar_format.specs.Recovery.{is_disk_fault, unfit};
+ghost use Rattle.sidecar_format.specs.declared.place.TheConstants.{HEAD, KEPT};
 
+use mkv_disk::{MEDIA, SIDECAR};
 use mkv_io::Reads;
 use mkv_values::{Failed, FileId};
-use sidecar_format::{Gate, HEAD, gate_of};
+use sidecar_format::{Gate, HEAD, KEPT, RecoverEnd, gate_of, unfit};
 
-/// Reads a file's first octets, 232 or as many as it has, and answers how many.
+/// Reads a file's first octets, as many as `first` holds or the file has, and answers how many.
 #[tactic(auto, using(std::proofs::lemmas::List::take_at))]
-fn read_head<R: Reads>(src: &mut R, file: FileId, head: &mut [u8]) -> Result<usize, Failed>
-    requires live { IsLive R.Reads src.old file }
-    requires room { length head.old ≡ HEAD }
-    ensures count { IfOk result (λ count. count ≡ min HEAD (file_size R.Reads src.old file)) }
-    ensures ok { IfOk result (λ count. IfTold R.Reads src.old file (λ bytes. take count head.new ≡ octets_from bytes 0 count)) }
+pub fn read_first<R: Reads>(src: &mut R, file: FileId, first: &mut [u8]) -> Result<usize, Failed>
+    requires { IsLive R.Reads src.old file }
+    ensures count { IfOk result (λ count. count ≡ min (length first.old) (file_size R.Reads src.old file)) }
+    ensures ok { IfOk result (λ count. IfTold R.Reads src.old file (λ bytes. take count first.new ≡ take (length first.old) bytes)) }
     ensures only { OnlyReads R.Reads src.old src.new }
     ensures cause { HasCause is_failure (R.reading_faults src.old) (R.reading_faults src.new) result }
-    ensures octets { R.octets_read src.new ≤ R.octets_read src.old + HEAD }
+    ensures octets { R.octets_read src.new ≤ R.octets_read src.old + length first.old }
 {
-    let count = src.size(file).min(HEAD) as usize;
-    src.read_at(file, 0, &mut head[..count])?;
+    let count = src.size(file).min(first.len() as u64) as usize;
+    src.read_at(file, 0, &mut first[..count])?;
     Ok(count)
 }
 
@@ -36,6 +36,21 @@ pub fn state<R: Reads>(src: &mut R, file: FileId) -> Result<Gate, Failed>
     ensures octets { R.octets_read src.new ≤ R.octets_read src.old + HEAD }
 {
     let mut head = [0; HEAD as usize];
-    let count = read_head(src, file, &mut head)?;
+    let count = read_first(src, file, &mut head)?;
     Ok(gate_of(&head[..count], src.size(file)))
+}
+
+/// What keeps the writes of a live sidecar with these first octets from being made in the medium.
+pub fn unfit_medium<R: Reads>(head: &[u8], src: &mut R) -> Result<Option<RecoverEnd>, Failed>
+    requires live { IsLive R.Reads src.old MEDIA }
+    requires head { IsLiveHead head.now (file_size R.Reads src.old SIDECAR) }
+    ensures ok { IfOk result (λ end. IfTold R.Reads src.old MEDIA (λ bytes. end ≡ unfit head.now (length bytes) (take KEPT bytes))) }
+    ensures refused { IfOk result (λ end. IfSome end (λ why. is_disk_fault why ≡ false)) }
+    ensures only { OnlyReads R.Reads src.old src.new }
+    ensures cause { HasCause is_failure (R.reading_faults src.old) (R.reading_faults src.new) result }
+    ensures octets { R.octets_read src.new ≤ R.octets_read src.old + KEPT }
+{
+    let mut first = [0; KEPT as usize];
+    let count = read_first(src, MEDIA, &mut first)?;
+    Ok(unfit(head, src.size(MEDIA), &first[..count]))
 }

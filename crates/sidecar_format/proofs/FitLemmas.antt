@@ -1,5 +1,5 @@
 -- The writes of a live record fit the file that it is of, and every file that they have torn.
-use Rattle.std.proofs.Common.{◌≡◌, ◌⊎◌, inl, inr, ℕ, zero, suc, ◌+◌, ◌<◌, ◌≤◌, max, Bool, true, false, not, ◌&&◌, ◌||◌, ◌==◌, nat_le, nat_lt, List, [], ◌∷◌, ◌++◌, length, take, drop, slice_index, refl, sym, ◌∙◌, ap, subst, arith, length-take, length-drop, Option, None, Some, Ok, if◌then◌else◌}
+use Rattle.std.proofs.Common.{◌≡◌, ◌⊎◌, inl, inr, ℕ, zero, suc, ◌+◌, ◌<◌, ◌≤◌, max, Bool, true, false, not, ◌&&◌, ◌||◌, ◌==◌, nat_le, nat_lt, List, [], ◌∷◌, ◌++◌, length, take, drop, slice_index, refl, sym, ◌∙◌, ap, subst, arith, length-take, length-drop, Option, None, Some, IfSome, Ok, if◌then◌else◌}
 use Rattle.std.proofs.lemmas.Bool.{le-leb, le-ltb, lt-ltb, leb-true, ltb-false, eqb-true, and_from, and_parts, and_left, and_right, or_left, or_right, or_from, ltb-true, not_from_true, cond-true, cond-false, cases_lt, true≢false, false≢true}
 use Rattle.std.proofs.lemmas.List.{get_or-take}
 use Rattle.sidecar_format.specs.declared.place.Place.{Place}
@@ -11,7 +11,7 @@ use Rattle.sidecar_format.specs.declared.recovery.RecoverEnd.{RecoverEnd}
 use Rattle.sidecar_format.specs.Writes.{Fits, Torn, Touches, extent}
 use Rattle.sidecar_format.specs.Fields.{AreInOrder, cut_up, head_len, head_of, last_end, count_in, new_len_in, old_len_in, places_in, sum_of, total_in, used_in, version_in, writes_in}
 use Rattle.sidecar_format.specs.Gate.{Rule, first_breach, gate_of, is_count, is_new_len, is_quiet, is_total, is_version, old_len_of, place_rules, rules_of, state, unless_broken}
-use Rattle.sidecar_format.specs.Recovery.{differs, first_place, foreign_of, gap_of, if_live, is_touched, octet_mark, recovery, unfit, unless}
+use Rattle.sidecar_format.specs.Recovery.{differs, first_place, foreign_of, gap_of, if_live, is_disk_fault, is_touched, octet_mark, recovery, unfit, unless}
 use Rattle.sidecar_format.proofs.RecordLemmas.{AreKept}
 
 -- ---- writes at places in order
@@ -77,7 +77,9 @@ order-of_kept old octet (suc n) from (p ∷ ps) kept =
 
 -- what holds of a record that is live, by a sidecar's first octets and its length
 pub record IsLive (h : List ℕ) (n : ℕ) : Type 0 where
+  pub long : HEAD_1 ≤ n
   pub version : is_version (version_in h) ≡ true
+  pub count : is_count (count_in h) ≡ true
   pub total : is_total h ≡ true
   pub new_len : is_new_len (version_in h) (old_len_of h) (new_len_in h) (last_end 0 (used_in h)) ≡ true
   pub places : AreKept (place_rules (old_len_of h) 32 (count_in h) 0 (places_in h))
@@ -90,22 +92,23 @@ module _ (h : List ℕ) (n : ℕ) where
   abbrev right : Bool
   right = is_version (version_in h) && is_count (count_in h)
 
-  of_kept : AreKept (rules_of h) → total_in h ≤ n → (b : Bool) → right ≡ b → IsLive h n
-  of_kept kept whole true is =
+  of_kept : HEAD_1 ≤ n → AreKept (rules_of h) → total_in h ≤ n → (b : Bool) → right ≡ b → IsLive h n
+  of_kept long kept whole true is =
       let more = subst AreKept (cond-true right _ _ is) kept.1 in
-      record { version = (and_parts (is_version (version_in h)) (is_count (count_in h)) is).0; total = more.0; new_len = more.1.0; places = kept-left (place_rules (old_len_of h) 32 (count_in h) 0 (places_in h)) _ more.1.1.1; whole = whole }
-  of_kept kept whole false is =
+      let both = and_parts (is_version (version_in h)) (is_count (count_in h)) is in
+      record { long = long; version = both.0; count = both.1; total = more.0; new_len = more.1.0; places = kept-left (place_rules (old_len_of h) 32 (count_in h) 0 (places_in h)) _ more.1.1.1; whole = whole }
+  of_kept long kept whole false is =
       let more = subst AreKept (cond-false right _ _ is) kept.1 in
       absurd (false≢true (sym is ∙ and_from (is_version (version_in h)) (is_count (count_in h)) more.0 more.1.0))
 
-  by_whole : (breach : Option ℕ) → first_breach (rules_of h) ≡ breach → (b : Bool) → nat_lt n (total_in h) ≡ b → unless_broken breach (total_in h) n ≡ Live → IsLive h n
-  by_whole (Some octet) is b test live = cc
-  by_whole None is true test live = let no : Bad n ≡ Live = sym (cond-true (nat_lt n (total_in h)) (Bad n) Live test) ∙ live in cc
-  by_whole None is false test live = of_kept (all_kept (rules_of h) is) (ltb-false n (total_in h) test) right refl
+  by_whole : HEAD_1 ≤ n → (breach : Option ℕ) → first_breach (rules_of h) ≡ breach → (b : Bool) → nat_lt n (total_in h) ≡ b → unless_broken breach (total_in h) n ≡ Live → IsLive h n
+  by_whole long (Some octet) is b test live = cc
+  by_whole long None is true test live = let no : Bad n ≡ Live = sym (cond-true (nat_lt n (total_in h)) (Bad n) Live test) ∙ live in cc
+  by_whole long None is false test live = of_kept long (all_kept (rules_of h) is) (ltb-false n (total_in h) test) right refl
 
   by_long : (b : Bool) → nat_lt n HEAD_1 ≡ b → (if nat_lt n HEAD_1 then Bad n else rest) ≡ Live → IsLive h n
   by_long true is live = let no : Bad n ≡ Live = sym (cond-true (nat_lt n HEAD_1) (Bad n) rest is) ∙ live in cc
-  by_long false is live = by_whole (first_breach (rules_of h)) refl (nat_lt n (total_in h)) refl (sym (cond-false (nat_lt n HEAD_1) (Bad n) rest is) ∙ live)
+  by_long false is live = by_whole (ltb-false n HEAD_1 is) (first_breach (rules_of h)) refl (nat_lt n (total_in h)) refl (sym (cond-false (nat_lt n HEAD_1) (Bad n) rest is) ∙ live)
 
   by_quiet : (b : Bool) → is_quiet h n ≡ b → gate_of h n ≡ Live → IsLive h n
   by_quiet true is live = let no : Quiet ≡ Live = sym (cond-true (is_quiet h n) Quiet (if nat_lt n HEAD_1 then Bad n else rest) is) ∙ live in cc
@@ -294,3 +297,27 @@ module _ (m s : List ℕ) (own : IsOwn m s) where
           ∙ cond-false (nat_lt (length t) (old_len_in h) || nat_lt (new_len_in h) (length t)) _ _ (or_from _ _ (le-ltb (length t) (old_len_in h) (omega arith)) (le-ltb (new_len_in h) (length t) (omega arith)))
           ∙ ap (octet_mark h (take KEPT t)) (if_none_passes (differs h (take KEPT t)) 0 KEPT
           (λ k low high. by_octet k (omega arith) old (none_passes (differs h (take KEPT m)) 0 KEPT k known.same low high) (nat_lt k (old_len_in h)) (is_touched (used_in h) k) refl refl))
+
+-- what keeps writes from being made is no fault of the disk
+pub unfit-refused : (h : List ℕ) (n : ℕ) (m : List ℕ) → IfSome (unfit h n m) (λ end. is_disk_fault end ≡ false)
+unfit-refused h n m = by_version (version_in h == 1) refl
+  where
+    gap-refused : (octet n : ℕ) (ps : List Place) → IfSome (gap_of octet n ps) (λ end. is_disk_fault end ≡ false)
+    gap-refused octet n [] = tt
+    gap-refused octet n (p ∷ ps) = by_test (gap-refused (octet + 16) (max n (p.at + p.len)) ps) (nat_le p.at n) refl
+      where
+        by_test : IfSome (gap_of (octet + 16) (max n (p.at + p.len)) ps) (λ end. is_disk_fault end ≡ false) → (b : Bool) → nat_le p.at n ≡ b → IfSome (gap_of octet n (p ∷ ps)) (λ end. is_disk_fault end ≡ false)
+        by_test more true is = subst (λ (o : Option RecoverEnd). IfSome o (λ end. is_disk_fault end ≡ false)) (sym (cond-true (nat_le p.at n) _ _ is)) more
+        by_test more false is = subst (λ (o : Option RecoverEnd). IfSome o (λ end. is_disk_fault end ≡ false)) (sym (cond-false (nat_le p.at n) _ _ is)) refl
+
+    mark-refused : (o : Option ℕ) → IfSome (octet_mark h m o) (λ end. is_disk_fault end ≡ false)
+    mark-refused None = tt
+    mark-refused (Some k) = refl
+
+    by_length : (b : Bool) → (nat_lt n (old_len_in h) || nat_lt (new_len_in h) n) ≡ b → IfSome (foreign_of h n m) (λ end. is_disk_fault end ≡ false)
+    by_length true is = subst (λ (o : Option RecoverEnd). IfSome o (λ end. is_disk_fault end ≡ false)) (sym (cond-true (nat_lt n (old_len_in h) || nat_lt (new_len_in h) n) _ _ is)) refl
+    by_length false is = subst (λ (o : Option RecoverEnd). IfSome o (λ end. is_disk_fault end ≡ false)) (sym (cond-false (nat_lt n (old_len_in h) || nat_lt (new_len_in h) n) _ _ is)) (mark-refused (first_place (differs h m) 0 KEPT))
+
+    by_version : (b : Bool) → (version_in h == 1) ≡ b → IfSome (unfit h n m) (λ end. is_disk_fault end ≡ false)
+    by_version true is = subst (λ (o : Option RecoverEnd). IfSome o (λ end. is_disk_fault end ≡ false)) (sym (cond-true (version_in h == 1) _ _ is)) (gap-refused 32 n (used_in h))
+    by_version false is = subst (λ (o : Option RecoverEnd). IfSome o (λ end. is_disk_fault end ≡ false)) (sym (cond-false (version_in h == 1) _ _ is)) (by_length (nat_lt n (old_len_in h) || nat_lt (new_len_in h) n) refl)

@@ -1,4 +1,5 @@
 pub mod FitLemmas
+pub mod LiveLemmas
 pub mod PlanLemmas
 pub mod ReadingLemmas
 pub mod RecordLemmas

@@ -102,14 +102,17 @@ counted-rest s o total new_len zeros is =
 
 -- ---- the places that are used, from one on
 
-length-used : (s : List ℕ) → count_in s ≤ 8 → length (used_in s) ≡ count_in s
+pub length-used : (s : List ℕ) → count_in s ≤ 8 → length (used_in s) ≡ count_in s
 length-used s few = length-take-le (count_in s) (places_in s) few
+
+pub used-is : (s : List ℕ) (k : ℕ) (d : Place) → count_in s ≤ 8 → k < count_in s → get_or (used_in s) k d ≡ place_in s k
+used-is s k d few inside = get_or-take (count_in s) (places_in s) k d inside ∙ place-is s k d (omega arith)
 
 pub used_next : (s : List ℕ) (k : ℕ) → count_in s ≤ 8 → k < count_in s → drop k (used_in s) ≡ place_in s k ∷ drop (k + 1) (used_in s)
 used_next s k few inside =
     let size = length-used s few in
     drop_more (used_in s) k no_place (omega arith)
-    ∙ ap (λ (p : Place). p ∷ drop (k + 1) (used_in s)) (get_or-take (count_in s) (places_in s) k no_place inside ∙ place-is s k no_place (omega arith))
+    ∙ ap (λ (p : Place). p ∷ drop (k + 1) (used_in s)) (used-is s k no_place few inside)
 
 pub used_end : (s : List ℕ) (k : ℕ) → count_in s ≤ 8 → count_in s ≤ k → drop k (used_in s) ≡ []
 used_end s k few past = let size = length-used s few in drop_all k (used_in s) (omega arith)

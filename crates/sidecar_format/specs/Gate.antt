@@ -1,13 +1,13 @@
 -- Whether a sidecar holds an edit that was begun: by the layout of `Fields`.
-use Rattle.std.specs.Prelude.{ℕ, zero, suc, ◌+◌, ◌==◌, nat_le, nat_lt, max, Bool, true, not, ◌&&◌, ◌||◌, if◌then◌else◌, List, [], ◌∷◌, ◌++◌, length, drop, slice_index, Option, Some, None}
+use Rattle.std.specs.Prelude.{◌≡◌, ◌≢◌, ◌<◌, ◌≤◌, ◌^◌, ℕ, zero, suc, ◌+◌, ◌==◌, nat_le, nat_lt, max, Bool, true, not, ◌&&◌, ◌||◌, if◌then◌else◌, List, [], ◌∷◌, ◌++◌, length, drop, slice_index, Option, Some, None}
 use Rattle.std.specs.List.{list_all}
 use Rattle.std.specs.Str.{bytes_eq}
 use Rattle.mkv_io.specs.Contents.{octets_from}
 use Rattle.sidecar_format.specs.declared.place.Place.{Place}
-use Rattle.sidecar_format.specs.declared.place.TheConstants.{HEAD, HEAD_1, MOST_OCTETS, OPEN}
+use Rattle.sidecar_format.specs.declared.place.TheConstants.{HEAD, HEAD_1, MOST_OCTETS, MOST_WRITES, OPEN}
 use Rattle.sidecar_format.specs.declared.gate.Gate.{Gate}
 use Rattle.sidecar_format.specs.declared.gate.Gate.TheVariants.{Live, Quiet, Bad}
-use Rattle.sidecar_format.specs.Fields.{magic, total_in, new_len_in, version_in, count_in, places_in, used_in, old_len_in, first_in, head_len, head_of, last_end, sum_of}
+use Rattle.sidecar_format.specs.Fields.{magic, total_in, new_len_in, version_in, count_in, place_in, places_in, used_in, old_len_in, first_in, head_len, head_of, last_end, sum_of}
 
 -- A rule of the record: the octet to which a breach of it is laid, and whether it is kept.
 pub record Rule : Type 0 where
@@ -95,3 +95,13 @@ gate_of head size =
 -- where it should hold one and doesn't.
 abbrev pub state : List ℕ → Gate
 state sidecar = gate_of (head_of sidecar) (length sidecar)
+
+-- What the first octets of a live sidecar of so many octets say: no more writes than there may be, whose octets stand within
+-- the sidecar, at places whose ends are numbers of eight octets. All that its version has before them is there.
+pub record IsLiveHead (head : List ℕ) (size : ℕ) : Type 0 where
+  pub long : HEAD_1 ≤ length head
+  pub whole : version_in head ≢ 1 → length head ≡ HEAD
+  pub few : count_in head ≤ MOST_WRITES
+  pub small : sum_of (used_in head) ≤ MOST_OCTETS
+  pub room : head_len (version_in head) + sum_of (used_in head) ≤ size
+  pub ends : (k : ℕ) → k < count_in head → (place_in head k).at + (place_in head k).len < 2 ^ 64

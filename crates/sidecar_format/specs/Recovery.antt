@@ -1,5 +1,5 @@
 -- What a file and its sidecar stand for.
-use Rattle.std.specs.Prelude.{◌≢◌, ◌⊎◌, ℕ, zero, suc, ◌+◌, ◌≤◌, ◌==◌, nat_le, nat_lt, max, Bool, not, ◌&&◌, ◌||◌, if◌then◌else◌, List, [], ◌∷◌, length, take, slice_index, Option, Some, None, Result, Ok, Err}
+use Rattle.std.specs.Prelude.{◌≢◌, ◌⊎◌, ℕ, zero, suc, ◌+◌, ◌≤◌, ◌==◌, nat_le, nat_lt, max, Bool, true, false, not, ◌&&◌, ◌||◌, if◌then◌else◌, List, [], ◌∷◌, length, take, slice_index, Option, Some, None, Result, Ok, Err}
 use Rattle.std.specs.List.{list_any}
 use Rattle.sidecar_format.specs.declared.place.Place.{Place}
 use Rattle.sidecar_format.specs.declared.place.TheConstants.{KEPT, OPEN}
@@ -9,7 +9,7 @@ use Rattle.sidecar_format.specs.declared.recovery.Mark.TheVariants.{Length, Octe
 use Rattle.sidecar_format.specs.declared.recovery.Recovered.{Recovered}
 use Rattle.sidecar_format.specs.declared.recovery.Recovered.TheVariants.{Applied, Nothing}
 use Rattle.sidecar_format.specs.declared.recovery.RecoverEnd.{RecoverEnd}
-use Rattle.sidecar_format.specs.declared.recovery.RecoverEnd.TheVariants.{BadSidecar, Foreign}
+use Rattle.sidecar_format.specs.declared.recovery.RecoverEnd.TheVariants.{BadSidecar, DiskFault, Foreign}
 use Rattle.sidecar_format.specs.Writes.{applied}
 use Rattle.sidecar_format.specs.Fields.{version_in, new_len_in, used_in, old_len_in, head_of, writes_in}
 use Rattle.sidecar_format.specs.Gate.{state}
@@ -49,6 +49,12 @@ gap_of octet size (p ∷ ps) =
 abbrev pub unfit : List ℕ → ℕ → List ℕ → Option RecoverEnd
 unfit head size media =
     if version_in head == 1 then gap_of 32 size (used_in head) else foreign_of head size media
+
+-- the end that tells a fault of the disk
+abbrev pub is_disk_fault : RecoverEnd → Bool
+is_disk_fault (BadSidecar offset) = false
+is_disk_fault (Foreign mark kept found) = false
+is_disk_fault DiskFault = true
 
 abbrev pub unless : Option RecoverEnd → Result Recovered RecoverEnd
 unless None = Ok Applied

@@ -1,8 +1,8 @@
 //! Whether the file beside a live record is the one that the record was made for.
 
-ghost use Rattle.std.specs.Prelude.{◌≡◌, ◌≢◌, ◌≤◌, ◌<◌, ℕ, ◌+◌, ◌&&◌, ◌||◌, nat_le, nat_lt, min, length, slice_index, Option};
+ghost use Rattle.std.specs.Prelude.{◌≡◌, ◌≢◌, ◌≤◌, ◌<◌, ℕ, ◌+◌, ◌&&◌, ◌||◌, nat_le, nat_lt, min, length, slice_index, Option, IfSome, false};
 ghost use Rattle.sidecar_format.specs.Fields.{count_in, new_len_in, old_len_in, used_in, version_in};
-ghost use Rattle.sidecar_format.specs.Recovery.{differs, first_place, foreign_of, gap_of, is_touched, octet_mark, unfit};
+ghost use Rattle.sidecar_format.specs.Recovery.{differs, first_place, foreign_of, gap_of, is_disk_fault, is_touched, octet_mark, unfit};
 
 use crate::place::{HEAD, HEAD_1, KEPT, MOST_WRITES, Place};
 use crate::reading::{number_at, place_in};
@@ -122,7 +122,8 @@ pub fn unfit(head: &[u8], size: u64, media: &[u8]) -> Option<RecoverEnd>
     requires long { HEAD_1 ≤ length head.now }
     requires few { count_in head.now ≤ MOST_WRITES }
     requires second { version_in head.now ≢ 1 → length head.now ≡ HEAD }
-    ensures { result ≡ unfit head.now size media.now }
+    ensures exact { result ≡ unfit head.now size media.now }
+    ensures refused { IfSome result (λ end. is_disk_fault end ≡ false) }
 {
     if head[24] == 1 {
         gap_of(head, size)

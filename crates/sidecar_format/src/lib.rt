@@ -14,5 +14,5 @@ pub use fit::unfit;
 pub use gate::Gate;
 pub use place::{HEAD, HEAD_1, KEPT, MOST_OCTETS, MOST_WRITES, OPEN, Place};
 pub use plan::Plan;
-pub use reading::gate_of;
+pub use reading::{count_in, gate_of, head_len, place_in};
 pub use recovery::{Mark, RecoverEnd, Recovered};

@@ -2,7 +2,7 @@
 
 ghost use Rattle.std.specs.Prelude.{◌≡◌, ◌≤◌, ◌<◌, ℕ, ◌+◌, ◌*◌, ◌^◌, ◌&&◌, ◌==◌, nat_le, drop, length, min, Option};
 ghost use Rattle.sidecar_format.specs.Fields.{count_in, head_len, last_end, new_len_in, number_at, place_in, places_in, sum_of, total_in, used_in, version_in};
-ghost use Rattle.sidecar_format.specs.Gate.{are_zeros, counted_rules, first_breach, gate_of, is_count, is_joined, is_new_len, is_padded, is_total, is_version, old_len_of, place_rules, rules_of};
+ghost use Rattle.sidecar_format.specs.Gate.{IsLiveHead, are_zeros, counted_rules, first_breach, gate_of, is_count, is_joined, is_new_len, is_padded, is_total, is_version, old_len_of, place_rules, rules_of};
 
 use crate::gate::Gate;
 use crate::place::{HEAD, HEAD_1, KEPT, MOST_OCTETS, MOST_WRITES, OPEN, Place};
@@ -26,6 +26,22 @@ pub fn place_in(head: &[u8], k: usize) -> Place
         at: number_at(head, 32 + 16 * k),
         len: number_at(head, 40 + 16 * k),
     }
+}
+
+/// How many writes a record has.
+pub fn count_in(head: &[u8]) -> usize
+    requires { HEAD_1 ≤ length head.now }
+    ensures { result ≡ count_in head.now }
+{
+    usize::from(head[25])
+}
+
+/// How many octets stand before those of the writes.
+pub fn head_len(head: &[u8]) -> u64
+    requires { HEAD_1 ≤ length head.now }
+    ensures { result ≡ head_len (version_in head.now) }
+{
+    if head[24] == 1 { HEAD_1 } else { HEAD }
 }
 
 /// How many octets the writes write.
@@ -82,8 +98,8 @@ fn is_total(head: &[u8]) -> bool
     ensures { result ≡ is_total head.now }
 {
     let sum = sum_in(head);
-    let before = if head[24] == 1 { HEAD_1 } else { HEAD };
-    sum <= u128::from(MOST_OCTETS) && u128::from(number_at(head, 8)) == u128::from(before) + sum
+    sum <= u128::from(MOST_OCTETS)
+        && u128::from(number_at(head, 8)) == u128::from(head_len(head)) + sum
 }
 
 /// Whether the length after the edit is right.
@@ -206,7 +222,8 @@ fn counted_breach(head: &[u8]) -> Option<u64>
 /// What a sidecar of so many octets holds, by the first of them.
 pub fn gate_of(head: &[u8], size: u64) -> Gate
     requires { length head.now ≡ min HEAD size }
-    ensures { result ≡ gate_of head.now size }
+    ensures exact { result ≡ gate_of head.now size }
+    ensures live { result ≡ Gate.Live → IsLiveHead head.now size }
 {
     if size <= 1 || head[0] != OPEN {
         return Gate::Quiet;

@@ -1,5 +1,10 @@
 //! What comes of a sidecar.
 
+ghost use Rattle.std.specs.Prelude.{◌≡◌};
+ghost use Rattle.sidecar_format.specs.declared.recovery.RecoverEnd.TheVariants as recover_end;
+
+use mkv_values::Failed;
+
 /// By what a file is told from the one that a record was made for.
 #[derive(Clone, Copy, Debug, PartialEq, Eq)]
 pub enum Mark {
@@ -39,4 +44,12 @@ pub enum RecoverEnd {
     },
     /// The disk failed.
     DiskFault,
+}
+
+impl From<Failed> for RecoverEnd {
+    ghost from_gives = { λ _ end. end ≡ recover_end.DiskFault };
+
+    fn from(_failed: Failed) -> RecoverEnd {
+        RecoverEnd::DiskFault
+    }
 }

@@ -1,2 +1,2 @@
 pub mod TargetLemmas
-pub mod BuildLemmas
+pub mod TableFacts

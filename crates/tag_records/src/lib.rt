@@ -4,7 +4,6 @@
 //! (RFC 9559, section 5.1.8, Tags Element).
 
 mod aims;
-mod building;
 mod tag;
 mod tags;
 mod target;

@@ -5,15 +5,15 @@ ghost use Rattle.mkv_schema.specs.declared.ids.TheConstants.{TAG as TAG_ID, TAGS
 ghost use Rattle.tree_format.specs.Standing.{StandsIn};
 ghost use Rattle.tag_records.specs.Tags.{written_part, written_tag, targets_in, aims_of, aims_in};
 ghost use Rattle.tag_records.specs.Numbers.{numbers_in};
-ghost use Rattle.tag_records.specs.Building.{IsInPlace, IsRead};
+ghost use Rattle.tree_building.specs.Building.{IsInPlace, IsRead};
 
 use crate::aims::Aims;
-use crate::building::empty;
 use crate::target;
 use crate::uid_map::UidMap;
 use ebml_tree::Tree;
 use mkv_schema::ids::{TAG, TARGETS};
 use std::alloc::{AllocError, Global};
+use tree_building::empty;
 
 // What is written of Targets.
 fn written_targets(alloc: Global, targets: &Tree, map: &UidMap) -> Result<Tree, AllocError>

@@ -6,15 +6,15 @@ ghost use Rattle.std.specs.Option.{option_to_list};
 ghost use Rattle.tree_format.specs.Standing.{StandsIn};
 ghost use Rattle.tag_records.specs.Tags.{are_kept, written_child, written_tags};
 ghost use Rattle.tag_records.specs.Numbers.{numbers_in};
-ghost use Rattle.tag_records.specs.Building.{IsInPlace, IsRead};
+ghost use Rattle.tree_building.specs.Building.{IsInPlace, IsRead};
 
 use crate::aims::Aims;
-use crate::building::empty;
 use crate::tag;
 use crate::uid_map::{TagKeep, UidMap};
 use ebml_tree::Tree;
 use mkv_schema::ids::{TAG, TAGS};
 use std::alloc::{AllocError, Global};
+use tree_building::empty;
 
 fn are_kept(keep: TagKeep, aims: Aims) -> bool
     ensures { result ≡ are_kept keep aims }

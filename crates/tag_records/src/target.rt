@@ -3,20 +3,18 @@
 ghost use Rattle.std.specs.Prelude.{◌≡◌, ◌<◌, ◌^◌, true, [], ◌∷◌, filter, IfOk, IfSome, IsTrue};
 ghost use Rattle.std.specs.Option.{option_to_list};
 ghost use Rattle.mkv_schema.specs.declared.ids.TheConstants.{TARGETS as TARGETS_ID};
-ghost use Rattle.ebml_format.specs.Number.{is_id};
 ghost use Rattle.tree_format.specs.Node.{id_of};
-ghost use Rattle.record_changes.specs.Children.{uint_leaf};
 ghost use Rattle.tree_format.specs.Standing.{StandsIn};
 ghost use Rattle.tag_records.specs.Tags.{is_target_id, is_target, number_of, written_target, aims_of};
 ghost use Rattle.tag_records.specs.Numbers.{numbers_in};
-ghost use Rattle.tag_records.specs.Building.{IsInPlace};
+ghost use Rattle.tree_building.specs.Building.{IsInPlace};
 
 use crate::aims::Aims;
 use crate::uid_map::UidMap;
-use ebml_numbers::put_uint;
 use ebml_tree::Tree;
 use mkv_schema::ids::{TAG_ATTACHMENT_UID, TAG_CHAPTER_UID, TAG_EDITION_UID, TAG_TRACK_UID};
 use std::alloc::{AllocError, Global};
+use tree_building::uint_leaf;
 
 fn is_target_id(id: u32) -> bool
     ensures { result ≡ is_target_id id }
@@ -55,15 +53,6 @@ fn number_of(target: &Tree, map: &UidMap) -> Option<u64>
     ensures { result ≡ number_of (numbers_in map.now) target.now }
 {
     number_in(map, target.id(), target.uint())
-}
-
-fn uint_leaf(alloc: Global, id: u32, value: u64) -> Result<Tree, AllocError>
-    requires { IsTrue (is_id id) }
-    ensures exact { IfOk result (λ tree. tree ≡ uint_leaf id value) }
-    ensures fits { value < 2 ^ 64 }
-{
-    let octets = put_uint(value);
-    Tree::leaf(alloc, id, octets.as_slice())
 }
 
 /// What is written of a child of Targets.

@@ -10,6 +10,7 @@ use Rattle.mkv_io.specs.Sources.{live_files}
 use Rattle.mkv_io.specs.Writing.{KeepsOthers}
 use Rattle.mkv_io.specs.declared.reads.Reads.{Ghosts}
 use Rattle.mkv_io.specs.declared.files.Files as writing
+use Rattle.cluster_reader.specs.ToldDamages.{ToldDamages}
 use Rattle.merge_model.specs.Merged.{Ordered, merged, merged_from, ordered}
 use Rattle.lane_blocks.specs.Lent.{lent_ordered}
 use Rattle.lane_blocks.specs.Links.{IsOpenLink, KeepsLink}
@@ -20,7 +21,7 @@ use Rattle.lanes.specs.Lane as lanes
 use Rattle.lanes.specs.Laws as lane_laws
 use Rattle.lanes.proofs.KeptLemmas as lane_lemmas
 use Rattle.time_merge.specs.Laws.{AreStarted, IsApart, IsApartLink, StandsAmong, lanes_over}
-use Rattle.time_merge.specs.Merge.{IsReady, KeepsMerge, MergeSeen, due_of, length_of}
+use Rattle.time_merge.specs.Merge.{IsReady, KeepsMerge, MergeSeen, damages_of, due_of, length_of}
 use Rattle.time_merge.specs.Queues.{waiting, waiting_as}
 use Rattle.time_merge.specs.declared.queue.Head.{Head}
 use Rattle.time_merge.specs.declared.queue.Head.TheVariants.{Due, Waits, Ended}
@@ -43,6 +44,12 @@ all-waiting old new (q ∷ qs) stand =
     ap₂ (λ l ls. l ∷ ls) (waiting-kept old new q.lane q.head (All-head (λ each. lane_laws.StandsAmong old new each.lane) q qs stand).left)
     (all-waiting old new qs (All-tail (λ each. lane_laws.StandsAmong old new each.lane) q qs stand))
 
+all-damages : (old new : LiveFiles) (qs : List Queue) → EachStands old new qs → damages_of new qs ≡ damages_of old qs
+all-damages old new [] stand = refl
+all-damages old new (q ∷ qs) stand =
+    ap₂ (λ (d : List ToldDamages) ds. d ∷ ds) (All-head (λ each. lane_laws.StandsAmong old new each.lane) q qs stand).damages
+    (all-damages old new qs (All-tail (λ each. lane_laws.StandsAmong old new each.lane) q qs stand))
+
 all-due : (old new : LiveFiles) (qs : List Queue) → EachStands old new qs → due_of new qs ≡ due_of old qs
 all-due old new [] stand = refl
 all-due old new (q ∷ qs) stand =
@@ -63,6 +70,7 @@ stands-kept old new m keeps ready = record {
   ready = λ k d lt. (stand k d lt).ready;
   told = λ told. λ k d lt. (stand k d lt).told (told k d lt);
   left = ap merged_from (all-waiting old new m.queues stand);
+  damages = all-damages old new m.queues stand;
   due = all-due old new m.queues stand;
   length = all-length old new m.queues stand;
 }

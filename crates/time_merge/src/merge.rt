@@ -63,6 +63,7 @@ impl Merge {
         ensures starts { (f : LiveFiles) → IfOk result (Starts f lanes) }
         ensures begins { IfOk result (Begins lanes) }
         ensures idle { _src.new ≡ _src.old }
+        ensures cause { HasCause is_read_fault (R.reading_faults _src.old) (R.reading_faults _src.new) result }
     {
         let mut queues = Vec::with_capacity(alloc, lanes.len())?;
         for lane in lanes.into_vec() {

@@ -1,21 +1,10 @@
 -- What is set in a TrackEntry stands there, and leaves it whole.
-use Rattle.std.proofs.Common.{◌≡◌, ◌⊎◌, inl, inr, ◌≤◌, ◌<◌, ◌^◌, ℕ, suc, ◌+◌, ◌==◌, nat_le, Bool, true, false, not, cond, List, [], ◌∷◌, ◌++◌, length, take, get_or, Option, Some, None, Result, Ok, Err, OnOk, refl, sym, ap, subst, ◌∙◌, arith}
+use Rattle.std.proofs.Common.{◌≡◌, inl, inr, ◌≤◌, ℕ, List, [], ◌∷◌, ◌++◌, Option, Some, Result, Ok, Err, OnOk, refl, sym, ap, subst, ◌∙◌, arith}
 use Rattle.std.specs.declared.alloc.AllocError.{AllocError}
-use Rattle.std.specs.Option.{option_map, option_map_or}
-use Rattle.std.specs.List.{prefix_len}
-use Rattle.std.specs.Str.{IsUtf8, is_utf8}
-use Rattle.std.proofs.lemmas.Bool.Decides.{nat_tests}
-use Rattle.std.proofs.lemmas.List.{take_all}
-use Rattle.std.proofs.lemmas.Str.{IsUtf8-take, IsCharBoundary-before_ascii, is_utf8-from_IsUtf8}
-use Rattle.ebml_format.specs.Number.{is_id, uint_octets}
-use Rattle.ebml_format.proofs.NumberLemmas.{length-uint_octets}
-use Rattle.ebml_format.proofs.WidthLemmas.{uint_width-IsLeast}
+use Rattle.ebml_format.specs.Number.{is_id}
 use Rattle.mkv_schema.specs.declared.ids.TheConstants.{TRACK_ENTRY, TRACK_NUMBER, TRACK_UID, NAME, LANGUAGE, FLAG_DEFAULT, FLAG_FORCED}
-use Rattle.mkv_schema.specs.declared.kind.ElementKind.{ElementKind}
-use Rattle.mkv_schema.specs.declared.kind.ElementKind.TheVariants.{Uint, Ascii, Utf8}
-use Rattle.mkv_schema.specs.Table.{Entry, table}
-use Rattle.mkv_schema.specs.Schema.{entry_of, is_master_kind, is_master, may_stand, kind_of}
-use Rattle.matroska_format.specs.Value.{is_value, text_of}
+use Rattle.mkv_schema.specs.Table.{table}
+use Rattle.mkv_schema.specs.Schema.{entry_of, is_master}
 use Rattle.tree_format.specs.Node.{Node, leaf, master, nodes_of, id_of, children, with_children, depth_all, IsMaster, HasRoom}
 use Rattle.tree_format.specs.Changes.{without, with_child}
 use Rattle.tree_format.specs.Standing.{StandsIn, IsSound}
@@ -24,90 +13,34 @@ use Rattle.tree_format.proofs.ChangeLemmas.{deep-with_child, deep-without}
 use Rattle.record_changes.specs.Children.{uint_leaf, set_in, set_each, given}
 use Rattle.record_changes.specs.declared.track_change.TrackChange.{TrackChange}
 use Rattle.record_changes.specs.Entry.{flag_leaf, children_set, IsWholeEntry}
-use Rattle.track_changes.specs.Step.{SetsEach, IsUintId, IsTextId}
+use Rattle.tree_building.specs.Leaves.{IsUintIn, IsTextIn}
+use Rattle.track_changes.specs.Step.{SetsEach}
 
 -- ---- the table
 
-pub number : IsUintId TRACK_NUMBER
+pub number : IsUintIn TRACK_ENTRY TRACK_NUMBER
 unfolding entry_of table is_id
 number = record { valid = refl; known = record { stands = refl; kind = refl } }
 
-pub uid : IsUintId TRACK_UID
+pub uid : IsUintIn TRACK_ENTRY TRACK_UID
 unfolding entry_of table is_id
 uid = record { valid = refl; known = record { stands = refl; kind = refl } }
 
-pub flag_default : IsUintId FLAG_DEFAULT
+pub flag_default : IsUintIn TRACK_ENTRY FLAG_DEFAULT
 unfolding entry_of table is_id
 flag_default = record { valid = refl; known = record { stands = refl; kind = refl } }
 
-pub flag_forced : IsUintId FLAG_FORCED
+pub flag_forced : IsUintIn TRACK_ENTRY FLAG_FORCED
 unfolding entry_of table is_id
 flag_forced = record { valid = refl; known = record { stands = refl; kind = refl } }
 
-pub name : IsTextId NAME
+pub name : IsTextIn TRACK_ENTRY NAME
 unfolding entry_of table is_id
 name = record { valid = refl; stands = refl; kind = inr refl }
 
-pub language : IsTextId LANGUAGE
+pub language : IsTextIn TRACK_ENTRY LANGUAGE
 unfolding entry_of table is_id
 language = record { valid = refl; stands = refl; kind = inl refl }
-
--- ---- a leaf stands
-
--- an ID of another kind is no master's
-no-master : (id : ℕ) (kind : ElementKind) → kind_of id ≡ Some kind → is_master_kind kind ≡ false → is_master id ≡ false
-no-master id kind is other = of (entry_of id) is
-  where
-    of : (o : Option Entry) → option_map (λ e. e.kind) o ≡ Some kind → option_map_or (λ e. is_master_kind e.kind) o false ≡ false
-    of None found = refl
-    of (Some e) found = let same : e.kind ≡ kind = cc in ap is_master_kind same ∙ other
-
-leaf-stands : (id : ℕ) (kind : ElementKind) (body : List ℕ) → is_id id ≡ true → may_stand id TRACK_ENTRY ≡ true → kind_of id ≡ Some kind → is_master_kind kind ≡ false → is_value kind body ≡ true
-    → StandsIn TRACK_ENTRY (leaf id 0 body)
-leaf-stands id kind body valid stands is other value = record {
-  id_stands = valid;
-  no_master = rw (no-master id kind is other, stands) refl;
-  value = rw (stands, is) value;
-}
-
--- an integer of 64 bits has at most eight octets
-pub uint-stands : (id value : ℕ) → IsUintId id → value < 2 ^ 64 → StandsIn TRACK_ENTRY (uint_leaf id value)
-uint-stands id value is small =
-    let most = (uint_width-IsLeast value small).most in
-    let long = length-uint_octets value in
-    leaf-stands id Uint (uint_octets value) is.valid is.known.stands is.known.kind refl (grind (arith, nat_tests))
-
--- a text up to its first zero octet is a text
-zero-at : (bs : List ℕ) → prefix_len (λ b. not (b == 0)) bs < length bs → get_or bs (prefix_len (λ b. not (b == 0)) bs) 0 < 128
-zero-at [] inside = absurd (omega arith)
-zero-at (b ∷ bs) inside = split (b == 0) refl (zero-at bs) inside
-  where
-    split : (z : Bool) → (b == 0) ≡ z → (prefix_len (λ b. not (b == 0)) bs < length bs → get_or bs (prefix_len (λ b. not (b == 0)) bs) 0 < 128)
-        → cond (not z) (1 + prefix_len (λ b. not (b == 0)) bs) 0 < length (b ∷ bs) → get_or (b ∷ bs) (cond (not z) (1 + prefix_len (λ b. not (b == 0)) bs) 0) 0 < 128
-    split true is rest inside = let none : b ≡ 0 = grind (arith, nat_tests) in omega arith
-    split false is rest inside =
-        let more : 1 + prefix_len (λ b. not (b == 0)) bs ≡ suc (prefix_len (λ b. not (b == 0)) bs) = omega arith in
-        let P : ℕ → Type 0 = λ k. get_or (b ∷ bs) k 0 < 128 in
-        subst P (sym more) (rest (omega arith))
-
-text-utf8 : (bs : List ℕ) → IsUtf8 bs → is_utf8 (text_of bs) ≡ true
-text-utf8 bs whole = is_utf8-from_IsUtf8 (text_of bs) (of (nat_le (length bs) k) refl)
-  where
-    k : ℕ
-    k = prefix_len (λ b. not (b == 0)) bs
-
-    of : (past : Bool) → nat_le (length bs) k ≡ past → IsUtf8 (take k bs)
-    of true is = subst IsUtf8 (sym (take_all k bs (grind (arith, nat_tests)))) whole
-    of false is =
-        let inside : k < length bs = grind (arith, nat_tests) in
-        IsUtf8-take bs k whole (IsCharBoundary-before_ascii bs k inside (zero-at bs inside))
-
-pub text-stands : (id : ℕ) (text : List ℕ) → IsTextId id → IsUtf8 text → StandsIn TRACK_ENTRY (leaf id 0 text)
-text-stands id text is whole = of is.kind
-  where
-    of : (kind_of id ≡ Some Ascii) ⊎ (kind_of id ≡ Some Utf8) → StandsIn TRACK_ENTRY (leaf id 0 text)
-    of (inl ascii) = leaf-stands id Ascii text is.valid is.stands ascii refl (text-utf8 text whole)
-    of (inr utf8) = leaf-stands id Utf8 text is.valid is.stands utf8 refl (text-utf8 text whole)
 
 -- ---- an entry stays whole
 
@@ -176,14 +109,14 @@ set-all c e0 e1 e2 e3 e4 e5 e6 s1 s2 s3 s4 s5 s6 =
 
 module _ (old new : Node) (whole : IsWholeEntry old) (r : Result (Unit {0}) AllocError) where
   pub set-leaf : (child : Node) (id : ℕ) (made body : List ℕ) → child ≡ leaf id 0 made → made ≡ body → OnOk r (new ≡ with_children old (with_child child (children old))) → IsMaster new → (IsSound old → StandsIn (id_of old) child → IsSound new)
-      → StandsIn TRACK_ENTRY (leaf id 0 body) → OnOk r (SetsEach (leaf id 0 body ∷ []) old new)
+      → StandsIn TRACK_ENTRY child → OnOk r (SetsEach (leaf id 0 body ∷ []) old new)
   set-leaf child id made body is same ok is_master sound stands = of r ok
     where
       all : child ≡ leaf id 0 body
       all = is ∙ ap (leaf id 0) same
 
       of : (r : Result (Unit {0}) AllocError) → OnOk r (new ≡ with_children old (with_child child (children old))) → OnOk r (SetsEach (leaf id 0 body ∷ []) old new)
-      of (Ok u) ok = whole-set old new whole id body (ok ∙ ap (λ m. with_children old (with_child m (children old))) all) is_master (λ s t. sound s (subst (StandsIn (id_of old)) (sym all) t)) stands
+      of (Ok u) ok = whole-set old new whole id body (ok ∙ ap (λ m. with_children old (with_child m (children old))) all) is_master (λ s t. sound s (subst (StandsIn (id_of old)) (sym all) t)) (subst (StandsIn TRACK_ENTRY) all stands)
       of (Err e) ok = tt
 
   -- where a text is given

@@ -4,9 +4,10 @@ ghost use Rattle.std.specs.Prelude.{◌≡◌, [], ◌∷◌, OnOk, IfOk};
 ghost use Rattle.tree_format.specs.Node.{leaf};
 ghost use Rattle.record_changes.specs.Children.{uint_leaf, removed_each, given};
 ghost use Rattle.record_changes.specs.Entry.{flag_leaf, ids_removed, written_entry, IsWholeEntry};
-ghost use Rattle.track_changes.specs.Step.{SetsEach, IsUintId, IsTextId};
+ghost use Rattle.mkv_schema.specs.declared.ids.TheConstants.{TRACK_ENTRY};
+ghost use Rattle.tree_building.specs.Leaves.{IsUintIn, IsTextIn};
+ghost use Rattle.track_changes.specs.Step.{SetsEach};
 
-use ebml_numbers::put_uint;
 use ebml_tree::Tree;
 use mkv_schema::ids::{
     CONTENT_ENCODINGS, FLAG_DEFAULT, FLAG_FORCED, LANGUAGE, LANGUAGE_BCP47, NAME, TRACK_NUMBER,
@@ -16,6 +17,7 @@ use mkv_values::Text;
 use record_changes::TrackChange;
 use std::alloc::{AllocError, Global};
 use track_records::Track;
+use tree_building::{text_leaf, uint_leaf};
 
 // A copy of the entry without what goes.
 fn bare(alloc: Global, entry: &Tree, language: &Option<Text>) -> Result<Tree, AllocError>
@@ -32,29 +34,28 @@ fn bare(alloc: Global, entry: &Tree, language: &Option<Text>) -> Result<Tree, Al
 }
 
 fn set_uint(alloc: Global, entry: &mut Tree, id: u32, value: u64) -> Result<(), AllocError>
-    requires id { IsUintId id }
+    requires id { IsUintIn TRACK_ENTRY id }
     requires whole { IsWholeEntry entry.old }
     ensures { OnOk result (SetsEach (uint_leaf id value ∷ []) entry.old entry.new) }
 {
-    let octets = put_uint(value);
-    entry.set(Tree::leaf(alloc, id, octets.as_slice())?)
+    entry.set(uint_leaf(alloc, id, value)?)
 }
 
 // Sets a text where one is given.
 fn set_text(alloc: Global, entry: &mut Tree, id: u32, text: &Option<Text>) -> Result<(), AllocError>
-    requires id { IsTextId id }
+    requires id { IsTextIn TRACK_ENTRY id }
     requires whole { IsWholeEntry entry.old }
     ensures { OnOk result (SetsEach (given (leaf id 0) text.now) entry.old entry.new) }
 {
     match text {
-        Some(text) => entry.set(Tree::leaf(alloc, id, text.as_str().as_bytes())?),
+        Some(text) => entry.set(text_leaf(alloc, id, text.as_str())?),
         None => Ok(()),
     }
 }
 
 // Sets a flag where one is given.
 fn set_flag(alloc: Global, entry: &mut Tree, id: u32, flag: Option<bool>) -> Result<(), AllocError>
-    requires id { IsUintId id }
+    requires id { IsUintIn TRACK_ENTRY id }
     requires whole { IsWholeEntry entry.old }
     ensures { OnOk result (SetsEach (given (flag_leaf id) flag) entry.old entry.new) }
 {

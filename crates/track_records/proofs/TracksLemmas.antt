@@ -1,11 +1,11 @@
 -- What follows from an answer.
-use Rattle.std.proofs.Common.{◌≡◌, ◌≢◌, List, map, Option, Some, None, Result, Ok, Err, IfOk, IfErr, All, subst, refl}
+use Rattle.std.proofs.Common.{◌≡◌, ◌≢◌, List, map, Option, Some, None, Result, Ok, Err, OnOk, IfOk, IfErr, All, subst, refl}
 use Rattle.std.proofs.lemmas.List.Elements.{All-map}
 use Rattle.mkv_values.specs.declared.damage.Damage.{Damage as Harm}
 use Rattle.ebml_tree.specs.declared.end.TreeEnd.{TreeEnd}
 use Rattle.ebml_tree.specs.declared.end.TreeEnd.TheVariants.{Damage, Memory}
 use Rattle.matroska_format.specs.Outline.{unless}
-use Rattle.tree_format.specs.Node.{Node}
+use Rattle.tree_format.specs.Node.{Node, HasRoom}
 use Rattle.tree_format.specs.Standing.{IsSound}
 use Rattle.track_format.specs.Entry.{entries_of}
 use Rattle.track_format.specs.Refusal.{refusal_of}
@@ -43,3 +43,9 @@ sound (Ok list) tracks whole reads =
     let P : List Track → Type 0 = λ ts. All (λ (t : Track). IsEntry t.entry) ts in
     subst P (taken-is (refusal_of tracks) (map track_of (entries_of tracks)) list reads).1 (All-map (λ (t : Track). IsEntry t.entry) track_of (entries_of tracks) (entries-sound tracks whole))
 sound (Err end) tracks whole reads = tt
+
+pub room : (r : Result (List Track) TreeEnd) (tracks : Node) → OnOk r (All HasRoom (entries_of tracks)) → ReadsTracks r (tracks_of tracks) → IfOk r (λ list. All (λ (t : Track). HasRoom t.entry) list)
+room (Ok list) tracks low reads =
+    let P : List Track → Type 0 = λ ts. All (λ (t : Track). HasRoom t.entry) ts in
+    subst P (taken-is (refusal_of tracks) (map track_of (entries_of tracks)) list reads).1 (All-map (λ (t : Track). HasRoom t.entry) track_of (entries_of tracks) low)
+room (Err end) tracks low reads = tt

@@ -1,6 +1,7 @@
 //! The tracks of a Tracks Element: RFC 9559, section 5.1.4 (Tracks Element).
 
-ghost use Rattle.std.specs.Prelude.{◌≡◌, ◌≢◌, map, All, IfOk, IfErr};
+ghost use Rattle.std.specs.Prelude.{◌≡◌, ◌≢◌, map, All, OnOk, IfOk, IfErr};
+ghost use Rattle.tree_format.specs.Node.{HasRoom};
 ghost use Rattle.tree_format.specs.Standing.{IsSound};
 ghost use Rattle.track_format.specs.Entry.{entries_of};
 ghost use Rattle.track_format.specs.Tracks.{AreTracks};
@@ -19,7 +20,8 @@ use std::alloc::{AllocError, Global};
 // The entries as tracks.
 fn tracks_in(alloc: Global, tracks: &Tree) -> Result<List<Track>, AllocError>
     requires { IsSound tracks.now }
-    ensures { IfOk result (λ list. list ≡ map track_of (entries_of tracks.now)) }
+    ensures exact { IfOk result (λ list. list ≡ map track_of (entries_of tracks.now)) }
+    ensures room { OnOk result (All HasRoom (entries_of tracks.now)) }
 {
     let mut list = List::new(alloc);
     for child in tracks.children() {
@@ -33,7 +35,8 @@ fn tracks_in(alloc: Global, tracks: &Tree) -> Result<List<Track>, AllocError>
 // The tracks that the definition has.
 fn read(alloc: Global, tracks: &Tree) -> Result<List<Track>, TreeEnd>
     requires { IsSound tracks.now }
-    ensures { ReadsTracks result (tracks_of tracks.now) }
+    ensures exact { ReadsTracks result (tracks_of tracks.now) }
+    ensures room { OnOk result (All HasRoom (entries_of tracks.now)) }
 {
     match refusal_of(alloc, tracks)? {
         Some(damage) => Err(TreeEnd::Damage(damage)),
@@ -50,10 +53,11 @@ pub fn read_tracks(alloc: Global, tracks: &Tree) -> Result<List<Track>, TreeEnd>
     requires { IsSound tracks.now }
     ensures exact { ReadsTracks result (tracks_of tracks.now) }
 
-    // The entries are refused exactly where they aren't tracks; those that are given are sound.
+    // The entries are refused exactly where they aren't tracks; those that are given are sound, and fit into a Tracks.
     ensures taken { IfOk result (λ list. AreTracks (entries_of tracks.now)) }
     ensures refused { IfErr result (λ end. end ≢ TreeEnd.Memory → ¬ AreTracks (entries_of tracks.now)) }
     ensures sound { IfOk result (All (λ track. IsEntry track.entry)) }
+    ensures room { IfOk result (All (λ track. HasRoom track.entry)) }
 {
     read(alloc, tracks)
 }

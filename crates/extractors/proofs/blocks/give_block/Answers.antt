@@ -1,4 +1,4 @@
-use Rattle.std.proofs.Common.{◌<◌, ◌≤◌, length, subst, sym, refl, ◌∙◌, arith}
+use Rattle.std.proofs.Common.{◌<◌, length, subst, sym, refl, ◌∙◌, arith}
 use Rattle.block_records.specs.Buffered.{block_of}
 use Rattle.mkv_outputs.specs.Sinks.{HaveBeenGiven}
 use Rattle.mkv_outputs.specs.Starts.{StandsInPart}

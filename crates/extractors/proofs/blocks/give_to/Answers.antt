@@ -1,4 +1,4 @@
-use Rattle.std.proofs.Common.{◌≡◌, ℕ, List, ap, sym, subst, ◌∙◌}
+use Rattle.std.proofs.Common.{ℕ, List, ap, sym, subst, ◌∙◌}
 use Rattle.block_records.specs.Buffered.{block_of}
 use Rattle.block_records.specs.declared.head.BlockHead.{BlockHead}
 use Rattle.mkv_outputs.specs.Outputs.{with_more}

@@ -1,14 +1,13 @@
-use Rattle.std.proofs.Common.{◌≡◌, ◌≤◌, ◌+◌, ◌*◌, ℕ, List, [], ◌∷◌, ◌++◌, true, refl, ap, subst, sym, ◌∙◌, arith}
+use Rattle.std.proofs.Common.{◌≤◌, ◌+◌, ℕ, [], ◌∷◌, ◌++◌, refl, ap, subst, sym, ◌∙◌, arith}
 use Rattle.std.proofs.lemmas.Result.{err_from_is_err_and}
 use Rattle.mkv_values.specs.declared.outside.FileId.{FileId}
 use Rattle.mkv_io.specs.Names.{AreOthers}
 use Rattle.mkv_jobs.proofs.EndsLemmas.{HasRemuxCause-make, HasRemuxCause-then}
-use Rattle.block_format.specs.Block.{Block}
 use Rattle.block_format.specs.Events.{blocks_of}
 use Rattle.block_records.specs.Buffered.{block_of}
 use Rattle.cluster_reader.specs.Reading.{left_of, paid}
 use Rattle.cluster_reader.proofs.ReadingLemmas.{CanRead-kept}
-use Rattle.mkv_outputs.specs.Sinks.{HaveBeenGiven, names_under}
+use Rattle.mkv_outputs.specs.Sinks.{names_under}
 use Rattle.mkv_outputs.proofs.GivenLemmas.{HaveBeenGiven-part}
 use Rattle.mkv_outputs.proofs.StartsLemmas.{StandsInPart-then}
 use Rattle.extract_model.specs.Content.{outputs_of}

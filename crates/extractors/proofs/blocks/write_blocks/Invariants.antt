@@ -1,11 +1,8 @@
 -- The blocks that were passed were given, what was met and what is left make up the file, and its octets are paid by the way.
-use Rattle.std.proofs.Common.{◌≡◌, ◌≤◌, ◌+◌, ◌-◌, List, length}
-use Rattle.mkv_io.specs.Names.{Names}
+use Rattle.std.proofs.Common.{◌≡◌, ◌≤◌, ◌+◌, ◌-◌, List}
 use Rattle.mkv_io.specs.Told.{Told}
 use Rattle.block_format.specs.Block.{Block}
 use Rattle.cluster_reader.specs.Reading.{CanRead, left_of, paid}
-use Rattle.mkv_outputs.specs.Sinks.{HaveBeenGiven}
-use Rattle.extract_model.specs.Content.{outputs_of}
 use Rattle.extractors.specs.Walks.{WritesAndReads}
 use Rattle.extractors.proofs.WalkLemmas.{Given, MetUpTo}
 use Rattle.extractors.proofs.blocks.write_blocks.Given as goal

@@ -1,7 +1,7 @@
-use Rattle.std.proofs.Common.{◌≡◌, ◌<◌, ◌+◌, ℕ, List, [], true, length, take, refl, sym, ◌∙◌, ap, subst, arith}
+use Rattle.std.proofs.Common.{◌≡◌, ◌<◌, ◌+◌, ℕ, List, [], true, length, take, sym, ◌∙◌, subst, arith}
 use Rattle.mkv_io.specs.Names.{AreOthers}
 use Rattle.mkv_outputs.specs.Outputs.{with_empty}
-use Rattle.mkv_outputs.specs.Sinks.{HaveBeenGiven, MadeSince, names_under}
+use Rattle.mkv_outputs.specs.Sinks.{HaveBeenGiven, names_under}
 use Rattle.mkv_outputs.specs.Starts.{AreBegun, StandsInPart}
 use Rattle.mkv_outputs.proofs.FilesLemmas.{MadeSince-added, MadeSince-written}
 use Rattle.mkv_outputs.proofs.GivenLemmas.{HaveBeenGiven-count}

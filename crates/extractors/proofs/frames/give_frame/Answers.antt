@@ -1,4 +1,4 @@
-use Rattle.std.proofs.Common.{ℤ, subst, rules, w64, to_z, of_z, SFits}
+use Rattle.std.proofs.Common.{ℤ, subst, rules, w64, SFits}
 use Rattle.std.proofs.lemmas.Int.{to_z-of_z}
 use Rattle.mkv_outputs.specs.Outputs.{with_more}
 use Rattle.mkv_outputs.specs.Sinks.{Gives}

@@ -1,12 +1,8 @@
-use Rattle.std.proofs.Common.{◌≡◌, ◌<◌, ◌+◌, ◌-◌, ◌*◌, ℕ, ℤ, pos, ◌+ℤ◌, List, length, take, drop, get_or, sum, refl, sym, ◌∙◌, ap, subst, rules, arith, w64, to_z, of_z, SFits}
+use Rattle.std.proofs.Common.{◌≡◌, ◌<◌, ◌+◌, ◌-◌, ℕ, ℤ, List, length, take, drop, get_or, sum, refl, ◌∙◌, ap, subst, rules, arith, w64, to_z, of_z, SFits}
 use Rattle.std.proofs.lemmas.Int.{to_z-of_z}
-use Rattle.block_format.specs.Content.{frames_cut}
-use Rattle.block_records.specs.Buffered.{block_of}
-use Rattle.block_records.specs.declared.head.BlockHead.{BlockHead}
 use Rattle.mkv_outputs.proofs.FilesLemmas.{WritesOutputs-none, WritesOutputs-then}
 use Rattle.mkv_outputs.proofs.GivenLemmas.{length-same}
-use Rattle.extract_model.specs.Content.{entries_of, entry_of}
-use Rattle.extract_model.specs.Frames.{frames_from, frames_in}
+use Rattle.extract_model.specs.Content.{entry_of}
 use Rattle.extractors.specs.Walks.{frame}
 use Rattle.extractors.proofs.FramesLemmas.{Gives-err, GivesUpTo, GivesUpTo-begins, GivesUpTo-ends, GivesUpTo-more, GivesUpTo-part, HasGiven, HasPart, entries_left, entries_left-block, entries_left-next, entries_left-none, rest-next}
 use Rattle.extractors.proofs.frames.give_frames.Goals as goal

@@ -1,5 +1,5 @@
 -- The frames up to those that are left were given, and only the outputs were written.
-use Rattle.std.proofs.Common.{◌≡◌, ◌+◌, List, drop, length, sum}
+use Rattle.std.proofs.Common.{◌≡◌, ◌+◌, drop, length, sum}
 use Rattle.mkv_outputs.specs.Sinks.{WritesOutputs}
 use Rattle.extractors.proofs.FramesLemmas.{GivesUpTo, entries_left}
 use Rattle.extractors.proofs.frames.give_frames.Given as goal

@@ -1,7 +1,7 @@
-use Rattle.std.proofs.Common.{◌≡◌, Bool, true, [], if◌then◌else◌, sym, ◌∙◌, ap}
+use Rattle.std.proofs.Common.{Bool, [], if◌then◌else◌, sym, ◌∙◌, ap}
 use Rattle.matroska_format.specs.Outline.{first_damage}
 use Rattle.track_format.specs.Encoding.{usable_causes}
-use Rattle.mkv_extract.proofs.ReadLemmas.{usable-some}
+use Rattle.file_records.proofs.CausesLemmas.{usable-some}
 use Rattle.mkv_extract.proofs.reading.cause_of.Goals as goal
 
 -- its frames can't be used

@@ -21,4 +21,4 @@ pub returns-clause-events : goal.returns-clause-events
 returns-clause-events g c = λ bytes told.
     let now = ap (λ s. (g.R.Reads.files s).content c.args.file.n) c.read.ensures.same.standing ∙ told in
     events-read bytes c.in_ok-outline.outline.segment c.in_ok-records.records
-    (c.in_ok-records.ensures.exact bytes now (c.in_ok-outline.ensures.exact bytes told))
+    (c.in_ok-records.ensures.exact bytes now 0 (c.in_ok-outline.ensures.exact bytes told))

@@ -5,10 +5,10 @@ use Rattle.std.proofs.lemmas.Result.{err_from_is_err_and}
 use Rattle.mkv_io.specs.Lines.{with_lines}
 use Rattle.mkv_values.specs.declared.damage.Damage.{Damage}
 use Rattle.cluster_reader.specs.ToldDamages.{ToldDamages}
-use Rattle.mkv_lines.specs.Line.{more_damages_line, warning_line}
+use Rattle.mkv_lines.specs.Line.{more_lines, more_damages_line, warning_line}
 use Rattle.mkv_lines.specs.Said.{ReportLines, SaysPart, SaysUpTo}
 use Rattle.mkv_lines.proofs.SaidLemmas.{SaysPart-before, SaysPart-behind, SaysUpTo-ends, SaysUpTo-more, SaysUpTo-stops}
-use Rattle.mkv_extract.specs.Extract.{damage_lines, more_lines}
+use Rattle.mkv_extract.specs.Extract.{told_lines}
 use Rattle.mkv_extract.proofs.ToldLemmas.{warnings-next}
 use Rattle.mkv_extract.proofs.telling.warn.Goals as goal
 
@@ -47,7 +47,7 @@ others : (name : List ℕ) (more : ℕ) → 0 < more → more_lines name more �
 others name more some = let test : (more == 0) ≡ false = grind (arith, nat_tests, some) in ap (λ (a : Bool). if a then [] else more_damages_line name more ∷ []) test
 
 -- the number of the others couldn't be said
-returns-others : (old mid new : ReportLines) (name : List ℕ) (d : ToldDamages) (first : List Damage) (more : ℕ) → first ≡ d.first → more ≡ d.more → mid ≡ with_lines old (map (warning_line name) first) → 0 < more → SaysPart mid new (more_damages_line name more ∷ []) → SaysPart old new (damage_lines name d)
+returns-others : (old mid new : ReportLines) (name : List ℕ) (d : ToldDamages) (first : List Damage) (more : ℕ) → first ≡ d.first → more ≡ d.more → mid ≡ with_lines old (map (warning_line name) first) → 0 < more → SaysPart mid new (more_damages_line name more ∷ []) → SaysPart old new (told_lines name d)
 returns-others old mid new name d first more is number said some part =
     subst (λ (list : List Damage). SaysPart old new (map (warning_line name) list ++ more_lines name d.more)) is
     (subst (λ (n : ℕ). SaysPart old new (map (warning_line name) first ++ more_lines name n)) number

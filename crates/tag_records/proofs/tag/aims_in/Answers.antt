@@ -1,5 +1,5 @@
 -- A child of a Tag stands there.
-use Rattle.tag_records.proofs.BuildLemmas.{child-of}
+use Rattle.tree_building.proofs.BuildLemmas.{child-of}
 use Rattle.tag_records.proofs.tag.aims_in.Goals as goal
 
 pub aims_in_part-requires : goal.aims_in_part-requires

@@ -1,6 +1,7 @@
 -- A child of Targets stands there.
 use Rattle.std.proofs.Common.{sym, ◌∙◌}
-use Rattle.tag_records.proofs.BuildLemmas.{targets-in, stands-read, child-of}
+use Rattle.tree_building.proofs.BuildLemmas.{stands-read, child-of}
+use Rattle.tag_records.proofs.TableFacts.{targets-in}
 use Rattle.tag_records.proofs.tag.aims_in_part.Goals as goal
 
 pub aims_of-requires : goal.aims_of-requires

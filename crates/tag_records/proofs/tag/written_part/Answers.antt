@@ -1,6 +1,7 @@
 -- Targets in a Tag are a master.
 use Rattle.std.proofs.Common.{sym, ◌∙◌}
-use Rattle.tag_records.proofs.BuildLemmas.{targets-in, stands-read}
+use Rattle.tree_building.proofs.BuildLemmas.{stands-read}
+use Rattle.tag_records.proofs.TableFacts.{targets-in}
 use Rattle.tag_records.proofs.tag.written_part.Goals as goal
 
 pub written_targets-requires : goal.written_targets-requires

@@ -4,7 +4,7 @@ use Rattle.mkv_schema.specs.declared.ids.TheConstants.{TAG}
 use Rattle.tree_format.specs.Node.{offset_of, nodes_of, depth_all}
 use Rattle.tag_records.specs.Tags.{written_part}
 use Rattle.tag_records.specs.Numbers.{numbers_in}
-use Rattle.tag_records.specs.Building.{IsBuilt}
+use Rattle.tree_building.specs.Building.{IsBuilt}
 use Rattle.tag_records.proofs.tag.written_tag.Given as goal
 
 abbrev pub invariant-loop-part : goal.invariant-loop-part

@@ -1,5 +1,6 @@
 -- Each child that is written stands in its master.
-use Rattle.tag_records.proofs.BuildLemmas.{tags-master, built-none, child-of, room-of, some-of, step-some, step-none}
+use Rattle.tree_building.proofs.BuildLemmas.{put-is, built-none, child-of, room-of, some-of, step-some, step-none}
+use Rattle.tag_records.proofs.TableFacts.{tags-master}
 use Rattle.tag_records.proofs.tags.merge_tags.Goals as goal
 use Rattle.tag_records.proofs.tags.merge_tags.Goals.{in-Some+in_ok-push-in-Some, in-None}
 
@@ -22,6 +23,6 @@ loop-child-preserved c =
     let built = c.loop-child.invariant in
     let exact = c.in_ok-tag.ensures.exact in
     elim c.match-branch-3.branch [
-      | in-Some+in_ok-push-in-Some w ↦ step-some _ _ _ _ _ _ inside item _ _ built exact _ _ _ c.in_ok-tag.ensures.place w.in-Some.is w.in_ok-push-in-Some.ensures.ok w.written-is
+      | in-Some+in_ok-push-in-Some w ↦ step-some _ _ _ _ _ _ inside item _ _ built exact _ _ _ c.in_ok-tag.ensures.place w.in-Some.is (put-is _ _ _ _ w.in_ok-push-in-Some.ensures.ok w.in_ok-push-in-Some.ensures.full) w.written-is
       | in-None w ↦ step-none _ _ _ _ _ _ inside item _ _ built exact _ w.in-None.is w.written-is
     ]

@@ -4,7 +4,7 @@ use Rattle.mkv_schema.specs.declared.ids.TheConstants.{TAGS}
 use Rattle.tree_format.specs.Node.{offset_of, nodes_of, depth_all}
 use Rattle.tag_records.specs.Tags.{written_child}
 use Rattle.tag_records.specs.Numbers.{numbers_in}
-use Rattle.tag_records.specs.Building.{IsBuilt}
+use Rattle.tree_building.specs.Building.{IsBuilt}
 use Rattle.tag_records.proofs.tags.merge_tags.Given as goal
 
 abbrev pub invariant-loop-child : goal.invariant-loop-child

@@ -1,6 +1,7 @@
 -- A Tag in Tags is a master.
 use Rattle.std.proofs.Common.{sym, ◌∙◌}
-use Rattle.tag_records.proofs.BuildLemmas.{tag-in, stands-read}
+use Rattle.tree_building.proofs.BuildLemmas.{stands-read}
+use Rattle.tag_records.proofs.TableFacts.{tag-in}
 use Rattle.tag_records.proofs.tags.written_child.Goals as goal
 
 pub aims_in-requires : goal.aims_in-requires

@@ -12,4 +12,5 @@ uint_leaf-requires c =
 pub returns-in_ok-uint_leaf-in-Some-clause-place : goal.returns-in_ok-uint_leaf-in-Some-clause-place
 returns-in_ok-uint_leaf-in-Some-clause-place c =
     let target : is_target c.args.child.now ≡ true = sym c.is_target.ensures ∙ c.if-not-is_target.false in
-    in-place c.args.child.now _ c.id.result c.in-Some.number c.in_ok-uint_leaf-in-Some.ensures.exact c.id.ensures target c.uint_leaf.ensures.fits
+    in-place c.args.child.now _ c.id.result c.in-Some.number c.in_ok-uint_leaf-in-Some.ensures.exact
+    (c.in_ok-uint_leaf-in-Some.ensures.stands _ (target-id _ (ap is_target_id c.id.ensures ∙ target-is c.args.child.now target)))

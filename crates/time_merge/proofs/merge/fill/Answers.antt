@@ -8,9 +8,9 @@ use Rattle.merge_model.specs.Merged.{merged_from}
 use Rattle.mkv_io.specs.Sources.{live_files}
 use Rattle.lanes.specs.Lane as lanes
 use Rattle.time_merge.specs.Merge.{due_of, length_of}
-use Rattle.time_merge.specs.Queues.{IsQueue, is_due, lane_kept, waiting}
+use Rattle.time_merge.specs.Queues.{IsQueue, KeepsWaiting, is_due, lane_kept}
 use Rattle.time_merge.specs.declared.queue.Queue.{Queue}
-use Rattle.time_merge.proofs.QueueLemmas.{pays-one, pays-refused, length-one, length-same, told-at, told-links, waiting-one, way-one}
+use Rattle.time_merge.proofs.QueueLemmas.{pays-one, pays-refused, length-one, length-same, told-at, told-links, waiting-one, damages-one, way-one}
 use Rattle.time_merge.proofs.merge.fill.Goals as goal
 
 pub returns-in_err-fill-clause-left : goal.returns-in_err-fill-clause-left
@@ -19,8 +19,11 @@ returns-in_err-fill-clause-left g c = λ told.
     let qs = c.loop-k.queues.items in
     let inside : c.loop-k.k < length qs = omega (arith, c.loop-k.invariant.count, c.loop-k-test.true) in
     let here = told-at f qs c.loop-k.k c.index_mut.result.now inside c.index_mut.ensures.value (c.loop-k.invariant.told told) in
-    let same = subst (λ s. lanes.IsTold (g.R.Reads.files s) c.index_mut.result.now.lane → waiting (g.R.Reads.files s) c.fill.new.self ≡ waiting (g.R.Reads.files s) c.index_mut.result.now) c.loop-k.invariant.standing c.in_err-fill.ensures.waiting in
-    ap merged_from (waiting-one f qs c.loop-k.k c.index_mut.result.now c.fill.new.self c.index_mut.ensures.value (same here) ∙ c.loop-k.invariant.left told)
+    let same = subst (λ s. KeepsWaiting (g.R.Reads.files s) c.index_mut.result.now c.fill.new.self) c.loop-k.invariant.standing c.in_err-fill.ensures.waiting here in
+    record {
+      left = ap merged_from (waiting-one f qs c.loop-k.k c.index_mut.result.now c.fill.new.self c.index_mut.ensures.value same.blocks ∙ c.loop-k.invariant.left told);
+      damages = damages-one f qs c.loop-k.k c.index_mut.result.now c.fill.new.self c.index_mut.ensures.value same.damages ∙ c.loop-k.invariant.damages told;
+    }
 
 pub returns-in_err-fill-clause-stay : goal.returns-in_err-fill-clause-stay
 returns-in_err-fill-clause-stay g c =
@@ -56,7 +59,7 @@ loop-k-preserved g c =
     let y = c.fill.new.self in
     let before = g.R.Reads.octets_read c.loop-k.src in
     let inside : c.loop-k.k < length qs = omega (arith, c.loop-k.invariant.count, c.loop-k-test.true) in
-    let same = subst (λ s. lanes.IsTold (g.R.Reads.files s) q.lane → waiting (g.R.Reads.files s) y ≡ waiting (g.R.Reads.files s) q) c.loop-k.invariant.standing c.in_ok-fill.ensures.waiting in
+    let same = subst (λ s. KeepsWaiting (g.R.Reads.files s) q y) c.loop-k.invariant.standing c.in_ok-fill.ensures.waiting in
     let pays : g.R.Reads.octets_read c.fill.new.src + lanes.due f y.lane ≤ before + lanes.due f q.lane =
     subst (λ s. g.R.Reads.octets_read c.fill.new.src + lanes.due (g.R.Reads.files s) y.lane ≤ before + lanes.due (g.R.Reads.files s) q.lane) c.loop-k.invariant.standing c.in_ok-fill.ensures.pays in
     record {
@@ -74,7 +77,8 @@ loop-k-preserved g c =
       told = λ told. All-set (λ each. lanes.IsTold f each.lane) qs c.loop-k.k y
           (told-links f q y c.in_ok-fill.ensures.stays.keeps (told-at f qs c.loop-k.k q inside c.index_mut.ensures.value (c.loop-k.invariant.told told)))
           (c.loop-k.invariant.told told);
-      left = λ told. waiting-one f qs c.loop-k.k q y c.index_mut.ensures.value (same (told-at f qs c.loop-k.k q inside c.index_mut.ensures.value (c.loop-k.invariant.told told))) ∙ c.loop-k.invariant.left told;
+      left = λ told. waiting-one f qs c.loop-k.k q y c.index_mut.ensures.value (same (told-at f qs c.loop-k.k q inside c.index_mut.ensures.value (c.loop-k.invariant.told told))).blocks ∙ c.loop-k.invariant.left told;
+      damages = λ told. damages-one f qs c.loop-k.k q y c.index_mut.ensures.value (same (told-at f qs c.loop-k.k q inside c.index_mut.ensures.value (c.loop-k.invariant.told told))).damages ∙ c.loop-k.invariant.damages told;
       on = way-one qs c.loop-k.k q y inside c.index_mut.ensures.value c.in_ok-fill.ensures.filled.on c.loop-k.invariant.on;
       pays = pays-one f qs c.loop-k.k q y (g.R.Reads.octets_read c.args.src.now) before (g.R.Reads.octets_read c.fill.new.src) (due_of f c.args.queues.now.items) inside c.index_mut.ensures.value c.loop-k.invariant.pays pays;
     }

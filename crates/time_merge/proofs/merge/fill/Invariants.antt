@@ -1,7 +1,7 @@
 use Rattle.std.proofs.Common.{◌≡◌, ◌+◌, ◌≤◌, false, map, take, length}
 use Rattle.std.specs.List.{All}
 use Rattle.mkv_io.specs.Sources.{live_files}
-use Rattle.time_merge.specs.Merge.{AreReady, AreTold, due_of, way_of}
+use Rattle.time_merge.specs.Merge.{AreReady, AreTold, damages_of, due_of, way_of}
 use Rattle.time_merge.specs.Queues.{IsQueue, is_due, lane_kept, waiting}
 use Rattle.time_merge.proofs.merge.fill.Given as goal
 
@@ -16,6 +16,7 @@ invariant-loop-k g l = record {
   keeps : map lane_kept l.queues.items ≡ map lane_kept l.initial.queues.items;
   told : AreTold (live_files g.R.Reads l.initial.src) l.initial.queues.items → AreTold (live_files g.R.Reads l.initial.src) l.queues.items;
   left : AreTold (live_files g.R.Reads l.initial.src) l.initial.queues.items → map (waiting (live_files g.R.Reads l.initial.src)) l.queues.items ≡ map (waiting (live_files g.R.Reads l.initial.src)) l.initial.queues.items;
+  damages : AreTold (live_files g.R.Reads l.initial.src) l.initial.queues.items → damages_of (live_files g.R.Reads l.initial.src) l.queues.items ≡ damages_of (live_files g.R.Reads l.initial.src) l.initial.queues.items;
   on : way_of l.queues.items ≤ way_of l.initial.queues.items;
   pays : g.R.Reads.octets_read l.src + due_of (live_files g.R.Reads l.initial.src) l.queues.items ≤ g.R.Reads.octets_read l.initial.src + due_of (live_files g.R.Reads l.initial.src) l.initial.queues.items;
 }

@@ -6,11 +6,11 @@ use Rattle.mkv_io.specs.Faults.{counted}
 use Rattle.mkv_io.specs.Sources.{live_files}
 use Rattle.merge_model.specs.Heads.{IsFirstLeast, HasNoHead}
 use Rattle.lanes.specs.Lane as lanes
-use Rattle.time_merge.specs.Merge.{AreTold, left_of, way_of}
+use Rattle.time_merge.specs.Merge.{AreTold, damages_of, left_of, way_of}
 use Rattle.time_merge.specs.Queues.{lane_kept, order_of}
 use Rattle.time_merge.specs.declared.queue.Head.TheVariants.{Due}
 use Rattle.time_merge.specs.declared.queue.Queue.{Queue}
-use Rattle.time_merge.proofs.QueueLemmas.{all-ended, left-step, left-end, least-inside, lends-first, set-here, way-step}
+use Rattle.time_merge.proofs.QueueLemmas.{all-ended, damages-one, left-step, left-end, least-inside, lends-first, set-here, way-step}
 use Rattle.time_merge.proofs.merge.Merge.step.Goals as goal
 
 pub returns-in_default-clause-gives : goal.returns-in_default-clause-gives
@@ -19,7 +19,10 @@ returns-in_default-clause-gives g c = λ told.
     let same = c.in_ok-fill.ensures.left (subst (λ m. AreTold f m.queues) (sym c.self.view_is) told) in
     let empty = subst (λ (qs : List Queue). HasNoHead (map order_of qs)) c.as_slice.ensures.value c.in_default.ensures in
     let none = left-end f c.fill.new.queues.items c.in_ok-fill.ensures.stay.queues c.in_ok-fill.ensures.filled.known empty in
-    (ap (λ m. left_of f m.queues) (sym c.self.view_is) ∙ sym same ∙ none, none)
+    record {
+      blocks = (ap (λ m. left_of f m.queues) (sym c.self.view_is) ∙ sym same.left ∙ none, none);
+      damages = same.damages ∙ ap (λ m. damages_of f m.queues) c.self.view_is;
+    }
 
 pub returns-in_default-clause-moves : goal.returns-in_default-clause-moves
 returns-in_default-clause-moves g c =
@@ -51,9 +54,12 @@ returns-clause-gives g c = λ told.
     let here = slice_get_read qs (length qs) k q refl inside c.index_mut.ensures.value in
     let same = c.in_ok-fill.ensures.left (subst (λ m. AreTold f m.queues) (sym c.self.view_is) told) in
     record {
-      queue = record q { head = Due };
-      here = set-here qs k q (record q { head = Due }) inside;
-      gives = ap (λ m. left_of f m.queues) (sym c.self.view_is) ∙ sym same ∙ left-step f qs k c.in-Some.least.order q c.in_ok-fill.ensures.stay.queues c.in_ok-fill.ensures.filled.known here first;
+      blocks = record {
+        queue = record q { head = Due };
+        here = set-here qs k q (record q { head = Due }) inside;
+        gives = ap (λ m. left_of f m.queues) (sym c.self.view_is) ∙ sym same.left ∙ left-step f qs k c.in-Some.least.order q c.in_ok-fill.ensures.stay.queues c.in_ok-fill.ensures.filled.known here first;
+      };
+      damages = damages-one f qs k q (record q { head = Due }) c.index_mut.ensures.value refl ∙ same.damages ∙ ap (λ m. damages_of f m.queues) c.self.view_is;
     }
 
 pub returns-clause-moves : goal.returns-clause-moves

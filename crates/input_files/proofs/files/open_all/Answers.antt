@@ -1,0 +1,58 @@
+use Rattle.std.proofs.Common.{List, [], ◌∷◌, ◌++◌, ℕ, ◌+◌, take, map, sym, ◌∙◌, ap, subst}
+use Rattle.std.proofs.lemmas.List.{take_all}
+use Rattle.mkv_io.specs.Sources.{live_files}
+use Rattle.mkv_outputs.specs.Sinks.{EndsOnly}
+use Rattle.input_files.specs.Inputs.{OpensInputs, contents_of, file_names}
+use Rattle.input_files.proofs.InputsLemmas.{KeepsOthers-refused, OpensInputs-more, end-as-begun}
+use Rattle.input_files.proofs.NamesLemmas.{contents-named, missing-passed, names-more}
+use Rattle.input_files.proofs.files.open_all.Goals as goal
+
+-- those that are open are closed again
+pub returns-in-Err-clause-refused : goal.returns-in-Err-clause-refused
+returns-in-Err-clause-refused g c =
+    end-as-begun g.F.Reads g.F.Files g.met.F.Files.numbered (file_names (take c.loop-k.k c.args.words.now)) []
+    c.args.files.now c.loop-k.files c.open_file.new.self c.close_all.new.files c.loop-k.ids.items
+    c.loop-k.invariant.opens
+    (KeepsOthers-refused g.F.Reads g.F.Files [] c.loop-k.files c.open_file.new.self c.in-Err.ensures.err
+    (g.met.F.Files.given_stands c.open_file.new.self c.loop-k.files c.in-Err.ensures.err) c.open_file.ensures.holders)
+    (subst (EndsOnly g.F.Reads g.F.Files c.open_file.new.self c.close_all.new.files) c.as_slice.ensures.value c.close_all.ensures)
+
+-- one more is open
+pub loop-k-preserved : goal.loop-k-preserved
+loop-k-preserved g c = record {
+  opens =
+      subst (OpensInputs g.F.Reads g.F.Files (file_names (take (c.loop-k.k + 1) c.args.words.now)) c.args.files.now c.open_file.new.self) (sym c.push_reserved.ensures.items)
+      (subst (λ (names : List (List ℕ)). OpensInputs g.F.Reads g.F.Files names c.args.files.now c.open_file.new.self (c.loop-k.ids.items ++ c.in-Ok.file ∷ []))
+      (sym (names-more c.args.words.now c.loop-k.k c.index-words-k.result c.as_str.result.now c.loop-k-test.true c.index-words-k.is c.as_str.ensures.same))
+      (OpensInputs-more g.F.Reads g.F.Files (file_names (take c.loop-k.k c.args.words.now)) c.as_str.result.now c.args.files.now c.loop-k.files c.open_file.new.self c.loop-k.ids.items c.in-Ok.file
+      g.met.F.Files.numbered c.loop-k.invariant.opens (record {
+        least = c.in-Ok.ensures.number.0;
+        most = c.in-Ok.ensures.number.1;
+        live = c.in-Ok.ensures.live;
+        alone = c.in-Ok.ensures.alone;
+        holder = c.in-Ok.ensures.holder;
+        holders = c.open_file.ensures.holders;
+        others = c.open_file.ensures.others;
+      })));
+  missing = λ world told.
+      c.loop-k.invariant.missing world told
+      ∙ missing-passed world c.args.words.now c.loop-k.k c.index-words-k.result c.loop-k-test.true c.index-words-k.is
+      (λ none. let refused = (c.in-Ok.ensures.missing world (c.loop-k.invariant.same.names ∙ told)).1 (ap world c.as_str.ensures.same ∙ none) in absurd (cc));
+  same = record {
+    names = c.open_file.ensures.names ∙ c.loop-k.invariant.same.names;
+    writing = c.open_file.ensures.writing ∙ c.loop-k.invariant.same.writing;
+    octets = c.open_file.ensures.octets ∙ c.loop-k.invariant.same.octets;
+  };
+  count = c.push_reserved.ensures.len ∙ ap (λ (n : ℕ). n + 1) c.loop-k.invariant.count;
+  room = c.push_reserved.ensures.capacity ∙ c.loop-k.invariant.room;
+  reading = c.in-Ok.ensures.cause ∙ c.loop-k.invariant.reading;
+}
+
+-- the contents are those of the names
+pub returns-clause-contents : goal.returns-clause-contents
+returns-clause-contents g c = λ world told.
+    let held = c.loop-k.invariant.opens.inputs in
+    ap (contents_of (live_files g.F.Reads c.loop-k.files).content) c.from_vec.ensures
+    ∙ contents-named (live_files g.F.Reads c.loop-k.files).live (live_files g.F.Reads c.loop-k.files).content (g.F.Files.holder c.loop-k.files) world c.loop-k.ids.items
+    (λ file live. g.met.F.Files.named c.loop-k.files file live world (c.loop-k.invariant.same.names ∙ told)) held.live
+    ∙ ap (map world) (held.under ∙ ap file_names (take_all c.loop-k.k c.args.words.now c.loop-k-test.false))

@@ -1,0 +1,71 @@
+-- The input files of a merge, as they are opened.
+use Rattle.std.specs.Prelude.{◌≡◌, ◌≤◌, ⊤, ℕ, Bool, true, false, List, map, Option, Some, None, is_none, Result, Ok, Err}
+use Rattle.std.specs.List.{All, position_from}
+use Rattle.mkv_values.specs.declared.outside.FileId.{FileId}
+use Rattle.mkv_values.specs.declared.outside.OpenFault.{OpenFault}
+use Rattle.mkv_values.specs.declared.outside.OpenFault.TheVariants as open_fault
+use Rattle.mkv_io.specs.LiveFiles.{KeepsFiles, KeepsHolders}
+use Rattle.mkv_io.specs.Sources.{live_files}
+use Rattle.mkv_io.specs.declared.reads.Reads.{Ghosts}
+use Rattle.mkv_io.specs.declared.files.Files as writing
+use Rattle.merge_words.specs.declared.files.FileWords.{FileWords}
+use Rattle.mkv_outputs.specs.Sinks.{AreLive, AreRising, IsNoneOf, holders_of}
+use Rattle.input_files.specs.declared.inputs_end.InputsEnd.{InputsEnd}
+use Rattle.input_files.specs.declared.inputs_end.InputsEnd.TheVariants as inputs_end
+
+-- the names of the inputs, in the order of the words
+abbrev pub file_names : List FileWords → List (List ℕ)
+file_names words = map (λ (w : FileWords). w.name) words
+
+-- the contents of these files
+abbrev pub contents_of : (ℕ → Option (List ℕ)) → List FileId → List (Option (List ℕ))
+contents_of content ids = map (λ (f : FileId). content f.n) ids
+
+-- ---- the files
+
+-- These files are live, in the order of their numbers, and were opened under these names.
+pub record AreInputs {S : Type 0} (r : Ghosts S) (f : writing.Ghosts S) (names : List (List ℕ)) (files : S) (ids : List FileId) : Type 0 where
+  pub live : AreLive (live_files r files).live ids
+  pub rising : AreRising ids
+  pub under : holders_of (f.holder files) ids ≡ names
+
+-- Files were opened under these names, and got new numbers. Every other file is live as before, and each that was live
+-- is the same under its name.
+pub record OpensInputs {S : Type 0} (r : Ghosts S) (f : writing.Ghosts S) (names : List (List ℕ)) (old new : S) (ids : List FileId) : Type 0 where
+  pub inputs : AreInputs r f names new ids
+  pub newer : All (λ (s : FileId). f.given old ≤ s.n) ids
+  pub besides : (file : ℕ) → IsNoneOf file ids → (live_files r new).live file ≡ (live_files r old).live file
+  pub given : f.given old ≤ f.given new
+  pub holders : KeepsHolders (live_files r old).live (f.holder old) (f.holder new)
+  pub others : KeepsFiles (live_files r old) (live_files r new) (λ file. (live_files r old).live file ≡ true)
+
+-- No name's content changes, nothing is written, and no octet is read.
+pub record LeavesContents {S : Type 0} (r : Ghosts S) (f : writing.Ghosts S) (old new : S) : Type 0 where
+  pub names : f.names new ≡ f.names old
+  pub writing : f.writing_faults new ≡ f.writing_faults old
+  pub octets : r.octets_read new ≡ r.octets_read old
+
+-- ---- refusals
+
+-- the first of these names, from 0, that has no content
+abbrev pub first_missing : (List ℕ → Option (List ℕ)) → List (List ℕ) → Option ℕ
+first_missing world names = position_from (λ name. is_none (world name)) 0 names
+
+-- The first input without a file is told; a call of the outside may fail before it, and there may be no memory.
+abbrev pub TellsMissing : (List ℕ → Option (List ℕ)) → List (List ℕ) → Result (List FileId) InputsEnd → Type 0
+TellsMissing world names (Ok ids) = first_missing world names ≡ None
+TellsMissing world names (Err (inputs_end.Missing input)) = first_missing world names ≡ Some input
+TellsMissing world names (Err inputs_end.Failed) = ⊤
+TellsMissing world names (Err inputs_end.Memory) = ⊤
+
+-- why the inputs aren't opened, where the k-th, from 0, isn't
+abbrev pub end_of : ℕ → OpenFault → InputsEnd
+end_of k open_fault.Missing = inputs_end.Missing k
+end_of k open_fault.Failed = inputs_end.Failed
+end_of k open_fault.Memory = inputs_end.Memory
+
+-- the outside failed
+abbrev pub is_inputs_fault : InputsEnd → Bool
+is_inputs_fault (inputs_end.Missing input) = false
+is_inputs_fault inputs_end.Failed = true
+is_inputs_fault inputs_end.Memory = false

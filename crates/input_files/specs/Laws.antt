@@ -1,0 +1,30 @@
+-- What holds of input files, whatever is written under other names.
+use Rattle.std.specs.Prelude.{ℕ, List}
+use Rattle.std.specs.List.{All}
+use Rattle.mkv_values.specs.declared.outside.FileId.{FileId}
+use Rattle.mkv_io.specs.LiveFiles.{IsSameFile}
+use Rattle.mkv_io.specs.Names.{AreOthers}
+use Rattle.mkv_io.specs.Sources.{live_files}
+use Rattle.mkv_io.specs.Writing.{KeepsOthers}
+use Rattle.mkv_io.specs.declared.reads.Reads.{Ghosts}
+use Rattle.mkv_io.specs.declared.files.Files as writing
+use Rattle.mkv_outputs.specs.Sinks.{EndsOnly}
+use Rattle.input_files.specs.Inputs.{AreInputs, OpensInputs}
+
+-- Input files are those of the same names after others were written, and each that was opened under none of the names
+-- that were written is the same.
+pub record StandsOver {S : Type 0} (r : Ghosts S) (f : writing.Ghosts S) (names written : List (List ℕ)) (old new : S) (ids : List FileId) : Type 0 where
+  pub inputs : AreInputs r f names new ids
+  pub same : All (λ (s : FileId). AreOthers (f.holder old s.n) written → IsSameFile (live_files r old) (live_files r new) s.n) ids
+
+-- Input files stand over what is written under other names.
+abbrev pub StandOverWrites : {S : Type 0} → Ghosts S → writing.Ghosts S → Type 0
+StandOverWrites {S} r f = (names written : List (List ℕ)) (old new : S) (ids : List FileId)
+    → AreInputs r f names old ids → KeepsOthers r f written old new → StandsOver r f names written old new ids
+
+-- Where input files were opened, only names among these were written then, and the input files were closed at last,
+-- all is as where only these names were written.
+abbrev pub EndAsBegun : {S : Type 0} → Ghosts S → writing.Ghosts S → Type 0
+EndAsBegun {S} r f = (names written : List (List ℕ)) (start opened done end : S) (ids : List FileId)
+    → OpensInputs r f names start opened ids → KeepsOthers r f written opened done → EndsOnly r f done end ids
+    → KeepsOthers r f written start end

@@ -1,0 +1,66 @@
+//! Files that are opened one after the other, and closed.
+
+ghost use Rattle.std.specs.Prelude.{◌≡◌, map, IfOk, OnErr, []};
+ghost use Rattle.mkv_io.specs.Faults.{HasCause};
+ghost use Rattle.mkv_io.specs.Sources.{live_files};
+ghost use Rattle.mkv_io.specs.Told.{Told};
+ghost use Rattle.mkv_io.specs.Writing.{KeepsOthers};
+ghost use Rattle.mkv_outputs.specs.Sinks.{AreLive, AreRising, EndsOnly};
+ghost use Rattle.input_files.specs.Inputs.{LeavesContents, OpensInputs, TellsMissing, contents_of, end_of, file_names, is_inputs_fault};
+
+use crate::inputs_end::InputsEnd;
+use merge_words::FileWords;
+use mkv_io::Files;
+use mkv_values::{FileId, List, OpenFault};
+use std::alloc::Global;
+
+/// Opens the files of a merge's inputs, in the order of the words. After a refusal none of them stays open.
+pub fn open_all<F: Files>(
+    alloc: Global,
+    words: &[FileWords],
+    files: &mut F,
+) -> Result<List<FileId>, InputsEnd>
+    ensures opens { IfOk result (OpensInputs F.Reads F.Files.own (file_names words.now) files.old files.new) }
+    ensures contents { IfOk result (λ ids. Told (F.names files.old) (λ world.
+        contents_of (live_files F.Reads files.new).content ids ≡ map world (file_names words.now))) }
+    ensures missing { Told (F.names files.old) (λ world. TellsMissing world (file_names words.now) result) }
+
+    // A refusal leaves which files are live, and each as it was.
+    ensures refused { OnErr result (KeepsOthers F.Reads F.Files.own [] files.old files.new) }
+    ensures same { LeavesContents F.Reads F.Files.own files.old files.new }
+    ensures cause { HasCause is_inputs_fault (F.reading_faults files.old) (F.reading_faults files.new) result }
+{
+    let mut ids = Vec::with_capacity(alloc, words.len())?;
+    for (k, input) in words.iter().enumerate() {
+        match files.open_file(input.name.as_str()) {
+            Ok(file) => ids.push_reserved(file),
+            Err(fault) => {
+                close_all(files, ids.as_slice());
+                return Err(end_of(fault, k));
+            }
+        }
+    }
+    Ok(List::from_vec(ids))
+}
+
+/// Why inputs aren't opened, where the k-th, from 0, isn't.
+fn end_of(fault: OpenFault, k: usize) -> InputsEnd
+    ensures { result ≡ end_of k fault }
+{
+    match fault {
+        OpenFault::Missing => InputsEnd::Missing { input: k },
+        OpenFault::Failed => InputsEnd::Failed,
+        OpenFault::Memory => InputsEnd::Memory,
+    }
+}
+
+/// Closes live files, whose numbers rise.
+pub fn close_all<F: Files>(files: &mut F, ids: &[FileId])
+    requires live { AreLive (live_files F.Reads files.old).live ids.now }
+    requires rising { AreRising ids.now }
+    ensures { EndsOnly F.Reads F.Files.own files.old files.new ids.now }
+{
+    for id in ids {
+        files.close(*id);
+    }
+}

@@ -1,0 +1,5 @@
+pub mod InputLemmas
+pub mod SelectLemmas
+pub mod StandardFacts
+pub mod TakenLemmas
+pub mod TitleLemmas

@@ -1,0 +1,100 @@
+-- The words of small inputs, and what they take, computed, so that a wrong definition does not check.
+use Rattle.std.proofs.Common.{◌≡◌, ℕ, Bool, true, false, List, [], ◌∷◌, Some, None, refl}
+use Rattle.std.specs.Prelude.{ℤ, pos, neg_ℤ}
+use Rattle.mkv_schema.specs.declared.ids.TheConstants.{ATTACHMENTS, CHAPTERS, CLUSTER, TAGS, TRACKS}
+use Rattle.matroska_format.specs.declared.element.Header.{Header}
+use Rattle.word_values.specs.declared.lists.Select.{Select}
+use Rattle.word_values.specs.declared.lists.Select.TheVariants.{All, These, AllBut, Off}
+use Rattle.merge_words.specs.declared.files.FileWords.{FileWords}
+use Rattle.merge_inputs.specs.Select.{is_taken, not_built}
+use Rattle.merge_inputs.specs.Taken.{value_for}
+
+-- ---- the words of a file
+
+-- with these selections, and with what is kept besides tracks: attached files, chapters, tags of tracks, and other tags
+abbrev words_with : Select → Select → Select → Bool → Bool → Bool → Bool → FileWords
+words_with video audio subtitles attachments chapters track_tags global_tags = record {
+  name = [];
+  appended = false;
+  video = video;
+  audio = audio;
+  subtitles = subtitles;
+  attachments = attachments;
+  track_tags = track_tags;
+  global_tags = global_tags;
+  chapters = chapters;
+  syncs = [];
+  names = [];
+  languages = [];
+  defaults = [];
+  forced = [];
+  cues = [];
+  times = [];
+  named = [];
+}
+
+-- no word stands before the file
+abbrev plain : FileWords
+plain = words_with All All All true true true true
+
+-- `-d 0 -a !1 -S`
+abbrev chosen : FileWords
+chosen = words_with (These (0 ∷ [])) (AllBut (1 ∷ [])) Off true true true true
+
+-- ---- which tracks are taken
+
+pub record AreTaken : Type 0 where
+  -- without words all tracks of three types
+  pub video : is_taken plain 0 1 ≡ true
+  pub audio : is_taken plain 7 2 ≡ true
+  pub subtitles : is_taken plain 2 17 ≡ true
+  pub complex : is_taken plain 0 3 ≡ false
+  pub buttons : is_taken plain 0 18 ≡ false
+  pub metadata : is_taken plain 0 33 ≡ false
+  -- a selection is asked of its own type alone
+  pub video_0 : is_taken chosen 0 1 ≡ true
+  pub video_1 : is_taken chosen 1 1 ≡ false
+  pub audio_0 : is_taken chosen 0 2 ≡ true
+  pub audio_1 : is_taken chosen 1 2 ≡ false
+  pub no_subtitles : is_taken chosen 0 17 ≡ false
+
+pub taken : AreTaken
+taken = record { video = refl; audio = refl; subtitles = refl; complex = refl; buttons = refl; metadata = refl; video_0 = refl; video_1 = refl; audio_0 = refl; audio_1 = refl; no_subtitles = refl }
+
+-- ---- what the words say of a track
+
+pub record AreValues : Type 0 where
+  pub own : value_for {T = ℕ} 2 ((1, 10) ∷ (2, 20) ∷ []) ≡ Some 20
+  pub first : value_for {T = ℕ} 1 ((1, 10) ∷ (1, 20) ∷ []) ≡ Some 10
+  pub none : value_for {T = ℕ} 0 ((1, 10) ∷ (2, 20) ∷ []) ≡ None
+  pub delay : value_for {T = ℤ} 0 ((0, neg_ℤ (pos 5000000)) ∷ []) ≡ Some (neg_ℤ (pos 5000000))
+
+pub values : AreValues
+values = record { own = refl; first = refl; none = refl; delay = refl }
+
+-- ---- what isn't taken over yet
+
+-- an Element of an ID, wherever it stands and however long it is
+abbrev element : ℕ → Header → Header
+element id h = record h { id = id }
+
+-- Tags before Chapters and attached files
+abbrev all : Header → List Header
+all h = element TRACKS h ∷ element CLUSTER h ∷ element TAGS h ∷ element CHAPTERS h ∷ element ATTACHMENTS h ∷ []
+
+pub record AreNotBuilt (h : Header) : Type 0 where
+  pub nothing : not_built plain false (element TRACKS h ∷ element CLUSTER h ∷ []) ≡ None
+  -- not the first of the file is told, but the first kind
+  pub attachments : not_built plain false (all h) ≡ Some ATTACHMENTS
+  pub chapters : not_built (words_with All All All false true true true) false (all h) ≡ Some CHAPTERS
+  pub tags : not_built (words_with All All All false false true true) false (all h) ≡ Some TAGS
+  pub left_out : not_built (words_with All All All false false false false) false (all h) ≡ None
+  -- either kind of tags
+  pub track_tags : not_built (words_with All All All false false true false) false (all h) ≡ Some TAGS
+  pub global_tags : not_built (words_with All All All false false false true) false (all h) ≡ Some TAGS
+  -- WebM has neither attached files nor chapters
+  pub webm : not_built plain true (all h) ≡ Some TAGS
+  pub webm_without_tags : not_built (words_with All All All true true false false) true (all h) ≡ None
+
+pub not_built_yet : (h : Header) → AreNotBuilt h
+not_built_yet h = record { nothing = refl; attachments = refl; chapters = refl; tags = refl; left_out = refl; track_tags = refl; global_tags = refl; webm = refl; webm_without_tags = refl }

@@ -1,0 +1,65 @@
+use Rattle.std.proofs.Common.{ℕ, true, List, sym, ◌∙◌, ap, subst}
+use Rattle.std.specs.List.{All}
+use Rattle.matroska_format.specs.Outline.{segment_run}
+use Rattle.element_reader.specs.Outline.{FileOutline}
+use Rattle.block_format.specs.Elements.{with_limits}
+use Rattle.block_format.specs.Events.{events_of}
+use Rattle.file_blocks.specs.File.{file_events}
+use Rattle.track_records.specs.Sound.{IsEntry}
+use Rattle.track_records.specs.declared.track.Track.{Track}
+use Rattle.file_records.proofs.RecordsLemmas.{file_records-scale}
+use Rattle.merge_inputs.specs.Input.{refusal_of}
+use Rattle.merge_inputs.specs.Taken.{first_unusable}
+use Rattle.merge_inputs.specs.declared.taken.TakenTrack.{TakenTrack}
+use Rattle.merge_inputs.proofs.InputLemmas.{input_of-all, input_of-refused, read-same}
+use Rattle.merge_inputs.proofs.TakenLemmas.{AreTaken-read, taken-tracks}
+use Rattle.merge_inputs.proofs.reading.read_input.Goals as goal
+
+-- the tracks that are taken are entries
+pub refusal_of-requires : goal.refusal_of-requires
+refusal_of-requires g c =
+    subst (All (λ (t : TakenTrack). IsEntry t.track.entry)) (sym (c.as_slice.ensures ∙ c.in_ok-taken.ensures))
+    (taken-tracks (λ (t : Track). IsEntry t.entry) c.args.words.now c.in_ok-info.field-0.tracks c.in_ok-info.ensures.good.tracks.sound)
+
+-- something refuses what is taken
+pub returns-in-Some-clause-exact : goal.returns-in-Some-clause-exact
+returns-in-Some-clause-exact g c = λ bytes told.
+    let outline = c.in_ok-outline.ensures.exact bytes told in
+    let now = ap (λ s. (g.R.Reads.files s).content c.args.file.n) c.read_after.ensures.same.standing ∙ told in
+    input_of-refused c.args.words.now c.args.webm c.args.held bytes c.in_ok-outline.outline c.in_ok-info.field-0 c.in-Some.refusal outline
+    (c.in_ok-info.ensures.exact bytes now c.args.held outline)
+    (ap (λ (taken : List TakenTrack). refusal_of c.args.words.now c.args.webm (segment_run bytes c.in_ok-outline.outline.segment).list taken) (sym (c.as_slice.ensures ∙ c.in_ok-taken.ensures))
+    ∙ sym (c.refusal_of.ensures.exact c.args.held bytes outline) ∙ c.in-Some.is)
+
+-- nothing does
+pub returns-clause-exact : goal.returns-clause-exact
+returns-clause-exact g c = λ bytes told.
+    let outline = c.in_ok-outline.ensures.exact bytes told in
+    let now = ap (λ s. (g.R.Reads.files s).content c.args.file.n) c.read_after.ensures.same.standing ∙ told in
+    input_of-all c.args.words.now c.args.webm c.args.held bytes c.in_ok-outline.outline c.in_ok-info.field-0 _ outline
+    (c.in_ok-info.ensures.exact bytes now c.args.held outline)
+    (ap (λ (taken : List TakenTrack). refusal_of c.args.words.now c.args.webm (segment_run bytes c.in_ok-outline.outline.segment).list taken) (sym (c.as_slice.ensures ∙ c.in_ok-taken.ensures))
+    ∙ sym (c.refusal_of.ensures.exact c.args.held bytes outline) ∙ c.in_default.is)
+    (read-same c.in_ok-new.field-0.value c.in_ok-outline.outline c.in_ok-new.ensures.ok c.scale_of.ensures.value c.in_ok-title_of.ensures c.len-count.ensures c.in_ok-taken.ensures)
+
+-- the file is live as before, and the tracks can be used
+pub returns-clause-input : goal.returns-clause-input
+returns-clause-input g c =
+    let stands = c.read_records.ensures.standing ∙ c.read_after.ensures.same.standing in
+    record {
+      live = ap (λ s. (g.R.Reads.files s).live c.args.file.n) stands ∙ c.requires.live;
+      size = ap (λ s. (g.R.Reads.files s).size c.args.file.n) stands ∙ sym c.in_ok-outline.ensures.total ∙ ap (λ (o : FileOutline). o.total) (sym c.in_ok-new.ensures.ok);
+      scale = c.scale_of.ensures.some;
+      taken = AreTaken-read c.args.words.now c.in_ok-info.field-0.tracks c.in_ok-taken.taken c.in_ok-taken.ensures c.in_ok-info.ensures.good.tracks c.requires.delays
+          (ap first_unusable (sym c.as_slice.ensures) ∙ c.in_default.ensures.usable);
+    }
+
+-- the Info that was read gives the length of a tick
+pub returns-clause-events : goal.returns-clause-events
+returns-clause-events g c = λ bytes told.
+    let outline = c.in_ok-outline.ensures.exact bytes told in
+    let now = ap (λ s. (g.R.Reads.files s).content c.args.file.n) c.read_after.ensures.same.standing ∙ told in
+    ap (λ (o : FileOutline). events_of (with_limits c.scale_of.result) bytes o.segment) c.in_ok-new.ensures.ok
+    ∙ ap (λ (scale : ℕ). events_of (with_limits scale) bytes c.in_ok-outline.outline.segment)
+    (c.scale_of.ensures.value ∙ file_records-scale bytes c.in_ok-outline.outline.segment c.in_ok-info.field-0 (c.in_ok-info.ensures.exact bytes now c.args.held outline))
+    ∙ ap (λ (o : FileOutline). file_events true bytes o.segment) (sym c.in_ok-new.ensures.ok)

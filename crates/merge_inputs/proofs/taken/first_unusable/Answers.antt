@@ -1,0 +1,11 @@
+use Rattle.std.proofs.Common.{sym, ◌∙◌}
+use Rattle.file_records.proofs.CausesLemmas.{usable-some}
+use Rattle.merge_inputs.proofs.TakenLemmas.{unusable-here}
+use Rattle.merge_inputs.proofs.taken.first_unusable.Goals as goal
+
+-- a track can't be used
+pub returns-in-Err : goal.returns-in-Err
+returns-in-Err c =
+    sym (c.loop-each.invariant
+    ∙ unusable-here c.args.taken.now c.loop-each.each-index c.each-item.result c.in-Err.damage c.loop-each-test.true c.each-item.is
+    (usable-some c.each-item.result.track.entry c.in-Err.damage (sym c.in-Err.ensures.exact)))

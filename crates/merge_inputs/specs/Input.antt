@@ -1,0 +1,99 @@
+-- What is read of an input of a merge before its blocks.
+use Rattle.std.specs.Prelude.{◌≡◌, ◌≤◌, ⊤, true, ℕ, Bool, List, length, Option, Some, None, option_map, Result, Ok, Err}
+use Rattle.std.specs.List.{All}
+use Rattle.std.specs.Option.{option_or}
+use Rattle.mkv_values.specs.declared.damage.Damage.{Damage}
+use Rattle.mkv_io.specs.LiveFiles.{LiveFiles}
+use Rattle.matroska_format.specs.declared.element.Header.{Header}
+use Rattle.matroska_format.specs.Outline.{Outlined, described, outline_of}
+use Rattle.block_format.specs.Elements.{with_limits}
+use Rattle.block_format.specs.Events.{Event, events_of}
+use Rattle.file_records.specs.Records.{file_records, scale_of_info}
+use Rattle.file_records.specs.declared.records.Records.{Records}
+use Rattle.merge_words.specs.declared.files.FileWords.{FileWords}
+use Rattle.merge_inputs.specs.Select.{not_built}
+use Rattle.merge_inputs.specs.Taken.{IsTaken, first_unusable, taken_from}
+use Rattle.merge_inputs.specs.Title.{title_of_info}
+use Rattle.merge_inputs.specs.declared.taken.TakenTrack.{TakenTrack}
+use Rattle.merge_inputs.specs.declared.input.Input.{Input}
+use Rattle.merge_inputs.specs.declared.input.InputEnd.{InputEnd}
+use Rattle.merge_inputs.specs.declared.input.InputEnd.TheVariants as input_end
+use Rattle.merge_inputs.specs.declared.input.InputRefusal.{InputRefusal}
+use Rattle.merge_inputs.specs.declared.input.InputRefusal.TheVariants.{Damaged, NotBuilt}
+
+-- The Segment of a file, nanoseconds a tick, its title; the octets of every Info, Tracks, Chapters and Tags; how many
+-- tracks it has, and those that are taken.
+pub record InputRead : Type 0 where
+  pub segment : Header
+  pub scale : ℕ
+  pub title : List ℕ
+  pub held : ℕ
+  pub count : ℕ
+  pub taken : List TakenTrack
+
+-- ---- what is read of a content
+
+-- what is made of what was found; a damage refuses the input
+abbrev pub found_then : {A B : Type 0} → Result A Damage → (A → Result B InputRefusal) → Result B InputRefusal
+found_then (Ok x) more = more x
+found_then (Err d) more = Err (Damaged d)
+
+-- an input, unless something refuses it
+abbrev pub unless_refused : Option InputRefusal → InputRead → Result InputRead InputRefusal
+unless_refused None input = Ok input
+unless_refused (Some why) input = Err why
+
+-- what refuses an input whose records are good: of the tracks that are taken the first that can't be used, and then the
+-- first Element of level 1 that isn't taken over yet
+abbrev pub refusal_of : FileWords → Bool → List Header → List TakenTrack → Option InputRefusal
+refusal_of words webm list taken = option_or (option_map Damaged (first_unusable taken)) (option_map NotBuilt (not_built words webm list))
+
+-- what is read of a file with this outline and these records
+abbrev pub input_with : FileWords → Outlined → Records → InputRead
+input_with words o r = record {
+  segment = o.segment;
+  scale = scale_of_info r.info;
+  title = title_of_info r.info;
+  held = described o.list;
+  count = length r.tracks;
+  taken = taken_from words 0 r.tracks;
+}
+
+-- what is read of a content, or the first thing that refuses it: its outline, where earlier inputs have held so many octets;
+-- its records; and then what the words take of it
+abbrev pub input_of : FileWords → Bool → ℕ → List ℕ → Result InputRead InputRefusal
+input_of words webm held bytes =
+    found_then (outline_of held bytes) (λ (o : Outlined).
+    found_then (file_records bytes o.segment) (λ (r : Records).
+    unless_refused (refusal_of words webm o.list (taken_from words 0 r.tracks)) (input_with words o r)))
+
+-- ---- an input that was read
+
+-- what was read of an input
+abbrev pub read_in : Input → InputRead
+read_in i = record {
+  segment = i.outline.value.segment;
+  scale = i.scale;
+  title = i.title;
+  held = i.outline.value.held;
+  count = i.count;
+  taken = i.taken;
+}
+
+-- the blocks and damages of an input whose file has this content
+abbrev pub events_in : InputRead → List ℕ → List Event
+events_in i bytes = events_of (with_limits i.scale) bytes i.segment
+
+-- An input was read so, or this refuses it; a read may fail, and there may be no memory.
+abbrev pub ReadsInput : Result InputRead InputRefusal → Result Input InputEnd → Type 0
+ReadsInput found (Ok i) = found ≡ Ok (read_in i)
+ReadsInput found (Err (input_end.Refused why)) = found ≡ Err why
+ReadsInput found (Err input_end.ReadFault) = ⊤
+ReadsInput found (Err input_end.Memory) = ⊤
+
+-- The file is live and has the length of its outline, a tick has some length, and the tracks are such as can be taken.
+pub record IsInput (files : LiveFiles) (i : Input) : Type 0 where
+  pub live : files.live i.file.n ≡ true
+  pub size : files.size i.file.n ≡ i.outline.value.total
+  pub scale : 1 ≤ i.scale
+  pub taken : All IsTaken i.taken

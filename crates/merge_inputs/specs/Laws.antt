@@ -1,0 +1,8 @@
+-- What holds of every input that was read.
+use Rattle.mkv_io.specs.LiveFiles.{LiveFiles, IsSameFile}
+use Rattle.merge_inputs.specs.Input.{IsInput}
+use Rattle.merge_inputs.specs.declared.input.Input.{Input}
+
+-- An input stands among other files where its own is the same.
+abbrev pub InputsStay : Type 0
+InputsStay = (old new : LiveFiles) (i : Input) → IsSameFile old new i.file.n → IsInput old i → IsInput new i

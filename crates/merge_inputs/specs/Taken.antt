@@ -1,0 +1,55 @@
+-- The tracks that the words of a merge take of a file, and what the words say of them.
+use Rattle.std.specs.Prelude.{◌≡◌, ◌<◌, ℕ, ◌+◌, ◌^◌, pos, nat_abs, ◌==◌, if◌then◌else◌, List, [], ◌∷◌, ◌++◌, flat_map, Option, Some, None, unwrap_or}
+use Rattle.mkv_values.specs.declared.damage.Damage.{Damage}
+use Rattle.matroska_format.specs.Outline.{first_damage}
+use Rattle.tree_format.specs.Node.{HasRoom}
+use Rattle.track_format.specs.Encoding.{usable_causes}
+use Rattle.track_format.specs.Tracks.{IsTrack}
+use Rattle.track_records.specs.Sound.{IsEntry}
+use Rattle.track_records.specs.Track.{track_of}
+use Rattle.track_records.specs.declared.track.Track.{Track}
+use Rattle.merge_words.specs.declared.files.FileWords.{FileWords}
+use Rattle.merge_inputs.specs.Select.{is_taken}
+use Rattle.merge_inputs.specs.declared.taken.TakenTrack.{TakenTrack}
+
+-- the first value that is given to an ID
+abbrev pub value_for : {T : Type 0} → ℕ → List (ℕ × T) → Option T
+value_for id [] = None
+value_for id (pair ∷ pairs) = if pair.0 == id then Some pair.1 else value_for id pairs
+
+-- a track, and what the words say of its ID; where they say nothing of a delay, there is none
+abbrev pub taken_track : FileWords → ℕ → Track → TakenTrack
+taken_track words id t = record {
+  track = t;
+  name = value_for id words.names;
+  language = value_for id words.languages;
+  flag_default = value_for id words.defaults;
+  flag_forced = value_for id words.forced;
+  delay = unwrap_or (value_for id words.syncs) (pos 0);
+  cues = value_for id words.cues;
+}
+
+-- a track, if the words take it
+abbrev pub taken_one : FileWords → ℕ → Track → List TakenTrack
+taken_one words id t = if is_taken words id t.kind then taken_track words id t ∷ [] else []
+
+-- the tracks that the words take of these, of which the first has this ID
+abbrev pub taken_from : FileWords → ℕ → List Track → List TakenTrack
+taken_from words id [] = []
+taken_from words id (t ∷ ts) = taken_one words id t ++ taken_from words (id + 1) ts
+
+-- what keeps the frames of a track from being used, of the first such track
+abbrev pub first_unusable : List TakenTrack → Option Damage
+first_unusable taken = first_damage (flat_map (λ (t : TakenTrack). usable_causes t.track.entry) taken)
+
+-- ---- what was taken
+
+-- A track that was taken is what its entry says, which nothing refuses, and which fits into a Tracks Element; its frames can
+-- be used, and its delay is below 2^55 nanoseconds, in either direction.
+pub record IsTaken (t : TakenTrack) : Type 0 where
+  pub said : t.track ≡ track_of t.track.entry
+  pub entry : IsEntry t.track.entry
+  pub track : IsTrack t.track.entry
+  pub room : HasRoom t.track.entry
+  pub usable : first_damage (usable_causes t.track.entry) ≡ None
+  pub near : nat_abs t.delay < 2 ^ 55

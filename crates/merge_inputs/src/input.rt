@@ -1,0 +1,75 @@
+//! An input of a merge, or why it isn't read.
+
+ghost use Rattle.std.specs.Prelude.{◌≡◌};
+ghost use Rattle.merge_inputs.specs.declared.input.InputEnd.TheVariants as input_end;
+
+use crate::taken::TakenTrack;
+use element_reader::{Outline, OutlineEnd};
+use mkv_values::{Damage, FileId, List, Text};
+use std::alloc::{AllocError, AllocFailed};
+use std::rc::Rc;
+
+/// A live file that is merged, and what was read of it before its blocks.
+#[derive(Drop)]
+pub struct Input {
+    pub file: FileId,
+    pub outline: Rc<Outline>,
+    /// Nanoseconds a tick of the file.
+    pub scale: u64,
+    /// The title of the file, empty where it has none.
+    pub title: Text,
+    /// How many tracks the file has.
+    pub count: usize,
+    /// The tracks that are taken, in the order of the file's.
+    pub taken: List<TakenTrack>,
+}
+
+/// What refuses an input.
+#[derive(Clone, Copy, Debug, PartialEq, Eq)]
+pub enum InputRefusal {
+    /// The file is damaged, passes a limit, or a track that is taken can't be used.
+    Damaged(Damage),
+    /// The file has an Element of this ID at level 1, which isn't taken over yet, and which the words don't leave out.
+    NotBuilt { id: u32 },
+}
+
+/// Why an input isn't read.
+#[derive(Clone, Copy, Debug, PartialEq, Eq)]
+pub enum InputEnd {
+    /// The input is refused.
+    Refused(InputRefusal),
+    /// A read failed.
+    ReadFault,
+    /// There is no memory.
+    Memory,
+}
+
+impl From<OutlineEnd> for InputEnd {
+    ghost use Rattle.merge_inputs.specs.End.{end_of};
+
+    ghost from_gives = { λ why end. end ≡ end_of why };
+
+    fn from(why: OutlineEnd) -> InputEnd {
+        match why {
+            OutlineEnd::Refused(damage) => InputEnd::Refused(InputRefusal::Damaged(damage)),
+            OutlineEnd::ReadFault => InputEnd::ReadFault,
+            OutlineEnd::Memory => InputEnd::Memory,
+        }
+    }
+}
+
+impl From<AllocError> for InputEnd {
+    ghost from_gives = { λ _ end. end ≡ input_end.Memory };
+
+    fn from(_error: AllocError) -> InputEnd {
+        InputEnd::Memory
+    }
+}
+
+impl From<AllocFailed<Outline>> for InputEnd {
+    ghost from_gives = { λ _ end. end ≡ input_end.Memory };
+
+    fn from(_failed: AllocFailed<Outline>) -> InputEnd {
+        InputEnd::Memory
+    }
+}

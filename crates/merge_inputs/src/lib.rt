@@ -1,0 +1,16 @@
+#![tactic(auto)]
+
+//! What is read of an input of a merge before its blocks: its outline, what describes it, and the tracks that the
+//! words take of it (RFC 9559, section 5.1.4, Tracks Element); or what refuses it.
+
+mod input;
+pub mod laws;
+mod reading;
+mod select;
+mod taken;
+mod title;
+pub mod track_type;
+
+pub use input::{Input, InputEnd, InputRefusal};
+pub use reading::read_input;
+pub use taken::TakenTrack;

@@ -1,0 +1,86 @@
+//! What is read of an input before its blocks.
+
+ghost use Rattle.std.specs.Prelude.{◌≡◌, ◌+◌, ◌*◌, ◌≤◌, true, ℕ, List, None, Ok, IfOk, IfNone};
+ghost use Rattle.std.specs.List.{All};
+ghost use Rattle.mkv_io.specs.Faults.{HasCause};
+ghost use Rattle.mkv_io.specs.Sources.{IfTold, IsLive, file_size, live_files};
+ghost use Rattle.matroska_format.specs.Outline.{segment_run};
+ghost use Rattle.element_reader.specs.Outline.{outline_in};
+ghost use Rattle.track_records.specs.Sound.{IsEntry};
+ghost use Rattle.file_blocks.specs.File.{file_events};
+ghost use Rattle.merge_words.specs.Sound.{IsSoundFile};
+ghost use Rattle.merge_inputs.specs.End.{is_input_fault};
+ghost use Rattle.merge_inputs.specs.Input.{IsInput, ReadsInput, events_in, input_of, read_in, refusal_of};
+ghost use Rattle.merge_inputs.specs.Taken.{first_unusable};
+
+use crate::input::{Input, InputEnd, InputRefusal};
+use crate::select::not_built;
+use crate::taken::{TakenTrack, first_unusable, taken_of};
+use crate::title::title_of;
+use element_reader::Outline;
+use file_records::{Records, read_records, scale_of};
+use merge_words::FileWords;
+use mkv_io::Reads;
+use mkv_values::FileId;
+use std::alloc::Global;
+use std::rc::Rc;
+
+/// What is read of a live file before its blocks, or the first thing that refuses it: its outline, its records,
+/// then the tracks that the words take, in their order, and at last what isn't built yet. Earlier inputs have held
+/// so many octets of Info, Tracks, Chapters and Tags. A WebM output leaves attached files and chapters out.
+pub fn read_input<R: Reads>(
+    alloc: Global,
+    words: &FileWords,
+    webm: bool,
+    held: u64,
+    src: &mut R,
+    file: FileId,
+) -> Result<Input, InputEnd>
+    requires live { IsLive R.Reads src.old file }
+    requires delays { IsSoundFile words.now }
+    ensures exact { IfTold R.Reads src.old file (λ bytes. ReadsInput (input_of words.now webm held bytes) result) }
+    ensures input { IfOk result (IsInput (live_files R.Reads src.new)) }
+    ensures file { IfOk result (λ input. input.file ≡ file) }
+
+    // A tick has as many nanoseconds as in the file's own blocks and damages.
+    ensures events { IfOk result (λ input. IfTold R.Reads src.old file (λ bytes.
+        events_in (read_in input) bytes ≡ file_events true bytes input.outline.value.segment)) }
+    ensures standing { R.standing src.new ≡ R.standing src.old }
+    ensures cause { HasCause is_input_fault (R.reading_faults src.old) (R.reading_faults src.new) result }
+    ensures octets { R.octets_read src.new ≤ R.octets_read src.old + 6 * file_size R.Reads src.old file }
+{
+    let outline = Outline::read_after(alloc, src, file, held)?;
+    let Records { info, tracks } = read_records(alloc, &outline, src, file)?;
+    let count = tracks.len();
+    let taken = taken_of(alloc, words, tracks)?;
+    if let Some(refusal) = refusal_of(words, webm, &outline, taken.as_slice()) {
+        return Err(InputEnd::Refused(refusal));
+    }
+    Ok(Input {
+        file,
+        outline: Rc::new(alloc, outline)?,
+        scale: scale_of(&info),
+        title: title_of(alloc, &info)?,
+        count,
+        taken,
+    })
+}
+
+/// What refuses an input whose records are good: of the tracks that are taken the first that can't be used, and
+/// then what isn't built.
+fn refusal_of(
+    words: &FileWords,
+    webm: bool,
+    outline: &Outline,
+    taken: &[TakenTrack],
+) -> Option<InputRefusal>
+    requires { All (λ t. IsEntry t.track.entry) taken.now }
+    ensures exact { (held : ℕ) (bytes : List ℕ) → outline_in held bytes ≡ Ok outline.now
+        → result ≡ refusal_of words.now webm (segment_run bytes outline.now.segment).list taken.now }
+    ensures usable { IfNone result (first_unusable taken.now ≡ None) }
+{
+    if let Some(damage) = first_unusable(taken) {
+        return Some(InputRefusal::Damaged(damage));
+    }
+    not_built(words, webm, outline).map(|id| InputRefusal::NotBuilt { id })
+}

@@ -1,0 +1,100 @@
+//! The tracks that the words take of a file.
+
+ghost use Rattle.std.specs.Prelude.{◌≡◌, ℕ, List, IfOk};
+ghost use Rattle.std.specs.List.{All};
+ghost use Rattle.std.specs.Option.{option_copied};
+ghost use Rattle.track_records.specs.Sound.{IsEntry};
+ghost use Rattle.merge_inputs.specs.Taken.{first_unusable, taken_from, taken_track, value_for};
+
+use crate::select::is_taken;
+use merge_words::FileWords;
+use mkv_values::{Damage, List, Text};
+use std::alloc::{AllocError, Global};
+use track_records::{Track, usable};
+use word_values::CueWord;
+
+/// A track that is taken, and what the words say of it.
+#[derive(Drop)]
+pub struct TakenTrack {
+    pub track: Track,
+    pub name: Option<Text>,
+    pub language: Option<Text>,
+    pub flag_default: Option<bool>,
+    pub flag_forced: Option<bool>,
+    /// By how many nanoseconds it is delayed.
+    pub delay: i64,
+    pub cues: Option<CueWord>,
+}
+
+/// The tracks that the words take, in their order. A track's ID is its place in Tracks, from 0.
+pub fn taken_of(
+    alloc: Global,
+    words: &FileWords,
+    tracks: List<Track>,
+) -> Result<List<TakenTrack>, AllocError>
+    ensures { IfOk result (λ taken. taken ≡ taken_from words.now 0 tracks) }
+{
+    let mut taken = List::new(alloc);
+    for (k, track) in tracks.into_vec().into_iter().enumerate() {
+        let id = k as u64;
+        if is_taken(words, id, track.kind) {
+            taken.push(taken_track(alloc, words, id, track)?)?;
+        }
+    }
+    Ok(taken)
+}
+
+/// A track, and what the words say of its ID.
+fn taken_track(
+    alloc: Global,
+    words: &FileWords,
+    id: u64,
+    track: Track,
+) -> Result<TakenTrack, AllocError>
+    ensures { IfOk result (λ taken. taken ≡ taken_track words.now id track) }
+{
+    Ok(TakenTrack {
+        track,
+        name: text_for(alloc, id, words.names.as_slice())?,
+        language: text_for(alloc, id, words.languages.as_slice())?,
+        flag_default: value_for(id, words.defaults.as_slice()).copied(),
+        flag_forced: value_for(id, words.forced.as_slice()).copied(),
+        delay: value_for(id, words.syncs.as_slice()).copied().unwrap_or(0),
+        cues: value_for(id, words.cues.as_slice()).copied(),
+    })
+}
+
+/// The first value that is given to an ID.
+fn value_for<T>(id: u64, list: &[(u64, T)]) -> Option<&T>
+    ensures { option_copied result ≡ value_for id list.now }
+{
+    for (k, value) in list {
+        if *k == id {
+            return Some(value);
+        }
+    }
+    None
+}
+
+/// The same of texts.
+fn text_for(alloc: Global, id: u64, list: &[(u64, Text)]) -> Result<Option<Text>, AllocError>
+    ensures { IfOk result (λ text. text ≡ value_for id list.now) }
+{
+    match value_for(id, list) {
+        Some(text) => Ok(Some(text.clone()?)),
+        None => Ok(None),
+    }
+}
+
+/// What keeps the frames of a track from being used: of the first such track.
+pub fn first_unusable(taken: &[TakenTrack]) -> Option<Damage>
+    requires { All (λ t. IsEntry t.track.entry) taken.now }
+    ensures { result ≡ first_unusable taken.now }
+{
+    for each in taken {
+        if let Err(damage) = usable(&each.track) {
+            return Some(damage);
+        }
+    }
+    None
+}

@@ -1,0 +1,5 @@
+pub mod ListLemmas
+pub mod RecordLemmas
+pub mod LaneLemmas
+pub mod RefusalLemmas
+pub mod PlanLemmas

@@ -1,0 +1,86 @@
+-- The titles of inputs, the tracks that are taken, and their entries.
+use Rattle.std.proofs.Common.{◌≡◌, ◌≤◌, ◌<◌, ℕ, zero, suc, ◌+◌, List, [], ◌∷◌, ◌++◌, length, take, drop, map, flat_map, get_or, refl, sym, ap, ap₂, ◌∙◌, arith, append-nil, append_assoc}
+use Rattle.std.specs.List.{All}
+use Rattle.std.proofs.lemmas.Grind.{flat_map-append}
+use Rattle.std.proofs.lemmas.List.{length-map, take_all, drop_all}
+use Rattle.std.proofs.lemmas.List.Elements.{All-append}
+use denote.Ref.{Bor}
+use Rattle.identifier_format.proofs.GivenLemmas.{length-from}
+use Rattle.tree_format.specs.Node.{Node}
+use Rattle.merge_inputs.specs.Input.{read_in}
+use Rattle.merge_inputs.specs.Taken.{IsTaken}
+use Rattle.merge_inputs.specs.declared.input.Input.{Input}
+use Rattle.merge_inputs.specs.declared.taken.TakenTrack.{TakenTrack}
+use Rattle.merge_plan.specs.Lent.{lent}
+use Rattle.merge_plan.specs.Records.{entries_from, entry_of, first_title, title_or, tracks_taken, uids_of}
+use Rattle.merge_plan.specs.Spots.{HasTaken}
+use Rattle.merge_plan.proofs.ListLemmas.{take-next, drop-next, lent-next}
+
+-- ---- titles
+
+module _ (inputs : List Input) (k : ℕ) (i : Input) (inside : k < length inputs) (is : i ≡ get_or inputs k i) where
+  title-next : first_title (map read_in (drop k inputs)) ≡ title_or i.title (first_title (map read_in (drop (k + 1) inputs)))
+  title-next = ap (λ l. first_title (map read_in l)) (drop-next inputs k i inside is)
+
+  pub title-found : (i.title ≡ [] → ⊥) → first_title (map read_in (drop k inputs)) ≡ i.title
+  title-found some = title-next ∙ of i.title some
+    where
+      of : (t : List ℕ) → (t ≡ [] → ⊥) → title_or t (first_title (map read_in (drop (k + 1) inputs))) ≡ t
+      of [] some = absurd (some refl)
+      of (o ∷ t) some = refl
+
+  pub title-empty : i.title ≡ [] → first_title (map read_in (drop k inputs)) ≡ first_title (map read_in (drop (k + 1) inputs))
+  title-empty none = title-next ∙ ap (λ t. title_or t (first_title (map read_in (drop (k + 1) inputs)))) none
+
+pub title-none : (inputs : List Input) (k : ℕ) → length inputs ≤ k → first_title (map read_in (drop k inputs)) ≡ []
+title-none inputs k past = ap (λ l. first_title (map read_in l)) (drop_all k inputs past)
+
+-- ---- the tracks that are taken
+
+abbrev pub taken_in : List Input → List TakenTrack
+taken_in inputs = flat_map (λ (i : Input). i.taken) inputs
+
+pub taken-read : (inputs : List Input) → taken_in inputs ≡ tracks_taken (map read_in inputs)
+taken-read [] = refl
+taken-read (i ∷ is) = ap (λ l. i.taken ++ l) (taken-read is)
+
+pub taken-next : (inputs : List Input) (k : ℕ) (i : Input) → k < length inputs → i ≡ get_or inputs k i → taken_in (take (k + 1) inputs) ≡ taken_in (take k inputs) ++ i.taken
+taken-next inputs k i inside is =
+    ap taken_in (take-next inputs k i inside is) ∙ flat_map-append (λ (i : Input). i.taken) (take k inputs) (i ∷ []) ∙ ap (λ l. taken_in (take k inputs) ++ l) (append-nil i.taken)
+
+pub taken-all : (inputs : List Input) (k : ℕ) → length inputs ≤ k → taken_in (take k inputs) ≡ tracks_taken (map read_in inputs)
+taken-all inputs k past = ap taken_in (take_all k inputs past) ∙ taken-read inputs
+
+-- each is taken so
+pub each-taken : (inputs : List Input) → All HasTaken inputs → All IsTaken (taken_in inputs)
+each-taken [] all = λ k d inside. absurd (omega arith)
+each-taken (i ∷ is) all = All-append IsTaken i.taken (taken_in is) (all 0 i (omega arith)) (each-taken is (λ k d inside. all (suc k) d (omega arith)))
+
+-- ---- their entries
+
+pub length-uids : (taken : List TakenTrack) → length (uids_of taken) ≡ length taken
+length-uids taken = length-from (map (λ (t : TakenTrack). t.track.uid) taken) [] (map (λ (t : TakenTrack). t.track.uid) taken) ∙ length-map taken (λ (t : TakenTrack). t.track.uid)
+
+-- inside a list another default changes nothing
+get_or-same : (xs : List ℕ) (k d e : ℕ) → k < length xs → get_or xs k d ≡ get_or xs k e
+get_or-same [] k d e inside = absurd (omega arith)
+get_or-same (x ∷ xs) zero d e inside = refl
+get_or-same (x ∷ xs) (suc k) d e inside = get_or-same xs k d e (omega arith)
+
+module _ (uids : List ℕ) (refs : List (Bor TakenTrack)) (k : ℕ) (r : Bor TakenTrack) (inside : k < length refs) (is : r ≡ get_or refs k r) (as_many : length uids ≡ length refs) where
+  pub uid-inside : k < length uids
+  uid-inside = omega arith
+
+  pub entries-next : (entries new : List Node) (entry : Node) (all : List Node) → entry ≡ entry_of (k + 1) (get_or uids k 0) r.now → new ≡ entries ++ entry ∷ []
+      → entries ++ entries_from (k + 1) (drop k uids) (drop k (lent refs)) ≡ all → new ++ entries_from (k + 1 + 1) (drop (k + 1) uids) (drop (k + 1) (lent refs)) ≡ all
+  entries-next entries new entry all made put so_far =
+      ap (λ l. l ++ entries_from (k + 1 + 1) (drop (k + 1) uids) (drop (k + 1) (lent refs))) put
+      ∙ append_assoc entries (entry ∷ []) (entries_from (k + 1 + 1) (drop (k + 1) uids) (drop (k + 1) (lent refs)))
+      ∙ ap (λ e. entries ++ e ∷ entries_from (k + 1 + 1) (drop (k + 1) uids) (drop (k + 1) (lent refs))) made
+      ∙ ap (λ l. entries ++ l) (sym (ap₂ (entries_from (k + 1)) (drop-next uids k (get_or uids k 0) uid-inside (get_or-same uids k 0 (get_or uids k 0) uid-inside)) (lent-next refs k r inside is)))
+      ∙ so_far
+
+pub entries-all : (uids : List ℕ) (refs : List (Bor TakenTrack)) (k : ℕ) (entries all : List Node) → length refs ≤ k → length uids ≡ length refs
+    → entries ++ entries_from (k + 1) (drop k uids) (drop k (lent refs)) ≡ all → entries ≡ all
+entries-all uids refs k entries all past as_many so_far =
+    sym (append-nil entries) ∙ ap (λ us. entries ++ entries_from (k + 1) us (drop k (lent refs))) (sym (drop_all k uids (omega arith))) ∙ so_far

@@ -1,0 +1,7 @@
+pub mod Lent
+pub mod Records
+pub mod Plan
+pub mod Spots
+pub mod Webm
+pub mod Refusal
+pub mod Planned

@@ -1,0 +1,48 @@
+-- What refuses a merge whose inputs were read. The causes, their order and the limits are this project's.
+use Rattle.std.specs.Prelude.{ℕ, ◌==◌, nat_lt, Bool, true, false, not, if◌then◌else◌, List, length, find, Option, Some, None, option_map}
+use Rattle.std.specs.Option.{option_or}
+use Rattle.mkv_schema.specs.declared.ids.TheConstants.{TRACKS}
+use Rattle.output_model.specs.declared.TheConstants.{MOST_LANES}
+use Rattle.output_records.specs.Limits.{is_too_large}
+use Rattle.merge_words.specs.declared.output.MergeWords.{MergeWords}
+use Rattle.merge_inputs.specs.Input.{InputRead}
+use Rattle.merge_inputs.specs.declared.taken.TakenTrack.{TakenTrack}
+use Rattle.merge_plan.specs.declared.refusal.PlanRefusal.{PlanRefusal}
+use Rattle.merge_plan.specs.declared.refusal.PlanRefusal.TheVariants.{NoLane, TooManyLanes, NotWebm, HeaderTooLarge}
+use Rattle.merge_plan.specs.Records.{tracks_taken, tracks_of}
+use Rattle.merge_plan.specs.Webm.{is_webm_codec}
+
+-- something that stands only if a test passes
+abbrev pub where_so : {A : Type 0} → Bool → A → Option A
+where_so true x = Some x
+where_so false x = None
+
+-- no track is taken
+abbrev pub no_lane : List TakenTrack → Option PlanRefusal
+no_lane taken = where_so (length taken == 0) NoLane
+
+-- more tracks are taken than an output has lanes
+abbrev pub too_many_lanes : List TakenTrack → Option PlanRefusal
+too_many_lanes taken = where_so (nat_lt MOST_LANES (length taken)) TooManyLanes
+
+-- the CodecID of the first track that a WebM output can't have
+abbrev pub other_codec : List TakenTrack → Option (List ℕ)
+other_codec taken = option_map (λ (t : TakenTrack). t.track.codec) (find (λ (t : TakenTrack). not (is_webm_codec t.track.codec)) taken)
+
+abbrev pub not_webm : Bool → List TakenTrack → Option PlanRefusal
+not_webm webm taken = if webm then option_map NotWebm (other_codec taken) else None
+
+-- what refuses tracks as lanes
+abbrev pub lanes_refusal : Bool → List TakenTrack → Option PlanRefusal
+lanes_refusal webm taken = option_or (no_lane taken) (option_or (too_many_lanes taken) (not_webm webm taken))
+
+-- the Tracks would be refused when they are read
+abbrev pub tracks_too_large : List InputRead → Option PlanRefusal
+tracks_too_large reads = where_so (is_too_large (tracks_of reads)) (HeaderTooLarge TRACKS)
+
+abbrev pub tracks_refusal : Bool → List InputRead → Option PlanRefusal
+tracks_refusal webm reads = option_or (lanes_refusal webm (tracks_taken reads)) (tracks_too_large reads)
+
+-- what refuses it, in the order in which it is told
+abbrev pub plan_refusal : MergeWords → List InputRead → Option PlanRefusal
+plan_refusal words reads = tracks_refusal words.webm reads

@@ -1,0 +1,11 @@
+-- The codecs of WebM.
+use Rattle.std.specs.Prelude.{ℕ, Bool, List, [], ◌∷◌, codes}
+use Rattle.std.specs.List.{list_any}
+use Rattle.std.specs.Str.{bytes_eq}
+
+-- the CodecIDs of the tracks that a WebM file may have
+abbrev pub webm_codecs : List (List ℕ)
+webm_codecs = codes "V_VP8" ∷ codes "V_VP9" ∷ codes "V_AV1" ∷ codes "A_VORBIS" ∷ codes "A_OPUS" ∷ []
+
+unfoldable pub is_webm_codec : List ℕ → Bool
+is_webm_codec codec = list_any (λ allowed. bytes_eq allowed codec) webm_codecs

@@ -1,0 +1,68 @@
+//! The tracks that are taken, and the TrackEntries that are written of them: RFC 9559, section 5.1.4 (Tracks Element).
+
+ghost use Rattle.std.specs.Prelude.{◌≡◌, map, IfOk};
+ghost use Rattle.std.specs.List.{All};
+ghost use Rattle.record_changes.specs.Entry.{IsWholeEntry};
+ghost use Rattle.merge_inputs.specs.Input.{read_in};
+ghost use Rattle.merge_inputs.specs.Taken.{IsTaken};
+ghost use Rattle.merge_plan.specs.Records.{entries_of, entry_of, tracks_taken, uids_of};
+ghost use Rattle.merge_plan.specs.Lent.{lent};
+
+use ebml_tree::Tree;
+use identifiers::renumber;
+use merge_inputs::{Input, TakenTrack};
+use mkv_values::List;
+use std::alloc::{AllocError, Global};
+use track_changes::{TrackChange, written};
+
+/// The tracks that are taken, input after input.
+pub(crate) fn tracks_taken(alloc: Global, inputs: &[Input]) -> Result<Vec<&TakenTrack>, AllocError>
+    ensures { IfOk result (λ taken. lent taken.items ≡ tracks_taken (map read_in inputs.now)) }
+{
+    let mut taken = Vec::new(alloc);
+    for input in inputs {
+        for track in input.taken.as_slice() {
+            taken.push(track)?;
+        }
+    }
+    Ok(taken)
+}
+
+/// The TrackUIDs that tracks get.
+fn uids_of(alloc: Global, taken: &[&TakenTrack]) -> Result<List<u64>, AllocError>
+    ensures { IfOk result (λ uids. uids ≡ uids_of (lent taken.now)) }
+{
+    let uids: Vec<u64> = taken.iter().map(|each| each.track.uid).collect(alloc)?;
+    renumber(alloc, uids.as_slice())
+}
+
+/// The entry that is written of a track with this number and this TrackUID.
+fn entry_of(alloc: Global, number: u64, uid: u64, taken: &TakenTrack) -> Result<Tree, AllocError>
+    requires { IsTaken taken.now }
+    ensures exact { IfOk result (λ entry. entry ≡ entry_of number uid taken.now) }
+    ensures whole { IfOk result IsWholeEntry }
+{
+    let change = TrackChange {
+        number,
+        uid,
+        name: taken.name.clone()?,
+        language: taken.language.clone()?,
+        flag_default: taken.flag_default,
+        flag_forced: taken.flag_forced,
+    };
+    written(alloc, &taken.track, &change)
+}
+
+/// The entries that are written of tracks, numbered from 1 on.
+pub(crate) fn entries_of(alloc: Global, taken: &[&TakenTrack]) -> Result<List<Tree>, AllocError>
+    requires { All IsTaken (lent taken.now) }
+    ensures exact { IfOk result (λ entries. entries ≡ entries_of (lent taken.now)) }
+    ensures whole { IfOk result (All IsWholeEntry) }
+{
+    let uids = uids_of(alloc, taken)?;
+    let mut entries = List::new(alloc);
+    for (k, each) in taken.iter().enumerate() {
+        entries.push(entry_of(alloc, k as u64 + 1, uids.as_slice()[k], each)?)?;
+    }
+    Ok(entries)
+}

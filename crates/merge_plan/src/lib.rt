@@ -1,0 +1,15 @@
+#![tactic(auto)]
+
+//! The plan of a merge: what the inputs that were read, and the words, come to in one output, or what refuses them. No
+//! file is read or written here.
+
+mod entries;
+mod plan;
+mod planned_lanes;
+mod refusal;
+mod title;
+mod webm;
+
+pub use plan::plan_of;
+pub use refusal::{PlanEnd, PlanRefusal};
+pub use webm::is_webm_codec;

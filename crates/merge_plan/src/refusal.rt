@@ -1,0 +1,37 @@
+//! Why there is no plan.
+
+ghost use Rattle.std.specs.Prelude.{◌≡◌};
+ghost use Rattle.merge_plan.specs.declared.refusal.PlanEnd.TheVariants as plan_end;
+
+use mkv_values::Text;
+use std::alloc::AllocError;
+
+/// What refuses a merge whose inputs were read.
+#[derive(Debug, Drop)]
+pub enum PlanRefusal {
+    /// No track is taken.
+    NoLane,
+    /// More than 64 tracks are taken.
+    TooManyLanes,
+    /// A WebM output can't have a track of this CodecID.
+    NotWebm { codec: Text },
+    /// The record of this ID would be too large to be read again.
+    HeaderTooLarge { id: u32 },
+}
+
+/// Why there is no plan.
+#[derive(Debug, Drop)]
+pub enum PlanEnd {
+    /// The merge is refused.
+    Refused(PlanRefusal),
+    /// There is no memory.
+    Memory,
+}
+
+impl From<AllocError> for PlanEnd {
+    ghost from_gives = { λ _ end. end ≡ plan_end.Memory };
+
+    fn from(_error: AllocError) -> PlanEnd {
+        PlanEnd::Memory
+    }
+}

@@ -1,0 +1,3 @@
+pub mod Info
+pub mod Tracks
+pub mod Limits

@@ -1,0 +1,22 @@
+use Rattle.std.proofs.Common.{◌≡◌, ◌∷◌, []}
+use Rattle.mkv_io.specs.Sources.{live_files}
+use Rattle.mkv_io.specs.Writing.{KeepsOthers}
+use Rattle.cues_seekhead.specs.OpenOutput.{IsOpen}
+use Rattle.time_merge.specs.Merge.{IsTold, left, way}
+use Rattle.remuxer.specs.Taking.{GoesOn, StaysOnTheWay}
+use Rattle.remuxer.proofs.writer.BlockWriter.add_blocks.Given as goal
+
+abbrev pub invariant-steps : goal.invariant-steps
+invariant-steps g l = record {
+  file : l.self.out.file ≡ l.initial.self.out.file;
+  is_open : IsOpen g.F.Reads l.files l.self.out;
+  kept : KeepsOthers g.F.Reads g.F.Files (g.F.Files.holder l.initial.files l.initial.self.out.file.n ∷ []) l.initial.files l.files;
+  goes : GoesOn g.F.Reads l.initial.files l.files l.initial.merge l.merge;
+  reading : g.F.Reads.reading_faults l.files ≡ g.F.Reads.reading_faults l.initial.files;
+  writing : g.F.Files.writing_faults l.files ≡ g.F.Files.writing_faults l.initial.files;
+  stands : IsTold (live_files g.F.Reads l.initial.files) l.initial.merge
+      → StaysOnTheWay g.F.Reads g.F.Files l.rules (left (live_files g.F.Reads l.initial.files) l.initial.merge) (left (live_files g.F.Reads l.files) l.merge) l.initial.files l.files l.initial.self l.self;
+}
+
+abbrev pub decreases-steps : goal.decreases-steps
+decreases-steps g l = way l.merge

@@ -1,0 +1,90 @@
+//! An edit that was begun is made whole.
+
+ghost use Rattle.std.specs.Prelude.{◌≡◌, ◌+◌, [], ◌∷◌, length, Ok, IsTrue};
+ghost use Rattle.mkv_io.specs.Faults.{is_failure};
+ghost use Rattle.mkv_disk.specs.Pair.{both};
+ghost use Rattle.mkv_disk.specs.Calls.{AnyMoment, IsReady, Makes, OfReads};
+ghost use Rattle.mkv_disk.specs.Writing.{HasDiskCause, KeepsOpen};
+ghost use Rattle.sidecar_format.specs.Fields.{writes_in};
+ghost use Rattle.sidecar_format.specs.Recovery.{is_disk_fault, recovered, recovery};
+ghost use Rattle.sidecar_format.specs.Writes.{Fits, Torn, applied};
+ghost use Rattle.sidecar_format.specs.declared.place.TheConstants.{HEAD, KEPT, MOST_OCTETS};
+ghost use Rattle.sidecar_edit.specs.Leaves.{IsRedoing};
+ghost use Rattle.sidecar_edit.specs.Recovering.{IsHeadOf, IsRecovered, IsRecovering, KeepsUnlessApplied};
+
+use crate::copying::copy;
+use crate::gate::close;
+use crate::reading::{read_first, unfit_medium};
+use mkv_disk::{Disk, MEDIA, SIDECAR};
+use mkv_values::Failed;
+use sidecar_format::{Gate, HEAD, RecoverEnd, Recovered, count_in, gate_of, head_len, place_in};
+
+/// Makes the writes of a live sidecar with these first octets, and makes sure of them.
+fn redo_writes<D: Disk>(head: &[u8], disk: &mut D) -> Result<(), Failed>
+    requires ready { IsReady D.Reads D.Disk.own disk.old }
+    requires head { IsHeadOf D.Reads D.Disk.own disk.old head.now }
+    requires fits { OfReads D.Disk.own disk.old (λ M S. Fits (length M) (writes_in S)) }
+    ensures ok { Makes D.Disk.own disk.old disk.new result (λ M S. both (applied M (writes_in S)) S) }
+    ensures any_moment { AnyMoment D.Disk.own disk.old disk.new (λ M S m s. Torn (writes_in S) M m × (s ≡ S)) }
+    ensures only { KeepsOpen D.Reads D.Disk.own disk.old disk.new MOST_OCTETS }
+    ensures cause { HasDiskCause D.Reads D.Disk.own is_failure disk.old disk.new result }
+{
+    let mut from = head_len(head);
+    for k in 0..count_in(head) {
+        let place = place_in(head, k);
+        copy(disk, from, place)?;
+        from += place.len;
+    }
+    disk.sync(MEDIA)
+}
+
+/// Makes the writes of a live sidecar that is the medium's own, and then closes the gate.
+fn redo<D: Disk>(head: &[u8], disk: &mut D) -> Result<(), Failed>
+    requires ready { IsReady D.Reads D.Disk.own disk.old }
+    requires head { IsHeadOf D.Reads D.Disk.own disk.old head.now }
+    requires own { OfReads D.Disk.own disk.old (λ M S. recovery M S ≡ Ok Recovered.Applied) }
+    ensures ok { Makes D.Disk.own disk.old disk.new result (λ M S. both (recovered M S) (0 ∷ [])) }
+    ensures any_moment { AnyMoment D.Disk.own disk.old disk.new IsRedoing }
+    ensures only { KeepsOpen D.Reads D.Disk.own disk.old disk.new MOST_OCTETS }
+    ensures cause { HasDiskCause D.Reads D.Disk.own is_failure disk.old disk.new result }
+{
+    redo_writes(head, disk)?;
+    close(disk)
+}
+
+/// Redoes the edit of a live sidecar, unless it was begun in another file.
+fn redo_own<D: Disk>(head: &[u8], disk: &mut D) -> Result<Recovered, RecoverEnd>
+    requires ready { IsReady D.Reads D.Disk.own disk.old }
+    requires head { IsHeadOf D.Reads D.Disk.own disk.old head.now }
+    ensures ok { OfReads D.Disk.own disk.old (λ M S. IsRecovered M S result (D.pair disk.new)) }
+    ensures same { KeepsUnlessApplied result (D.standing disk.old) (D.standing disk.new) }
+    ensures any_moment { AnyMoment D.Disk.own disk.old disk.new IsRecovering }
+    ensures only { KeepsOpen D.Reads D.Disk.own disk.old disk.new (KEPT + MOST_OCTETS) }
+    ensures cause { HasDiskCause D.Reads D.Disk.own is_disk_fault disk.old disk.new result }
+{
+    if let Some(end) = unfit_medium(head, disk)? {
+        return Err(end);
+    }
+    redo(head, disk)?;
+    Ok(Recovered::Applied)
+}
+
+/// Makes an edit whole that was begun beside a sidecar, and closes the gate. No memory is taken. Whatever a
+/// crash leaves in the meantime can be recovered in its turn, and comes to the same file.
+pub fn recover<D: Disk>(disk: &mut D) -> Result<Recovered, RecoverEnd>
+    requires { IsReady D.Reads D.Disk.own disk.old }
+    ensures ok { OfReads D.Disk.own disk.old (λ M S. IsRecovered M S result (D.pair disk.new)) }
+    ensures same { KeepsUnlessApplied result (D.standing disk.old) (D.standing disk.new) }
+    ensures any_moment { AnyMoment D.Disk.own disk.old disk.new IsRecovering }
+    ensures only { KeepsOpen D.Reads D.Disk.own disk.old disk.new (HEAD + KEPT + MOST_OCTETS) }
+    ensures cause { HasDiskCause D.Reads D.Disk.own is_disk_fault disk.old disk.new result }
+{
+    let mut head = [0; HEAD as usize];
+    let count = read_first(disk, SIDECAR, &mut head)?;
+    let head = &head[..count];
+    match gate_of(head, disk.size(SIDECAR)) {
+        Gate::Quiet => Ok(Recovered::Nothing),
+        Gate::Bad { offset } => Err(RecoverEnd::BadSidecar { offset }),
+        Gate::Live => redo_own(head, disk),
+    }
+}
