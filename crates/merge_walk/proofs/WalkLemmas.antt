@@ -1,21 +1,13 @@
 -- A walk over the blocks of a merge, one step at a time.
-use Rattle.std.proofs.Common.{◌≡◌, ℕ, suc, ◌+◌, ◌-◌, ◌*◌, ◌≤◌, List, [], ◌∷◌, ◌++◌, length, length-append, take, drop, map, sum, replicate, Some, option_map, sym, ◌∙◌, ap, ap₂, subst, arith}
+use Rattle.std.proofs.Common.{◌≡◌, ℕ, suc, ◌+◌, ◌-◌, ◌*◌, ◌≤◌, List, [], ◌∷◌, ◌++◌, length, length-append, take, drop, map, sum, replicate, sym, ◌∙◌, ap, ap₂, arith}
 use Rattle.std.specs.Prelude.{slice_set}
-use Rattle.std.specs.List.{All, slice_get}
-use Rattle.std.proofs.lemmas.List.{length-take, length-drop, length-map}
-use Rattle.std.proofs.lemmas.List.Elements.{All-cons, All-head, All-nil, All-tail}
+use Rattle.std.proofs.lemmas.List.{length-take, length-drop}
 use Rattle.std.proofs.lemmas.List.Sums.{sum_by-cons}
 use Rattle.std.proofs.Math.ListN.{set}
 use Rattle.mkv_io.specs.Faults.{counted, last_count}
-use Rattle.mkv_io.specs.LiveFiles.{LiveFiles}
 use Rattle.block_format.specs.Content.{frames_cut}
-use Rattle.output_model.specs.OutputBlock.{IsLent, Lent, OutputBlock, lent_block, prefixed}
+use Rattle.output_model.specs.OutputBlock.{Lent, OutputBlock, lent_block, prefixed}
 use Rattle.merge_model.specs.Merged.{in_lane}
-use Rattle.lane_blocks.specs.Links.{IsToldLink}
-use Rattle.lanes.specs.Lane.{LaneSeen, lent}
-use Rattle.time_merge.specs.Merge.{AreTold, GivesBlock, MergeSeen, StepsTo}
-use Rattle.time_merge.specs.Queues.{KeepsQueues, LaneKept, lane_kept}
-use Rattle.time_merge.specs.declared.queue.Queue.{Queue}
 use Rattle.merge_walk.specs.Walked.{IsWalked, last_ticks, octets_in}
 use Rattle.merge_walk.specs.declared.counting.Walked.{Walked}
 

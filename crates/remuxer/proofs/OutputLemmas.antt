@@ -1,5 +1,5 @@
 -- An output from its first octets to its last.
-use Rattle.std.proofs.Common.{◌≡◌, ◌≤◌, ◌<◌, ℕ, ◌+◌, ◌*◌, List, [], ◌∷◌, ◌++◌, length, take, true, Option, None, Result, Ok, Err, inl, inr, refl, sym, ◌∙◌, ap, subst, arith}
+use Rattle.std.proofs.Common.{◌≡◌, ◌≤◌, ◌<◌, ℕ, List, [], ◌∷◌, ◌++◌, length, true, None, Result, Ok, Err, inl, inr, refl, sym, ◌∙◌, ap, subst, arith}
 use Rattle.std.proofs.lemmas.List.{take_all}
 use Rattle.std.specs.Prelude.{slice_index_or}
 use Rattle.mkv_values.specs.declared.outside.FileId.{FileId}
@@ -15,7 +15,6 @@ use Rattle.mkv_outputs.specs.Outputs.{Output}
 use Rattle.mkv_outputs.specs.Sinks.{EndsOnly}
 use Rattle.mkv_outputs.specs.Starts.{AreBegun, StandsInPart}
 use Rattle.mkv_outputs.proofs.StartsLemmas.{IsStart-then}
-use Rattle.tree_format.specs.Node.{Node}
 use Rattle.element_octets.specs.Element.{joined}
 use Rattle.output_model.specs.declared.TheConstants.{MOST_CUES, MOST_LANES}
 use Rattle.output_model.specs.declared.heads.ClusterLimits.{ClusterLimits}

@@ -1,9 +1,8 @@
 -- A plan, and the merge that it comes to.
-use Rattle.std.proofs.Common.{◌≡◌, ◌≤◌, ◌<◌, ℕ, ◌*◌, List, [], ◌∷◌, All, length, map, Result, Ok, Err, refl, sym, ◌∙◌, ap, ap₂, subst, arith}
+use Rattle.std.proofs.Common.{◌≡◌, ◌≤◌, ◌<◌, ℕ, ◌*◌, List, [], ◌∷◌, All, length, map, Result, refl, sym, ◌∙◌, ap, ap₂, subst, arith}
 use Rattle.std.proofs.lemmas.List.{length-map}
 use Rattle.std.proofs.lemmas.List.Elements.{All-cons, All-head, All-nil, All-tail}
 use Rattle.mkv_io.specs.Faults.{counted, last_count}
-use Rattle.mkv_io.specs.LiveFiles.{LiveFiles}
 use Rattle.mkv_io.specs.Names.{Names}
 use Rattle.mkv_io.specs.Sources.{live_files}
 use Rattle.mkv_io.specs.declared.reads.Reads.{Ghosts}
@@ -15,7 +14,7 @@ use Rattle.output_model.specs.Document.{Document}
 use Rattle.segment_octets.specs.Front.{front_with}
 use Rattle.cluster_reader.specs.ToldDamages.{ToldDamages, told_damages}
 use Rattle.merge_model.specs.Lanes.{lane_damages}
-use Rattle.lane_blocks.specs.Links.{IsOpenLink, IsToldLink, given_in}
+use Rattle.lane_blocks.specs.Links.{IsToldLink, given_in}
 use Rattle.lanes.specs.Lane.{LaneSeen}
 use Rattle.lanes.specs.Lane as lanes
 use Rattle.time_merge.specs.Laws.{IsApart, IsApartLink}
@@ -34,11 +33,10 @@ use Rattle.remux_plan.specs.declared.summary.Summary.{Summary}
 use Rattle.remux_plan.specs.declared.summary.Written.{Written}
 use Rattle.std.specs.List.{flat_map, range_with_len}
 use Rattle.remuxer.specs.Output.{Writes, document_with}
-use Rattle.remuxer.specs.Plan.{IsPlan, IsPlannedLane, IsToldPlan, inputs_length}
-use Rattle.remuxer.specs.Started.{AreStarted, CanStart, IsStarted, numbers_of}
+use Rattle.remuxer.specs.Plan.{IsPlan, IsToldPlan, inputs_length}
+use Rattle.remuxer.specs.Started.{AreStarted, CanStart}
 use Rattle.remuxer.specs.Taking.{HasGivenAll, told_by}
 use Rattle.remuxer.specs.Told.{HasDamages, damages_told}
-use Rattle.remuxer.specs.declared.output.OutputSpec.{OutputSpec}
 use Rattle.remuxer.specs.declared.planned.StartedLanes.{StartedLanes}
 use Rattle.remuxer.proofs.StartedLemmas.{all-due, all-lengths, all-links, all-ready, all-told, are-started, count-started}
 use Rattle.remuxer.proofs.SummaryLemmas.{plan-damages}

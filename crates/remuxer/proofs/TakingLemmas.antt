@@ -1,5 +1,5 @@
 -- An output that takes the blocks of a merge: a block is read, and then something is written.
-use Rattle.std.proofs.Common.{◌≡◌, ◌≤◌, ℕ, ◌+◌, ◌-◌, ◌*◌, Bool, List, [], ◌∷◌, length, min, Option, Some, Result, Ok, Err, OnOk, refl, sym, ◌∙◌, ap, subst, arith, map, ap₂, ◌++◌, take, drop, append-nil}
+use Rattle.std.proofs.Common.{◌≡◌, ◌≤◌, ℕ, ◌+◌, Bool, List, [], ◌∷◌, length, Result, Ok, Err, refl, sym, ◌∙◌, ap, subst, arith, map, ap₂, ◌++◌, take, append-nil}
 use Rattle.std.proofs.lemmas.List.{drop_all, take_all}
 use Rattle.std.specs.List.{All}
 use Rattle.std.proofs.lemmas.List.Elements.{All-head, All-tail}
@@ -11,7 +11,7 @@ use Rattle.mkv_io.specs.Sources.{live_files}
 use Rattle.mkv_io.specs.Writing.{KeepsOthers}
 use Rattle.mkv_io.specs.declared.reads.Reads.{Ghosts}
 use Rattle.mkv_io.specs.declared.files.Files as writing
-use Rattle.mkv_io.proofs.WritingLemmas.{KeepsOthers-none, KeepsOthers-then}
+use Rattle.mkv_io.proofs.WritingLemmas.{KeepsOthers-then}
 use Rattle.mkv_jobs.specs.declared.remux_end.RemuxEnd.{RemuxEnd}
 use Rattle.output_model.specs.OutputBlock.{OutputBlock}
 use Rattle.output_model.specs.Document.{Document}
@@ -29,8 +29,8 @@ use Rattle.lanes.specs.Lane as lanes
 use Rattle.lanes.specs.Told.{with_all}
 use Rattle.merge_model.specs.Lanes.{lane_damages}
 use Rattle.lanes.specs.Walks.{links_left}
-use Rattle.time_merge.specs.Laws.{IsApart, IsApartLink, StandsAmong}
-use Rattle.time_merge.specs.Merge.{IsEnded, IsReady, IsTold, MergeSeen, damages, damages_of, due, files_length, left}
+use Rattle.time_merge.specs.Laws.{IsApart, StandsAmong}
+use Rattle.time_merge.specs.Merge.{IsReady, IsTold, MergeSeen, damages, damages_of, due, files_length, left}
 use Rattle.time_merge.specs.Queues.{KeepsQueues}
 use Rattle.time_merge.specs.declared.queue.Queue.{Queue}
 use Rattle.time_merge.proofs.KeptLemmas.{apart-kept, keeps-merge, stands-kept}
@@ -113,7 +113,6 @@ given-none given given' was left none is end =
 module _ {S : Type 0} (r : Ghosts S) (f : writing.Ghosts S) (rules : List CueRule) (a b c : S) (w w' : BlockWriter) (m m' : MergeSeen)
     (read : OnlyRead r f a b) (can : CanTake r f a w m) (lanes : KeepsQueues m.queues m'.queues) (ready : IsReady (live_files r b) m')
     (kept : KeepsOthers r f (f.holder b w.out.file.n ∷ []) b c) where
-
   same : live_files r b ≡ live_files r a
   same = files-same r f a b read
 

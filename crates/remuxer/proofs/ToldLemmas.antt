@@ -1,5 +1,5 @@
 -- The damages of inputs, as the lanes of a merge have told them.
-use Rattle.std.proofs.Common.{◌≡◌, ◌<◌, ℕ, ◌+◌, List, [], ◌∷◌, length, drop, get_or, map, Option, Some, None, Bor, ◌++◌, is_some, true, false, option_map, refl, sym, ◌∙◌, ap, ap₂, append-nil, arith}
+use Rattle.std.proofs.Common.{◌≡◌, ◌<◌, ℕ, ◌+◌, List, [], ◌∷◌, length, drop, get_or, Option, Some, None, Bor, ◌++◌, is_some, true, false, option_map, refl, sym, ◌∙◌, ap, ap₂, append-nil, arith}
 use Rattle.std.specs.List.{flat_map, range_with_len, slice_get}
 use Rattle.std.specs.Option.{option_copied, option_or, unwrap_or}
 use Rattle.std.proofs.lemmas.List.{drop_more, map-id}

@@ -1,10 +1,9 @@
 -- The damages of inputs, as the lanes of a merge have told them.
 use Rattle.std.specs.Prelude.{◌≡◌, ◌++◌, ◌==◌, ℕ, List, [], ◌∷◌, Option, None}
-use Rattle.std.specs.List.{flat_map, position, range_with_len, slice_get}
+use Rattle.std.specs.List.{flat_map, position, slice_get}
 use Rattle.std.specs.Option.{option_and_then, option_or, unwrap_or}
 use Rattle.cluster_reader.specs.ToldDamages.{ToldDamages, told_damages}
 use Rattle.remux_plan.specs.Summary.{first_damages, more_damages}
-use Rattle.remux_plan.specs.declared.TheConstants.{MOST_INPUTS}
 use Rattle.remux_plan.specs.declared.summary.Summary.{Summary}
 
 -- What a lane, whose links are of these inputs, has told of an input: that of the first link of its number.

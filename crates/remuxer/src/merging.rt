@@ -18,11 +18,7 @@ use time_merge::Merge;
 /// inputs. Blocks are written as they are read: no more than a Cluster of them is held.
 ///
 /// After a refusal the output may stand in part, and nothing else was changed.
-pub fn remux<F: Files>(
-    alloc: Global,
-    plan: MergePlan,
-    files: &mut F,
-) -> Result<Summary, RemuxEnd>
+pub fn remux<F: Files>(alloc: Global, plan: MergePlan, files: &mut F) -> Result<Summary, RemuxEnd>
     requires { IsPlan F.Reads F.Files.own files.old plan }
 
     ensures output { WritesPlan F.Reads F.Files.own files.old files.new plan result }

@@ -1,15 +1,14 @@
-use Rattle.std.proofs.Common.{◌≡◌, ◌≤◌, ℕ, ◌+◌, ◌*◌, List, [], ◌∷◌, length, Ok, Err, refl, sym, ◌∙◌, ap, subst, arith}
+use Rattle.std.proofs.Common.{◌≤◌, ℕ, ◌+◌, ◌*◌, List, [], ◌∷◌, length, Ok, Err, sym, ◌∙◌, ap, subst, arith}
 use Rattle.std.proofs.lemmas.Result.{err_from_is_err_and}
 use Rattle.std.specs.List.{range_with_len}
 use Rattle.mkv_io.specs.Faults.{last_count}
 use Rattle.mkv_io.specs.Sources.{live_files}
-use Rattle.output_model.specs.declared.TheConstants.{MOST_LANES}
 use Rattle.time_merge.specs.Laws.{IsApart}
 use Rattle.time_merge.specs.Merge.{IsReady, IsTold, due, files_length, left}
 use Rattle.remux_plan.specs.Plan.{document_in}
 use Rattle.remux_plan.specs.declared.TheConstants.{MOST_INPUTS}
-use Rattle.remuxer.specs.Output.{HasRecords, Writes, document_with}
-use Rattle.remuxer.specs.Plan.{data_length, inputs_length}
+use Rattle.remuxer.specs.Output.{Writes, document_with}
+use Rattle.remuxer.specs.Plan.{data_length}
 use Rattle.remuxer.specs.Taking.{Ends, told_by}
 use Rattle.remuxer.specs.Told.{HasDamages}
 use Rattle.remuxer.proofs.OutputLemmas.{whole-in_turn}

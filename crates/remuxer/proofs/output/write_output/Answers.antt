@@ -1,4 +1,4 @@
-use Rattle.std.proofs.Common.{◌≡◌, ◌≤◌, ◌<◌, ℕ, ◌+◌, ◌*◌, List, [], ◌∷◌, refl, sym, ap, subst, ◌∙◌, arith}
+use Rattle.std.proofs.Common.{ℕ, List, [], ◌∷◌, refl, sym, ap, subst, arith}
 use Rattle.std.proofs.lemmas.Result.{err_from_is_err_and}
 use Rattle.mkv_io.specs.Sources.{live_files}
 use Rattle.mkv_outputs.specs.Starts.{StandsInPart}
@@ -11,7 +11,7 @@ use Rattle.cues_seekhead.specs.OpenOutput.{StandsOpen}
 use Rattle.mkv_outputs.specs.Drafts.{StandsInTurn}
 use Rattle.mkv_io.specs.Names.{Names}
 use Rattle.cues_seekhead.specs.Draft.{draft_of}
-use Rattle.time_merge.specs.Merge.{due, files_length, left}
+use Rattle.time_merge.specs.Merge.{left}
 use Rattle.remuxer.specs.Output.{document_with}
 use Rattle.remuxer.proofs.OutputLemmas.{abandoned-keeps, begun-among, begun-can, begun-in_turn, cued-as, drafted-in_turn, ends-among, finished-keeps, finishes-all, stands-begun}
 use Rattle.remuxer.proofs.output.write_output.Goals as goal

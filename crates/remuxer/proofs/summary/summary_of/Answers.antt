@@ -16,12 +16,12 @@ loop-input-preserved c =
     let old = c.loop-input.summary in
     let inv = c.loop-input.invariant in
     elim c.match-told_of.branch [
-      in-Some+in_ok-add_damages w ↦ record {
+      | in-Some+in_ok-add_damages w ↦ record {
         outputs = ap (λ (s : Summary). s.outputs) w.summary-is ∙ w.in_ok-add_damages.ensures.outputs ∙ inv.outputs;
         damages = subst (HasDamages lanes tolds (range_with_len 0 (input + 1))) (sym w.summary-is)
             (damages-next lanes tolds input old w.add_damages.new.summary inv.damages w.in-Some.told.now (sym c.told_of.ensures ∙ ap option_copied w.in-Some.is) w.in_ok-add_damages.ensures);
       }
-    | in_default w ↦ record {
+      | in_default w ↦ record {
         outputs = ap (λ (s : Summary). s.outputs) w.summary-is ∙ inv.outputs;
         damages = damages-none lanes tolds input old c.match-told_of.summary inv.damages (sym c.told_of.ensures ∙ ap option_copied w.in_default.is) w.summary-is;
       }

@@ -1,5 +1,5 @@
-use Rattle.std.proofs.Common.{◌≡◌, ℕ, eqb, sym, ◌∙◌, ap, rules, tests}
-use Rattle.std.specs.List.{position, slice_get}
+use Rattle.std.proofs.Common.{ℕ, eqb, sym, ◌∙◌, ap, rules, tests}
+use Rattle.std.specs.List.{slice_get}
 use Rattle.std.specs.Option.{option_and_then}
 use Rattle.std.proofs.lemmas.Iterator.{YieldsList-from_slice}
 use Rattle.std.proofs.lemmas.Iterator.Search.{position_from_yields_List}

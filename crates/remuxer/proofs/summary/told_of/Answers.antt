@@ -1,4 +1,4 @@
-use Rattle.std.proofs.Common.{◌≡◌, ◌<◌, ◌+◌, List, ℕ, length, drop, option_copied, sym, ◌∙◌, ap, arith}
+use Rattle.std.proofs.Common.{◌<◌, ◌+◌, List, ℕ, length, drop, sym, ◌∙◌, ap, arith}
 use Rattle.remuxer.specs.Taking.{told_by}
 use Rattle.remuxer.specs.Told.{told_at, told_of}
 use Rattle.remuxer.proofs.ToldLemmas.{first-found, none-found, told-step}

@@ -1,4 +1,4 @@
-use Rattle.std.proofs.Common.{◌<◌, List, ◌∷◌, length, refl, sym, ◌∙◌, ap, arith}
+use Rattle.std.proofs.Common.{◌<◌, ◌∷◌, length, refl, ◌∙◌, ap, arith}
 use Rattle.std.proofs.lemmas.Option.{slice_get_within}
 use Rattle.std.proofs.lemmas.Result.{err_from_is_err_and}
 use Rattle.mkv_io.specs.Sources.{live_files}
@@ -60,7 +60,7 @@ returns-in_err-add_lent-clause-writes g c =
     let p = err_from_is_err_and c.from_residual-in_err-add_lent.result c.from_residual-in_err-add_lent.ensures.1 in
     let read = only-read g.F.Reads g.F.Files c.args.files.now c.step.new.src c.in_ok-k.ensures.standing g.met.F.Files.names_stand g.met.F.Files.holders_stand g.met.F.Files.given_stands in
     let kept = turn-keeps g.F.Reads g.F.Files c.args.rules.now c.args.files.now c.step.new.src c.add_lent.new.files c.args.self.now c.add_lent.new.self c.args.merge.now c.step.new.self
-        read c.requires c.in_ok-k.ensures.moves.keeps c.in_ok-k.ensures.ready c.in_err-add_lent.ensures.writes.kept in
+    read c.requires c.in_ok-k.ensures.moves.keeps c.in_ok-k.ensures.ready c.in_err-add_lent.ensures.writes.kept in
     rw p.1 (record { file = c.in_err-add_lent.ensures.writes.file; is_open = tt; kept = kept })
 
 -- it was written
@@ -80,7 +80,7 @@ pub returns-clause-writes : goal.returns-clause-writes
 returns-clause-writes g c =
     let read = only-read g.F.Reads g.F.Files c.args.files.now c.step.new.src c.in_ok-k.ensures.standing g.met.F.Files.names_stand g.met.F.Files.holders_stand g.met.F.Files.given_stands in
     let kept = turn-keeps g.F.Reads g.F.Files c.args.rules.now c.args.files.now c.step.new.src c.add_lent.new.files c.args.self.now c.add_lent.new.self c.args.merge.now c.step.new.self
-        read c.requires c.in_ok-k.ensures.moves.keeps c.in_ok-k.ensures.ready c.in_ok-add_lent.ensures.writes.kept in
+    read c.requires c.in_ok-k.ensures.moves.keeps c.in_ok-k.ensures.ready c.in_ok-add_lent.ensures.writes.kept in
     record { file = c.in_ok-add_lent.ensures.writes.file; is_open = c.in_ok-add_lent.ensures.writes.is_open; kept = kept }
 
 pub returns-clause-goes : goal.returns-clause-goes
