@@ -12,6 +12,8 @@ use Rattle.mkv_lines.specs.Verdict.{Verdict, done, refused}
 use Rattle.mkv_info.specs.Info.{info_verdict}
 use Rattle.extract_model.specs.Job.{taken_of}
 use Rattle.mkv_extract.specs.Extract.{extract_verdict}
+use Rattle.mkv_merge.specs.Merge.{merge_verdict}
+use Rattle.mkv_merge.specs.Takes.{takes}
 
 -- the first word that is wrong, and why
 abbrev pub usage_line : Usage → List ℕ
@@ -28,7 +30,7 @@ is_built (Reindex file) = false
 is_built (Generate n prefix) = false
 is_built (Extract file job) = is_some (taken_of job)
 is_built (Propedit file edits) = false
-is_built (Merge words) = false
+is_built (Merge words) = takes words
 
 -- What a command that is built comes to, where the names tell: its verdict is a function of the whole world of
 -- names. What asks for no file needs none of them.
@@ -37,6 +39,7 @@ built_verdict names Help = Some (done usage_lines)
 built_verdict names Version = Some (done (version_line ∷ []))
 built_verdict names (Info file) = option_map (λ world. info_verdict world file) names
 built_verdict names (Extract file job) = option_map (λ world. extract_verdict world file job) names
+built_verdict names (Merge words) = option_map (λ world. merge_verdict world words) names
 built_verdict names _ = Some (refused not_built_line)
 
 -- what a command comes to; one that isn't built is refused

@@ -3,6 +3,7 @@
 ghost use Rattle.std.specs.Prelude.{◌≡◌, ℕ, IfOk};
 ghost use Rattle.mkv_io.specs.Sources.{live_files};
 ghost use Rattle.mkv_io.specs.Told.{Told};
+ghost use Rattle.merge_words.specs.Sound.{IsSoundMerge};
 ghost use Rattle.mkv_args.specs.Sound.{IsSound, IsSoundJob};
 ghost use Rattle.mkv_lines.specs.Faults.{HasStatusCause, HasStopCause};
 ghost use Rattle.mkv_lines.specs.Ordinary.{IsOrdinary};
@@ -15,12 +16,14 @@ ghost use Rattle.mkv_run.specs.Run.{verdict_in, verdict_of};
 
 use crate::help::{help, version};
 use extractors::taken_of;
+use merge_words::MergeWords;
 use mkv_args::{ArgsEnd, Command, read_words};
 use mkv_extract::extract_of;
 use mkv_info::info_of;
 use mkv_io::{Files, Report};
 use mkv_jobs::Job;
 use mkv_lines::{Line, Status, Stop, say, say_files_fault};
+use mkv_merge::{merge_of, takes};
 use mkv_values::Text;
 use std::alloc::Global;
 
@@ -101,6 +104,7 @@ fn obey<F: Files, R: Report>(
         Command::Version => version(report),
         Command::Info { file } => info_of(alloc, file.as_str(), files, report),
         Command::Extract { file, job } => extract(alloc, file, job, files, report),
+        Command::Merge { words } => merge(alloc, words, files, report),
         _ => refuse(alloc, 0, "NotBuilt", report),
     }
 }
@@ -127,6 +131,29 @@ fn extract<F: Files, R: Report>(
         return refuse(alloc, 0, "NotBuilt", report);
     }
     extract_of(alloc, file.as_str(), job, files, report)
+}
+
+// Merges files, where that is built.
+fn merge<F: Files, R: Report>(
+    alloc: Global,
+    words: &MergeWords,
+    files: &mut F,
+    report: &mut R,
+) -> Result<Status, Stop>
+    requires { IsSoundMerge words.now }
+    ensures verdict { Told (verdict_of (F.names files.old) (Command.Merge words.now)) (Reaches
+        (seen F.Reads F.writing_faults F.names R.Report files.old report.old)
+        (seen F.Reads F.writing_faults F.names R.Report files.new report.new) result) }
+    ensures ordinary { IfOk result IsOrdinary }
+    ensures cause { HasStopCause
+        (seen F.Reads F.writing_faults F.names R.Report files.old report.old).counts
+        (seen F.Reads F.writing_faults F.names R.Report files.new report.new).counts result }
+    ensures closed { (file : ℕ) → (live_files F.Reads files.new).live file ≡ (live_files F.Reads files.old).live file }
+{
+    if !takes(words) {
+        return refuse(alloc, 0, "NotBuilt", report);
+    }
+    merge_of(alloc, words, files, report)
 }
 
 // Words that aren't obeyed.

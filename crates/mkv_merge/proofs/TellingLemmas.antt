@@ -1,0 +1,164 @@
+-- The lines of a merge, one item after the other.
+use Rattle.std.proofs.Common.{◌≡◌, ℕ, suc, ◌+◌, ◌<◌, ◌≤◌, Bool, true, false, ◌||◌, if◌then◌else◌, List, [], ◌∷◌, ◌++◌, append_assoc, length, drop, get_or, map, filter, flat_map, refl, sym, ◌∙◌, ap, subst, arith}
+use Rattle.std.specs.List.{list_any, zip}
+use Rattle.std.proofs.Math.Seq.{drop-cons}
+use Rattle.std.proofs.lemmas.List.{drop_all}
+use Rattle.mkv_io.specs.Lines.{with_lines}
+use Rattle.merge_words.specs.declared.files.FileWords.{FileWords}
+use Rattle.merge_words.specs.declared.output.MergeWords.{MergeWords}
+use Rattle.merge_inputs.specs.Input.{InputRead, read_in}
+use Rattle.merge_inputs.specs.declared.input.Input.{Input}
+use Rattle.mkv_lines.specs.Line.{more_damages_line, no_track_line, warning_line}
+use Rattle.mkv_lines.specs.Said.{ReportLines, SaysPart, SaysUpTo}
+use Rattle.mkv_lines.proofs.SaidLemmas.{SaysUpTo-begins, SaysUpTo-ends, SaysUpTo-more, SaysUpTo-stops}
+use Rattle.remux_plan.specs.declared.summary.InputDamage.{InputDamage}
+use Rattle.remux_plan.specs.declared.summary.MoreDamage.{MoreDamage}
+use Rattle.remux_plan.specs.declared.summary.Summary.{Summary}
+use Rattle.mkv_merge.specs.Merge.{absent, absent_lines, absent_of, has_absent, is_some_of, lines_before}
+use Rattle.mkv_merge.specs.Prepared.{reads_in}
+use Rattle.mkv_merge.specs.Told.{damages_at, input_warnings, more_at, warnings_from}
+
+-- ---- a walk over a list
+
+-- the item at a place, and those behind it
+pub drop-at : {A : Type 0} (xs : List A) (k : ℕ) (x : A) → k < length xs → x ≡ get_or xs k x → drop k xs ≡ x ∷ drop (k + 1) xs
+drop-at {A = A} xs k x below is =
+    drop-cons xs k x below
+    ∙ ap (λ (each : A). each ∷ drop (suc k) xs) (sym is)
+    ∙ ap (λ (n : ℕ). x ∷ drop n xs) (one_more k)
+  where
+    one_more : (n : ℕ) → suc n ≡ n + 1
+    one_more n = omega arith
+
+-- ---- a line for each item that is kept
+
+-- the next item's line is said
+next-said : {A : Type 0} (line : A → List ℕ) (kept : A → Bool) (old now : ReportLines) (all : List (List ℕ)) (xs : List A) (k : ℕ) (x : A) → k < length xs → x ≡ get_or xs k x → kept x ≡ true → SaysUpTo old now all (map line (filter kept (drop k xs))) → SaysUpTo old now all (line x ∷ map line (filter kept (drop (k + 1) xs)))
+next-said {A = A} line kept old now all xs k x below is keeps way =
+    subst (SaysUpTo old now all)
+    (ap (λ (ys : List A). map line (filter kept ys)) (drop-at xs k x below is)
+    ∙ ap (λ (a : Bool). map line (if a then x ∷ filter kept (drop (k + 1) xs) else filter kept (drop (k + 1) xs))) keeps) way
+
+pub kept-said : {A : Type 0} (line : A → List ℕ) (kept : A → Bool) (old mid new : ReportLines) (all : List (List ℕ)) (xs : List A) (k : ℕ) (x : A) → k < length xs → x ≡ get_or xs k x → kept x ≡ true → SaysUpTo old mid all (map line (filter kept (drop k xs))) → new ≡ with_lines mid (line x ∷ []) → SaysUpTo old new all (map line (filter kept (drop (k + 1) xs)))
+kept-said line kept old mid new all xs k x below is keeps way said =
+    SaysUpTo-more old mid new all (line x ∷ []) (map line (filter kept (drop (k + 1) xs)))
+    (next-said line kept old mid all xs k x below is keeps way) said
+
+-- or it couldn't be said
+pub kept-stops : {A : Type 0} (line : A → List ℕ) (kept : A → Bool) (old mid new : ReportLines) (all : List (List ℕ)) (xs : List A) (k : ℕ) (x : A) → k < length xs → x ≡ get_or xs k x → kept x ≡ true → SaysUpTo old mid all (map line (filter kept (drop k xs))) → SaysPart mid new (line x ∷ []) → SaysPart old new all
+kept-stops line kept old mid new all xs k x below is keeps way part =
+    SaysUpTo-stops old mid new all (line x ∷ []) (map line (filter kept (drop (k + 1) xs)))
+    (next-said line kept old mid all xs k x below is keeps way) part
+
+-- one that isn't kept has none
+pub left-out : {A : Type 0} (line : A → List ℕ) (kept : A → Bool) (old now : ReportLines) (all : List (List ℕ)) (xs : List A) (k : ℕ) (x : A) → k < length xs → x ≡ get_or xs k x → kept x ≡ false → SaysUpTo old now all (map line (filter kept (drop k xs))) → SaysUpTo old now all (map line (filter kept (drop (k + 1) xs)))
+left-out {A = A} line kept old now all xs k x below is keeps way =
+    subst (SaysUpTo old now all)
+    (ap (λ (ys : List A). map line (filter kept ys)) (drop-at xs k x below is)
+    ∙ ap (λ (a : Bool). map line (if a then x ∷ filter kept (drop (k + 1) xs) else filter kept (drop (k + 1) xs))) keeps) way
+
+-- at last all are said
+pub kept-ends : {A : Type 0} (line : A → List ℕ) (kept : A → Bool) (old new : ReportLines) (all : List (List ℕ)) (xs : List A) (k : ℕ) → length xs ≤ k → SaysUpTo old new all (map line (filter kept (drop k xs))) → new ≡ with_lines old all
+kept-ends {A = A} line kept old new all xs k past way =
+    SaysUpTo-ends old new all (subst (SaysUpTo old new all) (ap (λ (ys : List A). map line (filter kept ys)) (drop_all k xs past)) way)
+
+-- some item is kept
+pub is_some-kept : {A : Type 0} (kept : A → Bool) (xs : List A) → list_any kept xs ≡ is_some_of (filter kept xs)
+is_some-kept kept [] = refl
+is_some-kept {A = A} kept (x ∷ xs) = step (kept x) (is_some-kept kept xs)
+  where
+    step : (keeps : Bool) → list_any kept xs ≡ is_some_of (filter kept xs) → (keeps || list_any kept xs) ≡ is_some_of (if keeps then x ∷ filter kept xs else filter kept xs)
+    step true rest = refl
+    step false rest = rest
+
+-- ---- the files, each with what was read of it
+
+-- from a place on
+pub files_left : List FileWords → List Input → ℕ → List (FileWords × InputRead)
+files_left files inputs k = zip (drop k files) (reads_in (drop k inputs))
+
+pub files_left-all : (files : List FileWords) (inputs : List Input) → zip files (reads_in inputs) ≡ files_left files inputs 0
+unfolding files_left
+files_left-all files inputs = refl
+
+pub files_left-at : (files : List FileWords) (inputs : List Input) (k : ℕ) (file : FileWords) (input : Input) → k < length files → k < length inputs → file ≡ get_or files k file → input ≡ get_or inputs k input → files_left files inputs k ≡ (file, read_in input) ∷ files_left files inputs (k + 1)
+unfolding files_left
+files_left-at files inputs k file input here there is of =
+    ap (λ (fs : List FileWords). zip fs (reads_in (drop k inputs))) (drop-at files k file here is)
+    ∙ ap (λ (list : List Input). zip (file ∷ drop (k + 1) files) (reads_in list)) (drop-at inputs k input there of)
+
+pub files_left-none : (files : List FileWords) (inputs : List Input) (k : ℕ) → length files ≤ k → files_left files inputs k ≡ []
+unfolding files_left
+files_left-none files inputs k past = ap (λ (fs : List FileWords). zip fs (reads_in (drop k inputs))) (drop_all k files past)
+
+pub has_absent-all : (words : MergeWords) (inputs : List Input) → has_absent words (reads_in inputs) ≡ list_any (λ f. is_some_of (absent f)) (files_left words.files inputs 0)
+has_absent-all words inputs = ap (list_any (λ f. is_some_of (absent f))) (files_left-all words.files inputs)
+
+-- the next one does, or one of those behind it
+has_absent-next : (any : Bool) (files : List FileWords) (inputs : List Input) (k : ℕ) (file : FileWords) (input : Input) → k < length files → k < length inputs → file ≡ get_or files k file → input ≡ get_or inputs k input
+    → any ≡ list_any (λ f. is_some_of (absent f)) (files_left files inputs k) → any ≡ (is_some_of (absent_of file input.count) || list_any (λ f. is_some_of (absent f)) (files_left files inputs (k + 1)))
+has_absent-next any files inputs k file input here there is of so =
+    so ∙ ap (list_any (λ f. is_some_of (absent f))) (files_left-at files inputs k file input here there is of)
+
+pub has_absent-found : (any : Bool) (files : List FileWords) (inputs : List Input) (k : ℕ) (file : FileWords) (input : Input) → k < length files → k < length inputs → file ≡ get_or files k file → input ≡ get_or inputs k input
+    → any ≡ list_any (λ f. is_some_of (absent f)) (files_left files inputs k) → is_some_of (absent_of file input.count) ≡ true → true ≡ any
+has_absent-found any files inputs k file input here there is of so found =
+    sym (has_absent-next any files inputs k file input here there is of so
+    ∙ ap (λ (a : Bool). a || list_any (λ f. is_some_of (absent f)) (files_left files inputs (k + 1))) found)
+
+pub has_absent-passed : (any : Bool) (files : List FileWords) (inputs : List Input) (k : ℕ) (file : FileWords) (input : Input) → k < length files → k < length inputs → file ≡ get_or files k file → input ≡ get_or inputs k input
+    → any ≡ list_any (λ f. is_some_of (absent f)) (files_left files inputs k) → is_some_of (absent_of file input.count) ≡ false → any ≡ list_any (λ f. is_some_of (absent f)) (files_left files inputs (k + 1))
+has_absent-passed any files inputs k file input here there is of so none =
+    has_absent-next any files inputs k file input here there is of so
+    ∙ ap (λ (a : Bool). a || list_any (λ f. is_some_of (absent f)) (files_left files inputs (k + 1))) none
+
+pub has_absent-none : (any : Bool) (files : List FileWords) (inputs : List Input) (k : ℕ) → length files ≤ k → any ≡ list_any (λ f. is_some_of (absent f)) (files_left files inputs k) → false ≡ any
+has_absent-none any files inputs k past so = sym (so ∙ ap (list_any (λ f. is_some_of (absent f))) (files_left-none files inputs k past))
+
+-- ---- the lines of the tracks that the files lack
+
+pub absent-begins : (old : ReportLines) (words : MergeWords) (inputs : List Input) → SaysUpTo old old (lines_before words (reads_in inputs)) (flat_map absent_lines (files_left words.files inputs 0))
+absent-begins old words inputs =
+    subst (SaysUpTo old old (lines_before words (reads_in inputs))) (ap (flat_map absent_lines) (files_left-all words.files inputs))
+    (SaysUpTo-begins old (lines_before words (reads_in inputs)))
+
+pub absent-next : (old now : ReportLines) (all : List (List ℕ)) (files : List FileWords) (inputs : List Input) (k : ℕ) (file : FileWords) (input : Input) → k < length files → k < length inputs → file ≡ get_or files k file → input ≡ get_or inputs k input
+    → SaysUpTo old now all (flat_map absent_lines (files_left files inputs k)) → SaysUpTo old now all (map (no_track_line file.name) (absent_of file input.count) ++ flat_map absent_lines (files_left files inputs (k + 1)))
+absent-next old now all files inputs k file input here there is of way =
+    subst (SaysUpTo old now all) (ap (flat_map absent_lines) (files_left-at files inputs k file input here there is of)) way
+
+pub absent-ends : (old new : ReportLines) (all : List (List ℕ)) (files : List FileWords) (inputs : List Input) (k : ℕ) → length files ≤ k → SaysUpTo old new all (flat_map absent_lines (files_left files inputs k)) → new ≡ with_lines old all
+absent-ends old new all files inputs k past way =
+    SaysUpTo-ends old new all (subst (SaysUpTo old new all) (ap (flat_map absent_lines) (files_left-none files inputs k past)) way)
+
+-- ---- the warnings of the inputs
+
+-- those of the next input
+pub warnings-next : (old now : ReportLines) (all : List (List ℕ)) (s : Summary) (files : List FileWords) (k : ℕ) (file : FileWords) (name : List ℕ) (damages : List InputDamage) (more : List MoreDamage) → k < length files → file ≡ get_or files k file
+    → name ≡ file.name → damages ≡ s.damages → more ≡ s.more → SaysUpTo old now all (warnings_from s k (drop k files))
+    → SaysUpTo old now all (map (λ (d : InputDamage). warning_line name d.damage) (damages_at k damages) ++ (map (λ (m : MoreDamage). more_damages_line name m.count) (more_at k more) ++ warnings_from s (k + 1) (drop (k + 1) files)))
+warnings-next old now all s files k file name damages more below is called of others way =
+    subst (SaysUpTo old now all)
+    (ap (warnings_from s k) (drop-at files k file below is)
+    ∙ ap (λ (n : ℕ). input_warnings s k file.name ++ warnings_from s n (drop (k + 1) files)) (one_more k)
+    ∙ append_assoc (first_lines file.name s.damages) (more_lines file.name s.more) left
+    ∙ ap (λ (ns : List ℕ). first_lines ns s.damages ++ (more_lines ns s.more ++ left)) (sym called)
+    ∙ ap (λ (ds : List InputDamage). first_lines name ds ++ (more_lines name s.more ++ left)) (sym of)
+    ∙ ap (λ (ms : List MoreDamage). first_lines name damages ++ (more_lines name ms ++ left)) (sym others)) way
+  where
+    one_more : (n : ℕ) → suc n ≡ n + 1
+    one_more n = omega arith
+
+    left : List (List ℕ)
+    left = warnings_from s (k + 1) (drop (k + 1) files)
+
+    first_lines : List ℕ → List InputDamage → List (List ℕ)
+    first_lines ns ds = map (λ (d : InputDamage). warning_line ns d.damage) (damages_at k ds)
+
+    more_lines : List ℕ → List MoreDamage → List (List ℕ)
+    more_lines ns ms = map (λ (m : MoreDamage). more_damages_line ns m.count) (more_at k ms)
+
+-- at last all are said
+pub warnings-end : (old new : ReportLines) (all : List (List ℕ)) (s : Summary) (files : List FileWords) (k : ℕ) → length files ≤ k → SaysUpTo old new all (warnings_from s k (drop k files)) → new ≡ with_lines old all
+warnings-end old new all s files k past way =
+    SaysUpTo-ends old new all (subst (SaysUpTo old new all) (ap (warnings_from s k) (drop_all k files past)) way)

@@ -1,0 +1,298 @@
+-- A merge that was prepared can be written, and comes to its verdict.
+use Rattle.std.proofs.Common.{◌≡◌, ℕ, zero, suc, ◌+◌, ◌<◌, ◌≤◌, Bool, false, ◌||◌, List, [], ◌∷◌, ◌++◌, length, map, get_or, Option, Some, None, Result, Ok, Err, IfOk, IfSome, refl, sym, ◌∙◌, ap, subst, arith}
+use Rattle.std.specs.List.{All, AllByRecursion, flat_map, zip}
+use Rattle.std.specs.Option.{unwrap_or}
+use Rattle.std.proofs.Math.ListN.{get_or-map}
+use Rattle.std.proofs.lemmas.List.{length-map}
+use Rattle.std.proofs.lemmas.List.Elements.{All-append, All-from_recursion, All-map}
+use Rattle.mkv_values.specs.declared.outside.FileId.{FileId}
+use Rattle.mkv_io.specs.Faults.{counted}
+use Rattle.mkv_io.specs.Lines.{with_lines}
+use Rattle.mkv_io.specs.LiveFiles.{LiveFiles}
+use Rattle.mkv_io.specs.Names.{AreOthers, Names, with_content}
+use Rattle.mkv_io.specs.Sources.{live_files}
+use Rattle.mkv_io.specs.declared.files.Files as writing
+use Rattle.mkv_io.specs.declared.reads.Reads.{Ghosts}
+use Rattle.mkv_outputs.specs.Drafts.{Draft, StandsInTurn, outputs_of}
+use Rattle.mkv_outputs.specs.Outputs.{Output, with_outputs}
+use Rattle.mkv_outputs.proofs.DraftsLemmas.{StandsInTurn-whole}
+use Rattle.mkv_schema.specs.declared.ids.TheConstants.{CHAPTERS, TAGS}
+use Rattle.tree_format.specs.Node.{Node, id_of}
+use Rattle.segment_octets.specs.Front.{front_with}
+use Rattle.attachment_records.specs.declared.attachment.Attachment.{Attachment}
+use Rattle.output_model.specs.Document.{Document, Front}
+use Rattle.output_model.specs.OutputBlock.{OutputBlock}
+use Rattle.output_model.specs.declared.heads.ClusterLimits.{ClusterLimits}
+use Rattle.merge_model.specs.Lanes.{lane_blocks}
+use Rattle.merge_model.specs.Merged.{merged}
+use Rattle.lane_blocks.specs.Links.{given_in, octets_in, IsOpenLink, IsSmallLink, IsToldLink}
+use Rattle.lane_blocks.specs.declared.link.Link.{Link}
+use Rattle.time_merge.specs.Laws.{IsApartLink, lanes_over}
+use Rattle.cluster_runs.specs.Cued.{document_of}
+use Rattle.cluster_runs.specs.declared.rule.CueRule.{CueRule}
+use Rattle.cues_seekhead.specs.Draft.{draft_of}
+use Rattle.cues_seekhead.specs.OpenOutput.{CanAttach}
+use Rattle.remux_plan.specs.Plan as planned
+use Rattle.remux_plan.specs.Plan.{links_of, rules_of}
+use Rattle.remux_plan.specs.Summary.{IsSummary, count_to, damages_of}
+use Rattle.remux_plan.specs.declared.TheConstants.{MOST_INPUTS}
+use Rattle.remux_plan.specs.declared.plan.MergePlan.{MergePlan}
+use Rattle.remux_plan.specs.declared.plan.PlannedLane.{PlannedLane}
+use Rattle.remux_plan.specs.declared.summary.Summary.{Summary}
+use Rattle.remux_plan.specs.declared.summary.Written.{Written}
+use Rattle.remuxer.specs.Output.{HasRecords}
+use Rattle.remuxer.specs.Plan.{IsPlan, IsPlannedLane, IsToldPlan, WritesLayout}
+use Rattle.merge_words.specs.Sound.{IsSoundMerge}
+use Rattle.merge_words.specs.declared.files.FileWords.{FileWords}
+use Rattle.merge_words.specs.declared.output.MergeWords.{MergeWords}
+use Rattle.input_files.specs.Inputs.{AreInputs, file_names}
+use Rattle.input_files.specs.Inputs as files
+use Rattle.merge_inputs.specs.Input.{InputRead, read_in}
+use Rattle.merge_inputs.specs.declared.input.Input.{Input}
+use Rattle.merge_inputs.specs.declared.taken.TakenTrack.{TakenTrack}
+use Rattle.merge_plan.specs.Plan.{Source, inputs_given, lanes_given, limits_of, rules_given}
+use Rattle.merge_plan.specs.Planned.{IsPlanOf, source_in}
+use Rattle.merge_plan.specs.Records.{front_of}
+use Rattle.mkv_lines.specs.Line.{wrote_blocks_line}
+use Rattle.mkv_lines.specs.Said.{ReportLines, Says, SaysPart}
+use Rattle.mkv_lines.specs.Seen.{Seen}
+use Rattle.mkv_lines.specs.Verdict.{Leaves, Reaches, Verdict, in_turn}
+use Rattle.mkv_lines.specs.declared.status.Status.{Status}
+use Rattle.mkv_lines.specs.declared.status.Stop.{Stop}
+use Rattle.mkv_lines.proofs.SaidLemmas.{SaysPart-all, SaysPart-before, SaysPart-behind, Says-then}
+use Rattle.mkv_lines.proofs.VerdictLemmas.{Leaves-same}
+use Rattle.mkv_merge.specs.Merge.{blocks_of, document_in, has_absent, has_damage, lines_before, lines_behind, merged_verdict, reads_of, status_of, warnings}
+use Rattle.mkv_merge.specs.Prepared.{AreInputsOf, AreTold, IsPrepared, reads_in}
+use Rattle.mkv_merge.specs.Read.{writes_input}
+use Rattle.mkv_merge.specs.Told.{is_warned, warnings_from}
+use Rattle.mkv_merge.specs.declared.preparing.Prepared.{Prepared}
+use Rattle.mkv_merge.proofs.NamesLemmas.{others-held}
+use Rattle.mkv_merge.proofs.SummaryLemmas.{AreLanesFor, Tells, damages-are, past-damages, some-told, warnings-told}
+
+-- ---- what is asked of the plan
+
+-- a fact of each of what is made of items
+All-unmap : {A B : Type 0} (P : B → Type 0) (f : A → B) (xs : List A) → All P (map f xs) → All (λ (x : A). P (f x)) xs
+All-unmap P f xs all = λ k d below. subst P (get_or-map f xs k d) (all k (f d) (omega (arith, length-map xs f)))
+
+-- as many inputs as words of files
+pub many-inputs : {S : Type 0} (r : Ghosts S) (f : writing.Ghosts S) (files : S) (words : MergeWords) (ids : List FileId) (inputs : List Input) → AreInputs r f (file_names words.files) files ids → map (λ (i : Input). i.file) inputs ≡ ids → length inputs ≡ length words.files
+many-inputs r f files words ids inputs opened of =
+    sym (length-map inputs (λ (i : Input). i.file)) ∙ ap length of
+    ∙ sym (length-map ids (λ (file : FileId). f.holder files file.n)) ∙ ap length opened.under
+    ∙ length-map words.files (λ (w : FileWords). w.name)
+
+-- the numbers of the inputs are small
+numbers-small : (n : ℕ) (reads : List InputRead) → n + length reads ≤ MOST_INPUTS → All (All (λ (i : ℕ). i < MOST_INPUTS)) (inputs_given n reads)
+numbers-small n [] few = λ k d below. absurd (omega arith)
+numbers-small n (i ∷ is) few =
+    All-append (All (λ (i : ℕ). i < MOST_INPUTS)) (map (λ (t : TakenTrack). n ∷ []) i.taken) (inputs_given (n + 1) is)
+    (All-map (All (λ (i : ℕ). i < MOST_INPUTS)) (λ (t : TakenTrack). n ∷ []) i.taken (λ k d below. one n (omega arith)))
+    (numbers-small (n + 1) is (omega arith))
+  where
+    one : (n : ℕ) → n < MOST_INPUTS → All (λ (i : ℕ). i < MOST_INPUTS) (n ∷ [])
+    one n small zero d below = small
+    one n small (suc k) d below = absurd (omega arith)
+
+-- what was prepared can be carried out
+pub plan-good : {S : Type 0} (r : Ghosts S) (f : writing.Ghosts S) (files : S) (words : MergeWords) (ids : List FileId) (p : Prepared) → IsSoundMerge words → AreInputs r f (file_names words.files) files ids → writes_input words ≡ false → IsPrepared (live_files r files) words ids p → IsPlan r f files p.plan
+plan-good {S = S} r f files words ids p sound opened apart prepared =
+    let plan = prepared.plan in
+    let written = prepared.written in
+    let lanes : List PlannedLane = p.plan.lanes in
+    let many : length p.inputs ≡ length words.files = many-inputs r f files words ids p.inputs opened prepared.inputs.of in
+    let held : All (λ (file : FileId). AreOthers (f.holder files file.n) (p.plan.output ∷ [])) (map (λ (i : Input). i.file) p.inputs) =
+        subst (λ (name : List ℕ). All (λ (file : FileId). AreOthers (f.holder files file.n) (name ∷ [])) (map (λ (i : Input). i.file) p.inputs)) (sym plan.output)
+        (subst (All (λ (file : FileId). AreOthers (f.holder files file.n) (words.output ∷ []))) (sym prepared.inputs.of) (others-held (f.holder files) ids words opened.under apart)) in
+    let others : All (λ (i : Input). AreOthers (f.holder files i.file.n) (p.plan.output ∷ [])) p.inputs = All-unmap (λ (file : FileId). AreOthers (f.holder files file.n) (p.plan.output ∷ [])) (λ (i : Input). i.file) p.inputs held in
+    record {
+  scale = subst (λ (l : ClusterLimits). 1 ≤ l.scale) (sym plan.limits) (omega (arith, sound.scale.least));
+  few = written.few;
+  lanes = λ k d below. record {
+    few = omega (arith, (written.one k d below).0);
+    small = All-unmap (All IsSmallLink) (λ (l : PlannedLane). l.spec.links) lanes written.small k d below;
+    live = All-unmap (All (IsOpenLink (live_files r files))) (λ (l : PlannedLane). l.spec.links) lanes (written.is_open (live_files r files) prepared.inputs.good) k d below;
+    apart = All-unmap (All (IsApartLink (f.holder files) (p.plan.output ∷ []))) (λ (l : PlannedLane). l.spec.links) lanes (written.apart (f.holder files) (p.plan.output ∷ []) others) k d below;
+    numbered = (written.one k d below).1 ∙ sym (written.one k d below).0;
+    inputs = All-unmap (All (λ (i : ℕ). i < MOST_INPUTS)) (λ (l : PlannedLane). l.inputs) lanes (subst (All (All (λ (i : ℕ). i < MOST_INPUTS))) (sym plan.numbers) (numbers-small 0 (map read_in p.inputs) (omega (arith, length-map p.inputs read_in, many, sound.files.most)))) k d below;
+  };
+  records = record {
+    info = written.info.id;
+    tracks = written.tracks.id;
+    attached = subst (λ (list : List Attachment). All (CanAttach r f files p.plan.output) list) (sym written.attachments) (λ k d below. absurd (omega arith));
+    chapters = subst (λ (n : Option Node). IfSome n (λ (n : Node). id_of n ≡ CHAPTERS)) (sym plan.chapters) tt;
+    tags = subst (λ (n : Option Node). IfSome n (λ (n : Node). id_of n ≡ TAGS)) (sym plan.tags) tt;
+  };
+}
+
+-- ---- its files are told
+
+-- the contents of the files of inputs
+contents-are : (f : LiveFiles) (inputs : List Input) → files.contents_of f.content (map (λ (i : Input). i.file) inputs) ≡ map (λ (i : Input). f.content i.file.n) inputs
+contents-are f [] = refl
+contents-are f (i ∷ is) = ap (λ (rest : List (Option (List ℕ))). f.content i.file.n ∷ rest) (contents-are f is)
+
+sources-told : (f : LiveFiles) (inputs : List Input) (contents : List (List ℕ)) → map (λ (i : Input). f.content i.file.n) inputs ≡ map Some contents → map (source_in f) inputs ≡ zip contents (reads_in inputs)
+sources-told f [] [] told = refl
+sources-told f [] (bytes ∷ contents) told = absurd (cc)
+sources-told f (i ∷ is) [] told = absurd (cc)
+sources-told f (i ∷ is) (bytes ∷ contents) told =
+    let here : f.content i.file.n ≡ Some bytes = cc in
+    let behind : map (λ (i : Input). f.content i.file.n) is ≡ map Some contents = cc in
+    ap (λ (o : Option (List ℕ)). (unwrap_or o [], read_in i) ∷ map (source_in f) is) here
+    ∙ ap (λ (rest : List Source). (bytes, read_in i) ∷ rest) (sources-told f is contents behind)
+
+each-told : (f : LiveFiles) (inputs : List Input) (contents : List (List ℕ)) → map (λ (i : Input). f.content i.file.n) inputs ≡ map Some contents → All (λ (i : Input). f.content i.file.n ≡ Some (octets_in f i.file.n)) inputs
+each-told f inputs contents told = All-from_recursion (λ (i : Input). f.content i.file.n ≡ Some (octets_in f i.file.n)) inputs (each inputs contents told)
+  where
+    each : (inputs : List Input) (contents : List (List ℕ)) → map (λ (i : Input). f.content i.file.n) inputs ≡ map Some contents → AllByRecursion (λ (i : Input). f.content i.file.n ≡ Some (octets_in f i.file.n)) inputs
+    each [] contents told = tt
+    each (i ∷ is) [] told = absurd (cc)
+    each (i ∷ is) (bytes ∷ contents) told =
+        let here : f.content i.file.n ≡ Some bytes = cc in
+        let behind : map (λ (i : Input). f.content i.file.n) is ≡ map Some contents = cc in
+        (here ∙ sym (ap (λ (o : Option (List ℕ)). Some (unwrap_or o [])) here), each is contents behind)
+
+told-contents : (f : LiveFiles) (ids : List FileId) (contents : List (List ℕ)) (inputs : List Input) → AreInputsOf f ids inputs → AreTold f ids contents → map (λ (i : Input). f.content i.file.n) inputs ≡ map Some contents
+told-contents f ids contents inputs are told = sym (contents-are f inputs) ∙ ap (files.contents_of f.content) are.of ∙ told
+
+-- the files of the links
+pub plan-told : (f : LiveFiles) (words : MergeWords) (ids : List FileId) (contents : List (List ℕ)) (p : Prepared) → IsPrepared f words ids p → AreTold f ids contents → IsToldPlan f p.plan
+plan-told f words ids contents p prepared told =
+    All-unmap (All (IsToldLink f)) (λ (l : PlannedLane). l.spec.links) p.plan.lanes
+    (prepared.written.told f (each-told f p.inputs contents (told-contents f ids contents p.inputs prepared.inputs told)))
+
+-- ---- the plan is that of the sources
+
+-- A plan is that of the words and of these sources.
+pub record IsMergeOf (f : LiveFiles) (words : MergeWords) (inputs : List Input) (p : MergePlan) (sources : List Source) : Type 0 where
+  pub plan : IsPlanOf words inputs p
+  pub from : map (source_in f) inputs ≡ sources
+  pub many : length words.files ≡ length inputs
+
+pub merge-is : (f : LiveFiles) (words : MergeWords) (ids : List FileId) (contents : List (List ℕ)) (p : Prepared) → IsPrepared f words ids p → AreTold f ids contents → length p.inputs ≡ length words.files → IsMergeOf f words p.inputs p.plan (zip contents (reads_in p.inputs))
+merge-is f words ids contents p prepared told many = record {
+  plan = prepared.plan;
+  from = sources-told f p.inputs contents (told-contents f ids contents p.inputs prepared.inputs told);
+  many = sym many;
+}
+
+reads-in : (f : LiveFiles) (inputs : List Input) → reads_of (map (source_in f) inputs) ≡ reads_in inputs
+reads-in f [] = refl
+reads-in f (i ∷ is) = ap (λ (rest : List InputRead). read_in i ∷ rest) (reads-in f is)
+
+-- what was read of the sources
+pub reads-are : (f : LiveFiles) (words : MergeWords) (inputs : List Input) (p : MergePlan) (sources : List Source) → IsMergeOf f words inputs p sources → reads_of sources ≡ reads_in inputs
+reads-are f words inputs p sources is = ap reads_of (sym is.from) ∙ reads-in f inputs
+
+lanes-for : (f : LiveFiles) (words : MergeWords) (inputs : List Input) (p : MergePlan) (sources : List Source) → IsMergeOf f words inputs p sources → AreLanesFor f sources p.lanes
+lanes-for f words inputs p sources is = record {
+  numbers = is.plan.numbers ∙ ap (inputs_given 0) (sym (reads-are f words inputs p sources is));
+  given = is.plan.lanes f ∙ ap lanes_given is.from;
+}
+
+lanes-over : (f : LiveFiles) (scale : ℕ) (specs : List (List Link)) → lanes_over f scale specs ≡ map (lane_blocks scale) (map (map (given_in f)) specs)
+lanes-over f scale [] = refl
+lanes-over f scale (links ∷ specs) = ap (λ (rest : List (List OutputBlock)). lane_blocks scale (map (given_in f) links) ∷ rest) (lanes-over f scale specs)
+
+blocks-are : (f : LiveFiles) (words : MergeWords) (inputs : List Input) (p : MergePlan) (sources : List Source) → IsMergeOf f words inputs p sources → planned.blocks_of f p ≡ blocks_of words sources
+blocks-are f words inputs p sources is =
+    ap (λ (l : ClusterLimits). merged (lanes_over f l.scale (links_of p.lanes))) is.plan.limits
+    ∙ ap merged (lanes-over f words.scale (links_of p.lanes) ∙ ap (map (lane_blocks words.scale)) (lanes-for f words inputs p sources is).given)
+
+document-is : (f : LiveFiles) (words : MergeWords) (inputs : List Input) (p : MergePlan) (sources : List Source) → IsMergeOf f words inputs p sources → planned.document_in f p ≡ document_in words sources
+document-is f words inputs p sources is =
+    let reads = reads-are f words inputs p sources is in
+    let blocks = planned.blocks_of f p in
+    ap (λ (l : ClusterLimits). document_of l (rules_of p.lanes) (front_with f p.front) p.chapters p.tags blocks) is.plan.limits
+    ∙ ap (λ (rules : List CueRule). document_of (limits_of words) rules (front_with f p.front) p.chapters p.tags blocks) (is.plan.rules ∙ ap rules_given (sym reads))
+    ∙ ap (λ (front : Front). document_of (limits_of words) (rules_given (reads_of sources)) front p.chapters p.tags blocks) (is.plan.front f ∙ ap (front_of words) (sym reads))
+    ∙ ap (λ (n : Option Node). document_of (limits_of words) (rules_given (reads_of sources)) (front_of words (reads_of sources)) n p.tags blocks) is.plan.chapters
+    ∙ ap (λ (n : Option Node). document_of (limits_of words) (rules_given (reads_of sources)) (front_of words (reads_of sources)) None n blocks) is.plan.tags
+    ∙ ap (λ (bs : List OutputBlock). document_of (limits_of words) (rules_given (reads_of sources)) (front_of words (reads_of sources)) None None bs) (blocks-are f words inputs p sources is)
+
+-- ---- the summary is that of the sources
+
+tells-is : (f : LiveFiles) (p : MergePlan) (s : Summary) → IsSummary f p s → Tells (damages_of f p.lanes) (count_to (flat_map (λ (l : PlannedLane). l.inputs) p.lanes)) s
+tells-is f p s is = record { damages = is.damages; more = is.more; past = past-damages f p.lanes }
+
+behind-told : (f : LiveFiles) (words : MergeWords) (inputs : List Input) (p : MergePlan) (sources : List Source) (s : Summary) → IsMergeOf f words inputs p sources → IsSummary f p s
+    → map (λ (w : Written). wrote_blocks_line w.name w.blocks) s.outputs ++ warnings_from s 0 words.files ≡ lines_behind words sources
+behind-told f words inputs p sources s is sums =
+    ap (λ (ws : List Written). map (λ (w : Written). wrote_blocks_line w.name w.blocks) ws ++ warnings_from s 0 words.files) sums.outputs
+    ∙ ap (λ (name : List ℕ). wrote_blocks_line name (counted 0 (length (planned.blocks_of f p))) ∷ warnings_from s 0 words.files) is.plan.output
+    ∙ ap (λ (bs : List OutputBlock). wrote_blocks_line words.output (counted 0 (length bs)) ∷ warnings_from s 0 words.files) (blocks-are f words inputs p sources is)
+    ∙ ap (λ (lines : List (List ℕ)). wrote_blocks_line words.output (counted 0 (length (blocks_of words sources))) ∷ lines)
+        (warnings-told (damages_of f p.lanes) _ s words.files sources (tells-is f p s sums) (λ k. damages-are f sources p.lanes k (lanes-for f words inputs p sources is)) many)
+  where
+    many : length words.files ≡ length sources
+    many = is.many ∙ sym (length-map inputs (source_in f)) ∙ ap length is.from
+
+warned-told : (f : LiveFiles) (words : MergeWords) (inputs : List Input) (p : MergePlan) (sources : List Source) (s : Summary) → IsMergeOf f words inputs p sources → IsSummary f p s → (absent : Bool) → is_warned absent s ≡ (absent || has_damage sources)
+warned-told f words inputs p sources s is sums absent =
+    ap (λ (some : Bool). absent || some)
+    (some-told (damages_of f p.lanes) _ s sources (tells-is f p s sums) (λ k. damages-are f sources p.lanes k (lanes-for f words inputs p sources is)))
+
+-- ---- the verdict
+
+-- a warning of a track that isn't there couldn't be said
+pub merge-begun : (old new : Seen) (why : Stop) (f : LiveFiles) (words : MergeWords) (inputs : List Input) (p : MergePlan) (sources : List Source) → IsMergeOf f words inputs p sources → SaysPart old.lines new.lines (lines_before words (reads_in inputs)) → new.names ≡ old.names → Reaches old new (Err why) (merged_verdict words sources)
+merge-begun old new why f words inputs p sources is part names =
+    let reads = reads-are f words inputs p sources is in
+    record {
+      lines = SaysPart-before old.lines new.lines (lines_before words (reads_of sources)) (lines_behind words sources) (subst (λ (rs : List InputRead). SaysPart old.lines new.lines (lines_before words rs)) (sym reads) part);
+      names = Leaves-same old.names new.names (in_turn (draft_of words.output (document_in words sources) ∷ [])) names;
+    }
+
+-- the output is that of the sources
+draft-is : (f : LiveFiles) (words : MergeWords) (inputs : List Input) (p : MergePlan) (sources : List Source) → IsMergeOf f words inputs p sources → draft_of p.output (planned.document_in f p) ≡ draft_of words.output (document_in words sources)
+draft-is f words inputs p sources is = ap (λ (name : List ℕ). draft_of name (planned.document_in f p)) is.plan.output ∙ ap (draft_of words.output) (document-is f words inputs p sources is)
+
+-- all that isn't there was warned of, and the output couldn't be written
+pub merge-left : (old new : Seen) (why : Stop) (f : LiveFiles) (words : MergeWords) (inputs : List Input) (p : MergePlan) (sources : List Source) → IsMergeOf f words inputs p sources → new.lines ≡ with_lines old.lines (lines_before words (reads_in inputs)) → StandsInTurn old.names new.names (draft_of p.output (planned.document_in f p) ∷ []) → Reaches old new (Err why) (merged_verdict words sources)
+merge-left old new why f words inputs p sources is said stands =
+    let reads = reads-are f words inputs p sources is in
+    record {
+      lines = SaysPart-before old.lines new.lines (lines_before words (reads_of sources)) (lines_behind words sources)
+          (SaysPart-all old.lines new.lines (lines_before words (reads_of sources)) (said ∙ ap (λ (rs : List InputRead). with_lines old.lines (lines_before words rs)) (sym reads)));
+      names = subst (λ (d : Draft). StandsInTurn old.names new.names (d ∷ [])) (draft-is f words inputs p sources is) stands;
+    }
+
+-- the output stands whole
+layout-whole : (old new : Names) (name : List ℕ) (d : Document) → WritesLayout old new name d → new ≡ with_outputs old (outputs_of (draft_of name d ∷ []))
+layout-whole old new name d writes = writes.names ∙ sym (ap (λ (o : Output). with_content old o.name o.content) writes.becomes)
+
+-- and the rest is told
+pub merge-told : (old new : Seen) (mid : ReportLines) (r : Result Status Stop) (f : LiveFiles) (words : MergeWords) (inputs : List Input) (p : MergePlan) (sources : List Source) (s : Summary) (absent : Bool) → IsMergeOf f words inputs p sources → IsSummary f p s
+    → absent ≡ has_absent words (reads_in inputs) → mid ≡ with_lines old.lines (lines_before words (reads_in inputs))
+    → Says mid new.lines (map (λ (w : Written). wrote_blocks_line w.name w.blocks) s.outputs ++ warnings_from s 0 words.files) r → IfOk r (λ (status : Status). status ≡ status_of (is_warned absent s))
+    → WritesLayout old.names new.names p.output (planned.document_in f p) → Reaches old new r (merged_verdict words sources)
+merge-told old new mid r f words inputs p sources s absent is sums missing before says status writes =
+    step r (subst (λ (lines : List (List ℕ)). Says mid new.lines lines r) (behind-told f words inputs p sources s is sums) says) status
+  where
+    reads : reads_in inputs ≡ reads_of sources
+    reads = sym (reads-are f words inputs p sources is)
+
+    first : mid ≡ with_lines old.lines (lines_before words (reads_of sources))
+    first = before ∙ ap (λ (rs : List InputRead). with_lines old.lines (lines_before words rs)) reads
+
+    whole : new.names ≡ with_outputs old.names (outputs_of (draft_of words.output (document_in words sources) ∷ []))
+    whole =
+        layout-whole old.names new.names p.output (planned.document_in f p) writes
+        ∙ ap (λ (d : Draft). with_outputs old.names (outputs_of (d ∷ []))) (draft-is f words inputs p sources is)
+
+    warned : is_warned absent s ≡ (has_absent words (reads_of sources) || has_damage sources)
+    warned = warned-told f words inputs p sources s is sums absent ∙ ap (λ (some : Bool). some || has_damage sources) (missing ∙ ap (has_absent words) reads)
+
+    step : (r : Result Status Stop) → Says mid new.lines (lines_behind words sources) r → IfOk r (λ (status : Status). status ≡ status_of (is_warned absent s)) → Reaches old new r (merged_verdict words sources)
+    step (Ok done) says status = (
+      status ∙ ap status_of warned,
+      record {
+        lines = Says-then old.lines mid new.lines (lines_before words (reads_of sources)) (lines_behind words sources) (Ok done) first says;
+        names = whole;
+      },
+    )
+    step (Err why) says status = record {
+      lines = SaysPart-behind old.lines mid new.lines (lines_before words (reads_of sources)) (lines_behind words sources) first says;
+      names = StandsInTurn-whole old.names new.names (draft_of words.output (document_in words sources) ∷ []) [] whole;
+    }

@@ -1,0 +1,59 @@
+use Rattle.std.proofs.Common.{◌≡◌, ℕ, false, List, [], map, Option, Some, None, Ok, Result, refl, sym, ◌∙◌, ap, subst}
+use Rattle.std.specs.Prelude.{Bool, if◌then◌else◌, Err, unwrap_or}
+use Rattle.mkv_io.specs.Sources.{live_files}
+use Rattle.merge_words.specs.declared.files.FileWords.{FileWords}
+use Rattle.input_files.specs.Inputs as inputs
+use Rattle.input_files.specs.Inputs.{file_names, first_missing}
+use Rattle.merge_plan.specs.Plan.{Source}
+use Rattle.mkv_lines.specs.Seen.{Seen, seen}
+use Rattle.mkv_lines.specs.Verdict.{Reaches, Verdict}
+use Rattle.mkv_merge.specs.Merge.{merge_verdict, sources_of, sources_with, verdict_of}
+use Rattle.mkv_merge.specs.Prepared.{AreTold}
+use Rattle.mkv_merge.specs.Read.{contents_of, unless_missing, writes_input}
+use Rattle.mkv_merge.specs.Refused.{and_then}
+use Rattle.mkv_merge.specs.declared.refusal.Refusal.{Refusal}
+use Rattle.mkv_merge.specs.declared.refusal.Refusal.TheVariants.{OutputIsInput}
+use Rattle.mkv_merge.proofs.MergingLemmas.{all-there}
+use Rattle.mkv_merge.proofs.merging.merge_of.Goals as goal
+
+-- the inputs were opened, merged and closed
+pub returns-clause-verdict : goal.returns-clause-verdict
+returns-clause-verdict g c = λ world told.
+    let words = c.args.words.now in
+    let old = c.args.files.now in
+    let opened = c.open_all.new.files in
+    let merged = c.merge_opened-ended.new.files in
+    let closed = c.close_all.new in
+    let said = c.merge_opened-ended.new.report in
+    let contents = map (λ name. unwrap_or (world name) []) (file_names words.files) in
+    let files : c.as_slice.result.now ≡ words.files = c.as_slice.ensures in
+    let there : first_missing world (file_names words.files) ≡ None =
+        subst (λ (fs : List FileWords). first_missing world (file_names fs) ≡ None) files (c.in-Ok.ensures.missing world told) in
+    let apart : writes_input words ≡ false = sym c.writes_input.ensures ∙ c.if-writes_input.false in
+    let sources : sources_of world words ≡ sources_with words contents =
+        ap (λ (b : Bool). if b then Err OutputIsInput else and_then (contents_of world words.files) (sources_with words)) apart
+        ∙ ap (λ (missing : Option ℕ). and_then (unless_missing missing contents) (sources_with words)) there in
+    let same = c.in-Ok.ensures.same in
+    let ends = c.close_all.ensures in
+    let contents-told : AreTold (live_files g.F.Reads opened) c.as_slice-2.result.now contents =
+        ap (inputs.contents_of (live_files g.F.Reads opened).content) c.as_slice-2.ensures ∙ c.in-Ok.ensures.contents world told
+        ∙ ap (λ (fs : List FileWords). map world (file_names fs)) files ∙ all-there world (file_names words.files) there in
+    let was = seen g.F.Reads g.F.Files.writing_faults g.F.Files.names g.P.Report old c.args.report.now in
+    let read = seen g.F.Reads g.F.Files.writing_faults g.F.Files.names g.P.Report opened c.args.report.now in
+    let wrote = seen g.F.Reads g.F.Files.writing_faults g.F.Files.names g.P.Report merged said in
+    let now = seen g.F.Reads g.F.Files.writing_faults g.F.Files.names g.P.Report c.close_all.new.files said in
+    let cause : g.F.Reads.reading_faults opened ≡ g.F.Reads.reading_faults old = c.in-Ok.ensures.cause in
+    let begun : read ≡ was = λ i. record {
+      counts = record { reading = cause i; writing = same.writing i; report = g.P.Report.faults c.args.report.now };
+      lines = g.P.Report.lines c.args.report.now;
+      names = same.names i;
+    } in
+    let ended : wrote ≡ now = λ i. record {
+      counts = record { reading = sym ends.reading i; writing = sym ends.writing i; report = g.P.Report.faults said };
+      lines = g.P.Report.lines said;
+      names = sym ends.names i;
+    } in
+    subst (λ (s : Seen). Reaches was s c.merge_opened-ended.result (merge_verdict world words)) ended
+    (subst (λ (s : Seen). Reaches s wrote c.merge_opened-ended.result (merge_verdict world words)) begun
+    (subst (λ (v : Verdict). Reaches read wrote c.merge_opened-ended.result v) (ap (verdict_of words) (sym sources))
+    (c.merge_opened-ended.ensures.verdict contents contents-told)))

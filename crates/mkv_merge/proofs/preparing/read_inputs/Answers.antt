@@ -1,0 +1,61 @@
+use Rattle.std.proofs.Common.{◌≡◌, ℕ, ◌+◌, List, [], ◌∷◌, ◌++◌, get_or, sym, ◌∙◌, ap, subst, arith, map}
+use Rattle.std.specs.List.{All}
+use Rattle.std.proofs.lemmas.List.{map-append}
+use Rattle.std.proofs.lemmas.List.Elements.{All-push}
+use Rattle.std.proofs.lemmas.Result.{err_from_is_err_and}
+use Rattle.mkv_io.specs.Faults.{counted}
+use Rattle.mkv_io.specs.Sources.{live_files}
+use Rattle.merge_words.specs.declared.files.FileWords.{FileWords}
+use Rattle.merge_words.specs.Sound.{IsSoundFile}
+use Rattle.merge_inputs.specs.Input.{IsInput, read_in}
+use Rattle.merge_inputs.specs.declared.input.Input.{Input}
+use Rattle.mkv_merge.specs.Prepared.{reads_in}
+use Rattle.mkv_merge.proofs.PreparingLemmas.{GoesOn, files-more, read-at, read-end, refused-at}
+use Rattle.mkv_merge.proofs.preparing.read_inputs.Goals as goal
+
+-- the words of the file are sound
+pub read_one-requires-clause-delays : goal.read_one-requires-clause-delays
+read_one-requires-clause-delays g c =
+    let w = c.index-as_slice-input.result in
+    let is : w ≡ get_or c.args.words.now.files c.loop-input.input w = c.index-as_slice-input.is ∙ ap (λ (files : List FileWords). get_or files c.loop-input.input w) c.as_slice.ensures in
+    subst IsSoundFile (sym is) (c.requires.sound.each c.loop-input.input w (omega arith))
+
+-- what refuses the input refuses all
+pub returns-in_err-read-clause-exact : goal.returns-in_err-read-clause-exact
+returns-in_err-read-clause-exact g c = λ contents told.
+    let p = err_from_is_err_and c.from_residual.result c.from_residual.ensures.1 in
+    let w = c.index-as_slice-input.result in
+    rw (p.1, p.2) (refused-at (live_files g.R.Reads c.args.src.now) c.args.words.now c.args.files.now contents c.loop-input.input c.loop-input.held (reads_in c.loop-input.inputs) w (record { n = 0 }) c.in_err-read.field-0.0
+    c.requires.each c.loop-input-test.true
+    (c.index-as_slice-input.is ∙ ap (λ (files : List FileWords). get_or files c.loop-input.input w) c.as_slice.ensures) told
+    (λ bytes is. c.in_err-read.ensures.exact bytes (ap (λ standing. (g.R.Reads.files standing).content (get_or c.args.files.now c.loop-input.input (record { n = 0 })).n) c.loop-input.invariant.standing ∙ is))
+    (c.loop-input.invariant.goes_on contents told))
+
+-- one more is read
+pub loop-input-preserved : goal.loop-input-preserved
+loop-input-preserved g c = record {
+  good = subst (All (IsInput (live_files g.R.Reads c.args.src.now))) (sym c.in_ok-push.ensures.ok)
+      (All-push (IsInput (live_files g.R.Reads c.args.src.now)) c.loop-input.inputs c.in_ok-read.read c.loop-input.invariant.good
+      (subst (λ standing. IsInput (g.R.Reads.files standing) c.in_ok-read.read) (c.read_one.ensures.standing ∙ c.loop-input.invariant.standing) c.in_ok-read.ensures.input));
+  of = ap (map (λ (i : Input). i.file)) c.in_ok-push.ensures.ok
+      ∙ files-more c.loop-input.inputs c.in_ok-read.read c.args.files.now c.loop-input.input (record { n = 0 }) c.loop-input-test.true c.in_ok-read.ensures.file c.loop-input.invariant.of;
+  goes_on = λ contents told.
+      let w = c.index-as_slice-input.result in
+      let read = c.in_ok-read.read in
+      subst (GoesOn c.args.words.now contents (c.loop-input.input + 1) c.saturating_add-held.result)
+      (sym (ap reads_in c.in_ok-push.ensures.ok ∙ map-append read_in c.loop-input.inputs (read ∷ [])))
+      (subst (λ (held : ℕ). GoesOn c.args.words.now contents (c.loop-input.input + 1) held (reads_in c.loop-input.inputs ++ read_in read ∷ []))
+      (sym (c.saturating_add-held.ensures ∙ ap (counted c.loop-input.held) (c.held.ensures ∙ ap (λ o. o.held) c.deref.ensures)))
+      (read-at (live_files g.R.Reads c.args.src.now) c.args.words.now c.args.files.now contents c.loop-input.input c.loop-input.held (reads_in c.loop-input.inputs) w (record { n = 0 }) (read_in read)
+      c.requires.each c.loop-input-test.true
+      (c.index-as_slice-input.is ∙ ap (λ (files : List FileWords). get_or files c.loop-input.input w) c.as_slice.ensures) told
+      (λ bytes is. c.in_ok-read.ensures.exact bytes (ap (λ standing. (g.R.Reads.files standing).content (get_or c.args.files.now c.loop-input.input (record { n = 0 })).n) c.loop-input.invariant.standing ∙ is))
+      (c.loop-input.invariant.goes_on contents told)));
+  standing = c.read_one.ensures.standing ∙ c.loop-input.invariant.standing;
+  faults = c.in_ok-read.ensures.cause ∙ c.loop-input.invariant.faults;
+}
+
+-- all are read
+pub returns-clause-exact : goal.returns-clause-exact
+returns-clause-exact g c = λ contents told.
+    read-end c.args.words.now contents c.loop-input.input c.loop-input.held (reads_in c.loop-input.inputs) (omega arith) (c.loop-input.invariant.goes_on contents told)

@@ -1,0 +1,125 @@
+-- What `merge` comes to.
+use Rattle.std.specs.Prelude.{ℕ, nat_le, Bool, true, false, ◌||◌, if◌then◌else◌, List, [], ◌∷◌, ◌++◌, length, map, filter, flat_map, Option, Some, None, Result, Ok, Err}
+use Rattle.std.specs.List.{list_any, zip}
+use Rattle.mkv_values.specs.declared.damage.Damage.{Damage}
+use Rattle.mkv_io.specs.Faults.{counted}
+use Rattle.block_format.specs.Events.{damages_of}
+use Rattle.cluster_reader.specs.ToldDamages.{ToldDamages, told_damages}
+use Rattle.output_model.specs.OutputBlock.{OutputBlock}
+use Rattle.output_model.specs.Document.{Document}
+use Rattle.merge_model.specs.Lanes.{lane_blocks}
+use Rattle.merge_model.specs.Merged.{merged}
+use Rattle.cluster_runs.specs.Cued.{document_of}
+use Rattle.cues_seekhead.specs.Draft.{draft_of}
+use Rattle.merge_words.specs.declared.files.FileWords.{FileWords}
+use Rattle.merge_words.specs.declared.output.MergeWords.{MergeWords}
+use Rattle.merge_inputs.specs.Input.{InputRead, events_in}
+use Rattle.merge_plan.specs.declared.refusal.PlanRefusal.{PlanRefusal}
+use Rattle.merge_plan.specs.Plan.{Source, lanes_given, limits_of, rules_given}
+use Rattle.merge_plan.specs.Records.{front_of}
+use Rattle.merge_plan.specs.Refusal.{plan_refusal}
+use Rattle.mkv_lines.specs.Line.{damage_lines, no_track_line, wrote_blocks_line}
+use Rattle.mkv_lines.specs.Verdict.{Verdict, in_turn, refused}
+use Rattle.mkv_lines.specs.declared.status.Status.{Status}
+use Rattle.mkv_lines.specs.declared.status.Status.TheVariants.{Done, Warned}
+use Rattle.mkv_merge.specs.Read.{contents_of, inputs_of, writes_input}
+use Rattle.mkv_merge.specs.Refused.{and_then, line_of}
+use Rattle.mkv_merge.specs.declared.refusal.Refusal.{Refusal}
+use Rattle.mkv_merge.specs.declared.refusal.Refusal.TheVariants.{OutputIsInput, Plan}
+
+-- ---- the sources
+
+abbrev pub unless_refused : Option PlanRefusal → List InputRead → Result (List InputRead) Refusal
+unless_refused None reads = Ok reads
+unless_refused (Some why) reads = Err (Plan why)
+
+-- the sources of a merge whose inputs have these contents, or what refuses them: what is read of each, and what they come to
+abbrev pub sources_with : MergeWords → List (List ℕ) → Result (List Source) Refusal
+sources_with words contents =
+    and_then (inputs_of words contents) (λ reads.
+    and_then (unless_refused (plan_refusal words reads) reads) (λ taken.
+    Ok (zip contents taken)))
+
+-- the sources of a merge in a world of names, or the first thing that refuses it: the output's name, an input that isn't
+-- there, and then what the inputs hold
+abbrev pub sources_of : (List ℕ → Option (List ℕ)) → MergeWords → Result (List Source) Refusal
+sources_of world words = if writes_input words then Err OutputIsInput else and_then (contents_of world words.files) (sources_with words)
+
+-- ---- the output
+
+abbrev pub reads_of : List Source → List InputRead
+reads_of sources = map (λ (s : Source). s.1) sources
+
+-- the merged list of the tracks that are taken
+abbrev pub blocks_of : MergeWords → List Source → List OutputBlock
+blocks_of words sources = merged (map (lane_blocks words.scale) (lanes_given sources))
+
+abbrev pub document_in : MergeWords → List Source → Document
+document_in words sources =
+    document_of (limits_of words) (rules_given (reads_of sources)) (front_of words (reads_of sources)) None None (blocks_of words sources)
+
+-- ---- what is warned of
+
+-- a list has something
+abbrev pub is_some_of : {A : Type 0} → List A → Bool
+is_some_of [] = false
+is_some_of (x ∷ xs) = true
+
+-- the tracks that the words name of a file, each once, and that it hasn't, which has so many
+abbrev pub absent_of : FileWords → ℕ → List ℕ
+absent_of file count = filter (λ n. nat_le count n) file.named
+
+abbrev pub absent : FileWords × InputRead → List ℕ
+absent f = absent_of f.0 f.1.count
+
+abbrev pub absent_lines : FileWords × InputRead → List (List ℕ)
+absent_lines f = map (no_track_line f.0.name) (absent f)
+
+-- the damages of a source of which a track is taken
+abbrev pub damages_in : Source → List Damage
+damages_in s = if is_some_of s.1.taken then damages_of (events_in s.1 s.0) else []
+
+-- a warning for each of those that are told one by one, and the number of the others
+abbrev pub told_lines : List ℕ → ToldDamages → List (List ℕ)
+told_lines name told = damage_lines name told.first told.more
+
+abbrev pub warnings : FileWords × Source → List (List ℕ)
+warnings f = told_lines f.0.name (told_damages (damages_in f.1))
+
+-- a track isn't there
+abbrev pub has_absent : MergeWords → List InputRead → Bool
+has_absent words reads = list_any (λ f. is_some_of (absent f)) (zip words.files reads)
+
+-- something is wrong with a source
+abbrev pub has_damage : List Source → Bool
+has_damage sources = list_any (λ s. is_some_of (damages_in s)) sources
+
+-- ---- the verdict
+
+abbrev pub status_of : Bool → Status
+status_of true = Warned
+status_of false = Done
+
+-- the lines before the output, and behind it
+abbrev pub lines_before : MergeWords → List InputRead → List (List ℕ)
+lines_before words reads = flat_map absent_lines (zip words.files reads)
+
+abbrev pub lines_behind : MergeWords → List Source → List (List ℕ)
+lines_behind words sources =
+    wrote_blocks_line words.output (counted 0 (length (blocks_of words sources))) ∷ flat_map warnings (zip words.files sources)
+
+-- the tracks that aren't there, the output, and what is wrong with the inputs
+abbrev pub merged_verdict : MergeWords → List Source → Verdict
+merged_verdict words sources = record {
+  status = status_of (has_absent words (reads_of sources) || has_damage sources);
+  lines = lines_before words (reads_of sources) ++ lines_behind words sources;
+  outputs = in_turn (draft_of words.output (document_in words sources) ∷ []);
+}
+
+abbrev pub verdict_of : MergeWords → Result (List Source) Refusal → Verdict
+verdict_of words (Ok sources) = merged_verdict words sources
+verdict_of words (Err why) = refused (line_of words why)
+
+-- what `merge` comes to in a world of names
+abbrev pub merge_verdict : (List ℕ → Option (List ℕ)) → MergeWords → Verdict
+merge_verdict world words = verdict_of words (sources_of world words)

@@ -1,0 +1,44 @@
+-- What is known of a merge whose inputs were read and planned.
+use Rattle.std.specs.Prelude.{◌≡◌, ⊤, ℕ, List, map, Some, Result, Ok, Err}
+use Rattle.std.specs.List.{All, zip}
+use Rattle.mkv_values.specs.declared.outside.FileId.{FileId}
+use Rattle.mkv_io.specs.LiveFiles.{LiveFiles}
+use Rattle.input_files.specs.Inputs as files
+use Rattle.merge_words.specs.declared.output.MergeWords.{MergeWords}
+use Rattle.merge_inputs.specs.Input.{InputRead, IsInput, read_in}
+use Rattle.merge_inputs.specs.declared.input.Input.{Input}
+use Rattle.merge_plan.specs.Planned.{CanBeWritten, IsPlanOf}
+use Rattle.mkv_merge.specs.Merge.{sources_with}
+use Rattle.mkv_merge.specs.Read.{inputs_of}
+use Rattle.mkv_merge.specs.declared.preparing.Prepared.{Prepared}
+use Rattle.mkv_merge.specs.declared.refusal.MergeEnd.{MergeEnd}
+use Rattle.mkv_merge.specs.declared.refusal.MergeEnd.TheVariants.{Refused, Stopped}
+use Rattle.mkv_merge.specs.declared.refusal.Refusal.{Refusal}
+
+-- these files have these contents, where they are told
+abbrev pub AreTold : LiveFiles → List FileId → List (List ℕ) → Type 0
+AreTold f list contents = files.contents_of f.content list ≡ map Some contents
+
+-- What was found is what was read, or what refuses it; a call of the outside may fail, and there may be no memory.
+abbrev pub ReadsAs : {A B : Type 0} → (B → A) → Result A Refusal → Result B MergeEnd → Type 0
+ReadsAs shown found (Ok x) = found ≡ Ok (shown x)
+ReadsAs shown found (Err (Refused why)) = found ≡ Err why
+ReadsAs shown found (Err (Stopped stop)) = ⊤
+
+abbrev pub reads_in : List Input → List InputRead
+reads_in inputs = map read_in inputs
+
+-- The inputs are those of these files.
+pub record AreInputsOf (f : LiveFiles) (list : List FileId) (inputs : List Input) : Type 0 where
+  pub good : All (IsInput f) inputs
+  pub of : map (λ (i : Input). i.file) inputs ≡ list
+
+-- The inputs are those of these files, and the plan is theirs.
+pub record IsPrepared (f : LiveFiles) (words : MergeWords) (list : List FileId) (p : Prepared) : Type 0 where
+  pub inputs : AreInputsOf f list p.inputs
+  pub plan : IsPlanOf words p.inputs p.plan
+  pub written : CanBeWritten p.inputs p.plan
+
+-- the sources of a merge that was prepared, where its inputs have these contents
+abbrev pub Prepares : MergeWords → List (List ℕ) → Result Prepared MergeEnd → Type 0
+Prepares words contents result = ReadsAs (λ (p : Prepared). zip contents (reads_in p.inputs)) (sources_with words contents) result

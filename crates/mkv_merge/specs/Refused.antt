@@ -1,0 +1,43 @@
+-- Why nothing is merged, and the line that says so.
+use Rattle.std.specs.Prelude.{ℕ, List, [], Result, Ok, Err}
+use Rattle.std.specs.List.{slice_get}
+use Rattle.std.specs.Option.{option_map_or}
+use Rattle.merge_words.specs.declared.files.FileWords.{FileWords}
+use Rattle.merge_words.specs.declared.output.MergeWords.{MergeWords}
+use Rattle.merge_inputs.specs.declared.input.InputRefusal.{InputRefusal}
+use Rattle.merge_inputs.specs.declared.input.InputRefusal.TheVariants.{Damaged, NotBuilt}
+use Rattle.merge_plan.specs.declared.refusal.PlanRefusal.{PlanRefusal}
+use Rattle.merge_plan.specs.declared.refusal.PlanRefusal.TheVariants.{NoLane, TooManyLanes, NotWebm, HeaderTooLarge}
+use Rattle.mkv_lines.specs.Line.{missing_line, no_lane_line, not_taken_line, not_webm_line, output_is_input_line, refusal_line, too_large_line, too_many_lanes_line}
+use Rattle.mkv_merge.specs.declared.refusal.Refusal.{Refusal}
+use Rattle.mkv_merge.specs.declared.refusal.Refusal.TheVariants.{OutputIsInput, Missing, Input, Plan}
+
+-- ---- one step after the other
+
+-- what a step makes of what the one before it made
+abbrev pub and_then : {A B : Type 0} → Result A Refusal → (A → Result B Refusal) → Result B Refusal
+and_then (Ok x) more = more x
+and_then (Err why) more = Err why
+
+-- ---- the lines
+
+-- the name of an input, by its number
+abbrev pub name_of : MergeWords → ℕ → List ℕ
+name_of words input = option_map_or (λ (file : FileWords). file.name) (slice_get words.files input) []
+
+abbrev pub input_line : List ℕ → InputRefusal → List ℕ
+input_line name (Damaged damage) = refusal_line name damage
+input_line name (NotBuilt id) = not_taken_line name id
+
+abbrev pub plan_line : List ℕ → PlanRefusal → List ℕ
+plan_line output NoLane = no_lane_line
+plan_line output TooManyLanes = too_many_lanes_line
+plan_line output (NotWebm codec) = not_webm_line codec
+plan_line output (HeaderTooLarge id) = too_large_line output id
+
+-- the line of a refusal
+abbrev pub line_of : MergeWords → Refusal → List ℕ
+line_of words OutputIsInput = output_is_input_line words.output
+line_of words (Missing input) = missing_line (name_of words input)
+line_of words (Input input why) = input_line (name_of words input) why
+line_of words (Plan why) = plan_line words.output why

@@ -1,0 +1,14 @@
+-- Which merges are built: whole outputs of Matroska and WebM files, side by side.
+use Rattle.std.specs.Prelude.{Bool, not, ◌&&◌, ◌==◌, length, is_none}
+use Rattle.std.specs.List.{list_all}
+use Rattle.merge_words.specs.declared.files.FileWords.{FileWords}
+use Rattle.merge_words.specs.declared.output.MergeWords.{MergeWords}
+
+-- a file stands beside the others, and its times are its own
+abbrev pub is_plain : FileWords → Bool
+is_plain file = not file.appended && length file.times == 0
+
+-- no parts, no chapters of a text file, no identifiers, and plain files
+abbrev pub takes : MergeWords → Bool
+takes words =
+    (is_none words.split && is_none words.chapters) && (length words.uuids == 0 && not words.link) && list_all is_plain words.files

@@ -1,0 +1,14 @@
+#![tactic(auto)]
+
+//! The command `merge`, which writes one file of several: the tracks that the words take of each, as they say them.
+
+mod merging;
+mod names;
+mod preparing;
+mod refusal;
+mod taking;
+mod telling;
+mod writing;
+
+pub use merging::merge_of;
+pub use taking::takes;

@@ -1,0 +1,105 @@
+//! What stands before the blocks of the inputs, and what they come to.
+
+ghost use Rattle.std.specs.Prelude.{◌≡◌, List, ℕ, length, IfOk};
+ghost use Rattle.std.specs.List.{All};
+ghost use Rattle.mkv_io.specs.Faults.{HasCause};
+ghost use Rattle.mkv_io.specs.Sources.{IfTold, IsLive, live_files};
+ghost use Rattle.mkv_outputs.specs.Sinks.{AreLive};
+ghost use Rattle.merge_words.specs.Sound.{IsSoundFile, IsSoundMerge};
+ghost use Rattle.merge_inputs.specs.Input.{IsInput, input_of, read_in};
+ghost use Rattle.mkv_merge.specs.Ends.{is_files_fault};
+ghost use Rattle.mkv_merge.specs.Prepared.{AreInputsOf, AreTold, IsPrepared, Prepares, ReadsAs, reads_in};
+ghost use Rattle.mkv_merge.specs.Read.{inputs_of, numbered};
+
+use crate::refusal::{MergeEnd, Refusal};
+use merge_inputs::{Input, InputEnd, read_input};
+use merge_plan::{PlanEnd, plan_of};
+use merge_words::{FileWords, MergeWords};
+use mkv_io::Reads;
+use mkv_values::{FileId, List, ReadEnd};
+use remux_plan::MergePlan;
+use std::alloc::Global;
+
+/// What a merge is made of.
+#[derive(Drop)]
+pub struct Prepared {
+    /// The inputs, in the order of the words.
+    pub inputs: List<Input>,
+    pub plan: MergePlan,
+}
+
+/// What is read of one input, by its number.
+fn read_one<R: Reads>(
+    alloc: Global,
+    words: &FileWords,
+    webm: bool,
+    input: usize,
+    held: u64,
+    src: &mut R,
+    file: FileId,
+) -> Result<Input, MergeEnd>
+    requires live { IsLive R.Reads src.old file }
+    requires delays { IsSoundFile words.now }
+    ensures exact { IfTold R.Reads src.old file (λ bytes. ReadsAs read_in (numbered input (input_of words.now webm held bytes)) result) }
+    ensures input { IfOk result (IsInput (live_files R.Reads src.new)) }
+    ensures file { IfOk result (λ read. read.file ≡ file) }
+    ensures standing { R.standing src.new ≡ R.standing src.old }
+    ensures cause { HasCause is_files_fault (R.reading_faults src.old) (R.reading_faults src.new) result }
+{
+    match read_input(alloc, words, webm, held, src, file) {
+        Ok(read) => Ok(read),
+        Err(InputEnd::Refused(why)) => Err(MergeEnd::Refused(Refusal::Input { input, why })),
+        Err(InputEnd::ReadFault) => Err(MergeEnd::Stopped(ReadEnd::ReadFault)),
+        Err(InputEnd::Memory) => Err(MergeEnd::Stopped(ReadEnd::Memory)),
+    }
+}
+
+/// What is read of the inputs before their blocks, in the order of the words.
+fn read_inputs<R: Reads>(
+    alloc: Global,
+    words: &MergeWords,
+    src: &mut R,
+    files: &[FileId],
+) -> Result<List<Input>, MergeEnd>
+    requires sound { IsSoundMerge words.now }
+    requires live { AreLive (live_files R.Reads src.old).live files.now }
+    requires each { length files.now ≡ length words.now.files }
+    ensures exact { (contents : List (List ℕ)) → AreTold (live_files R.Reads src.old) files.now contents
+        → ReadsAs reads_in (inputs_of words.now contents) result }
+    ensures inputs { IfOk result (AreInputsOf (live_files R.Reads src.new) files.now) }
+    ensures standing { R.standing src.new ≡ R.standing src.old }
+    ensures cause { HasCause is_files_fault (R.reading_faults src.old) (R.reading_faults src.new) result }
+{
+    let mut inputs = List::new(alloc);
+    let mut held: u64 = 0;
+    for (input, file) in files.iter().enumerate() {
+        let file_words = &words.files.as_slice()[input];
+        let read = read_one(alloc, file_words, words.webm, input, held, src, *file)?;
+        held = held.saturating_add(read.outline.held());
+        inputs.push(read)?;
+    }
+    Ok(inputs)
+}
+
+/// What these words make of these live files, or what refuses them.
+pub fn prepare<R: Reads>(
+    alloc: Global,
+    words: &MergeWords,
+    src: &mut R,
+    files: &[FileId],
+) -> Result<Prepared, MergeEnd>
+    requires sound { IsSoundMerge words.now }
+    requires live { AreLive (live_files R.Reads src.old).live files.now }
+    requires each { length files.now ≡ length words.now.files }
+    ensures exact { (contents : List (List ℕ)) → AreTold (live_files R.Reads src.old) files.now contents → Prepares words.now contents result }
+    ensures prepared { IfOk result (IsPrepared (live_files R.Reads src.new) words.now files.now) }
+    ensures standing { R.standing src.new ≡ R.standing src.old }
+    ensures cause { HasCause is_files_fault (R.reading_faults src.old) (R.reading_faults src.new) result }
+{
+    let inputs = read_inputs(alloc, words, src, files)?;
+    match plan_of(alloc, words, inputs.as_slice()) {
+        Ok(plan) => Ok(Prepared { inputs, plan }),
+        Err(PlanEnd::Refused(why)) => Err(MergeEnd::Refused(Refusal::Plan(why))),
+        Err(PlanEnd::Memory) => Err(MergeEnd::Stopped(ReadEnd::Memory)),
+    }
+}

@@ -1,0 +1,38 @@
+//! Why nothing is merged.
+
+ghost use Rattle.std.specs.Prelude.{◌≡◌};
+ghost use Rattle.mkv_values.specs.declared.outside.ReadEnd.TheVariants as read_end;
+ghost use Rattle.mkv_merge.specs.declared.refusal.MergeEnd.TheVariants as merge_end;
+
+use merge_inputs::InputRefusal;
+use merge_plan::PlanRefusal;
+use mkv_values::ReadEnd;
+use std::alloc::AllocError;
+
+/// Why nothing is merged. Inputs count from 0, in the order of the words.
+#[derive(Debug, Drop)]
+pub enum Refusal {
+    /// The output has the name of an input, or of the file beside an input in which an edit is kept.
+    OutputIsInput,
+    /// There is no file of this input's name.
+    Missing { input: usize },
+    /// This input isn't taken.
+    Input { input: usize, why: InputRefusal },
+    /// The inputs make no output.
+    Plan(PlanRefusal),
+}
+
+/// Why a merge ends before its output is begun: it is refused, or an input couldn't be read, or there is no memory.
+#[derive(Debug, Drop)]
+pub enum MergeEnd {
+    Refused(Refusal),
+    Stopped(ReadEnd),
+}
+
+impl From<AllocError> for MergeEnd {
+    ghost from_gives = { λ _ end. end ≡ merge_end.Stopped read_end.Memory };
+
+    fn from(_error: AllocError) -> MergeEnd {
+        MergeEnd::Stopped(ReadEnd::Memory)
+    }
+}

@@ -1,0 +1,205 @@
+//! What is told of a merge.
+
+ghost use Rattle.std.specs.Prelude.{◌≡◌, map, length, IfOk};
+ghost use Rattle.mkv_lines.specs.Line.{more_damages_line, no_track_line, text_of, warning_line};
+ghost use Rattle.mkv_lines.specs.Ordinary.{IsOrdinary};
+ghost use Rattle.mkv_lines.specs.Said.{HasSayCause, Says};
+ghost use Rattle.mkv_lines.specs.Verdict.{SaysVerdict, refused};
+ghost use Rattle.remux_plan.specs.declared.summary.InputDamage.{InputDamage as DamageSeen};
+ghost use Rattle.remux_plan.specs.declared.summary.MoreDamage.{MoreDamage as MoreSeen};
+ghost use Rattle.mkv_merge.specs.Merge.{absent_of, has_absent, is_some_of, lines_before};
+ghost use Rattle.mkv_merge.specs.Prepared.{reads_in};
+ghost use Rattle.mkv_merge.specs.Refused.{input_line, line_of, name_of, plan_line};
+ghost use Rattle.mkv_merge.specs.Told.{damages_at, more_at, warnings_from};
+
+use crate::refusal::Refusal;
+use merge_inputs::{Input, InputRefusal};
+use merge_plan::PlanRefusal;
+use merge_words::{FileWords, MergeWords};
+use mkv_io::Report;
+use mkv_lines::{Line, Status, Stop, say};
+use remux_plan::{InputDamage, MoreDamage, Summary};
+use std::alloc::Global;
+
+/// The name of an input, by its number.
+fn name_of(words: &MergeWords, input: usize) -> &str
+    ensures { result.now ≡ name_of words.now input }
+{
+    match words.files.get(input) {
+        Some(file) => file.name.as_str(),
+        None => "",
+    }
+}
+
+fn input_line<'a>(name: &'a str, why: &InputRefusal) -> Line<'a>
+    ensures { text_of result ≡ input_line name.now why.now }
+{
+    match *why {
+        InputRefusal::Damaged(damage) => Line::Refused { name, damage },
+        InputRefusal::NotBuilt { id } => Line::NotTaken { name, id },
+    }
+}
+
+fn plan_line<'a>(name: &'a str, why: &'a PlanRefusal) -> Line<'a>
+    ensures { text_of result ≡ plan_line name.now why.now }
+{
+    match why {
+        PlanRefusal::NoLane => Line::NoLane,
+        PlanRefusal::TooManyLanes => Line::TooManyLanes,
+        PlanRefusal::NotWebm { codec } => Line::NotWebm {
+            codec: codec.as_str(),
+        },
+        PlanRefusal::HeaderTooLarge { id } => Line::TooLarge { name, id: *id },
+    }
+}
+
+/// The line of a refusal.
+fn line_of<'a>(words: &'a MergeWords, why: &'a Refusal) -> Line<'a>
+    ensures { text_of result ≡ line_of words.now why.now }
+{
+    let output = words.output.as_str();
+    match why {
+        Refusal::OutputIsInput => Line::OutputIsInput { name: output },
+        Refusal::Missing { input } => Line::Missing {
+            name: name_of(words, *input),
+        },
+        Refusal::Input { input, why } => input_line(name_of(words, *input), why),
+        Refusal::Plan(why) => plan_line(output, why),
+    }
+}
+
+/// Nothing is merged.
+pub fn refuse<P: Report>(
+    alloc: Global,
+    words: &MergeWords,
+    why: &Refusal,
+    report: &mut P,
+) -> Result<Status, Stop>
+    ensures verdict { SaysVerdict (P.lines report.old) (P.lines report.new) result (refused (line_of words.now why.now)) }
+    ensures ordinary { IfOk result IsOrdinary }
+    ensures cause { HasSayCause (P.faults report.old) (P.faults report.new) result }
+{
+    say(alloc, report, &line_of(words, why))?;
+    Ok(Status::Refused)
+}
+
+/// Warns of the tracks that the words name of a file with so many tracks, and that it hasn't.
+fn say_absent_of<P: Report>(
+    alloc: Global,
+    file: &FileWords,
+    count: usize,
+    report: &mut P,
+) -> Result<(), Stop>
+    ensures said { Says (P.lines report.old) (P.lines report.new) (map (no_track_line file.now.name) (absent_of file.now count)) result }
+    ensures cause { HasSayCause (P.faults report.old) (P.faults report.new) result }
+{
+    let name = file.name.as_str();
+    for number in file.named.as_slice() {
+        let number = *number;
+        if number < count as u64 {
+            continue;
+        }
+        say(alloc, report, &Line::NoTrack { name, number })?;
+    }
+    Ok(())
+}
+
+/// The same of all inputs, in the order of the words.
+pub fn say_absent<P: Report>(
+    alloc: Global,
+    words: &MergeWords,
+    inputs: &[Input],
+    report: &mut P,
+) -> Result<(), Stop>
+    requires { length inputs.now ≡ length words.now.files }
+    ensures said { Says (P.lines report.old) (P.lines report.new) (lines_before words.now (reads_in inputs.now)) result }
+    ensures cause { HasSayCause (P.faults report.old) (P.faults report.new) result }
+{
+    for (k, input) in inputs.iter().enumerate() {
+        say_absent_of(alloc, &words.files.as_slice()[k], input.count, report)?;
+    }
+    Ok(())
+}
+
+/// Whether the words name a track that a file with so many tracks hasn't.
+fn has_absent_of(file: &FileWords, count: usize) -> bool
+    ensures { result ≡ is_some_of (absent_of file.now count) }
+{
+    file.named
+        .as_slice()
+        .iter()
+        .any(|number| *number >= count as u64)
+}
+
+/// The same of some input.
+pub fn has_absent(words: &MergeWords, inputs: &[Input]) -> bool
+    requires { length inputs.now ≡ length words.now.files }
+    ensures { result ≡ has_absent words.now (reads_in inputs.now) }
+{
+    for (k, input) in inputs.iter().enumerate() {
+        if has_absent_of(&words.files.as_slice()[k], input.count) {
+            return true;
+        }
+    }
+    false
+}
+
+/// Warns of the damages of an input that are told one by one.
+fn warn_of<P: Report>(
+    alloc: Global,
+    name: &str,
+    input: usize,
+    damages: &[InputDamage],
+    report: &mut P,
+) -> Result<(), Stop>
+    ensures said { Says (P.lines report.old) (P.lines report.new) (map (λ (d : DamageSeen). warning_line name.now d.damage) (damages_at input damages.now)) result }
+    ensures cause { HasSayCause (P.faults report.old) (P.faults report.new) result }
+{
+    for each in damages {
+        if each.input != input {
+            continue;
+        }
+        let damage = each.damage;
+        say(alloc, report, &Line::Warned { name, damage })?;
+    }
+    Ok(())
+}
+
+/// Tells how many others an input has.
+fn warn_more<P: Report>(
+    alloc: Global,
+    name: &str,
+    input: usize,
+    more: &[MoreDamage],
+    report: &mut P,
+) -> Result<(), Stop>
+    ensures said { Says (P.lines report.old) (P.lines report.new) (map (λ (m : MoreSeen). more_damages_line name.now m.count) (more_at input more.now)) result }
+    ensures cause { HasSayCause (P.faults report.old) (P.faults report.new) result }
+{
+    for each in more {
+        if each.input != input {
+            continue;
+        }
+        let more = each.count;
+        say(alloc, report, &Line::MoreDamages { name, more })?;
+    }
+    Ok(())
+}
+
+/// Warns of what is wrong with the inputs, in the order of the words.
+pub fn warn<P: Report>(
+    alloc: Global,
+    words: &MergeWords,
+    summary: &Summary,
+    report: &mut P,
+) -> Result<(), Stop>
+    ensures said { Says (P.lines report.old) (P.lines report.new) (warnings_from summary.now 0 words.now.files) result }
+    ensures cause { HasSayCause (P.faults report.old) (P.faults report.new) result }
+{
+    for (input, file) in words.files.as_slice().iter().enumerate() {
+        let name = file.name.as_str();
+        warn_of(alloc, name, input, summary.damages.as_slice(), report)?;
+        warn_more(alloc, name, input, summary.more.as_slice(), report)?;
+    }
+    Ok(())
+}

@@ -1,0 +1,111 @@
+//! What was prepared is written, and told of.
+
+ghost use Rattle.std.specs.Prelude.{◌≡◌, false, ℕ, List, [], ◌∷◌, ◌++◌, map, IfOk};
+ghost use Rattle.std.specs.List.{zip};
+ghost use Rattle.mkv_io.specs.Sources.{live_files};
+ghost use Rattle.mkv_io.specs.Writing.{KeepsOthers};
+ghost use Rattle.merge_words.specs.Sound.{IsSoundMerge};
+ghost use Rattle.input_files.specs.Inputs.{AreInputs, file_names};
+ghost use Rattle.mkv_lines.specs.Faults.{HasStopCause};
+ghost use Rattle.mkv_lines.specs.Line.{wrote_blocks_line};
+ghost use Rattle.mkv_lines.specs.Ordinary.{IsOrdinary};
+ghost use Rattle.mkv_lines.specs.Said.{HasSayCause, Says};
+ghost use Rattle.mkv_lines.specs.Seen.{seen};
+ghost use Rattle.mkv_lines.specs.Verdict.{Reaches};
+ghost use Rattle.remux_plan.specs.declared.summary.Written.{Written as WrittenSeen};
+ghost use Rattle.mkv_merge.specs.Ends.{stop_of};
+ghost use Rattle.mkv_merge.specs.Merge.{merged_verdict, status_of};
+ghost use Rattle.mkv_merge.specs.Prepared.{AreTold, IsPrepared, reads_in};
+ghost use Rattle.mkv_merge.specs.Read.{writes_input};
+ghost use Rattle.mkv_merge.specs.Told.{is_warned, warnings_from};
+
+use crate::preparing::Prepared;
+use crate::telling::{has_absent, say_absent, warn};
+use merge_words::MergeWords;
+use mkv_io::{Files, Report};
+use mkv_jobs::RemuxEnd;
+use mkv_lines::{Line, Status, Stop, say};
+use mkv_values::FileId;
+use remux_plan::{Summary, Written};
+use remuxer::remux;
+use std::alloc::Global;
+
+/// Why a command stops whose merge ended early.
+fn stop_of(end: RemuxEnd) -> Stop
+    ensures { result ≡ stop_of end }
+{
+    match end {
+        RemuxEnd::ReadFault | RemuxEnd::WriteFault => Stop::Files,
+        RemuxEnd::Memory => Stop::Memory,
+    }
+}
+
+/// Tells of the outputs, which stand whole.
+fn say_wrote<P: Report>(alloc: Global, outputs: &[Written], report: &mut P) -> Result<(), Stop>
+    ensures said { Says (P.lines report.old) (P.lines report.new) (map (λ (w : WrittenSeen). wrote_blocks_line w.name w.blocks) outputs.now) result }
+    ensures cause { HasSayCause (P.faults report.old) (P.faults report.new) result }
+{
+    for output in outputs {
+        let (name, blocks) = (output.name.as_str(), output.blocks);
+        say(alloc, report, &Line::WroteBlocks { name, blocks })?;
+    }
+    Ok(())
+}
+
+/// Tells of the outputs, and warns of what is wrong with the inputs.
+fn tell<P: Report>(
+    alloc: Global,
+    words: &MergeWords,
+    absent: bool,
+    summary: &Summary,
+    report: &mut P,
+) -> Result<Status, Stop>
+    ensures said { Says (P.lines report.old) (P.lines report.new)
+        (map (λ (w : WrittenSeen). wrote_blocks_line w.name w.blocks) summary.now.outputs ++ warnings_from summary.now 0 words.now.files) result }
+    ensures status { IfOk result (λ status. status ≡ status_of (is_warned absent summary.now)) }
+    ensures ordinary { IfOk result IsOrdinary }
+    ensures cause { HasSayCause (P.faults report.old) (P.faults report.new) result }
+{
+    say_wrote(alloc, summary.outputs.as_slice(), report)?;
+    warn(alloc, words, summary, report)?;
+    if absent || !summary.damages.is_empty() {
+        Ok(Status::Warned)
+    } else {
+        Ok(Status::Done)
+    }
+}
+
+/// Writes what was prepared, and tells of it.
+pub fn write<F: Files, P: Report>(
+    alloc: Global,
+    words: &MergeWords,
+    prepared: Prepared,
+    ids: &[FileId],
+    files: &mut F,
+    report: &mut P,
+) -> Result<Status, Stop>
+    requires sound { IsSoundMerge words.now }
+    requires inputs { AreInputs F.Reads F.Files.own (file_names words.now.files) files.old ids.now }
+    requires apart { writes_input words.now ≡ false }
+    requires prepared { IsPrepared (live_files F.Reads files.old) words.now ids.now prepared }
+    ensures verdict { (contents : List (List ℕ)) → AreTold (live_files F.Reads files.old) ids.now contents → Reaches
+        (seen F.Reads F.writing_faults F.names P.Report files.old report.old)
+        (seen F.Reads F.writing_faults F.names P.Report files.new report.new)
+        result (merged_verdict words.now (zip contents (reads_in prepared.inputs))) }
+    ensures kept { KeepsOthers F.Reads F.Files.own (words.now.output ∷ []) files.old files.new }
+    ensures ordinary { IfOk result IsOrdinary }
+    ensures cause { HasStopCause
+        (seen F.Reads F.writing_faults F.names P.Report files.old report.old).counts
+        (seen F.Reads F.writing_faults F.names P.Report files.new report.new).counts result }
+{
+    let Prepared { inputs, plan } = prepared;
+    let _ids = ids;
+    say_absent(alloc, words, inputs.as_slice(), report)?;
+    let absent = has_absent(words, inputs.as_slice());
+    let summary = match remux(alloc, plan, files) {
+        Ok(summary) => summary,
+        Err(end) => return Err(stop_of(end)),
+    };
+    tell(alloc, words, absent, &summary, report)
+}
+
