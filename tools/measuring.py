@@ -1,0 +1,45 @@
+"""What a program takes: its processor time, its memory and its calls of the system."""
+import collections
+import os
+import shutil
+import subprocess
+
+
+def measure(words):
+    """Processor seconds, user and system, and the most memory in KiB: the least of three runs."""
+    best = None
+    for _ in range(3):
+        pid = os.fork()
+        if pid == 0:
+            with open(os.devnull, "w") as null:
+                os.dup2(null.fileno(), 1)
+            os.execvp(words[0], words)
+        _, status, used = os.wait4(pid, 0)
+        if status:
+            return None
+        now = (used.ru_utime + used.ru_stime, used.ru_utime, used.ru_stime, used.ru_maxrss)
+        best = min(best, now) if best else now
+    return best
+
+
+def calls(words):
+    """The calls of the system, by their names, the most frequent first."""
+    if not shutil.which("strace"):
+        return ""
+    run = subprocess.run(["strace", "-f", "-c", "-o", "/dev/stdout", *words], capture_output=True, text=True)
+    counts = collections.Counter()
+    for line in run.stdout.splitlines():
+        parts = line.split()
+        if len(parts) >= 5 and parts[3].isdigit() and parts[-1] != "total":
+            counts[parts[-1]] += int(parts[3])
+    return ", ".join(f"{n} {name}" for name, n in counts.most_common(4))
+
+
+def show(title, words, out):
+    """A line of what these words take, and the output removed."""
+    used = measure(words)
+    if used is None:
+        print(f"{title}: failed")
+        return
+    print(f"{title}: {used[0]:.2f} s ({used[1]:.2f} user, {used[2]:.2f} system), {used[3] / 1024:.1f} MiB; {calls(words)}")
+    os.remove(out)
