@@ -46,7 +46,7 @@ pub is_read-behind : (output : List ℕ) (file : FileWords) (name front rest : L
 is_read-behind output file name front rest none named fronted begins is empty =
     ap (λ (o : List ℕ). is_read o file) split
     ∙ ap (λ (one : Bool). one || bytes_eq (sidecar_of file.name) (file.name ++ rest))
-        (ap (λ (n : List ℕ). bytes_eq n (file.name ++ rest)) (sym (append-nil file.name)) ∙ behind-front file.name [] rest ∙ none-behind rest ∙ sym empty)
+    (ap (λ (n : List ℕ). bytes_eq n (file.name ++ rest)) (sym (append-nil file.name)) ∙ behind-front file.name [] rest ∙ none-behind rest ∙ sym empty)
     ∙ ap (λ (two : Bool). none || two) (behind-front file.name (sidecar_of []) rest ∙ either-first (sidecar_of []) rest)
   where
     split : output ≡ file.name ++ rest

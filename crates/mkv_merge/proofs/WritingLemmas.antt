@@ -102,28 +102,28 @@ plan-good {S = S} r f files words ids p sound opened apart prepared =
     let lanes : List PlannedLane = p.plan.lanes in
     let many : length p.inputs ≡ length words.files = many-inputs r f files words ids p.inputs opened prepared.inputs.of in
     let held : All (λ (file : FileId). AreOthers (f.holder files file.n) (p.plan.output ∷ [])) (map (λ (i : Input). i.file) p.inputs) =
-        subst (λ (name : List ℕ). All (λ (file : FileId). AreOthers (f.holder files file.n) (name ∷ [])) (map (λ (i : Input). i.file) p.inputs)) (sym plan.output)
-        (subst (All (λ (file : FileId). AreOthers (f.holder files file.n) (words.output ∷ []))) (sym prepared.inputs.of) (others-held (f.holder files) ids words opened.under apart)) in
+    subst (λ (name : List ℕ). All (λ (file : FileId). AreOthers (f.holder files file.n) (name ∷ [])) (map (λ (i : Input). i.file) p.inputs)) (sym plan.output)
+    (subst (All (λ (file : FileId). AreOthers (f.holder files file.n) (words.output ∷ []))) (sym prepared.inputs.of) (others-held (f.holder files) ids words opened.under apart)) in
     let others : All (λ (i : Input). AreOthers (f.holder files i.file.n) (p.plan.output ∷ [])) p.inputs = All-unmap (λ (file : FileId). AreOthers (f.holder files file.n) (p.plan.output ∷ [])) (λ (i : Input). i.file) p.inputs held in
     record {
-  scale = subst (λ (l : ClusterLimits). 1 ≤ l.scale) (sym plan.limits) (omega (arith, sound.scale.least));
-  few = written.few;
-  lanes = λ k d below. record {
-    few = omega (arith, (written.one k d below).0);
-    small = All-unmap (All IsSmallLink) (λ (l : PlannedLane). l.spec.links) lanes written.small k d below;
-    live = All-unmap (All (IsOpenLink (live_files r files))) (λ (l : PlannedLane). l.spec.links) lanes (written.is_open (live_files r files) prepared.inputs.good) k d below;
-    apart = All-unmap (All (IsApartLink (f.holder files) (p.plan.output ∷ []))) (λ (l : PlannedLane). l.spec.links) lanes (written.apart (f.holder files) (p.plan.output ∷ []) others) k d below;
-    numbered = (written.one k d below).1 ∙ sym (written.one k d below).0;
-    inputs = All-unmap (All (λ (i : ℕ). i < MOST_INPUTS)) (λ (l : PlannedLane). l.inputs) lanes (subst (All (All (λ (i : ℕ). i < MOST_INPUTS))) (sym plan.numbers) (numbers-small 0 (map read_in p.inputs) (omega (arith, length-map p.inputs read_in, many, sound.files.most)))) k d below;
-  };
-  records = record {
-    info = written.info.id;
-    tracks = written.tracks.id;
-    attached = subst (λ (list : List Attachment). All (CanAttach r f files p.plan.output) list) (sym written.attachments) (λ k d below. absurd (omega arith));
-    chapters = subst (λ (n : Option Node). IfSome n (λ (n : Node). id_of n ≡ CHAPTERS)) (sym plan.chapters) tt;
-    tags = subst (λ (n : Option Node). IfSome n (λ (n : Node). id_of n ≡ TAGS)) (sym plan.tags) tt;
-  };
-}
+      scale = subst (λ (l : ClusterLimits). 1 ≤ l.scale) (sym plan.limits) (omega (arith, sound.scale.least));
+      few = written.few;
+      lanes = λ k d below. record {
+        few = omega (arith, (written.one k d below).0);
+        small = All-unmap (All IsSmallLink) (λ (l : PlannedLane). l.spec.links) lanes written.small k d below;
+        live = All-unmap (All (IsOpenLink (live_files r files))) (λ (l : PlannedLane). l.spec.links) lanes (written.is_open (live_files r files) prepared.inputs.good) k d below;
+        apart = All-unmap (All (IsApartLink (f.holder files) (p.plan.output ∷ []))) (λ (l : PlannedLane). l.spec.links) lanes (written.apart (f.holder files) (p.plan.output ∷ []) others) k d below;
+        numbered = (written.one k d below).1 ∙ sym (written.one k d below).0;
+        inputs = All-unmap (All (λ (i : ℕ). i < MOST_INPUTS)) (λ (l : PlannedLane). l.inputs) lanes (subst (All (All (λ (i : ℕ). i < MOST_INPUTS))) (sym plan.numbers) (numbers-small 0 (map read_in p.inputs) (omega (arith, length-map p.inputs read_in, many, sound.files.most)))) k d below;
+      };
+      records = record {
+        info = written.info.id;
+        tracks = written.tracks.id;
+        attached = subst (λ (list : List Attachment). All (CanAttach r f files p.plan.output) list) (sym written.attachments) (λ k d below. absurd (omega arith));
+        chapters = subst (λ (n : Option Node). IfSome n (λ (n : Node). id_of n ≡ CHAPTERS)) (sym plan.chapters) tt;
+        tags = subst (λ (n : Option Node). IfSome n (λ (n : Node). id_of n ≡ TAGS)) (sym plan.tags) tt;
+      };
+    }
 
 -- ---- its files are told
 
@@ -223,7 +223,7 @@ behind-told f words inputs p sources s is sums =
     ∙ ap (λ (name : List ℕ). wrote_blocks_line name (counted 0 (length (planned.blocks_of f p))) ∷ warnings_from s 0 words.files) is.plan.output
     ∙ ap (λ (bs : List OutputBlock). wrote_blocks_line words.output (counted 0 (length bs)) ∷ warnings_from s 0 words.files) (blocks-are f words inputs p sources is)
     ∙ ap (λ (lines : List (List ℕ)). wrote_blocks_line words.output (counted 0 (length (blocks_of words sources))) ∷ lines)
-        (warnings-told (damages_of f p.lanes) _ s words.files sources (tells-is f p s sums) (λ k. damages-are f sources p.lanes k (lanes-for f words inputs p sources is)) many)
+    (warnings-told (damages_of f p.lanes) _ s words.files sources (tells-is f p s sums) (λ k. damages-are f sources p.lanes k (lanes-for f words inputs p sources is)) many)
   where
     many : length words.files ≡ length sources
     many = is.many ∙ sym (length-map inputs (source_in f)) ∙ ap length is.from

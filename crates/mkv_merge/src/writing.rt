@@ -108,4 +108,3 @@ pub fn write<F: Files, P: Report>(
     };
     tell(alloc, words, absent, &summary, report)
 }
-

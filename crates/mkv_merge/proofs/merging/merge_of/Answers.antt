@@ -28,16 +28,16 @@ returns-clause-verdict g c = λ world told.
     let contents = map (λ name. unwrap_or (world name) []) (file_names words.files) in
     let files : c.as_slice.result.now ≡ words.files = c.as_slice.ensures in
     let there : first_missing world (file_names words.files) ≡ None =
-        subst (λ (fs : List FileWords). first_missing world (file_names fs) ≡ None) files (c.in-Ok.ensures.missing world told) in
+    subst (λ (fs : List FileWords). first_missing world (file_names fs) ≡ None) files (c.in-Ok.ensures.missing world told) in
     let apart : writes_input words ≡ false = sym c.writes_input.ensures ∙ c.if-writes_input.false in
     let sources : sources_of world words ≡ sources_with words contents =
-        ap (λ (b : Bool). if b then Err OutputIsInput else and_then (contents_of world words.files) (sources_with words)) apart
-        ∙ ap (λ (missing : Option ℕ). and_then (unless_missing missing contents) (sources_with words)) there in
+    ap (λ (b : Bool). if b then Err OutputIsInput else and_then (contents_of world words.files) (sources_with words)) apart
+    ∙ ap (λ (missing : Option ℕ). and_then (unless_missing missing contents) (sources_with words)) there in
     let same = c.in-Ok.ensures.same in
     let ends = c.close_all.ensures in
     let contents-told : AreTold (live_files g.F.Reads opened) c.as_slice-2.result.now contents =
-        ap (inputs.contents_of (live_files g.F.Reads opened).content) c.as_slice-2.ensures ∙ c.in-Ok.ensures.contents world told
-        ∙ ap (λ (fs : List FileWords). map world (file_names fs)) files ∙ all-there world (file_names words.files) there in
+    ap (inputs.contents_of (live_files g.F.Reads opened).content) c.as_slice-2.ensures ∙ c.in-Ok.ensures.contents world told
+    ∙ ap (λ (fs : List FileWords). map world (file_names fs)) files ∙ all-there world (file_names words.files) there in
     let was = seen g.F.Reads g.F.Files.writing_faults g.F.Files.names g.P.Report old c.args.report.now in
     let read = seen g.F.Reads g.F.Files.writing_faults g.F.Files.names g.P.Report opened c.args.report.now in
     let wrote = seen g.F.Reads g.F.Files.writing_faults g.F.Files.names g.P.Report merged said in
