@@ -1,0 +1,16 @@
+#![tactic(auto)]
+
+//! Merges of small files in memory: what is written and told, and what a failure leaves. Tests alone.
+
+#[cfg(test)]
+mod damage;
+#[cfg(test)]
+mod failing;
+#[cfg(test)]
+mod large;
+#[cfg(test)]
+mod merges;
+#[cfg(test)]
+mod runs;
+#[cfg(test)]
+mod spelled;
