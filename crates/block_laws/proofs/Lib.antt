@@ -3,3 +3,4 @@ pub mod FrameLemmas
 pub mod GroupLemmas
 pub mod LimitLemmas
 pub mod SmallLemmas
+pub mod WalkLemmas

@@ -1,29 +1,30 @@
 -- Blocks that are read with limits are small.
-use Rattle.std.proofs.Common.{◌≡◌, ℕ, zero, suc, ◌<◌, ◌≤◌, ◌==◌, nat_lt, nat_abs, Bool, true, false, ◌||◌, if◌then◌else◌, ℤ, pos, inl, inr, List, [], ◌∷◌, length, Option, Some, None, Result, Ok, Err, refl, ap, ◌∙◌, subst, arith}
+use Rattle.std.proofs.Common.{◌≡◌, ℕ, zero, suc, ◌<◌, ◌≤◌, nat_lt, nat_abs, Bool, true, false, ◌||◌, ℤ, pos, inl, inr, List, [], ◌∷◌, length, Option, Some, None, Result, Ok, Err, refl, ap, ◌∙◌, subst, arith}
 use Rattle.std.specs.List.{All, list_any, slice_get}
 use Rattle.std.specs.Option.{IfSome, option_map, option_map_or}
 use Rattle.std.proofs.lemmas.Bool.{cases_lt}
 use Rattle.std.proofs.lemmas.Bool.Decides.{nat_tests}
-use Rattle.std.proofs.lemmas.List.Elements.{All-nil, All-cons, All-append, All-head, All-tail}
+use Rattle.std.proofs.lemmas.List.Elements.{All-nil, All-cons}
 use Rattle.std.proofs.lemmas.List.{length-map}
 use Rattle.ebml_format.specs.Number.{AreOctets, int_of}
-use Rattle.mkv_schema.specs.declared.ids.TheConstants.{CLUSTER, TIMESTAMP, SIMPLE_BLOCK, BLOCK_GROUP, BLOCK}
+use Rattle.mkv_schema.specs.declared.ids.TheConstants.{BLOCK}
 use Rattle.mkv_values.specs.declared.damage.Damage.{Damage}
 use Rattle.mkv_values.specs.declared.damage.Kind.{Kind}
 use Rattle.mkv_values.specs.declared.damage.Kind.TheVariants.{TooMany}
 use Rattle.matroska_format.specs.declared.element.Header.{Header}
 use Rattle.matroska_format.specs.Element.{damage, known, stated_end}
 use Rattle.matroska_format.specs.Value.{body_of, first_of}
-use Rattle.matroska_format.specs.Outline.{and_then, unless, where_it, segment_bound, segment_run}
+use Rattle.matroska_format.specs.Outline.{and_then, unless, where_it}
 use Rattle.matroska_format.proofs.ElementLemmas.{length-octets_between}
 use Rattle.block_format.specs.declared.limits.TheConstants.{MOST_OF_BLOCK, MOST_REFERENCES, TOO_LARGE_TIME}
 use Rattle.block_format.specs.Block.{Block, nanoseconds, is_too_large, has_too_large_time, simple_block_with}
 use Rattle.block_format.specs.Content.{Content, content_in, lace_of}
 use Rattle.block_format.specs.Elements.{with_limits, at_place, too_long, timestamp_or, timestamp_for, in_time, simple_block, group_run, group_refusal, group_children, block_or, references_among, too_many_references, kept_of, group_with, group_among, block_group}
-use Rattle.block_format.specs.Events.{Found, Event, found_in_timestamp, found_at, timestamp_behind, found_among, found_behind, cluster_run, found_in, is_closed, events_then, events_among, events_of, blocks_of}
+use Rattle.block_format.specs.Events.{events_of, blocks_of}
 use Rattle.block_laws.specs.Laws.{CanBeLaced, IsSmall}
 use Rattle.block_laws.proofs.FrameLemmas.{sizes_of, content-laces}
 use Rattle.block_laws.proofs.GroupLemmas.{kept-short, block-short}
+use Rattle.block_laws.proofs.WalkLemmas.{each-block}
 use Rattle.matroska_format.proofs.OutlineLemmas.{and_then-ok, unless-ok}
 use Rattle.ebml_format.proofs.SpelledLemmas.{AreOctets-take, AreOctets-drop}
 
@@ -145,58 +146,7 @@ group-small s bytes ts h b octets is =
 
 -- ---- the file
 
--- what is found is small, where it is a block
-abbrev IsSmallFound : Found → Type 0
-IsSmallFound (Ok b) = IsSmall b
-IsSmallFound (Err d) = Unit {0}
-
-one-small : (found : Found) → ((b : Block) → found ≡ Ok b → IsSmall b) → All IsSmallFound (found ∷ [])
-one-small (Ok b) small = All-cons IsSmallFound (Ok b) [] (small b refl) (All-nil IsSmallFound)
-one-small (Err d) small = All-cons IsSmallFound (Err d) [] tt (All-nil IsSmallFound)
-
-at-small : (s : ℕ) (bytes : List ℕ) (ts : Option ℕ) (h : Header) → AreOctets bytes → All IsSmallFound (found_at (with_limits s) bytes ts h)
-at-small s bytes ts h octets = split (h.id == TIMESTAMP) (h.id == SIMPLE_BLOCK) (h.id == BLOCK_GROUP)
-  where
-    stamp : (t : Bool) (d : Damage) → All IsSmallFound (if t then Err d ∷ [] else [])
-    stamp true d = All-cons IsSmallFound (Err d) [] tt (All-nil IsSmallFound)
-    stamp false d = All-nil IsSmallFound
-
-    split : (x y z : Bool) → All IsSmallFound (if x then found_in_timestamp h else if y then simple_block (with_limits s) bytes ts h ∷ [] else if z then block_group (with_limits s) bytes ts h ∷ [] else [])
-    split true y z = stamp _ _
-    split false true z = one-small (simple_block (with_limits s) bytes ts h) (λ b. simple-small s bytes ts h b octets)
-    split false false true = one-small (block_group (with_limits s) bytes ts h) (λ b. group-small s bytes ts h b octets)
-    split false false false = All-nil IsSmallFound
-
-found-small : (s : ℕ) (bytes : List ℕ) (ts : Option ℕ) (hs : List Header) → AreOctets bytes → All IsSmallFound (found_among (with_limits s) bytes ts hs)
-found-small s bytes ts [] octets = All-nil IsSmallFound
-found-small s bytes ts (h ∷ hs) octets =
-    All-append IsSmallFound (found_at (with_limits s) bytes ts h) (found_among (with_limits s) bytes (timestamp_behind bytes ts h) hs) (at-small s bytes ts h octets) (found-small s bytes (timestamp_behind bytes ts h) hs octets)
-
-behind-small : (o : Option Damage) → All IsSmallFound (found_behind o)
-behind-small None = All-nil IsSmallFound
-behind-small (Some d) = All-cons IsSmallFound (Err d) [] tt (All-nil IsSmallFound)
-
-then-small : (closed : Bool) (found : List Found) (rest : List Event) → All IsSmallFound found → All IsSmall (blocks_of rest) → All IsSmall (blocks_of (events_then closed found rest))
-then-small closed [] rest small others = others
-then-small closed (Ok b ∷ found) rest small others =
-    All-cons IsSmall b (blocks_of (events_then closed found rest)) (All-head IsSmallFound (Ok b) found small) (then-small closed found rest (All-tail IsSmallFound (Ok b) found small) others)
-then-small true (Err d ∷ found) rest small others = others
-then-small false (Err d ∷ found) rest small others = All-nil IsSmall
-
-among-all_small : (s : ℕ) (bytes : List ℕ) (e : ℕ) (hs : List Header) (wrong : Option Damage) → AreOctets bytes → All IsSmall (blocks_of (events_among (with_limits s) bytes e hs wrong))
-among-all_small s bytes e [] None octets = All-nil IsSmall
-among-all_small s bytes e [] (Some d) octets = All-nil IsSmall
-among-all_small s bytes e (h ∷ hs) wrong octets = split (h.id == CLUSTER) (among-all_small s bytes e hs wrong octets)
-  where
-    split : (t : Bool) → All IsSmall (blocks_of (events_among (with_limits s) bytes e hs wrong))
-        → All IsSmall (blocks_of (if t then events_then (is_closed (length bytes) h) (found_in (with_limits s) bytes e h) (events_among (with_limits s) bytes e hs wrong) else events_among (with_limits s) bytes e hs wrong))
-    split true rest =
-        let run = cluster_run bytes e h in
-        then-small (is_closed (length bytes) h) (found_in (with_limits s) bytes e h) (events_among (with_limits s) bytes e hs wrong)
-        (All-append IsSmallFound (found_among (with_limits s) bytes None run.list) (found_behind run.damage) (found-small s bytes None run.list octets) (behind-small run.damage)) rest
-    split false rest = rest
-
 -- each block of a file is small
 pub all-small : (scale : ℕ) (bytes : List ℕ) (segment : Header) → AreOctets bytes → All IsSmall (blocks_of (events_of (with_limits scale) bytes segment))
-unfolding events_of
-all-small scale bytes segment octets = among-all_small scale bytes (segment_bound bytes segment) (segment_run bytes segment).list (segment_run bytes segment).damage octets
+all-small scale bytes segment octets =
+    each-block IsSmall (with_limits scale) bytes (λ timestamp h b within. simple-small scale bytes timestamp h b octets) (λ timestamp h b within. group-small scale bytes timestamp h b octets) segment

@@ -1,9 +1,10 @@
 -- Blocks that are found in a file say what their kind can say.
-use Rattle.std.proofs.Common.{◌≡◌, ℕ, ◌≤◌, ◌==◌, Bool, true, false, if◌then◌else◌, List, [], ◌∷◌, length, Option, None, Ok, Err, refl, sym, ap, subst}
+use Rattle.std.proofs.Common.{◌≡◌, ℕ, ◌≤◌, ◌==◌, true, false, List, [], ◌∷◌, length, Option, None, Ok, refl, sym, ap, subst}
+use Rattle.std.specs.List.{All}
 use Rattle.std.proofs.lemmas.List.{length-map}
+use Rattle.std.proofs.lemmas.List.Elements.{All-head}
 use Rattle.ebml_format.specs.Number.{AreOctets, int_of}
-use Rattle.mkv_schema.specs.declared.ids.TheConstants.{BLOCK, TIMESTAMP, SIMPLE_BLOCK, BLOCK_GROUP}
-use Rattle.mkv_values.specs.declared.damage.Damage.{Damage}
+use Rattle.mkv_schema.specs.declared.ids.TheConstants.{BLOCK}
 use Rattle.matroska_format.specs.declared.element.Header.{Header}
 use Rattle.matroska_format.specs.Element.{stated_end}
 use Rattle.matroska_format.specs.Value.{body_of, first_of}
@@ -11,11 +12,13 @@ use Rattle.matroska_format.specs.Outline.{and_then, unless}
 use Rattle.matroska_format.proofs.OutlineLemmas.{and_then-ok, unless-ok}
 use Rattle.block_format.specs.Block.{Block, nanoseconds, simple_block_with}
 use Rattle.block_format.specs.Content.{Content, content_in}
-use Rattle.block_format.specs.Elements.{Rules, timestamp_for, at_place, in_time, simple_block, group_children, block_or, too_many_references, references_among, group_with, group_among, block_group}
-use Rattle.block_format.specs.Events.{Found, found_in_timestamp, found_at}
+use Rattle.block_format.specs.Elements.{Rules, with_limits, timestamp_for, at_place, in_time, simple_block, group_children, block_or, too_many_references, references_among, group_with, group_among, block_group}
+use Rattle.block_format.specs.Events.{found_at, events_of, blocks_of}
+use Rattle.block_laws.proofs.SmallLemmas.{all-small}
+use Rattle.block_laws.proofs.WalkLemmas.{IsFoundAs, at-found, each-block}
 use Rattle.output_model.specs.Sound.{AreKept}
 use Rattle.output_laws.proofs.KeptLemmas.{group-kept}
-use Rattle.merge_laws.specs.Read.{IsOfItsKind}
+use Rattle.merge_laws.specs.Read.{IsOfItsKind, IsReadBlock}
 
 -- ---- a SimpleBlock
 
@@ -65,22 +68,16 @@ group-kind r bytes timestamp h b octets within is =
 
 -- ---- what a child of a Cluster gives
 
-one-found : (x : Found) (b : Block) → x ∷ [] ≡ Ok b ∷ [] → x ≡ Ok b
-one-found x b is = ap (λ (l : List Found). first l) is
-  where
-    first : List Found → Found
-    first [] = x
-    first (y ∷ ys) = y
-
 pub found-kind : (r : Rules) (bytes : List ℕ) (timestamp : Option ℕ) (h : Header) (b : Block) → AreOctets bytes → stated_end h ≤ length bytes → found_at r bytes timestamp h ≡ Ok b ∷ [] → IsOfItsKind b
-found-kind r bytes timestamp h b octets within is = split (h.id == TIMESTAMP) (h.id == SIMPLE_BLOCK) (h.id == BLOCK_GROUP) is
-  where
-    stamp : (t : Bool) (d : Damage) → (if t then Err d ∷ [] else []) ≡ Ok b ∷ [] → IsOfItsKind b
-    stamp true d found = absurd (cc)
-    stamp false d found = absurd (cc)
+found-kind r bytes timestamp h b octets within is =
+    All-head (IsFoundAs IsOfItsKind) (Ok b) []
+    (subst (All (IsFoundAs IsOfItsKind)) is (at-found IsOfItsKind r bytes timestamp h (simple-kind r bytes timestamp h) (λ made. group-kind r bytes timestamp h made octets within)))
 
-    split : (x y z : Bool) → (if x then found_in_timestamp h else if y then simple_block r bytes timestamp h ∷ [] else if z then block_group r bytes timestamp h ∷ [] else []) ≡ Ok b ∷ [] → IsOfItsKind b
-    split true y z found = stamp _ _ found
-    split false true z found = simple-kind r bytes timestamp h b (one-found (simple_block r bytes timestamp h) b found)
-    split false false true found = group-kind r bytes timestamp h b octets within (one-found (block_group r bytes timestamp h) b found)
-    split false false false found = absurd (cc)
+-- ---- the file
+
+-- Each block of a file that is read with limits is found so.
+pub all-read : (scale : ℕ) (bytes : List ℕ) (segment : Header) → AreOctets bytes → All IsReadBlock (blocks_of (events_of (with_limits scale) bytes segment))
+all-read scale bytes segment octets = λ k d below. record {
+  small = all-small scale bytes segment octets k d below;
+  kind = each-block IsOfItsKind (with_limits scale) bytes (λ timestamp h b within. simple-kind (with_limits scale) bytes timestamp h b) (λ timestamp h b within. group-kind (with_limits scale) bytes timestamp h b octets within) segment k d below;
+}

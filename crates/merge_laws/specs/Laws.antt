@@ -4,8 +4,8 @@ use Rattle.ebml_format.specs.Number.{AreOctets}
 use Rattle.matroska_format.specs.declared.element.Header.{Header}
 use Rattle.matroska_format.specs.Element.{stated_end}
 use Rattle.block_format.specs.Block.{Block}
-use Rattle.block_format.specs.Elements.{Rules}
-use Rattle.block_format.specs.Events.{found_at}
+use Rattle.block_format.specs.Elements.{Rules, with_limits}
+use Rattle.block_format.specs.Events.{found_at, events_of, blocks_of}
 use Rattle.meta_format.specs.Info.{scale_of}
 use Rattle.file_blocks.specs.File.{file_events}
 use Rattle.output_model.specs.declared.heads.ClusterLimits.{ClusterLimits}
@@ -33,6 +33,11 @@ abbrev pub FoundBlocksAreOfTheirKind : Type 0
 FoundBlocksAreOfTheirKind =
     (r : Rules) (bytes : List ℕ) (timestamp : Option ℕ) (h : Header) (b : Block) → AreOctets bytes → stated_end h ≤ length bytes
     → found_at r bytes timestamp h ≡ Ok b ∷ [] → IsOfItsKind b
+
+-- Each block of a file of octets is as a reader with limits finds it.
+abbrev pub FileBlocksAreRead : Type 0
+FileBlocksAreRead =
+    (scale : ℕ) (bytes : List ℕ) (segment : Header) → AreOctets bytes → All IsReadBlock (blocks_of (events_of (with_limits scale) bytes segment))
 
 -- What is made of a block that a reader with limits finds can be written and read back.
 abbrev pub PlacedBlocksAreSound : Type 0

@@ -3,7 +3,7 @@
 //! What a merge keeps of its lanes, and that what it writes can be read: RFC 9559, sections 10 (Cluster Blocks) and 11
 //! (Timestamps). Laws alone: no code that reads or writes stands on this crate.
 
-ghost use Rattle.merge_laws.specs.Laws.{ClustersAreCutAgain, ClustersHoldAll, FoundBlocksAreOfTheirKind, LanesAreKept, LanesAreReadAgain, MergedClustersAreSound, PlacedBlocksAreSound, TicksAreKept};
+ghost use Rattle.merge_laws.specs.Laws.{ClustersAreCutAgain, ClustersHoldAll, FileBlocksAreRead, FoundBlocksAreOfTheirKind, LanesAreKept, LanesAreReadAgain, MergedClustersAreSound, PlacedBlocksAreSound, TicksAreKept};
 
 /// The blocks of each lane stand in the merged list, each once and in their order.
 pub fn lanes_are_kept()
@@ -18,6 +18,11 @@ pub fn clusters_hold_all()
 /// A block that is found in a file says what its kind can say, and what is kept of it can be written.
 pub fn found_blocks_are_of_their_kind()
     ensures { FoundBlocksAreOfTheirKind }
+{}
+
+/// Each block of a file of octets is as a reader with limits finds it.
+pub fn file_blocks_are_read()
+    ensures { FileBlocksAreRead }
 {}
 
 /// What is made of a block that a reader finds is sound.
