@@ -34,7 +34,7 @@ use Rattle.layout_laws.specs.Reading.{segment_of_document, segment_place, header
 use Rattle.layout_laws.proofs.AreaLemmas.{length-area}
 use Rattle.layout_laws.proofs.HeaderLemmas.{ebml-read}
 use Rattle.layout_laws.proofs.PartLemmas.{All-parts, IsNot, IsShortest, shortest-record, shortest-records, shortest-attachments, shortest-cues, shortest-clusters, not-shortest, none-shortest, other-shortest, others-shortest, void-id, void-other}
-use Rattle.layout_laws.proofs.RecordLemmas.{first-record, attachments-read, seeks-read}
+use Rattle.layout_laws.proofs.RecordLemmas.{first-record, attachments-read, cues-read, seeks-read}
 use Rattle.layout_laws.proofs.ScaleLemmas.{scale-placed}
 
 -- ---- a document is an EBML header and a Segment
@@ -219,6 +219,11 @@ records-read d bytes p is held =
           (All-append (IsNot ATTACHMENTS) cues _ (none-shortest CUES ATTACHMENTS cues refl has.cues)
           (All-append (IsNot ATTACHMENTS) chapters tags (none-shortest CHAPTERS ATTACHMENTS chapters refl has.chapters) (none-shortest TAGS ATTACHMENTS tags refl has.tags))))
           sizes_front.1 is.attachments held;
+      cues = cues-read bytes d.cues list (area ++ info ∷ tracks ∷ (attachments ++ middle)) (chapters ++ tags) p
+          (ap (λ l. area ++ info ∷ tracks ∷ l) (sym (append_assoc attachments middle (cues ++ (chapters ++ tags)))))
+          (before_cues CUES refl refl refl refl refl refl)
+          (All-append (IsNot CUES) chapters tags (none-shortest CHAPTERS CUES chapters refl has.chapters) (none-shortest TAGS CUES tags refl has.tags))
+          held;
       chapters = first-record bytes CHAPTERS d.chapters list (area ++ info ∷ tracks ∷ (attachments ++ (middle ++ cues))) tags p refl
           (ap (λ l. area ++ info ∷ tracks ∷ l) behind_clusters)
           (before_back CHAPTERS refl refl refl refl refl refl refl)
@@ -243,6 +248,14 @@ records-read d bytes p is held =
         All-append (IsNot id) (area_elements (seeks_of d)) (tree_element d.front.info ∷ tree_element d.front.tracks ∷ []) (in_area id seek void)
         (All-cons (IsNot id) (tree_element d.front.info) (tree_element d.front.tracks ∷ []) (not-shortest INFO id (tree_element d.front.info) one has.info)
         (All-cons (IsNot id) (tree_element d.front.tracks) [] (not-shortest TRACKS id (tree_element d.front.tracks) two has.tracks) (All-nil (IsNot id))))
+
+    before_cues : (id : ℕ) → (SEEK_HEAD == id) ≡ false → (VOID == id) ≡ false → (INFO == id) ≡ false → (TRACKS == id) ≡ false → (ATTACHMENTS == id) ≡ false → (CLUSTER == id) ≡ false
+        → All (IsNot id) (area_elements (seeks_of d) ++ tree_element d.front.info ∷ tree_element d.front.tracks ∷ (attachments_elements d.front.attachments ++ clusters_elements d.clusters))
+    before_cues id seek void one two three four =
+        let has = parts-of d is in
+        All-append (IsNot id) (area_elements (seeks_of d) ++ tree_element d.front.info ∷ tree_element d.front.tracks ∷ []) (attachments_elements d.front.attachments ++ clusters_elements d.clusters) (in_front id seek void one two)
+        (All-append (IsNot id) (attachments_elements d.front.attachments) (clusters_elements d.clusters) (none-shortest ATTACHMENTS id (attachments_elements d.front.attachments) three has.attachments)
+        (none-shortest CLUSTER id (clusters_elements d.clusters) four has.clusters))
 
     before_back : (id : ℕ) → (SEEK_HEAD == id) ≡ false → (VOID == id) ≡ false → (INFO == id) ≡ false → (TRACKS == id) ≡ false → (ATTACHMENTS == id) ≡ false → (CLUSTER == id) ≡ false → (CUES == id) ≡ false
         → All (IsNot id) (area_elements (seeks_of d) ++ tree_element d.front.info ∷ tree_element d.front.tracks ∷ (attachments_elements d.front.attachments ++ (clusters_elements d.clusters ++ cues_elements d.cues)))

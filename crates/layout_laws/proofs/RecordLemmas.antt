@@ -4,7 +4,7 @@ use Rattle.std.specs.List.{AllZip}
 use Rattle.std.proofs.lemmas.List.Concat.{flat_map-append}
 use Rattle.std.proofs.lemmas.List.Elements.{All-nil, All-cons, All-head, All-tail, All-append, All-weaker}
 use Rattle.ebml_format.specs.Number.{is_id}
-use Rattle.mkv_schema.specs.declared.ids.TheConstants.{ATTACHMENTS, ATTACHED_FILE}
+use Rattle.mkv_schema.specs.declared.ids.TheConstants.{ATTACHMENTS, ATTACHED_FILE, CUES}
 use Rattle.matroska_format.specs.declared.element.Header.{Header}
 use Rattle.matroska_format.specs.Element.{in_master, in_segment, stated_end}
 use Rattle.matroska_format.specs.Elements.{Run, children_in}
@@ -16,13 +16,15 @@ use Rattle.tree_format.proofs.OrderLemmas.{sound-without_limits}
 use Rattle.element_octets.specs.Element.{Element, IsElement, HoldsAt, master_element, header_of, octets_of, joined, header_in_place, headers_in_place}
 use Rattle.element_octets.proofs.HeldLemmas.{held-left, held-right}
 use Rattle.element_octets.proofs.ReadLemmas.{element_at-read, body_of-read, stands-body, children-all}
+use Rattle.output_model.specs.declared.places.CuePoint.{CuePoint}
 use Rattle.output_model.specs.declared.places.Seek.{Seek}
+use Rattle.output_model.specs.Cues.{cues_elements, point_element}
 use Rattle.output_model.specs.SeekHead.{seeks_from}
 use Rattle.output_model.specs.Document.{tree_element, tree_elements, attachments_elements}
 use Rattle.output_model.specs.Sound.{IsRecord, IsAttachment}
 use Rattle.output_laws.specs.Places.{HasSize}
 use Rattle.output_laws.proofs.ClusterLemmas.{sizes-joined}
-use Rattle.layout_laws.specs.Reading.{IsRecordAt, FirstIs, ChildrenAre, AttachmentsAre, SeeksElement}
+use Rattle.layout_laws.specs.Reading.{IsRecordAt, FirstIs, ChildrenAre, AttachmentsAre, CuesAre, SeeksElement}
 use Rattle.layout_laws.proofs.PartLemmas.{IsNot, records-are_elements}
 
 -- ---- the first of an ID
@@ -125,6 +127,22 @@ attachments-read bytes (n ∷ ns) list before rest p whole front back sizes are 
       header_in_place q e,
       ap (λ l. first_of ATTACHMENTS (headers_in_place p l)) whole ∙ first_of-here ATTACHMENTS before e rest p front refl,
       attached-read bytes (n ∷ ns) q are (All-head HasSize e [] sizes) (held-behind bytes before e rest p (subst (λ (l : List Element). HoldsAt bytes p (joined l)) whole held)),
+    )
+
+-- ---- cue points
+
+-- Cues that stand among Elements of other IDs are the first, and have their points as body.
+pub cues-read : (bytes : List ℕ) (points : List CuePoint) (list before rest : List Element) (p : ℕ) → list ≡ before ++ (cues_elements points ++ rest)
+    → All (IsNot CUES) before → All (IsNot CUES) rest → HoldsAt bytes p (joined list) → CuesAre bytes (headers_in_place p list) points
+cues-read bytes [] list before rest p whole front back held =
+    ap (λ l. first_of CUES (headers_in_place p l)) whole
+    ∙ first_of-none CUES (before ++ rest) p (All-append (IsNot CUES) before rest front back)
+cues-read bytes (point ∷ points) list before rest p whole front back held =
+    let e : Element = master_element CUES (map point_element (point ∷ points)) in
+    let q : ℕ = p + length (joined before) in (
+      header_in_place q e,
+      ap (λ l. first_of CUES (headers_in_place p l)) whole ∙ first_of-here CUES before e rest p front refl,
+      body_of-read bytes q e (held-behind bytes before e rest p (subst (λ (l : List Element). HoldsAt bytes p (joined l)) whole held)),
     )
 
 -- ---- Seeks

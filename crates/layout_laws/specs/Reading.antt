@@ -1,7 +1,7 @@
 -- A content that is read as a document: RFC 8794, section 8 (EBML Document), and RFC 9559, sections 4.5 (Data Layout) and 5.1 (Segment Element).
-use Rattle.std.specs.Prelude.{◌≡◌, ℕ, ◌+◌, false, List, [], ◌∷◌, ◌++◌, length, All, Option, None, Some, Ok}
+use Rattle.std.specs.Prelude.{◌≡◌, ℕ, ◌+◌, false, List, [], ◌∷◌, ◌++◌, length, map, All, Option, None, Some, Ok}
 use Rattle.std.specs.List.{AllZip}
-use Rattle.mkv_schema.specs.declared.ids.TheConstants.{INFO, TRACKS, ATTACHMENTS, CHAPTERS, TAGS}
+use Rattle.mkv_schema.specs.declared.ids.TheConstants.{INFO, TRACKS, ATTACHMENTS, CUES, CHAPTERS, TAGS}
 use Rattle.matroska_format.specs.declared.element.Header.{Header}
 use Rattle.matroska_format.specs.Element.{in_master, in_segment, element_at, stated_end}
 use Rattle.matroska_format.specs.Elements.{children_in}
@@ -14,8 +14,10 @@ use Rattle.tree_format.specs.Standing.{placed_in}
 use Rattle.meta_format.specs.Info.{scale_of, scale_without_limits}
 use Rattle.block_format.specs.Block.{Block}
 use Rattle.file_blocks.specs.File.{file_events}
-use Rattle.element_octets.specs.Element.{octets_of, header_in_place, headers_in_place}
+use Rattle.element_octets.specs.Element.{octets_of, joined, header_in_place, headers_in_place}
+use Rattle.output_model.specs.declared.places.CuePoint.{CuePoint}
 use Rattle.output_model.specs.declared.places.Seek.{Seek}
+use Rattle.output_model.specs.Cues.{point_element}
 use Rattle.output_model.specs.SeekHead.{area_elements}
 use Rattle.output_model.specs.Document.{Document, ebml_element, front_elements, back_elements, seeks_of}
 use Rattle.output_laws.specs.Places.{OutputSegment, segment_elements, segment_element, segment_blocks, block_events}
@@ -76,11 +78,17 @@ abbrev pub AttachmentsAre : List ℕ → List Header → List Node → Type 0
 AttachmentsAre bytes list [] = first_of ATTACHMENTS list ≡ None
 AttachmentsAre bytes list (n ∷ ns) = (h : Header) × (first_of ATTACHMENTS list ≡ Some h) × ChildrenAre bytes h (n ∷ ns)
 
--- Of the Elements of level 1 these are the document's records.
+-- The first Cues has these points as its body; where there are none, there is no Cues.
+abbrev pub CuesAre : List ℕ → List Header → List CuePoint → Type 0
+CuesAre bytes list [] = first_of CUES list ≡ None
+CuesAre bytes list (p ∷ ps) = (h : Header) × (first_of CUES list ≡ Some h) × (body_of bytes h ≡ joined (map point_element (p ∷ ps)))
+
+-- Of the Elements of level 1 these are the document's records, and its cue points.
 pub record RecordsAre (bytes : List ℕ) (list : List Header) (d : Document) : Type 0 where
   pub info : FirstIs bytes list INFO (Some d.front.info)
   pub tracks : FirstIs bytes list TRACKS (Some d.front.tracks)
   pub attachments : AttachmentsAre bytes list d.front.attachments
+  pub cues : CuesAre bytes list d.cues
   pub chapters : FirstIs bytes list CHAPTERS d.chapters
   pub tags : FirstIs bytes list TAGS d.tags
 
@@ -94,7 +102,7 @@ SeeksElement bytes segment s =
 -- ---- the whole
 
 -- A content is read as a document, without a reader's limits: it has the document's outline, which no damage ends; its
--- scale and its records are the document's; its blocks are those of the Clusters, without damage; each Seek names
+-- scale, its records and its cue points are the document's; its blocks are those of the Clusters, without damage; each Seek names
 -- where its Element stands; and each cue point points at its block.
 pub record IsReadAs (d : Document) (bytes : List ℕ) : Type 0 where
   pub outline : outline_without_limits bytes ≡ Ok (outline_of_document d (length bytes))
