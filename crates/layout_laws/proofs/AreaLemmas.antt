@@ -1,5 +1,5 @@
 -- The area in front of an output has its length, and what is overwritten has the length of what overwrites it.
-use Rattle.std.proofs.Common.{◌≡◌, ℕ, suc, ◌+◌, ◌-◌, ◌*◌, ◌<◌, ◌≤◌, nat_le, Bool, true, false, if◌then◌else◌, List, [], ◌∷◌, ◌++◌, length, map, replicate, All, append-nil, length-append, Option, None, Some, refl, sym, ap, ◌∙◌, arith}
+use Rattle.std.proofs.Common.{◌≡◌, ℕ, suc, ◌+◌, ◌-◌, ◌*◌, ◌<◌, ◌≤◌, nat_le, Bool, true, false, if◌then◌else◌, List, [], ◌∷◌, ◌++◌, length, map, replicate, All, IfSome, append-nil, length-append, Option, None, Some, refl, sym, ap, ◌∙◌, arith}
 use Rattle.std.proofs.lemmas.Bool.Decides.{nat_tests}
 use Rattle.std.proofs.lemmas.List.{length-replicate}
 use Rattle.std.proofs.lemmas.List.Concat.{flat_map-append}
@@ -9,8 +9,8 @@ use Rattle.byteorder.specs.Numbers.{length-bytes_high_first}
 use Rattle.ebml_format.specs.Number.{all_ones, id_octets, uint_width}
 use Rattle.ebml_format.proofs.NumberLemmas.{length-uint_octets, length-size_octets}
 use Rattle.ebml_format.proofs.WidthLemmas.{least_size_width-IsLeast}
-use Rattle.mkv_schema.specs.declared.ids.TheConstants.{VOID, SEEK_HEAD, SEEK, SEEK_ID, SEEK_POSITION, ATTACHMENTS, CUES, CHAPTERS, TAGS}
-use Rattle.tree_format.specs.Node.{Node}
+use Rattle.mkv_schema.specs.declared.ids.TheConstants.{VOID, SEEK_HEAD, SEEK, SEEK_ID, SEEK_POSITION, INFO, TRACKS, ATTACHMENTS, CUES, CHAPTERS, TAGS}
+use Rattle.tree_format.specs.Node.{Node, id_of}
 use Rattle.element_octets.specs.Element.{Element, element, octets_of, joined, void_element}
 use Rattle.element_octets.proofs.ReadLemmas.{length-header_of, length-octets_of}
 use Rattle.output_model.specs.declared.TheConstants.{AREA}
@@ -19,9 +19,9 @@ use Rattle.output_model.specs.declared.places.Seek.{Seek}
 use Rattle.output_model.specs.Cues.{cues_elements}
 use Rattle.output_model.specs.SeekHead.{seek_element, seek_head, area_elements, open_area, seeks_from}
 use Rattle.output_model.specs.Document.{Document, tree_element, tree_elements, attachments_elements, front_elements, clusters_elements, back_elements, back_at, seeks_of, file_with, unknown_size}
-use Rattle.output_model.specs.Sound.{IsSoundDocument}
+use Rattle.output_model.specs.Sound.{IsRecord, IsSoundDocument}
 use Rattle.layout_laws.specs.Laws.{behind_area, DifferInTwo}
-use Rattle.layout_laws.proofs.PartLemmas.{IsShortest, shortest-records, shortest-attachments, shortest-cues}
+use Rattle.layout_laws.proofs.PartLemmas.{IsShortest, shortest-attachments, shortest-cues}
 
 -- ---- a Void
 
@@ -80,6 +80,10 @@ IsLong e = uint_width e.id ≡ 4
 long-shortest : (own : ℕ) (es : List Element) → uint_width own ≡ 4 → All (IsShortest own) es → All IsLong es
 long-shortest own es four are = All-weaker (IsShortest own) IsLong (λ e is. ap uint_width is.id ∙ four) es are
 
+long-record : (own : ℕ) (n : Option Node) → uint_width own ≡ 4 → IfSome n (λ (m : Node). id_of m ≡ own) → All IsLong (tree_elements n)
+long-record own None four is = All-nil IsLong
+long-record own (Some n) four is = All-cons IsLong (tree_element n) [] (ap uint_width is ∙ four) (All-nil IsLong)
+
 few-records : (n : Option Node) → length (tree_elements n) ≤ 1
 few-records None = omega arith
 few-records (Some n) = omega arith
@@ -104,8 +108,22 @@ length-seeks_from position (e ∷ es) = ap suc (length-seeks_from (position + le
 
 -- ---- the area
 
+-- The records of a document have their IDs.
+pub record HasIds (d : Document) : Type 0 where
+  pub info : id_of d.front.info ≡ INFO
+  pub tracks : id_of d.front.tracks ≡ TRACKS
+  pub chapters : IfSome d.chapters (λ n. id_of n ≡ CHAPTERS)
+  pub tags : IfSome d.tags (λ n. id_of n ≡ TAGS)
+
+sound-ids : (d : Document) → IsSoundDocument d → HasIds d
+sound-ids d is = record { info = is.info.id; tracks = is.tracks.is.id; chapters = record-id CHAPTERS d.chapters is.chapters; tags = record-id TAGS d.tags is.tags }
+  where
+    record-id : (own : ℕ) (n : Option Node) → IfSome n (IsRecord own) → IfSome n (λ (m : Node). id_of m ≡ own)
+    record-id own None is = tt
+    record-id own (Some n) is = is.id
+
 -- a SeekHead has 131 octets at most, so a Void is always left
-seek_head-short : (d : Document) → IsSoundDocument d → length (octets_of (seek_head (seeks_of d))) ≤ 131
+seek_head-short : (d : Document) → HasIds d → length (octets_of (seek_head (seeks_of d))) ≤ 131
 unfolding uint_width
 seek_head-short d is =
     let front : List Element = front_elements d.front in
@@ -115,12 +133,12 @@ seek_head-short d is =
     let long : All HasLongId (seeks_of d) =
     All-append HasLongId first second
     (long-seeks AREA front
-    (All-cons IsLong (tree_element d.front.info) (tree_element d.front.tracks ∷ attachments_elements d.front.attachments) (ap uint_width is.info.id)
-    (All-cons IsLong (tree_element d.front.tracks) (attachments_elements d.front.attachments) (ap uint_width is.tracks.is.id) (long-shortest ATTACHMENTS (attachments_elements d.front.attachments) refl (shortest-attachments d.front.attachments)))))
+    (All-cons IsLong (tree_element d.front.info) (tree_element d.front.tracks ∷ attachments_elements d.front.attachments) (ap uint_width is.info)
+    (All-cons IsLong (tree_element d.front.tracks) (attachments_elements d.front.attachments) (ap uint_width is.tracks) (long-shortest ATTACHMENTS (attachments_elements d.front.attachments) refl (shortest-attachments d.front.attachments)))))
     (long-seeks (back_at d) back
     (All-append IsLong (cues_elements d.cues) (tree_elements d.chapters ++ tree_elements d.tags) (long-shortest CUES (cues_elements d.cues) refl (shortest-cues d.cues))
-    (All-append IsLong (tree_elements d.chapters) (tree_elements d.tags) (long-shortest CHAPTERS (tree_elements d.chapters) refl (shortest-records CHAPTERS d.chapters is.chapters))
-    (long-shortest TAGS (tree_elements d.tags) refl (shortest-records TAGS d.tags is.tags))))) in
+    (All-append IsLong (tree_elements d.chapters) (tree_elements d.tags) (long-record CHAPTERS d.chapters refl is.chapters)
+    (long-record TAGS d.tags refl is.tags)))) in
     let few_front = few-attachments d.front.attachments in
     let few_back : length back ≤ 3 =
     omega (arith, length-append (cues_elements d.cues) (tree_elements d.chapters ++ tree_elements d.tags), length-append (tree_elements d.chapters) (tree_elements d.tags), few-cues d.cues, few-records d.chapters, few-records d.tags) in
@@ -131,12 +149,15 @@ seek_head-short d is =
     let whole = length-element SEEK_HEAD body (omega arith) in
     omega arith
 
-pub length-area : (d : Document) → IsSoundDocument d → length (joined (area_elements (seeks_of d))) ≡ AREA
-length-area d is =
+pub length-area_of : (d : Document) → HasIds d → length (joined (area_elements (seeks_of d))) ≡ AREA
+length-area_of d is =
     let seek : List ℕ = octets_of (seek_head (seeks_of d)) in
     let void : List ℕ = octets_of (void_element (AREA - length seek)) in
     let short = seek_head-short d is in
     length-append seek (void ++ []) ∙ omega (arith, length-append void [], length-void (AREA - length seek) (omega arith))
+
+pub length-area : (d : Document) → IsSoundDocument d → length (joined (area_elements (seeks_of d))) ≡ AREA
+length-area d is = length-area_of d (sound-ids d is)
 
 length-open_area : length (joined open_area) ≡ AREA
 length-open_area = ap (λ (o : List ℕ). length o) (append-nil (octets_of (void_element AREA))) ∙ length-void AREA (omega arith)

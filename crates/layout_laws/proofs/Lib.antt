@@ -1,5 +1,5 @@
 mod PartLemmas
-mod AreaLemmas
+pub mod AreaLemmas
 mod ScaleLemmas
 mod HeaderLemmas
 mod RecordLemmas
