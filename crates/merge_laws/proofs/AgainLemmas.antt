@@ -26,7 +26,7 @@ use Rattle.merge_laws.proofs.ClusterLemmas.{clusters-hold}
 
 -- ---- blocks and no damage
 
-blocks-all : (bs : List Block) → blocks_of (block_events bs) ≡ bs
+pub blocks-all : (bs : List Block) → blocks_of (block_events bs) ≡ bs
 blocks-all [] = refl
 blocks-all (b ∷ bs) = ap (λ l. b ∷ l) (blocks-all bs)
 

@@ -1,6 +1,7 @@
 mod MergedLemmas
-mod ClusterLemmas
+pub mod ClusterLemmas
 mod TickLemmas
-mod AgainLemmas
-mod SoundLemmas
-mod KindLemmas
+pub mod AgainLemmas
+pub mod OrderLemmas
+pub mod SoundLemmas
+pub mod KindLemmas

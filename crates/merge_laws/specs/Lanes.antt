@@ -1,8 +1,9 @@
 -- The lanes of a merged list, and those that are read of an output.
-use Rattle.std.specs.Prelude.{◌≡◌, ℕ, zero, suc, ◌==◌, pos, List, [], ◌∷◌, map, filter, None}
-use Rattle.block_format.specs.Events.{Event}
+use Rattle.std.specs.Prelude.{◌≡◌, ℕ, zero, suc, ◌==◌, pos, List, [], ◌∷◌, map, filter, flat_map, None}
+use Rattle.block_format.specs.Block.{Block}
+use Rattle.block_format.specs.Events.{Event, blocks_of}
 use Rattle.output_model.specs.OutputBlock.{OutputBlock}
-use Rattle.merge_model.specs.Links.{Placing, track_given}
+use Rattle.merge_model.specs.Links.{Placing, placed, track_given}
 use Rattle.merge_model.specs.Lanes.{lane_blocks}
 use Rattle.merge_model.specs.Merged.{in_lane}
 
@@ -33,6 +34,13 @@ abbrev pub lanes_read : ℕ → ℕ → ℕ → List Event → List (List Output
 lanes_read scale number zero events = []
 lanes_read scale number (suc n) events =
     lane_blocks scale (track_given as_it_stands number events ∷ []) ∷ lanes_read scale (suc number) n events
+
+-- the blocks that are read of a file, in its order, each in the lane of its track number
+abbrev pub block_read : ℕ → Block → List OutputBlock
+block_read scale b = map (in_lane b.track) (placed scale as_it_stands b)
+
+abbrev pub blocks_read : ℕ → List Event → List OutputBlock
+blocks_read scale events = flat_map (block_read scale) (blocks_of events)
 
 -- A block of a lane has no number yet.
 abbrev pub HasNoLane : OutputBlock → Type 0

@@ -17,7 +17,7 @@ use Rattle.output_laws.specs.Places.{block_in_place}
 use Rattle.layout_laws.specs.Reading.{header_of_segment}
 use Rattle.merge_model.specs.Links.{Placing, placed}
 use Rattle.merge_model.specs.Merged.{in_lane, merged}
-use Rattle.merge_laws.specs.Lanes.{lanes_from, in_lanes, as_it_stands, lanes_read, HasNoLane}
+use Rattle.merge_laws.specs.Lanes.{lanes_from, in_lanes, as_it_stands, lanes_read, blocks_read, HasNoLane}
 use Rattle.merge_laws.specs.Read.{IsOfItsKind, IsReadBlock, IsPlacing, LEAST_SCALE}
 
 -- The lanes of a merged list are those that were merged, each block with its lane's number.
@@ -54,6 +54,12 @@ abbrev pub TicksAreKept : Type 0
 TicksAreKept =
     (scale place : ℕ) (b : OutputBlock) → 1 ≤ scale → IsSoundBlock b
     → placed scale as_it_stands (block_in_place scale place b) ≡ in_lane 0 b ∷ []
+
+-- The blocks that are read of an output are those that were cut into its Clusters, each once and in their order.
+abbrev pub BlocksAreReadInOrder : Type 0
+BlocksAreReadInOrder =
+    (d : Document) (limits : ClusterLimits) (bs : List OutputBlock) → IsSoundDocument d → d.clusters ≡ clusters limits bs
+    → blocks_read (scale_of d.front.info) (file_events false (layout d) (header_of_segment d)) ≡ bs
 
 -- The lanes that are read of an output are those that were merged into it.
 abbrev pub LanesAreReadAgain : Type 0

@@ -3,7 +3,7 @@
 //! What a merge keeps of its lanes, and that what it writes can be read: RFC 9559, sections 10 (Cluster Blocks) and 11
 //! (Timestamps). Laws alone: no code that reads or writes stands on this crate.
 
-ghost use Rattle.merge_laws.specs.Laws.{ClustersAreCutAgain, ClustersHoldAll, FileBlocksAreRead, FoundBlocksAreOfTheirKind, LanesAreKept, LanesAreReadAgain, MergedClustersAreSound, PlacedBlocksAreSound, TicksAreKept};
+ghost use Rattle.merge_laws.specs.Laws.{BlocksAreReadInOrder, ClustersAreCutAgain, ClustersHoldAll, FileBlocksAreRead, FoundBlocksAreOfTheirKind, LanesAreKept, LanesAreReadAgain, MergedClustersAreSound, PlacedBlocksAreSound, TicksAreKept};
 
 /// The blocks of each lane stand in the merged list, each once and in their order.
 pub fn lanes_are_kept()
@@ -38,6 +38,11 @@ pub fn merged_clusters_are_sound()
 /// A block that was written and read is written as before.
 pub fn ticks_are_kept()
     ensures { TicksAreKept }
+{}
+
+/// The blocks of an output are read in the order in which they were merged.
+pub fn blocks_are_read_in_order()
+    ensures { BlocksAreReadInOrder }
 {}
 
 /// The lanes of an output that is read again are those that were merged.
