@@ -1,9 +1,17 @@
--- What a crash leaves of a file of which nothing is pending.
-use Rattle.std.proofs.Common.{◌≡◌, ℕ, List, arith}
-use Rattle.std.proofs.lemmas.List.{ext_get_or}
+-- What a crash leaves of a file, and octets that are written.
+use Rattle.std.proofs.Common.{◌≡◌, ◌⊎◌, ℕ, ◌+◌, ◌<◌, ◌≤◌, max, List, length, get_or, arith, length-append, length-take, length-drop}
+use Rattle.std.proofs.lemmas.List.{places, ext_get_or}
+use Rattle.mkv_io.specs.Contents.{overwritten}
 use Rattle.mkv_disk.specs.Image.{IsImage, clean}
 
--- what is read, and nothing else
+pub length-overwritten : (old : List ℕ) (at : ℕ) (bytes : List ℕ) → at ≤ length old → length (overwritten old at bytes) ≡ max (length old) (at + length bytes)
+length-overwritten old at bytes le = grind (arith, length-append, length-take, length-drop)
+
+-- outside of the range stands what stood there
+pub overwritten_outside : (old : List ℕ) (at : ℕ) (bytes : List ℕ) (k : ℕ) → at ≤ length old → (k < at) ⊎ (at + length bytes ≤ k) → get_or (overwritten old at bytes) k 0 ≡ get_or old k 0
+overwritten_outside old at bytes k le out = grind (arith, places)
+
+-- of a file of which nothing is pending, what is read, and nothing else
 pub clean_image : (bytes c : List ℕ) → IsImage (clean bytes) c → c ≡ bytes
 clean_image bytes c image =
     let low = image.no_shorter in let high = image.no_longer in

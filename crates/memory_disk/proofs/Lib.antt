@@ -1,0 +1,3 @@
+pub mod DiskLemmas
+pub mod LogLemmas
+pub mod SoundLemmas

@@ -1,0 +1,10 @@
+pub mod Changes
+pub mod DiskIn
+pub mod Failing
+pub mod FailingIn
+pub mod Images
+pub mod LogIn
+pub mod Logged
+pub mod SeenDisk
+pub mod Shows
+pub mod Sound
