@@ -1,5 +1,5 @@
 -- The exit status of the program, and what stops it.
-use Rattle.std.specs.Prelude.{ℕ}
+use Rattle.std.specs.Prelude.{ℕ, Result, Ok, Err}
 use Rattle.mkv_lines.specs.declared.status.Status.{Status}
 use Rattle.mkv_lines.specs.declared.status.Status.TheVariants.{Done, Warned, Refused, NoMemory, Outside}
 use Rattle.mkv_values.specs.declared.outside.ReadEnd.{ReadEnd}
@@ -19,3 +19,9 @@ code_of Outside = 4
 abbrev pub stop_of : ReadEnd → Stop
 stop_of read_end.ReadFault = stop.Files
 stop_of read_end.Memory = stop.Memory
+
+-- the status with which a run ends whose command ended so
+abbrev pub status_of : Result Status Stop → Status
+status_of (Ok s) = s
+status_of (Err stop.Memory) = NoMemory
+status_of (Err _) = Outside

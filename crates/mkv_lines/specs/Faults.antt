@@ -1,8 +1,6 @@
 -- The counts of faults of what a run is given, and which of them rose.
 use Rattle.std.specs.Prelude.{◌≡◌, ℕ, ◌⊎◌, Result, Ok, Err}
 use Rattle.mkv_io.specs.Faults.{HasRisen}
-use Rattle.mkv_lines.specs.declared.status.Status.{Status}
-use Rattle.mkv_lines.specs.declared.status.Status.TheVariants as status
 use Rattle.mkv_lines.specs.declared.status.Stop.{Stop}
 use Rattle.mkv_lines.specs.declared.status.Stop.TheVariants as stop
 
@@ -20,11 +18,12 @@ FilesRose old new = HasRisen old.reading new.reading ⊎ HasRisen old.writing ne
 abbrev pub ReportRose : Counts → Counts → Type 0
 ReportRose old new = HasRisen old.report new.report
 
--- why a command stops: a fault is told only where its count rose, and no other count does
+-- why a command over the files stops: a fault is told only where its count rose, and no other count does
 abbrev pub HasStopCause : {T : Type 0} → Counts → Counts → Result T Stop → Type 0
 HasStopCause old new (Ok _) = new ≡ old
 HasStopCause old new (Err stop.Memory) = new ≡ old
 HasStopCause old new (Err stop.Files) = FilesRose old new × (new.report ≡ old.report)
+HasStopCause old new (Err stop.Disk) = ⊥
 HasStopCause old new (Err stop.Report) = ReportRose old new × (new ≡ record old { report = new.report })
 
 -- the same of a call that only reads and says lines, by the counts of reading and of the report
@@ -32,9 +31,5 @@ abbrev pub HasReadStop : {T : Type 0} → ℕ → ℕ → ℕ → ℕ → Result
 HasReadStop reading now report_was report (Ok _) = (now ≡ reading) × (report ≡ report_was)
 HasReadStop reading now report_was report (Err stop.Memory) = (now ≡ reading) × (report ≡ report_was)
 HasReadStop reading now report_was report (Err stop.Files) = HasRisen reading now × (report ≡ report_was)
+HasReadStop reading now report_was report (Err stop.Disk) = ⊥
 HasReadStop reading now report_was report (Err stop.Report) = (now ≡ reading) × HasRisen report_was report
-
--- A run ends with Outside only where a count rose, and always where one did.
-abbrev pub HasStatusCause : Counts → Counts → Status → Type 0
-HasStatusCause old new status.Outside = FilesRose old new ⊎ ReportRose old new
-HasStatusCause old new _ = new ≡ old

@@ -3,9 +3,10 @@ use Rattle.std.specs.Prelude.{ℕ, ◌==◌, ◌++◌, if◌then◌else◌, List
 use Rattle.std.specs.Fmt.{decimal}
 use Rattle.mkv_values.specs.declared.damage.Damage.{Damage}
 use Rattle.matroska_format.specs.declared.element.Header.{Header}
-use Rattle.mkv_lines.specs.Shown.{damage_text, element_text, level_0_name, level_1_name, place_text, shown_text, track_text}
+use Rattle.sidecar_format.specs.declared.recovery.Mark.{Mark}
+use Rattle.mkv_lines.specs.Shown.{damage_text, element_text, level_0_name, level_1_name, mark_text, place_text, shown_text, track_text}
 use Rattle.mkv_lines.specs.declared.line.Line.{Line}
-use Rattle.mkv_lines.specs.declared.line.Line.TheVariants.{Level0, Level1, Track, Refused, Warned, MoreDamages, NoTrack, Missing, OutputIsInput, NotTaken, NoLane, TooManyLanes, NotWebm, TooLarge, Wrote, WroteBlocks, Word, FilesFault}
+use Rattle.mkv_lines.specs.declared.line.Line.TheVariants.{Level0, Level1, Track, Refused, Warned, MoreDamages, NoTrack, Missing, OutputIsInput, NotTaken, NoLane, TooManyLanes, NotWebm, TooLarge, Wrote, WroteBlocks, Recovered, NothingToRecover, BadSidecar, Foreign, Word, FilesFault}
 
 -- an Element at the top of a file
 abbrev pub level_0_line : Header → List ℕ
@@ -74,6 +75,24 @@ wrote_line name = codes "wrote " ++ shown_text name
 abbrev pub wrote_blocks_line : List ℕ → ℕ → List ℕ
 wrote_blocks_line name blocks = wrote_line name ++ (codes ": " ++ (decimal blocks ++ codes " blocks"))
 
+-- a file whose edit is made whole
+abbrev pub recovered_line : List ℕ → List ℕ
+recovered_line name = codes "recovered " ++ shown_text name
+
+-- a file of which no edit was begun
+abbrev pub nothing_line : List ℕ → List ℕ
+nothing_line name = codes "nothing to recover in " ++ shown_text name
+
+-- a file whose sidecar is wrong from an octet on
+abbrev pub bad_sidecar_line : List ℕ → ℕ → List ℕ
+bad_sidecar_line name offset = codes "error: " ++ (shown_text name ++ (codes ": BadSidecar, offset " ++ decimal offset))
+
+-- a file whose sidecar was made for another
+abbrev pub foreign_line : List ℕ → Mark → ℕ → ℕ → List ℕ
+foreign_line name mark kept found =
+    codes "error: "
+    ++ (shown_text name ++ (codes ": Foreign, " ++ (mark_text mark ++ (codes ", kept " ++ (decimal kept ++ (codes ", found " ++ decimal found))))))
+
 -- words that aren't obeyed, from this one on
 abbrev pub word_line : ℕ → List ℕ → List ℕ
 word_line word why = codes "error: word " ++ (decimal word ++ (codes ": " ++ why))
@@ -85,6 +104,10 @@ not_built_line = word_line 0 (codes "NotBuilt")
 -- a fault of the files
 abbrev pub files_fault_line : List ℕ
 files_fault_line = codes "fault: files"
+
+-- a fault of the disk
+abbrev pub disk_fault_line : List ℕ
+disk_fault_line = codes "fault: disk"
 
 -- what a line reads
 abbrev pub text_of : Line → List ℕ
@@ -104,5 +127,9 @@ text_of (NotWebm codec) = not_webm_line codec.now
 text_of (TooLarge name id) = too_large_line name.now id
 text_of (Wrote name) = wrote_line name.now
 text_of (WroteBlocks name blocks) = wrote_blocks_line name.now blocks
+text_of (Recovered name) = recovered_line name.now
+text_of (NothingToRecover name) = nothing_line name.now
+text_of (BadSidecar name offset) = bad_sidecar_line name.now offset
+text_of (Foreign name mark kept found) = foreign_line name.now mark kept found
 text_of (Word word why) = word_line word why.now
 text_of FilesFault = files_fault_line

@@ -34,3 +34,4 @@ HasSayCause before now (Ok _) = now ≡ before
 HasSayCause before now (Err stop.Memory) = now ≡ before
 HasSayCause before now (Err stop.Report) = HasRisen before now
 HasSayCause before now (Err stop.Files) = ⊥
+HasSayCause before now (Err stop.Disk) = ⊥

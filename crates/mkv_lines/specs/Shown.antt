@@ -10,6 +10,8 @@ use Rattle.mkv_schema.specs.declared.ids.TheConstants.{SEGMENT}
 use Rattle.mkv_values.specs.declared.damage.Damage.{Damage}
 use Rattle.mkv_values.specs.Kind.{kind_name}
 use Rattle.matroska_format.specs.declared.element.Header.{Header}
+use Rattle.sidecar_format.specs.declared.recovery.Mark.{Mark}
+use Rattle.sidecar_format.specs.declared.recovery.Mark.TheVariants.{Length, Octet}
 
 -- ---- what isn't ours: names, and texts of files
 
@@ -65,6 +67,11 @@ place_text h = codes " at " ++ (decimal h.offset ++ (codes " size " ++ size_text
 
 abbrev pub damage_text : Damage → List ℕ
 damage_text d = kind_name d.kind ++ (codes ", element " ++ (damaged_id d.id ++ (codes ", offset " ++ decimal d.offset)))
+
+-- by what a file is told from another
+abbrev pub mark_text : Mark → List ℕ
+mark_text Length = codes "length"
+mark_text (Octet at) = codes "octet " ++ decimal at
 
 -- a track, by its number from 0 in the file
 abbrev pub track_text : ℕ → List ℕ → List ℕ → ℕ → ℕ → List ℕ → List ℕ

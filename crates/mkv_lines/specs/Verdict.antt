@@ -1,12 +1,10 @@
--- What a run comes to: its status, the lines that it says, and the outputs that it writes.
-use Rattle.std.specs.Prelude.{◌≡◌, ℕ, ◌⊎◌, ◌++◌, List, [], ◌∷◌, Result, Ok, Err}
+-- What a command comes to: its status, the lines that it says, and the outputs that it writes.
+use Rattle.std.specs.Prelude.{◌≡◌, ℕ, List, [], ◌∷◌, Result, Ok, Err}
 use Rattle.mkv_io.specs.Lines.{with_lines}
 use Rattle.mkv_io.specs.Names.{Names}
 use Rattle.mkv_outputs.specs.Drafts.{Draft, StandsInTurn, outputs_of}
 use Rattle.mkv_outputs.specs.Outputs.{Output, with_outputs}
 use Rattle.mkv_outputs.specs.Starts.{StandsInPart}
-use Rattle.mkv_lines.specs.Faults.{Counts, FilesRose, ReportRose}
-use Rattle.mkv_lines.specs.Line.{files_fault_line}
 use Rattle.mkv_lines.specs.Said.{ReportLines, SaysPart}
 use Rattle.mkv_lines.specs.Seen.{Seen}
 use Rattle.mkv_lines.specs.declared.status.Status.{Status}
@@ -65,24 +63,3 @@ pub record IsStopped (old new : Seen) (v : Verdict) : Type 0 where
 abbrev pub Reaches : Seen → Seen → Result Status Stop → Verdict → Type 0
 Reaches old new (Ok s) v = (s ≡ v.status) × IsDone old new v
 Reaches old new (Err e) v = IsStopped old new v
-
--- ---- a run
-
--- The first of these lines were added, and then that the files failed.
-pub record SaysFault (old new : ReportLines) (all : List (List ℕ)) : Type 0 where
-  pub said : List (List ℕ)
-  pub left : List (List ℕ)
-  pub whole : all ≡ said ++ left
-  pub added : new ≡ with_lines old (said ++ files_fault_line ∷ [])
-
--- Where the outside failed, the lines are a first part of the verdict's, and then the line of the fault
--- where the files failed; that line is missing only where the report failed.
-abbrev pub EndsOutside : Counts → Counts → ReportLines → ReportLines → List (List ℕ) → Type 0
-EndsOutside before now old new all = (FilesRose before now × SaysFault old new all) ⊎ (ReportRose before now × SaysPart old new all)
-
--- How a run may end that has this verdict: with its status, its lines and its outputs; or by want of memory or a
--- fault of the outside, with a first part of them.
-abbrev pub Ends : Seen → Seen → Status → Verdict → Type 0
-Ends old new status.NoMemory v = IsStopped old new v
-Ends old new status.Outside v = EndsOutside old.counts new.counts old.lines new.lines v.lines × Leaves old.names new.names v.outputs
-Ends old new s v = (s ≡ v.status) × IsDone old new v

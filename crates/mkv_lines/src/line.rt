@@ -1,9 +1,12 @@
 //! The lines that a user is told.
 
-use crate::shown::{Level0Name, Level1Name, ShownDamage, ShownElement, ShownPlace, ShownTrack};
+use crate::shown::{
+    Level0Name, Level1Name, ShownDamage, ShownElement, ShownMark, ShownPlace, ShownTrack,
+};
 use crate::shown_text::ShownText;
 use matroska_format::Header;
 use mkv_values::Damage;
+use sidecar_format::Mark;
 use std::fmt;
 
 /// A line that a user is told. Its text, by `Display`, has no line end.
@@ -16,33 +19,85 @@ pub enum Line<'a> {
     /// A track, by its number from 0 in the file (RFC 9559, section 5.1.4, Tracks Element).
     Track(ShownTrack<'a>),
     /// A file isn't taken.
-    Refused { name: &'a str, damage: Damage },
+    Refused {
+        name: &'a str,
+        damage: Damage,
+    },
     /// A file is damaged from a place on.
-    Warned { name: &'a str, damage: Damage },
+    Warned {
+        name: &'a str,
+        damage: Damage,
+    },
     /// More of a file's damages than are told one by one.
-    MoreDamages { name: &'a str, more: u64 },
+    MoreDamages {
+        name: &'a str,
+        more: u64,
+    },
     /// A file hasn't the track of a number, counted from 0.
-    NoTrack { name: &'a str, number: u64 },
+    NoTrack {
+        name: &'a str,
+        number: u64,
+    },
     /// A file isn't there.
-    Missing { name: &'a str },
+    Missing {
+        name: &'a str,
+    },
     /// An output has the name of the file that it would be made of.
-    OutputIsInput { name: &'a str },
+    OutputIsInput {
+        name: &'a str,
+    },
     /// A file has an Element of this ID, which isn't taken over yet, and which the words don't leave out.
-    NotTaken { name: &'a str, id: u32 },
+    NotTaken {
+        name: &'a str,
+        id: u32,
+    },
     /// No track is taken.
     NoLane,
     /// More tracks are taken than an output may have.
     TooManyLanes,
     /// A track is taken whose codec WebM doesn't have.
-    NotWebm { codec: &'a str },
+    NotWebm {
+        codec: &'a str,
+    },
     /// The Element of this ID of an output would be too large.
-    TooLarge { name: &'a str, id: u32 },
+    TooLarge {
+        name: &'a str,
+        id: u32,
+    },
     /// An output stands whole under its name.
-    Wrote { name: &'a str },
+    Wrote {
+        name: &'a str,
+    },
     /// The same, with the number of its blocks.
-    WroteBlocks { name: &'a str, blocks: u64 },
+    WroteBlocks {
+        name: &'a str,
+        blocks: u64,
+    },
+    /// An edit of a file that was stopped is made whole.
+    Recovered {
+        name: &'a str,
+    },
+    /// No edit of a file was begun.
+    NothingToRecover {
+        name: &'a str,
+    },
+    /// A file's sidecar is wrong from an octet on, counted from its start.
+    BadSidecar {
+        name: &'a str,
+        offset: u64,
+    },
+    /// A file's sidecar was made for another file: its length, or an octet of it, was another.
+    Foreign {
+        name: &'a str,
+        mark: Mark,
+        kept: u64,
+        found: u64,
+    },
     /// The words aren't obeyed, from this one on, counted from 0.
-    Word { word: usize, why: &'a str },
+    Word {
+        word: usize,
+        why: &'a str,
+    },
     /// The files failed.
     FilesFault,
 }
@@ -109,6 +164,30 @@ impl fmt::Display for Line<'_> {
             Line::WroteBlocks { name, blocks } => {
                 let name = ShownText(name);
                 write!(f, "wrote {name}: {blocks} blocks")
+            }
+            Line::Recovered { name } => {
+                let name = ShownText(name);
+                write!(f, "recovered {name}")
+            }
+            Line::NothingToRecover { name } => {
+                let name = ShownText(name);
+                write!(f, "nothing to recover in {name}")
+            }
+            Line::BadSidecar { name, offset } => {
+                let name = ShownText(name);
+                write!(f, "error: {name}: BadSidecar, offset {offset}")
+            }
+            Line::Foreign {
+                name,
+                mark,
+                kept,
+                found,
+            } => {
+                let (name, mark) = (ShownText(name), ShownMark(mark));
+                write!(
+                    f,
+                    "error: {name}: Foreign, {mark}, kept {kept}, found {found}"
+                )
             }
             Line::Word { word, why } => write!(f, "error: word {word}: {why}"),
             Line::FilesFault => f.write_str("fault: files"),

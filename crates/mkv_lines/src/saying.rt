@@ -1,7 +1,7 @@
 //! Lines are said.
 
 ghost use Rattle.std.specs.Prelude.{◌≡◌, ◌∷◌, []};
-ghost use Rattle.mkv_lines.specs.Line.{files_fault_line, text_of};
+ghost use Rattle.mkv_lines.specs.Line.{disk_fault_line, files_fault_line, text_of};
 ghost use Rattle.mkv_lines.specs.Said.{HasSayCause, Says};
 
 use crate::line::Line;
@@ -43,4 +43,13 @@ pub fn say_files_fault<R: Report>(report: &mut R) -> Result<(), Stop>
     ensures cause { HasSayCause (R.faults report.old) (R.faults report.new) result }
 {
     say_text(report, "fault: files")
+}
+
+/// Says that the disk failed, which takes no memory.
+pub fn say_disk_fault<R: Report>(report: &mut R) -> Result<(), Stop>
+    ensures said { Says (R.lines report.old) (R.lines report.new) (disk_fault_line ∷ []) result }
+    ensures memory { result ≡ Err Stop.Memory → ⊥ }
+    ensures cause { HasSayCause (R.faults report.old) (R.faults report.new) result }
+{
+    say_text(report, "fault: disk")
 }

@@ -6,6 +6,7 @@ use matroska_format::Header;
 use mkv_schema::ids::SEGMENT;
 use mkv_schema::{may_stand, row};
 use mkv_values::Damage;
+use sidecar_format::Mark;
 use std::fmt;
 
 /// The Element of which something is told, by its ID.
@@ -131,6 +132,24 @@ impl fmt::Display for ShownDamage {
         let id = DamagedId(self.0.id);
         let offset = self.0.offset;
         write!(f, "{kind}, element {id}, offset {offset}")
+    }
+}
+
+/// By what a file is told from another.
+#[derive(Clone, Copy)]
+pub struct ShownMark(pub Mark);
+
+impl fmt::Display for ShownMark {
+    ghost use Rattle.std.specs.Prelude.{Some};
+    ghost use Rattle.mkv_lines.specs.Shown.{mark_text};
+
+    ghost output = { λ mark. Some (mark_text mark.0) };
+
+    fn fmt<W: fmt::Write>(&self, f: &mut fmt::Formatter<W>) -> fmt::Result {
+        match self.0 {
+            Mark::Length => f.write_str("length"),
+            Mark::Octet { at } => write!(f, "octet {at}"),
+        }
     }
 }
 

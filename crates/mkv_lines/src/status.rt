@@ -16,7 +16,7 @@ pub enum Status {
     Refused,
     /// There was no memory.
     NoMemory,
-    /// The files or the report failed.
+    /// The files, the disk or the report failed.
     Outside,
 }
 
@@ -42,6 +42,8 @@ pub enum Stop {
     Memory,
     /// The files failed.
     Files,
+    /// The disk failed.
+    Disk,
     /// The report failed.
     Report,
 }
