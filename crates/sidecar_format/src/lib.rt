@@ -5,6 +5,7 @@
 
 mod fit;
 mod gate;
+mod name;
 mod place;
 mod plan;
 mod reading;
@@ -12,6 +13,7 @@ mod recovery;
 
 pub use fit::unfit;
 pub use gate::Gate;
+pub use name::{SUFFIX, sidecar_name};
 pub use place::{HEAD, HEAD_1, KEPT, MOST_OCTETS, MOST_WRITES, OPEN, Place};
 pub use plan::Plan;
 pub use reading::{count_in, gate_of, head_len, place_in};
