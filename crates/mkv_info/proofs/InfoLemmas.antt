@@ -1,20 +1,22 @@
 -- The lines of a file, one part after the other.
-use Rattle.std.proofs.Common.{◌≡◌, ℕ, List, [], ◌∷◌, ◌++◌, map, Option, Result, Ok, Err, IfOk, refl, sym, ◌∙◌, ap, subst}
+use Rattle.std.proofs.Common.{◌≡◌, ◌≢◌, ℕ, Bool, true, false, List, [], ◌∷◌, ◌++◌, map, Option, Some, None, Result, Ok, Err, IfOk, refl, sym, ◌∙◌, ap, subst}
 use Rattle.mkv_io.specs.Lines.{with_lines}
 use Rattle.mkv_values.specs.declared.damage.Damage.{Damage}
 use Rattle.matroska_format.specs.declared.element.Header.{Header}
-use Rattle.matroska_format.specs.Outline.{Outlined, segment_run}
+use Rattle.matroska_format.specs.Outline.{Outlined, outline_of, segment_run}
 use Rattle.mkv_schema.specs.declared.ids.TheConstants.{TRACKS}
 use Rattle.element_reader.specs.Outline.{FileOutline, first_in, outline_in}
 use Rattle.element_reader.proofs.OutlineLemmas.{Outlines, Outlines-shown, first_in-others}
 use Rattle.mkv_lines.specs.Line.{level_0_line, level_1_line, refusal_line}
 use Rattle.mkv_lines.specs.Said.{ReportLines, Says, SaysPart}
-use Rattle.mkv_lines.specs.Verdict.{SaysVerdict, Verdict, refused}
+use Rattle.mkv_lines.specs.Seen.{Seen}
+use Rattle.mkv_lines.specs.Verdict.{Reaches, SaysVerdict, Verdict, nothing, refused, unless_pending}
 use Rattle.mkv_lines.specs.declared.status.Status.{Status}
 use Rattle.mkv_lines.specs.declared.status.Stop.{Stop}
 use Rattle.mkv_lines.proofs.SaidLemmas.{SaysPart-before, SaysPart-behind, SaysPart-none, Says-then}
+use Rattle.mkv_lines.proofs.VerdictLemmas.{Reaches-lines}
 use Rattle.track_records.specs.declared.track.Track.{Track}
-use Rattle.mkv_info.specs.Info.{content_verdict, element_lines, listed, listed_or_refused, shown_lines, status_with, warnings, with_tracks}
+use Rattle.mkv_info.specs.Info.{content_verdict, element_lines, listed, listed_or_refused, name_verdict, shown_lines, status_with, warnings, with_tracks}
 use Rattle.mkv_info.specs.Tracks.{file_tracks, track_lines, tracks_at}
 
 -- ---- the lines of the Elements
@@ -108,3 +110,27 @@ reaches-warned old mid late new name bytes v found list damage r outline tracks 
     (Says-then mid late new (track_lines 0 list) (warnings name o.damage) r then
     (subst (λ (d : Option Damage). Says late new (warnings name d) r) same_damage says)))
     (subst (λ (d : Option Damage). IfOk r (λ s. s ≡ status_with d)) same_damage status))
+
+-- ---- a file and its sidecar
+
+-- nothing is written
+lists-nothing : (name bytes : List ℕ) → (content_verdict name bytes).outputs ≡ nothing
+lists-nothing name bytes = outline (outline_of 0 bytes)
+  where
+    tracks : (o : Outlined) (found : Result (List Track) Damage) → (with_tracks name o found).outputs ≡ nothing
+    tracks o (Ok list) = refl
+    tracks o (Err d) = refl
+
+    outline : (found : Result Outlined Damage) → (listed_or_refused name bytes found).outputs ≡ nothing
+    outline (Ok o) = tracks o (file_tracks bytes o)
+    outline (Err d) = refl
+
+settled-nothing : (name bytes : List ℕ) (pending : Bool) → (unless_pending name pending (content_verdict name bytes)).outputs ≡ nothing
+settled-nothing name bytes true = refl
+settled-nothing name bytes false = lists-nothing name bytes
+
+-- what was said of a content is the verdict on its name
+pub reaches-settled : (old new : Seen) (r : Result Status Stop) (name : List ℕ) (pending : Bool) (content : Option (List ℕ)) → content ≢ None → ((bytes : List ℕ) → content ≡ Some bytes → SaysVerdict old.lines new.lines r (unless_pending name pending (content_verdict name bytes))) → new.names ≡ old.names → Reaches old new r (name_verdict name pending content)
+reaches-settled old new r name pending None there says names = absurd (there refl)
+reaches-settled old new r name pending (Some bytes) there says names =
+    Reaches-lines old new r (unless_pending name pending (content_verdict name bytes)) (says bytes refl) (settled-nothing name bytes pending) names

@@ -1,13 +1,14 @@
 -- What `info` tells of a file.
-use Rattle.std.specs.Prelude.{ℕ, ◌++◌, List, [], ◌∷◌, map, Option, Some, None, Result, Ok, Err}
+use Rattle.std.specs.Prelude.{ℕ, ◌++◌, Bool, List, [], ◌∷◌, map, Option, Some, None, Result, Ok, Err}
 use Rattle.mkv_values.specs.declared.damage.Damage.{Damage}
 use Rattle.matroska_format.specs.Outline.{Outlined, outline_of, segment_run}
 use Rattle.element_reader.specs.Outline.{FileOutline}
 use Rattle.track_records.specs.declared.track.Track.{Track}
 use Rattle.mkv_lines.specs.Line.{level_0_line, level_1_line, missing_line, refusal_line, warning_line}
-use Rattle.mkv_lines.specs.Verdict.{Verdict, nothing, refused}
+use Rattle.mkv_lines.specs.Verdict.{Verdict, nothing, refused, unless_pending}
 use Rattle.mkv_lines.specs.declared.status.Status.{Status}
 use Rattle.mkv_lines.specs.declared.status.Status.TheVariants.{Done, Warned}
+use Rattle.pending_edits.specs.Pending.{is_pending}
 use Rattle.mkv_info.specs.Tracks.{file_tracks, track_lines}
 
 -- a line for the EBML header, for the Segment, and for each Element of level 1
@@ -49,11 +50,11 @@ listed_or_refused name bytes (Err d) = refused (refusal_line name d)
 abbrev pub content_verdict : List ℕ → List ℕ → Verdict
 content_verdict name bytes = listed_or_refused name bytes (outline_of 0 bytes)
 
--- what is told of a name, which may have no content
-abbrev pub name_verdict : List ℕ → Option (List ℕ) → Verdict
-name_verdict name None = refused (missing_line name)
-name_verdict name (Some bytes) = content_verdict name bytes
+-- what is told of a name, which may have no content, and of whose file an edit may be pending
+abbrev pub name_verdict : List ℕ → Bool → Option (List ℕ) → Verdict
+name_verdict name pending None = refused (missing_line name)
+name_verdict name pending (Some bytes) = unless_pending name pending (content_verdict name bytes)
 
 -- what is told of a name in a world of names
 abbrev pub info_verdict : (List ℕ → Option (List ℕ)) → List ℕ → Verdict
-info_verdict world name = name_verdict name (world name)
+info_verdict world name = name_verdict name (is_pending world name) (world name)

@@ -1,18 +1,20 @@
 //! A file is opened, listed and closed.
 
 ghost use Rattle.std.specs.Prelude.{◌≡◌, ℕ, IfOk};
-ghost use Rattle.mkv_io.specs.Sources.{live_files};
+ghost use Rattle.mkv_io.specs.Sources.{IfTold, IsLive, live_files};
 ghost use Rattle.mkv_io.specs.Told.{Told};
-ghost use Rattle.mkv_lines.specs.Faults.{HasStopCause};
+ghost use Rattle.pending_edits.specs.Pending.{LooksOnly, is_pending};
+ghost use Rattle.mkv_lines.specs.Faults.{HasReadStop, HasStopCause};
 ghost use Rattle.mkv_lines.specs.Ordinary.{IsOrdinary};
 ghost use Rattle.mkv_lines.specs.Seen.{seen};
-ghost use Rattle.mkv_lines.specs.Verdict.{Reaches};
-ghost use Rattle.mkv_info.specs.Info.{info_verdict};
+ghost use Rattle.mkv_lines.specs.Verdict.{Reaches, SaysVerdict, unless_pending};
+ghost use Rattle.mkv_info.specs.Info.{content_verdict, info_verdict};
 
 use crate::list::list_file;
 use mkv_io::{Files, Report};
 use mkv_lines::{Line, Status, Stop, say};
-use mkv_values::OpenFault;
+use mkv_values::{FileId, OpenFault};
+use pending_edits::is_pending;
 use std::alloc::Global;
 
 /// Lists the Elements and tracks of the file of a name, which is open in the meantime.
@@ -42,7 +44,29 @@ pub fn info_of<F: Files, P: Report>(
         Err(OpenFault::Failed) => return Err(Stop::Files),
         Err(OpenFault::Memory) => return Err(Stop::Memory),
     };
-    let ended = list_file(alloc, name, files, file, report);
+    let ended = list_settled(alloc, name, files, file, report);
     files.close(file);
     ended
+}
+
+/// Lists a live file, unless an edit of the file of this name is pending.
+fn list_settled<F: Files, P: Report>(
+    alloc: Global,
+    name: &str,
+    files: &mut F,
+    file: FileId,
+    report: &mut P,
+) -> Result<Status, Stop>
+    requires { IsLive F.Reads files.old file }
+    ensures verdict { Told (F.names files.old) (λ world. IfTold F.Reads files.old file (λ bytes. SaysVerdict (P.lines report.old) (P.lines report.new)
+        result (unless_pending name.now (is_pending world name.now) (content_verdict name.now bytes)))) }
+    ensures ordinary { IfOk result IsOrdinary }
+    ensures looks { LooksOnly F.Reads F.Files.own files.old files.new }
+    ensures cause { HasReadStop (F.reading_faults files.old) (F.reading_faults files.new) (P.faults report.old) (P.faults report.new) result }
+{
+    if is_pending(alloc, name, files)? {
+        say(alloc, report, &Line::PendingEdit { name })?;
+        return Ok(Status::Refused);
+    }
+    list_file(alloc, name, files, file, report)
 }

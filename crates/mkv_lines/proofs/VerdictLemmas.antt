@@ -3,10 +3,12 @@ use Rattle.std.proofs.Common.{◌≡◌, List, [], ◌∷◌, Result, Ok, Err, r
 use Rattle.mkv_io.specs.Names.{Names}
 use Rattle.mkv_outputs.specs.Outputs.{Output, with_outputs}
 use Rattle.mkv_outputs.specs.Starts.{AreBegun}
+use Rattle.mkv_lines.specs.Said.{ReportLines, SaysPart}
 use Rattle.mkv_lines.specs.Seen.{Seen}
-use Rattle.mkv_lines.specs.Verdict.{Leaves, Outputs, Reaches, SaysVerdict, Verdict, at_once, in_turn, list_of, nothing}
+use Rattle.mkv_lines.specs.Verdict.{IsStopped, Leaves, Outputs, Reaches, SaysVerdict, Verdict, at_once, in_turn, list_of, nothing}
 use Rattle.mkv_lines.specs.declared.status.Status.{Status}
 use Rattle.mkv_lines.specs.declared.status.Stop.{Stop}
+use Rattle.mkv_lines.proofs.SaidLemmas.{SaysPart-none}
 
 -- a command that writes nothing leaves every name
 pub Leaves-nothing : (old new : Names) → Leaves old new nothing → new ≡ old
@@ -24,6 +26,13 @@ Leaves-before names (in_turn all) = record { stand = []; drafted = tt; names = r
 -- the same of names that are equal
 pub Leaves-same : (old new : Names) (outputs : Outputs) → new ≡ old → Leaves old new outputs
 Leaves-same old new outputs same = subst (λ (names : Names). Leaves old names outputs) (sym same) (Leaves-before old outputs)
+
+-- a command that was stopped before its first line
+pub IsStopped-before : (old new : Seen) (v : Verdict) → new.lines ≡ old.lines → new.names ≡ old.names → IsStopped old new v
+IsStopped-before old new v lines names = record {
+  lines = subst (λ (now : ReportLines). SaysPart old.lines now v.lines) (sym lines) (SaysPart-none old.lines v.lines);
+  names = Leaves-same old.names new.names v.outputs names;
+}
 
 -- a command that has said its verdict and writes nothing has reached it
 pub Reaches-lines : (old new : Seen) (r : Result Status Stop) (v : Verdict) → SaysVerdict old.lines new.lines r v → v.outputs ≡ nothing → new.names ≡ old.names → Reaches old new r v

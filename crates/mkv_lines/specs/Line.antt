@@ -6,7 +6,7 @@ use Rattle.matroska_format.specs.declared.element.Header.{Header}
 use Rattle.sidecar_format.specs.declared.recovery.Mark.{Mark}
 use Rattle.mkv_lines.specs.Shown.{damage_text, element_text, level_0_name, level_1_name, mark_text, place_text, shown_text, track_text}
 use Rattle.mkv_lines.specs.declared.line.Line.{Line}
-use Rattle.mkv_lines.specs.declared.line.Line.TheVariants.{Level0, Level1, Track, Refused, Warned, MoreDamages, NoTrack, Missing, OutputIsInput, NotTaken, NoLane, TooManyLanes, NotWebm, TooLarge, Wrote, WroteBlocks, Recovered, NothingToRecover, BadSidecar, Foreign, Word, FilesFault}
+use Rattle.mkv_lines.specs.declared.line.Line.TheVariants.{Level0, Level1, Track, Refused, Warned, MoreDamages, NoTrack, Missing, PendingEdit, OutputIsInput, NotTaken, NoLane, TooManyLanes, NotWebm, TooLarge, Wrote, WroteBlocks, Recovered, NothingToRecover, BadSidecar, Foreign, Word, FilesFault}
 
 -- an Element at the top of a file
 abbrev pub level_0_line : Header → List ℕ
@@ -43,6 +43,10 @@ no_track_line name number = codes "warning: " ++ (shown_text name ++ (codes ": n
 -- a file that isn't there
 abbrev pub missing_line : List ℕ → List ℕ
 missing_line name = codes "error: " ++ (shown_text name ++ codes ": Missing")
+
+-- a file of which an edit was begun and isn't done
+abbrev pub pending_edit_line : List ℕ → List ℕ
+pending_edit_line name = codes "error: " ++ (shown_text name ++ codes ": PendingEdit, run recover")
 
 -- an output that has the name of the file that it would be made of
 abbrev pub output_is_input_line : List ℕ → List ℕ
@@ -119,6 +123,7 @@ text_of (Warned name damage) = warning_line name.now damage
 text_of (MoreDamages name more) = more_damages_line name.now more
 text_of (NoTrack name number) = no_track_line name.now number
 text_of (Missing name) = missing_line name.now
+text_of (PendingEdit name) = pending_edit_line name.now
 text_of (OutputIsInput name) = output_is_input_line name.now
 text_of (NotTaken name id) = not_taken_line name.now id
 text_of NoLane = no_lane_line

@@ -1,10 +1,11 @@
 -- What a command comes to: its status, the lines that it says, and the outputs that it writes.
-use Rattle.std.specs.Prelude.{◌≡◌, ℕ, List, [], ◌∷◌, Result, Ok, Err}
+use Rattle.std.specs.Prelude.{◌≡◌, ℕ, Bool, true, false, List, [], ◌∷◌, Result, Ok, Err}
 use Rattle.mkv_io.specs.Lines.{with_lines}
 use Rattle.mkv_io.specs.Names.{Names}
 use Rattle.mkv_outputs.specs.Drafts.{Draft, StandsInTurn, outputs_of}
 use Rattle.mkv_outputs.specs.Outputs.{Output, with_outputs}
 use Rattle.mkv_outputs.specs.Starts.{StandsInPart}
+use Rattle.mkv_lines.specs.Line.{pending_edit_line}
 use Rattle.mkv_lines.specs.Said.{ReportLines, SaysPart}
 use Rattle.mkv_lines.specs.Seen.{Seen}
 use Rattle.mkv_lines.specs.declared.status.Status.{Status}
@@ -35,6 +36,11 @@ done lines = record { status = status.Done; lines = lines; outputs = nothing }
 -- a refusal is told by one line, and nothing is written
 abbrev pub refused : List ℕ → Verdict
 refused line = record { status = status.Refused; lines = line ∷ []; outputs = nothing }
+
+-- a file of which an edit is pending is refused
+abbrev pub unless_pending : List ℕ → Bool → Verdict → Verdict
+unless_pending name true v = refused (pending_edit_line name)
+unless_pending name false v = v
 
 -- ---- a command
 

@@ -42,6 +42,10 @@ pub enum Line<'a> {
     Missing {
         name: &'a str,
     },
+    /// An edit of a file was begun and isn't done.
+    PendingEdit {
+        name: &'a str,
+    },
     /// An output has the name of the file that it would be made of.
     OutputIsInput {
         name: &'a str,
@@ -138,6 +142,10 @@ impl fmt::Display for Line<'_> {
             Line::Missing { name } => {
                 let name = ShownText(name);
                 write!(f, "error: {name}: Missing")
+            }
+            Line::PendingEdit { name } => {
+                let name = ShownText(name);
+                write!(f, "error: {name}: PendingEdit, run recover")
             }
             Line::OutputIsInput { name } => {
                 let name = ShownText(name);
