@@ -14,9 +14,10 @@ use Rattle.extract_model.specs.Content.{outputs_of}
 use Rattle.extract_model.specs.Job.{job_outputs, targets_of}
 use Rattle.extractors.specs.Source.{entry_in}
 use Rattle.mkv_lines.specs.Line.{damage_lines, missing_line, no_track_line, output_is_input_line, refusal_line, wrote_line}
-use Rattle.mkv_lines.specs.Verdict.{Verdict, at_once, refused}
+use Rattle.mkv_lines.specs.Verdict.{Verdict, at_once, refused, unless_pending}
 use Rattle.mkv_lines.specs.declared.status.Status.{Status}
 use Rattle.mkv_lines.specs.declared.status.Status.TheVariants.{Done, Warned}
+use Rattle.pending_edits.specs.Pending.{is_pending}
 use Rattle.mkv_extract.specs.Read.{FileRead, read_of}
 
 -- ---- the tracks that a file hasn't
@@ -65,10 +66,10 @@ abbrev pub read_verdict : List ℕ → Job → List ℕ → Result FileRead Dama
 read_verdict name job bytes (Err d) = refused (refusal_line name d)
 read_verdict name job bytes (Ok file) = taken_verdict name job file.records.tracks (file_events true bytes file.segment)
 
--- what is told of a name, which may have no content
-abbrev pub name_verdict : List ℕ → Job → Option (List ℕ) → Verdict
-name_verdict name job None = refused (missing_line name)
-name_verdict name job (Some bytes) = read_verdict name job bytes (read_of job bytes)
+-- what is told of a name, which may have no content, and of whose file an edit may be pending
+abbrev pub name_verdict : List ℕ → Job → Bool → Option (List ℕ) → Verdict
+name_verdict name job pending None = refused (missing_line name)
+name_verdict name job pending (Some bytes) = unless_pending name pending (read_verdict name job bytes (read_of job bytes))
 
 -- an output has the name of the file
 abbrev pub is_input : List ℕ → List Target → Bool
@@ -76,4 +77,4 @@ is_input name targets = list_any (λ (t : Target). bytes_eq t.name name) targets
 
 -- what `extract` comes to in a world of names
 abbrev pub extract_verdict : (List ℕ → Option (List ℕ)) → List ℕ → Job → Verdict
-extract_verdict world name job = if is_input name (targets_of job) then refused (output_is_input_line name) else name_verdict name job (world name)
+extract_verdict world name job = if is_input name (targets_of job) then refused (output_is_input_line name) else name_verdict name job (is_pending world name) (world name)

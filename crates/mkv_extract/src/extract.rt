@@ -6,12 +6,13 @@ ghost use Rattle.mkv_io.specs.Sources.{IfTold, IsLive, live_files};
 ghost use Rattle.mkv_io.specs.Told.{Told};
 ghost use Rattle.extract_model.specs.Job.{names_of, taken_of, targets_of};
 ghost use Rattle.extractors.specs.Source.{AreUsable, IsSource, events_in};
+ghost use Rattle.pending_edits.specs.Pending.{is_pending};
 ghost use Rattle.mkv_lines.specs.Faults.{HasStopCause};
 ghost use Rattle.mkv_lines.specs.Line.{refusal_line};
 ghost use Rattle.mkv_lines.specs.Ordinary.{IsOrdinary};
 ghost use Rattle.mkv_lines.specs.Said.{HasSayCause};
 ghost use Rattle.mkv_lines.specs.Seen.{seen};
-ghost use Rattle.mkv_lines.specs.Verdict.{Reaches, SaysVerdict, refused};
+ghost use Rattle.mkv_lines.specs.Verdict.{Reaches, SaysVerdict, refused, unless_pending};
 ghost use Rattle.mkv_extract.specs.End.{stop_of};
 ghost use Rattle.mkv_extract.specs.Extract.{extract_verdict, is_input, read_verdict, taken_verdict};
 ghost use Rattle.mkv_extract.specs.Read.{read_of};
@@ -24,6 +25,7 @@ use mkv_io::{Files, Report};
 use mkv_jobs::{Job, RemuxEnd, Target};
 use mkv_lines::{Line, Status, Stop, say};
 use mkv_values::{Damage, FileId, OpenFault};
+use pending_edits::is_pending;
 use std::alloc::Global;
 
 /// Takes what a job asks for out of the file of a name, each target into a file of its own. The job takes something
@@ -60,7 +62,7 @@ pub fn extract_of<F: Files, P: Report>(
         Err(OpenFault::Failed) => return Err(Stop::Files),
         Err(OpenFault::Memory) => return Err(Stop::Memory),
     };
-    let ended = extract_file(alloc, name, job, files, file, report);
+    let ended = extract_settled(alloc, name, job, files, file, report);
     files.close(file);
     ended
 }
@@ -70,6 +72,37 @@ fn is_input(name: &str, targets: &[Target]) -> bool
     ensures { result ≡ is_input name.now targets.now }
 {
     targets.iter().any(|target| target.name.as_str() == name)
+}
+
+/// Takes what a job asks for out of a live file, unless an edit of the file of this name is pending, or something else
+/// refuses it.
+fn extract_settled<F: Files, P: Report>(
+    alloc: Global,
+    name: &str,
+    job: &Job,
+    files: &mut F,
+    file: FileId,
+    report: &mut P,
+) -> Result<Status, Stop>
+    requires takes { IsSome (taken_of job.now) }
+    requires apart { AreApart (names_of (targets_of job.now)) }
+    requires live { IsLive F.Reads files.old file }
+    requires other { AreOthers (F.holder files.old file.n) (names_of (targets_of job.now)) }
+    ensures verdict { Told (F.names files.old) (λ world. IfTold F.Reads files.old file (λ bytes. Reaches
+        (seen F.Reads F.writing_faults F.names P.Report files.old report.old)
+        (seen F.Reads F.writing_faults F.names P.Report files.new report.new)
+        result (unless_pending name.now (is_pending world name.now) (read_verdict name.now job.now bytes (read_of job.now bytes))))) }
+    ensures ordinary { IfOk result IsOrdinary }
+    ensures live { (file : ℕ) → (live_files F.Reads files.new).live file ≡ (live_files F.Reads files.old).live file }
+    ensures cause { HasStopCause
+        (seen F.Reads F.writing_faults F.names P.Report files.old report.old).counts
+        (seen F.Reads F.writing_faults F.names P.Report files.new report.new).counts result }
+{
+    if is_pending(alloc, name, files)? {
+        say(alloc, report, &Line::PendingEdit { name })?;
+        return Ok(Status::Refused);
+    }
+    extract_file(alloc, name, job, files, file, report)
 }
 
 /// Takes what a job asks for out of a live file, unless something refuses it.

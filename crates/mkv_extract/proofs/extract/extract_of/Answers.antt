@@ -1,13 +1,28 @@
-use Rattle.std.proofs.Common.{List, sym, ◌∙◌, ap}
+use Rattle.std.proofs.Common.{List, refl, sym, ◌∙◌, ap}
 use Rattle.mkv_jobs.specs.declared.job.Target.{Target}
 use Rattle.extract_model.specs.Job.{targets_of}
-use Rattle.mkv_extract.specs.Extract.{is_input}
+use Rattle.mkv_lines.specs.Seen.{seen}
+use Rattle.mkv_lines.proofs.VerdictLemmas.{IsStopped-before}
+use Rattle.mkv_extract.specs.Extract.{extract_verdict, is_input}
 use Rattle.mkv_extract.proofs.ExtractLemmas.{others-named}
 use Rattle.mkv_extract.proofs.extract.extract_of.Goals as goal
 
 -- no output has the name of the file
-pub extract_file-ended-requires-clause-other : goal.extract_file-ended-requires-clause-other
-extract_file-ended-requires-clause-other g c =
+pub extract_settled-ended-requires-clause-other : goal.extract_settled-ended-requires-clause-other
+extract_settled-ended-requires-clause-other g c =
     others-named c.args.name.now (g.F.Files.holder c.open_file.new.self c.in-Ok.file.n) (targets_of c.args.job.now)
     (ap (λ (ts : List Target). is_input c.args.name.now ts) (sym c.targets_of.ensures) ∙ sym c.is_input.ensures ∙ c.if-is_input.false)
     c.in-Ok.ensures.holder
+
+-- the file couldn't be opened
+pub returns-in-Err-Failed-clause-verdict : goal.returns-in-Err-Failed-clause-verdict
+returns-in-Err-Failed-clause-verdict g c = λ world told.
+    IsStopped-before (seen g.F.Reads g.F.Files.writing_faults g.F.Files.names g.P.Report c.args.files.now c.args.report.now)
+    (seen g.F.Reads g.F.Files.writing_faults g.F.Files.names g.P.Report c.open_file.new.self c.args.report.now)
+    (extract_verdict world c.args.name.now c.args.job.now) refl c.open_file.ensures.names
+
+pub returns-in-Err-Memory-clause-verdict : goal.returns-in-Err-Memory-clause-verdict
+returns-in-Err-Memory-clause-verdict g c = λ world told.
+    IsStopped-before (seen g.F.Reads g.F.Files.writing_faults g.F.Files.names g.P.Report c.args.files.now c.args.report.now)
+    (seen g.F.Reads g.F.Files.writing_faults g.F.Files.names g.P.Report c.open_file.new.self c.args.report.now)
+    (extract_verdict world c.args.name.now c.args.job.now) refl c.open_file.ensures.names
