@@ -6,7 +6,6 @@ use Rattle.mkv_values.specs.declared.outside.FileId.{FileId}
 use Rattle.mkv_io.specs.LiveFiles.{IsSameFile, KeepsFiles, KeepsHolders}
 use Rattle.mkv_io.specs.Names.{AreOthers}
 use Rattle.mkv_io.specs.Sources.{live_files}
-use Rattle.mkv_io.specs.Writing.{KeepsOthers}
 use Rattle.mkv_io.specs.declared.reads.Reads.{Ghosts}
 use Rattle.mkv_io.specs.declared.files.Files as writing
 use Rattle.mkv_io.proofs.WritingLemmas.{IsSameFile-twice}
@@ -82,19 +81,6 @@ OpensInputs-more r f names name a b c ids file numbered first next = record {
   where
     stays : (other : ℕ) → (live_files r a).live other ≡ true → (live_files r b).live other ≡ true
     stays other live = (first.others other live).alive ∙ live
-
--- a refused opening leaves all
-pub KeepsOthers-refused : {S : Type 0} (r : Ghosts S) (f : writing.Ghosts S) (names : List (List ℕ)) (old new : S) → r.standing new ≡ r.standing old → f.given new ≡ f.given old → KeepsHolders (live_files r old).live (f.holder old) (f.holder new) → KeepsOthers r f names old new
-KeepsOthers-refused r f names old new stands given holders = record {
-  live = λ file. ap (λ standing. (r.files standing).live file) stands;
-  given = omega (arith, given);
-  holders = holders;
-  others = λ file is. record {
-    alive = ap (λ standing. (r.files standing).live file) stands;
-    size = λ live. ap (λ standing. (r.files standing).size file) stands;
-    content = λ live. ap (λ standing. (r.files standing).content file) stands;
-  };
-}
 
 -- ---- they stand over what is written
 

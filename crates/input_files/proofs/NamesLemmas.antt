@@ -1,32 +1,43 @@
--- The first of the inputs' names that has no content, and the contents of those that are open.
-use Rattle.std.proofs.Common.{◌≡◌, ◌≢◌, ℕ, suc, ◌+◌, ◌<◌, Bool, true, if◌then◌else◌, List, [], ◌∷◌, ◌++◌, length, take, drop, get_or, map, Option, Some, None, is_none, refl, sym, ◌∙◌, ap, arith}
+-- The first of the inputs' names that passes a test, and the contents of those that are open.
+use Rattle.std.proofs.Common.{◌≡◌, ◌≢◌, ℕ, suc, ◌+◌, ◌<◌, Bool, true, false, if◌then◌else◌, List, [], ◌∷◌, ◌++◌, length, take, drop, get_or, map, Option, Some, None, is_none, refl, sym, ◌∙◌, ap, arith}
 use Rattle.std.specs.List.{position_from}
 use Rattle.std.proofs.Math.Seq.{drop-cons, take-suc}
 use Rattle.std.proofs.lemmas.List.{map-append}
 use Rattle.mkv_values.specs.declared.outside.FileId.{FileId}
+use Rattle.pending_edits.specs.Pending.{is_pending}
 use Rattle.merge_words.specs.declared.files.FileWords.{FileWords}
 use Rattle.mkv_outputs.specs.Sinks.{AreLive, holders_of}
 use Rattle.input_files.specs.Inputs.{contents_of, file_names}
 
--- ---- the first name without a content
+-- ---- the first name that passes a test
 
 -- the first of the names of these words, of which the first has this number
-abbrev pub missing_from : (List ℕ → Option (List ℕ)) → ℕ → List FileWords → Option ℕ
-missing_from world k words = position_from (λ name. is_none (world name)) k (file_names words)
+abbrev pub first_from : (List ℕ → Bool) → ℕ → List FileWords → Option ℕ
+first_from test k words = position_from test k (file_names words)
 
-missing-next : (world : List ℕ → Option (List ℕ)) (words : List FileWords) (k : ℕ) (w : FileWords) → k < length words → w ≡ get_or words k w → missing_from world k (drop k words) ≡ (if is_none (world w.name) then Some k else missing_from world (k + 1) (drop (k + 1) words))
-missing-next world words k w below is =
-    ap (missing_from world k) (drop-cons words k w below ∙ ap (λ (each : FileWords). each ∷ drop (suc k) words) (sym is))
-    ∙ ap (λ (n : ℕ). if is_none (world w.name) then Some k else missing_from world (k + 1) (drop n words)) (one_more k)
+-- one that has no content
+abbrev pub missing_from : (List ℕ → Option (List ℕ)) → ℕ → List FileWords → Option ℕ
+missing_from world k words = first_from (λ name. is_none (world name)) k words
+
+-- one of whose file an edit is pending
+abbrev pub pending_from : (List ℕ → Option (List ℕ)) → ℕ → List FileWords → Option ℕ
+pending_from world k words = first_from (is_pending world) k words
+
+-- the k-th is the first, or one behind it
+pub first-next : (test : List ℕ → Bool) (words : List FileWords) (k : ℕ) (w : FileWords) (is : Bool) → k < length words → w ≡ get_or words k w → test w.name ≡ is → first_from test k (drop k words) ≡ (if is then Some k else first_from test (k + 1) (drop (k + 1) words))
+first-next test words k w is below at tested =
+    ap (first_from test k) (drop-cons words k w below ∙ ap (λ (each : FileWords). each ∷ drop (suc k) words) (sym at))
+    ∙ ap (λ (here : Bool). if here then Some k else first_from test (k + 1) (drop (suc k) words)) tested
+    ∙ ap (λ (n : ℕ). if is then Some k else first_from test (k + 1) (drop n words)) (one_more k)
   where
     one_more : (n : ℕ) → suc n ≡ n + 1
     one_more n = omega arith
 
 -- a name with a content is passed
 pub missing-passed : (world : List ℕ → Option (List ℕ)) (words : List FileWords) (k : ℕ) (w : FileWords) → k < length words → w ≡ get_or words k w → world w.name ≢ None → missing_from world k (drop k words) ≡ missing_from world (k + 1) (drop (k + 1) words)
-missing-passed world words k w below is there = missing-next world words k w below is ∙ step (world w.name) refl
+missing-passed world words k w below at there = first-next (λ name. is_none (world name)) words k w false below at (step (world w.name) refl)
   where
-    step : (content : Option (List ℕ)) → world w.name ≡ content → (if is_none content then Some k else missing_from world (k + 1) (drop (k + 1) words)) ≡ missing_from world (k + 1) (drop (k + 1) words)
+    step : (content : Option (List ℕ)) → world w.name ≡ content → is_none content ≡ false
     step None none = absurd (there none)
     step (Some bytes) some = refl
 

@@ -8,6 +8,7 @@ use Rattle.mkv_io.specs.LiveFiles.{KeepsFiles, KeepsHolders}
 use Rattle.mkv_io.specs.Sources.{live_files}
 use Rattle.mkv_io.specs.declared.reads.Reads.{Ghosts}
 use Rattle.mkv_io.specs.declared.files.Files as writing
+use Rattle.pending_edits.specs.Pending.{is_pending}
 use Rattle.merge_words.specs.declared.files.FileWords.{FileWords}
 use Rattle.mkv_outputs.specs.Sinks.{AreLive, AreRising, IsNoneOf, holders_of}
 use Rattle.input_files.specs.declared.inputs_end.InputsEnd.{InputsEnd}
@@ -63,6 +64,10 @@ abbrev pub end_of : ℕ → OpenFault → InputsEnd
 end_of k open_fault.Missing = inputs_end.Missing k
 end_of k open_fault.Failed = inputs_end.Failed
 end_of k open_fault.Memory = inputs_end.Memory
+
+-- the first of these names, from 0, of whose file an edit is pending
+abbrev pub first_pending : (List ℕ → Option (List ℕ)) → List (List ℕ) → Option ℕ
+first_pending world names = position_from (is_pending world) 0 names
 
 -- the outside failed
 abbrev pub is_inputs_fault : InputsEnd → Bool

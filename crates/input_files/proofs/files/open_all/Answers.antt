@@ -2,8 +2,9 @@ use Rattle.std.proofs.Common.{List, [], ◌∷◌, ◌++◌, ℕ, ◌+◌, take,
 use Rattle.std.proofs.lemmas.List.{take_all}
 use Rattle.mkv_io.specs.Sources.{live_files}
 use Rattle.mkv_outputs.specs.Sinks.{EndsOnly}
+use Rattle.pending_edits.proofs.LooksLemmas.{KeepsOthers-standing}
 use Rattle.input_files.specs.Inputs.{OpensInputs, contents_of, file_names}
-use Rattle.input_files.proofs.InputsLemmas.{KeepsOthers-refused, OpensInputs-more, end-as-begun}
+use Rattle.input_files.proofs.InputsLemmas.{OpensInputs-more, end-as-begun}
 use Rattle.input_files.proofs.NamesLemmas.{contents-named, missing-passed, names-more}
 use Rattle.input_files.proofs.files.open_all.Goals as goal
 
@@ -13,7 +14,7 @@ returns-in-Err-clause-refused g c =
     end-as-begun g.F.Reads g.F.Files g.met.F.Files.numbered (file_names (take c.loop-k.k c.args.words.now)) []
     c.args.files.now c.loop-k.files c.open_file.new.self c.close_all.new.files c.loop-k.ids.items
     c.loop-k.invariant.opens
-    (KeepsOthers-refused g.F.Reads g.F.Files [] c.loop-k.files c.open_file.new.self c.in-Err.ensures.err
+    (KeepsOthers-standing g.F.Reads g.F.Files [] c.loop-k.files c.open_file.new.self c.in-Err.ensures.err
     (g.met.F.Files.given_stands c.open_file.new.self c.loop-k.files c.in-Err.ensures.err) c.open_file.ensures.holders)
     (subst (EndsOnly g.F.Reads g.F.Files c.open_file.new.self c.close_all.new.files) c.as_slice.ensures.value c.close_all.ensures)
 

@@ -1,0 +1,33 @@
+//! Edits of inputs that are pending.
+
+ghost use Rattle.std.specs.Prelude.{◌≡◌, ◌+◌, ◌*◌, ◌≤◌, length, IfOk};
+ghost use Rattle.mkv_io.specs.Faults.{HasCause, is_read_fault};
+ghost use Rattle.mkv_io.specs.Told.{Told};
+ghost use Rattle.sidecar_format.specs.declared.place.TheConstants.{HEAD};
+ghost use Rattle.pending_edits.specs.Pending.{LooksOnly};
+ghost use Rattle.input_files.specs.Inputs.{file_names, first_pending};
+
+use merge_words::FileWords;
+use mkv_io::Files;
+use mkv_values::ReadEnd;
+use pending_edits::is_pending;
+use std::alloc::Global;
+
+/// The first of a merge's inputs, from 0 in the order of the words, of which an edit is pending.
+pub fn first_pending<F: Files>(
+    alloc: Global,
+    words: &[FileWords],
+    files: &mut F,
+) -> Result<Option<usize>, ReadEnd>
+    ensures exact { Told (F.names files.old) (λ world. IfOk result (λ first. first ≡ first_pending world (file_names words.now))) }
+    ensures looks { LooksOnly F.Reads F.Files.own files.old files.new }
+    ensures cause { HasCause is_read_fault (F.reading_faults files.old) (F.reading_faults files.new) result }
+    ensures octets { F.octets_read files.new ≤ F.octets_read files.old + HEAD * length words.now }
+{
+    for (k, input) in words.iter().enumerate() {
+        if is_pending(alloc, input.name.as_str(), files)? {
+            return Ok(Some(k));
+        }
+    }
+    Ok(None)
+}
