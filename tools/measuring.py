@@ -6,18 +6,15 @@ import subprocess
 
 
 def measure(words):
-    """Processor seconds, user and system, and the most memory in KiB: the least of three runs."""
+    """Processor seconds, user and system, and the most memory in KiB: the least of five runs."""
     best = None
-    for _ in range(3):
-        pid = os.fork()
-        if pid == 0:
-            with open(os.devnull, "w") as null:
-                os.dup2(null.fileno(), 1)
-            os.execvp(words[0], words)
-        _, status, used = os.wait4(pid, 0)
-        if status:
+    for _ in range(5):
+        # forked by GNU time, which is small: a child of this interpreter counts its memory too
+        run = subprocess.run(["/usr/bin/time", "-q", "-f", "%U %S %M", *words], stdout=subprocess.DEVNULL, stderr=subprocess.PIPE, text=True)
+        if run.returncode:
             return None
-        now = (used.ru_utime + used.ru_stime, used.ru_utime, used.ru_stime, used.ru_maxrss)
+        user, system, memory = run.stderr.split()[-3:]
+        now = (float(user) + float(system), float(user), float(system), int(memory))
         best = min(best, now) if best else now
     return best
 
