@@ -1,5 +1,5 @@
 -- The merge of lanes that were found, and what is counted of it.
-use Rattle.std.proofs.Common.{◌≡◌, ◌<◌, ◌≤◌, ℕ, nat_le, Bool, true, false, if◌then◌else◌, List, length, map, Ok, Err, sym, ◌∙◌, ap, ap₂, subst, arith}
+use Rattle.std.proofs.Common.{◌≡◌, ◌<◌, ◌≤◌, ℕ, nat_le, Bool, true, if◌then◌else◌, List, length, Ok, Err, sym, ◌∙◌, ap, subst, arith}
 use Rattle.std.specs.List.{All}
 use Rattle.std.proofs.lemmas.List.{get_or-map, length-map}
 use Rattle.mkv_io.specs.LiveFiles.{LiveFiles}
@@ -13,9 +13,7 @@ use Rattle.time_merge.specs.declared.queue.Queue.{Queue}
 use Rattle.merge_walk.specs.Walked.{IsWalked}
 use Rattle.merge_walk.specs.declared.counting.Walked.{Walked}
 use Rattle.count_merge.specs.Counted.{FoundLanes, few}
-use Rattle.count_merge.specs.Read.{HaveLeft, HasLanes, IsMergeCount, RefusesFiles}
-use Rattle.count_merge.specs.declared.end.CountEnd.{CountEnd}
-use Rattle.count_merge.specs.declared.end.CountEnd.TheVariants.{Refused, FilesFault, Memory}
+use Rattle.count_merge.specs.Read.{HaveLeft, HasLanes, IsMergeCount}
 use Rattle.count_merge.specs.declared.end.FilesRefusal.{FilesRefusal}
 use Rattle.count_merge.specs.declared.end.FilesRefusal.TheVariants.{TooManyLanes}
 
@@ -26,18 +24,6 @@ few-choice blocks test is = ap (λ (b : Bool). if b then Ok blocks else Err TooM
 
 as_many : (f : LiveFiles) (blocks : List (List OutputBlock)) (ls : List LaneSeen) → HaveLeft f blocks ls → length blocks ≡ length ls
 as_many f blocks ls are = sym (length-map blocks ordered) ∙ ap (λ (xs : List (List Ordered)). length xs) (sym are.left) ∙ length-map ls (lanes.left f)
-
-pub too-many : (f : LiveFiles) (found : FoundLanes FilesRefusal) (ls : List LaneSeen) → HasLanes f found ls → MOST_LANES < length ls → few found ≡ Err TooManyLanes
-too-many f found ls has many =
-    let count = as_many f has.blocks ls has.are in
-    let test : nat_le (length has.blocks) MOST_LANES ≡ false = grind arith in
-    ap few has.is ∙ few-choice has.blocks false test
-
--- what refuses the files is what refuses them before their lanes are counted
-pub refuses-few : (found : FoundLanes FilesRefusal) (end : CountEnd) → RefusesFiles found end → RefusesFiles (few found) end
-refuses-few found (Refused why) is = ap few is
-refuses-few found FilesFault is = tt
-refuses-few found Memory is = tt
 
 -- ---- their merge
 

@@ -1,10 +1,10 @@
 -- The lanes of a file.
-use Rattle.std.proofs.Common.{◌≡◌, ◌<◌, ℕ, suc, ◌+◌, true, List, [], ◌∷◌, ◌++◌, length, drop, get_or, map, Option, Some, Result, Ok, Err, refl, sym, ◌∙◌, ap, ap₂, subst, add-one, drop-cons}
+use Rattle.std.proofs.Common.{◌≡◌, ◌<◌, ℕ, ◌+◌, true, List, [], ◌∷◌, ◌++◌, length, drop, get_or, Option, Some, Result, Ok, Err, sym, ◌∙◌, ap, ap₂, subst, add-one, drop-cons}
 use Rattle.std.specs.Option.{unwrap_or}
 use Rattle.std.proofs.lemmas.List.Elements.{All-cons, All-nil}
 use Rattle.mkv_values.specs.declared.damage.Damage.{Damage}
 use Rattle.mkv_io.specs.LiveFiles.{LiveFiles}
-use Rattle.matroska_format.specs.Outline.{Outlined, and_then, outline_of}
+use Rattle.matroska_format.specs.Outline.{Outlined, and_then}
 use Rattle.element_reader.specs.Outline.{FileOutline, IsOutline, outline_in}
 use Rattle.element_reader.specs.declared.outline_end.OutlineEnd.{OutlineEnd}
 use Rattle.element_reader.specs.declared.outline_end.OutlineEnd.TheVariants as outline_end
@@ -17,13 +17,12 @@ use Rattle.file_records.specs.declared.records.Records.{Records}
 use Rattle.file_records.proofs.RecordsLemmas.{file_records-scale}
 use Rattle.track_format.specs.Encoding.{usable_prefix}
 use Rattle.track_records.specs.declared.track.Track.{Track}
-use Rattle.output_model.specs.OutputBlock.{OutputBlock}
 use Rattle.merge_model.specs.Merged.{Ordered, ordered}
 use Rattle.lane_blocks.specs.Links.{octets_in}
 use Rattle.lanes.specs.Lane.{IsTold, LaneSeen, left}
 use Rattle.count_merge.specs.Counted.{FoundLanes, and_lanes, file_lanes, track_lane, track_lanes, track_blocks}
 use Rattle.count_merge.specs.Open.{IsToldFile, opened_events}
-use Rattle.count_merge.specs.Read.{HaveLeft, HasLanes, ReadsLanes}
+use Rattle.count_merge.specs.Read.{ReadsLanes}
 use Rattle.count_merge.specs.declared.lanes_over.ReadyFile.{ReadyFile}
 use Rattle.count_merge.proofs.FoundLemmas.{Continues, goes-more, goes-wrong}
 

@@ -15,7 +15,7 @@ use Rattle.lane_blocks.specs.Links.{IsOpenLink, IsToldLink, octets_in}
 use Rattle.lane_blocks.specs.declared.link.Link.TheVariants.{Track}
 use Rattle.lane_blocks.specs.declared.link.TrackLink.{TrackLink}
 use Rattle.lanes.specs.Lane.{Begins, LaneSeen, Starts}
-use Rattle.count_merge.specs.Open.{IsLaneOver, IsLinkOver, IsOpenFile}
+use Rattle.count_merge.specs.Open.{IsLaneOver, IsLinkOver}
 use Rattle.count_merge.specs.declared.lanes_over.ReadyFile.{ReadyFile}
 use Rattle.count_merge.specs.declared.lanes_over.TheConstants.{TICK}
 

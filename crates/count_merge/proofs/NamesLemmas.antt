@@ -1,5 +1,5 @@
 -- The lanes of files, by their names.
-use Rattle.std.proofs.Common.{◌≡◌, ◌<◌, ℕ, suc, ◌+◌, List, [], ◌∷◌, ◌++◌, length, drop, get_or, map, Option, Some, None, Result, Ok, Err, refl, sym, ◌∙◌, ap, ap₂, subst, add-one, drop-cons}
+use Rattle.std.proofs.Common.{◌≡◌, ◌<◌, ℕ, ◌+◌, List, ◌++◌, length, drop, get_or, map, Option, Some, None, Err, refl, sym, ◌∙◌, ap, ap₂, subst, add-one, drop-cons}
 use Rattle.std.specs.String.{string_bytes}
 use Rattle.std.specs.declared.string.String.{String}
 use Rattle.std.specs.declared.alloc.Global.{Global}
@@ -15,7 +15,6 @@ use Rattle.count_merge.specs.Read.{HasLanes, ReadsLanes, RefusesFiles}
 use Rattle.count_merge.specs.declared.end.CountEnd.{CountEnd}
 use Rattle.count_merge.specs.declared.end.CountEnd.TheVariants.{Refused, FilesFault, Memory}
 use Rattle.count_merge.specs.declared.end.FilesRefusal.{FilesRefusal}
-use Rattle.count_merge.specs.declared.end.FilesRefusal.TheVariants.{Damaged}
 use Rattle.count_merge.proofs.FoundLemmas.{Continues, goes-more, goes-wrong}
 
 -- ---- one file

@@ -1,4 +1,4 @@
-use Rattle.std.proofs.Common.{◌≤◌, ℕ, sym, ◌∙◌, ap, subst}
+use Rattle.std.proofs.Common.{◌≤◌, ℕ, sym, ◌∙◌, subst}
 use Rattle.mkv_io.specs.Sources.{live_files}
 use Rattle.output_model.specs.declared.TheConstants.{MOST_LANES}
 use Rattle.time_merge.specs.Merge.{IsReady, IsTold, left}

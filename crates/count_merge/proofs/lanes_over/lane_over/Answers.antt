@@ -1,4 +1,4 @@
-use Rattle.std.proofs.Common.{◌≡◌, List, [], ◌∷◌, ◌++◌, sym, ◌∙◌, ap, subst}
+use Rattle.std.proofs.Common.{◌≡◌, List, [], ◌∷◌, ◌++◌, ◌∙◌, ap, subst}
 use Rattle.lane_blocks.specs.declared.link.Link.{Link}
 use Rattle.lane_blocks.specs.declared.link.Link.TheVariants.{Track}
 use Rattle.lanes.specs.Lane.{Begins, Starts}
