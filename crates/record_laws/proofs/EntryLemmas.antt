@@ -93,13 +93,28 @@ module _ (c : TrackChange) (ns : List Node) where
       ∙ part-with_each TRACK_UID (options c) (with_child (uint_leaf TRACK_UID c.uid) (with_child (uint_leaf TRACK_NUMBER c.number) bare)) (none-options TRACK_UID c refl refl refl refl)
       ∙ part-set (uint_leaf TRACK_UID c.uid) (with_child (uint_leaf TRACK_NUMBER c.number) bare)
 
-  part-number : part TRACK_NUMBER (entry_list c ns) ≡ uint_leaf TRACK_NUMBER c.number ∷ []
+  pub part-number : part TRACK_NUMBER (entry_list c ns) ≡ uint_leaf TRACK_NUMBER c.number ∷ []
   unfolding bare
   part-number =
       ap (part TRACK_NUMBER) (entry_list-is c ns)
       ∙ part-with_each TRACK_NUMBER (options c) (with_child (uint_leaf TRACK_UID c.uid) (with_child (uint_leaf TRACK_NUMBER c.number) bare)) (none-options TRACK_NUMBER c refl refl refl refl)
       ∙ part-other TRACK_NUMBER (uint_leaf TRACK_UID c.uid) (with_child (uint_leaf TRACK_NUMBER c.number) bare) refl
       ∙ part-set (uint_leaf TRACK_NUMBER c.number) bare
+
+  -- of another ID all stays
+  pub part-others : (id : ℕ) → (TRACK_NUMBER == id) ≡ false → (TRACK_UID == id) ≡ false → (NAME == id) ≡ false → (LANGUAGE == id) ≡ false → (FLAG_DEFAULT == id) ≡ false → (FLAG_FORCED == id) ≡ false
+      → (CONTENT_ENCODINGS == id) ≡ false → (LANGUAGE_BCP47 == id) ≡ false → part id (entry_list c ns) ≡ part id ns
+  unfolding bare
+  part-others id number own name language default forced encodings bcp47 =
+      ap (part id) (entry_list-is c ns)
+      ∙ part-with_each id (options c) (with_child (uint_leaf TRACK_UID c.uid) (with_child (uint_leaf TRACK_NUMBER c.number) bare)) (none-options id c name language default forced)
+      ∙ part-other id (uint_leaf TRACK_UID c.uid) (with_child (uint_leaf TRACK_NUMBER c.number) bare) own
+      ∙ part-other id (uint_leaf TRACK_NUMBER c.number) bare number
+      ∙ left c.language
+    where
+      left : (o : Option (List ℕ)) → part id (without_each (ids_removed o) ns) ≡ part id ns
+      left None = part-without id CONTENT_ENCODINGS ns encodings
+      left (Some text) = part-without id LANGUAGE_BCP47 (without CONTENT_ENCODINGS ns) bcp47 ∙ part-without id CONTENT_ENCODINGS ns encodings
 
   part-encodings : part CONTENT_ENCODINGS (entry_list c ns) ≡ []
   unfolding bare

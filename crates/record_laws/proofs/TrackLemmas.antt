@@ -26,11 +26,11 @@ use Rattle.record_laws.proofs.EntryLemmas.{entry_list, written-master, part-uid,
 
 -- ---- the first of an ID is the first of all of that ID
 
-abbrev first_in : List Node → Option Node
+abbrev pub first_in : List Node → Option Node
 first_in [] = None
 first_in (n ∷ ns) = Some n
 
-find-filter : (p : Node → Bool) (ns : List Node) → find p ns ≡ first_in (filter p ns)
+pub find-filter : (p : Node → Bool) (ns : List Node) → find p ns ≡ first_in (filter p ns)
 find-filter p [] = refl
 find-filter p (n ∷ ns) = split (p n) (find-filter p ns)
   where
