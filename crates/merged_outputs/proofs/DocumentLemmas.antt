@@ -1,0 +1,150 @@
+-- The document of a merge is sound.
+use Rattle.std.proofs.Common.{◌≡◌, ◌<◌, ◌≤◌, ℕ, ◌^◌, List, [], ◌∷◌, ◌++◌, length, length-append, map, Option, Some, None, IfSome, refl, sym, subst, ◌∙◌, arith, unwrap_or}
+use Rattle.std.specs.List.{All}
+use Rattle.std.specs.Str.{IsUtf8}
+use Rattle.std.proofs.lemmas.List.Elements.{All-nil, All-head, All-tail, All-append}
+use Rattle.std.proofs.lemmas.Str.{IsUtf8-nil}
+use lib.Utf8.{encode}
+use Rattle.ebml_format.specs.Number.{id_octets}
+use Rattle.mkv_schema.specs.declared.ids.TheConstants.{INFO, TIMESTAMP_SCALE, TITLE, MUXING_APP, WRITING_APP, SEGMENT}
+use Rattle.mkv_values.specs.declared.outside.TheConstants.{LONGEST_FILE}
+use Rattle.tree_format.specs.Node.{leaf, nodes_of, depth_all}
+use Rattle.tree_format.specs.NormalForm.{content, longest}
+use Rattle.tree_format.specs.Standing.{AllStandIn}
+use Rattle.meta_format.specs.Info.{scale_of}
+use Rattle.element_octets.specs.Element.{Element, header_of, octets_of, joined}
+use Rattle.output_model.specs.declared.TheConstants.{MOST_LANES}
+use Rattle.output_model.specs.OutputBlock.{OutputBlock}
+use Rattle.output_model.specs.SeekHead.{area_elements}
+use Rattle.output_model.specs.Document.{Document, ebml_element, tree_element, attachments_elements, clusters_elements, back_elements, elements_behind_area, seeks_of, segment_size, layout}
+use Rattle.output_model.specs.Sound.{IsRecord, IsAttachment, IsSoundCluster, IsSoundDocument, lanes_of}
+use Rattle.record_changes.specs.Children.{uint_leaf}
+use Rattle.output_records.specs.Info.{application, title_elements, output_info}
+use Rattle.output_records.proofs.RecordLemmas.{info-scale, scale-in, title-in, muxing-in, writing-in}
+use Rattle.tree_building.proofs.LeafLemmas.{uint-stands, text-stands}
+use Rattle.merge_model.specs.Lanes.{lane_blocks}
+use Rattle.merge_laws.specs.Read.{LEAST_SCALE}
+use Rattle.merge_laws.proofs.ClusterLemmas.{merged-sound}
+use Rattle.cluster_runs.specs.Cued.{is_cue}
+use Rattle.merge_words.specs.declared.output.MergeWords.{MergeWords}
+use Rattle.merge_words.specs.Sound.{IsSoundMerge}
+use Rattle.merge_plan.specs.Plan.{Source, lanes_given, limits_of, rules_given}
+use Rattle.merge_plan.specs.Records.{first_title, title_of, title_or, tracks_taken}
+use Rattle.merge_plan.proofs.PlanLemmas.{plan-few}
+use Rattle.mkv_merge.specs.Merge.{document_in, reads_of}
+use Rattle.merged_outputs.specs.Sources.{AreSources, AreTexts, IsReadSource, IsReadTrack}
+use Rattle.merged_outputs.proofs.LaneLemmas.{lanes-sound, lanes-length}
+use Rattle.merged_outputs.proofs.TracksLemmas.{taken-tracks, taken-lanes}
+
+-- ---- how long the records are
+
+-- what stands behind the area is a part of the file
+behind-short : (d : Document) → length (joined (elements_behind_area d)) ≤ length (layout d)
+behind-short d =
+    let rest : List ℕ = joined (elements_behind_area d) in
+    let area : List ℕ = joined (area_elements (seeks_of d)) in
+    let size : List ℕ = segment_size (length rest) in
+    let ebml : List ℕ = octets_of (ebml_element d.front.webm) in
+    omega (arith, length-append ebml (id_octets SEGMENT ++ (size ++ (area ++ rest))), length-append (id_octets SEGMENT) (size ++ (area ++ rest)), length-append size (area ++ rest), length-append area rest)
+
+-- so are Info and Tracks
+module _ (d : Document) where
+  others : List Element
+  others = attachments_elements d.front.attachments ++ (clusters_elements d.clusters ++ back_elements d)
+
+  pub info-short : length (content d.front.info) ≤ length (layout d)
+  unfolding others
+  info-short =
+      let e : Element = tree_element d.front.info in
+      let rest : List ℕ = joined (tree_element d.front.tracks ∷ others) in
+      omega (arith, behind-short d, length-append (octets_of e) rest, length-append (header_of e) e.body)
+
+  pub tracks-short : length (content d.front.tracks) ≤ length (layout d)
+  unfolding others
+  tracks-short =
+      let first : Element = tree_element d.front.info in
+      let e : Element = tree_element d.front.tracks in
+      omega (arith, behind-short d, length-append (octets_of first) (joined (e ∷ others)), length-append (octets_of e) (joined others), length-append (header_of e) e.body)
+
+-- ---- Info
+
+application-text : IsUtf8 application
+unfolding encode
+application-text = (application, (refl, refl))
+
+info-stands : (scale : ℕ) (title : List ℕ) → scale < 2 ^ 64 → IsUtf8 title
+    → AllStandIn INFO (nodes_of (uint_leaf TIMESTAMP_SCALE scale ∷ title_elements title ++ (leaf MUXING_APP 0 application ∷ leaf WRITING_APP 0 application ∷ [])))
+info-stands scale [] small text =
+    (uint-stands INFO TIMESTAMP_SCALE scale scale-in small, (text-stands INFO MUXING_APP application muxing-in application-text, (text-stands INFO WRITING_APP application writing-in application-text, tt)))
+info-stands scale (o ∷ octets) small text = (
+  uint-stands INFO TIMESTAMP_SCALE scale scale-in small,
+  (text-stands INFO TITLE (o ∷ octets) title-in text, (text-stands INFO MUXING_APP application muxing-in application-text, (text-stands INFO WRITING_APP application writing-in application-text, tt))),
+)
+
+info-flat : (scale : ℕ) (title : List ℕ) → depth_all (nodes_of (uint_leaf TIMESTAMP_SCALE scale ∷ title_elements title ++ (leaf MUXING_APP 0 application ∷ leaf WRITING_APP 0 application ∷ []))) ≡ 0
+info-flat scale [] = refl
+info-flat scale (o ∷ octets) = refl
+
+-- An Info of a scale and a title is a record.
+pub info-record : (scale : ℕ) (title : List ℕ) → scale < 2 ^ 64 → IsUtf8 title → length (content (output_info scale title)) ≤ longest → IsRecord INFO (output_info scale title)
+info-record scale title small text short =
+    let flat = info-flat scale title in
+    record { id = refl; master = refl; sound = info-stands scale title small text; limits = record { long = short; deep = omega arith } }
+
+first-text : (sources : List Source) → All IsReadSource sources → IsUtf8 (first_title (reads_of sources))
+first-text [] each = IsUtf8-nil
+first-text (s ∷ ss) each = of s.1.title (All-head IsReadSource s ss each).title (first-text ss (All-tail IsReadSource s ss each))
+  where
+    of : (title : List ℕ) → IsUtf8 title → IsUtf8 (first_title (reads_of ss)) → IsUtf8 (title_or title (first_title (reads_of ss)))
+    of [] own rest = rest
+    of (o ∷ octets) own rest = own
+
+title-text : (given : Option (List ℕ)) (other : List ℕ) → IfSome given IsUtf8 → IsUtf8 other → IsUtf8 (unwrap_or given other)
+title-text None other text rest = rest
+title-text (Some title) other text rest = text
+
+-- ---- Tracks
+
+all-tracks : (sources : List Source) → All IsReadSource sources → All IsReadTrack (tracks_taken (reads_of sources))
+all-tracks [] each = All-nil IsReadTrack
+all-tracks (s ∷ ss) each =
+    All-append IsReadTrack s.1.taken (tracks_taken (reads_of ss)) (All-head IsReadSource s ss each).tracks (all-tracks ss (All-tail IsReadSource s ss each))
+
+-- ---- the document
+
+module _ (words : MergeWords) (sources : List Source) (sound : IsSoundMerge words) (texts : AreTexts words) (are : AreSources words sources) where
+  scale-small : words.scale < 2 ^ 64
+  scale-small = let most = sound.scale.most in omega arith
+
+  least : LEAST_SCALE ≤ words.scale
+  least = sound.scale.least
+
+  tracks-few : length (tracks_taken (reads_of sources)) ≤ MOST_LANES
+  tracks-few = plan-few words.webm (reads_of sources) are.unrefused
+
+  lanes-as_many : lanes_of (document_in words sources) ≡ length (map (lane_blocks words.scale) (lanes_given sources))
+  lanes-as_many = taken-lanes (tracks_taken (reads_of sources)) (all-tracks sources are.each) tracks-few ∙ sym (lanes-length words.scale sources)
+
+  -- The scale of its Info is that of the words.
+  pub document-scale : scale_of (document_in words sources).front.info ≡ words.scale
+  document-scale = info-scale words.scale (title_of words (reads_of sources)) scale-small
+
+  -- The document of a merge is sound.
+  pub document-sound : length (layout (document_in words sources)) ≤ LONGEST_FILE → IsSoundDocument (document_in words sources)
+  document-sound short =
+      let d : Document = document_in words sources in
+      let lanes : List (List OutputBlock) = map (lane_blocks words.scale) (lanes_given sources) in
+      let clusters = merged-sound (limits_of words) lanes (lanes-sound words.scale sources least are.each) in
+      let some = least in
+      record {
+        info = info-record words.scale (title_of words (reads_of sources)) scale-small (title-text words.title (first_title (reads_of sources)) texts.title (first-text sources are.each)) (omega (arith, info-short d));
+        scale = omega (arith, document-scale);
+        tracks = taken-tracks (tracks_taken (reads_of sources)) (all-tracks sources are.each) tracks-few (omega (arith, tracks-short d));
+        attachments = All-nil IsAttachment;
+        clusters = subst (λ (n : ℕ). All (IsSoundCluster n) d.clusters) (sym lanes-as_many) clusters;
+        cued = is_cue (rules_given (reads_of sources));
+        cues = refl;
+        chapters = tt;
+        tags = tt;
+        short = short;
+      }

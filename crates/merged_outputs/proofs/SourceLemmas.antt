@@ -1,0 +1,317 @@
+-- What is read of the inputs of a merge can be written.
+use Rattle.std.proofs.Common.{◌≡◌, ◌<◌, ℕ, suc, ◌+◌, ◌^◌, ◌==◌, Bool, true, false, if◌then◌else◌, cond, List, [], ◌∷◌, length, find, map, Option, Some, None, IfSome, Result, Ok, Err, inl, inr, ◌⊎◌, eqb-true, refl, sym, ap, subst, ◌∙◌, arith, unwrap_or}
+use Rattle.std.specs.List.{All, zip}
+use Rattle.std.specs.Option.{option_map, option_map_or, option_or}
+use Rattle.std.specs.Str.{IsUtf8, is_utf8}
+use Rattle.std.proofs.lemmas.List.{length-map}
+use Rattle.std.proofs.lemmas.List.Elements.{All-nil, All-cons, All-head, All-tail, All-append, All-map}
+use Rattle.std.proofs.lemmas.Str.{IsUtf8-nil, IsUtf8-from_is_utf8}
+use Rattle.ebml_format.specs.Number.{AreOctets}
+use Rattle.ebml_format.proofs.SpelledLemmas.{AreOctets-take, AreOctets-drop}
+use Rattle.mkv_schema.specs.Schema.{may_stand, kind_of}
+use Rattle.mkv_schema.specs.declared.ids.TheConstants.{INFO, TITLE, TRACKS, TRACK_ENTRY, TRACK_UID}
+use Rattle.mkv_schema.specs.declared.kind.ElementKind.TheVariants.{Ascii, Utf8}
+use Rattle.mkv_values.specs.declared.damage.Damage.{Damage}
+use Rattle.mkv_io.specs.Faults.{counted}
+use Rattle.matroska_format.specs.declared.element.Header.{Header}
+use Rattle.matroska_format.specs.Element.{stated_end}
+use Rattle.matroska_format.specs.Outline.{and_then, outline_of, segment_run}
+use Rattle.matroska_format.specs.Value.{body_of, first_of, text_of}
+use Rattle.matroska_format.proofs.OutlineLemmas.{and_then-ok, unless-ok}
+use Rattle.tree_format.specs.declared.limits.TheConstants.{MOST_NODES}
+use Rattle.tree_format.specs.Node.{Node, id_of, IsMaster, HasRoom}
+use Rattle.tree_format.specs.Node as tree
+use Rattle.tree_format.specs.Reading.{tree_of}
+use Rattle.tree_format.specs.Standing.{IsSoundOf}
+use Rattle.tree_format.specs.Values.{first_child}
+use Rattle.tree_format.proofs.ChildLemmas.{first_child-value, HasUint-of}
+use Rattle.tree_format.proofs.FoundLemmas.{tree_of-sound, tree_of-root}
+use Rattle.track_format.specs.Entry.{entries_of, uid_of}
+use Rattle.track_format.specs.Refusal as tracks
+use Rattle.track_format.proofs.TracksLemmas.{refusal-none}
+use Rattle.track_records.specs.Sound.{IsEntry}
+use Rattle.track_records.specs.Track.{track_of, tracks_of}
+use Rattle.track_records.specs.declared.track.Track.{Track}
+use Rattle.track_changes.proofs.StandLemmas as row
+use Rattle.meta_format.specs.Info.{info_refusal}
+use Rattle.file_records.specs.Records.{AreRead, file_records, first_tree, good_info, good_tracks, tree_at}
+use Rattle.file_records.specs.declared.records.Records.{Records}
+use Rattle.file_records.proofs.RecordsLemmas.{AreRead-made}
+use Rattle.record_changes.specs.Entry.{IsWholeEntry}
+use Rattle.record_laws.proofs.WholeLemmas.{read-entries-whole}
+use Rattle.output_records.proofs.RecordLemmas.{title-in}
+use Rattle.merge_words.specs.declared.files.FileWords.{FileWords}
+use Rattle.merge_words.specs.declared.output.MergeWords.{MergeWords}
+use Rattle.merge_words.specs.Sound.{IsSoundFile, IsSoundMerge}
+use Rattle.input_files.specs.Inputs.{file_names, first_missing}
+use Rattle.merge_inputs.specs.Input.{InputRead, found_then, input_of, input_with, refusal_of, unless_refused}
+use Rattle.merge_inputs.specs.Select.{is_taken, not_built}
+use Rattle.merge_inputs.specs.Taken.{first_unusable, taken_from, taken_one, taken_track, value_for}
+use Rattle.merge_inputs.specs.Title.{title_of_info}
+use Rattle.merge_inputs.specs.declared.taken.TakenTrack.{TakenTrack}
+use Rattle.merge_inputs.specs.declared.input.InputRefusal.{InputRefusal}
+use Rattle.merge_inputs.specs.declared.input.InputRefusal.TheVariants.{Damaged}
+use Rattle.merge_inputs.proofs.TakenLemmas.{AreTaken-read, taken-tracks}
+use Rattle.merge_plan.specs.Plan.{Source}
+use Rattle.merge_plan.specs.Refusal.{plan_refusal}
+use Rattle.merge_plan.specs.declared.refusal.PlanRefusal.{PlanRefusal}
+use Rattle.mkv_merge.specs.Merge as merge
+use Rattle.mkv_merge.specs.Merge.{reads_of, sources_of, sources_with}
+use Rattle.mkv_merge.specs.Read.{contents_of, inputs_from, inputs_of, numbered, unless_missing, writes_input}
+use Rattle.mkv_merge.specs.Refused as refused
+use Rattle.mkv_merge.specs.declared.refusal.Refusal.{Refusal}
+use Rattle.mkv_merge.specs.declared.refusal.Refusal.TheVariants.{OutputIsInput}
+use Rattle.merged_outputs.specs.Sources.{HoldsOctets, HasTexts, AreTexts, IsReadSource, AreSources}
+use Rattle.merged_outputs.proofs.TreeLemmas.{HasChildrenRead, tree_of-children, entries-octets, uid-small, HoldsOctets as HoldsOctetsInside}
+
+-- ---- an Element that was read as a tree
+
+-- what is found passes
+find-passes : {A : Type 0} (p : A → Bool) (xs : List A) (x : A) → find p xs ≡ Some x → p x ≡ true
+find-passes p [] x found = absurd (cc)
+find-passes p (y ∷ ys) x found = split (p y) refl found (find-passes p ys x)
+  where
+    split : (t : Bool) → p y ≡ t → cond t (Some y) (find p ys) ≡ Some x → (find p ys ≡ Some x → p x ≡ true) → p x ≡ true
+    split true is found rest = let same : y ≡ x = cc in ap p (sym same) ∙ is
+    split false is found rest = rest found
+
+-- A sound tree of an ID, of octets.
+record IsReadTree (id : ℕ) (tree : Node) : Type 0 where
+  sound : IsSoundOf id tree
+  children : HasChildrenRead tree
+
+tree-read : (id : ℕ) (bytes : List ℕ) (segment : Header) (tree : Node) → AreOctets bytes → first_tree id bytes segment ≡ Ok (Some tree) → IsReadTree id tree
+tree-read id bytes segment tree octets is = split (first_of id (segment_run bytes segment).list) refl is
+  where
+    split : (o : Option Header) → first_of id (segment_run bytes segment).list ≡ o → tree_at bytes o ≡ Ok (Some tree) → IsReadTree id tree
+    split None found read = absurd (cc)
+    split (Some h) found read =
+        let parts = and_then-ok (tree_of h.id h.offset (body_of bytes h) h.body MOST_NODES) (λ (t : Node). Ok (Some t)) (Some tree) read in
+        let same : parts.0 ≡ tree = (let made = parts.1.1 in cc) in
+        let whole : tree_of h.id h.offset (body_of bytes h) h.body MOST_NODES ≡ Ok tree = parts.1.0 ∙ ap (λ (t : Node). Ok t) same in
+        let body : AreOctets (body_of bytes h) = AreOctets-drop h.body _ (AreOctets-take (stated_end h) bytes octets) in
+        let own : h.id ≡ id = eqb-true h.id id (find-passes (λ (c : Header). c.id == id) (segment_run bytes segment).list h found) in
+        record {
+          sound = record {
+            id = (tree_of-root h.id h.offset h.body MOST_NODES (body_of bytes h) tree whole).1 ∙ own;
+            sound = tree_of-sound h.id h.offset h.body MOST_NODES (body_of bytes h) tree body whole;
+          };
+          children = tree_of-children h.id h.offset h.body MOST_NODES (body_of bytes h) tree body whole;
+        }
+
+-- ---- the tracks
+
+-- What was read of tracks: each identifier has 64 bits.
+record AreReadTracks (list : List Track) : Type 0 where
+  read : AreRead list
+  uids : All (λ (t : Track). t.uid < 2 ^ 64) list
+
+entry-uid : (entry : Node) → IsWholeEntry entry → HoldsOctetsInside entry → uid_of entry < 2 ^ 64
+entry-uid entry whole hold =
+    uid-small entry whole.sound (HasUint-of TRACK_ENTRY TRACK_UID entry (record { id = whole.id; sound = whole.sound }) row.uid.known) hold
+
+tracks-made : (tree : Node) (list : List Track) → IsReadTree TRACKS tree → tracks_of tree ≡ Ok list → AreReadTracks list
+tracks-made tree list read is =
+    let entries : List Node = entries_of tree in
+    let made = unless-ok (tracks.refusal_of tree) (map track_of entries) list is in
+    let whole = read-entries-whole.read tree read.sound read.children.shallow in
+    let hold = entries-octets tree read.children in
+    let each = λ (P : Track → Type 0) (all : All (λ (e : Node). P (track_of e)) entries). subst (All P) made.1 (All-map P track_of entries all) in
+    record {
+      read = AreRead-made tree list is ((refusal-none tree).0 made.0)
+          (each (λ (t : Track). IsEntry t.entry) (λ k d below. let one = whole k d below in record { id = one.id; sound = one.sound }))
+          (each (λ (t : Track). HasRoom t.entry) (λ k d below. (whole k d below).room));
+      uids = each (λ (t : Track). t.uid < 2 ^ 64) (λ k d below. entry-uid _ (whole k d below) (hold k d below));
+    }
+
+good-tracks : (bytes : List ℕ) (segment : Header) (list : List Track) → AreOctets bytes → and_then (first_tree TRACKS bytes segment) (good_tracks segment) ≡ Ok list → AreReadTracks list
+good-tracks bytes segment list octets is =
+    let found = and_then-ok (first_tree TRACKS bytes segment) (good_tracks segment) list is in
+    split found.0 found.1.0 found.1.1
+  where
+    split : (o : Option Node) → first_tree TRACKS bytes segment ≡ Ok o → good_tracks segment o ≡ Ok list → AreReadTracks list
+    split None read good = absurd (cc)
+    split (Some tree) read good = tracks-made tree list (tree-read TRACKS bytes segment tree octets read) good
+
+-- ---- the title
+
+title-text : (o : Option Node) → IfSome o (IsReadTree INFO) → IsUtf8 (title_of_info o)
+title-text None read = IsUtf8-nil
+title-text (Some info) read = split (first_child TITLE info) refl
+  where
+    may : may_stand TITLE (id_of info) ≡ true
+    may = ap (may_stand TITLE) read.sound.id ∙ title-in.stands
+
+    value : (n : Node) → first_child TITLE info ≡ Some n → (kind_of TITLE ≡ Some Ascii) ⊎ (kind_of TITLE ≡ Some Utf8) → is_utf8 (text_of (tree.body_of n)) ≡ true
+    value n found (inl ascii) = first_child-value info n TITLE Ascii read.sound.sound may ascii found
+    value n found (inr utf8) = first_child-value info n TITLE Utf8 read.sound.sound may utf8 found
+
+    split : (o : Option Node) → first_child TITLE info ≡ o → IsUtf8 (option_map_or (λ (n : Node). text_of (tree.body_of n)) o [])
+    split None found = IsUtf8-nil
+    split (Some n) found = IsUtf8-from_is_utf8 (text_of (tree.body_of n)) (value n found title-in.kind)
+
+good-title : (bytes : List ℕ) (segment : Header) (info : Option Node) → AreOctets bytes → and_then (first_tree INFO bytes segment) good_info ≡ Ok info → IsUtf8 (title_of_info info)
+good-title bytes segment info octets is =
+    let found = and_then-ok (first_tree INFO bytes segment) good_info info is in
+    split found.0 found.1.0 found.1.1
+  where
+    split : (o : Option Node) → first_tree INFO bytes segment ≡ Ok o → good_info o ≡ Ok info → IsUtf8 (title_of_info info)
+    split None read good = let same : None ≡ info = cc in subst (λ (o : Option Node). IsUtf8 (title_of_info o)) same (title-text None tt)
+    split (Some each) read good =
+        let same = (unless-ok (info_refusal each) (Some each) info good).1 in
+        subst (λ (o : Option Node). IsUtf8 (title_of_info o)) same (title-text (Some each) (tree-read INFO bytes segment each octets read))
+
+-- ---- the records of a file
+
+record AreReadRecords (r : Records) : Type 0 where
+  title : IsUtf8 (title_of_info r.info)
+  tracks : AreReadTracks r.tracks
+
+records-read : (bytes : List ℕ) (segment : Header) (r : Records) → AreOctets bytes → file_records bytes segment ≡ Ok r → AreReadRecords r
+records-read bytes segment r octets is =
+    let info = and_then-ok (and_then (first_tree INFO bytes segment) good_info) _ r is in
+    let list = and_then-ok (and_then (first_tree TRACKS bytes segment) (good_tracks segment)) _ r info.1.1 in
+    let made : record { info = info.0; tracks = list.0 } ≡ r = cc (list.1.1) in
+    subst AreReadRecords made (record { title = good-title bytes segment info.0 octets info.1.0; tracks = good-tracks bytes segment list.0 octets list.1.0 })
+
+-- ---- the tracks that are taken
+
+-- what is given to an ID
+given-text : (id : ℕ) (pairs : List (ℕ × List ℕ)) → All (λ (given : ℕ × List ℕ). IsUtf8 given.1) pairs → IfSome (value_for id pairs) IsUtf8
+given-text id [] all = tt
+given-text id (pair ∷ pairs) all = split (pair.0 == id) (given-text id pairs (All-tail (λ (given : ℕ × List ℕ). IsUtf8 given.1) pair pairs all))
+  where
+    split : (t : Bool) → IfSome (value_for id pairs) IsUtf8 → IfSome (if t then Some pair.1 else value_for id pairs) IsUtf8
+    split true rest = All-head (λ (given : ℕ × List ℕ). IsUtf8 given.1) pair pairs all
+    split false rest = rest
+
+-- The texts that are given to a track.
+record HasTextsGiven (t : TakenTrack) : Type 0 where
+  name : IfSome t.name IsUtf8
+  language : IfSome t.language IsUtf8
+
+taken-texts : (words : FileWords) (id : ℕ) (list : List Track) → HasTexts words → All HasTextsGiven (taken_from words id list)
+taken-texts words id [] has = All-nil HasTextsGiven
+taken-texts words id (t ∷ ts) has =
+    All-append HasTextsGiven (taken_one words id t) (taken_from words (id + 1) ts) (one (is_taken words id t.kind)) (taken-texts words (id + 1) ts has)
+  where
+    one : (taken : Bool) → All HasTextsGiven (if taken then taken_track words id t ∷ [] else [])
+    one true = All-cons HasTextsGiven (taken_track words id t) [] (record { name = given-text id words.names has.names; language = given-text id words.languages has.languages }) (All-nil HasTextsGiven)
+    one false = All-nil HasTextsGiven
+
+-- ---- an input
+
+found-ok : {A B : Type 0} (found : Result A Damage) (more : A → Result B InputRefusal) (y : B) → found_then found more ≡ Ok y → (x : A) × ((found ≡ Ok x) × (more x ≡ Ok y))
+found-ok (Ok x) more y is = (x, (refl, is))
+found-ok (Err d) more y is = absurd (cc)
+
+unrefused-ok : (why : Option InputRefusal) (input read : InputRead) → unless_refused why input ≡ Ok read → (why ≡ None) × (input ≡ read)
+unrefused-ok None input read is = (refl, cc)
+unrefused-ok (Some why) input read is = absurd (cc)
+
+no-unusable : (o : Option Damage) (other : Option InputRefusal) → option_or (option_map Damaged o) other ≡ None → o ≡ None
+no-unusable None other is = refl
+no-unusable (Some d) other is = absurd (cc)
+
+input-read : (words : FileWords) (webm : Bool) (held : ℕ) (bytes : List ℕ) (read : InputRead) → AreOctets bytes → IsSoundFile words → HasTexts words → input_of words webm held bytes ≡ Ok read → IsReadSource (bytes, read)
+input-read words webm held bytes read octets sound has is =
+    let outline = found-ok (outline_of held bytes) _ read is in
+    let o = outline.0 in
+    let records = found-ok (file_records bytes o.segment) _ read outline.1.1 in
+    let r : Records = records.0 in
+    let taken : List TakenTrack = taken_from words 0 r.tracks in
+    let made = unrefused-ok (refusal_of words webm o.list taken) (input_with words o r) read records.1.1 in
+    let found = records-read bytes o.segment r octets records.1.0 in
+    let usable : first_unusable taken ≡ None = no-unusable (first_unusable taken) (option_map _ (not_built words webm o.list)) made.0 in
+    let good = AreTaken-read words r.tracks taken refl found.tracks.read sound usable in
+    let uids = taken-tracks (λ (t : Track). t.uid < 2 ^ 64) words r.tracks found.tracks.uids in
+    let texts = taken-texts words 0 r.tracks has in
+    subst (λ (i : InputRead). IsReadSource (bytes, i)) made.1 (record {
+      octets = octets;
+      title = found.title;
+      tracks = λ k d below. record { taken = good k d below; uid = uids k d below; name = (texts k d below).name; language = (texts k d below).language };
+    })
+
+-- ---- all inputs
+
+then-ok : {A B : Type 0} (found : Result A Refusal) (more : A → Result B Refusal) (y : B) → refused.and_then found more ≡ Ok y → (x : A) × ((found ≡ Ok x) × (more x ≡ Ok y))
+then-ok (Ok x) more y is = (x, (refl, is))
+then-ok (Err why) more y is = absurd (cc)
+
+numbered-ok : (k : ℕ) (found : Result InputRead InputRefusal) (read : InputRead) → numbered k found ≡ Ok read → found ≡ Ok read
+numbered-ok k (Ok one) read is = ap (λ (i : InputRead). Ok i) (cc)
+numbered-ok k (Err why) read is = absurd (cc)
+
+-- What is read of files with these contents.
+record AreInputsRead (contents : List (List ℕ)) (reads : List InputRead) : Type 0 where
+  each : All IsReadSource (zip contents reads)
+  all : reads_of (zip contents reads) ≡ reads
+
+inputs-read : (webm : Bool) (k held : ℕ) (files : List FileWords) (contents : List (List ℕ)) (reads : List InputRead) → length contents ≡ length files → All AreOctets contents → All IsSoundFile files → All HasTexts files
+    → inputs_from webm k held (zip files contents) ≡ Ok reads → AreInputsRead contents reads
+inputs-read webm k held [] [] reads same octets sound has is =
+    let none : [] ≡ reads = cc in
+    subst (AreInputsRead []) none (record { each = All-nil IsReadSource; all = refl })
+inputs-read webm k held [] (c ∷ cs) reads same octets sound has is = absurd (omega arith)
+inputs-read webm k held (f ∷ fs) [] reads same octets sound has is = absurd (omega arith)
+inputs-read webm k held (f ∷ fs) (c ∷ cs) reads same octets sound has is =
+    let first = then-ok (numbered k (input_of f webm held c)) _ reads is in
+    let read : InputRead = first.0 in
+    let others = then-ok (inputs_from webm (suc k) (counted held read.held) (zip fs cs)) _ reads first.1.1 in
+    let made : read ∷ others.0 ≡ reads = (let last = others.1.1 in cc) in
+    let own = input-read f webm held c read (All-head AreOctets c cs octets) (All-head IsSoundFile f fs sound) (All-head HasTexts f fs has) (numbered-ok k (input_of f webm held c) read first.1.0) in
+    let rest = inputs-read webm (suc k) (counted held read.held) fs cs others.0 (omega arith) (All-tail AreOctets c cs octets) (All-tail IsSoundFile f fs sound) (All-tail HasTexts f fs has) others.1.0 in
+    subst (AreInputsRead (c ∷ cs)) made (record { each = All-cons IsReadSource (c, read) (zip cs others.0) own rest.each; all = ap (λ l. read ∷ l) rest.all })
+
+-- ---- the sources
+
+content-octets : (world : List ℕ → Option (List ℕ)) (name : List ℕ) (o : Option (List ℕ)) → HoldsOctets world → world name ≡ o → AreOctets (unwrap_or o [])
+content-octets world name None holds is = λ i. omega arith
+content-octets world name (Some bytes) holds is = holds name bytes is
+
+contents-octets : (world : List ℕ → Option (List ℕ)) (names : List (List ℕ)) → HoldsOctets world → All AreOctets (map (λ (name : List ℕ). unwrap_or (world name) []) names)
+contents-octets world [] holds = All-nil AreOctets
+contents-octets world (name ∷ names) holds =
+    All-cons AreOctets (unwrap_or (world name) []) (map (λ (n : List ℕ). unwrap_or (world n) []) names) (content-octets world name (world name) holds refl) (contents-octets world names holds)
+
+there-ok : (missing : Option ℕ) (contents all : List (List ℕ)) → unless_missing missing contents ≡ Ok all → contents ≡ all
+there-ok None contents all is = cc
+there-ok (Some input) contents all is = absurd (cc)
+
+planned-ok : (why : Option PlanRefusal) (reads taken : List InputRead) → merge.unless_refused why reads ≡ Ok taken → (why ≡ None) × (reads ≡ taken)
+planned-ok None reads taken is = (refl, cc)
+planned-ok (Some why) reads taken is = absurd (cc)
+
+module _ (words : MergeWords) (sources : List Source) (sound : IsSoundMerge words) (texts : AreTexts words) where
+  with-contents : (contents : List (List ℕ)) → length contents ≡ length words.files → All AreOctets contents → sources_with words contents ≡ Ok sources → AreSources words sources
+  with-contents contents same octets is =
+      let inputs = then-ok (inputs_of words contents) _ sources is in
+      let reads : List InputRead = inputs.0 in
+      let plan = then-ok (merge.unless_refused (plan_refusal words reads) reads) _ sources inputs.1.1 in
+      let good = planned-ok (plan_refusal words reads) reads plan.0 plan.1.0 in
+      let read = inputs-read words.webm 0 0 words.files contents reads same octets sound.each texts.files inputs.1.0 in
+      let made : zip contents reads ≡ sources = ap (zip contents) good.1 ∙ (let last = plan.1.1 in cc) in
+      subst (AreSources words) made (record { each = read.each; unrefused = ap (plan_refusal words) read.all ∙ good.0 })
+
+  -- The sources of a merge can be written.
+  pub sources-read : (world : List ℕ → Option (List ℕ)) → HoldsOctets world → sources_of world words ≡ Ok sources → AreSources words sources
+  sources-read world holds is = split (writes_input words) is
+    where
+      names : List (List ℕ)
+      names = file_names words.files
+
+      contents : List (List ℕ)
+      contents = map (λ (name : List ℕ). unwrap_or (world name) []) names
+
+      many : length contents ≡ length words.files
+      many = length-map names (λ (name : List ℕ). unwrap_or (world name) []) ∙ length-map words.files (λ (w : FileWords). w.name)
+
+      of-contents : refused.and_then (contents_of world words.files) (sources_with words) ≡ Ok sources → AreSources words sources
+      of-contents found =
+          let there = then-ok (contents_of world words.files) (sources_with words) sources found in
+          let same = there-ok (first_missing world names) contents there.0 there.1.0 in
+          with-contents contents many (contents-octets world names holds) (ap (sources_with words) same ∙ there.1.1)
+
+      split : (t : Bool) → (if t then Err OutputIsInput else refused.and_then (contents_of world words.files) (sources_with words)) ≡ Ok sources → AreSources words sources
+      split true found = absurd (cc)
+      split false found = of-contents found

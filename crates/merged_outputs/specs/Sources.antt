@@ -1,0 +1,47 @@
+-- What a merge is made of, as far as it can be written: RFC 9559, section 5.1.4 (Tracks Element).
+use Rattle.std.specs.Prelude.{◌≡◌, ◌<◌, ◌^◌, ℕ, List, Option, None, Some, All, IfSome}
+use Rattle.std.specs.Str.{IsUtf8}
+use Rattle.ebml_format.specs.Number.{AreOctets}
+use Rattle.merge_words.specs.declared.files.FileWords.{FileWords}
+use Rattle.merge_words.specs.declared.output.MergeWords.{MergeWords}
+use Rattle.merge_inputs.specs.Taken.{IsTaken}
+use Rattle.merge_inputs.specs.declared.taken.TakenTrack.{TakenTrack}
+use Rattle.merge_plan.specs.Plan.{Source}
+use Rattle.merge_plan.specs.Refusal.{plan_refusal}
+use Rattle.mkv_merge.specs.Merge.{reads_of}
+
+-- what files hold is octets
+abbrev pub HoldsOctets : (List ℕ → Option (List ℕ)) → Type 0
+HoldsOctets world = (name bytes : List ℕ) → world name ≡ Some bytes → AreOctets bytes
+
+-- ---- the words
+
+-- The names and languages that are given to a file's tracks are texts.
+pub record HasTexts (file : FileWords) : Type 0 where
+  pub names : All (λ (given : ℕ × List ℕ). IsUtf8 given.1) file.names
+  pub languages : All (λ (given : ℕ × List ℕ). IsUtf8 given.1) file.languages
+
+-- So is the title, where one is given.
+pub record AreTexts (words : MergeWords) : Type 0 where
+  pub title : IfSome words.title IsUtf8
+  pub files : All HasTexts words.files
+
+-- ---- what is read
+
+-- A track that was taken, whose entry can be written: its identifier has 64 bits, and what is given to it is text.
+pub record IsReadTrack (t : TakenTrack) : Type 0 where
+  pub taken : IsTaken t
+  pub uid : t.track.uid < 2 ^ 64
+  pub name : IfSome t.name IsUtf8
+  pub language : IfSome t.language IsUtf8
+
+-- A source of octets, whose title is a text and whose tracks can be written.
+pub record IsReadSource (s : Source) : Type 0 where
+  pub octets : AreOctets s.0
+  pub title : IsUtf8 s.1.title
+  pub tracks : All IsReadTrack s.1.taken
+
+-- So is each source of a merge, and nothing refuses them together.
+pub record AreSources (words : MergeWords) (sources : List Source) : Type 0 where
+  pub each : All IsReadSource sources
+  pub unrefused : plan_refusal words (reads_of sources) ≡ None
