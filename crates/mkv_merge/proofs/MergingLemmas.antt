@@ -1,21 +1,22 @@
 -- Inputs that are all there: their contents, and how much is read of them.
-use Rattle.std.proofs.Common.{◌≡◌, ℕ, ◌+◌, ◌*◌, ◌^◌, ◌≤◌, cond, false, List, [], ◌∷◌, length, map, Option, Some, None, Result, Ok, Err, refl, sym, ◌∙◌, ap, subst, arith}
+use Rattle.std.proofs.Common.{◌≡◌, ℕ, suc, ◌+◌, ◌*◌, ◌≤◌, cond, true, false, List, [], ◌∷◌, length, map, Option, Some, None, Result, Ok, Err, refl, sym, ◌∙◌, ap, subst, arith}
 use Rattle.std.specs.Prelude.{Bool, if◌then◌else◌, is_none, unwrap_or}
 use Rattle.std.specs.List.{position_from}
 use Rattle.std.proofs.lemmas.List.Sums.{sum_by-cons}
 use Rattle.mkv_values.specs.declared.outside.FileId.{FileId}
-use Rattle.mkv_io.specs.LiveFiles.{LiveFiles}
+use Rattle.mkv_io.specs.LiveFiles.{IsSameFile, LiveFiles}
 use Rattle.mkv_io.specs.Told.{Told}
+use Rattle.mkv_outputs.specs.Sinks.{AreLive}
 use Rattle.input_files.specs.Inputs as inputs
 use Rattle.input_files.specs.Inputs.{file_names, first_missing}
 use Rattle.merge_words.specs.declared.files.FileWords.{FileWords}
 use Rattle.merge_words.specs.declared.output.MergeWords.{MergeWords}
 use Rattle.merge_plan.specs.Plan.{Source, lanes_given}
-use Rattle.mkv_merge.specs.Bound.{contents_length, files_size, most_of, most_read}
-use Rattle.mkv_merge.specs.Merge.{sources_of, sources_with}
+use Rattle.mkv_merge.specs.Bound.{contents_length, files_size, most_looked, most_of, most_read}
+use Rattle.mkv_merge.specs.Merge.{sources_of, sources_settled, sources_with}
 use Rattle.mkv_merge.specs.Prepared.{AreTold}
-use Rattle.mkv_merge.specs.Read.{contents_of, unless_missing, writes_input}
-use Rattle.mkv_merge.specs.Refused.{and_then}
+use Rattle.mkv_merge.specs.Read.{contents_of, pending_of, unless_missing, writes_input}
+use Rattle.mkv_merge.specs.Refused.{and_then, unless}
 use Rattle.mkv_merge.specs.declared.refusal.Refusal.{Refusal}
 use Rattle.mkv_merge.specs.declared.refusal.Refusal.TheVariants.{OutputIsInput}
 
@@ -35,10 +36,10 @@ pub all-there : (world : List ℕ → Option (List ℕ)) (names : List (List ℕ
 all-there world names none = all-there-from world 0 names none
 
 -- where no input is missing, nothing refuses the names
-pub opened-sources : (world : List ℕ → Option (List ℕ)) (words : MergeWords) (files : List FileWords) → writes_input words ≡ false → files ≡ words.files → first_missing world (file_names files) ≡ None → sources_of world words ≡ sources_with words (map (λ name. unwrap_or (world name) []) (file_names words.files))
+pub opened-sources : (world : List ℕ → Option (List ℕ)) (words : MergeWords) (files : List FileWords) → writes_input words ≡ false → files ≡ words.files → first_missing world (file_names files) ≡ None → sources_of world words ≡ sources_settled world words (map (λ name. unwrap_or (world name) []) (file_names words.files))
 opened-sources world words files apart same there =
-    ap (λ (b : Bool). if b then Err OutputIsInput else and_then (contents_of world words.files) (sources_with words)) apart
-    ∙ ap (λ (missing : Option ℕ). and_then (unless_missing missing (map (λ name. unwrap_or (world name) []) (file_names words.files))) (sources_with words))
+    ap (λ (b : Bool). if b then Err OutputIsInput else and_then (contents_of world words.files) (sources_settled world words)) apart
+    ∙ ap (λ (missing : Option ℕ). and_then (unless_missing missing (map (λ name. unwrap_or (world name) []) (file_names words.files))) (sources_settled world words))
     (ap (λ (each : List FileWords). first_missing world (file_names each)) (sym same) ∙ there)
 
 -- and the files that were opened tell the contents of their names
@@ -72,10 +73,38 @@ reads-both found sources lanes old mid new size now is count same first second =
     fits : (n : ℕ) → new ≤ mid + 6 * (n * size) → new ≤ old + 6 * ((n + 1) * size)
     fits n more = omega arith
 
--- files are opened and closed without reading them
-pub reads-few : (world : List ℕ → Option (List ℕ)) (words : MergeWords) (found : Result (List Source) Refusal) (old opened merged closed size : ℕ) → sources_of world words ≡ found → size ≡ contents_length world words.files → opened ≡ old → merged ≤ opened + most_of found size → closed ≡ merged → closed ≤ old + most_read world words
-reads-few world words found old opened merged closed size is length begun most ended =
-    within (most_of found size) (most_of (sources_of world words) (contents_length world words.files)) (ap (λ (n : ℕ). most_of found n) length ∙ ap (λ (r : Result (List Source) Refusal). most_of r (contents_length world words.files)) (sym is)) most
+-- where no edit is pending, sidecars and then inputs are read
+pub reads-settled : (world : List ℕ → Option (List ℕ)) (words : MergeWords) (contents : List (List ℕ)) (old mid new size now look : ℕ) → pending_of world words ≡ None → now ≡ size → mid ≤ old + look → new ≤ mid + most_of (sources_with words contents) now → new ≤ old + (most_of (sources_settled world words contents) size + look)
+reads-settled world words contents old mid new size now look none same first second =
+    subst (λ (found : Option Refusal). new ≤ old + (most_of (and_then (unless found contents) (sources_with words)) size + look)) (sym none)
+    (within (most_of (sources_with words contents) size) (subst (λ (n : ℕ). new ≤ mid + most_of (sources_with words contents) n) same second))
   where
-    within : (n m : ℕ) → n ≡ m → merged ≤ opened + n → closed ≤ old + (m + 2 ^ 20)
-    within n m same most = omega arith
+    within : (most : ℕ) → new ≤ mid + most → new ≤ old + (most + look)
+    within most second = omega (arith, first)
+
+-- files are opened and closed without reading them
+pub reads-few : (world : List ℕ → Option (List ℕ)) (words : MergeWords) (found : Result (List Source) Refusal) (old opened merged closed size : ℕ) → sources_of world words ≡ found → size ≡ contents_length world words.files → opened ≡ old → merged ≤ opened + (most_of found size + most_looked words) → closed ≡ merged → closed ≤ old + most_read world words
+reads-few world words found old opened merged closed size is length begun most ended =
+    within (most_of found size) (most_of (sources_of world words) (contents_length world words.files)) (most_looked words) (ap (λ (n : ℕ). most_of found n) length ∙ ap (λ (r : Result (List Source) Refusal). most_of r (contents_length world words.files)) (sym is)) most
+  where
+    within : (n m l : ℕ) → n ≡ m → merged ≤ opened + (n + l) → closed ≤ old + (m + l)
+    within n m l same most = omega arith
+
+-- ---- live files that are the same
+
+-- they have the same contents
+pub contents-kept : (live : ℕ → Bool) (old new : ℕ → Option (List ℕ)) (ids : List FileId) → ((file : ℕ) → live file ≡ true → new file ≡ old file) → AreLive live ids → inputs.contents_of new ids ≡ inputs.contents_of old ids
+contents-kept live old new [] same are = refl
+contents-kept live old new (f ∷ fs) same are =
+    ap (λ (c : Option (List ℕ)). c ∷ inputs.contents_of new fs) (same f.n (are 0 f (omega arith)))
+    ∙ ap (λ (cs : List (Option (List ℕ))). old f.n ∷ cs) (contents-kept live old new fs same (λ k d below. are (suc k) d (omega arith)))
+
+-- and the same lengths
+pub sizes-kept : (old new : LiveFiles) (ids : List FileId) → ((file : ℕ) → IsSameFile old new file) → AreLive old.live ids → files_size new ids ≡ files_size old ids
+sizes-kept old new [] same are = refl
+sizes-kept old new (f ∷ fs) same are =
+    let here : new.size f.n ≡ old.size f.n = (same f.n).size (are 0 f (omega arith)) in
+    let rest : files_size new fs ≡ files_size old fs = sizes-kept old new fs same (λ k d below. are (suc k) d (omega arith)) in
+    let left = sum_by-cons (λ (file : FileId). new.size file.n) f fs in
+    let right = sum_by-cons (λ (file : FileId). old.size file.n) f fs in
+    omega (arith, here, rest, left, right)

@@ -13,7 +13,8 @@ use Rattle.mkv_outputs.specs.Sinks.{holders_of}
 use Rattle.merge_words.specs.declared.files.FileWords.{FileWords}
 use Rattle.merge_words.specs.declared.output.MergeWords.{MergeWords}
 use Rattle.input_files.specs.Inputs.{file_names}
-use Rattle.mkv_merge.specs.Read.{is_read, sidecar_of, writes_input}
+use Rattle.sidecar_format.specs.Name.{sidecar_of}
+use Rattle.mkv_merge.specs.Read.{is_read, writes_input}
 
 -- ---- two names
 

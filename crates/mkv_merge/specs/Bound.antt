@@ -1,7 +1,8 @@
 -- How many octets a merge may read.
-use Rattle.std.specs.Prelude.{ℕ, ◌+◌, ◌*◌, ◌^◌, List, [], length, sum_by, Option, unwrap_or, Result, Ok, Err}
+use Rattle.std.specs.Prelude.{ℕ, ◌+◌, ◌*◌, List, [], length, sum_by, Option, unwrap_or, Result, Ok, Err}
 use Rattle.mkv_values.specs.declared.outside.FileId.{FileId}
 use Rattle.mkv_io.specs.LiveFiles.{LiveFiles}
+use Rattle.sidecar_format.specs.declared.place.TheConstants.{HEAD}
 use Rattle.merge_words.specs.declared.files.FileWords.{FileWords}
 use Rattle.merge_words.specs.declared.output.MergeWords.{MergeWords}
 use Rattle.merge_plan.specs.Plan.{Source, lanes_given}
@@ -25,7 +26,10 @@ lane_count (Err why) = 0
 abbrev pub most_of : Result (List Source) Refusal → ℕ → ℕ
 most_of sources octets = 6 * ((lane_count sources + 1) * octets)
 
--- what a merge may read in a world of names: that, and 2^20 octets of the files beside the inputs and the output in which
--- edits are kept
+-- what may be read to see whether an edit of an input or of the output is pending: what each sidecar begins with
+abbrev pub most_looked : MergeWords → ℕ
+most_looked words = HEAD * (length words.files + 1)
+
+-- what a merge may read in a world of names
 abbrev pub most_read : (List ℕ → Option (List ℕ)) → MergeWords → ℕ
-most_read world words = most_of (sources_of world words) (contents_length world words.files) + 2 ^ 20
+most_read world words = most_of (sources_of world words) (contents_length world words.files) + most_looked words

@@ -22,8 +22,8 @@ use Rattle.mkv_lines.specs.Line.{damage_lines, no_track_line, wrote_blocks_line}
 use Rattle.mkv_lines.specs.Verdict.{Verdict, in_turn, refused}
 use Rattle.mkv_lines.specs.declared.status.Status.{Status}
 use Rattle.mkv_lines.specs.declared.status.Status.TheVariants.{Done, Warned}
-use Rattle.mkv_merge.specs.Read.{contents_of, inputs_of, writes_input}
-use Rattle.mkv_merge.specs.Refused.{and_then, line_of}
+use Rattle.mkv_merge.specs.Read.{contents_of, inputs_of, pending_of, writes_input}
+use Rattle.mkv_merge.specs.Refused.{and_then, line_of, unless}
 use Rattle.mkv_merge.specs.declared.refusal.Refusal.{Refusal}
 use Rattle.mkv_merge.specs.declared.refusal.Refusal.TheVariants.{OutputIsInput, Plan}
 
@@ -40,10 +40,14 @@ sources_with words contents =
     and_then (unless_refused (plan_refusal words reads) reads) (λ taken.
     Ok (zip contents taken)))
 
+-- the same, unless an edit of one of the files is pending
+abbrev pub sources_settled : (List ℕ → Option (List ℕ)) → MergeWords → List (List ℕ) → Result (List Source) Refusal
+sources_settled world words contents = and_then (unless (pending_of world words) contents) (sources_with words)
+
 -- the sources of a merge in a world of names, or the first thing that refuses it: the output's name, an input that isn't
--- there, and then what the inputs hold
+-- there, an edit that is pending, and then what the inputs hold
 abbrev pub sources_of : (List ℕ → Option (List ℕ)) → MergeWords → Result (List Source) Refusal
-sources_of world words = if writes_input words then Err OutputIsInput else and_then (contents_of world words.files) (sources_with words)
+sources_of world words = if writes_input words then Err OutputIsInput else and_then (contents_of world words.files) (sources_settled world words)
 
 -- ---- the output
 

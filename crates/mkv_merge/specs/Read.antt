@@ -1,24 +1,22 @@
 -- What is read of the inputs of a merge, and what refuses them.
-use Rattle.std.specs.Prelude.{ℕ, suc, Bool, ◌||◌, List, [], ◌∷◌, ◌++◌, map, codes, Option, Some, None, unwrap_or, Result, Ok, Err}
+use Rattle.std.specs.Prelude.{ℕ, suc, Bool, true, false, ◌||◌, List, [], ◌∷◌, map, Option, Some, None, unwrap_or, Result, Ok, Err}
 use Rattle.std.specs.List.{list_any, zip}
 use Rattle.std.specs.Str.{bytes_eq}
 use Rattle.mkv_io.specs.Faults.{counted}
+use Rattle.sidecar_format.specs.Name.{sidecar_of}
+use Rattle.pending_edits.specs.Pending.{is_pending}
 use Rattle.merge_words.specs.declared.files.FileWords.{FileWords}
 use Rattle.merge_words.specs.declared.output.MergeWords.{MergeWords}
-use Rattle.input_files.specs.Inputs.{file_names, first_missing}
+use Rattle.input_files.specs.Inputs.{file_names, first_missing, first_pending}
 use Rattle.merge_inputs.specs.Input.{InputRead, input_of}
 use Rattle.merge_inputs.specs.declared.input.InputRefusal.{InputRefusal}
 use Rattle.mkv_merge.specs.Refused.{and_then}
 use Rattle.mkv_merge.specs.declared.refusal.Refusal.{Refusal}
-use Rattle.mkv_merge.specs.declared.refusal.Refusal.TheVariants.{Missing, Input}
+use Rattle.mkv_merge.specs.declared.refusal.Refusal.TheVariants.{Missing, PendingInput, PendingOutput, Input}
 
 -- ---- the output's name
 
--- the name of the file beside an input in which an edit of it is kept until it is done
-abbrev pub sidecar_of : List ℕ → List ℕ
-sidecar_of name = name ++ codes ".mkvedit"
-
--- the output has the name of an input, or of such a file
+-- the output has the name of an input, or of its sidecar
 abbrev pub is_read : List ℕ → FileWords → Bool
 is_read output file = bytes_eq file.name output || bytes_eq (sidecar_of file.name) output
 
@@ -34,6 +32,18 @@ unless_missing (Some input) contents = Err (Missing input)
 -- the contents of the inputs, or the first that isn't there
 abbrev pub contents_of : (List ℕ → Option (List ℕ)) → List FileWords → Result (List (List ℕ)) Refusal
 contents_of world files = unless_missing (first_missing world (file_names files)) (map (λ name. unwrap_or (world name) []) (file_names files))
+
+-- ---- pending edits
+
+-- an edit is pending of this input, or else of the file that lies at the output's name
+abbrev pub pending_refusal : Option ℕ → Bool → Option Refusal
+pending_refusal (Some input) output = Some (PendingInput input)
+pending_refusal None true = Some PendingOutput
+pending_refusal None false = None
+
+-- what refuses a merge of files of which an edit is pending: the first of the inputs, and then the output
+abbrev pub pending_of : (List ℕ → Option (List ℕ)) → MergeWords → Option Refusal
+pending_of world words = pending_refusal (first_pending world (file_names words.files)) (is_pending world words.output)
 
 -- ---- what stands before the blocks
 

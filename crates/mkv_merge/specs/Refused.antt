@@ -1,5 +1,5 @@
 -- Why nothing is merged, and the line that says so.
-use Rattle.std.specs.Prelude.{ℕ, List, [], Result, Ok, Err}
+use Rattle.std.specs.Prelude.{ℕ, List, [], Option, Some, None, Result, Ok, Err}
 use Rattle.std.specs.List.{slice_get}
 use Rattle.std.specs.Option.{option_map_or}
 use Rattle.merge_words.specs.declared.files.FileWords.{FileWords}
@@ -8,9 +8,9 @@ use Rattle.merge_inputs.specs.declared.input.InputRefusal.{InputRefusal}
 use Rattle.merge_inputs.specs.declared.input.InputRefusal.TheVariants.{Damaged, NotBuilt}
 use Rattle.merge_plan.specs.declared.refusal.PlanRefusal.{PlanRefusal}
 use Rattle.merge_plan.specs.declared.refusal.PlanRefusal.TheVariants.{NoLane, TooManyLanes, NotWebm, HeaderTooLarge}
-use Rattle.mkv_lines.specs.Line.{missing_line, no_lane_line, not_taken_line, not_webm_line, output_is_input_line, refusal_line, too_large_line, too_many_lanes_line}
+use Rattle.mkv_lines.specs.Line.{missing_line, no_lane_line, not_taken_line, not_webm_line, output_is_input_line, pending_edit_line, refusal_line, too_large_line, too_many_lanes_line}
 use Rattle.mkv_merge.specs.declared.refusal.Refusal.{Refusal}
-use Rattle.mkv_merge.specs.declared.refusal.Refusal.TheVariants.{OutputIsInput, Missing, Input, Plan}
+use Rattle.mkv_merge.specs.declared.refusal.Refusal.TheVariants.{OutputIsInput, Missing, PendingInput, PendingOutput, Input, Plan}
 
 -- ---- one step after the other
 
@@ -18,6 +18,11 @@ use Rattle.mkv_merge.specs.declared.refusal.Refusal.TheVariants.{OutputIsInput, 
 abbrev pub and_then : {A B : Type 0} → Result A Refusal → (A → Result B Refusal) → Result B Refusal
 and_then (Ok x) more = more x
 and_then (Err why) more = Err why
+
+-- what was made, unless something refuses it
+abbrev pub unless : {A : Type 0} → Option Refusal → A → Result A Refusal
+unless None x = Ok x
+unless (Some why) x = Err why
 
 -- ---- the lines
 
@@ -39,5 +44,7 @@ plan_line output (HeaderTooLarge id) = too_large_line output id
 abbrev pub line_of : MergeWords → Refusal → List ℕ
 line_of words OutputIsInput = output_is_input_line words.output
 line_of words (Missing input) = missing_line (name_of words input)
+line_of words (PendingInput input) = pending_edit_line (name_of words input)
+line_of words PendingOutput = pending_edit_line words.output
 line_of words (Input input why) = input_line (name_of words input) why
 line_of words (Plan why) = plan_line words.output why

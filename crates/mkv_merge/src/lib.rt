@@ -4,6 +4,7 @@
 
 mod merging;
 mod names;
+mod pending;
 mod preparing;
 mod refusal;
 mod taking;

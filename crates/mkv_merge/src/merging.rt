@@ -10,12 +10,13 @@ ghost use Rattle.mkv_lines.specs.Faults.{HasStopCause};
 ghost use Rattle.mkv_lines.specs.Ordinary.{IsOrdinary};
 ghost use Rattle.mkv_lines.specs.Seen.{seen};
 ghost use Rattle.mkv_lines.specs.Verdict.{Reaches};
-ghost use Rattle.mkv_merge.specs.Bound.{files_size, most_of, most_read};
-ghost use Rattle.mkv_merge.specs.Merge.{merge_verdict, sources_with, verdict_of};
+ghost use Rattle.mkv_merge.specs.Bound.{files_size, most_looked, most_of, most_read};
+ghost use Rattle.mkv_merge.specs.Merge.{merge_verdict, sources_settled, sources_with, verdict_of};
 ghost use Rattle.mkv_merge.specs.Prepared.{AreTold};
 ghost use Rattle.mkv_merge.specs.Read.{writes_input};
 
 use crate::names::writes_input;
+use crate::pending::pending_of;
 use crate::preparing::prepare;
 use crate::refusal::{MergeEnd, Refusal};
 use crate::telling::refuse;
@@ -57,6 +58,37 @@ fn merge_opened<F: Files, P: Report>(
     }
 }
 
+/// Merges live files, unless an edit of one of them or of the output is pending.
+fn merge_settled<F: Files, P: Report>(
+    alloc: Global,
+    words: &MergeWords,
+    ids: &[FileId],
+    files: &mut F,
+    report: &mut P,
+) -> Result<Status, Stop>
+    requires sound { IsSoundMerge words.now }
+    requires inputs { AreInputs F.Reads F.Files.own (file_names words.now.files) files.old ids.now }
+    requires apart { writes_input words.now ≡ false }
+    ensures verdict { Told (F.names files.old) (λ world. (contents : List (List ℕ)) → AreTold (live_files F.Reads files.old) ids.now contents → Reaches
+        (seen F.Reads F.writing_faults F.names P.Report files.old report.old)
+        (seen F.Reads F.writing_faults F.names P.Report files.new report.new)
+        result (verdict_of words.now (sources_settled world words.now contents))) }
+    ensures kept { KeepsOthers F.Reads F.Files.own (words.now.output ∷ []) files.old files.new }
+    ensures ordinary { IfOk result IsOrdinary }
+    ensures cause { HasStopCause
+        (seen F.Reads F.writing_faults F.names P.Report files.old report.old).counts
+        (seen F.Reads F.writing_faults F.names P.Report files.new report.new).counts result }
+    ensures octets { Told (F.names files.old) (λ world. (contents : List (List ℕ)) → AreTold (live_files F.Reads files.old) ids.now contents
+        → F.octets_read files.new ≤ F.octets_read files.old
+        + (most_of (sources_settled world words.now contents) (files_size (live_files F.Reads files.old) ids.now) + most_looked words.now)) }
+{
+    match pending_of(alloc, words, files) {
+        Ok(None) => merge_opened(alloc, words, ids, files, report),
+        Ok(Some(why)) => refuse(alloc, words, &why, report),
+        Err(why) => Err(Stop::from(why)),
+    }
+}
+
 /// Writes one file of several, as the words say: the tracks that they take of each.
 pub fn merge_of<F: Files, P: Report>(
     alloc: Global,
@@ -87,7 +119,7 @@ pub fn merge_of<F: Files, P: Report>(
         Err(InputsEnd::Failed) => return Err(Stop::Files),
         Err(InputsEnd::Memory) => return Err(Stop::Memory),
     };
-    let ended = merge_opened(alloc, words, ids.as_slice(), files, report);
+    let ended = merge_settled(alloc, words, ids.as_slice(), files, report);
     close_all(files, ids.as_slice());
     ended
 }

@@ -4,9 +4,7 @@ ghost use Rattle.std.specs.Prelude.{◌≡◌};
 ghost use Rattle.mkv_merge.specs.Read.{is_read, writes_input};
 
 use merge_words::{FileWords, MergeWords};
-
-/// What is put behind the name of a file, where an edit of it is kept until it is done.
-const SIDECAR: &str = ".mkvedit";
+use sidecar_format::SUFFIX;
 
 /// Whether an output has the name of an input, or of the file beside it in which an edit is kept until it is done.
 fn is_read(output: &str, file: &FileWords) -> bool
@@ -16,7 +14,7 @@ fn is_read(output: &str, file: &FileWords) -> bool
         .as_bytes()
         .strip_prefix(file.name.as_str().as_bytes())
     {
-        Some(rest) => rest.is_empty() || rest == SIDECAR.as_bytes(),
+        Some(rest) => rest.is_empty() || rest == SUFFIX.as_bytes(),
         None => false,
     }
 }

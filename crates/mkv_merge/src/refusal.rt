@@ -16,6 +16,10 @@ pub enum Refusal {
     OutputIsInput,
     /// There is no file of this input's name.
     Missing { input: usize },
+    /// An edit of this input is pending.
+    PendingInput { input: usize },
+    /// An edit of the file that lies at the output's name is pending.
+    PendingOutput,
     /// This input isn't taken.
     Input { input: usize, why: InputRefusal },
     /// The inputs make no output.

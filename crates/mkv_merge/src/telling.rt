@@ -63,6 +63,10 @@ fn line_of<'a>(words: &'a MergeWords, why: &'a Refusal) -> Line<'a>
         Refusal::Missing { input } => Line::Missing {
             name: name_of(words, *input),
         },
+        Refusal::PendingInput { input } => Line::PendingEdit {
+            name: name_of(words, *input),
+        },
+        Refusal::PendingOutput => Line::PendingEdit { name: output },
         Refusal::Input { input, why } => input_line(name_of(words, *input), why),
         Refusal::Plan(why) => plan_line(output, why),
     }

@@ -4,8 +4,9 @@ use Rattle.mkv_io.specs.Sources.{live_files}
 use Rattle.input_files.specs.Inputs.{file_names}
 use Rattle.mkv_lines.specs.Seen.{Seen, seen}
 use Rattle.mkv_lines.specs.Verdict.{Reaches, Verdict}
+use Rattle.mkv_lines.proofs.VerdictLemmas.{IsStopped-before}
 use Rattle.mkv_merge.specs.Bound.{files_size}
-use Rattle.mkv_merge.specs.Merge.{merge_verdict, sources_of, sources_with, verdict_of}
+use Rattle.mkv_merge.specs.Merge.{merge_verdict, sources_of, sources_settled, verdict_of}
 use Rattle.mkv_merge.specs.Prepared.{AreTold}
 use Rattle.mkv_merge.specs.Read.{writes_input}
 use Rattle.mkv_merge.proofs.MergingLemmas.{opened-sources, opened-told, reads-few, size-told}
@@ -17,13 +18,13 @@ returns-clause-verdict g c = λ world told.
     let words = c.args.words.now in
     let old = c.args.files.now in
     let opened = c.open_all.new.files in
-    let merged = c.merge_opened-ended.new.files in
+    let merged = c.merge_settled-ended.new.files in
     let closed = c.close_all.new in
-    let said = c.merge_opened-ended.new.report in
+    let said = c.merge_settled-ended.new.report in
     let contents = map (λ name. unwrap_or (world name) []) (file_names words.files) in
     let apart : writes_input words ≡ false = sym c.writes_input.ensures ∙ c.if-writes_input.false in
     let there = c.in-Ok.ensures.missing world told in
-    let sources : sources_of world words ≡ sources_with words contents = opened-sources world words c.as_slice.result.now apart c.as_slice.ensures there in
+    let sources : sources_of world words ≡ sources_settled world words contents = opened-sources world words c.as_slice.result.now apart c.as_slice.ensures there in
     let same = c.in-Ok.ensures.same in
     let ends = c.close_all.ensures in
     let contents-told : AreTold (live_files g.F.Reads opened) c.as_slice-2.result.now contents =
@@ -43,10 +44,23 @@ returns-clause-verdict g c = λ world told.
       lines = g.P.Report.lines said;
       names = sym ends.names i;
     } in
-    subst (λ (s : Seen). Reaches was s c.merge_opened-ended.result (merge_verdict world words)) ended
-    (subst (λ (s : Seen). Reaches s wrote c.merge_opened-ended.result (merge_verdict world words)) begun
-    (subst (λ (v : Verdict). Reaches read wrote c.merge_opened-ended.result v) (ap (verdict_of words) (sym sources))
-    (c.merge_opened-ended.ensures.verdict contents contents-told)))
+    subst (λ (s : Seen). Reaches was s c.merge_settled-ended.result (merge_verdict world words)) ended
+    (subst (λ (s : Seen). Reaches s wrote c.merge_settled-ended.result (merge_verdict world words)) begun
+    (subst (λ (v : Verdict). Reaches read wrote c.merge_settled-ended.result v) (ap (verdict_of words) (sym sources))
+    (c.merge_settled-ended.ensures.verdict world (same.names ∙ told) contents contents-told)))
+
+-- the inputs couldn't be opened
+pub returns-in-Err-Failed-clause-verdict : goal.returns-in-Err-Failed-clause-verdict
+returns-in-Err-Failed-clause-verdict g c = λ world told.
+    IsStopped-before (seen g.F.Reads g.F.Files.writing_faults g.F.Files.names g.P.Report c.args.files.now c.args.report.now)
+    (seen g.F.Reads g.F.Files.writing_faults g.F.Files.names g.P.Report c.open_all.new.files c.args.report.now)
+    (merge_verdict world c.args.words.now) refl c.open_all.ensures.same.names
+
+pub returns-in-Err-Memory-clause-verdict : goal.returns-in-Err-Memory-clause-verdict
+returns-in-Err-Memory-clause-verdict g c = λ world told.
+    IsStopped-before (seen g.F.Reads g.F.Files.writing_faults g.F.Files.names g.P.Report c.args.files.now c.args.report.now)
+    (seen g.F.Reads g.F.Files.writing_faults g.F.Files.names g.P.Report c.open_all.new.files c.args.report.now)
+    (merge_verdict world c.args.words.now) refl c.open_all.ensures.same.names
 
 -- ---- how much is read
 
@@ -61,6 +75,6 @@ returns-clause-octets g c = λ world told.
     let there = c.in-Ok.ensures.missing world told in
     let contents-told : AreTold f ids contents =
     opened-told f world words c.as_slice.result.now c.in-Ok.ids ids c.as_slice.ensures c.as_slice-2.ensures there (c.in-Ok.ensures.contents world told) in
-    reads-few world words (sources_with words contents) (g.F.Reads.octets_read c.args.files.now) (g.F.Reads.octets_read opened) (g.F.Reads.octets_read c.merge_opened-ended.new.files) (g.F.Reads.octets_read c.close_all.new.files) (files_size f ids)
+    reads-few world words (sources_settled world words contents) (g.F.Reads.octets_read c.args.files.now) (g.F.Reads.octets_read opened) (g.F.Reads.octets_read c.merge_settled-ended.new.files) (g.F.Reads.octets_read c.close_all.new.files) (files_size f ids)
     (opened-sources world words c.as_slice.result.now apart c.as_slice.ensures there) (size-told f (g.met.F.Reads.told_size (g.F.Reads.standing opened)) world words.files ids contents-told)
-    c.in-Ok.ensures.same.octets (c.merge_opened-ended.ensures.octets contents contents-told) c.close_all.ensures.octets
+    c.in-Ok.ensures.same.octets (c.merge_settled-ended.ensures.octets world (c.in-Ok.ensures.same.names ∙ told) contents contents-told) c.close_all.ensures.octets

@@ -1,6 +1,6 @@
 use Rattle.std.proofs.Common.{[], Bool, ◌||◌, sym, ◌∙◌, ap}
 use Rattle.std.specs.Str.{bytes_eq}
-use Rattle.mkv_merge.specs.Read.{sidecar_of}
+use Rattle.sidecar_format.specs.Name.{sidecar_of}
 use Rattle.mkv_merge.proofs.NamesLemmas.{is_read-behind, is_read-other}
 use Rattle.mkv_merge.proofs.names.is_read.Goals as goal
 

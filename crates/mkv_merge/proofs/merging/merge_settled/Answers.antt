@@ -1,0 +1,98 @@
+use Rattle.std.proofs.Common.{◌≡◌, ℕ, List, [], ◌∷◌, Option, Some, None, refl, sym, ◌∙◌, ap, subst}
+use Rattle.mkv_io.specs.Sources.{live_files}
+use Rattle.mkv_io.proofs.WritingLemmas.{KeepsOthers-more, KeepsOthers-then}
+use Rattle.input_files.specs.Inputs.{file_names}
+use Rattle.input_files.proofs.InputsLemmas.{stand-over}
+use Rattle.mkv_lines.specs.Seen.{Seen, seen}
+use Rattle.mkv_lines.specs.Verdict.{Reaches, Verdict, refused}
+use Rattle.mkv_lines.proofs.VerdictLemmas.{IsStopped-before, Reaches-lines}
+use Rattle.mkv_merge.specs.Bound.{files_size, most_looked}
+use Rattle.mkv_merge.specs.Merge.{sources_settled, sources_with, verdict_of}
+use Rattle.mkv_merge.specs.Prepared.{AreTold}
+use Rattle.mkv_merge.specs.Read.{pending_of}
+use Rattle.mkv_merge.specs.Refused.{and_then, line_of, unless}
+use Rattle.mkv_merge.specs.declared.refusal.Refusal.{Refusal}
+use Rattle.mkv_merge.proofs.MergingLemmas.{contents-kept, reads-settled, sizes-kept}
+use Rattle.mkv_merge.proofs.merging.merge_settled.Goals as goal
+
+-- the inputs stand while sidecars are looked into
+pub merge_opened-requires-clause-inputs : goal.merge_opened-requires-clause-inputs
+merge_opened-requires-clause-inputs g c =
+    (stand-over g.F.Reads g.F.Files (file_names c.args.words.now.files) [] c.args.files.now c.pending_of.new.files c.args.ids.now
+    c.requires.inputs c.pending_of.ensures.looks.kept).inputs
+
+-- no edit is pending: nothing that is seen has changed
+pub returns-in-Ok-None-clause-verdict : goal.returns-in-Ok-None-clause-verdict
+returns-in-Ok-None-clause-verdict g c = λ world told contents held.
+    let words = c.args.words.now in
+    let old = c.args.files.now in
+    let mid = c.pending_of.new.files in
+    let looks = c.pending_of.ensures.looks in
+    let reading : g.F.Reads.reading_faults mid ≡ g.F.Reads.reading_faults old = c.in-Ok-None.ensures.cause in
+    let none : pending_of world words ≡ None = sym (c.in-Ok-None.ensures.exact world told) ∙ c.in-Ok-None.field-0-is in
+    let was = seen g.F.Reads g.F.Files.writing_faults g.F.Files.names g.P.Report old c.args.report.now in
+    let read = seen g.F.Reads g.F.Files.writing_faults g.F.Files.names g.P.Report mid c.args.report.now in
+    let now = seen g.F.Reads g.F.Files.writing_faults g.F.Files.names g.P.Report c.merge_opened.new.files c.merge_opened.new.report in
+    let begun : read ≡ was = λ i. record {
+      counts = record { reading = reading i; writing = looks.writing i; report = g.P.Report.faults c.args.report.now };
+      lines = g.P.Report.lines c.args.report.now;
+      names = looks.names i;
+    } in
+    let settled : sources_settled world words contents ≡ sources_with words contents =
+    ap (λ (why : Option Refusal). and_then (unless why contents) (sources_with words)) none in
+    let mid-told : AreTold (live_files g.F.Reads mid) c.args.ids.now contents =
+    contents-kept (live_files g.F.Reads old).live (live_files g.F.Reads old).content (live_files g.F.Reads mid).content c.args.ids.now
+    (λ file live. (looks.kept.others file tt).content live) c.requires.inputs.live ∙ held in
+    subst (λ (s : Seen). Reaches s now c.merge_opened.result (verdict_of words (sources_settled world words contents))) begun
+    (subst (λ (v : Verdict). Reaches read now c.merge_opened.result v) (ap (verdict_of words) (sym settled))
+    (c.merge_opened.ensures.verdict contents mid-told))
+
+pub returns-in-Ok-None-clause-kept : goal.returns-in-Ok-None-clause-kept
+returns-in-Ok-None-clause-kept g c =
+    KeepsOthers-then g.F.Reads g.F.Files (c.args.words.now.output ∷ []) c.args.files.now c.pending_of.new.files c.merge_opened.new.files
+    (KeepsOthers-more g.F.Reads g.F.Files [] (c.args.words.now.output ∷ []) c.args.files.now c.pending_of.new.files (λ name other. tt) c.pending_of.ensures.looks.kept)
+    c.merge_opened.ensures.kept
+
+-- one is: the merge is refused
+pub returns-in-Ok-Some-clause-verdict : goal.returns-in-Ok-Some-clause-verdict
+returns-in-Ok-Some-clause-verdict g c = λ world told contents held.
+    let words = c.args.words.now in
+    let why = c.in-Ok-Some.why in
+    let mid = c.pending_of.new.files in
+    let some : pending_of world words ≡ Some why = sym (c.in-Ok-Some.ensures.exact world told) ∙ c.in-Ok-Some.field-0-is in
+    let was = seen g.F.Reads g.F.Files.writing_faults g.F.Files.names g.P.Report c.args.files.now c.args.report.now in
+    let now = seen g.F.Reads g.F.Files.writing_faults g.F.Files.names g.P.Report mid c.refuse.new.report in
+    let verdict : verdict_of words (sources_settled world words contents) ≡ refused (line_of words why) =
+    ap (λ (found : Option Refusal). verdict_of words (and_then (unless found contents) (sources_with words))) some in
+    subst (λ (v : Verdict). Reaches was now c.refuse.result v) (sym verdict)
+    (Reaches-lines was now c.refuse.result (refused (line_of words why)) c.refuse.ensures.verdict refl c.pending_of.ensures.looks.names)
+
+pub returns-in-Ok-Some-clause-kept : goal.returns-in-Ok-Some-clause-kept
+returns-in-Ok-Some-clause-kept g c =
+    KeepsOthers-more g.F.Reads g.F.Files [] (c.args.words.now.output ∷ []) c.args.files.now c.pending_of.new.files (λ name other. tt) c.pending_of.ensures.looks.kept
+
+-- a sidecar couldn't be looked into
+pub returns-in-Err-clause-verdict : goal.returns-in-Err-clause-verdict
+returns-in-Err-clause-verdict g c = λ world told contents held.
+    IsStopped-before (seen g.F.Reads g.F.Files.writing_faults g.F.Files.names g.P.Report c.args.files.now c.args.report.now)
+    (seen g.F.Reads g.F.Files.writing_faults g.F.Files.names g.P.Report c.pending_of.new.files c.args.report.now)
+    (verdict_of c.args.words.now (sources_settled world c.args.words.now contents)) refl c.pending_of.ensures.looks.names
+
+pub returns-in-Err-clause-kept : goal.returns-in-Err-clause-kept
+returns-in-Err-clause-kept g c =
+    KeepsOthers-more g.F.Reads g.F.Files [] (c.args.words.now.output ∷ []) c.args.files.now c.pending_of.new.files (λ name other. tt) c.pending_of.ensures.looks.kept
+
+-- ---- how much is read
+
+pub returns-in-Ok-None-clause-octets : goal.returns-in-Ok-None-clause-octets
+returns-in-Ok-None-clause-octets g c = λ world told contents held.
+    let words = c.args.words.now in
+    let ids = c.args.ids.now in
+    let old = live_files g.F.Reads c.args.files.now in
+    let mid = live_files g.F.Reads c.pending_of.new.files in
+    let kept = c.pending_of.ensures.looks.kept in
+    let none : pending_of world words ≡ None = sym (c.in-Ok-None.ensures.exact world told) ∙ c.in-Ok-None.field-0-is in
+    let mid-told : AreTold mid ids contents =
+    contents-kept old.live old.content mid.content ids (λ file live. (kept.others file tt).content live) c.requires.inputs.live ∙ held in
+    reads-settled world words contents (g.F.Reads.octets_read c.args.files.now) (g.F.Reads.octets_read c.pending_of.new.files) (g.F.Reads.octets_read c.merge_opened.new.files) (files_size old ids) (files_size mid ids) (most_looked words)
+    none (sizes-kept old mid ids (λ file. kept.others file tt) c.requires.inputs.live) c.pending_of.ensures.octets (c.merge_opened.ensures.octets contents mid-told)

@@ -1,0 +1,37 @@
+//! Edits that are pending of the files of a merge.
+
+ghost use Rattle.std.specs.Prelude.{◌≡◌, ◌+◌, ◌*◌, ◌≤◌, length, IfOk};
+ghost use Rattle.mkv_io.specs.Faults.{HasCause, is_read_fault};
+ghost use Rattle.mkv_io.specs.Told.{Told};
+ghost use Rattle.sidecar_format.specs.declared.place.TheConstants.{HEAD};
+ghost use Rattle.pending_edits.specs.Pending.{LooksOnly};
+ghost use Rattle.mkv_merge.specs.Read.{pending_of};
+
+use crate::refusal::Refusal;
+use input_files::first_pending;
+use merge_words::MergeWords;
+use mkv_io::Files;
+use mkv_values::ReadEnd;
+use pending_edits::is_pending;
+use std::alloc::Global;
+
+/// What refuses a merge of files of which an edit is pending: the first of the inputs, in the order of the words, and
+/// then the file that lies at the output's name.
+pub fn pending_of<F: Files>(
+    alloc: Global,
+    words: &MergeWords,
+    files: &mut F,
+) -> Result<Option<Refusal>, ReadEnd>
+    ensures exact { Told (F.names files.old) (λ world. IfOk result (λ why. why ≡ pending_of world words.now)) }
+    ensures looks { LooksOnly F.Reads F.Files.own files.old files.new }
+    ensures cause { HasCause is_read_fault (F.reading_faults files.old) (F.reading_faults files.new) result }
+    ensures octets { F.octets_read files.new ≤ F.octets_read files.old + HEAD * (length words.now.files + 1) }
+{
+    if let Some(input) = first_pending(alloc, words.files.as_slice(), files)? {
+        return Ok(Some(Refusal::PendingInput { input }));
+    }
+    if is_pending(alloc, words.output.as_str(), files)? {
+        return Ok(Some(Refusal::PendingOutput));
+    }
+    Ok(None)
+}
