@@ -8,6 +8,8 @@ mod extractions;
 #[cfg(test)]
 mod lines;
 #[cfg(test)]
+mod pending;
+#[cfg(test)]
 mod runs;
 #[cfg(test)]
 mod words;

@@ -265,7 +265,8 @@ fn a_call_of_the_files_that_fails_ends_the_lines_with_its_fault(
         assert!(rt; report.line(said.saturating_add(1)).is_none());
     }
     let (opening, _) = run_live(rt.alloc(), 0, u64::MAX)?;
-    let (reading, _) = run_live(rt.alloc(), 1, u64::MAX)?;
+    // the call between is that of the sidecar, which isn't there
+    let (reading, _) = run_live(rt.alloc(), 2, u64::MAX)?;
     let (never, _) = run_live(rt.alloc(), 100, u64::MAX)?;
     assert_eq!(rt; opening, Status::Outside);
     assert_eq!(rt; reading, Status::Outside);
