@@ -1,4 +1,4 @@
-use Rattle.std.proofs.Common.{◌≡◌, false, [], map, sym, ◌∙◌, ap, subst}
+use Rattle.std.proofs.Common.{◌≡◌, false, [], map, refl, sym, ◌∙◌, ap, subst}
 use Rattle.std.specs.Prelude.{unwrap_or}
 use Rattle.mkv_io.specs.Sources.{live_files}
 use Rattle.input_files.specs.Inputs.{file_names}
