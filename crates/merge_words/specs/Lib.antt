@@ -5,3 +5,4 @@ pub mod Files
 pub mod Output
 pub mod Merge
 pub mod Sound
+pub mod Texts

@@ -32,7 +32,8 @@ use Rattle.merge_plan.specs.Plan.{Source, lanes_given, limits_of, rules_given}
 use Rattle.merge_plan.specs.Records.{first_title, title_of, title_or, tracks_taken}
 use Rattle.merge_plan.proofs.PlanLemmas.{plan-few}
 use Rattle.mkv_merge.specs.Merge.{document_in, reads_of}
-use Rattle.merged_outputs.specs.Sources.{AreSources, AreTexts, IsReadSource, IsReadTrack}
+use Rattle.merge_words.specs.Texts.{AreTexts}
+use Rattle.merged_outputs.specs.Sources.{AreSources, IsReadSource, IsReadTrack}
 use Rattle.merged_outputs.proofs.LaneLemmas.{lanes-sound, lanes-length}
 use Rattle.merged_outputs.proofs.TracksLemmas.{taken-tracks, taken-lanes}
 

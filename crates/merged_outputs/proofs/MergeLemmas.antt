@@ -1,5 +1,7 @@
 -- What is written of a merge holds it.
 use Rattle.std.proofs.Common.{◌≡◌, ◌≢◌, ◌≤◌, ℕ, false, List, length, Option, Some, Result, Ok, Err, refl, sym, ap, ◌∙◌}
+use Rattle.std.specs.List.{All}
+use Rattle.std.specs.Str.{IsUtf8}
 use Rattle.mkv_values.specs.declared.outside.TheConstants.{LONGEST_FILE}
 use Rattle.mkv_io.specs.Names.{with_content}
 use Rattle.mkv_outputs.specs.Drafts.{patched}
@@ -17,6 +19,10 @@ use Rattle.merge_laws.proofs.AgainLemmas.{lanes-again}
 use Rattle.merge_laws.proofs.OrderLemmas.{order-again}
 use Rattle.merge_words.specs.declared.output.MergeWords.{MergeWords}
 use Rattle.merge_words.specs.Sound.{IsSoundMerge}
+use Rattle.mkv_args.specs.Words.{command}
+use Rattle.mkv_args.specs.declared.command.Command.TheVariants.{Merge}
+use Rattle.mkv_args.proofs.SoundLemmas.{command-sound}
+use Rattle.mkv_args.proofs.TextLemmas.{asked-texts}
 use Rattle.merge_plan.specs.Plan.{Source, lanes_given, limits_of}
 use Rattle.mkv_merge.specs.Merge.{document_in, merge_verdict, sources_of, verdict_of}
 use Rattle.mkv_merge.specs.Merge as merge
@@ -26,7 +32,8 @@ use Rattle.mkv_lines.specs.Verdict.{IsDone}
 use Rattle.mkv_lines.specs.declared.status.Status.{Status}
 use Rattle.mkv_lines.specs.declared.status.Status.TheVariants as status
 use Rattle.merged_outputs.specs.Merge.{HoldsMerge, IsMerged, lanes_selected}
-use Rattle.merged_outputs.specs.Sources.{AreSources, AreTexts, HoldsOctets}
+use Rattle.merge_words.specs.Texts.{AreTexts}
+use Rattle.merged_outputs.specs.Sources.{AreSources, HoldsOctets}
 use Rattle.merged_outputs.proofs.DocumentLemmas.{document-scale, document-sound}
 use Rattle.merged_outputs.proofs.LaneLemmas.{lanes-free}
 use Rattle.merged_outputs.proofs.SourceLemmas.{sources-read}
@@ -73,3 +80,8 @@ verdict-merged world words old new s told holds sound texts other = split (sourc
               ∙ ap (with_content (Some world) words.output) (becomes words sources sound texts are);
           holds = layout-holds words sources sound texts are;
         }
+
+-- So has a run whose words ask for it.
+pub run-merged : (old new : Seen) (words : List (List ℕ)) (asked : MergeWords) (world : List ℕ → Option (List ℕ)) (s : Status) → All IsUtf8 words → old.names ≡ Some world → HoldsOctets world → command words ≡ Ok (Merge asked)
+    → s ≢ status.Refused → s ≡ (merge_verdict world asked).status → IsDone old new (merge_verdict world asked) → IsMerged world asked new.names
+run-merged old new words asked world s utf8 told holds is = verdict-merged world asked old new s told holds (command-sound words (Merge asked) is) (asked-texts words asked utf8 is)

@@ -61,7 +61,8 @@ use Rattle.mkv_merge.specs.Read.{contents_of, inputs_from, inputs_of, numbered, 
 use Rattle.mkv_merge.specs.Refused as refused
 use Rattle.mkv_merge.specs.declared.refusal.Refusal.{Refusal}
 use Rattle.mkv_merge.specs.declared.refusal.Refusal.TheVariants.{OutputIsInput}
-use Rattle.merged_outputs.specs.Sources.{HoldsOctets, HasTexts, AreTexts, IsReadSource, AreSources}
+use Rattle.merge_words.specs.Texts.{HasTexts, AreTexts}
+use Rattle.merged_outputs.specs.Sources.{HoldsOctets, IsReadSource, AreSources}
 use Rattle.merged_outputs.proofs.TreeLemmas.{HasChildrenRead, tree_of-children, entries-octets, uid-small, HoldsOctets as HoldsOctetsInside}
 
 -- ---- an Element that was read as a tree

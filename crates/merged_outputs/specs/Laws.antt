@@ -8,7 +8,8 @@ use Rattle.merge_words.specs.Sound.{IsSoundMerge}
 use Rattle.merge_plan.specs.Plan.{Source}
 use Rattle.mkv_merge.specs.Merge.{document_in, sources_of}
 use Rattle.merged_outputs.specs.Merge.{HoldsMerge, lanes_selected}
-use Rattle.merged_outputs.specs.Sources.{AreSources, AreTexts, HoldsOctets}
+use Rattle.merge_words.specs.Texts.{AreTexts}
+use Rattle.merged_outputs.specs.Sources.{AreSources, HoldsOctets}
 
 -- The sources of a merge are octets whose tracks can be written.
 abbrev pub SourcesAreRead : Type 0

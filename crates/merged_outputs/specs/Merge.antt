@@ -1,7 +1,8 @@
 -- A content that holds a merge.
-use Rattle.std.specs.Prelude.{◌≡◌, ◌≤◌, ℕ, false, List, Option, Some, Ok, length, map}
+use Rattle.std.specs.Prelude.{◌≡◌, ◌≤◌, ⊤, ℕ, false, List, Option, Some, Ok, length, map}
 use Rattle.mkv_values.specs.declared.outside.TheConstants.{LONGEST_FILE}
 use Rattle.mkv_io.specs.Names.{Names, with_content}
+use Rattle.mkv_io.specs.Told.{Told}
 use Rattle.block_format.specs.Events.{Event}
 use Rattle.file_blocks.specs.File.{file_events}
 use Rattle.output_model.specs.OutputBlock.{OutputBlock}
@@ -10,8 +11,13 @@ use Rattle.merge_model.specs.Lanes.{lane_blocks}
 use Rattle.merge_laws.specs.Lanes.{blocks_read, lanes_read}
 use Rattle.merge_words.specs.declared.output.MergeWords.{MergeWords}
 use Rattle.merge_plan.specs.Plan.{Source, lanes_given}
+use Rattle.mkv_args.specs.Words.{command}
+use Rattle.mkv_args.specs.declared.command.Command.TheVariants.{Merge}
 use Rattle.mkv_merge.specs.Merge as merge
 use Rattle.mkv_merge.specs.Merge.{document_in, sources_of}
+use Rattle.mkv_lines.specs.declared.status.Status.{Status}
+use Rattle.mkv_lines.specs.declared.status.Status.TheVariants.{Done, Warned}
+use Rattle.merged_outputs.specs.Sources.{HoldsOctets}
 
 -- ---- what is selected, and what is read
 
@@ -42,3 +48,16 @@ pub record IsMerged (world : List ℕ → Option (List ℕ)) (words : MergeWords
   pub content : List ℕ
   pub written : new ≡ with_content (Some world) words.output content
   pub holds : length content ≤ LONGEST_FILE → HoldsMerge words sources content
+
+-- ---- a run
+
+-- The merge that these words ask for was written, where the names were told and what they hold is octets.
+abbrev pub HasMerged : Names → List (List ℕ) → Names → Type 0
+HasMerged old words new =
+    Told old (λ world. HoldsOctets world → (merge : MergeWords) → command words ≡ Ok (Merge merge) → IsMerged world merge new)
+
+-- So it was where a run ended well, with a warning or without.
+abbrev pub MergesWell : Names → List (List ℕ) → Names → Status → Type 0
+MergesWell old words new Done = HasMerged old words new
+MergesWell old words new Warned = HasMerged old words new
+MergesWell old words new s = ⊤

@@ -2,7 +2,6 @@
 use Rattle.std.specs.Prelude.{◌≡◌, ◌<◌, ◌^◌, ℕ, List, Option, None, Some, All, IfSome}
 use Rattle.std.specs.Str.{IsUtf8}
 use Rattle.ebml_format.specs.Number.{AreOctets}
-use Rattle.merge_words.specs.declared.files.FileWords.{FileWords}
 use Rattle.merge_words.specs.declared.output.MergeWords.{MergeWords}
 use Rattle.merge_inputs.specs.Taken.{IsTaken}
 use Rattle.merge_inputs.specs.declared.taken.TakenTrack.{TakenTrack}
@@ -13,18 +12,6 @@ use Rattle.mkv_merge.specs.Merge.{reads_of}
 -- what files hold is octets
 abbrev pub HoldsOctets : (List ℕ → Option (List ℕ)) → Type 0
 HoldsOctets world = (name bytes : List ℕ) → world name ≡ Some bytes → AreOctets bytes
-
--- ---- the words
-
--- The names and languages that are given to a file's tracks are texts.
-pub record HasTexts (file : FileWords) : Type 0 where
-  pub names : All (λ (given : ℕ × List ℕ). IsUtf8 given.1) file.names
-  pub languages : All (λ (given : ℕ × List ℕ). IsUtf8 given.1) file.languages
-
--- So is the title, where one is given.
-pub record AreTexts (words : MergeWords) : Type 0 where
-  pub title : IfSome words.title IsUtf8
-  pub files : All HasTexts words.files
 
 -- ---- what is read
 

@@ -1,3 +1,4 @@
 pub mod PropeditLemmas
 pub mod HelpLemmas
 pub mod SoundLemmas
+pub mod TextLemmas

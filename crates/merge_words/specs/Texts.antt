@@ -1,0 +1,15 @@
+-- What the words of a merge give as texts.
+use Rattle.std.specs.Prelude.{ℕ, List, All, IfSome}
+use Rattle.std.specs.Str.{IsUtf8}
+use Rattle.merge_words.specs.declared.files.FileWords.{FileWords}
+use Rattle.merge_words.specs.declared.output.MergeWords.{MergeWords}
+
+-- The names and languages that are given to a file's tracks are texts.
+pub record HasTexts (file : FileWords) : Type 0 where
+  pub names : All (λ (given : ℕ × List ℕ). IsUtf8 given.1) file.names
+  pub languages : All (λ (given : ℕ × List ℕ). IsUtf8 given.1) file.languages
+
+-- So is the title, where one is given.
+pub record AreTexts (words : MergeWords) : Type 0 where
+  pub title : IfSome words.title IsUtf8
+  pub files : All HasTexts words.files
