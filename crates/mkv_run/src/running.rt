@@ -12,6 +12,7 @@ ghost use Rattle.mkv_lines.specs.Said.{HasSayCause};
 ghost use Rattle.mkv_lines.specs.Seen.{seen};
 ghost use Rattle.mkv_lines.specs.Verdict.{Ends, Reaches, SaysVerdict, refused};
 ghost use Rattle.word_values.specs.Place.{texts};
+ghost use Rattle.merged_outputs.specs.Merge.{MergesWell};
 ghost use Rattle.mkv_run.specs.Run.{ReadsWithin, ReadsWithinIn, verdict_in, verdict_of};
 
 use crate::help::{help, version};
@@ -39,6 +40,9 @@ pub fn run<F: Files, R: Report>(
     ensures verdict { Told (verdict_in (F.names files.old) (texts words.now.items)) (Ends
         (seen F.Reads F.writing_faults F.names R.Report files.old report.old)
         (seen F.Reads F.writing_faults F.names R.Report files.new report.new) result) }
+
+    // After a merge that ended well its output holds the merge, where the names are told and what they hold is octets.
+    ensures merged { MergesWell (F.names files.old) (texts words.now.items) (F.names files.new) result }
 
     // Outside is answered only where a count of faults rose, and always where one did.
     ensures cause { HasStatusCause
