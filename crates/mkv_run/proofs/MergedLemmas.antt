@@ -1,5 +1,5 @@
 -- A run that ends well has written the merge that was asked for.
-use Rattle.std.proofs.Common.{◌≡◌, ◌≢◌, ℕ, get_or, List, Bool, true, false, if◌then◌else◌, Option, Some, Ok, refl, ◌∙◌, ap, ap₂}
+use Rattle.std.proofs.Common.{◌≡◌, ◌≢◌, ℕ, get_or, List, Bool, true, false, if◌then◌else◌, Option, Some, Result, Ok, refl, ◌∙◌, ap, ap₂}
 use Rattle.std.specs.List.{All}
 use Rattle.std.specs.Str.{IsUtf8}
 use Rattle.std.specs.String.{string_bytes}
@@ -7,14 +7,17 @@ use Rattle.std.specs.declared.alloc.Global.{Global}
 use Rattle.std.specs.declared.string.String.{String}
 use Rattle.std.proofs.lemmas.List.Elements.{All-map}
 use Rattle.std.proofs.lemmas.Str.{IsUtf8-string_bytes}
+use Rattle.mkv_io.specs.Names.{Names}
 use Rattle.mkv_io.specs.Told.{Told}
 use Rattle.word_values.specs.Place.{texts}
+use Rattle.word_values.specs.declared.usage.Usage.{Usage}
 use Rattle.merge_words.specs.declared.output.MergeWords.{MergeWords}
 use Rattle.mkv_args.specs.Words.{command}
+use Rattle.mkv_args.specs.declared.command.Command.{Command}
 use Rattle.mkv_args.specs.declared.command.Command.TheVariants.{Merge}
 use Rattle.mkv_lines.specs.Line.{not_built_line}
 use Rattle.mkv_lines.specs.Seen.{Seen}
-use Rattle.mkv_lines.specs.Verdict.{Ends, IsDone, Verdict, refused}
+use Rattle.mkv_lines.specs.Verdict.{IsDone, Verdict, refused}
 use Rattle.mkv_lines.specs.declared.status.Status.{Status}
 use Rattle.mkv_lines.specs.declared.status.Status.TheVariants as status
 use Rattle.mkv_merge.specs.Merge.{merge_verdict}
@@ -22,7 +25,10 @@ use Rattle.mkv_merge.specs.Takes.{takes}
 use Rattle.merged_outputs.specs.Merge.{HasMerged, IsMerged, MergesWell}
 use Rattle.merged_outputs.specs.Sources.{HoldsOctets}
 use Rattle.merged_outputs.proofs.MergeLemmas.{run-merged}
+use Rattle.mkv_recover.specs.Recover.{DiskWorld}
+use Rattle.mkv_run.specs.Ends.{Ends}
 use Rattle.mkv_run.specs.Run.{verdict_after, verdict_in}
+use Rattle.mkv_run.specs.RunSeen.{RunSeen}
 
 -- the words of a command line are texts
 texts-utf8 : (words : List (String Global)) → All IsUtf8 (texts words)
@@ -33,10 +39,10 @@ abbrev comes_to : (List ℕ → Option (List ℕ)) → MergeWords → Bool → O
 comes_to world asked built = if built then Some (merge_verdict world asked) else Some (refused not_built_line)
 
 -- what was reached, and is no refusal, has written the merge that was asked for
-has-merged : (old new : Seen) (words : List (List ℕ)) (s : Status) → s ≢ status.Refused → All IsUtf8 words → Told (verdict_in old.names words) (λ v. (s ≡ v.status) × IsDone old new v) → HasMerged old.names words new.names
-has-merged old new words s other utf8 reached = λ world told holds asked is. split world asked told holds is (ap₂ verdict_after told is) (takes asked) refl
+has-merged : (old new : Seen) (disk : Option DiskWorld) (words : List (List ℕ)) (s : Status) → s ≢ status.Refused → All IsUtf8 words → Told (verdict_in old.names disk words) (λ v. (s ≡ v.status) × IsDone old new v) → HasMerged old.names words new.names
+has-merged old new disk words s other utf8 reached = λ world told holds asked is. split world asked told holds is (ap₂ (λ (n : Names) (c : Result Command Usage). verdict_after n disk c) told is) (takes asked) refl
   where
-    split : (world : List ℕ → Option (List ℕ)) (asked : MergeWords) → old.names ≡ Some world → HoldsOctets world → command words ≡ Ok (Merge asked) → verdict_in old.names words ≡ comes_to world asked (takes asked)
+    split : (world : List ℕ → Option (List ℕ)) (asked : MergeWords) → old.names ≡ Some world → HoldsOctets world → command words ≡ Ok (Merge asked) → verdict_in old.names disk words ≡ comes_to world asked (takes asked)
         → (built : Bool) → takes asked ≡ built → IsMerged world asked new.names
     split world asked told holds is comes true test =
         let at = reached (merge_verdict world asked) (comes ∙ ap (comes_to world asked) test) in
@@ -46,9 +52,9 @@ has-merged old new words s other utf8 reached = λ world told holds asked is. sp
         absurd (other at.0)
 
 -- A run that ends well has written it.
-pub merges-well : (old new : Seen) (words : List (String Global)) (s : Status) → Told (verdict_in old.names (texts words)) (Ends old new s) → MergesWell old.names (texts words) new.names s
-merges-well old new words status.Done told = has-merged old new (texts words) status.Done (λ same. cc) (texts-utf8 words) told
-merges-well old new words status.Warned told = has-merged old new (texts words) status.Warned (λ same. cc) (texts-utf8 words) told
-merges-well old new words status.Refused told = tt
-merges-well old new words status.NoMemory told = tt
-merges-well old new words status.Outside told = tt
+pub merges-well : (old new : RunSeen) (disk : Option DiskWorld) (words : List (String Global)) (s : Status) → Told (verdict_in old.seen.names disk (texts words)) (Ends old new s) → MergesWell old.seen.names (texts words) new.seen.names s
+merges-well old new disk words status.Done told = has-merged old.seen new.seen disk (texts words) status.Done (λ same. cc) (texts-utf8 words) told
+merges-well old new disk words status.Warned told = has-merged old.seen new.seen disk (texts words) status.Warned (λ same. cc) (texts-utf8 words) told
+merges-well old new disk words status.Refused told = tt
+merges-well old new disk words status.NoMemory told = tt
+merges-well old new disk words status.Outside told = tt

@@ -1,14 +1,25 @@
--- A run that ends by a fault of the files.
+-- How runs end, and why.
 use Rattle.std.proofs.Math.Seq.{drop-cons}
-use Rattle.std.proofs.Common.{◌≡◌, ℕ, suc, ◌+◌, ◌<◌, length, drop, get_or, add-one, List, [], ◌∷◌, ◌++◌, IsSome, Result, Ok, Err, inl, inr, refl, sym, ◌∙◌, ap, subst}
+use Rattle.std.proofs.Common.{◌≡◌, ℕ, IsTrue, suc, ◌+◌, ◌<◌, length, drop, get_or, add-one, List, [], ◌∷◌, ◌++◌, IsSome, Result, Ok, Err, inl, inr, Option, Some, None, ◌⊎◌, refl, sym, ◌∙◌, ap, subst}
 use Rattle.mkv_io.specs.Faults.{HasRisen}
 use Rattle.mkv_io.specs.Lines.{with_lines}
-use Rattle.mkv_lines.specs.Faults.{Counts, FilesRose}
-use Rattle.mkv_lines.specs.Line.{files_fault_line}
+use Rattle.mkv_io.specs.Names.{Names}
+use Rattle.mkv_io.specs.declared.reads.Reads as reads
+use Rattle.mkv_disk.specs.Calls.{AnyMoment, AtRest}
+use Rattle.mkv_disk.specs.Pair.{IsPairImage}
+use Rattle.mkv_disk.specs.declared.disk.Disk as disks
+use Rattle.mkv_lines.specs.Faults.{HasStopCause}
 use Rattle.mkv_lines.specs.Said.{HasSayCause, ReportLines, Says, SaysPart, SaysUpTo}
-use Rattle.mkv_lines.specs.Verdict.{Ends, EndsOutside, Reaches, SaysFault, Verdict}
+use Rattle.mkv_lines.specs.Verdict.{Reaches, SaysVerdict, Verdict}
 use Rattle.mkv_lines.specs.Ordinary.{IsOrdinary}
-use Rattle.mkv_lines.specs.Seen.{Seen}
+use Rattle.sidecar_edit.specs.Recovering.{IsRecovering}
+use Rattle.mkv_recover.specs.Recovery.{HasDiskStop}
+use Rattle.mkv_recover.proofs.RecoverLemmas.{recovery-still, untouched}
+use Rattle.mkv_run.specs.Ends.{Ends, SaysFault}
+use Rattle.mkv_run.specs.RunSeen.{HasRunStop, RunSeen}
+use Rattle.mkv_run.specs.Touched.{Touches, edited_by}
+use Rattle.mkv_args.specs.declared.command.Command.{Command}
+use Rattle.mkv_args.specs.declared.command.Command.TheVariants as command
 use Rattle.mkv_lines.specs.declared.status.Status.{Status}
 use Rattle.mkv_lines.specs.declared.status.Status.TheVariants as status
 use Rattle.mkv_lines.specs.declared.status.Stop.{Stop}
@@ -21,12 +32,12 @@ use Rattle.extract_model.specs.Job.{names_of, taken_of, targets_of}
 use Rattle.mkv_lines.proofs.SaidLemmas.{with_lines-both, with_lines-none}
 
 -- the line of the fault stands behind a first part of the lines
-fault_behind : (old mid new : ReportLines) (all : List (List ℕ)) → SaysPart old mid all → new ≡ with_lines mid (files_fault_line ∷ []) → SaysFault old new all
-fault_behind old mid new all part added = record {
+fault_behind : (fault : List ℕ) (old mid new : ReportLines) (all : List (List ℕ)) → SaysPart old mid all → new ≡ with_lines mid (fault ∷ []) → SaysFault old new all fault
+fault_behind fault old mid new all part added = record {
   said = part.said;
   left = part.left;
   whole = part.whole;
-  added = added ∙ ap (λ (held : ReportLines). with_lines held (files_fault_line ∷ [])) part.added ∙ with_lines-both old part.said (files_fault_line ∷ []);
+  added = added ∙ ap (λ (held : ReportLines). with_lines held (fault ∷ [])) part.added ∙ with_lines-both old part.said (fault ∷ []);
 }
 
 -- nothing stands behind the last line
@@ -34,30 +45,106 @@ last_alone : (rest left : List (List ℕ)) → [] ≡ rest ++ left → rest ≡ 
 last_alone [] left none = refl
 last_alone (line ∷ lines) left none = absurd (cc)
 
--- the line of the fault wasn't said, or the report failed behind it
-fault_or_not : (before now : Counts) (old mid new : ReportLines) (all said left : List (List ℕ)) → FilesRose before now → HasRisen before.report now.report → SaysPart old mid all → files_fault_line ∷ [] ≡ said ++ left → new ≡ with_lines mid said → EndsOutside before now old new all
-fault_or_not before now old mid new all [] left files report part whole added =
-    inr (report, subst (λ (held : ReportLines). SaysPart old held all) (sym (added ∙ with_lines-none mid)) part)
-fault_or_not before now old mid new all (line ∷ lines) left files report part whole added =
-    let first : line ≡ files_fault_line = cc in
+-- the line of the fault was said or not
+fault_or_not : (fault : List ℕ) (old mid new : ReportLines) (all said left : List (List ℕ)) → SaysPart old mid all → fault ∷ [] ≡ said ++ left → new ≡ with_lines mid said → SaysFault old new all fault ⊎ SaysPart old new all
+fault_or_not fault old mid new all [] left part whole added =
+    inr (subst (λ (held : ReportLines). SaysPart old held all) (sym (added ∙ with_lines-none mid)) part)
+fault_or_not fault old mid new all (line ∷ lines) left part whole added =
+    let first : line ≡ fault = cc in
     let rest : lines ≡ [] = last_alone lines left (cc) in
-    inl (files, fault_behind old mid new all part (added ∙ ap (λ (l : List ℕ). with_lines mid (l ∷ lines)) first ∙ ap (λ (ls : List (List ℕ)). with_lines mid (files_fault_line ∷ ls)) rest))
+    inl (fault_behind fault old mid new all part (added ∙ ap (λ (l : List ℕ). with_lines mid (l ∷ lines)) first ∙ ap (λ (ls : List (List ℕ)). with_lines mid (fault ∷ ls)) rest))
 
--- after the files failed their fault is told, unless the report fails
-pub ends-fault : {T : Type 0} (before now : Counts) (report : ℕ) (old mid new : ReportLines) (all : List (List ℕ)) (r : Result T Stop) → FilesRose before now → report ≡ before.report → SaysPart old mid all → Says mid new (files_fault_line ∷ []) r → HasSayCause report now.report r → (r ≡ Err stop.Memory → ⊥) → EndsOutside before now old new all
-ends-fault before now report old mid new all (Ok done) files same part says cause some = inl (files, fault_behind old mid new all part says)
-ends-fault before now report old mid new all (Err stop.Memory) files same part says cause some = absurd (some refl)
-ends-fault before now report old mid new all (Err stop.Files) files same part says cause some = absurd cause
-ends-fault before now report old mid new all (Err stop.Report) files same part says cause some =
-    fault_or_not before now old mid new all says.said says.left files (subst (λ (n : ℕ). HasRisen n now.report) same cause) part says.whole says.added
+-- a fault is told behind the lines of the command, unless the report fails
+pub fault-told : {T : Type 0} (fault : List ℕ) (before now : ℕ) (old mid new : ReportLines) (all : List (List ℕ)) (r : Result T Stop) → SaysPart old mid all → Says mid new (fault ∷ []) r → HasSayCause before now r → (r ≡ Err stop.Memory → ⊥)
+    → SaysFault old new all fault ⊎ (HasRisen before now × SaysPart old new all)
+fault-told fault before now old mid new all (Ok done) part says cause some = inl (fault_behind fault old mid new all part says)
+fault-told fault before now old mid new all (Err stop.Memory) part says cause some = absurd (some refl)
+fault-told fault before now old mid new all (Err stop.Files) part says cause some = absurd cause
+fault-told fault before now old mid new all (Err stop.Disk) part says cause some = absurd cause
+fault-told fault before now old mid new all (Err stop.Report) part says cause some =
+    elim (fault_or_not fault old mid new all says.said says.left part says.whole says.added) [ inl told ↦ inl told | inr untold ↦ inr (cause, untold) ]
 
 -- a command that ended ends the run
-pub ends-done : (old new : Seen) (s : Status) (v : Verdict) → IsOrdinary s → Reaches old new (Ok s) v → Ends old new s v
+pub ends-done : (old new : RunSeen) (s : Status) (v : Verdict) → IsOrdinary s → Reaches old.seen new.seen (Ok s) v → Ends old new s v
 ends-done old new status.Done v ordinary reaches = reaches
 ends-done old new status.Warned v ordinary reaches = reaches
 ends-done old new status.Refused v ordinary reaches = reaches
 ends-done old new status.NoMemory v ordinary reaches = absurd ordinary
 ends-done old new status.Outside v ordinary reaches = absurd ordinary
+
+-- ---- why a command stops
+
+-- a command over the files, of a run that leaves the disk
+pub files-stop : {T : Type 0} (old new : RunSeen) (r : Result T Stop) → new.disk ≡ old.disk → HasStopCause old.seen.counts new.seen.counts r → HasRunStop old new r
+files-stop old new (Ok x) disk cause = record { counts = cause; disk = disk }
+files-stop old new (Err stop.Memory) disk cause = record { counts = cause; disk = disk }
+files-stop old new (Err stop.Files) disk cause = (cause.0, cause.1, disk)
+files-stop old new (Err stop.Disk) disk cause = absurd cause
+files-stop old new (Err stop.Report) disk cause = (cause.0, cause.1, disk)
+
+-- a command over the disk, of a run that leaves the files
+module _ {D : Type 0} (r : reads.Ghosts D) (d : disks.Ghosts D) (a b : D) (reading writing before now : ℕ) (lines lines_now : ReportLines) (names : Names) where
+  abbrev old : RunSeen
+  old = record {
+    seen = record { counts = record { reading = reading; writing = writing; report = before }; lines = lines; names = names };
+    disk = record { reading = r.reading_faults a; writing = d.writing_faults a };
+  }
+
+  abbrev new : RunSeen
+  new = record {
+    seen = record { counts = record { reading = reading; writing = writing; report = now }; lines = lines_now; names = names };
+    disk = record { reading = r.reading_faults b; writing = d.writing_faults b };
+  }
+
+  pub disk-stop : {T : Type 0} (result : Result T Stop) → HasDiskStop r d a b before now result → HasRunStop old new result
+  disk-stop (Ok x) cause = record {
+    counts = λ i. record { reading = reading; writing = writing; report = cause.1 i };
+    disk = λ i. record { reading = cause.0.reading i; writing = cause.0.writing i };
+  }
+  disk-stop (Err stop.Memory) cause = record {
+    counts = λ i. record { reading = reading; writing = writing; report = cause.1 i };
+    disk = λ i. record { reading = cause.0.reading i; writing = cause.0.writing i };
+  }
+  disk-stop (Err stop.Files) cause = absurd cause
+  disk-stop (Err stop.Disk) cause = (
+    elim cause.0 [ inl reads ↦ inl reads.0 | inr writes ↦ inr writes.1 ],
+    λ i. record { reading = reading; writing = writing; report = cause.1 i },
+  )
+  disk-stop (Err stop.Report) cause = (cause.1, refl, λ i. record { reading = cause.0.reading i; writing = cause.0.writing i })
+
+-- ---- what a crash leaves
+
+-- an edit leaves what comes to the same, and whatever else a run does leaves the disk
+pub touches-moment : {F D : Type 0} (r : reads.Ghosts D) (d : disks.Ghosts D) (name : Option (List ℕ)) (files files_now : F) (old new : D) (s : Status)
+    → AtRest d old → ((m s : List ℕ) → IsTrue d.told → d.left_since old (d.moment old) m s → IsPairImage (d.pair old) m s) → Touches r d name files files_now old new s → AnyMoment d old new IsRecovering
+touches-moment r d (Some name) files files_now old new s rest only touches = touches.1.leaves.any_moment
+touches-moment r d None files files_now old new s rest only touches = λ told.
+    untouched d old new (rest told) (λ m s. only m s told) touches
+
+-- without memory nothing was touched, whatever was asked for
+pub touches-nothing : {F D : Type 0} (r : reads.Ghosts D) (d : disks.Ghosts D) (name : Option (List ℕ)) (files : F) (disk : D)
+    → AtRest d disk → ((m s : List ℕ) → IsTrue d.told → d.left_since disk (d.moment disk) m s → IsPairImage (d.pair disk) m s) → Touches r d name files files disk disk status.NoMemory
+touches-nothing r d (Some name) files disk rest only = (
+  refl,
+  record {
+    leaves = recovery-still d disk status.NoMemory rest (λ M S p same. same) only;
+    opened = inr record { standing = refl; not_done = λ is. absurd (cc); missing = λ is told. absurd (cc) };
+  },
+)
+touches-nothing r d None files disk rest only = refl
+
+-- a command that isn't recovering edits no file in place
+pub edited-none : (c : Command) → ((file : List ℕ) → c ≡ command.Recover file → ⊥) → edited_by c ≡ None
+edited-none command.Help isnt = refl
+edited-none command.Version isnt = refl
+edited-none (command.Info file) isnt = refl
+edited-none (command.Identify file) isnt = refl
+edited-none (command.Recover file) isnt = absurd (isnt file refl)
+edited-none (command.Reindex file) isnt = refl
+edited-none (command.Generate n prefix) isnt = refl
+edited-none (command.Extract file job) isnt = refl
+edited-none (command.Propedit file edits) isnt = refl
+edited-none (command.Merge words) isnt = refl
 
 -- ---- texts that are said one after the other
 

@@ -2,15 +2,15 @@
 use Rattle.std.specs.Prelude.{◌≡◌, ℕ, Option}
 use Rattle.mkv_io.specs.Told.{Told}
 use Rattle.mkv_lines.specs.Code.{code_of}
-use Rattle.mkv_lines.specs.Faults.{HasStatusCause}
-use Rattle.mkv_lines.specs.Seen.{Seen}
-use Rattle.mkv_lines.specs.Verdict.{Ends, Verdict}
+use Rattle.mkv_lines.specs.Verdict.{Verdict}
 use Rattle.mkv_lines.specs.declared.status.Status.{Status}
+use Rattle.mkv_run.specs.Ends.{Ends}
+use Rattle.mkv_run.specs.RunSeen.{HasStatusCause, RunSeen}
 
 -- The program ends with the number of a status with which a run ends that has this verdict, where it is told; and
 -- with that of a fault of the outside only where one was counted.
-pub record HasExited (old new : Seen) (verdict : Option Verdict) (code : ℕ) : Type 0 where
+pub record HasExited (old new : RunSeen) (verdict : Option Verdict) (code : ℕ) : Type 0 where
   pub status : Status
   pub number : code ≡ code_of status
   pub ends : Told verdict (Ends old new status)
-  pub cause : HasStatusCause old.counts new.counts status
+  pub cause : HasStatusCause old new status

@@ -1,2 +1,5 @@
+pub mod Ends
 pub mod Exit
 pub mod Run
+pub mod RunSeen
+pub mod Touched

@@ -11,6 +11,7 @@ use Rattle.mkv_args.specs.declared.command.Command.TheVariants.{Help, Version, I
 use Rattle.mkv_lines.specs.Line.{not_built_line, word_line}
 use Rattle.mkv_lines.specs.Verdict.{Verdict, done, refused}
 use Rattle.mkv_info.specs.Info.{info_verdict}
+use Rattle.mkv_recover.specs.Recover.{DiskWorld, verdict_on}
 use Rattle.extract_model.specs.Job.{taken_of}
 use Rattle.mkv_extract.specs.Extract.{extract_verdict}
 use Rattle.mkv_merge.specs.Bound.{most_read}
@@ -27,34 +28,35 @@ is_built Help = true
 is_built Version = true
 is_built (Info file) = true
 is_built (Identify file) = false
-is_built (Recover file) = false
+is_built (Recover file) = true
 is_built (Reindex file) = false
 is_built (Generate n prefix) = false
 is_built (Extract file job) = is_some (taken_of job)
 is_built (Propedit file edits) = false
 is_built (Merge words) = takes words
 
--- What a command that is built comes to, where the names tell: its verdict is a function of the whole world of
--- names. What asks for no file needs none of them.
-abbrev pub built_verdict : Names → Command → Option Verdict
-built_verdict names Help = Some (done usage_lines)
-built_verdict names Version = Some (done (version_line ∷ []))
-built_verdict names (Info file) = option_map (λ world. info_verdict world file) names
-built_verdict names (Extract file job) = option_map (λ world. extract_verdict world file job) names
-built_verdict names (Merge words) = option_map (λ world. merge_verdict world words) names
-built_verdict names _ = Some (refused not_built_line)
+-- What a command that is built comes to, where the names tell, or for an edit in place the disk: its verdict is a function
+-- of the whole world of names, or of all that the disk tells. What asks for no file needs none of them.
+abbrev pub built_verdict : Names → Option DiskWorld → Command → Option Verdict
+built_verdict names disk Help = Some (done usage_lines)
+built_verdict names disk Version = Some (done (version_line ∷ []))
+built_verdict names disk (Info file) = option_map (λ world. info_verdict world file) names
+built_verdict names disk (Recover file) = option_map (λ world. verdict_on world file) disk
+built_verdict names disk (Extract file job) = option_map (λ world. extract_verdict world file job) names
+built_verdict names disk (Merge words) = option_map (λ world. merge_verdict world words) names
+built_verdict names disk _ = Some (refused not_built_line)
 
 -- what a command comes to; one that isn't built is refused
-abbrev pub verdict_of : Names → Command → Option Verdict
-verdict_of names command = if is_built command then built_verdict names command else Some (refused not_built_line)
+abbrev pub verdict_of : Names → Option DiskWorld → Command → Option Verdict
+verdict_of names disk command = if is_built command then built_verdict names disk command else Some (refused not_built_line)
 
--- words that are no command are refused, whatever the names tell
-abbrev pub verdict_after : Names → Result Command Usage → Option Verdict
-verdict_after names (Ok command) = verdict_of names command
-verdict_after names (Err usage) = Some (refused (usage_line usage))
+-- words that are no command are refused, whatever the outside tells
+abbrev pub verdict_after : Names → Option DiskWorld → Result Command Usage → Option Verdict
+verdict_after names disk (Ok command) = verdict_of names disk command
+verdict_after names disk (Err usage) = Some (refused (usage_line usage))
 
-abbrev pub verdict_in : Names → List (List ℕ) → Option Verdict
-verdict_in names words = verdict_after names (command words)
+abbrev pub verdict_in : Names → Option DiskWorld → List (List ℕ) → Option Verdict
+verdict_in names disk words = verdict_after names disk (command words)
 
 -- ---- how much is read
 

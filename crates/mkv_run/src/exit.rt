@@ -3,13 +3,17 @@
 ghost use Rattle.std.specs.Prelude.{◌≡◌, ◌⊎◌, ℕ, IfOk, IfErr, OnErr};
 ghost use Rattle.std.specs.Process.{exit_status};
 ghost use Rattle.mkv_io.specs.Sources.{live_files};
+ghost use Rattle.mkv_disk.specs.Calls.{AnyMoment, AtRest};
 ghost use Rattle.mkv_lines.specs.Code.{code_of};
-ghost use Rattle.mkv_lines.specs.Seen.{seen};
+ghost use Rattle.sidecar_edit.specs.Recovering.{IsRecovering};
 ghost use Rattle.word_values.specs.Place.{texts};
+ghost use Rattle.mkv_recover.specs.Recover.{disk_world};
 ghost use Rattle.mkv_run.specs.Exit.{HasExited};
 ghost use Rattle.mkv_run.specs.Run.{ReadsWithinIn, verdict_in};
+ghost use Rattle.mkv_run.specs.RunSeen.{run_seen};
 
 use crate::running::run;
+use mkv_disk::Disk;
 use mkv_io::{Files, Report};
 use mkv_lines::Status;
 use std::alloc::Global;
@@ -33,26 +37,28 @@ pub fn words_of<R: Env + AllocGlobal>(rt: &R) -> Result<Vec<String>, Status>
 
 /// Does what the words ask for, and answers the exit status of the program. Where they couldn't be read,
 /// nothing is done, and the exit status is that of the status in their place.
-pub fn program<F: Files, R: Report>(
+pub fn program<F: Files, D: Disk, R: Report>(
     alloc: Global,
     words: &Result<Vec<String>, Status>,
     files: &mut F,
+    disk: &mut D,
     report: &mut R,
 ) -> ExitCode
+    requires { AtRest D.Disk.own disk.old }
     ensures ok { IfOk words.now (λ words. HasExited
-        (seen F.Reads F.writing_faults F.names R.Report files.old report.old)
-        (seen F.Reads F.writing_faults F.names R.Report files.new report.new)
-        (verdict_in (F.names files.old) (texts words.items)) (exit_status result)) }
+        (run_seen F.Reads F.Files.own D.Reads D.Disk.own R.Report files.old disk.old report.old)
+        (run_seen F.Reads F.Files.own D.Reads D.Disk.own R.Report files.new disk.new report.new)
+        (verdict_in (F.names files.old) (disk_world D.Disk.own disk.old) (texts words.items)) (exit_status result)) }
     ensures unread { IfErr words.now (λ status. exit_status result ≡ code_of status) }
-    ensures idle { OnErr words.now (seen F.Reads F.writing_faults F.names R.Report files.new report.new
-        ≡ seen F.Reads F.writing_faults F.names R.Report files.old report.old) }
+    ensures idle { OnErr words.now (run_seen F.Reads F.Files.own D.Reads D.Disk.own R.Report files.new disk.new report.new
+        ≡ run_seen F.Reads F.Files.own D.Reads D.Disk.own R.Report files.old disk.old report.old) }
+    ensures any_moment { AnyMoment D.Disk.own disk.old disk.new IsRecovering }
     ensures closed { (file : ℕ) → (live_files F.Reads files.new).live file ≡ (live_files F.Reads files.old).live file }
     ensures octets { IfOk words.now (λ words.
         ReadsWithinIn (F.names files.old) (texts words.items) (F.octets_read files.old) (F.octets_read files.new)) }
 {
-    let status = match words {
-        Ok(words) => run(alloc, words, files, report),
-        Err(status) => *status,
-    };
-    ExitCode::from(status.code())
+    match words {
+        Ok(words) => ExitCode::from(run(alloc, words, files, disk, report).code()),
+        Err(status) => ExitCode::from(status.code()),
+    }
 }

@@ -1,61 +1,80 @@
 //! A run, from the words of its command line to its status.
 
-ghost use Rattle.std.specs.Prelude.{◌≡◌, ℕ, IfOk};
+ghost use Rattle.std.specs.Prelude.{◌≡◌, ℕ, None, IfOk};
 ghost use Rattle.mkv_io.specs.Sources.{live_files};
 ghost use Rattle.mkv_io.specs.Told.{Told};
 ghost use Rattle.merge_words.specs.Sound.{IsSoundMerge};
 ghost use Rattle.mkv_args.specs.Sound.{IsSound, IsSoundJob};
-ghost use Rattle.mkv_lines.specs.Faults.{HasStatusCause, HasStopCause};
+ghost use Rattle.mkv_disk.specs.Calls.{AnyMoment, AtRest};
+ghost use Rattle.sidecar_edit.specs.Recovering.{IsRecovering};
+ghost use Rattle.mkv_args.specs.Words.{command};
+ghost use Rattle.mkv_lines.specs.Code.{status_of};
+ghost use Rattle.mkv_lines.specs.Faults.{HasStopCause};
 ghost use Rattle.mkv_lines.specs.Ordinary.{IsOrdinary};
 ghost use Rattle.mkv_lines.specs.Line.{word_line};
 ghost use Rattle.mkv_lines.specs.Said.{HasSayCause};
 ghost use Rattle.mkv_lines.specs.Seen.{seen};
-ghost use Rattle.mkv_lines.specs.Verdict.{Ends, Reaches, SaysVerdict, refused};
+ghost use Rattle.mkv_lines.specs.Verdict.{Reaches, SaysVerdict, refused};
+ghost use Rattle.mkv_recover.specs.Recover.{disk_world};
 ghost use Rattle.word_values.specs.Place.{texts};
 ghost use Rattle.merged_outputs.specs.Merge.{MergesWell};
+ghost use Rattle.mkv_run.specs.Ends.{Ends};
 ghost use Rattle.mkv_run.specs.Run.{ReadsWithin, ReadsWithinIn, verdict_in, verdict_of};
+ghost use Rattle.mkv_run.specs.RunSeen.{HasRunStop, HasStatusCause, run_seen};
+ghost use Rattle.mkv_run.specs.Touched.{Touches, edited_by, edited_in};
 
 use crate::help::{help, version};
 use extractors::taken_of;
 use merge_words::MergeWords;
 use mkv_args::{ArgsEnd, Command, read_words};
+use mkv_disk::Disk;
 use mkv_extract::extract_of;
 use mkv_info::info_of;
 use mkv_io::{Files, Report};
 use mkv_jobs::Job;
-use mkv_lines::{Line, Status, Stop, say, say_files_fault};
+use mkv_lines::{Line, Status, Stop, say, say_disk_fault, say_files_fault};
 use mkv_merge::{merge_of, takes};
+use mkv_recover::recover_of;
 use mkv_values::Text;
 use std::alloc::Global;
 
-/// Does what the words of a command line ask for, and says its lines.
-pub fn run<F: Files, R: Report>(
+/// Does what the words of a command line ask for, and says its lines. Nothing is pending on the disk.
+pub fn run<F: Files, D: Disk, R: Report>(
     alloc: Global,
     words: &Vec<String>,
     files: &mut F,
+    disk: &mut D,
     report: &mut R,
 ) -> Status
+    requires { AtRest D.Disk.own disk.old }
+
     // The status, the lines and the outputs are those of the verdict, as far as a fault of the outside or want of
     // memory lets it come; no other name has changed.
-    ensures verdict { Told (verdict_in (F.names files.old) (texts words.now.items)) (Ends
-        (seen F.Reads F.writing_faults F.names R.Report files.old report.old)
-        (seen F.Reads F.writing_faults F.names R.Report files.new report.new) result) }
+    ensures verdict { Told (verdict_in (F.names files.old) (disk_world D.Disk.own disk.old) (texts words.now.items)) (Ends
+        (run_seen F.Reads F.Files.own D.Reads D.Disk.own R.Report files.old disk.old report.old)
+        (run_seen F.Reads F.Files.own D.Reads D.Disk.own R.Report files.new disk.new report.new) result) }
 
     // After a merge that ended well its output holds the merge, where the names are told and what they hold is octets.
     ensures merged { MergesWell (F.names files.old) (texts words.now.items) (F.names files.new) result }
 
     // Outside is answered only where a count of faults rose, and always where one did.
     ensures cause { HasStatusCause
-        (seen F.Reads F.writing_faults F.names R.Report files.old report.old).counts
-        (seen F.Reads F.writing_faults F.names R.Report files.new report.new).counts result }
+        (run_seen F.Reads F.Files.own D.Reads D.Disk.own R.Report files.old disk.old report.old)
+        (run_seen F.Reads F.Files.own D.Reads D.Disk.own R.Report files.new disk.new report.new) result }
 
     // No file stays open, and none is closed.
     ensures closed { (file : ℕ) → (live_files F.Reads files.new).live file ≡ (live_files F.Reads files.old).live file }
 
     // What a merge may read; of other commands no bound is stated.
     ensures octets { ReadsWithinIn (F.names files.old) (texts words.now.items) (F.octets_read files.old) (F.octets_read files.new) }
+
+    // An edit in place leaves the files as they are, and all else the disk.
+    ensures touches { Touches D.Reads D.Disk.own (edited_in (command (texts words.now.items))) files.old files.new disk.old disk.new result }
+
+    // What a crash at any moment leaves of the two files of the disk comes to what they come to.
+    ensures any_moment { AnyMoment D.Disk.own disk.old disk.new IsRecovering }
 {
-    match carry_out(alloc, words, files, report) {
+    match carry_out(alloc, words, files, disk, report) {
         Ok(status) => status,
         Err(Stop::Memory) => Status::NoMemory,
         Err(Stop::Report) => Status::Outside,
@@ -63,55 +82,66 @@ pub fn run<F: Files, R: Report>(
             let _ = say_files_fault(report);
             Status::Outside
         }
+        Err(Stop::Disk) => {
+            let _ = say_disk_fault(report);
+            Status::Outside
+        }
     }
 }
 
 // Does what the words ask for, up to a fault of the outside or want of memory.
-fn carry_out<F: Files, R: Report>(
+fn carry_out<F: Files, D: Disk, R: Report>(
     alloc: Global,
     words: &Vec<String>,
     files: &mut F,
+    disk: &mut D,
     report: &mut R,
 ) -> Result<Status, Stop>
-    ensures verdict { Told (verdict_in (F.names files.old) (texts words.now.items)) (Reaches
+    requires { AtRest D.Disk.own disk.old }
+    ensures verdict { Told (verdict_in (F.names files.old) (disk_world D.Disk.own disk.old) (texts words.now.items)) (Reaches
         (seen F.Reads F.writing_faults F.names R.Report files.old report.old)
         (seen F.Reads F.writing_faults F.names R.Report files.new report.new) result) }
     ensures ordinary { IfOk result IsOrdinary }
-    ensures cause { HasStopCause
-        (seen F.Reads F.writing_faults F.names R.Report files.old report.old).counts
-        (seen F.Reads F.writing_faults F.names R.Report files.new report.new).counts result }
+    ensures cause { HasRunStop
+        (run_seen F.Reads F.Files.own D.Reads D.Disk.own R.Report files.old disk.old report.old)
+        (run_seen F.Reads F.Files.own D.Reads D.Disk.own R.Report files.new disk.new report.new) result }
     ensures closed { (file : ℕ) → (live_files F.Reads files.new).live file ≡ (live_files F.Reads files.old).live file }
     ensures octets { ReadsWithinIn (F.names files.old) (texts words.now.items) (F.octets_read files.old) (F.octets_read files.new) }
+    ensures touches { Touches D.Reads D.Disk.own (edited_in (command (texts words.now.items))) files.old files.new disk.old disk.new (status_of result) }
 {
     match read_words(alloc, words) {
-        Ok(command) => obey(alloc, &command, files, report),
+        Ok(command) => obey(alloc, &command, files, disk, report),
         Err(ArgsEnd::Usage(usage)) => refuse(alloc, usage.word, usage.why.name(), report),
         Err(ArgsEnd::Memory) => Err(Stop::Memory),
     }
 }
 
 // Does what a command asks for.
-fn obey<F: Files, R: Report>(
+fn obey<F: Files, D: Disk, R: Report>(
     alloc: Global,
     command: &Command,
     files: &mut F,
+    disk: &mut D,
     report: &mut R,
 ) -> Result<Status, Stop>
-    requires { IsSound command.now }
-    ensures verdict { Told (verdict_of (F.names files.old) command.now) (Reaches
+    requires sound { IsSound command.now }
+    requires at_rest { AtRest D.Disk.own disk.old }
+    ensures verdict { Told (verdict_of (F.names files.old) (disk_world D.Disk.own disk.old) command.now) (Reaches
         (seen F.Reads F.writing_faults F.names R.Report files.old report.old)
         (seen F.Reads F.writing_faults F.names R.Report files.new report.new) result) }
     ensures ordinary { IfOk result IsOrdinary }
-    ensures cause { HasStopCause
-        (seen F.Reads F.writing_faults F.names R.Report files.old report.old).counts
-        (seen F.Reads F.writing_faults F.names R.Report files.new report.new).counts result }
+    ensures cause { HasRunStop
+        (run_seen F.Reads F.Files.own D.Reads D.Disk.own R.Report files.old disk.old report.old)
+        (run_seen F.Reads F.Files.own D.Reads D.Disk.own R.Report files.new disk.new report.new) result }
     ensures closed { (file : ℕ) → (live_files F.Reads files.new).live file ≡ (live_files F.Reads files.old).live file }
     ensures octets { ReadsWithin (F.names files.old) command.now (F.octets_read files.old) (F.octets_read files.new) }
+    ensures touches { Touches D.Reads D.Disk.own (edited_by command.now) files.old files.new disk.old disk.new (status_of result) }
 {
     match command {
         Command::Help => help(alloc, report),
         Command::Version => version(report),
         Command::Info { file } => info_of(alloc, file.as_str(), files, report),
+        Command::Recover { file } => recover_of(alloc, file.as_str(), disk, report),
         Command::Extract { file, job } => extract(alloc, file, job, files, report),
         Command::Merge { words } => merge(alloc, words, files, report),
         _ => refuse(alloc, 0, "NotBuilt", report),
@@ -127,7 +157,7 @@ fn extract<F: Files, R: Report>(
     report: &mut R,
 ) -> Result<Status, Stop>
     requires { IsSoundJob job.now }
-    ensures verdict { Told (verdict_of (F.names files.old) (Command.Extract file.now job.now)) (Reaches
+    ensures verdict { Told (verdict_of (F.names files.old) None (Command.Extract file.now job.now)) (Reaches
         (seen F.Reads F.writing_faults F.names R.Report files.old report.old)
         (seen F.Reads F.writing_faults F.names R.Report files.new report.new) result) }
     ensures ordinary { IfOk result IsOrdinary }
@@ -150,7 +180,7 @@ fn merge<F: Files, R: Report>(
     report: &mut R,
 ) -> Result<Status, Stop>
     requires { IsSoundMerge words.now }
-    ensures verdict { Told (verdict_of (F.names files.old) (Command.Merge words.now)) (Reaches
+    ensures verdict { Told (verdict_of (F.names files.old) None (Command.Merge words.now)) (Reaches
         (seen F.Reads F.writing_faults F.names R.Report files.old report.old)
         (seen F.Reads F.writing_faults F.names R.Report files.new report.new) result) }
     ensures ordinary { IfOk result IsOrdinary }

@@ -3,12 +3,14 @@
 //! The suite's program again, for a stored run whose words are wrong: it ends with status 2.
 
 use mkv_host::{RealFiles, RealReport};
+use mkv_host_disk::RealDisk;
 use mkv_run::{program, words_of};
 use std::process::ExitCode;
 
 fn main(rt: HostRuntime) -> ExitCode {
     let words = words_of(&rt);
     let mut files = RealFiles::new(rt.alloc(), &rt);
+    let mut disk = RealDisk::new(rt.alloc(), &rt);
     let mut report = RealReport::new(&rt);
-    program(rt.alloc(), &words, &mut files, &mut report)
+    program(rt.alloc(), &words, &mut files, &mut disk, &mut report)
 }

@@ -1,18 +1,46 @@
-use Rattle.std.proofs.Common.{inr}
-use Rattle.mkv_lines.specs.Seen.{Seen, seen}
+use Rattle.std.proofs.Common.{inl, inr, ap, subst}
+use Rattle.mkv_io.specs.Faults.{HasRisen}
+use Rattle.mkv_lines.specs.Code.{status_of}
+use Rattle.mkv_lines.specs.Faults.{Counts}
+use Rattle.mkv_lines.specs.Line.{disk_fault_line, files_fault_line}
+use Rattle.mkv_args.specs.Words.{command}
+use Rattle.mkv_recover.specs.Recover.{disk_world}
+use Rattle.word_values.specs.Place.{texts}
+use Rattle.mkv_run.specs.RunSeen.{RunSeen, run_seen}
+use Rattle.mkv_run.specs.Touched.{edited_in}
 use Rattle.mkv_run.proofs.MergedLemmas.{merges-well}
-use Rattle.mkv_run.proofs.RunLemmas.{ends-done, ends-fault}
+use Rattle.mkv_run.proofs.RunLemmas.{ends-done, fault-told, touches-moment}
 use Rattle.mkv_run.proofs.running.run.Goals as goal
+
+-- ---- the lines and the outputs
 
 -- the files failed, and the line of the fault follows
 pub returns-in-Err-Files-clause-verdict : goal.returns-in-Err-Files-clause-verdict
 returns-in-Err-Files-clause-verdict g c = λ verdict told.
-    let before : Seen = seen g.F.Reads g.F.Files.writing_faults g.F.Files.names g.R.Report c.args.files.now c.args.report.now in
-    let now : Seen = seen g.F.Reads g.F.Files.writing_faults g.F.Files.names g.R.Report c.carry_out.new.files c.say_files_fault.new.report in
+    let faults = g.R.Report.faults in let lines = g.R.Report.lines in
     let cause = rw c.in-Err-Files.field-0-is at c.in-Err-Files.ensures.cause in
-    let stopped = c.in-Err-Files.ensures.verdict verdict told in (
-      ends-fault before.counts now.counts (g.R.Report.faults c.carry_out.new.report) (g.R.Report.lines c.args.report.now) (g.R.Report.lines c.carry_out.new.report) (g.R.Report.lines c.say_files_fault.new.report) verdict.lines c.say_files_fault.result
-          cause.0 cause.1 stopped.lines c.say_files_fault.ensures.said c.say_files_fault.ensures.cause c.say_files_fault.ensures.memory,
+    let stopped = c.in-Err-Files.ensures.verdict verdict told in
+    let ends = fault-told files_fault_line (faults c.carry_out.new.report) (faults c.say_files_fault.new.report) (lines c.args.report.now) (lines c.carry_out.new.report) (lines c.say_files_fault.new.report) verdict.lines c.say_files_fault.result
+    stopped.lines c.say_files_fault.ensures.said c.say_files_fault.ensures.cause c.say_files_fault.ensures.memory in (
+      elim ends [
+        | inl says ↦ inl (cause.0, says)
+        | inr report ↦ inr (inr (subst (λ n. HasRisen n (faults c.say_files_fault.new.report)) cause.1 report.0, report.1))
+      ],
+      stopped.names,
+    )
+
+-- the disk failed, and the line of the fault follows
+pub returns-in-Err-Disk-clause-verdict : goal.returns-in-Err-Disk-clause-verdict
+returns-in-Err-Disk-clause-verdict g c = λ verdict told.
+    let faults = g.R.Report.faults in let lines = g.R.Report.lines in
+    let cause = rw c.in-Err-Disk.field-0-is at c.in-Err-Disk.ensures.cause in
+    let stopped = c.in-Err-Disk.ensures.verdict verdict told in
+    let ends = fault-told disk_fault_line (faults c.carry_out.new.report) (faults c.say_disk_fault.new.report) (lines c.args.report.now) (lines c.carry_out.new.report) (lines c.say_disk_fault.new.report) verdict.lines c.say_disk_fault.result
+    stopped.lines c.say_disk_fault.ensures.said c.say_disk_fault.ensures.cause c.say_disk_fault.ensures.memory in (
+      elim ends [
+        | inl says ↦ inr (inl (cause.0, says))
+        | inr report ↦ inr (inr (subst (λ n. HasRisen n (faults c.say_disk_fault.new.report)) (ap (λ (counts : Counts). counts.report) cause.1) report.0, report.1))
+      ],
       stopped.names,
     )
 
@@ -21,11 +49,39 @@ pub returns-in-Err-Report-clause-verdict : goal.returns-in-Err-Report-clause-ver
 returns-in-Err-Report-clause-verdict g c = λ verdict told.
     let cause = rw c.in-Err-Report.field-0-is at c.in-Err-Report.ensures.cause in
     let stopped = c.in-Err-Report.ensures.verdict verdict told in
-    (inr (cause.0, stopped.lines), stopped.names)
+    (inr (inr (cause.0, stopped.lines)), stopped.names)
 
 -- a command that ended well has written the merge that was asked for
 pub returns-in-Ok-clause-merged : goal.returns-in-Ok-clause-merged
 returns-in-Ok-clause-merged g c =
-    let before : Seen = seen g.F.Reads g.F.Files.writing_faults g.F.Files.names g.R.Report c.args.files.now c.args.report.now in
-    let now : Seen = seen g.F.Reads g.F.Files.writing_faults g.F.Files.names g.R.Report c.carry_out.new.files c.carry_out.new.report in
-    merges-well before now c.args.words.now.items c.in-Ok.status (λ verdict told. ends-done before now c.in-Ok.status verdict c.in-Ok.ensures.ordinary (c.in-Ok.ensures.verdict verdict told))
+    let before : RunSeen = run_seen g.F.Reads g.F.Files g.D.Reads g.D.Disk g.R.Report c.args.files.now c.args.disk.now c.args.report.now in
+    let now : RunSeen = run_seen g.F.Reads g.F.Files g.D.Reads g.D.Disk g.R.Report c.carry_out.new.files c.carry_out.new.disk c.carry_out.new.report in
+    merges-well before now (disk_world g.D.Disk c.args.disk.now) c.args.words.now.items c.in-Ok.status
+    (λ verdict told. ends-done before now c.in-Ok.status verdict c.in-Ok.ensures.ordinary (c.in-Ok.ensures.verdict verdict told))
+
+-- ---- what a crash leaves
+
+pub returns-in-Ok-clause-any_moment : goal.returns-in-Ok-clause-any_moment
+returns-in-Ok-clause-any_moment g c =
+    touches-moment g.D.Reads g.D.Disk (edited_in (command (texts c.args.words.now.items))) c.args.files.now c.carry_out.new.files c.args.disk.now c.carry_out.new.disk (status_of c.carry_out.result)
+    c.requires (g.met.D.Disk.only_now c.args.disk.now) c.carry_out.ensures.touches
+
+pub returns-in-Err-Memory-clause-any_moment : goal.returns-in-Err-Memory-clause-any_moment
+returns-in-Err-Memory-clause-any_moment g c =
+    touches-moment g.D.Reads g.D.Disk (edited_in (command (texts c.args.words.now.items))) c.args.files.now c.carry_out.new.files c.args.disk.now c.carry_out.new.disk (status_of c.carry_out.result)
+    c.requires (g.met.D.Disk.only_now c.args.disk.now) c.carry_out.ensures.touches
+
+pub returns-in-Err-Report-clause-any_moment : goal.returns-in-Err-Report-clause-any_moment
+returns-in-Err-Report-clause-any_moment g c =
+    touches-moment g.D.Reads g.D.Disk (edited_in (command (texts c.args.words.now.items))) c.args.files.now c.carry_out.new.files c.args.disk.now c.carry_out.new.disk (status_of c.carry_out.result)
+    c.requires (g.met.D.Disk.only_now c.args.disk.now) c.carry_out.ensures.touches
+
+pub returns-in-Err-Files-clause-any_moment : goal.returns-in-Err-Files-clause-any_moment
+returns-in-Err-Files-clause-any_moment g c =
+    touches-moment g.D.Reads g.D.Disk (edited_in (command (texts c.args.words.now.items))) c.args.files.now c.carry_out.new.files c.args.disk.now c.carry_out.new.disk (status_of c.carry_out.result)
+    c.requires (g.met.D.Disk.only_now c.args.disk.now) c.carry_out.ensures.touches
+
+pub returns-in-Err-Disk-clause-any_moment : goal.returns-in-Err-Disk-clause-any_moment
+returns-in-Err-Disk-clause-any_moment g c =
+    touches-moment g.D.Reads g.D.Disk (edited_in (command (texts c.args.words.now.items))) c.args.files.now c.carry_out.new.files c.args.disk.now c.carry_out.new.disk (status_of c.carry_out.result)
+    c.requires (g.met.D.Disk.only_now c.args.disk.now) c.carry_out.ensures.touches

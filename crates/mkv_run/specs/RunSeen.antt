@@ -1,0 +1,55 @@
+-- What is seen of a run: of its files and its report, and of its disk.
+use Rattle.std.specs.Prelude.{◌≡◌, ◌⊎◌, ℕ, Result, Ok, Err}
+use Rattle.mkv_io.specs.Faults.{HasRisen}
+use Rattle.mkv_io.specs.declared.reads.Reads.{Ghosts as ReadsGhosts}
+use Rattle.mkv_io.specs.declared.files.Files.{Ghosts as FilesGhosts}
+use Rattle.mkv_io.specs.declared.report.Report.{Ghosts as ReportGhosts}
+use Rattle.mkv_disk.specs.declared.disk.Disk.{Ghosts as DiskGhosts}
+use Rattle.mkv_lines.specs.Faults.{FilesRose, ReportRose}
+use Rattle.mkv_lines.specs.Seen.{Seen, seen}
+use Rattle.mkv_lines.specs.declared.status.Status.{Status}
+use Rattle.mkv_lines.specs.declared.status.Status.TheVariants as status
+use Rattle.mkv_lines.specs.declared.status.Stop.{Stop}
+use Rattle.mkv_lines.specs.declared.status.Stop.TheVariants as stop
+
+-- how often opening or reading failed, and writing
+pub record DiskFaults : Type 0 where
+  pub reading : ℕ
+  pub writing : ℕ
+
+-- The disk failed.
+abbrev pub DiskRose : DiskFaults → DiskFaults → Type 0
+DiskRose old new = HasRisen old.reading new.reading ⊎ HasRisen old.writing new.writing
+
+-- What is seen of the files and the report, and how often the disk failed.
+pub record RunSeen : Type 0 where
+  pub seen : Seen
+  pub disk : DiskFaults
+
+-- what is seen of these files, this disk and this report
+abbrev pub run_seen : {F D R : Type 0} → ReadsGhosts F → FilesGhosts F → ReadsGhosts D → DiskGhosts D → ReportGhosts R → F → D → R → RunSeen
+run_seen files_reads files_own disk_reads disk_own report files disk said = record {
+  seen = seen files_reads files_own.writing_faults files_own.names report files said;
+  disk = record { reading = disk_reads.reading_faults disk; writing = disk_own.writing_faults disk };
+}
+
+-- No count of faults rose.
+pub record IsFaultless (old new : RunSeen) : Type 0 where
+  pub counts : new.seen.counts ≡ old.seen.counts
+  pub disk : new.disk ≡ old.disk
+
+-- Why a command stops: a fault is told only where a count of its object rose, and no other count does.
+abbrev pub HasRunStop : {T : Type 0} → RunSeen → RunSeen → Result T Stop → Type 0
+HasRunStop old new (Ok _) = IsFaultless old new
+HasRunStop old new (Err stop.Memory) = IsFaultless old new
+HasRunStop old new (Err stop.Files) =
+    FilesRose old.seen.counts new.seen.counts × (new.seen.counts.report ≡ old.seen.counts.report) × (new.disk ≡ old.disk)
+HasRunStop old new (Err stop.Disk) = DiskRose old.disk new.disk × (new.seen.counts ≡ old.seen.counts)
+HasRunStop old new (Err stop.Report) =
+    ReportRose old.seen.counts new.seen.counts × (new.seen.counts ≡ record old.seen.counts { report = new.seen.counts.report }) × (new.disk ≡ old.disk)
+
+-- A run ends with Outside only where a count rose, and always where one did.
+abbrev pub HasStatusCause : RunSeen → RunSeen → Status → Type 0
+HasStatusCause old new status.Outside =
+    FilesRose old.seen.counts new.seen.counts ⊎ (DiskRose old.disk new.disk ⊎ ReportRose old.seen.counts new.seen.counts)
+HasStatusCause old new _ = IsFaultless old new
