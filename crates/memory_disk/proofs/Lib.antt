@@ -1,3 +1,4 @@
 pub mod DiskLemmas
+pub mod FreshLemmas
 pub mod LogLemmas
 pub mod SoundLemmas

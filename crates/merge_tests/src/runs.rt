@@ -1,6 +1,7 @@
 //! Runs over files and a report in memory, and what they have to answer.
 
 use crate::spelled::{Spelled, octets_of};
+use memory_disk::MemDisk;
 use mkv_lines::Status;
 use mkv_memory::{MemFiles, MemReport};
 use mkv_run::run;
@@ -72,7 +73,8 @@ impl Outside {
         for word in line.split_whitespace() {
             words.push(word.to_string(rt.alloc())?)?;
         }
-        Ok(run(rt.alloc(), &words, &mut self.files, &mut self.report))
+        let mut disk = MemDisk::new(rt.alloc(), &[], &[], 0, 0)?;
+        Ok(run(rt.alloc(), &words, &mut self.files, &mut disk, &mut self.report))
     }
 
     /// What was said, a line each.

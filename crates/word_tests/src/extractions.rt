@@ -1,8 +1,8 @@
 //! Extractions over files and a report in memory: what is written and told, and what a failure leaves.
 
+use crate::running::run_over;
 use mkv_lines::Status;
 use mkv_memory::{MemFiles, MemReport};
-use mkv_run::run;
 use std::alloc::{AllocError, Global};
 use std::test::Fail;
 
@@ -250,7 +250,7 @@ fn agrees(alloc: Global, row: &Row) -> Result<bool, AllocError> {
     let mut report = MemReport::new(alloc, 100, 4096)?;
     put(&mut files, "a.mkv", row.file)?;
     let words = words_of(alloc, row.words)?;
-    let status = run(alloc, &words, &mut files, &mut report);
+    let status = run_over(alloc, &words, &mut files, &mut report)?;
     for (k, line) in row.lines.iter().enumerate() {
         if report.line(k) != Some(*line) {
             return Ok(false);
@@ -299,7 +299,7 @@ fn run_failing(
         alloc,
         &["extract", "a.mkv", "timestamps_v2", "0:r", "4:s", "0:q"],
     )?;
-    let status = run(alloc, &words, &mut files, &mut report);
+    let status = run_over(alloc, &words, &mut files, &mut report)?;
     Ok((status, files, report))
 }
 

@@ -1,9 +1,9 @@
 //! Files of which an edit was begun and isn't done: they aren't read before it is recovered.
 
 use crate::extractions::{TWO_BLOCKS, words_of};
+use crate::running::run_over;
 use mkv_lines::Status;
 use mkv_memory::{MemFiles, MemReport};
-use mkv_run::run;
 use std::alloc::{AllocError, Global};
 use std::test::Fail;
 
@@ -164,7 +164,7 @@ fn agrees(alloc: Global, row: &Row) -> Result<bool, AllocError> {
         files.put(name, sidecar)?;
     }
     let words = words_of(alloc, row.words)?;
-    let status = run(alloc, &words, &mut files, &mut report);
+    let status = run_over(alloc, &words, &mut files, &mut report)?;
     let is_alone = row.status != Status::Refused || report.line(1).is_none();
     let is_made = files.bytes("r").is_some() || files.bytes("out.mkv").is_some();
     let is_info = row.words.len() == INFO.len();
@@ -193,7 +193,7 @@ fn a_sidecar_that_fails_ends_the_run(rt: HostRuntime) -> Result<(), Fail> {
         files.put("s1.mkv", &TWO_BLOCKS)?;
         files.put("s1.mkv.mkvedit", &BEGUN)?;
         files.fail_at(call, 0)?;
-        let status = run(rt.alloc(), &info, &mut files, &mut report);
+        let status = run_over(rt.alloc(), &info, &mut files, &mut report)?;
         assert_eq!(rt; status, Status::Outside, "call {call}");
         assert_eq!(rt; report.line(0), Some("fault: files"));
     }

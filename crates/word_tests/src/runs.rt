@@ -1,8 +1,8 @@
 //! Runs over files and a report in memory: what is printed, and what a failure leaves.
 
+use crate::running::run_over;
 use mkv_lines::Status;
 use mkv_memory::{MemFiles, MemReport};
-use mkv_run::run;
 use std::alloc::{AllocError, Global};
 use std::test::Fail;
 
@@ -187,6 +187,13 @@ fn files_are_listed_warned_of_and_refused(rt: HostRuntime) -> Result<(), Fail> {
             words: &["recover", "a.mkv"],
             first: &EBML,
             second: &empty,
+            status: Status::Done,
+            lines: &["nothing to recover in a.mkv"],
+        },
+        Row {
+            words: &["reindex", "a.mkv"],
+            first: &EBML,
+            second: &empty,
             status: Status::Refused,
             lines: &["error: word 0: NotBuilt"],
         },
@@ -210,7 +217,7 @@ fn files_are_listed_warned_of_and_refused(rt: HostRuntime) -> Result<(), Fail> {
         let mut report = MemReport::new(rt.alloc(), 100, 4096)?;
         put_both(&mut files, "a.mkv", row.first, row.second)?;
         let words = words_of(rt.alloc(), row.words)?;
-        let status = run(rt.alloc(), &words, &mut files, &mut report);
+        let status = run_over(rt.alloc(), &words, &mut files, &mut report)?;
         assert_eq!(rt; status, row.status);
         for (k, line) in row.lines.iter().enumerate() {
             assert_eq!(rt; report.line(k).ok_or("a line is missing")?, *line);
@@ -232,7 +239,7 @@ fn run_live(
     files.fail_at(files_call, 0)?;
     report.fail_at(report_call)?;
     let words = words_of(alloc, &["info", "live.mkv"])?;
-    let status = run(alloc, &words, &mut files, &mut report);
+    let status = run_over(alloc, &words, &mut files, &mut report)?;
     Ok((status, report))
 }
 
