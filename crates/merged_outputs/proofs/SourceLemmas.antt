@@ -56,8 +56,8 @@ use Rattle.merge_plan.specs.Plan.{Source}
 use Rattle.merge_plan.specs.Refusal.{plan_refusal}
 use Rattle.merge_plan.specs.declared.refusal.PlanRefusal.{PlanRefusal}
 use Rattle.mkv_merge.specs.Merge as merge
-use Rattle.mkv_merge.specs.Merge.{reads_of, sources_of, sources_with}
-use Rattle.mkv_merge.specs.Read.{contents_of, inputs_from, inputs_of, numbered, unless_missing, writes_input}
+use Rattle.mkv_merge.specs.Merge.{reads_of, sources_of, sources_settled, sources_with}
+use Rattle.mkv_merge.specs.Read.{contents_of, inputs_from, inputs_of, numbered, pending_of, unless_missing, writes_input}
 use Rattle.mkv_merge.specs.Refused as refused
 use Rattle.mkv_merge.specs.declared.refusal.Refusal.{Refusal}
 use Rattle.mkv_merge.specs.declared.refusal.Refusal.TheVariants.{OutputIsInput}
@@ -294,6 +294,10 @@ module _ (words : MergeWords) (sources : List Source) (sound : IsSoundMerge word
       let made : zip contents reads ≡ sources = ap (zip contents) good.1 ∙ (let last = plan.1.1 in cc) in
       subst (AreSources words) made (record { each = read.each; unrefused = ap (plan_refusal words) read.all ∙ good.0 })
 
+  settled-ok : (why : Option Refusal) (contents : List (List ℕ)) → refused.and_then (refused.unless why contents) (sources_with words) ≡ Ok sources → sources_with words contents ≡ Ok sources
+  settled-ok None contents is = is
+  settled-ok (Some why) contents is = absurd (cc)
+
   -- The sources of a merge can be written.
   pub sources-read : (world : List ℕ → Option (List ℕ)) → HoldsOctets world → sources_of world words ≡ Ok sources → AreSources words sources
   sources-read world holds is = split (writes_input words) is
@@ -307,12 +311,13 @@ module _ (words : MergeWords) (sources : List Source) (sound : IsSoundMerge word
       many : length contents ≡ length words.files
       many = length-map names (λ (name : List ℕ). unwrap_or (world name) []) ∙ length-map words.files (λ (w : FileWords). w.name)
 
-      of-contents : refused.and_then (contents_of world words.files) (sources_with words) ≡ Ok sources → AreSources words sources
+      of-contents : refused.and_then (contents_of world words.files) (sources_settled world words) ≡ Ok sources → AreSources words sources
       of-contents found =
-          let there = then-ok (contents_of world words.files) (sources_with words) sources found in
+          let there = then-ok (contents_of world words.files) (sources_settled world words) sources found in
           let same = there-ok (first_missing world names) contents there.0 there.1.0 in
-          with-contents contents many (contents-octets world names holds) (ap (sources_with words) same ∙ there.1.1)
+          with-contents contents many (contents-octets world names holds)
+          (settled-ok (pending_of world words) contents (ap (sources_settled world words) same ∙ there.1.1))
 
-      split : (t : Bool) → (if t then Err OutputIsInput else refused.and_then (contents_of world words.files) (sources_with words)) ≡ Ok sources → AreSources words sources
+      split : (t : Bool) → (if t then Err OutputIsInput else refused.and_then (contents_of world words.files) (sources_settled world words)) ≡ Ok sources → AreSources words sources
       split true found = absurd (cc)
       split false found = of-contents found
