@@ -33,9 +33,11 @@ use Rattle.merge_plan.specs.Records.{first_title, title_of, title_or, tracks_tak
 use Rattle.merge_plan.proofs.PlanLemmas.{plan-few}
 use Rattle.mkv_merge.specs.Merge.{document_in, reads_of}
 use Rattle.merge_words.specs.Texts.{AreTexts}
+use Rattle.track_format.specs.Entry as tracks
+use Rattle.merged_outputs.specs.Merge.{IsPlain}
 use Rattle.merged_outputs.specs.Sources.{AreSources, IsReadSource, IsReadTrack}
 use Rattle.merged_outputs.proofs.LaneLemmas.{lanes-sound, lanes-length}
-use Rattle.merged_outputs.proofs.TracksLemmas.{taken-tracks, taken-lanes}
+use Rattle.merged_outputs.proofs.TracksLemmas.{taken-lanes, taken-plain, taken-tracks}
 
 -- ---- how long the records are
 
@@ -125,6 +127,10 @@ module _ (words : MergeWords) (sources : List Source) (sound : IsSoundMerge word
 
   lanes-as_many : lanes_of (document_in words sources) ≡ length (map (lane_blocks words.scale) (lanes_given sources))
   lanes-as_many = taken-lanes (tracks_taken (reads_of sources)) (all-tracks sources are.each) tracks-few ∙ sym (lanes-length words.scale sources)
+
+  -- Its tracks have frames as they stand.
+  pub document-plain : All IsPlain (tracks.entries_of (document_in words sources).front.tracks)
+  document-plain = taken-plain (tracks_taken (reads_of sources)) (all-tracks sources are.each) tracks-few
 
   -- The scale of its Info is that of the words.
   pub document-scale : scale_of (document_in words sources).front.info ≡ words.scale

@@ -20,13 +20,14 @@ use Rattle.track_format.specs.Tracks.{IsTrack}
 use Rattle.record_changes.specs.declared.track_change.TrackChange.{TrackChange}
 use Rattle.record_changes.specs.Children.{uint_leaf, set_in, set_each, removed_in, removed_each, given}
 use Rattle.record_changes.specs.Entry.{flag_leaf, children_set, ids_removed, written_entry, IsWholeEntry}
-use Rattle.record_laws.proofs.EntryLemmas.{entry_list, written-master, part-number, part-others}
+use Rattle.record_laws.proofs.EntryLemmas.{entry_list, written-master, part-number, part-encodings, part-others}
 use Rattle.record_laws.proofs.TrackLemmas.{first_in, find-filter}
 use Rattle.tree_building.proofs.LeafLemmas.{uint-stands, text-stands}
 use Rattle.track_changes.proofs.StandLemmas as row
 use Rattle.track_changes.proofs.StandLemmas.{whole-set, whole-removed}
 use Rattle.merge_inputs.specs.Taken.{IsTaken}
 use Rattle.merge_inputs.specs.declared.taken.TakenTrack.{TakenTrack}
+use Rattle.merged_outputs.specs.Merge.{IsPlain}
 
 -- ---- what can be written of a change
 
@@ -147,6 +148,14 @@ module _ (c : TrackChange) where
 pub written-number : (c : TrackChange) (entry : Node) → CanBeSet c → IsWholeEntry entry → number_of (written_entry c entry) ≡ c.number
 written-number c (leaf id at body) can whole = let never = whole.master in absurd (cc)
 written-number c (master id at kids) can whole = number-set c id at kids can
+
+-- Nothing says that its frames were changed.
+pub written-plain : (c : TrackChange) (entry : Node) → IsWholeEntry entry → IsPlain (written_entry c entry)
+written-plain c (leaf id at body) whole = let never = whole.master in absurd (cc)
+written-plain c (master id at kids) whole =
+    let all : List Node = entry_list c (list_of kids) in
+    ap (first_child CONTENT_ENCODINGS) (written-master c id at kids) ∙ ap (find (λ n. id_of n == CONTENT_ENCODINGS)) (list-nodes all)
+    ∙ find-filter (λ n. id_of n == CONTENT_ENCODINGS) all ∙ ap first_in (part-encodings c (list_of kids))
 
 -- What is written of a track is one.
 pub written-track : (c : TrackChange) (entry : Node) → CanBeSet c → IsWholeEntry entry → IsTrack entry → IsTrack (written_entry c entry)

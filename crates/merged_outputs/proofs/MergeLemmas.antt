@@ -34,7 +34,7 @@ use Rattle.mkv_lines.specs.declared.status.Status.TheVariants as status
 use Rattle.merged_outputs.specs.Merge.{HoldsMerge, IsMerged, lanes_selected}
 use Rattle.merge_words.specs.Texts.{AreTexts}
 use Rattle.merged_outputs.specs.Sources.{AreSources, HoldsOctets}
-use Rattle.merged_outputs.proofs.DocumentLemmas.{document-scale, document-sound}
+use Rattle.merged_outputs.proofs.DocumentLemmas.{document-plain, document-scale, document-sound}
 use Rattle.merged_outputs.proofs.LaneLemmas.{lanes-free}
 use Rattle.merged_outputs.proofs.SourceLemmas.{sources-read}
 use Rattle.std.proofs.lemmas.List.{length-map}
@@ -51,6 +51,7 @@ module _ (words : MergeWords) (sources : List Source) (sound : IsSoundMerge word
       let as_many : length lanes ≡ length (lanes_given sources) = length-map (lanes_given sources) (lane_blocks words.scale) in
       record {
         document = layout-read d is;
+        plain = document-plain words sources sound texts are;
         order = ap (λ s. blocks_read s events) (sym scale) ∙ order-again d (limits_of words) (merge.blocks_of words sources) is refl;
         lanes = ap (λ s. lanes_read s 1 (length (lanes_given sources)) events) (sym scale) ∙ ap (λ n. lanes_read (scale_of d.front.info) 1 n events) (sym as_many)
             ∙ lanes-again d (limits_of words) lanes is refl (lanes-free words.scale sources are.each);

@@ -24,8 +24,9 @@ use Rattle.output_records.proofs.RecordLemmas.{entry-stands}
 use Rattle.merge_inputs.specs.declared.taken.TakenTrack.{TakenTrack}
 use Rattle.merge_plan.specs.Records.{change_of, entry_of, entries_from, entries_of, uids_of}
 use Rattle.merge_plan.proofs.RecordLemmas.{length-uids}
+use Rattle.merged_outputs.specs.Merge.{IsPlain}
 use Rattle.merged_outputs.specs.Sources.{IsReadTrack}
-use Rattle.merged_outputs.proofs.EntryLemmas.{CanBeSet, taken-whole, written-whole, written-number, written-track}
+use Rattle.merged_outputs.proofs.EntryLemmas.{CanBeSet, taken-whole, written-whole, written-number, written-plain, written-track}
 
 -- ---- the entries
 
@@ -33,6 +34,7 @@ use Rattle.merged_outputs.proofs.EntryLemmas.{CanBeSet, taken-whole, written-who
 record IsWritten (entry : Node) : Type 0 where
   whole : IsWholeEntry entry
   track : IsTrack entry
+  plain : IsPlain entry
 
 can-be : (number uid : ℕ) (t : TakenTrack) → 0 < number → number < 2 ^ 64 → uid < 2 ^ 64 → IsReadTrack t → CanBeSet (change_of number uid t)
 can-be number uid t some small own read = record { some = some; number = small; uid = own; name = read.name; language = read.language }
@@ -45,7 +47,7 @@ entries-written number (uid ∷ uids) (t ∷ taken) some small own read =
     let can = can-be number uid t some (omega arith) (All-head (λ (n : ℕ). n < 2 ^ 64) uid uids own) first in
     let whole = taken-whole t first.taken in
     All-cons IsWritten (entry_of number uid t) (entries_from (number + 1) uids taken)
-    (record { whole = written-whole (change_of number uid t) t.track.entry can whole; track = written-track (change_of number uid t) t.track.entry can whole first.taken.track })
+    (record { whole = written-whole (change_of number uid t) t.track.entry can whole; track = written-track (change_of number uid t) t.track.entry can whole first.taken.track; plain = written-plain (change_of number uid t) t.track.entry whole })
     (entries-written (number + 1) uids taken (omega arith) (omega arith) (All-tail (λ (n : ℕ). n < 2 ^ 64) uid uids own) (All-tail IsReadTrack t taken read))
 
 entries-numbers : (number : ℕ) (uids : List ℕ) (taken : List TakenTrack) → 0 < number → number + length taken < 2 ^ 64 → All (λ uid. uid < 2 ^ 64) uids → All IsReadTrack taken → CountFrom number (map number_of (entries_from number uids taken))
@@ -140,6 +142,12 @@ module _ (taken : List TakenTrack) (read : All IsReadTrack taken) (few : length 
       let all = entries-written 1 (uids_of taken) taken (omega arith) (omega arith) uids-small read in
       let count = entries-numbers 1 (uids_of taken) taken (omega arith) (omega arith) uids-small read in
       tracks-of (entries_of taken) all count (omega (arith, entries-count)) short
+
+  -- Nothing says that their frames were changed.
+  pub taken-plain : All IsPlain (track.entries_of (output_tracks (entries_of taken)))
+  taken-plain =
+      let all = entries-written 1 (uids_of taken) taken (omega arith) (omega arith) uids-small read in
+      subst (All IsPlain) (sym (entries-all (entries_of taken) all)) (All-weaker IsWritten IsPlain (λ e w. w.plain) (entries_of taken) all)
 
   -- Each is a lane.
   pub taken-lanes : length (track.entries_of (output_tracks (entries_of taken))) ≡ length taken

@@ -1,8 +1,12 @@
 -- A content that holds a merge.
-use Rattle.std.specs.Prelude.{◌≡◌, ◌≤◌, ⊤, ℕ, false, List, Option, Some, Ok, length, map}
+use Rattle.std.specs.Prelude.{◌≡◌, ◌≤◌, ⊤, ℕ, false, List, All, Option, None, Some, Ok, length, map}
 use Rattle.mkv_values.specs.declared.outside.TheConstants.{LONGEST_FILE}
 use Rattle.mkv_io.specs.Names.{Names, with_content}
 use Rattle.mkv_io.specs.Told.{Told}
+use Rattle.mkv_schema.specs.declared.ids.TheConstants.{CONTENT_ENCODINGS}
+use Rattle.tree_format.specs.Node.{Node}
+use Rattle.tree_format.specs.Values.{first_child}
+use Rattle.track_format.specs.Entry.{entries_of}
 use Rattle.block_format.specs.Events.{Event}
 use Rattle.file_blocks.specs.File.{file_events}
 use Rattle.output_model.specs.OutputBlock.{OutputBlock}
@@ -30,13 +34,19 @@ lanes_selected words sources = map (lane_blocks words.scale) (lanes_given source
 abbrev pub events_read : MergeWords → List Source → List ℕ → List Event
 events_read words sources bytes = file_events false bytes (header_of_segment (document_in words sources))
 
+-- no ContentEncodings stand in an entry, so the frames of its track are as they stand
+abbrev pub IsPlain : Node → Type 0
+IsPlain entry = first_child CONTENT_ENCODINGS entry ≡ None
+
 -- ---- the merge
 
 -- A content holds the merge of these sources. Read by the format's definition, without a reader's limits, it is the document of
--- the merge: undamaged, with its scale, its records, its Seeks, and its cue points, each at its block. The blocks that it has are
--- the merged list, each once and in its order; and lane by lane they are those that were selected.
+-- the merge: undamaged, with its scale, its records, its Seeks, and its cue points, each at its block. The frames of its tracks are as
+-- they stand. The blocks that it has are the merged list, each once and in its order; and lane by lane they are those that were
+-- selected.
 pub record HoldsMerge (words : MergeWords) (sources : List Source) (bytes : List ℕ) : Type 0 where
   pub document : IsReadAs (document_in words sources) bytes
+  pub plain : All IsPlain (entries_of (document_in words sources).front.tracks)
   pub order : blocks_read words.scale (events_read words sources bytes) ≡ merge.blocks_of words sources
   pub lanes : lanes_read words.scale 1 (length (lanes_given sources)) (events_read words sources bytes) ≡ lanes_selected words sources
 

@@ -116,7 +116,7 @@ module _ (c : TrackChange) (ns : List Node) where
       left None = part-without id CONTENT_ENCODINGS ns encodings
       left (Some text) = part-without id LANGUAGE_BCP47 (without CONTENT_ENCODINGS ns) bcp47 ∙ part-without id CONTENT_ENCODINGS ns encodings
 
-  part-encodings : part CONTENT_ENCODINGS (entry_list c ns) ≡ []
+  pub part-encodings : part CONTENT_ENCODINGS (entry_list c ns) ≡ []
   unfolding bare
   part-encodings =
       ap (part CONTENT_ENCODINGS) (entry_list-is c ns)
