@@ -1,5 +1,5 @@
 -- A run that ends well has written the merge that was asked for.
-use Rattle.std.proofs.Common.{◌≡◌, ◌≢◌, ℕ, get_or, List, Bool, true, false, if◌then◌else◌, Option, Some, Result, Ok, refl, ◌∙◌, ap, ap₂}
+use Rattle.std.proofs.Common.{◌≡◌, ◌≢◌, ◌<◌, ℕ, get_or, List, Bool, true, false, if◌then◌else◌, Option, Some, Result, Ok, refl, ◌∙◌, ap, ap₂, arith}
 use Rattle.std.specs.List.{All}
 use Rattle.std.specs.Str.{IsUtf8}
 use Rattle.std.specs.String.{string_bytes}
@@ -15,6 +15,7 @@ use Rattle.merge_words.specs.declared.output.MergeWords.{MergeWords}
 use Rattle.mkv_args.specs.Words.{command}
 use Rattle.mkv_args.specs.declared.command.Command.{Command}
 use Rattle.mkv_args.specs.declared.command.Command.TheVariants.{Merge}
+use Rattle.mkv_lines.specs.Code.{code_of}
 use Rattle.mkv_lines.specs.Line.{not_built_line}
 use Rattle.mkv_lines.specs.Seen.{Seen}
 use Rattle.mkv_lines.specs.Verdict.{IsDone, Verdict, refused}
@@ -58,3 +59,11 @@ merges-well old new disk words status.Warned told = has-merged old.seen new.seen
 merges-well old new disk words status.Refused told = tt
 merges-well old new disk words status.NoMemory told = tt
 merges-well old new disk words status.Outside told = tt
+
+-- A program whose exit status is 0 or 1 is one that ends well.
+pub code-merged : (old new : Names) (words : List (List ℕ)) (s : Status) (code : ℕ) → code ≡ code_of s → code < 2 → MergesWell old words new s → HasMerged old words new
+code-merged old new words status.Done code is below merged = merged
+code-merged old new words status.Warned code is below merged = merged
+code-merged old new words status.Refused code is below merged = absurd (omega arith)
+code-merged old new words status.NoMemory code is below merged = absurd (omega arith)
+code-merged old new words status.Outside code is below merged = absurd (omega arith)

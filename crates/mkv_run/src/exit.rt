@@ -1,6 +1,6 @@
 //! The program: its words, and the exit status with which it ends.
 
-ghost use Rattle.std.specs.Prelude.{◌≡◌, ◌⊎◌, ℕ, IfOk, IfErr, OnErr};
+ghost use Rattle.std.specs.Prelude.{◌≡◌, ◌<◌, ◌⊎◌, ℕ, IfOk, IfErr, OnErr};
 ghost use Rattle.std.specs.Process.{exit_status};
 ghost use Rattle.mkv_io.specs.Sources.{live_files};
 ghost use Rattle.mkv_disk.specs.Calls.{AnyMoment, AtRest};
@@ -8,6 +8,7 @@ ghost use Rattle.mkv_lines.specs.Code.{code_of};
 ghost use Rattle.sidecar_edit.specs.Recovering.{IsRecovering};
 ghost use Rattle.word_values.specs.Place.{texts};
 ghost use Rattle.mkv_recover.specs.Recover.{disk_world};
+ghost use Rattle.merged_outputs.specs.Merge.{HasMerged};
 ghost use Rattle.mkv_run.specs.Exit.{HasExited};
 ghost use Rattle.mkv_run.specs.Run.{ReadsWithinIn, verdict_in};
 ghost use Rattle.mkv_run.specs.RunSeen.{run_seen};
@@ -49,6 +50,10 @@ pub fn program<F: Files, D: Disk, R: Report>(
         (run_seen F.Reads F.Files.own D.Reads D.Disk.own R.Report files.old disk.old report.old)
         (run_seen F.Reads F.Files.own D.Reads D.Disk.own R.Report files.new disk.new report.new)
         (verdict_in (F.names files.old) (disk_world D.Disk.own disk.old) (texts words.items)) (exit_status result)) }
+
+    // Where it ends with 0 or 1, the merge that the words ask for was written.
+    ensures merged { IfOk words.now (λ words. exit_status result < 2
+        → HasMerged (F.names files.old) (texts words.items) (F.names files.new)) }
     ensures unread { IfErr words.now (λ status. exit_status result ≡ code_of status) }
     ensures idle { OnErr words.now (run_seen F.Reads F.Files.own D.Reads D.Disk.own R.Report files.new disk.new report.new
         ≡ run_seen F.Reads F.Files.own D.Reads D.Disk.own R.Report files.old disk.old report.old) }
