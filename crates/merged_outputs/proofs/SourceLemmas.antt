@@ -63,7 +63,7 @@ use Rattle.mkv_merge.specs.declared.refusal.Refusal.{Refusal}
 use Rattle.mkv_merge.specs.declared.refusal.Refusal.TheVariants.{OutputIsInput}
 use Rattle.merge_words.specs.Texts.{HasTexts, AreTexts}
 use Rattle.merged_outputs.specs.Sources.{HoldsOctets, IsReadSource, AreSources}
-use Rattle.merged_outputs.proofs.TreeLemmas.{HasChildrenRead, tree_of-children, entries-octets, uid-small, HoldsOctets as HoldsOctetsInside}
+use Rattle.merged_outputs.proofs.TreeLemmas.{HasChildrenRead, tree_of-children, entries-octets, uid-small, IsOfOctets}
 
 -- ---- an Element that was read as a tree
 
@@ -107,7 +107,7 @@ record AreReadTracks (list : List Track) : Type 0 where
   read : AreRead list
   uids : All (λ (t : Track). t.uid < 2 ^ 64) list
 
-entry-uid : (entry : Node) → IsWholeEntry entry → HoldsOctetsInside entry → uid_of entry < 2 ^ 64
+entry-uid : (entry : Node) → IsWholeEntry entry → IsOfOctets entry → uid_of entry < 2 ^ 64
 entry-uid entry whole hold =
     uid-small entry whole.sound (HasUint-of TRACK_ENTRY TRACK_UID entry (record { id = whole.id; sound = whole.sound }) row.uid.known) hold
 

@@ -30,24 +30,24 @@ use Rattle.track_format.specs.Entry.{entries_of, uid_of}
 
 -- the bodies of an Element and of what is inside are octets
 abbrev mutual
-  pub HoldsOctets : Node → Type 0
-  HoldsOctets (leaf id at body) = AreOctets body
-  HoldsOctets (master id at kids) = AllHoldOctets kids
+  pub IsOfOctets : Node → Type 0
+  IsOfOctets (leaf id at body) = AreOctets body
+  IsOfOctets (master id at kids) = AreOfOctets kids
 
-  pub AllHoldOctets : Nodes → Type 0
-  AllHoldOctets none = Unit {0}
-  AllHoldOctets (node n ns) = HoldsOctets n × AllHoldOctets ns
+  pub AreOfOctets : Nodes → Type 0
+  AreOfOctets none = Unit {0}
+  AreOfOctets (node n ns) = IsOfOctets n × AreOfOctets ns
 
 -- ---- what is read
 
 -- an Element no deeper than there was room for
 record IsRead (room : ℕ) (n : Node) : Type 0 where
   shallow : depth n ≤ room
-  octets : HoldsOctets n
+  octets : IsOfOctets n
 
 record AreRead (room : ℕ) (ns : Nodes) : Type 0 where
   shallow : depth_all ns ≤ room
-  octets : AllHoldOctets ns
+  octets : AreOfOctets ns
 
 grown-read : (room left parent : ℕ) (h : Header) (body : List ℕ) (g : Grown) → AreOctets body → ((inner : Grove) → grove (room - 1) (left - 1) h.id h.body body ≡ Ok inner → AreRead (room - 1) (nodes_of inner.trees))
     → grown grove room left parent h body ≡ Ok g → IsRead room g.tree
@@ -105,7 +105,7 @@ grove-read (suc n) room left parent p (o ∷ octets) g few bytes is =
 -- The children of a tree that was read leave room for it, and their bodies are octets.
 pub record HasChildrenRead (n : Node) : Type 0 where
   pub shallow : depth_all (nodes_of (children n)) < deepest
-  pub octets : AllHoldOctets (nodes_of (children n))
+  pub octets : AreOfOctets (nodes_of (children n))
 
 pub tree_of-children : (id offset base nodes : ℕ) (body : List ℕ) (n : Node) → AreOctets body → tree_of id offset body base nodes ≡ Ok n → HasChildrenRead n
 tree_of-children id offset base nodes body n bytes is = split (nodes == 0) is
@@ -117,7 +117,7 @@ tree_of-children id offset base nodes body n bytes is = split (nodes == 0) is
         let list : g.trees ≡ list_of (nodes_of g.trees) = sym (list-nodes g.trees) in
         let low : depth_all (nodes_of g.trees) ≤ deepest - 1 = read.shallow in
         let P : List Node → Type 0 = λ l. depth_all (nodes_of l) < deepest in
-        let Q : List Node → Type 0 = λ l. AllHoldOctets (nodes_of l) in
+        let Q : List Node → Type 0 = λ l. AreOfOctets (nodes_of l) in
         subst HasChildrenRead same (record { shallow = subst P list (omega arith); octets = subst Q list read.octets })
 
     split : (full : Bool) → (if full then refused TooMany id offset else and_then (grove (deepest - 1) (nodes - 1) id base body) (as_root id offset)) ≡ Ok n → HasChildrenRead n
@@ -129,27 +129,27 @@ tree_of-children id offset base nodes body n bytes is = split (nodes == 0) is
 -- ---- an integer of them
 
 -- each child
-each-octets : (ns : List Node) → AllHoldOctets (nodes_of ns) → All HoldsOctets ns
-each-octets [] hold = All-nil HoldsOctets
-each-octets (n ∷ ns) hold = All-cons HoldsOctets n ns hold.0 (each-octets ns hold.1)
+each-octets : (ns : List Node) → AreOfOctets (nodes_of ns) → All IsOfOctets ns
+each-octets [] hold = All-nil IsOfOctets
+each-octets (n ∷ ns) hold = All-cons IsOfOctets n ns hold.0 (each-octets ns hold.1)
 
-pub entries-octets : (tracks : Node) → HasChildrenRead tracks → All HoldsOctets (entries_of tracks)
-entries-octets tracks read = All-filter (λ n. id_of n == TRACK_ENTRY) HoldsOctets (children tracks) (each-octets (children tracks) read.octets)
+pub entries-octets : (tracks : Node) → HasChildrenRead tracks → All IsOfOctets (entries_of tracks)
+entries-octets tracks read = All-filter (λ n. id_of n == TRACK_ENTRY) IsOfOctets (children tracks) (each-octets (children tracks) read.octets)
 
 -- the first that passes a test
-find-octets : (p : Node → Bool) (ns : List Node) (m : Node) → AllHoldOctets (nodes_of ns) → find p ns ≡ Some m → HoldsOctets m
+find-octets : (p : Node → Bool) (ns : List Node) (m : Node) → AreOfOctets (nodes_of ns) → find p ns ≡ Some m → IsOfOctets m
 find-octets p [] m hold found = absurd (cc)
 find-octets p (n ∷ ns) m hold found = split (p n) (find-octets p ns m hold.1) found
   where
-    split : (b : Bool) → (find p ns ≡ Some m → HoldsOctets m) → cond b (Some n) (find p ns) ≡ Some m → HoldsOctets m
-    split true rest found = let same : n ≡ m = cc in subst HoldsOctets same hold.0
+    split : (b : Bool) → (find p ns ≡ Some m → IsOfOctets m) → cond b (Some n) (find p ns) ≡ Some m → IsOfOctets m
+    split true rest found = let same : n ≡ m = cc in subst IsOfOctets same hold.0
     split false rest found = rest found
 
-children-octets : (n : Node) → HoldsOctets n → AllHoldOctets (nodes_of (children n))
+children-octets : (n : Node) → IsOfOctets n → AreOfOctets (nodes_of (children n))
 children-octets (leaf id at body) hold = tt
-children-octets (master id at kids) hold = subst AllHoldOctets (sym (nodes-list kids)) hold
+children-octets (master id at kids) hold = subst AreOfOctets (sym (nodes-list kids)) hold
 
-body-octets : (n : Node) → HoldsOctets n → AreOctets (body_of n)
+body-octets : (n : Node) → IsOfOctets n → AreOctets (body_of n)
 body-octets (leaf id at body) hold = hold
 body-octets (master id at kids) hold = λ i. omega arith
 
@@ -169,7 +169,7 @@ value-small [] bytes short = let none : unwrap_or (uint_default TRACK_UID) 0 ≡
 value-small (o ∷ octets) bytes short = uint-small (o ∷ octets) bytes short
 
 -- The identifier of an entry that was read is one of 64 bits.
-pub uid-small : (entry : Node) → IsSound entry → HasUint (id_of entry) TRACK_UID → HoldsOctets entry → uid_of entry < 2 ^ 64
+pub uid-small : (entry : Node) → IsSound entry → HasUint (id_of entry) TRACK_UID → IsOfOctets entry → uid_of entry < 2 ^ 64
 uid-small entry sound has hold = split (first_child TRACK_UID entry) refl
   where
     split : (o : Option Node) → first_child TRACK_UID entry ≡ o → unwrap_or (option_map integer_of o) (unwrap_or (uint_default TRACK_UID) 0) < 2 ^ 64
