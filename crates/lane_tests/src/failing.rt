@@ -3,7 +3,7 @@
 ghost use Rattle.std.specs.Prelude.{◌≡◌};
 ghost use Rattle.mkv_memory.specs.FilesIn.{seen};
 
-use crate::links::{Taken, lane_of, merge_of};
+use crate::links::{FIRST, SECOND, Taken, lane_of, merge_of};
 use crate::runs::{files_of, open_all};
 use crate::spelled::{LARGE, SHORT, SMALL, block, file_of};
 use crate::telling::{tell_lane, tell_merge};
@@ -12,25 +12,10 @@ use std::alloc::{AllocError, Global};
 use std::process::Abort;
 use std::test::Fail;
 
-const FIRST: Taken = Taken {
-    file: 0,
-    track: 1,
-    delay: 0,
-    shift: 0,
-};
-
-const SECOND: Taken = Taken {
-    file: 1,
-    track: 1,
-    delay: 0,
-    shift: 20,
-};
-
 const EARLY: Taken = Taken {
-    file: 1,
-    track: 1,
     delay: -10,
     shift: 0,
+    ..SECOND
 };
 
 /// A file with a SimpleBlock that is cut short, one of 70,000 octets, and a small one; and a small file behind it.

@@ -33,6 +33,22 @@ pub struct Taken {
     pub shift: u32,
 }
 
+/// A track of the first file.
+pub const FIRST: Taken = Taken {
+    file: 0,
+    track: 1,
+    delay: 0,
+    shift: 0,
+};
+
+/// The same of the second file, 20 ticks later.
+pub const SECOND: Taken = Taken {
+    file: 1,
+    track: 1,
+    delay: 0,
+    shift: 20,
+};
+
 /// The link to a track of one of these files.
 fn link_of<R: Reads>(
     alloc: Global,

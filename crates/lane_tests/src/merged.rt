@@ -3,7 +3,7 @@
 ghost use Rattle.std.specs.Prelude.{◌≤◌, length};
 ghost use Rattle.merge_model.specs.declared.limits.TheConstants.{MOST_LINKS};
 
-use crate::links::Taken;
+use crate::links::{FIRST, Taken};
 use crate::runs::{files_of, run_merge};
 use crate::spelled::{SMALL, block, file_of};
 use std::alloc::Global;
@@ -28,14 +28,6 @@ fn check(
     Ok(())
 }
 
-/// A track of the file.
-const TRACK: Taken = Taken {
-    file: 0,
-    track: 1,
-    delay: 0,
-    shift: 0,
-};
-
 #[test]
 fn blocks_stand_by_the_greatest_tick_of_their_lane(rt: HostRuntime) -> Result<(), Fail> {
     let video = [block(1, 0, 1), block(1, 80, 2), block(1, 40, 3)];
@@ -46,21 +38,21 @@ fn blocks_stand_by_the_greatest_tick_of_their_lane(rt: HostRuntime) -> Result<()
             &video[0], &video[1], &video[2], &audio[0], &audio[1], &audio[2],
         ],
     )?;
-    let other = Taken { track: 2, ..TRACK };
+    let other = Taken { track: 2, ..FIRST };
     let lines = "lane 0: 0 [1]\nlane 1: 0 [4]\nlane 1: 40 [5]\n\
         lane 0: 80 [2]\nlane 0: 40 [3]\nlane 1: 80 [6]\n";
-    check(&rt, rt.alloc(), file.as_slice(), &[TRACK], &[other], lines)
+    check(&rt, rt.alloc(), file.as_slice(), &[FIRST], &[other], lines)
 }
 
 #[test]
 fn of_equal_ticks_the_first_lanes_blocks_stand_first(rt: HostRuntime) -> Result<(), Fail> {
-    let behind = Taken { shift: 20, ..TRACK };
+    let behind = Taken { shift: 20, ..FIRST };
     let early = Taken {
         delay: -10,
         shift: 10,
-        ..TRACK
+        ..FIRST
     };
     let lines = "lane 0: 0 [170]\nlane 0: 20 [187]\nlane 0: 20 [170]\n\
         lane 1: 20 [187]\nlane 0: 40 [187]\n";
-    check(&rt, rt.alloc(), &SMALL, &[TRACK, behind], &[early], lines)
+    check(&rt, rt.alloc(), &SMALL, &[FIRST, behind], &[early], lines)
 }

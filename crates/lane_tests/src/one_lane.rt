@@ -3,7 +3,7 @@
 ghost use Rattle.std.specs.Prelude.{◌≤◌, length};
 ghost use Rattle.merge_model.specs.declared.limits.TheConstants.{MOST_LINKS};
 
-use crate::links::{Taken, text_lane};
+use crate::links::{FIRST, SECOND, Taken, text_lane};
 use crate::runs::{files_of, run_lane};
 use crate::spelled::{SHORT, SMALL, block, file_of};
 use crate::telling::tell_lane;
@@ -41,10 +41,8 @@ fn a_delay_drops_what_stands_before_the_start(rt: HostRuntime) -> Result<(), Fai
         &[&blocks[0], &blocks[1], &blocks[2], &blocks[3]],
     )?;
     let early = Taken {
-        file: 0,
-        track: 1,
         delay: -1500,
-        shift: 0,
+        ..FIRST
     };
     check(
         &rt,
@@ -54,20 +52,6 @@ fn a_delay_drops_what_stands_before_the_start(rt: HostRuntime) -> Result<(), Fai
         "0 [3]\n500 [4]\n",
     )
 }
-
-const FIRST: Taken = Taken {
-    file: 0,
-    track: 1,
-    delay: 0,
-    shift: 0,
-};
-
-const SECOND: Taken = Taken {
-    file: 1,
-    track: 1,
-    delay: 0,
-    shift: 20,
-};
 
 #[test]
 fn a_file_goes_on_behind_one_that_is_damaged_inside(rt: HostRuntime) -> Result<(), Fail> {
