@@ -117,9 +117,9 @@ module _ {D : Type 0} (r : reads.Ghosts D) (d : disks.Ghosts D) (a b : D) (readi
 -- an edit leaves what comes to the same, and whatever else a run does leaves the disk
 pub touches-moment : {F D : Type 0} (r : reads.Ghosts D) (d : disks.Ghosts D) (name : Option (List ℕ)) (files files_now : F) (old new : D) (s : Status)
     → AtRest d old → ((m s : List ℕ) → IsTrue d.told → d.left_since old (d.moment old) m s → IsPairImage (d.pair old) m s) → Touches r d name files files_now old new s → AnyMoment d old new IsRecovering
-touches-moment r d (Some name) files files_now old new s rest only touches = touches.1.leaves.any_moment
-touches-moment r d None files files_now old new s rest only touches = λ told.
-    untouched d old new (rest told) (λ m s. only m s told) touches
+touches-moment r d (Some name) files files_now was now s rest only touches = touches.1.leaves.any_moment
+touches-moment r d None files files_now was now s rest only touches = λ told.
+    untouched d was now (rest told) (λ m s. only m s told) touches
 
 -- without memory nothing was touched, whatever was asked for
 pub touches-nothing : {F D : Type 0} (r : reads.Ghosts D) (d : disks.Ghosts D) (name : Option (List ℕ)) (files : F) (disk : D)

@@ -1,4 +1,5 @@
-use Rattle.std.proofs.Common.{refl}
+use Rattle.std.proofs.Common.{refl, ◌∙◌}
+use Rattle.std.specs.Process.{exit_status}
 use Rattle.mkv_recover.proofs.RecoverLemmas.{untouched}
 use Rattle.mkv_run.proofs.MergedLemmas.{code-merged}
 use Rattle.mkv_run.proofs.exit.program.Goals as goal
@@ -10,4 +11,5 @@ returns-in-Err-clause-any_moment g c = λ told.
 
 -- the exit status is that of the run, which has written its merge
 pub returns-in-Ok-clause-merged : goal.returns-in-Ok-clause-merged
-returns-in-Ok-clause-merged g c = λ below. code-merged _ _ _ c.run.result _ (cc) below c.run.ensures.merged
+returns-in-Ok-clause-merged g c =
+    rw c.in-Ok.is (λ below. code-merged _ _ _ c.run.result (exit_status c.from.result) (c.from.ensures ∙ c.code.ensures) below c.run.ensures.merged)
