@@ -1,4 +1,3 @@
 pub mod DiskLemmas
-pub mod FreshLemmas
 pub mod LogLemmas
 pub mod SoundLemmas

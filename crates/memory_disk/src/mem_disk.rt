@@ -60,7 +60,8 @@ fn is_too_long(done: Done) -> bool
 }
 
 impl MemDisk {
-    ghost use Rattle.memory_disk.specs.SeenDisk.{IsOnImage, Makes, crashed_by, failing_at, fresh, reads_in, room_for, stopping_at};
+    ghost use Rattle.mkv_disk.specs.Pair.{IsSynced};
+    ghost use Rattle.memory_disk.specs.SeenDisk.{IsOnImage, Makes, crashed_by, failing_at, fresh, pair_in, reads_in, room_for, stopping_at};
     ghost use Rattle.memory_disk.specs.DiskIn.{seen};
 
     /// A disk with these two files, of which nothing is pending. There is room for so many calls of `write_at`, `cut`
@@ -74,7 +75,8 @@ impl MemDisk {
     ) -> Result<MemDisk, AllocError>
         requires media { length media.now ≤ LONGEST_FILE }
         requires sidecar { length sidecar.now ≤ LONGEST_FILE }
-        ensures { IfOk result (λ disk. seen disk ≡ fresh media.now sidecar.now (room_for calls octets)) }
+        ensures exact { IfOk result (λ disk. seen disk ≡ fresh media.now sidecar.now (room_for calls octets)) }
+        ensures rests { IfOk result (λ disk. IsSynced (pair_in (seen disk))) }
     {
         Ok(MemDisk {
             alloc,
@@ -110,6 +112,7 @@ impl MemDisk {
     pub fn crashed(&self, alloc: Global, pick: u64) -> Result<MemDisk, AllocError>
         ensures exact { IfOk result (λ disk. seen disk ≡ crashed_by pick (seen self.now)) }
         ensures image { IfOk result (λ disk. IsOnImage (seen self.now) (seen disk)) }
+        ensures rests { IfOk result (λ disk. IsSynced (pair_in (seen disk))) }
     {
         let (media, sidecar) = left_by(pick);
         let media = self.files.pending(alloc, MEDIA)?.image(alloc, media)?;

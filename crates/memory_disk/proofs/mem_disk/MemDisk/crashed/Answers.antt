@@ -28,4 +28,4 @@ returns-clause-image c =
     if_ok _ _ c.new.result (λ disk is. record {
       media = subst (IsImage media) (sym (ap (λ (d : SeenDisk). (pair_in d).media.reads) is ∙ m)) (picked c.left_by-media.result.0 media c.args.self.now.media_sound);
       sidecar = subst (IsImage sidecar) (sym (ap (λ (d : SeenDisk). (pair_in d).sidecar.reads) is ∙ s)) (picked c.left_by-media.result.1 sidecar c.args.self.now.sidecar_sound);
-    }) c.new.ensures
+    }) c.new.ensures.exact
