@@ -52,7 +52,10 @@ fn a_call_fails_where_it_is_to_and_where_room_is_spent(rt: HostRuntime) -> Resul
     assert_eq!(rt; disk.write_at(MEDIA, 3, b"de"), Ok(()));
     assert_eq!(rt; disk.sync(MEDIA), Ok(()));
     assert_eq!(rt; disk.cut(MEDIA, 1), Err(Failed));
-    assert_eq!(rt; octets_of(rt.alloc(), &disk, MEDIA)?.as_slice(), b"abcde".as_slice());
+    assert_eq!(rt;
+        octets_of(rt.alloc(), &disk, MEDIA)?.as_slice(),
+        b"abcde".as_slice()
+    );
     disk.stop_at(6);
     assert!(rt; disk.open_pair("out.mkv").is_err());
     Ok(())

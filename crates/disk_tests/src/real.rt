@@ -21,10 +21,15 @@ fn a_pair_of_files_is_written_cut_and_synced(rt: HostRuntime) -> Result<(), Fail
     fresh_folder(&rt, "disk_test_pair")?;
     fs::write(&rt, "disk_test_pair/a.mkv", b"Matrojka".as_slice())?;
     let mut disk = RealDisk::new(rt.alloc(), &rt);
-    disk.open_pair("disk_test_pair/a.mkv").ok().ok_or("not opened")?;
+    disk.open_pair("disk_test_pair/a.mkv")
+        .ok()
+        .ok_or("not opened")?;
     assert_eq!(rt; disk.size(MEDIA), 8);
     assert_eq!(rt; disk.size(SIDECAR), 0);
-    assert_eq!(rt; fs::read(&rt, "disk_test_pair/a.mkv.mkvedit")?.as_slice(), b"".as_slice());
+    assert_eq!(rt;
+        fs::read(&rt, "disk_test_pair/a.mkv.mkvedit")?.as_slice(),
+        b"".as_slice()
+    );
 
     assert_eq!(rt; disk.write_at(MEDIA, 5, b"ska file"), Ok(()));
     assert_eq!(rt; disk.cut(MEDIA, 8), Ok(()));
@@ -35,8 +40,14 @@ fn a_pair_of_files_is_written_cut_and_synced(rt: HostRuntime) -> Result<(), Fail
     let mut octets = [0; 4];
     assert_eq!(rt; disk.read_at(SIDECAR, 2, &mut octets), Ok(()));
     assert_eq!(rt; octets, *b"side");
-    assert_eq!(rt; fs::read(&rt, "disk_test_pair/a.mkv")?.as_slice(), b"Matroska".as_slice());
-    assert_eq!(rt; fs::read(&rt, "disk_test_pair/a.mkv.mkvedit")?.as_slice(), b"beside".as_slice());
+    assert_eq!(rt;
+        fs::read(&rt, "disk_test_pair/a.mkv")?.as_slice(),
+        b"Matroska".as_slice()
+    );
+    assert_eq!(rt;
+        fs::read(&rt, "disk_test_pair/a.mkv.mkvedit")?.as_slice(),
+        b"beside".as_slice()
+    );
 
     fs::write(&rt, "disk_test_pair/a.mkv", b"cut".as_slice())?;
     assert_eq!(rt; disk.read_at(MEDIA, 4, &mut octets), Err(Failed));
@@ -79,8 +90,14 @@ fn a_stopped_edit_of_a_file_is_made_whole(rt: HostRuntime) -> Result<(), Fail> {
         let (status, report) = recover_on(rt.alloc(), "disk_test_recover/a.mkv", &mut disk)?;
         assert_eq!(rt; status, Status::Done);
         assert_eq!(rt; report.line(0), Some(line));
-        assert_eq!(rt; fs::read(&rt, "disk_test_recover/a.mkv")?.as_slice(), EDITED.as_slice());
-        assert_eq!(rt; fs::read(&rt, "disk_test_recover/a.mkv.mkvedit")?.as_slice(), [0].as_slice());
+        assert_eq!(rt;
+            fs::read(&rt, "disk_test_recover/a.mkv")?.as_slice(),
+            EDITED.as_slice()
+        );
+        assert_eq!(rt;
+            fs::read(&rt, "disk_test_recover/a.mkv.mkvedit")?.as_slice(),
+            [0].as_slice()
+        );
     }
     fs::remove_dir_all(&rt, "disk_test_recover")?;
     Ok(())

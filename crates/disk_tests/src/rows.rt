@@ -29,11 +29,13 @@ fn agrees(alloc: Global, row: &Row) -> Result<bool, Fail>
 {
     let mut disk = MemDisk::new(alloc, row.media, row.sidecar, 100, 4096)?;
     let (status, report) = recover_on(alloc, "out.mkv", &mut disk)?;
-    Ok(status == row.status
-        && report.line(0) == Some(row.line)
-        && report.line(1).is_none()
-        && octets_of(alloc, &disk, MEDIA)?.as_slice() == row.media_after
-        && octets_of(alloc, &disk, SIDECAR)?.as_slice() == row.sidecar_after)
+    Ok(
+        status == row.status
+            && report.line(0) == Some(row.line)
+            && report.line(1).is_none()
+            && octets_of(alloc, &disk, MEDIA)?.as_slice() == row.media_after
+            && octets_of(alloc, &disk, SIDECAR)?.as_slice() == row.sidecar_after,
+    )
 }
 
 /// A copy of octets with one of them set.
@@ -148,7 +150,10 @@ fn a_call_of_the_disk_that_fails_is_told(rt: HostRuntime) -> Result<(), Fail> {
         let mut left = crashed(rt.alloc(), &disk, 0)?;
         let (after, _) = recover_on(rt.alloc(), "out.mkv", &mut left)?;
         assert_eq!(rt; after, Status::Done);
-        assert_eq!(rt; octets_of(rt.alloc(), &left, MEDIA)?.as_slice(), EDITED.as_slice());
+        assert_eq!(rt;
+            octets_of(rt.alloc(), &left, MEDIA)?.as_slice(),
+            EDITED.as_slice()
+        );
     }
     Err("no run comes to its end".into())
 }

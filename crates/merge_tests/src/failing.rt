@@ -48,18 +48,17 @@ fn left_by(
     Ok(None)
 }
 
-/// The same of each call, from the first to the last one.
+/// The same of each call that fails, from the first to the last one. A call for a sidecar, of which there is none, doesn't.
 fn left_by_calls(
     rt: &(impl Abort + AllocGlobal),
     input: &[u8],
     kept: u64,
 ) -> Result<Vec<usize>, Fail> {
     let mut lengths = Vec::new(rt.alloc());
-    for call in 0..64 {
-        let Some(length) = left_by(rt, input, call, kept)? else {
-            break;
-        };
-        lengths.push(length)?;
+    for call in 0..40 {
+        if let Some(length) = left_by(rt, input, call, kept)? {
+            lengths.push(length)?;
+        }
     }
     Ok(lengths)
 }
@@ -74,7 +73,7 @@ fn a_call_of_the_files_that_fails_leaves_a_first_part(rt: HostRuntime) -> Result
             assert_eq!(rt; left.len(), none.len(), "{left:?}");
         }
         // the input is opened and read; the output is made, appended to three times, and written over twice
-        assert!(rt; (8..64).contains(&none.len()), "{none:?}");
+        assert!(rt; (8..36).contains(&none.len()), "{none:?}");
         // nothing is made; nothing is appended; the front stands; all stands but for what is written over
         none.dedup();
         assert_eq!(rt; none.as_slice(), [6, 0, 371, 393].as_slice());

@@ -44,9 +44,10 @@ fn later_blocks_are_read_behind_earlier_writes(rt: HostRuntime) -> Result<(), Fa
     let whole = with_clusters(&rt, &written("0100000000088D4F", ""))?;
     let mut reads_behind_writes = 0u32;
     let mut wrote = false;
-    for call in 0..200 {
+    for call in 0..80 {
+        // a call for a sidecar, of which there is none, doesn't fail
         let Some(len) = left_by(&rt, input.as_slice(), whole.as_slice(), call)? else {
-            break;
+            continue;
         };
         // an append that fails leaves an octet more than the front and some whole Clusters
         let is_append = len == 1 || len > 371 && (len - 371) % 70_018 == 1;

@@ -74,7 +74,13 @@ impl Outside {
             words.push(word.to_string(rt.alloc())?)?;
         }
         let mut disk = MemDisk::new(rt.alloc(), &[], &[], 0, 0)?;
-        Ok(run(rt.alloc(), &words, &mut self.files, &mut disk, &mut self.report))
+        Ok(run(
+            rt.alloc(),
+            &words,
+            &mut self.files,
+            &mut disk,
+            &mut self.report,
+        ))
     }
 
     /// What was said, a line each.
