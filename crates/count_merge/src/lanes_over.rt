@@ -4,14 +4,13 @@ ghost use Rattle.std.specs.Prelude.{◌≡◌, ◌≤◌, false, length, IfOk, I
 ghost use Rattle.std.specs.List.{All};
 ghost use Rattle.mkv_io.specs.Faults.{HasCause};
 ghost use Rattle.mkv_io.specs.LiveFiles.{LiveFiles};
-ghost use Rattle.mkv_io.specs.Sources.{IfTold, IsLive, live_files};
+ghost use Rattle.mkv_io.specs.Sources.{IsLive, live_files};
 ghost use Rattle.element_reader.specs.Outline.{is_outline_fault};
 ghost use Rattle.track_records.specs.Sound.{IsEntry};
 ghost use Rattle.output_model.specs.declared.TheConstants.{MOST_OF_PREFIX};
 ghost use Rattle.lanes.specs.Lane.{IsReady};
-ghost use Rattle.count_merge.specs.Counted.{file_lanes, track_lanes};
-ghost use Rattle.count_merge.specs.Open.{IsLaneOver, IsLinkOver, IsOpenFile, IsToldFile, opened_events};
-ghost use Rattle.count_merge.specs.Read.{ReadsLanes};
+ghost use Rattle.count_merge.specs.Open.{IsLaneOver, IsLinkOver, IsOpenFile};
+ghost use Rattle.count_merge.specs.Read.{ReadsFileLanes, ReadsLanesOver};
 
 use element_reader::{Outline, OutlineEnd};
 use file_records::{Records, read_records, scale_of};
@@ -78,7 +77,7 @@ fn lane_over(
 fn lanes_over(alloc: Global, opened: &ReadyFile, tracks: &[Track]) -> Result<List<Lane>, OutlineEnd>
     requires { All (λ t. IsEntry t.entry) tracks.now }
     ensures ready { (f : LiveFiles) → IsOpenFile f opened.now → IfOk result (All (IsReady f)) }
-    ensures exact { (f : LiveFiles) → IsToldFile f opened.now → ReadsLanes f (track_lanes (opened_events f opened.now) tracks.now) result }
+    ensures exact { (f : LiveFiles) → ReadsLanesOver f opened.now tracks.now result }
     ensures cause { IfErr result (λ end. is_outline_fault end ≡ false) }
 {
     let mut lanes = List::new(alloc);
@@ -97,7 +96,7 @@ pub fn file_lanes<R: Reads>(
     file: FileId,
 ) -> Result<List<Lane>, OutlineEnd>
     requires { IsLive R.Reads src.old file }
-    ensures exact { IfTold R.Reads src.old file (λ bytes. ReadsLanes (live_files R.Reads src.new) (file_lanes bytes) result) }
+    ensures exact { ReadsFileLanes R.Reads src.old src.new file result }
     ensures ready { IfOk result (All (IsReady (live_files R.Reads src.new))) }
     ensures standing { R.standing src.new ≡ R.standing src.old }
     ensures cause { HasCause is_outline_fault (R.reading_faults src.old) (R.reading_faults src.new) result }
