@@ -42,7 +42,7 @@ pub fn failing(
 ) -> Result<MemDisk, AllocError>
     requires media { length media.now ≤ LONGEST_FILE }
     requires sidecar { length sidecar.now ≤ LONGEST_FILE }
-    ensures { IfOk result (λ disk. IsSynced (pair_in (seen disk))) }
+    ensures { IfOk result (λ disk. pair_in (seen disk) ≡ both media.now sidecar.now) }
 {
     let mut disk = MemDisk::new(alloc, media, sidecar, 100, 4096)?;
     disk.fail_at(call)?;

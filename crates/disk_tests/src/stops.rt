@@ -8,7 +8,7 @@ ghost use Rattle.sidecar_format.specs.Recovery.{IsQuiet};
 ghost use Rattle.disk_tests.specs.declared.data.TheConstants.{FILE};
 
 use crate::data::{EDITED, FILE, PAYLOAD, PLACES};
-use crate::running::{copied, octets_of, recover_on, stopped, stopped_copy};
+use crate::running::{copied, failing, octets_of, recover_on, stopped, stopped_copy};
 use memory_disk::MemDisk;
 use mkv_disk::{Disk, MEDIA};
 use mkv_lines::Status;
@@ -70,11 +70,16 @@ fn recovered(alloc: Global, left: &MemDisk) -> Result<Vec<u8>, Fail> {
     octets_of(alloc, &disk, MEDIA)
 }
 
+/// Whether these are the octets of the file or of the edited one.
+fn is_either(file: &[u8]) -> bool {
+    file == FILE.as_slice() || file == EDITED.as_slice()
+}
+
 /// Whether `recover`, stopped at any call and crashed with any image, and then run again, makes the file that it makes
 /// without a stop; which is the file or the edited one.
 fn recovers(alloc: Global, left: &MemDisk) -> Result<bool, Fail> {
     let file = recovered(alloc, left)?;
-    if file.as_slice() != FILE.as_slice() && file.as_slice() != EDITED.as_slice() {
+    if !is_either(&file) {
         return Ok(false);
     }
     for stop in 0..100 {
@@ -113,6 +118,31 @@ fn is_safe(alloc: Global, sidecar: &[u8]) -> Result<bool, Fail>
         }
     }
     Ok(false)
+}
+
+/// Whether each image that a crash leaves is recovered to the file or to the edited one.
+fn comes_to_either(alloc: Global, disk: &MemDisk) -> Result<bool, Fail> {
+    for pick in 0..6 {
+        if !is_either(&recovered(alloc, &disk.crashed(alloc, pick)?)?) {
+            return Ok(false);
+        }
+    }
+    Ok(true)
+}
+
+#[test]
+fn an_edit_of_which_a_call_fails_tells_it_and_is_recovered(rt: HostRuntime) -> Result<(), Fail> {
+    let plan = plan(rt.alloc())?;
+    for call in 0..100 {
+        let mut disk = failing(rt.alloc(), &FILE, &[], call)?;
+        let whole = edit(&plan, &mut disk).is_ok();
+        assert!(rt; comes_to_either(rt.alloc(), &disk)?);
+        if whole {
+            assert!(rt; call > 10);
+            return Ok(());
+        }
+    }
+    Err("no edit comes to its end".into())
 }
 
 #[test]
