@@ -1,0 +1,146 @@
+//! An AttachedFile: RFC 9559, section 5.1.6 (Attachments Element).
+
+ghost use Rattle.std.specs.Prelude.{◌≡◌, ℕ, List, IfOk};
+ghost use Rattle.std.specs.Option.{option_or};
+ghost use Rattle.mkv_schema.specs.declared.ids.TheConstants.{ATTACHED_FILE as ATTACHED_ID, FILE_UID as FILE_UID_ID};
+ghost use Rattle.mkv_io.specs.Faults.{HasCause};
+ghost use Rattle.mkv_io.specs.Sources.{IfTold, IsLive, file_size};
+ghost use Rattle.matroska_format.specs.Element.{known};
+ghost use Rattle.tree_format.specs.Standing.{IsSoundOf};
+ghost use Rattle.tree_format.specs.Values.{uint_in};
+ghost use Rattle.output_model.specs.Sound.{IsAttachment};
+ghost use Rattle.attachment_reading.specs.Attachments.{at_part, attachment_of, children_of, data_in, entry_of, met_in, missing_data};
+ghost use Rattle.attachment_reading.specs.Walk.{IsChild, Meets, Pays, data_at, is_attachments_fault};
+
+use crate::counts::Counts;
+use crate::end::AttachmentsEnd;
+use crate::part::{Part, read_part};
+use attachment_records::Attachment;
+use ebml_tree::Tree;
+use element_bodies::known;
+use element_headers::{Header, damage};
+use mkv_io::Reads;
+use mkv_schema::ids::{ATTACHED_FILE, FILE_DATA, FILE_UID};
+use mkv_values::{Damage, FileId, Kind};
+use std::alloc::Global;
+use tree_building::empty;
+
+// An AttachedFile with one FileData, which is empty, and the header of its first, if it has one.
+#[derive(Drop)]
+struct Parts {
+    entry: Tree,
+    data: Option<Header>,
+}
+
+// Reads the children of an AttachedFile, and counts them.
+fn read_parts<R: Reads>(
+    alloc: Global,
+    src: &mut R,
+    file: FileId,
+    counts: &mut Counts,
+    attached: &Header,
+) -> Result<Parts, AttachmentsEnd>
+    requires live { IsLive R.Reads src.old file }
+    requires child { IsChild attached.now.offset (file_size R.Reads src.old file) attached.now }
+    ensures meets { IfTold R.Reads src.old file (λ bytes. Meets (met_in (at_part bytes) (children_of bytes attached.now)) counts.old counts.new result) }
+    ensures entry { IfOk result (λ parts. IfTold R.Reads src.old file (λ bytes. parts.entry ≡ entry_of bytes attached.now)) }
+    ensures data { IfOk result (λ parts. IfTold R.Reads src.old file (λ bytes. parts.data ≡ data_in bytes attached.now)) }
+    ensures sound { IfOk result (λ parts. IsAttachment parts.entry) }
+    ensures standing { R.standing src.new ≡ R.standing src.old }
+    ensures cause { HasCause is_attachments_fault (R.reading_faults src.old) (R.reading_faults src.new) result }
+    ensures pays { Pays (λ _. known attached.now.size) (known attached.now.size) counts.old counts.new (R.octets_read src.old) (R.octets_read src.new) result }
+{
+    let end = attached.body + known(attached.size);
+    let mut entry = empty(alloc, ATTACHED_FILE, attached.offset)?;
+    let mut data = None;
+    let mut at = attached.body;
+    while at < end {
+        let Part { header, leaf } = read_part(alloc, src, file, counts, at, end)?;
+        entry.push(leaf)?;
+        data = first_data(data, &header);
+        at = header.body + known(header.size);
+    }
+    entry.set(Tree::leaf(alloc, FILE_DATA, &[])?)?;
+    Ok(Parts { entry, data })
+}
+
+// The FileData that was found first, or this child, if it is one.
+fn first_data(data: Option<Header>, child: &Header) -> Option<Header>
+    ensures { result ≡ option_or data (data_at child.now) }
+{
+    if child.id == FILE_DATA {
+        data.or(Some(*child))
+    } else {
+        data
+    }
+}
+
+// The FileUID, 0 where there is none.
+fn uid_of(entry: &Tree) -> u64
+    requires { IsSoundOf ATTACHED_ID entry.now }
+    ensures { result ≡ uint_in FILE_UID_ID entry.now }
+{
+    match entry.child(FILE_UID) {
+        Some(uid) => uid.uint(),
+        None => 0,
+    }
+}
+
+/// An attached file, and what is told where it has no data.
+#[derive(Drop)]
+pub(crate) struct Attached {
+    pub attachment: Attachment,
+    pub missing: Option<Damage>,
+}
+
+// The attached file that these parts make.
+fn attached_of(file: FileId, attached: &Header, parts: Parts) -> Attached
+    requires { IsSoundOf ATTACHED_ID parts.entry }
+    ensures attachment { (bytes : List ℕ) → parts.entry ≡ entry_of bytes attached.now → parts.data ≡ data_in bytes attached.now
+        → result.attachment ≡ attachment_of bytes file attached.now }
+    ensures missing { (bytes : List ℕ) → parts.data ≡ data_in bytes attached.now → result.missing ≡ missing_data bytes attached.now }
+    ensures entry { result.attachment.entry ≡ parts.entry }
+{
+    let Parts { entry, data } = parts;
+    let uid = uid_of(&entry);
+    let (at, len, missing) = match data {
+        Some(data) => (data.body, known(data.size), None),
+        None => {
+            let missing = damage(Kind::MissingChild, FILE_DATA, attached.offset);
+            (0, 0, Some(missing))
+        }
+    };
+    let attachment = Attachment {
+        uid,
+        file,
+        at,
+        len,
+        entry,
+    };
+    Attached {
+        attachment,
+        missing,
+    }
+}
+
+/// Reads an AttachedFile, and counts what is inside. The bodies of FileData are left alone.
+pub(crate) fn read_attached<R: Reads>(
+    alloc: Global,
+    src: &mut R,
+    file: FileId,
+    counts: &mut Counts,
+    attached: &Header,
+) -> Result<Attached, AttachmentsEnd>
+    requires live { IsLive R.Reads src.old file }
+    requires child { IsChild attached.now.offset (file_size R.Reads src.old file) attached.now }
+    ensures meets { IfTold R.Reads src.old file (λ bytes. Meets (met_in (at_part bytes) (children_of bytes attached.now)) counts.old counts.new result) }
+    ensures exact { IfOk result (λ one. IfTold R.Reads src.old file (λ bytes. one.attachment ≡ attachment_of bytes file attached.now)) }
+    ensures missing { IfOk result (λ one. IfTold R.Reads src.old file (λ bytes. one.missing ≡ missing_data bytes attached.now)) }
+    ensures sound { IfOk result (λ one. IsAttachment one.attachment.entry) }
+    ensures standing { R.standing src.new ≡ R.standing src.old }
+    ensures cause { HasCause is_attachments_fault (R.reading_faults src.old) (R.reading_faults src.new) result }
+    ensures pays { Pays (λ _. known attached.now.size) (known attached.now.size) counts.old counts.new (R.octets_read src.old) (R.octets_read src.new) result }
+{
+    let parts = read_parts(alloc, src, file, counts, attached)?;
+    Ok(attached_of(file, attached, parts))
+}
