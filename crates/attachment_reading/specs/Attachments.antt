@@ -117,7 +117,7 @@ attached_in bytes h = filter is_attached (children_of bytes h).list
 
 -- the AttachedFile that is one too many
 abbrev pub too_many_files : List Header → Option Damage
-too_many_files files = option_map (told_at TooMany) (slice_get files MOST_ATTACHED)
+too_many_files files = option_map (λ (h : Header). damage TooMany ATTACHED_FILE h.offset) (slice_get files MOST_ATTACHED)
 
 -- what refuses an Attachments Element, in the order in which it is told
 abbrev pub attachments_causes : List ℕ → Header → List (Option Damage)

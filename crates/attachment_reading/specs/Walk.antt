@@ -1,6 +1,6 @@
 -- What the calls that read attached files answer, and what they read.
-use Rattle.std.specs.Prelude.{◌≡◌, ◌≤◌, ⊤, ℕ, ◌+◌, ◌*◌, ◌==◌, Bool, true, false, if◌then◌else◌, List, [], ◌∷◌, ◌++◌, map, filter, slice_get, All, Option, Some, None, Result, Ok, Err}
-use Rattle.std.specs.Option.{option_map}
+use Rattle.std.specs.Prelude.{◌≡◌, ◌≤◌, ⊤, ℕ, ◌+◌, ◌*◌, ◌==◌, Bool, true, false, if◌then◌else◌, List, [], ◌∷◌, ◌++◌, map, filter, slice_get, Option, Some, None, IfSome, Result, Ok, Err}
+use Rattle.std.specs.Option.{option_map, option_or}
 use Rattle.ebml_format.specs.Number.{is_id}
 use Rattle.mkv_schema.specs.declared.ids.TheConstants.{ATTACHED_FILE, FILE_DATA}
 use Rattle.mkv_values.specs.declared.damage.Damage.{Damage}
@@ -15,7 +15,8 @@ use Rattle.tree_format.specs.Node.{Node, depth, offset_of}
 use Rattle.tree_format.specs.Standing.{StandsIn}
 use Rattle.output_model.specs.Sound.{IsAttachment}
 use Rattle.attachment_records.specs.declared.attachment.Attachment.{Attachment}
-use Rattle.attachment_reading.specs.Attachments.{Met, attached_in, attachment_of, is_attached, leaf_of, missing_data, no_value, part_of, refused_from, refused_in}
+use Rattle.attachment_reading.specs.Attachments.{Met, attached_in, attachment_of, data_in, entry_of, is_attached, leaf_of, missing_data, no_value, part_of, refused_from, refused_in}
+use Rattle.attachment_reading.specs.declared.attached.Parts.{Parts}
 use Rattle.attachment_reading.specs.declared.attachments.Found.{Found}
 use Rattle.attachment_reading.specs.declared.counts.Counts.{Counts}
 use Rattle.attachment_reading.specs.declared.end.AttachmentsEnd.{AttachmentsEnd}
@@ -87,7 +88,7 @@ pub record IsPartLeaf (n : Node) : Type 0 where
 -- These children of Attachments are read besides: the AttachedFiles among them.
 pub record Adds (bytes : List ℕ) (file : FileId) (children : List Header) (old new : Found) : Type 0 where
   pub attachments : new.attachments ≡ old.attachments ++ map (attachment_of bytes file) (filter is_attached children)
-  pub missing : new.missing ≡ first_refusal old.missing (first_damage (map (missing_data bytes) (filter is_attached children)))
+  pub missing : new.missing ≡ option_or old.missing (first_damage (map (missing_data bytes) (filter is_attached children)))
 
 -- A child of Attachments was read at a place; behind it is the next.
 pub record ReadsChild (bytes : List ℕ) (file : FileId) (at end next : ℕ) (old new : Found) : Type 0 where
@@ -96,9 +97,21 @@ pub record ReadsChild (bytes : List ℕ) (file : FileId) (at end next : ℕ) (ol
   pub behind : next ≡ stated_end child
   pub adds : Adds bytes file (child ∷ []) old new
 
--- the entries of attached files can be written and read again
-abbrev pub AreSound : List Attachment → Type 0
-AreSound attachments = All (λ (a : Attachment). IsAttachment a.entry) attachments
+-- An attached file whose entry can be written and read again, and whose data stand in this file before a place.
+pub record IsAttachedIn (file : FileId) (end : ℕ) (a : Attachment) : Type 0 where
+  pub entry : IsAttachment a.entry
+  pub same : a.file ≡ file
+  pub inside : a.at + a.len ≤ end
+
+-- The children of an AttachedFile: its entry, and the header of its first FileData.
+pub record ArePartsOf (bytes : List ℕ) (attached : Header) (parts : Parts) : Type 0 where
+  pub entry : parts.entry ≡ entry_of bytes attached
+  pub first : parts.first ≡ data_in bytes attached
+
+-- The entry can be written and read again, and the data end before a place.
+pub record AreSoundParts (end : ℕ) (parts : Parts) : Type 0 where
+  pub entry : IsAttachment parts.entry
+  pub inside : IfSome parts.first (λ (d : Header). stated_end d ≤ end)
 
 -- All children of an Attachments Element were met, and none refuses: its attached files, and what is told of the
 -- first that has no data.

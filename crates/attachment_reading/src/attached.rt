@@ -5,12 +5,11 @@ ghost use Rattle.std.specs.Option.{option_or};
 ghost use Rattle.mkv_schema.specs.declared.ids.TheConstants.{ATTACHED_FILE as ATTACHED_ID, FILE_UID as FILE_UID_ID};
 ghost use Rattle.mkv_io.specs.Faults.{HasCause};
 ghost use Rattle.mkv_io.specs.Sources.{IfTold, IsLive, file_size};
-ghost use Rattle.matroska_format.specs.Element.{known};
+ghost use Rattle.matroska_format.specs.Element.{known, stated_end};
 ghost use Rattle.tree_format.specs.Standing.{IsSoundOf};
 ghost use Rattle.tree_format.specs.Values.{uint_in};
-ghost use Rattle.output_model.specs.Sound.{IsAttachment};
-ghost use Rattle.attachment_reading.specs.Attachments.{at_part, attachment_of, children_of, data_in, entry_of, met_in, missing_data};
-ghost use Rattle.attachment_reading.specs.Walk.{IsChild, Meets, Pays, data_at, is_attachments_fault};
+ghost use Rattle.attachment_reading.specs.Attachments.{at_part, attachment_of, children_of, met_in, missing_data};
+ghost use Rattle.attachment_reading.specs.Walk.{ArePartsOf, AreSoundParts, IsAttachedIn, IsChild, Meets, Pays, data_at, is_attachments_fault};
 
 use crate::counts::Counts;
 use crate::end::AttachmentsEnd;
@@ -25,11 +24,11 @@ use mkv_values::{Damage, FileId, Kind};
 use std::alloc::Global;
 use tree_building::empty;
 
-// An AttachedFile with one FileData, which is empty, and the header of its first, if it has one.
+/// An AttachedFile with one FileData, which is empty, and the header of its first, if it has one.
 #[derive(Drop)]
-struct Parts {
-    entry: Tree,
-    data: Option<Header>,
+pub(crate) struct Parts {
+    pub entry: Tree,
+    pub first: Option<Header>,
 }
 
 // Reads the children of an AttachedFile, and counts them.
@@ -43,35 +42,34 @@ fn read_parts<R: Reads>(
     requires live { IsLive R.Reads src.old file }
     requires child { IsChild attached.now.offset (file_size R.Reads src.old file) attached.now }
     ensures meets { IfTold R.Reads src.old file (λ bytes. Meets (met_in (at_part bytes) (children_of bytes attached.now)) counts.old counts.new result) }
-    ensures entry { IfOk result (λ parts. IfTold R.Reads src.old file (λ bytes. parts.entry ≡ entry_of bytes attached.now)) }
-    ensures data { IfOk result (λ parts. IfTold R.Reads src.old file (λ bytes. parts.data ≡ data_in bytes attached.now)) }
-    ensures sound { IfOk result (λ parts. IsAttachment parts.entry) }
+    ensures exact { IfOk result (λ parts. IfTold R.Reads src.old file (λ bytes. ArePartsOf bytes attached.now parts)) }
+    ensures sound { IfOk result (AreSoundParts (stated_end attached.now)) }
     ensures standing { R.standing src.new ≡ R.standing src.old }
     ensures cause { HasCause is_attachments_fault (R.reading_faults src.old) (R.reading_faults src.new) result }
     ensures pays { Pays (λ _. known attached.now.size) (known attached.now.size) counts.old counts.new (R.octets_read src.old) (R.octets_read src.new) result }
 {
     let end = attached.body + known(attached.size);
     let mut entry = empty(alloc, ATTACHED_FILE, attached.offset)?;
-    let mut data = None;
+    let mut first = None;
     let mut at = attached.body;
     while at < end {
         let Part { header, leaf } = read_part(alloc, src, file, counts, at, end)?;
         entry.push(leaf)?;
-        data = first_data(data, &header);
+        first = first_data(first, &header);
         at = header.body + known(header.size);
     }
     entry.set(Tree::leaf(alloc, FILE_DATA, &[])?)?;
-    Ok(Parts { entry, data })
+    Ok(Parts { entry, first })
 }
 
 // The FileData that was found first, or this child, if it is one.
-fn first_data(data: Option<Header>, child: &Header) -> Option<Header>
-    ensures { result ≡ option_or data (data_at child.now) }
+fn first_data(first: Option<Header>, child: &Header) -> Option<Header>
+    ensures { result ≡ option_or first (data_at child.now) }
 {
     if child.id == FILE_DATA {
-        data.or(Some(*child))
+        first.or(Some(*child))
     } else {
-        data
+        first
     }
 }
 
@@ -95,16 +93,15 @@ pub(crate) struct Attached {
 
 // The attached file that these parts make.
 fn attached_of(file: FileId, attached: &Header, parts: Parts) -> Attached
-    requires { IsSoundOf ATTACHED_ID parts.entry }
-    ensures attachment { (bytes : List ℕ) → parts.entry ≡ entry_of bytes attached.now → parts.data ≡ data_in bytes attached.now
-        → result.attachment ≡ attachment_of bytes file attached.now }
-    ensures missing { (bytes : List ℕ) → parts.data ≡ data_in bytes attached.now → result.missing ≡ missing_data bytes attached.now }
-    ensures entry { result.attachment.entry ≡ parts.entry }
+    requires { AreSoundParts (stated_end attached.now) parts }
+    ensures exact { (bytes : List ℕ) → ArePartsOf bytes attached.now parts → result.attachment ≡ attachment_of bytes file attached.now }
+    ensures missing { (bytes : List ℕ) → ArePartsOf bytes attached.now parts → result.missing ≡ missing_data bytes attached.now }
+    ensures sound { IsAttachedIn file (stated_end attached.now) result.attachment }
 {
-    let Parts { entry, data } = parts;
+    let Parts { entry, first } = parts;
     let uid = uid_of(&entry);
-    let (at, len, missing) = match data {
-        Some(data) => (data.body, known(data.size), None),
+    let (at, len, missing) = match first {
+        Some(header) => (header.body, known(header.size), None),
         None => {
             let missing = damage(Kind::MissingChild, FILE_DATA, attached.offset);
             (0, 0, Some(missing))
@@ -136,7 +133,7 @@ pub(crate) fn read_attached<R: Reads>(
     ensures meets { IfTold R.Reads src.old file (λ bytes. Meets (met_in (at_part bytes) (children_of bytes attached.now)) counts.old counts.new result) }
     ensures exact { IfOk result (λ one. IfTold R.Reads src.old file (λ bytes. one.attachment ≡ attachment_of bytes file attached.now)) }
     ensures missing { IfOk result (λ one. IfTold R.Reads src.old file (λ bytes. one.missing ≡ missing_data bytes attached.now)) }
-    ensures sound { IfOk result (λ one. IsAttachment one.attachment.entry) }
+    ensures sound { IfOk result (λ one. IsAttachedIn file (stated_end attached.now) one.attachment) }
     ensures standing { R.standing src.new ≡ R.standing src.old }
     ensures cause { HasCause is_attachments_fault (R.reading_faults src.old) (R.reading_faults src.new) result }
     ensures pays { Pays (λ _. known attached.now.size) (known attached.now.size) counts.old counts.new (R.octets_read src.old) (R.octets_read src.new) result }

@@ -1,17 +1,17 @@
 //! All attached files of a file: RFC 9559, section 5.1.6 (Attachments Element).
 
-ghost use Rattle.std.specs.Prelude.{◌≡◌, ◌+◌, ◌-◌, ◌*◌, ◌<◌, ◌≤◌, false, IfOk, OnOk};
+ghost use Rattle.std.specs.Prelude.{◌≡◌, ◌+◌, ◌-◌, ◌*◌, ◌<◌, ◌≤◌, false, All, IfOk, OnOk};
 ghost use Rattle.mkv_io.specs.Faults.{HasCause};
 ghost use Rattle.mkv_io.specs.Sources.{IfTold, IsLive, file_size};
 ghost use Rattle.matroska_format.specs.Element.{element_at, in_master, is_unknown, known, stated_end};
 ghost use Rattle.attachment_reading.specs.declared.limits.TheConstants.{MOST_OF_ATTACHMENTS};
 ghost use Rattle.attachment_reading.specs.Attachments.{at_child, attachments_in, child_of};
-ghost use Rattle.attachment_reading.specs.Walk.{AreSound, Meets, Pays, ReadsAs, ReadsChild, WalksAll, good_files, is_attachments_fault, met_at};
+ghost use Rattle.attachment_reading.specs.Walk.{IsAttachedIn, Meets, Pays, ReadsAs, ReadsChild, WalksAll, good_files, is_attachments_fault, met_at};
 
 use crate::attached::{Attached, read_attached};
 use crate::counts::Counts;
 use crate::end::AttachmentsEnd;
-use crate::header::child_at;
+use crate::header::child_header;
 use crate::limits::MOST_ATTACHED;
 use attachment_records::Attachment;
 use element_bodies::known;
@@ -56,12 +56,12 @@ fn read_child<R: Reads>(
     ensures meets { IfTold R.Reads src.old file (λ bytes. Meets (met_at (at_child bytes) (element_at in_master bytes at end)) counts.old counts.new result) }
     ensures adds { IfOk result (λ next. IfTold R.Reads src.old file (λ bytes. ReadsChild bytes file at end next found.old found.new)) }
     ensures next { IfOk result (λ next. (at < next) × (next ≤ end)) }
-    ensures sound { AreSound found.old.attachments → OnOk result (AreSound found.new.attachments) }
+    ensures sound { All (IsAttachedIn file end) found.old.attachments → OnOk result (All (IsAttachedIn file end) found.new.attachments) }
     ensures standing { R.standing src.new ≡ R.standing src.old }
     ensures cause { HasCause is_attachments_fault (R.reading_faults src.old) (R.reading_faults src.new) result }
     ensures pays { Pays (λ next. next - at) (end - at) counts.old counts.new (R.octets_read src.old) (R.octets_read src.new) result }
 {
-    let child = child_at(src, file, at, end)?;
+    let child = child_header(src, file, at, end)?;
     counts.add(&child, counted_of(&child))?;
     let next = child.body + known(child.size);
     if child.id != ATTACHED_FILE {
@@ -87,7 +87,7 @@ fn read_children<R: Reads>(
     requires known { is_unknown header.now.size ≡ false }
     requires inside { stated_end header.now ≤ file_size R.Reads src.old file }
     ensures exact { IfTold R.Reads src.old file (λ bytes. WalksAll bytes file header.now result) }
-    ensures sound { IfOk result (λ found. AreSound found.attachments) }
+    ensures sound { IfOk result (λ found. All (IsAttachedIn file (stated_end header.now)) found.attachments) }
     ensures standing { R.standing src.new ≡ R.standing src.old }
     ensures cause { HasCause is_attachments_fault (R.reading_faults src.old) (R.reading_faults src.new) result }
     ensures octets { R.octets_read src.new ≤ R.octets_read src.old + 16 * known header.now.size }
@@ -138,8 +138,8 @@ pub fn read_attachments<R: Reads>(
     requires inside { stated_end header.now ≤ file_size R.Reads src.old file }
     ensures exact { IfTold R.Reads src.old file (λ bytes. ReadsAs (attachments_in bytes file header.now) result) }
 
-    // Their entries can be written and read again.
-    ensures sound { IfOk result AreSound }
+    // Their entries can be written and read again, and their data stand in the file.
+    ensures sound { IfOk result (All (IsAttachedIn file (stated_end header.now))) }
     ensures standing { R.standing src.new ≡ R.standing src.old }
     ensures cause { HasCause is_attachments_fault (R.reading_faults src.old) (R.reading_faults src.new) result }
 

@@ -13,7 +13,7 @@ use mkv_values::FileId;
 
 /// The child at `at` octets behind the start of a file, of a master that isn't read whole and ends at `end`. No
 /// octet behind that end is read.
-pub(crate) fn child_at<R: Reads>(
+pub(crate) fn child_header<R: Reads>(
     src: &mut R,
     file: FileId,
     at: u64,

@@ -10,7 +10,7 @@ ghost use Rattle.attachment_reading.specs.Walk.{IsChild, IsPart, IsPartLeaf, Mee
 
 use crate::counts::Counts;
 use crate::end::AttachmentsEnd;
-use crate::header::child_at;
+use crate::header::child_header;
 use ebml_tree::Tree;
 use element_bodies::{is_known_value, known};
 use element_headers::{Header, damage_at};
@@ -105,7 +105,7 @@ pub(crate) fn read_part<R: Reads>(
     ensures cause { HasCause is_attachments_fault (R.reading_faults src.old) (R.reading_faults src.new) result }
     ensures pays { Pays (λ part. stated_end part.header - at) (end - at) counts.old counts.new (R.octets_read src.old) (R.octets_read src.new) result }
 {
-    let header = child_at(src, file, at, end)?;
+    let header = child_header(src, file, at, end)?;
     counts.add(&header, counted_of(&header))?;
     let leaf = leaf_of(alloc, src, file, &header)?;
     Ok(Part { header, leaf })

@@ -1,0 +1,138 @@
+-- The children of an AttachedFile, one at a time.
+use Rattle.std.proofs.Common.{◌≡◌, ◌<◌, ◌≤◌, ℕ, ◌==◌, Bool, true, false, if◌then◌else◌, List, [], ◌∷◌, ◌++◌, length, map, Option, Some, None, IfSome, Result, Ok, Err, refl, sym, ◌∙◌, ap, subst, arith, append-nil, append_assoc, unwrap_or}
+use Rattle.std.specs.Option.{option_map, option_or}
+use Rattle.mkv_schema.specs.declared.ids.TheConstants.{ATTACHED_FILE, FILE_DATA, FILE_UID}
+use Rattle.matroska_format.specs.declared.element.Header.{Header}
+use Rattle.matroska_format.specs.Element.{in_master, element_at, end_in, stated_end}
+use Rattle.matroska_format.specs.Elements.{Run, never}
+use Rattle.matroska_format.specs.Value.{first_of, is_known_value}
+use Rattle.matroska_format.proofs.ElementsLemmas.{elements-end}
+use Rattle.mkv_schema.specs.Table.{table}
+use Rattle.mkv_schema.specs.Schema.{entry_of, uint_default}
+use Rattle.tree_format.specs.Values.{first_child, integer_of, uint_in}
+use Rattle.tree_format.specs.Node.{Node, leaf, master, nodes_of, id_of, body_of, children, with_children, depth, depth_all, IsMaster}
+use Rattle.tree_format.specs.Changes.{AreTooLong, part, with_child}
+use Rattle.tree_format.specs.Standing.{IsSound}
+use Rattle.tree_format.proofs.NodeLemmas.{list-nodes}
+use Rattle.tree_format.proofs.ChangeLemmas.{deep-with_child}
+use Rattle.tree_format.proofs.PartLemmas.{part-set}
+use Rattle.tree_building.specs.Building.{IsBuilt}
+use Rattle.tree_building.proofs.BuildLemmas.{IsPut, built-limits, built-push}
+use Rattle.output_model.specs.Sound.{IsAttachment}
+use Rattle.attachment_reading.specs.Attachments.{children_of, leaf_of}
+use Rattle.attachment_reading.specs.Attachments as spec
+use Rattle.attachment_reading.specs.Walk.{IsPartLeaf, data_at}
+use Rattle.attachment_reading.proofs.MetLemmas.{run_at, run_at-step}
+use Rattle.attachment_reading.proofs.TableFacts.{no_master-in}
+use Rattle.ebml_format.specs.Number.{is_id}
+
+-- ---- a leaf of it
+
+pub leaf-stands : (id : ℕ) (body : List ℕ) (n : Node) → is_id id ≡ true → is_known_value ATTACHED_FILE id body ≡ true → n ≡ leaf id 0 body → IsPartLeaf n
+leaf-stands id body n valid value is =
+    let P : Node → Type 0 = IsPartLeaf in
+    subst P (sym is) (record { stands = record { id_stands = valid; no_master = no_master-in id; value = value }; flat = refl })
+
+-- ---- on the way
+
+-- Of the Elements from a place on those up to another are these leaves, and the first FileData is this or one behind them.
+pub record AreRead (bytes : List ℕ) (from p e : ℕ) (ns : List Node) (kept : Option Header) : Type 0 where
+  pub leaves : map (leaf_of bytes) (run_at bytes from e).list ≡ ns ++ map (leaf_of bytes) (run_at bytes p e).list
+  pub first : first_of FILE_DATA (run_at bytes from e).list ≡ option_or kept (first_of FILE_DATA (run_at bytes p e).list)
+
+pub AreRead-none : (bytes : List ℕ) (p e : ℕ) → AreRead bytes p p e [] None
+AreRead-none bytes p e = record { leaves = refl; first = refl }
+
+-- the first of some headers
+first-more : (kept : Option Header) (h : Header) (rest : List Header) → option_or kept (first_of FILE_DATA (h ∷ rest)) ≡ option_or (option_or kept (data_at h)) (first_of FILE_DATA rest)
+first-more (Some d) h rest = refl
+first-more None h rest = split (h.id == FILE_DATA)
+  where
+    split : (b : Bool) → (if b then Some h else first_of FILE_DATA rest) ≡ option_or (if b then Some h else None) (first_of FILE_DATA rest)
+    split true = refl
+    split false = refl
+
+pub AreRead-more : (bytes : List ℕ) (from p e : ℕ) (ns : List Node) (kept : Option Header) (h : Header) (n : Node) → AreRead bytes from p e ns kept → p < e → element_at in_master bytes p e ≡ Ok h → n ≡ leaf_of bytes h
+    → AreRead bytes from (stated_end h) e (ns ++ n ∷ []) (option_or kept (data_at h))
+AreRead-more bytes from p e ns kept h n are inside found is =
+    let rest = run_at bytes (stated_end h) e in
+    let step = run_at-step bytes p e (Ok h) inside found in
+    record {
+      leaves =
+          are.leaves ∙ ap (λ (r : Run). ns ++ map (leaf_of bytes) r.list) step
+          ∙ ap (λ (m : Node). ns ++ m ∷ map (leaf_of bytes) rest.list) (sym is)
+          ∙ sym (append_assoc ns (n ∷ []) (map (leaf_of bytes) rest.list));
+      first = are.first ∙ ap (λ (r : Run). option_or kept (first_of FILE_DATA r.list)) step ∙ first-more kept h rest.list;
+    }
+
+-- ---- all were read
+
+option_or-none : (kept : Option Header) → option_or kept None ≡ kept
+option_or-none (Some d) = refl
+option_or-none None = refl
+
+pub AreRead-leaves : (bytes : List ℕ) (from p e : ℕ) (ns : List Node) (kept : Option Header) → AreRead bytes from p e ns kept → e ≤ p → ns ≡ map (leaf_of bytes) (run_at bytes from e).list
+AreRead-leaves bytes from p e ns kept are past =
+    sym (are.leaves ∙ ap (λ (r : Run). ns ++ map (leaf_of bytes) r.list) (elements-end in_master never (λ h. Ok (end_in e h)) bytes p e past) ∙ append-nil ns)
+
+pub AreRead-first : (bytes : List ℕ) (from p e : ℕ) (ns : List Node) (kept : Option Header) → AreRead bytes from p e ns kept → e ≤ p → kept ≡ first_of FILE_DATA (run_at bytes from e).list
+AreRead-first bytes from p e ns kept are past =
+    sym (are.first ∙ ap (λ (r : Run). option_or kept (first_of FILE_DATA r.list)) (elements-end in_master never (λ h. Ok (end_in e h)) bytes p e past) ∙ option_or-none kept)
+
+-- ---- the entry
+
+-- its children are those that it was built of
+pub built-children : (id at deep : ℕ) (ns : List Node) (t : Node) → IsBuilt id at deep ns t → children t ≡ ns
+built-children id at deep ns t built = ap children built.is ∙ list-nodes ns
+
+pub built-own : (id at deep : ℕ) (ns : List Node) (t : Node) → IsBuilt id at deep ns t → IsBuilt id at deep (children t) t
+built-own id at deep ns t built = let P : List Node → Type 0 = λ l. IsBuilt id at deep l t in subst P (sym (built-children id at deep ns t built)) built
+
+-- a leaf more
+pub built-part : (at : ℕ) (old child new : Node) → IsBuilt ATTACHED_FILE at 0 (children old) old → IsPut old child new → IsPartLeaf child → IsBuilt ATTACHED_FILE at 0 (children old ++ child ∷ []) new
+built-part at old child new built put is =
+    built-push ATTACHED_FILE at 0 (children old) old child new built put is.stands (omega (arith, is.flat))
+
+-- a child that is set
+pub built-set : (id at deep : ℕ) (old child new : Node) → IsBuilt id at deep (children old) old → depth child ≤ deep → new ≡ with_children old (with_child child (children old)) → (AreTooLong (with_child child (children old)) → ⊥) → IsSound new
+    → IsBuilt id at deep (with_child child (children old)) new
+built-set id at deep old child new built flat is short sound =
+    let ns = with_child child (children old) in
+    let whole : new ≡ master id at (nodes_of ns) = is ∙ ap (λ t. with_children t ns) built.is in
+    let P : Node → Type 0 = IsSound in
+    let shallow = built.shallow in
+    record {
+      is = whole;
+      stand = subst P whole sound;
+      shallow = omega (arith, deep-with_child child (children old));
+      short = short;
+    }
+
+-- it can be written and read again
+pub built-attachment : (at : ℕ) (ns : List Node) (t : Node) → IsBuilt ATTACHED_FILE at 0 (with_child (leaf FILE_DATA 0 []) ns) t → IsAttachment t
+built-attachment at ns t built =
+    let all = with_child (leaf FILE_DATA 0 []) ns in
+    let M : Node → Type 0 = IsMaster in
+    let S : Node → Type 0 = IsSound in
+    record {
+      is = record {
+        id = ap id_of built.is;
+        master = subst M (sym built.is) refl;
+        sound = subst S (sym built.is) built.stand;
+        limits = built-limits ATTACHED_FILE at 0 all t built (omega arith);
+      };
+      one = ap (λ (l : List Node). length (part FILE_DATA l)) (built-children ATTACHED_FILE at 0 all t built) ∙ ap (λ (l : List Node). length l) (part-set (leaf FILE_DATA 0 []) ns);
+    }
+
+-- it is the definition's
+pub entry-is : (bytes : List ℕ) (h : Header) (ns : List Node) (t : Node) → IsBuilt ATTACHED_FILE h.offset 0 (with_child (leaf FILE_DATA 0 []) ns) t → ns ≡ map (leaf_of bytes) (children_of bytes h).list → t ≡ spec.entry_of bytes h
+entry-is bytes h ns t built is = built.is ∙ ap (λ l. master ATTACHED_FILE h.offset (nodes_of (with_child (leaf FILE_DATA 0 []) l))) is
+
+-- ---- the FileUID
+
+pub uid-none : (entry : Node) → first_child FILE_UID entry ≡ None → uint_in FILE_UID entry ≡ 0
+unfolding entry_of table
+uid-none entry none = ap (λ (o : Option Node). unwrap_or (option_map integer_of o) (unwrap_or (uint_default FILE_UID) 0)) none
+
+pub uid-some : (entry uid : Node) → first_child FILE_UID entry ≡ Some uid → uint_in FILE_UID entry ≡ integer_of uid
+uid-some entry uid some = ap (λ (o : Option Node). unwrap_or (option_map integer_of o) (unwrap_or (uint_default FILE_UID) 0)) some
