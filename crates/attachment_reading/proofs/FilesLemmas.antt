@@ -14,9 +14,10 @@ use Rattle.matroska_format.specs.Outline.{first_damage, first_refusal, unless}
 use Rattle.matroska_format.proofs.ElementsLemmas.{elements-end}
 use Rattle.tree_format.specs.Node.{offset_of}
 use Rattle.attachment_records.specs.declared.attachment.Attachment.{Attachment}
-use Rattle.attachment_reading.specs.Attachments.{attached_in, attachment_of, attachments_in, is_attached, missing_data, refused_in, too_many_files}
-use Rattle.attachment_reading.specs.Walk.{Adds, HasAll, ReadsAs, ReadsChild, WalksAll, good_files, one_over}
+use Rattle.attachment_reading.specs.Attachments.{at_child, attached_in, attachment_of, attachments_in, children_of, is_attached, met_in, missing_data, refused_from, refused_in, too_many_files}
+use Rattle.attachment_reading.specs.Walk.{Adds, HasAll, Meets, ReadsAs, ReadsChild, WalksAll, good_files, one_over}
 use Rattle.attachment_reading.specs.declared.attachments.Found.{Found}
+use Rattle.attachment_reading.specs.declared.counts.Counts.{Counts}
 use Rattle.attachment_reading.specs.declared.end.AttachmentsEnd.{AttachmentsEnd}
 use Rattle.attachment_reading.specs.declared.end.AttachmentsEnd.TheVariants.{Refused, ReadFault, Memory}
 use Rattle.attachment_reading.specs.declared.limits.TheConstants.{MOST_ATTACHED}
@@ -124,6 +125,24 @@ AreFound-all bytes file h p found are past good =
     same : (d : Option Damage) → option_or d None ≡ d
     same (Some e) = refl
     same None = refl
+
+-- ---- from the start on
+
+module _ (bytes : List ℕ) (h : Header) (old : Counts) (none : old.octets ≡ 0) (one : old.nodes ≡ 1) where
+  -- what is met from there on
+  from-start : refused_from old.octets old.nodes (met_in (at_child bytes) (children_of bytes h) ++ []) ≡ refused_in bytes h
+  from-start =
+      ap (refused_from old.octets old.nodes) (append-nil (met_in (at_child bytes) (children_of bytes h)))
+      ∙ ap (λ (o : ℕ). refused_from o old.nodes (met_in (at_child bytes) (children_of bytes h))) none
+      ∙ ap (λ (n : ℕ). refused_from 0 n (met_in (at_child bytes) (children_of bytes h))) one
+
+  pub walk-good : {T : Type 0} (new : Counts) (x : T) → Meets (met_in (at_child bytes) (children_of bytes h)) old new (Ok x) → refused_in bytes h ≡ None
+  walk-good new x meets = sym from-start ∙ meets []
+
+  pub walk-refused : (T : Type 0) (file : FileId) (new : Counts) (end : AttachmentsEnd) → Meets {T = T} (met_in (at_child bytes) (children_of bytes h)) old new (Err end) → WalksAll bytes file h (Err end)
+  walk-refused T file new (Refused d) meets = sym from-start ∙ meets []
+  walk-refused T file new ReadFault meets = tt
+  walk-refused T file new Memory meets = tt
 
 -- ---- the answer
 

@@ -1,5 +1,5 @@
 -- The header of a child.
-use Rattle.std.proofs.Common.{◌≡◌, ℕ, ◌+◌, ◌-◌, ◌≤◌, min, Bool, true, List, length, drop, Option, Some, None, Result, Ok, Err, refl, ◌∙◌, ap}
+use Rattle.std.proofs.Common.{◌≡◌, ℕ, ◌+◌, ◌-◌, ◌≤◌, min, Bool, true, List, length, drop, Option, Some, None, Result, Ok, Err, refl, ◌∙◌, ap, arith}
 use Rattle.mkv_io.specs.Contents.{octets_from}
 use Rattle.ebml_format.specs.declared.number.IdRead.{IdRead}
 use Rattle.ebml_format.specs.declared.number.NumFault.{NumFault}
@@ -55,4 +55,16 @@ IsChild-found octets total at end h bytes inside is =
       known = whole.known refl;
       inside = whole.inside refl;
       valid = element_in-id octets total at end h bytes is;
+    }
+
+-- it stands so in a longer parent
+pub IsChild-longer : (at end total : ℕ) (h : Header) → IsChild at end h → end ≤ total → IsChild h.offset total h
+IsChild-longer at end total h is longer =
+    let placed = is.placed in
+    let inside = is.inside in
+    record {
+      placed = record { offset = refl; later = omega arith; within = omega arith };
+      known = is.known;
+      inside = omega arith;
+      valid = is.valid;
     }

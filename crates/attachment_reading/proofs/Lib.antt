@@ -1,5 +1,7 @@
+pub mod CountsLemmas
 pub mod FilesLemmas
 pub mod HeaderLemmas
+pub mod LeafLemmas
 pub mod MetLemmas
 pub mod PaidLemmas
 pub mod PartsLemmas

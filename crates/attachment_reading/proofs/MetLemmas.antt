@@ -199,3 +199,9 @@ module _ (bytes : List ℕ) (h : Header) (old mid : Counts) (file : is_attached 
   file-bad T U new (Refused d) meets = λ more. file-front more ∙ meets more
   file-bad T U new ReadFault meets = tt
   file-bad T U new Memory meets = tt
+
+-- what is said of a refusal doesn't hang on what would have been answered
+pub Meets-passed : (T U : Type 0) (list : List (Result Met Damage)) (old new : Counts) (end : AttachmentsEnd) → Meets {T = T} list old new (Err end) → Meets {T = U} list old new (Err end)
+Meets-passed T U list old new (Refused d) meets = meets
+Meets-passed T U list old new ReadFault meets = tt
+Meets-passed T U list old new Memory meets = tt

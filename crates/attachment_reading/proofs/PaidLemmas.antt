@@ -66,3 +66,7 @@ few-spent way a b x y one none octets nodes spent = omega (arith, spent.reads)
 -- by the way alone
 pub way-paid : (way : ℕ) (a b : Counts) (x y : ℕ) → IsPaid way a b x y → y ≤ x + 16 * way
 way-paid way a b x y paid = omega (arith, paid.reads, paid.way)
+
+-- a longer way is more than enough
+pub IsSpent-longer : (way whole : ℕ) (a b : Counts) (x y : ℕ) → way ≤ whole → IsSpent way a b x y → IsSpent whole a b x y
+IsSpent-longer way whole a b x y within spent = record { reads = spent.reads; way = omega (arith, spent.way) }

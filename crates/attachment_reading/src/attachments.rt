@@ -108,7 +108,8 @@ fn read_children<R: Reads>(
 
 // The attached files that were found, unless one has no data or there are too many.
 fn good_files(found: Found) -> Result<List<Attachment>, Damage>
-    ensures { result ≡ good_files found }
+    ensures exact { result ≡ good_files found }
+    ensures same { IfOk result (λ files. files ≡ found.attachments) }
 {
     let Found {
         attachments,

@@ -33,6 +33,7 @@ impl Counts {
     }
 
     /// Counts an Element, with so many of its octets, or answers the limit that it passes.
+    #[tactic(auto, using(crate::proofs::CountsLemmas::limits))]
     pub fn add(&mut self, header: &Header, octets: u64) -> Result<(), Damage>
         ensures ok { OnOk result (first_damage (limits_passed (self.old.octets + octets) self.old.nodes header.now) ≡ None) }
         ensures err { IfErr result (λ d. first_damage (limits_passed (self.old.octets + octets) self.old.nodes header.now) ≡ Some d) }

@@ -16,7 +16,7 @@ use element_bodies::{is_known_value, known};
 use element_headers::{Header, damage_at};
 use mkv_io::Reads;
 use mkv_schema::ids::{ATTACHED_FILE, FILE_DATA};
-use mkv_values::{FileId, Kind};
+use mkv_values::{Bytes, FileId, Kind};
 use std::alloc::Global;
 
 /// A child of an AttachedFile: its header, and itself as a leaf. That of FileData is empty.
@@ -46,17 +46,17 @@ fn body_of<R: Reads>(
     src: &mut R,
     file: FileId,
     header: &Header,
-) -> Result<Vec<u8>, AttachmentsEnd>
+) -> Result<Bytes, AttachmentsEnd>
     requires live { IsLive R.Reads src.old file }
     requires inside { stated_end header.now ≤ file_size R.Reads src.old file }
-    ensures ok { IfOk result (λ body. IfTold R.Reads src.old file (λ bytes. body.items ≡ body_of bytes header.now)) }
+    ensures ok { IfOk result (λ body. IfTold R.Reads src.old file (λ bytes. body ≡ body_of bytes header.now)) }
     ensures standing { R.standing src.new ≡ R.standing src.old }
     ensures cause { HasCause is_attachments_fault (R.reading_faults src.old) (R.reading_faults src.new) result }
     ensures octets { R.octets_read src.new ≤ R.octets_read src.old + known header.now.size }
 {
     let mut body = vec![in alloc; 0; known(header.size) as usize]?;
     src.read_at(file, header.body, &mut body)?;
-    Ok(body)
+    Ok(Bytes::from_vec(body))
 }
 
 // A child of an AttachedFile as a leaf: its body is read and has to be a value of its kind, but that of FileData,
@@ -79,10 +79,10 @@ fn leaf_of<R: Reads>(
         return Ok(Tree::leaf(alloc, FILE_DATA, &[])?);
     }
     let body = body_of(alloc, src, file, part)?;
-    if !is_known_value(ATTACHED_FILE, part.id, &body) {
+    if !is_known_value(ATTACHED_FILE, part.id, body.as_slice()) {
         return Err(AttachmentsEnd::Refused(damage_at(Kind::BadValue, part)));
     }
-    Ok(Tree::leaf(alloc, part.id, &body)?)
+    Ok(Tree::leaf(alloc, part.id, body.as_slice())?)
 }
 
 /// Reads the child at a place of an AttachedFile that ends at `end`, and counts it.

@@ -1,0 +1,30 @@
+-- What was read is enough for a header.
+use Rattle.std.proofs.Common.{◌≡◌, ◌+◌, ◌≤◌, length, sym, ◌∙◌, ap, arith}
+use Rattle.std.proofs.lemmas.Grind.{common_steps}
+use Rattle.std.proofs.lemmas.Result.{err_from_is_err_and}
+use Rattle.ebml_format.specs.Number.{AreOctets}
+use Rattle.attachment_reading.proofs.HeaderLemmas.{IsChild-found, header-read}
+use Rattle.attachment_reading.proofs.header.child_header.Goals as goal
+
+pub returns-clause-exact : goal.returns-clause-exact
+returns-clause-exact g c = λ bytes told.
+    let total : c.size-total.result ≡ length bytes =
+    c.size-total.ensures.exact ∙ ap (λ s. (g.R.Reads.files s).size c.args.file.n) c.read_at.ensures.standing
+    ∙ sym (g.met.R.Reads.told_size (g.R.Reads.standing c.args.src.now) c.args.file.n bytes told) in
+    sym (c.in_ok-header.ensures.exact
+    ∙ header-read bytes c.read_at.new.into c.size-total.result c.args.at c.args.end c.min-len.result _ (c.in_ok-read_at.ensures.ok bytes told) (grind (arith, common_steps)) total c.requires.place c.min-len.ensures)
+
+pub returns-in_err-header-clause-exact : goal.returns-in_err-header-clause-exact
+returns-in_err-header-clause-exact g c = λ bytes told.
+    let total : c.size-total.result ≡ length bytes =
+    c.size-total.ensures.exact ∙ ap (λ s. (g.R.Reads.files s).size c.args.file.n) c.read_at.ensures.standing
+    ∙ sym (g.met.R.Reads.told_size (g.R.Reads.standing c.args.src.now) c.args.file.n bytes told) in
+    let p = err_from_is_err_and c.from_residual-in_err-header.result c.from_residual-in_err-header.ensures.1 in
+    rw (p.1, p.2) (sym (c.in_err-header.ensures.exact
+    ∙ header-read bytes c.read_at.new.into c.size-total.result c.args.at c.args.end c.min-len.result _ (c.in_ok-read_at.ensures.ok bytes told) (grind (arith, common_steps)) total c.requires.place c.min-len.ensures))
+
+pub returns-clause-child : goal.returns-clause-child
+returns-clause-child g c =
+    let octets : AreOctets c.read_at.new.into = λ i. omega (arith, c.type_inv.octets i) in
+    let inside : c.args.at + length c.read_at.new.into ≤ c.args.end = grind (arith, common_steps) in
+    IsChild-found c.read_at.new.into c.size-total.result c.args.at c.args.end c.in_ok-header.header octets inside (sym c.in_ok-header.ensures.exact)
