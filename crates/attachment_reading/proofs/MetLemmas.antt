@@ -76,13 +76,14 @@ IsMet-at at bytes from p e old mid more is inside =
     ∙ ap (refused_from mid.octets mid.nodes) (append_assoc (met_at at found) (later at bytes e found) more)
 
 -- one Element more
-pub IsMet-more : {T : Type 0} (at : Header → List (Result Met Damage)) (bytes : List ℕ) (from p e : ℕ) (old mid new : Counts) (h : Header) (x : T) → IsMet at bytes from p e old mid → p < e
-    → element_at in_master bytes p e ≡ Ok h → Meets (met_at at (element_at in_master bytes p e)) mid new (Ok x) → IsMet at bytes from (stated_end h) e old new
-IsMet-more at bytes from p e old mid new h x is inside found meets = record {
+pub IsMet-more : {T : Type 0} (at : Header → List (Result Met Damage)) (bytes : List ℕ) (from p e next : ℕ) (old mid new : Counts) (h : Header) (x : T) → IsMet at bytes from p e old mid → p < e
+    → element_at in_master bytes p e ≡ Ok h → next ≡ stated_end h → Meets (met_at at (element_at in_master bytes p e)) mid new (Ok x) → IsMet at bytes from next e old new
+IsMet-more at bytes from p e next old mid new h x is inside found behind meets = record {
   on = λ more.
       IsMet-at at bytes from p e old mid more is inside
       ∙ meets (later at bytes e (element_at in_master bytes p e) ++ more)
-      ∙ ap (λ (r : Result Header Damage). refused_from new.octets new.nodes (later at bytes e r ++ more)) found;
+      ∙ ap (λ (r : Result Header Damage). refused_from new.octets new.nodes (later at bytes e r ++ more)) found
+      ∙ ap (λ (q : ℕ). refused_from new.octets new.nodes (met_in at (run_at bytes q e) ++ more)) (sym behind);
 }
 
 -- what stands at the place is refused, or it isn't known

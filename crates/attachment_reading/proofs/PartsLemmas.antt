@@ -1,5 +1,7 @@
 -- The children of an AttachedFile, one at a time.
 use Rattle.std.proofs.Common.{◌≡◌, ◌<◌, ◌≤◌, ℕ, ◌==◌, Bool, true, false, if◌then◌else◌, List, [], ◌∷◌, ◌++◌, length, map, Option, Some, None, IfSome, Result, Ok, Err, refl, sym, ◌∙◌, ap, subst, arith, append-nil, append_assoc, unwrap_or}
+use Rattle.std.specs.Prelude.{IsErr}
+use Rattle.std.specs.declared.alloc.AllocError.{AllocError}
 use Rattle.std.specs.Option.{option_map, option_or}
 use Rattle.mkv_schema.specs.declared.ids.TheConstants.{ATTACHED_FILE, FILE_DATA, FILE_UID}
 use Rattle.matroska_format.specs.declared.element.Header.{Header}
@@ -12,7 +14,7 @@ use Rattle.mkv_schema.specs.Schema.{entry_of, uint_default}
 use Rattle.tree_format.specs.Values.{first_child, integer_of, uint_in}
 use Rattle.tree_format.specs.Node.{Node, leaf, master, nodes_of, id_of, body_of, children, with_children, depth, depth_all, IsMaster}
 use Rattle.tree_format.specs.Changes.{AreTooLong, part, with_child}
-use Rattle.tree_format.specs.Standing.{IsSound}
+use Rattle.tree_format.specs.Standing.{IsSound, StandsIn}
 use Rattle.tree_format.proofs.NodeLemmas.{list-nodes}
 use Rattle.tree_format.proofs.ChangeLemmas.{deep-with_child}
 use Rattle.tree_format.proofs.PartLemmas.{part-set}
@@ -21,9 +23,10 @@ use Rattle.tree_building.proofs.BuildLemmas.{IsPut, built-limits, built-push}
 use Rattle.output_model.specs.Sound.{IsAttachment}
 use Rattle.attachment_reading.specs.Attachments.{children_of, leaf_of}
 use Rattle.attachment_reading.specs.Attachments as spec
-use Rattle.attachment_reading.specs.Walk.{IsPartLeaf, data_at}
+use Rattle.attachment_reading.specs.Walk.{IsPart, IsPartLeaf, data_at}
+use Rattle.attachment_reading.specs.declared.part.Part.{Part}
 use Rattle.attachment_reading.proofs.MetLemmas.{run_at, run_at-step}
-use Rattle.attachment_reading.proofs.TableFacts.{no_master-in}
+use Rattle.attachment_reading.proofs.TableFacts.{file_data-stands, no_master-in}
 use Rattle.ebml_format.specs.Number.{is_id}
 
 -- ---- a leaf of it
@@ -52,9 +55,9 @@ first-more None h rest = split (h.id == FILE_DATA)
     split true = refl
     split false = refl
 
-pub AreRead-more : (bytes : List ℕ) (from p e : ℕ) (ns : List Node) (kept : Option Header) (h : Header) (n : Node) → AreRead bytes from p e ns kept → p < e → element_at in_master bytes p e ≡ Ok h → n ≡ leaf_of bytes h
+read-more : (bytes : List ℕ) (from p e : ℕ) (ns : List Node) (kept : Option Header) (h : Header) (n : Node) → AreRead bytes from p e ns kept → p < e → element_at in_master bytes p e ≡ Ok h → n ≡ leaf_of bytes h
     → AreRead bytes from (stated_end h) e (ns ++ n ∷ []) (option_or kept (data_at h))
-AreRead-more bytes from p e ns kept h n are inside found is =
+read-more bytes from p e ns kept h n are inside found is =
     let rest = run_at bytes (stated_end h) e in
     let step = run_at-step bytes p e (Ok h) inside found in
     record {
@@ -64,6 +67,29 @@ AreRead-more bytes from p e ns kept h n are inside found is =
           ∙ sym (append_assoc ns (n ∷ []) (map (leaf_of bytes) rest.list));
       first = are.first ∙ ap (λ (r : Run). option_or kept (first_of FILE_DATA r.list)) step ∙ first-more kept h rest.list;
     }
+
+-- a child more
+pub AreRead-more : (bytes : List ℕ) (from p e next : ℕ) (ns ms : List Node) (kept found : Option Header) (part : Part) → AreRead bytes from p e ns kept → p < e → IsPart bytes p e part → next ≡ stated_end part.header → ms ≡ ns ++ part.leaf ∷ [] → found ≡ option_or kept (data_at part.header)
+    → AreRead bytes from next e ms found
+AreRead-more bytes from p e next ns ms kept found part are inside is behind grown first =
+    let more = read-more bytes from p e ns kept part.header part.leaf are inside is.found is.leaf in
+    let A = subst (λ (q : ℕ). AreRead bytes from q e (ns ++ part.leaf ∷ []) (option_or kept (data_at part.header))) (sym behind) more in
+    let B = subst (λ (l : List Node). AreRead bytes from next e l (option_or kept (data_at part.header))) (sym grown) A in
+    subst (λ (o : Option Header). AreRead bytes from next e ms o) (sym first) B
+
+-- the first FileData ends before a place, where each child does
+pub first-inside : (kept found : Option Header) (h : Header) (end : ℕ) → IfSome kept (λ (d : Header). stated_end d ≤ end) → stated_end h ≤ end → found ≡ option_or kept (data_at h) → IfSome found (λ (d : Header). stated_end d ≤ end)
+first-inside kept found h end before within is =
+    let Q : Option Header → Type 0 = λ o. IfSome o (λ (d : Header). stated_end d ≤ end) in
+    subst Q (sym is) (of kept before)
+  where
+    one : (b : Bool) → IfSome (if b then Some h else None) (λ (d : Header). stated_end d ≤ end)
+    one true = within
+    one false = tt
+
+    of : (o : Option Header) → IfSome o (λ (d : Header). stated_end d ≤ end) → IfSome (option_or o (data_at h)) (λ (d : Header). stated_end d ≤ end)
+    of (Some d) before = before
+    of None before = one (h.id == FILE_DATA)
 
 -- ---- all were read
 
@@ -107,6 +133,20 @@ built-set id at deep old child new built flat is short sound =
       shallow = omega (arith, deep-with_child child (children old));
       short = short;
     }
+
+-- the empty FileData is set
+pub built-data : (at : ℕ) (old child new : Node) → IsBuilt ATTACHED_FILE at 0 (children old) old → child ≡ leaf FILE_DATA 0 [] → new ≡ with_children old (with_child child (children old))
+    → (AreTooLong (with_child child (children old)) → IsErr {T = Unit {0}} {E = AllocError} (Ok tt)) → (IsSound old → StandsIn (id_of old) child → IsSound new)
+    → IsBuilt ATTACHED_FILE at 0 (with_child (leaf FILE_DATA 0 []) (children old)) new
+built-data at old child new built made is full keeps =
+    let S : Node → Type 0 = IsSound in
+    let T : Node → Type 0 = StandsIn ATTACHED_FILE in
+    let Q : ℕ → Type 0 = λ id. StandsIn id child in
+    let sound = subst S (sym built.is) built.stand in
+    let stands = subst Q (sym (ap id_of built.is)) (subst T (sym made) file_data-stands) in
+    let flat : depth child ≤ 0 = omega (arith, ap depth made) in
+    let whole = built-set ATTACHED_FILE at 0 old child new built flat is (λ long. (let never = full long in absurd (cc))) (keeps sound stands) in
+    subst (λ (n : Node). IsBuilt ATTACHED_FILE at 0 (with_child n (children old)) new) made whole
 
 -- it can be written and read again
 pub built-attachment : (at : ℕ) (ns : List Node) (t : Node) → IsBuilt ATTACHED_FILE at 0 (with_child (leaf FILE_DATA 0 []) ns) t → IsAttachment t

@@ -1,0 +1,21 @@
+-- A child is met, and an AttachedFile read.
+use Rattle.std.proofs.Common.{◌≡◌, ◌+◌, ◌-◌, ◌<◌, ◌≤◌, ℕ, ◌==◌, true, false, Ok, Err, refl, sym, ap, subst, ◌∙◌, arith}
+use Rattle.std.proofs.lemmas.Result.{err_from_is_err_and}
+use Rattle.std.proofs.lemmas.Bool.Decides.{nat_tests}
+use Rattle.attachment_reading.specs.Attachments.{at_child}
+use Rattle.attachment_reading.specs.declared.attached.Attached.{Attached}
+use Rattle.attachment_reading.proofs.HeaderLemmas.{IsChild-longer}
+use Rattle.attachment_reading.proofs.FilesLemmas.{Adds-none, Adds-one}
+use Rattle.attachment_reading.proofs.MetLemmas.{Meets-at, Meets-damage, child-other, child-over, file-bad, file-good}
+use Rattle.attachment_reading.proofs.PaidLemmas.{IsPaid-longer, IsPaid-on, IsPaid-one, IsSpent-header, IsSpent-longer, IsSpent-on, IsSpent-paid}
+use Rattle.attachment_reading.proofs.attachments.read_child.Goals as goal
+
+pub returns-in_err-child-clause-meets : goal.returns-in_err-child-clause-meets
+returns-in_err-child-clause-meets g c = λ bytes told.
+    let p = err_from_is_err_and c.from_residual.result c.from_residual.ensures.1 in
+    rw (p.1, p.2) (Meets-damage ℕ (at_child bytes) _ c.args.counts.now c.args.counts.now c.in_err-child.field-0.0 (c.in_err-child.ensures.exact bytes told))
+
+pub returns-in_err-child-clause-pays : goal.returns-in_err-child-clause-pays
+returns-in_err-child-clause-pays g c =
+    let p = err_from_is_err_and c.from_residual.result c.from_residual.ensures.1 in
+    rw (p.1, p.2) (IsSpent-header _ _ _ _ _ refl c.in_err-child.ensures.octets)
