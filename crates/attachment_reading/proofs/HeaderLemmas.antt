@@ -52,7 +52,7 @@ IsChild-found octets total at end h bytes inside is =
     let whole = element_in-whole in_master octets total at end h is in
     record {
       placed = element_in-placed in_master octets total at end h inside is;
-      known = whole.known refl;
+      sized = whole.known refl;
       inside = whole.inside refl;
       valid = element_in-id octets total at end h bytes is;
     }
@@ -64,7 +64,7 @@ IsChild-longer at end total h is longer =
     let inside = is.inside in
     record {
       placed = record { offset = refl; later = omega arith; within = omega arith };
-      known = is.known;
+      sized = is.sized;
       inside = omega arith;
       valid = is.valid;
     }

@@ -1,5 +1,5 @@
 -- What the calls that read attached files answer, and what they read.
-use Rattle.std.specs.Prelude.{◌≡◌, ◌≤◌, ⊤, ℕ, ◌+◌, ◌*◌, ◌==◌, Bool, true, false, if◌then◌else◌, List, [], ◌∷◌, ◌++◌, map, filter, slice_get, Option, Some, None, IfSome, Result, Ok, Err}
+use Rattle.std.specs.Prelude.{◌≡◌, ◌≤◌, ⊤, ℕ, ◌+◌, ◌-◌, ◌*◌, ◌==◌, Bool, true, false, if◌then◌else◌, List, [], ◌∷◌, ◌++◌, map, filter, slice_get, Option, Some, None, IfSome, Result, Ok, Err}
 use Rattle.std.specs.Option.{option_map, option_or}
 use Rattle.ebml_format.specs.Number.{is_id}
 use Rattle.mkv_schema.specs.declared.ids.TheConstants.{ATTACHED_FILE, FILE_DATA}
@@ -42,7 +42,7 @@ is_attachments_fault Memory = false
 -- A header that was read at a place: its Element ends with its parent or before, and its ID is a valid one.
 pub record IsChild (at end : ℕ) (h : Header) : Type 0 where
   pub placed : StandsAt at end h
-  pub known : is_unknown h.size ≡ false
+  pub sized : is_unknown h.size ≡ false
   pub inside : stated_end h ≤ end
   pub valid : is_id h.id ≡ true
 
@@ -142,16 +142,20 @@ abbrev pub cost : Counts → ℕ
 cost c = LONGEST_HEADER * c.nodes + c.octets
 
 -- What was read is paid by what was counted, and that by the way.
-pub record IsPaid (way : ℕ) (old new : Counts) (before now : ℕ) : Type 0 where
+pub record IsPaid (far : ℕ) (old new : Counts) (before now : ℕ) : Type 0 where
   pub reads : now + cost old ≤ before + cost new
-  pub way : cost new ≤ cost old + 16 * way
+  pub way : cost new ≤ cost old + 16 * far
 
 -- The same but for a last header.
-pub record IsSpent (way : ℕ) (old new : Counts) (before now : ℕ) : Type 0 where
+pub record IsSpent (far : ℕ) (old new : Counts) (before now : ℕ) : Type 0 where
   pub reads : now + cost old ≤ before + cost new + LONGEST_HEADER
-  pub way : now ≤ before + 16 * way
+  pub way : now ≤ before + 16 * far
 
--- The one of a call that has gone to where it says, the other of one that ended on the way.
-abbrev pub Pays : {T : Type 0} → (T → ℕ) → ℕ → Counts → Counts → ℕ → ℕ → Result T AttachmentsEnd → Type 0
-Pays way whole old new before now (Ok x) = IsPaid (way x) old new before now
-Pays way whole old new before now (Err e) = IsSpent whole old new before now
+-- The one of a call that has gone on from a place to where its answer says, the other of one that ended on the way to the end.
+abbrev pub Pays : {T : Type 0} → ℕ → (T → ℕ) → ℕ → Counts → Counts → ℕ → ℕ → Result T AttachmentsEnd → Type 0
+Pays from to end old new before now (Ok x) = IsPaid (to x - from) old new before now
+Pays from to end old new before now (Err e) = IsSpent (end - from) old new before now
+
+-- the place behind a child of an AttachedFile
+abbrev pub behind_part : Part → ℕ
+behind_part part = stated_end part.header

@@ -5,7 +5,7 @@ ghost use Rattle.std.specs.Option.{option_or};
 ghost use Rattle.mkv_schema.specs.declared.ids.TheConstants.{ATTACHED_FILE as ATTACHED_ID, FILE_UID as FILE_UID_ID};
 ghost use Rattle.mkv_io.specs.Faults.{HasCause};
 ghost use Rattle.mkv_io.specs.Sources.{IfTold, IsLive, file_size};
-ghost use Rattle.matroska_format.specs.Element.{known, stated_end};
+ghost use Rattle.matroska_format.specs.Element.{stated_end};
 ghost use Rattle.tree_format.specs.Standing.{IsSoundOf};
 ghost use Rattle.tree_format.specs.Values.{uint_in};
 ghost use Rattle.attachment_reading.specs.Attachments.{at_part, attachment_of, children_of, met_in, missing_data};
@@ -46,7 +46,7 @@ fn read_parts<R: Reads>(
     ensures sound { IfOk result (AreSoundParts (stated_end attached.now)) }
     ensures standing { R.standing src.new ≡ R.standing src.old }
     ensures cause { HasCause is_attachments_fault (R.reading_faults src.old) (R.reading_faults src.new) result }
-    ensures pays { Pays (λ _. known attached.now.size) (known attached.now.size) counts.old counts.new (R.octets_read src.old) (R.octets_read src.new) result }
+    ensures pays { Pays attached.now.body (λ _. stated_end attached.now) (stated_end attached.now) counts.old counts.new (R.octets_read src.old) (R.octets_read src.new) result }
 {
     let end = attached.body + known(attached.size);
     let mut entry = empty(alloc, ATTACHED_FILE, attached.offset)?;
@@ -136,7 +136,7 @@ pub(crate) fn read_attached<R: Reads>(
     ensures sound { IfOk result (λ one. IsAttachedIn file (stated_end attached.now) one.attachment) }
     ensures standing { R.standing src.new ≡ R.standing src.old }
     ensures cause { HasCause is_attachments_fault (R.reading_faults src.old) (R.reading_faults src.new) result }
-    ensures pays { Pays (λ _. known attached.now.size) (known attached.now.size) counts.old counts.new (R.octets_read src.old) (R.octets_read src.new) result }
+    ensures pays { Pays attached.now.body (λ _. stated_end attached.now) (stated_end attached.now) counts.old counts.new (R.octets_read src.old) (R.octets_read src.new) result }
 {
     let parts = read_parts(alloc, src, file, counts, attached)?;
     Ok(attached_of(file, attached, parts))

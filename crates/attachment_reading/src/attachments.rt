@@ -1,6 +1,6 @@
 //! All attached files of a file: RFC 9559, section 5.1.6 (Attachments Element).
 
-ghost use Rattle.std.specs.Prelude.{◌≡◌, ◌+◌, ◌-◌, ◌*◌, ◌<◌, ◌≤◌, false, All, IfOk, OnOk};
+ghost use Rattle.std.specs.Prelude.{◌≡◌, ◌+◌, ◌*◌, ◌<◌, ◌≤◌, false, All, IfOk, OnOk};
 ghost use Rattle.mkv_io.specs.Faults.{HasCause};
 ghost use Rattle.mkv_io.specs.Sources.{IfTold, IsLive, file_size};
 ghost use Rattle.matroska_format.specs.Element.{element_at, in_master, is_unknown, known, stated_end};
@@ -59,7 +59,7 @@ fn read_child<R: Reads>(
     ensures sound { All (IsAttachedIn file end) found.old.attachments → OnOk result (All (IsAttachedIn file end) found.new.attachments) }
     ensures standing { R.standing src.new ≡ R.standing src.old }
     ensures cause { HasCause is_attachments_fault (R.reading_faults src.old) (R.reading_faults src.new) result }
-    ensures pays { Pays (λ next. next - at) (end - at) counts.old counts.new (R.octets_read src.old) (R.octets_read src.new) result }
+    ensures pays { Pays at (λ next. next) end counts.old counts.new (R.octets_read src.old) (R.octets_read src.new) result }
 {
     let child = child_header(src, file, at, end)?;
     counts.add(&child, counted_of(&child))?;

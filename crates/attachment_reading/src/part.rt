@@ -1,12 +1,12 @@
 //! A child of an AttachedFile: RFC 9559, section 5.1.6 (Attachments Element).
 
-ghost use Rattle.std.specs.Prelude.{◌≡◌, ◌+◌, ◌-◌, ◌^◌, ◌<◌, ◌≤◌, IfOk};
+ghost use Rattle.std.specs.Prelude.{◌≡◌, ◌+◌, ◌^◌, ◌<◌, ◌≤◌, IfOk};
 ghost use Rattle.mkv_io.specs.Faults.{HasCause};
 ghost use Rattle.mkv_io.specs.Sources.{IfTold, IsLive, file_size};
 ghost use Rattle.matroska_format.specs.Element.{element_at, in_master, known, stated_end};
 ghost use Rattle.matroska_format.specs.Value.{body_of};
 ghost use Rattle.attachment_reading.specs.Attachments.{at_part, counted_of};
-ghost use Rattle.attachment_reading.specs.Walk.{IsChild, IsPart, IsPartLeaf, Meets, Pays, ReadsAs, is_attachments_fault, leaf_in, met_at, octets_of};
+ghost use Rattle.attachment_reading.specs.Walk.{IsChild, IsPart, IsPartLeaf, Meets, Pays, ReadsAs, behind_part, is_attachments_fault, leaf_in, met_at, octets_of};
 
 use crate::counts::Counts;
 use crate::end::AttachmentsEnd;
@@ -103,7 +103,7 @@ pub(crate) fn read_part<R: Reads>(
     ensures leaf { IfOk result (λ part. IsPartLeaf part.leaf) }
     ensures standing { R.standing src.new ≡ R.standing src.old }
     ensures cause { HasCause is_attachments_fault (R.reading_faults src.old) (R.reading_faults src.new) result }
-    ensures pays { Pays (λ part. stated_end part.header - at) (end - at) counts.old counts.new (R.octets_read src.old) (R.octets_read src.new) result }
+    ensures pays { Pays at behind_part end counts.old counts.new (R.octets_read src.old) (R.octets_read src.new) result }
 {
     let header = child_header(src, file, at, end)?;
     counts.add(&header, counted_of(&header))?;

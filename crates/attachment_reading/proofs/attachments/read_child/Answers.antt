@@ -4,6 +4,7 @@ use Rattle.std.proofs.lemmas.Result.{err_from_is_err_and}
 use Rattle.std.proofs.lemmas.Bool.Decides.{nat_tests}
 use Rattle.attachment_reading.specs.Attachments.{at_child}
 use Rattle.attachment_reading.specs.declared.attached.Attached.{Attached}
+use Rattle.attachment_reading.specs.declared.end.AttachmentsEnd.TheVariants.{Refused}
 use Rattle.attachment_reading.proofs.HeaderLemmas.{IsChild-longer}
 use Rattle.attachment_reading.proofs.FilesLemmas.{Adds-none, Adds-one}
 use Rattle.attachment_reading.proofs.MetLemmas.{Meets-at, Meets-damage, child-other, child-over, file-bad, file-good}
@@ -19,3 +20,17 @@ pub returns-in_err-child-clause-pays : goal.returns-in_err-child-clause-pays
 returns-in_err-child-clause-pays g c =
     let p = err_from_is_err_and c.from_residual.result c.from_residual.ensures.1 in
     rw (p.1, p.2) (IsSpent-header _ _ _ _ _ refl c.in_err-child.ensures.octets)
+
+-- it passes a limit
+pub returns-in_err-add-clause-meets : goal.returns-in_err-add-clause-meets
+returns-in_err-add-clause-meets g c = λ bytes told.
+    let h = c.in_ok-child.child in
+    let p = err_from_is_err_and c.from_residual-in_err-add.result c.from_residual-in_err-add.ensures.1 in
+    let over = rw c.counted_of.ensures at c.in_err-add.ensures.err in
+    rw (p.1, p.2) (Meets-at (at_child bytes) _ h c.args.counts.now c.add.new.self (Err (Refused c.in_err-add.field-0.0)) (c.in_ok-child.ensures.exact bytes told)
+    (child-over ℕ bytes h c.args.counts.now c.add.new.self c.in_err-add.field-0.0 over))
+
+pub returns-in_err-add-clause-pays : goal.returns-in_err-add-clause-pays
+returns-in_err-add-clause-pays g c =
+    let p = err_from_is_err_and c.from_residual-in_err-add.result c.from_residual-in_err-add.ensures.1 in
+    rw (p.1, p.2) (IsSpent-header _ _ _ _ _ c.in_err-add.ensures.refused c.in_ok-child.ensures.octets)
