@@ -1,11 +1,16 @@
 -- The children of an AttachedFile, one at a time.
-use Rattle.std.proofs.Common.{◌≡◌, ◌<◌, ◌≤◌, ℕ, ◌==◌, Bool, true, false, if◌then◌else◌, List, [], ◌∷◌, ◌++◌, length, map, Option, Some, None, IfSome, Result, Ok, Err, refl, sym, ◌∙◌, ap, subst, arith, append-nil, append_assoc, unwrap_or}
+use Rattle.std.proofs.Common.{◌≡◌, ◌<◌, ◌≤◌, ℕ, ◌+◌, ◌==◌, Bool, true, false, if◌then◌else◌, List, [], ◌∷◌, ◌++◌, length, map, Option, Some, None, IfSome, Result, Ok, Err, refl, sym, ◌∙◌, ap, subst, arith, append-nil, append_assoc, unwrap_or, is_none}
 use Rattle.std.specs.Prelude.{IsErr}
 use Rattle.std.specs.declared.alloc.AllocError.{AllocError}
-use Rattle.std.specs.Option.{option_map, option_or}
+use Rattle.std.specs.Option.{option_map, option_map_or, option_or}
 use Rattle.mkv_schema.specs.declared.ids.TheConstants.{ATTACHED_FILE, FILE_DATA, FILE_UID}
 use Rattle.matroska_format.specs.declared.element.Header.{Header}
-use Rattle.matroska_format.specs.Element.{in_master, element_at, end_in, stated_end}
+use Rattle.matroska_format.specs.Element.{in_master, element_at, damage, end_in, known, stated_end}
+use Rattle.matroska_format.specs.Outline.{where_it}
+use Rattle.mkv_values.specs.declared.damage.Damage.{Damage}
+use Rattle.mkv_values.specs.declared.damage.Kind.TheVariants.{MissingChild}
+use Rattle.mkv_values.specs.declared.outside.FileId.{FileId}
+use Rattle.attachment_records.specs.declared.attachment.Attachment.{Attachment}
 use Rattle.matroska_format.specs.Elements.{Run, never}
 use Rattle.matroska_format.specs.Value.{first_of, is_known_value}
 use Rattle.matroska_format.proofs.ElementsLemmas.{elements-end}
@@ -23,7 +28,8 @@ use Rattle.tree_building.proofs.BuildLemmas.{IsPut, built-limits, built-push}
 use Rattle.output_model.specs.Sound.{IsAttachment}
 use Rattle.attachment_reading.specs.Attachments.{children_of, leaf_of}
 use Rattle.attachment_reading.specs.Attachments as spec
-use Rattle.attachment_reading.specs.Walk.{IsPart, IsPartLeaf, data_at}
+use Rattle.attachment_reading.specs.Walk.{ArePartsOf, IsPart, IsPartLeaf, data_at}
+use Rattle.attachment_reading.specs.declared.attached.Parts.{Parts}
 use Rattle.attachment_reading.specs.declared.part.Part.{Part}
 use Rattle.attachment_reading.proofs.MetLemmas.{run_at, run_at-step}
 use Rattle.attachment_reading.proofs.TableFacts.{file_data-stands, no_master-in}
@@ -176,3 +182,22 @@ uid-none entry none = ap (λ (o : Option Node). unwrap_or (option_map integer_of
 
 pub uid-some : (entry uid : Node) → first_child FILE_UID entry ≡ Some uid → uint_in FILE_UID entry ≡ integer_of uid
 uid-some entry uid some = ap (λ (o : Option Node). unwrap_or (option_map integer_of o) (unwrap_or (uint_default FILE_UID) 0)) some
+
+-- ---- the attached file
+
+pub attachment-is : (bytes : List ℕ) (file : FileId) (h : Header) (parts : Parts) (uid at len : ℕ) → ArePartsOf bytes h parts → uid ≡ uint_in FILE_UID parts.entry → at ≡ option_map_or (λ (d : Header). d.body) parts.first 0 → len ≡ option_map_or (λ (d : Header). known d.size) parts.first 0
+    → (let a : Attachment = record { uid = uid; file = file; at = at; len = len; entry = parts.entry } in a ≡ spec.attachment_of bytes file h)
+attachment-is bytes file h parts uid at len are is place count =
+    let make : ℕ → ℕ → ℕ → Node → Attachment = λ u p n e. record { uid = u; file = file; at = p; len = n; entry = e } in
+    ap (λ (u : ℕ). make u at len parts.entry) (is ∙ ap (uint_in FILE_UID) are.entry)
+    ∙ ap (λ (p : ℕ). make (uint_in FILE_UID (spec.entry_of bytes h)) p len parts.entry) (place ∙ ap (λ (o : Option Header). option_map_or (λ (d : Header). d.body) o 0) are.first)
+    ∙ ap (λ (n : ℕ). make (uint_in FILE_UID (spec.entry_of bytes h)) (option_map_or (λ (d : Header). d.body) (spec.data_in bytes h) 0) n parts.entry) (count ∙ ap (λ (o : Option Header). option_map_or (λ (d : Header). known d.size) o 0) are.first)
+    ∙ ap (make (uint_in FILE_UID (spec.entry_of bytes h)) (option_map_or (λ (d : Header). d.body) (spec.data_in bytes h) 0) (option_map_or (λ (d : Header). known d.size) (spec.data_in bytes h) 0)) are.entry
+
+pub missing-is : (bytes : List ℕ) (h : Header) (parts : Parts) (m : Option Damage) → ArePartsOf bytes h parts → m ≡ where_it (is_none parts.first) (damage MissingChild FILE_DATA h.offset) → m ≡ spec.missing_data bytes h
+missing-is bytes h parts m are is = is ∙ ap (λ (o : Option Header). where_it (is_none o) (damage MissingChild FILE_DATA h.offset)) are.first
+
+-- the data end where the AttachedFile does, or before
+pub data-inside : (end : ℕ) (first : Option Header) → IfSome first (λ (d : Header). stated_end d ≤ end) → option_map_or (λ (d : Header). d.body) first 0 + option_map_or (λ (d : Header). known d.size) first 0 ≤ end
+data-inside end (Some d) inside = inside
+data-inside end None inside = omega arith

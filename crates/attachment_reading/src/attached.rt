@@ -1,11 +1,13 @@
 //! An AttachedFile: RFC 9559, section 5.1.6 (Attachments Element).
 
-ghost use Rattle.std.specs.Prelude.{◌≡◌, ℕ, List, IfOk};
-ghost use Rattle.std.specs.Option.{option_or};
+ghost use Rattle.std.specs.Prelude.{◌≡◌, ℕ, List, is_none, IfOk};
+ghost use Rattle.std.specs.Option.{option_map_or, option_or};
 ghost use Rattle.mkv_schema.specs.declared.ids.TheConstants.{ATTACHED_FILE as ATTACHED_ID, FILE_UID as FILE_UID_ID};
 ghost use Rattle.mkv_io.specs.Faults.{HasCause};
 ghost use Rattle.mkv_io.specs.Sources.{IfTold, IsLive, file_size};
-ghost use Rattle.matroska_format.specs.Element.{stated_end};
+ghost use Rattle.matroska_format.specs.declared.element.Header.{Header as HeaderSeen};
+ghost use Rattle.matroska_format.specs.Element.{damage, known, stated_end};
+ghost use Rattle.matroska_format.specs.Outline.{where_it};
 ghost use Rattle.tree_format.specs.Standing.{IsSoundOf};
 ghost use Rattle.tree_format.specs.Values.{uint_in};
 ghost use Rattle.attachment_reading.specs.Attachments.{at_part, attachment_of, children_of, met_in, missing_data};
@@ -84,6 +86,36 @@ fn uid_of(entry: &Tree) -> u64
     }
 }
 
+// Where the data begin, 0 where there are none.
+fn place_of(first: Option<Header>) -> u64
+    ensures { result ≡ option_map_or (λ (h : HeaderSeen). h.body) first 0 }
+{
+    match first {
+        Some(header) => header.body,
+        None => 0,
+    }
+}
+
+// How many octets the data are.
+fn len_of(first: Option<Header>) -> u64
+    ensures { result ≡ option_map_or (λ (h : HeaderSeen). known h.size) first 0 }
+{
+    match first {
+        Some(header) => known(header.size),
+        None => 0,
+    }
+}
+
+// What is told of an AttachedFile without FileData.
+fn missing_data(first: Option<Header>, attached: &Header) -> Option<Damage>
+    ensures { result ≡ where_it (is_none first) (damage Kind.MissingChild FILE_DATA attached.now.offset) }
+{
+    match first {
+        Some(_) => None,
+        None => Some(damage(Kind::MissingChild, FILE_DATA, attached.offset)),
+    }
+}
+
 /// An attached file, and what is told where it has no data.
 #[derive(Drop)]
 pub(crate) struct Attached {
@@ -99,24 +131,16 @@ fn attached_of(file: FileId, attached: &Header, parts: Parts) -> Attached
     ensures sound { IsAttachedIn file (stated_end attached.now) result.attachment }
 {
     let Parts { entry, first } = parts;
-    let uid = uid_of(&entry);
-    let (at, len, missing) = match first {
-        Some(header) => (header.body, known(header.size), None),
-        None => {
-            let missing = damage(Kind::MissingChild, FILE_DATA, attached.offset);
-            (0, 0, Some(missing))
-        }
-    };
     let attachment = Attachment {
-        uid,
+        uid: uid_of(&entry),
         file,
-        at,
-        len,
+        at: place_of(first),
+        len: len_of(first),
         entry,
     };
     Attached {
         attachment,
-        missing,
+        missing: missing_data(first, attached),
     }
 }
 
