@@ -1,4 +1,5 @@
 pub mod CountsLemmas
+pub mod EndLemmas
 pub mod FilesLemmas
 pub mod HeaderLemmas
 pub mod LeafLemmas

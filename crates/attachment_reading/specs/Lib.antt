@@ -1,2 +1,3 @@
 pub mod Attachments
+pub mod End
 pub mod Walk

@@ -3,7 +3,7 @@
 ghost use Rattle.std.specs.Prelude.{◌≡◌};
 ghost use Rattle.attachment_reading.specs.declared.end.AttachmentsEnd.TheVariants as attachments_end;
 
-use mkv_values::{Damage, Failed};
+use mkv_values::{Damage, Failed, ReadEnd};
 use std::alloc::AllocError;
 
 /// Why attached files aren't read.
@@ -38,5 +38,18 @@ impl From<AllocError> for AttachmentsEnd {
 
     fn from(_error: AllocError) -> AttachmentsEnd {
         AttachmentsEnd::Memory
+    }
+}
+
+impl From<ReadEnd> for AttachmentsEnd {
+    ghost use Rattle.attachment_reading.specs.End.{end_of};
+
+    ghost from_gives = { λ why end. end ≡ end_of why };
+
+    fn from(why: ReadEnd) -> AttachmentsEnd {
+        match why {
+            ReadEnd::ReadFault => AttachmentsEnd::ReadFault,
+            ReadEnd::Memory => AttachmentsEnd::Memory,
+        }
     }
 }

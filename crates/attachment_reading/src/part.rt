@@ -1,7 +1,7 @@
 //! A child of an AttachedFile: RFC 9559, section 5.1.6 (Attachments Element).
 
 ghost use Rattle.std.specs.Prelude.{◌≡◌, ◌+◌, ◌^◌, ◌<◌, ◌≤◌, IfOk};
-ghost use Rattle.mkv_io.specs.Faults.{HasCause};
+ghost use Rattle.mkv_io.specs.Faults.{HasCause, is_read_fault};
 ghost use Rattle.mkv_io.specs.Sources.{IfTold, IsLive, file_size};
 ghost use Rattle.matroska_format.specs.Element.{element_at, in_master, known, stated_end};
 ghost use Rattle.matroska_format.specs.Value.{body_of};
@@ -16,7 +16,7 @@ use element_bodies::{is_known_value, known};
 use element_headers::{Header, damage_at};
 use mkv_io::Reads;
 use mkv_schema::ids::{ATTACHED_FILE, FILE_DATA};
-use mkv_values::{Bytes, FileId, Kind};
+use mkv_values::{Bytes, FileId, Kind, ReadEnd};
 use std::alloc::Global;
 
 /// A child of an AttachedFile: its header, and itself as a leaf. That of FileData is empty.
@@ -46,12 +46,12 @@ fn body_of<R: Reads>(
     src: &mut R,
     file: FileId,
     header: &Header,
-) -> Result<Bytes, AttachmentsEnd>
+) -> Result<Bytes, ReadEnd>
     requires live { IsLive R.Reads src.old file }
     requires inside { stated_end header.now ≤ file_size R.Reads src.old file }
     ensures ok { IfOk result (λ body. IfTold R.Reads src.old file (λ bytes. body ≡ body_of bytes header.now)) }
     ensures standing { R.standing src.new ≡ R.standing src.old }
-    ensures cause { HasCause is_attachments_fault (R.reading_faults src.old) (R.reading_faults src.new) result }
+    ensures cause { HasCause is_read_fault (R.reading_faults src.old) (R.reading_faults src.new) result }
     ensures octets { R.octets_read src.new ≤ R.octets_read src.old + known header.now.size }
 {
     let mut body = vec![in alloc; 0; known(header.size) as usize]?;

@@ -28,3 +28,8 @@ returns-clause-child g c =
     let octets : AreOctets c.read_at.new.into = λ i. omega (arith, c.type_inv.octets i) in
     let inside : c.args.at + length c.read_at.new.into ≤ c.args.end = grind (arith, common_steps) in
     IsChild-found c.read_at.new.into c.size-total.result c.args.at c.args.end c.in_ok-header.header octets inside (sym c.in_ok-header.ensures.exact)
+
+pub returns-in_err-read_at-clause-exact : goal.returns-in_err-read_at-clause-exact
+returns-in_err-read_at-clause-exact g c = λ bytes told.
+    let p = err_from_is_err_and c.from_residual.result c.from_residual.ensures.1 in
+    rw (p.1, p.2) tt
