@@ -146,16 +146,16 @@ refused_from-counted octets nodes m new more within good counted one =
 -- ---- a child of an AttachedFile
 
 value-none : (refusal : Option Damage) (n leaf : Node) → unless refusal n ≡ Ok leaf → refusal ≡ None
-value-none None n leaf is = refl
-value-none (Some d) n leaf is = absurd (cc)
+value-none None n made is = refl
+value-none (Some d) n made is = absurd (cc)
 
 value-some : (refusal : Option Damage) (n : Node) (d : Damage) → unless refusal n ≡ Err d → refusal ≡ Some d
 value-some None n d is = absurd (cc)
 value-some (Some e) n d is = let same : e ≡ d = cc in ap (λ (x : Damage). Some x) same
 
 pub leaf-is : (refusal : Option Damage) (n leaf : Node) → unless refusal n ≡ Ok leaf → leaf ≡ n
-leaf-is None n leaf is = cc
-leaf-is (Some d) n leaf is = absurd (cc)
+leaf-is None n made is = cc
+leaf-is (Some d) n made is = absurd (cc)
 
 pub part-over : (T : Type 0) (bytes : List ℕ) (h : Header) (old new : Counts) (d : Damage) → first_damage (limits_passed (old.octets + counted_of h) old.nodes h) ≡ Some d → Meets {T = T} (at_part bytes h) old new (Err (Refused d))
 part-over T bytes h old new d over = λ more. refused_from-over old.octets old.nodes (part_of bytes h) more d over
@@ -170,8 +170,8 @@ part-bad T bytes h old new Memory within is = tt
 
 pub part-good : {T : Type 0} (bytes : List ℕ) (h : Header) (old new : Counts) (leaf : Node) (x : T) → first_damage (limits_passed (old.octets + counted_of h) old.nodes h) ≡ None → leaf_in bytes h ≡ Ok leaf → new.octets ≡ old.octets + counted_of h → new.nodes ≡ old.nodes + 1
     → Meets (at_part bytes h) old new (Ok x)
-part-good bytes h old new leaf x within is counted one = λ more.
-    refused_from-counted old.octets old.nodes (part_of bytes h) new more within (value-none (no_value (part_of bytes h)) (leaf_of bytes h) leaf is) counted one
+part-good bytes h old new made x within is counted one = λ more.
+    refused_from-counted old.octets old.nodes (part_of bytes h) new more within (value-none (no_value (part_of bytes h)) (leaf_of bytes h) made is) counted one
 
 -- ---- a child of Attachments
 

@@ -1,15 +1,16 @@
 //! The header of a child, read from the file.
 
-ghost use Rattle.std.specs.Prelude.{◌≡◌, ◌+◌, ◌-◌, ◌≤◌, min, IfOk};
+ghost use Rattle.std.specs.Prelude.{◌≡◌, ◌+◌, ◌-◌, ◌≤◌, length, min, Ok, Err, IfOk, IfErr};
+ghost use Rattle.mkv_values.specs.declared.outside.TheConstants.{LONGEST_FILE};
 ghost use Rattle.mkv_io.specs.Faults.{HasCause};
 ghost use Rattle.mkv_io.specs.Sources.{IfTold, IsLive, file_size};
-ghost use Rattle.matroska_format.specs.Element.{element_at, in_master};
+ghost use Rattle.matroska_format.specs.Element.{element_at, element_in, in_master};
 ghost use Rattle.attachment_reading.specs.Walk.{IsChild, ReadsAs, is_attachments_fault};
 
 use crate::end::AttachmentsEnd;
 use element_headers::{Header, LONGEST_HEADER, Parent, read_header};
 use mkv_io::Reads;
-use mkv_values::FileId;
+use mkv_values::{Damage, FileId};
 
 /// The child at `at` octets behind the start of a file, of a master that isn't read whole and ends at `end`. No
 /// octet behind that end is read.
@@ -33,6 +34,18 @@ pub(crate) fn child_header<R: Reads>(
     let octets = &mut buffer[..len as usize];
     src.read_at(file, at, octets)?;
     let total = src.size(file);
+    let header = header_in(octets, total, at, end)?;
+    Ok(header)
+}
+
+// The header of the child that these octets begin.
+fn header_in(octets: &[u8], total: u64, at: u64, end: u64) -> Result<Header, Damage>
+    requires place { at ≤ LONGEST_FILE }
+    requires inside { at + length octets.now ≤ end }
+    ensures ok { IfOk result (λ h. element_in in_master octets.now total at end ≡ Ok h) }
+    ensures err { IfErr result (λ d. element_in in_master octets.now total at end ≡ Err d) }
+    ensures child { IfOk result (IsChild at end) }
+{
     let header = read_header(octets, Parent::Master, total, at, end)?;
     Ok(header)
 }

@@ -30,30 +30,32 @@ returns-in_err-header-clause-meets g c = λ bytes told.
 pub returns-in_err-header-clause-pays : goal.returns-in_err-header-clause-pays
 returns-in_err-header-clause-pays g c =
     let p = err_from_is_err_and c.from_residual.result c.from_residual.ensures.1 in
-    rw (p.1, p.2) (IsSpent-header _ _ _ _ _ refl c.in_err-header.ensures.octets)
+    rw p.1 (IsSpent-header _ _ _ _ _ refl c.in_err-header.ensures.octets)
 
 -- it passes a limit
+
 pub returns-in_err-add-clause-meets : goal.returns-in_err-add-clause-meets
 returns-in_err-add-clause-meets g c = λ bytes told.
     let h = c.in_ok-header.header in
     let p = err_from_is_err_and c.from_residual-in_err-add.result c.from_residual-in_err-add.ensures.1 in
     let over = rw c.counted_of.ensures at c.in_err-add.ensures.err in
-    rw (p.1, p.2) (Meets-at (at_part bytes) _ h c.args.counts.now c.add.new.self (Err (Refused c.in_err-add.field-0.0)) (c.in_ok-header.ensures.exact bytes told)
+    rw (p.1, p.2) (Meets-at {T = Part} (at_part bytes) _ h c.args.counts.now c.add.new.self (Err (Refused c.in_err-add.field-0.0)) (c.in_ok-header.ensures.exact bytes told)
     (part-over Part bytes h c.args.counts.now c.add.new.self c.in_err-add.field-0.0 over))
 
 pub returns-in_err-add-clause-pays : goal.returns-in_err-add-clause-pays
 returns-in_err-add-clause-pays g c =
     let p = err_from_is_err_and c.from_residual-in_err-add.result c.from_residual-in_err-add.ensures.1 in
-    rw (p.1, p.2) (IsSpent-header _ _ _ _ _ c.in_err-add.ensures.refused c.in_ok-header.ensures.octets)
+    rw p.1 (IsSpent-header _ _ _ _ _ c.in_err-add.ensures.refused c.in_ok-header.ensures.octets)
 
 -- its value is no value, or it can't be read
+
 pub returns-in_err-leaf-clause-meets : goal.returns-in_err-leaf-clause-meets
 returns-in_err-leaf-clause-meets g c = λ bytes told.
     let h = c.in_ok-header.header in
     let now = ap (λ s. (g.R.Reads.files s).content c.args.file.n) c.in_ok-header.ensures.standing ∙ told in
     let p = err_from_is_err_and c.from_residual-in_err-leaf.result c.from_residual-in_err-leaf.ensures.1 in
     let within = rw c.counted_of.ensures at c.in_ok-add.ensures.ok in
-    rw (p.1, p.2) (Meets-at (at_part bytes) _ h c.args.counts.now c.add.new.self (Err c.in_err-leaf.field-0.0) (c.in_ok-header.ensures.exact bytes told)
+    rw (p.1, p.2) (Meets-at {T = Part} (at_part bytes) _ h c.args.counts.now c.add.new.self (Err c.in_err-leaf.field-0.0) (c.in_ok-header.ensures.exact bytes told)
     (part-bad Part bytes h c.args.counts.now c.add.new.self c.in_err-leaf.field-0.0 within (c.in_err-leaf.ensures.exact bytes now)))
 
 pub returns-in_err-leaf-clause-pays : goal.returns-in_err-leaf-clause-pays
@@ -63,15 +65,17 @@ returns-in_err-leaf-clause-pays g c =
     let ends = c.in_ok-header.ensures.child.inside in
     let few = octets_of-counted h (omega arith) in
     let p = err_from_is_err_and c.from_residual-in_err-leaf.result c.from_residual-in_err-leaf.ensures.1 in
-    rw (p.1, p.2) (IsSpent-one _ _ _ _ _ _ _ _ c.in_ok-header.ensures.octets c.in_err-leaf.ensures.octets (rw c.counted_of.ensures at c.in_ok-add.ensures.octets) c.in_ok-add.ensures.nodes few.0 (omega (arith, few.1)))
+    rw p.1 (IsSpent-one _ _ _ _ _ _ _ _ c.in_ok-header.ensures.octets c.in_err-leaf.ensures.octets (rw c.counted_of.ensures at c.in_ok-add.ensures.octets) c.in_ok-add.ensures.nodes few.0 (omega (arith, few.1)))
 
 -- it is read
+
 pub returns-clause-meets : goal.returns-clause-meets
 returns-clause-meets g c = λ bytes told.
     let h = c.in_ok-header.header in
     let now = ap (λ s. (g.R.Reads.files s).content c.args.file.n) c.in_ok-header.ensures.standing ∙ told in
-    Meets-at (at_part bytes) _ h c.args.counts.now c.add.new.self _ (c.in_ok-header.ensures.exact bytes told)
-    (part-good bytes h c.args.counts.now c.add.new.self c.in_ok-leaf.leaf _ (rw c.counted_of.ensures at c.in_ok-add.ensures.ok) (c.in_ok-leaf.ensures.exact bytes now) (rw c.counted_of.ensures at c.in_ok-add.ensures.octets) c.in_ok-add.ensures.nodes)
+    let part : Part = record { header = h; leaf = c.in_ok-leaf.leaf } in
+    Meets-at {T = Part} (at_part bytes) _ h c.args.counts.now c.add.new.self (Ok part) (c.in_ok-header.ensures.exact bytes told)
+    (part-good {T = Part} bytes h c.args.counts.now c.add.new.self c.in_ok-leaf.leaf part (rw c.counted_of.ensures at c.in_ok-add.ensures.ok) (c.in_ok-leaf.ensures.exact bytes now) (rw c.counted_of.ensures at c.in_ok-add.ensures.octets) c.in_ok-add.ensures.nodes)
 
 pub returns-clause-exact : goal.returns-clause-exact
 returns-clause-exact g c = λ bytes told.
