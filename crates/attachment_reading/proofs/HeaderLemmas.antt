@@ -1,5 +1,5 @@
 -- The header of a child.
-use Rattle.std.proofs.Common.{◌≡◌, ℕ, ◌+◌, ◌-◌, ◌≤◌, min, Bool, true, List, length, drop, Option, Some, None, Result, Ok, Err, refl, ◌∙◌, ap, arith}
+use Rattle.std.proofs.Common.{◌≡◌, ℕ, ◌+◌, ◌-◌, ◌≤◌, min, true, List, length, drop, Option, Some, None, Result, Ok, Err, refl, ◌∙◌, ap, arith}
 use Rattle.mkv_io.specs.Contents.{octets_from}
 use Rattle.ebml_format.specs.declared.number.IdRead.{IdRead}
 use Rattle.ebml_format.specs.declared.number.NumFault.{NumFault}

@@ -1,5 +1,5 @@
 -- What is read is paid by what is counted.
-use Rattle.std.proofs.Common.{◌≡◌, ℕ, ◌+◌, ◌-◌, ◌*◌, ◌<◌, ◌≤◌, min, sym, subst, arith}
+use Rattle.std.proofs.Common.{◌≡◌, ℕ, ◌+◌, ◌-◌, ◌*◌, ◌≤◌, min, sym, subst, arith}
 use Rattle.matroska_format.specs.declared.limits.TheConstants.{LONGEST_HEADER}
 use Rattle.tree_format.specs.declared.limits.TheConstants.{MOST_NODES}
 use Rattle.attachment_reading.specs.Walk.{IsPaid, IsSpent}

@@ -1,5 +1,5 @@
 -- The children of an AttachedFile, one at a time.
-use Rattle.std.proofs.Common.{◌≡◌, ◌<◌, ◌≤◌, ℕ, ◌+◌, ◌==◌, Bool, true, false, if◌then◌else◌, List, [], ◌∷◌, ◌++◌, length, map, Option, Some, None, IfSome, Result, Ok, Err, refl, sym, ◌∙◌, ap, subst, arith, append-nil, append_assoc, unwrap_or, is_none}
+use Rattle.std.proofs.Common.{◌≡◌, ◌<◌, ◌≤◌, ℕ, ◌+◌, ◌==◌, Bool, true, false, if◌then◌else◌, List, [], ◌∷◌, ◌++◌, length, map, Option, Some, None, IfSome, Ok, refl, sym, ◌∙◌, ap, subst, arith, append-nil, append_assoc, unwrap_or, is_none}
 use Rattle.std.specs.Prelude.{IsErr}
 use Rattle.std.specs.declared.alloc.AllocError.{AllocError}
 use Rattle.std.specs.Option.{option_map, option_map_or, option_or}
@@ -17,7 +17,7 @@ use Rattle.matroska_format.proofs.ElementsLemmas.{elements-end}
 use Rattle.mkv_schema.specs.Table.{table}
 use Rattle.mkv_schema.specs.Schema.{entry_of, uint_default}
 use Rattle.tree_format.specs.Values.{first_child, integer_of, uint_in}
-use Rattle.tree_format.specs.Node.{Node, leaf, master, nodes_of, id_of, body_of, children, with_children, depth, depth_all, IsMaster}
+use Rattle.tree_format.specs.Node.{Node, leaf, master, nodes_of, id_of, children, with_children, depth, IsMaster}
 use Rattle.tree_format.specs.Changes.{AreTooLong, part, with_child}
 use Rattle.tree_format.specs.Standing.{IsSound, StandsIn}
 use Rattle.tree_format.proofs.NodeLemmas.{list-nodes}

@@ -1,8 +1,8 @@
 -- The children are read one behind the other.
-use Rattle.std.proofs.Common.{◌≡◌, ◌+◌, ◌-◌, ◌≤◌, [], ◌∷◌, ◌++◌, ◌<◌, ℕ, List, Option, None, IfSome, Ok, Err, refl, sym, ap, subst, ◌∙◌, arith}
+use Rattle.std.proofs.Common.{◌≡◌, ◌+◌, ◌-◌, ◌≤◌, [], ◌∷◌, ◌++◌, ◌<◌, ℕ, List, None, IfSome, Ok, Err, refl, sym, ap, subst, ◌∙◌, arith}
 use Rattle.std.proofs.lemmas.Result.{err_from_is_err_and}
-use Rattle.mkv_schema.specs.declared.ids.TheConstants.{ATTACHED_FILE, FILE_DATA}
-use Rattle.tree_format.specs.Node.{Node, children, leaf}
+use Rattle.mkv_schema.specs.declared.ids.TheConstants.{ATTACHED_FILE}
+use Rattle.tree_format.specs.Node.{Node, children}
 use Rattle.tree_building.proofs.BuildLemmas.{built-master, put-is}
 use Rattle.matroska_format.specs.declared.element.Header.{Header}
 use Rattle.matroska_format.specs.Element.{known, stated_end}
@@ -11,9 +11,9 @@ use Rattle.attachment_reading.specs.Walk.{Meets}
 use Rattle.attachment_reading.specs.declared.part.Part.{Part}
 use Rattle.attachment_reading.specs.declared.attached.Parts.{Parts}
 use Rattle.attachment_reading.proofs.MetLemmas.{IsMet-all, IsMet-more, IsMet-none, IsMet-stops, run_at}
-use Rattle.attachment_reading.proofs.PaidLemmas.{IsPaid-longer, IsPaid-none, IsPaid-on, IsSpent-longer, IsSpent-on, IsSpent-paid}
+use Rattle.attachment_reading.proofs.PaidLemmas.{IsPaid-longer, IsPaid-none, IsPaid-on, IsSpent-longer, IsSpent-on}
 use Rattle.attachment_reading.proofs.PartsLemmas.{AreRead, AreRead-first, AreRead-leaves, AreRead-more, AreRead-none, built-attachment, built-children, built-own, built-part, built-data, entry-is, first-inside}
-use Rattle.attachment_reading.proofs.TableFacts.{attached-master, file_data-stands, file_data-valid}
+use Rattle.attachment_reading.proofs.TableFacts.{attached-master, file_data-valid}
 use Rattle.attachment_reading.proofs.attached.read_parts.Goals as goal
 
 pub empty-requires : goal.empty-requires

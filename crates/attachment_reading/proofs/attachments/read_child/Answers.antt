@@ -1,18 +1,14 @@
 -- A child is met, and an AttachedFile read.
-use Rattle.std.proofs.Common.{◌≡◌, ◌+◌, ◌-◌, ◌<◌, ◌≤◌, ℕ, ◌==◌, true, false, Ok, Err, refl, sym, ap, subst, ◌∙◌, arith}
+use Rattle.std.proofs.Common.{ℕ, Err, refl, sym, subst, arith}
 use Rattle.std.proofs.lemmas.Result.{err_from_is_err_and}
-use Rattle.std.proofs.lemmas.Bool.Decides.{nat_tests}
 use Rattle.std.proofs.lemmas.List.Elements.{All-push}
 use Rattle.std.specs.Prelude.{All}
 use Rattle.attachment_records.specs.declared.attachment.Attachment.{Attachment}
 use Rattle.attachment_reading.specs.Walk.{IsAttachedIn}
 use Rattle.attachment_reading.specs.Attachments.{at_child}
-use Rattle.attachment_reading.specs.declared.attached.Attached.{Attached}
 use Rattle.attachment_reading.specs.declared.end.AttachmentsEnd.TheVariants.{Refused}
-use Rattle.attachment_reading.proofs.HeaderLemmas.{IsChild-longer}
-use Rattle.attachment_reading.proofs.FilesLemmas.{Adds-none, Adds-one}
-use Rattle.attachment_reading.proofs.MetLemmas.{Meets-at, Meets-damage, child-other, child-over, file-bad, file-good}
-use Rattle.attachment_reading.proofs.PaidLemmas.{IsPaid-longer, IsPaid-on, IsPaid-one, IsSpent-header, IsSpent-longer, IsSpent-on, IsSpent-paid}
+use Rattle.attachment_reading.proofs.MetLemmas.{Meets-at, Meets-damage, child-over}
+use Rattle.attachment_reading.proofs.PaidLemmas.{IsSpent-header}
 use Rattle.attachment_reading.proofs.attachments.read_child.Goals as goal
 
 pub returns-in_err-child-clause-meets : goal.returns-in_err-child-clause-meets

@@ -1,11 +1,8 @@
 -- A leaf is the definition's.
-use Rattle.std.proofs.Common.{◌≡◌, [], refl, sym, ◌∙◌, ap, arith}
-use Rattle.std.proofs.lemmas.Result.{err_from_is_err_and}
+use Rattle.std.proofs.Common.{[], sym, ◌∙◌, ap}
 use Rattle.mkv_schema.specs.declared.ids.TheConstants.{ATTACHED_FILE, FILE_DATA}
 use Rattle.matroska_format.specs.Value.{is_known_value}
-use Rattle.tree_format.specs.Node.{Node}
-use Rattle.attachment_reading.proofs.EndLemmas.{ReadsAs-unread}
-use Rattle.attachment_reading.proofs.LeafLemmas.{leaf_in-bad, leaf_in-data, leaf_in-value, octets_of-data, octets_of-value}
+use Rattle.attachment_reading.proofs.LeafLemmas.{leaf_in-data}
 use Rattle.attachment_reading.proofs.PartsLemmas.{leaf-stands}
 use Rattle.attachment_reading.proofs.TableFacts.{file_data-valid, file_data-value}
 use Rattle.attachment_reading.proofs.part.leaf_of.Goals as goal

@@ -1,5 +1,5 @@
 -- A child is read and counted.
-use Rattle.std.proofs.Common.{◌≡◌, ◌+◌, ◌-◌, ◌≤◌, Ok, Err, refl, sym, ◌∙◌, ap, arith}
+use Rattle.std.proofs.Common.{Ok, Err, refl, ◌∙◌, ap, arith}
 use Rattle.std.proofs.lemmas.Result.{err_from_is_err_and}
 use Rattle.attachment_reading.specs.Attachments.{at_part, leaf_of, no_value, part_of}
 use Rattle.attachment_reading.specs.declared.end.AttachmentsEnd.TheVariants.{Refused}
