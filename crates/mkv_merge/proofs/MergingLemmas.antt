@@ -1,8 +1,23 @@
--- The contents of inputs that are all there.
-use Rattle.std.proofs.Common.{◌≡◌, ℕ, ◌+◌, cond, List, [], ◌∷◌, map, Option, Some, None, refl, ap}
-use Rattle.std.specs.Prelude.{is_none, unwrap_or}
+-- Inputs that are all there: their contents, and how much is read of them.
+use Rattle.std.proofs.Common.{◌≡◌, ℕ, ◌+◌, ◌*◌, ◌^◌, ◌≤◌, cond, false, List, [], ◌∷◌, length, map, Option, Some, None, Result, Ok, Err, refl, sym, ◌∙◌, ap, subst, arith}
+use Rattle.std.specs.Prelude.{Bool, if◌then◌else◌, is_none, unwrap_or}
 use Rattle.std.specs.List.{position_from}
-use Rattle.input_files.specs.Inputs.{first_missing}
+use Rattle.std.proofs.lemmas.List.Sums.{sum_by-cons}
+use Rattle.mkv_values.specs.declared.outside.FileId.{FileId}
+use Rattle.mkv_io.specs.LiveFiles.{LiveFiles}
+use Rattle.mkv_io.specs.Told.{Told}
+use Rattle.input_files.specs.Inputs as inputs
+use Rattle.input_files.specs.Inputs.{file_names, first_missing}
+use Rattle.merge_words.specs.declared.files.FileWords.{FileWords}
+use Rattle.merge_words.specs.declared.output.MergeWords.{MergeWords}
+use Rattle.merge_plan.specs.Plan.{Source, lanes_given}
+use Rattle.mkv_merge.specs.Bound.{contents_length, files_size, most_of, most_read}
+use Rattle.mkv_merge.specs.Merge.{sources_of, sources_with}
+use Rattle.mkv_merge.specs.Prepared.{AreTold}
+use Rattle.mkv_merge.specs.Read.{contents_of, unless_missing, writes_input}
+use Rattle.mkv_merge.specs.Refused.{and_then}
+use Rattle.mkv_merge.specs.declared.refusal.Refusal.{Refusal}
+use Rattle.mkv_merge.specs.declared.refusal.Refusal.TheVariants.{OutputIsInput}
 
 -- each name has a content, where none is missing from there on
 all-there-from : (world : List ℕ → Option (List ℕ)) (k : ℕ) (names : List (List ℕ)) → position_from (λ name. is_none (world name)) k names ≡ None
@@ -18,3 +33,64 @@ all-there-from world k (name ∷ names) none = step (world name) (all-there-from
 
 pub all-there : (world : List ℕ → Option (List ℕ)) (names : List (List ℕ)) → first_missing world names ≡ None → map world names ≡ map Some (map (λ name. unwrap_or (world name) []) names)
 all-there world names none = all-there-from world 0 names none
+
+-- where no input is missing, nothing refuses the names
+pub opened-sources : (world : List ℕ → Option (List ℕ)) (words : MergeWords) (files : List FileWords) → writes_input words ≡ false → files ≡ words.files → first_missing world (file_names files) ≡ None → sources_of world words ≡ sources_with words (map (λ name. unwrap_or (world name) []) (file_names words.files))
+opened-sources world words files apart same there =
+    ap (λ (b : Bool). if b then Err OutputIsInput else and_then (contents_of world words.files) (sources_with words)) apart
+    ∙ ap (λ (missing : Option ℕ). and_then (unless_missing missing (map (λ name. unwrap_or (world name) []) (file_names words.files))) (sources_with words))
+    (ap (λ (each : List FileWords). first_missing world (file_names each)) (sym same) ∙ there)
+
+-- and the files that were opened tell the contents of their names
+pub opened-told : (f : LiveFiles) (world : List ℕ → Option (List ℕ)) (words : MergeWords) (files : List FileWords) (list ids : List FileId) → files ≡ words.files → ids ≡ list → first_missing world (file_names files) ≡ None → inputs.contents_of f.content list ≡ map world (file_names files) → AreTold f ids (map (λ name. unwrap_or (world name) []) (file_names words.files))
+opened-told f world words files list ids same of there told =
+    ap (inputs.contents_of f.content) of ∙ told ∙ all-there world (file_names files) there
+    ∙ ap (λ (each : List FileWords). map Some (map (λ name. unwrap_or (world name) []) (file_names each))) same
+
+-- ---- how much is read
+
+-- live files that are told have the lengths of their contents
+pub size-told : (f : LiveFiles) → ((file : ℕ) → Told (f.content file) (λ bytes. length bytes ≡ f.size file)) → (world : List ℕ → Option (List ℕ)) (files : List FileWords) (ids : List FileId) → AreTold f ids (map (λ name. unwrap_or (world name) []) (file_names files)) → files_size f ids ≡ contents_length world files
+size-told f sized world [] [] told = refl
+size-told f sized world [] (id ∷ ids) told = absurd (cc)
+size-told f sized world (w ∷ files) [] told = absurd (cc)
+size-told f sized world (w ∷ files) (id ∷ ids) told =
+    let here : f.content id.n ≡ Some (unwrap_or (world w.name) []) = cc in
+    let behind : AreTold f ids (map (λ name. unwrap_or (world name) []) (file_names files)) = cc in
+    let one : length (unwrap_or (world w.name) []) ≡ f.size id.n = sized id.n (unwrap_or (world w.name) []) here in
+    let rest : files_size f ids ≡ contents_length world files = size-told f sized world files ids behind in
+    let left = sum_by-cons (λ (file : FileId). f.size file.n) id ids in
+    let right = sum_by-cons (λ (each : FileWords). length (unwrap_or (world each.name) [])) w files in
+    omega (arith, one, rest, left, right)
+
+-- what is read before the blocks is no more than what may be read
+pub reads-once : (sources : Result (List Source) Refusal) (old new size : ℕ) → new ≤ old + 6 * size → new ≤ old + most_of sources size
+reads-once (Ok sources) old new size paid = fits (length (lanes_given sources)) old new size paid
+  where
+    fits : (lanes old new size : ℕ) → new ≤ old + 6 * size → new ≤ old + 6 * ((lanes + 1) * size)
+    fits lanes old new size paid = omega arith
+reads-once (Err why) old new size paid = omega arith
+
+-- and so is what each lane reads besides
+pub reads-both : (found : Result (List Source) Refusal) (sources : List Source) (lanes old mid new size now : ℕ) → found ≡ Ok sources → lanes ≡ length (lanes_given sources) → now ≡ size → mid ≤ old + 6 * size → new ≤ mid + 6 * (lanes * now) → new ≤ old + most_of found size
+reads-both found sources lanes old mid new size now is count same first second =
+    subst (λ (r : Result (List Source) Refusal). new ≤ old + most_of r size) (sym is)
+    (fits (length (lanes_given sources)) (subst (λ (n : ℕ). new ≤ mid + 6 * (n * size)) count (subst (λ (s : ℕ). new ≤ mid + 6 * (lanes * s)) same second)))
+  where
+    fits : (n : ℕ) → new ≤ mid + 6 * (n * size) → new ≤ old + 6 * ((n + 1) * size)
+    fits n more = omega arith
+
+-- files are opened and closed without reading them
+pub reads-few : (world : List ℕ → Option (List ℕ)) (words : MergeWords) (found : Result (List Source) Refusal) (old opened merged closed size : ℕ) → sources_of world words ≡ found → size ≡ contents_length world words.files → opened ≡ old → merged ≤ opened + most_of found size → closed ≡ merged → closed ≤ old + most_read world words
+reads-few world words found old opened merged closed size is length begun most ended =
+    within (most_of found size) (most_of (sources_of world words) (contents_length world words.files)) (ap (λ (n : ℕ). most_of found n) length ∙ ap (λ (r : Result (List Source) Refusal). most_of r (contents_length world words.files)) (sym is)) most
+  where
+    within : (n m : ℕ) → n ≡ m → merged ≤ opened + n → closed ≤ old + (m + 2 ^ 20)
+    within n m same most = omega arith
+
+-- where nothing is read
+pub reads-none : (world : List ℕ → Option (List ℕ)) (words : MergeWords) (old new : ℕ) → new ≡ old → new ≤ old + most_read world words
+reads-none world words old new same = within (most_read world words)
+  where
+    within : (most : ℕ) → new ≤ old + most
+    within most = omega arith

@@ -1,8 +1,9 @@
 -- What is read of inputs one after the other.
-use Rattle.std.proofs.Common.{◌≡◌, ℕ, zero, suc, ◌+◌, ◌<◌, ◌≤◌, Bool, List, [], ◌∷◌, ◌++◌, length, take, drop, get_or, map, Option, Some, Result, Ok, Err, refl, sym, ◌∙◌, ap, arith, append_assoc}
+use Rattle.std.proofs.Common.{◌≡◌, ℕ, zero, suc, ◌+◌, ◌*◌, ◌<◌, ◌≤◌, Bool, List, [], ◌∷◌, ◌++◌, length, take, drop, get_or, map, Option, Some, Result, Ok, Err, refl, sym, ◌∙◌, ap, arith, append_assoc}
 use Rattle.std.specs.List.{zip}
 use Rattle.std.proofs.Math.Seq.{take-suc}
 use Rattle.std.proofs.lemmas.List.{append-nil, length-map, map-append}
+use Rattle.std.proofs.lemmas.List.Sums.{sum_by-take-le, sum_by_more}
 use Rattle.mkv_values.specs.declared.outside.FileId.{FileId}
 use Rattle.mkv_io.specs.Faults.{counted}
 use Rattle.mkv_io.specs.LiveFiles.{LiveFiles}
@@ -12,6 +13,7 @@ use Rattle.merge_words.specs.declared.files.FileWords.{FileWords}
 use Rattle.merge_words.specs.declared.output.MergeWords.{MergeWords}
 use Rattle.merge_inputs.specs.Input.{InputRead, input_of, read_in}
 use Rattle.merge_inputs.specs.declared.input.Input.{Input}
+use Rattle.mkv_merge.specs.Bound.{files_size}
 use Rattle.mkv_merge.specs.Prepared.{AreTold, ReadsAs, reads_in}
 use Rattle.mkv_merge.specs.Read.{inputs_from, inputs_of, numbered}
 use Rattle.mkv_merge.specs.Refused.{and_then}
@@ -109,3 +111,14 @@ files-more inputs input list k file below is of =
   where
     one_more : (n : ℕ) → n + 1 ≡ suc n
     one_more n = omega arith
+
+-- ---- how much is read
+
+-- what was read of one file more is paid by its length
+pub pays-more : (f : LiveFiles) (list : List FileId) (k : ℕ) (file : FileId) (start mid now size : ℕ) → k < length list → size ≡ f.size (get_or list k file).n → mid ≤ start + 6 * files_size f (take k list) → now ≤ mid + 6 * size → now ≤ start + 6 * files_size f (take (k + 1) list)
+pays-more f list k file start mid now size below is before more =
+    omega (arith, sum_by_more (λ (each : FileId). f.size each.n) list k file below)
+
+-- the first files are no longer than all
+pub pays-all : (f : LiveFiles) (list : List FileId) (k start now : ℕ) → now ≤ start + 6 * files_size f (take k list) → now ≤ start + 6 * files_size f list
+pays-all f list k start now paid = omega (arith, sum_by-take-le (λ (each : FileId). f.size each.n) list k)

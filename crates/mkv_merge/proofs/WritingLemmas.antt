@@ -1,10 +1,12 @@
 -- A merge that was prepared can be written, and comes to its verdict.
-use Rattle.std.proofs.Common.{◌≡◌, ℕ, zero, suc, ◌+◌, ◌<◌, ◌≤◌, Bool, false, ◌||◌, List, [], ◌∷◌, ◌++◌, length, map, get_or, Option, Some, None, Result, Ok, Err, IfOk, IfSome, refl, sym, ◌∙◌, ap, subst, arith}
-use Rattle.std.specs.List.{All, AllByRecursion, flat_map, zip}
+use Rattle.std.proofs.Common.{◌≡◌, ℕ, zero, suc, ◌+◌, ◌*◌, ◌<◌, ◌≤◌, nat_le, Bool, true, false, ◌||◌, List, [], ◌∷◌, ◌++◌, length, map, get_or, Option, Some, None, Result, Ok, Err, IfOk, IfSome, refl, sym, ◌∙◌, ap, subst, arith}
+use Rattle.std.specs.List.{All, AllByRecursion, flat_map, sum_by, zip}
 use Rattle.std.specs.Option.{unwrap_or}
 use Rattle.std.proofs.Math.ListN.{get_or-map}
 use Rattle.std.proofs.lemmas.List.{length-map}
-use Rattle.std.proofs.lemmas.List.Elements.{All-append, All-from_recursion, All-map}
+use Rattle.std.proofs.lemmas.Bool.Decides.{nat_tests}
+use Rattle.std.proofs.lemmas.List.Elements.{All-append, All-from_recursion, All-map, All-weaker}
+use Rattle.std.proofs.lemmas.List.Sums.{get_or-le-sum_by, sum_by-le}
 use Rattle.mkv_values.specs.declared.outside.FileId.{FileId}
 use Rattle.mkv_io.specs.Faults.{counted}
 use Rattle.mkv_io.specs.Lines.{with_lines}
@@ -24,9 +26,12 @@ use Rattle.output_model.specs.Document.{Document, Front}
 use Rattle.output_model.specs.OutputBlock.{OutputBlock}
 use Rattle.output_model.specs.declared.heads.ClusterLimits.{ClusterLimits}
 use Rattle.merge_model.specs.Lanes.{lane_blocks}
+use Rattle.merge_model.specs.Links.{Given}
 use Rattle.merge_model.specs.Merged.{merged}
 use Rattle.lane_blocks.specs.Links.{given_in, octets_in, IsOpenLink, IsSmallLink, IsToldLink}
 use Rattle.lane_blocks.specs.declared.link.Link.{Link}
+use Rattle.lane_blocks.specs.declared.link.Link.TheVariants.{Track, Entries}
+use Rattle.lanes.specs.Walks as walks
 use Rattle.time_merge.specs.Laws.{IsApartLink, lanes_over}
 use Rattle.cluster_runs.specs.Cued.{document_of}
 use Rattle.cluster_runs.specs.declared.rule.CueRule.{CueRule}
@@ -41,7 +46,7 @@ use Rattle.remux_plan.specs.declared.plan.PlannedLane.{PlannedLane}
 use Rattle.remux_plan.specs.declared.summary.Summary.{Summary}
 use Rattle.remux_plan.specs.declared.summary.Written.{Written}
 use Rattle.remuxer.specs.Output.{HasRecords}
-use Rattle.remuxer.specs.Plan.{IsPlan, IsPlannedLane, IsToldPlan, WritesLayout}
+use Rattle.remuxer.specs.Plan.{IsPlan, IsPlannedLane, IsToldPlan, WritesLayout, data_length, inputs_length}
 use Rattle.merge_words.specs.Sound.{IsSoundMerge}
 use Rattle.merge_words.specs.declared.files.FileWords.{FileWords}
 use Rattle.merge_words.specs.declared.output.MergeWords.{MergeWords}
@@ -51,7 +56,7 @@ use Rattle.merge_inputs.specs.Input.{InputRead, read_in}
 use Rattle.merge_inputs.specs.declared.input.Input.{Input}
 use Rattle.merge_inputs.specs.declared.taken.TakenTrack.{TakenTrack}
 use Rattle.merge_plan.specs.Plan.{Source, inputs_given, lanes_given, limits_of, rules_given}
-use Rattle.merge_plan.specs.Planned.{IsPlanOf, source_in}
+use Rattle.merge_plan.specs.Planned.{AllLinks, IsPlanOf, source_in}
 use Rattle.merge_plan.specs.Records.{front_of}
 use Rattle.mkv_lines.specs.Line.{wrote_blocks_line}
 use Rattle.mkv_lines.specs.Said.{ReportLines, Says, SaysPart}
@@ -61,6 +66,7 @@ use Rattle.mkv_lines.specs.declared.status.Status.{Status}
 use Rattle.mkv_lines.specs.declared.status.Stop.{Stop}
 use Rattle.mkv_lines.proofs.SaidLemmas.{SaysPart-all, SaysPart-before, SaysPart-behind, Says-then}
 use Rattle.mkv_lines.proofs.VerdictLemmas.{Leaves-same}
+use Rattle.mkv_merge.specs.Bound.{files_size}
 use Rattle.mkv_merge.specs.Merge.{blocks_of, document_in, has_absent, has_damage, lines_before, lines_behind, merged_verdict, reads_of, status_of, warnings}
 use Rattle.mkv_merge.specs.Prepared.{AreInputsOf, AreTold, IsPrepared, reads_in}
 use Rattle.mkv_merge.specs.Read.{writes_input}
@@ -210,6 +216,81 @@ document-is f words inputs p sources is =
     ∙ ap (λ (n : Option Node). document_of (limits_of words) (rules_given (reads_of sources)) (front_of words (reads_of sources)) n p.tags blocks) is.plan.chapters
     ∙ ap (λ (n : Option Node). document_of (limits_of words) (rules_given (reads_of sources)) (front_of words (reads_of sources)) None n blocks) is.plan.tags
     ∙ ap (λ (bs : List OutputBlock). document_of (limits_of words) (rules_given (reads_of sources)) (front_of words (reads_of sources)) None None bs) (blocks-are f words inputs p sources is)
+
+-- ---- how much is read
+
+-- an empty content, where it is told
+abbrev told_by : Bool → Option (List ℕ)
+told_by true = Some []
+told_by false = None
+
+-- Files of which those are told that are no longer than so much.
+abbrev told_up_to : LiveFiles → ℕ → LiveFiles
+told_up_to f most = record { live = f.live; size = f.size; content = λ file. told_by (nat_le (f.size file) most) }
+
+-- no input's file is longer than all together
+inputs-within : (f : LiveFiles) (inputs : List Input) → All (λ (i : Input). f.size i.file.n ≤ files_size f (map (λ (i : Input). i.file) inputs)) inputs
+inputs-within f inputs =
+    All-unmap (λ (file : FileId). f.size file.n ≤ files_size f (map (λ (i : Input). i.file) inputs)) (λ (i : Input). i.file) inputs
+    (λ k d below. get_or-le-sum_by (λ (file : FileId). f.size file.n) (map (λ (i : Input). i.file) inputs) k d below)
+
+-- so no link's file is: the links tell no more than the inputs
+links-within : (f : LiveFiles) (words : MergeWords) (ids : List FileId) (p : Prepared) → IsPrepared f words ids p → AllLinks (λ (link : Link). walks.file_length f link ≤ files_size f ids) p.plan
+links-within f words ids p prepared =
+    subst (λ (list : List FileId). AllLinks (λ (link : Link). walks.file_length f link ≤ files_size f list) p.plan) prepared.inputs.of
+    (All-weaker (All (IsToldLink (told_up_to f all))) (All (λ (link : Link). walks.file_length f link ≤ all))
+    (All-weaker (IsToldLink (told_up_to f all)) (λ (link : Link). walks.file_length f link ≤ all) told-within) (links_of p.plan.lanes)
+    (prepared.written.told (told_up_to f all) (λ n i below. within-told (f.size (get_or p.inputs n i).file.n) (inputs-within f p.inputs n i below))))
+  where
+    all : ℕ
+    all = files_size f (map (λ (i : Input). i.file) p.inputs)
+
+    within-told : (size : ℕ) → size ≤ all → told_by (nat_le size all) ≡ Some (unwrap_or (told_by (nat_le size all)) [])
+    within-told size below = step (nat_le size all) (grind (arith, nat_tests))
+      where
+        step : (is : Bool) → is ≡ true → told_by is ≡ Some (unwrap_or (told_by is) [])
+        step true is = refl
+        step false is = absurd (cc)
+
+    told-within : (link : Link) → IsToldLink (told_up_to f all) link → walks.file_length f link ≤ all
+    told-within (Track t) told = step (nat_le (f.size t.file.n) all) refl told
+      where
+        step : (is : Bool) → nat_le (f.size t.file.n) all ≡ is → told_by is ≡ Some (unwrap_or (told_by is) []) → f.size t.file.n ≤ all
+        step true is told = grind (arith, nat_tests)
+        step false is told = absurd (cc)
+    told-within (Entries e) told = omega arith
+
+-- one link is no longer than all inputs
+one-within : (f : LiveFiles) (most : ℕ) (links : List Link) → length links ≡ 1 → All (λ (link : Link). walks.file_length f link ≤ most) links → walks.files_length f links ≤ most
+one-within f most [] one within = absurd (omega arith)
+one-within f most (link ∷ []) one within = omega (arith, within 0 link (omega arith))
+one-within f most (link ∷ (other ∷ links)) one within = absurd (omega arith)
+
+-- a lane reads the file of one input
+pub lengths-within : (f : LiveFiles) (words : MergeWords) (ids : List FileId) (p : Prepared) → IsPrepared f words ids p → inputs_length f p.plan ≤ length p.plan.lanes * files_size f ids
+lengths-within f words ids p prepared =
+    sum_by-le (λ (l : PlannedLane). walks.files_length f l.spec.links) (files_size f ids) p.plan.lanes
+    (λ k l below. one-within f (files_size f ids) (get_or p.plan.lanes k l).spec.links (prepared.written.one k l below).0
+    (All-unmap (All (λ (link : Link). walks.file_length f link ≤ files_size f ids)) (λ (each : PlannedLane). each.spec.links) p.plan.lanes (links-within f words ids p prepared) k l below))
+
+-- and there is no attached file to copy
+pub data-none : (f : LiveFiles) (words : MergeWords) (ids : List FileId) (p : Prepared) → IsPrepared f words ids p → data_length p.plan ≡ 0
+data-none f words ids p prepared = ap (sum_by (λ (a : Attachment). a.len)) prepared.written.attachments
+
+-- what a merge of this plan may read
+pub plan-reads : (f : LiveFiles) (words : MergeWords) (ids : List FileId) (p : Prepared) (old new : ℕ) → IsPrepared f words ids p → new ≤ old + 6 * inputs_length f p.plan + data_length p.plan → new ≤ old + 6 * (length p.plan.lanes * files_size f ids)
+plan-reads f words ids p old new prepared paid =
+    within (inputs_length f p.plan) (length p.plan.lanes * files_size f ids) (data_length p.plan) (lengths-within f words ids p prepared) (data-none f words ids p prepared) paid
+  where
+    within : (read most data_read : ℕ) → read ≤ most → data_read ≡ 0 → new ≤ old + 6 * read + data_read → new ≤ old + 6 * most
+    within read most data_read fits none paid = omega arith
+
+-- its lanes are those of the sources
+pub lanes-count : (f : LiveFiles) (words : MergeWords) (inputs : List Input) (p : MergePlan) (sources : List Source) → IsMergeOf f words inputs p sources → length p.lanes ≡ length (lanes_given sources)
+lanes-count f words inputs p sources is =
+    sym (length-map p.lanes (λ (l : PlannedLane). l.spec.links))
+    ∙ sym (length-map (links_of p.lanes) (map (given_in f)))
+    ∙ ap (λ (given : List (List Given)). length given) (lanes-for f words inputs p sources is).given
 
 -- ---- the summary is that of the sources
 

@@ -1,3 +1,4 @@
+pub mod Bound
 pub mod Merge
 pub mod Prepared
 pub mod Read

@@ -1,6 +1,6 @@
 //! Files are opened, merged and closed.
 
-ghost use Rattle.std.specs.Prelude.{◌≡◌, false, ℕ, List, [], ◌∷◌, IfOk};
+ghost use Rattle.std.specs.Prelude.{◌≡◌, ◌+◌, ◌≤◌, false, ℕ, List, [], ◌∷◌, IfOk};
 ghost use Rattle.mkv_io.specs.Sources.{live_files};
 ghost use Rattle.mkv_io.specs.Told.{Told};
 ghost use Rattle.mkv_io.specs.Writing.{KeepsOthers};
@@ -10,6 +10,7 @@ ghost use Rattle.mkv_lines.specs.Faults.{HasStopCause};
 ghost use Rattle.mkv_lines.specs.Ordinary.{IsOrdinary};
 ghost use Rattle.mkv_lines.specs.Seen.{seen};
 ghost use Rattle.mkv_lines.specs.Verdict.{Reaches};
+ghost use Rattle.mkv_merge.specs.Bound.{files_size, most_of, most_read};
 ghost use Rattle.mkv_merge.specs.Merge.{merge_verdict, sources_with, verdict_of};
 ghost use Rattle.mkv_merge.specs.Prepared.{AreTold};
 ghost use Rattle.mkv_merge.specs.Read.{writes_input};
@@ -46,6 +47,8 @@ fn merge_opened<F: Files, P: Report>(
     ensures cause { HasStopCause
         (seen F.Reads F.writing_faults F.names P.Report files.old report.old).counts
         (seen F.Reads F.writing_faults F.names P.Report files.new report.new).counts result }
+    ensures octets { (contents : List (List ℕ)) → AreTold (live_files F.Reads files.old) ids.now contents → F.octets_read files.new
+        ≤ F.octets_read files.old + most_of (sources_with words.now contents) (files_size (live_files F.Reads files.old) ids.now) }
 {
     match prepare(alloc, words, files, ids) {
         Ok(prepared) => write(alloc, words, prepared, ids, files, report),
@@ -71,6 +74,7 @@ pub fn merge_of<F: Files, P: Report>(
     ensures cause { HasStopCause
         (seen F.Reads F.writing_faults F.names P.Report files.old report.old).counts
         (seen F.Reads F.writing_faults F.names P.Report files.new report.new).counts result }
+    ensures octets { Told (F.names files.old) (λ world. F.octets_read files.new ≤ F.octets_read files.old + most_read world words.now) }
 {
     if writes_input(words) {
         return refuse(alloc, words, &Refusal::OutputIsInput, report);

@@ -1,12 +1,13 @@
 //! What stands before the blocks of the inputs, and what they come to.
 
-ghost use Rattle.std.specs.Prelude.{◌≡◌, List, ℕ, length, IfOk};
+ghost use Rattle.std.specs.Prelude.{◌≡◌, ◌+◌, ◌*◌, ◌≤◌, List, ℕ, length, IfOk};
 ghost use Rattle.std.specs.List.{All};
 ghost use Rattle.mkv_io.specs.Faults.{HasCause};
-ghost use Rattle.mkv_io.specs.Sources.{IfTold, IsLive, live_files};
+ghost use Rattle.mkv_io.specs.Sources.{IfTold, IsLive, file_size, live_files};
 ghost use Rattle.mkv_outputs.specs.Sinks.{AreLive};
 ghost use Rattle.merge_words.specs.Sound.{IsSoundFile, IsSoundMerge};
 ghost use Rattle.merge_inputs.specs.Input.{IsInput, input_of, read_in};
+ghost use Rattle.mkv_merge.specs.Bound.{files_size};
 ghost use Rattle.mkv_merge.specs.Ends.{is_files_fault};
 ghost use Rattle.mkv_merge.specs.Prepared.{AreInputsOf, AreTold, IsPrepared, Prepares, ReadsAs, reads_in};
 ghost use Rattle.mkv_merge.specs.Read.{inputs_of, numbered};
@@ -45,6 +46,7 @@ fn read_one<R: Reads>(
     ensures file { IfOk result (λ read. read.file ≡ file) }
     ensures standing { R.standing src.new ≡ R.standing src.old }
     ensures cause { HasCause is_files_fault (R.reading_faults src.old) (R.reading_faults src.new) result }
+    ensures octets { R.octets_read src.new ≤ R.octets_read src.old + 6 * file_size R.Reads src.old file }
 {
     match read_input(alloc, words, webm, held, src, file) {
         Ok(read) => Ok(read),
@@ -69,6 +71,7 @@ fn read_inputs<R: Reads>(
     ensures inputs { IfOk result (AreInputsOf (live_files R.Reads src.new) files.now) }
     ensures standing { R.standing src.new ≡ R.standing src.old }
     ensures cause { HasCause is_files_fault (R.reading_faults src.old) (R.reading_faults src.new) result }
+    ensures octets { R.octets_read src.new ≤ R.octets_read src.old + 6 * files_size (live_files R.Reads src.old) files.now }
 {
     let mut inputs = List::new(alloc);
     let mut held: u64 = 0;
@@ -95,6 +98,7 @@ pub fn prepare<R: Reads>(
     ensures prepared { IfOk result (IsPrepared (live_files R.Reads src.new) words.now files.now) }
     ensures standing { R.standing src.new ≡ R.standing src.old }
     ensures cause { HasCause is_files_fault (R.reading_faults src.old) (R.reading_faults src.new) result }
+    ensures octets { R.octets_read src.new ≤ R.octets_read src.old + 6 * files_size (live_files R.Reads src.old) files.now }
 {
     let inputs = read_inputs(alloc, words, src, files)?;
     match plan_of(alloc, words, inputs.as_slice()) {

@@ -1,6 +1,6 @@
 //! What was prepared is written, and told of.
 
-ghost use Rattle.std.specs.Prelude.{◌≡◌, false, ℕ, List, [], ◌∷◌, ◌++◌, map, IfOk};
+ghost use Rattle.std.specs.Prelude.{◌≡◌, ◌+◌, ◌*◌, ◌≤◌, false, ℕ, List, [], ◌∷◌, ◌++◌, length, map, IfOk};
 ghost use Rattle.std.specs.List.{zip};
 ghost use Rattle.mkv_io.specs.Sources.{live_files};
 ghost use Rattle.mkv_io.specs.Writing.{KeepsOthers};
@@ -13,6 +13,7 @@ ghost use Rattle.mkv_lines.specs.Said.{HasSayCause, Says};
 ghost use Rattle.mkv_lines.specs.Seen.{seen};
 ghost use Rattle.mkv_lines.specs.Verdict.{Reaches};
 ghost use Rattle.remux_plan.specs.declared.summary.Written.{Written as WrittenSeen};
+ghost use Rattle.mkv_merge.specs.Bound.{files_size};
 ghost use Rattle.mkv_merge.specs.Ends.{stop_of};
 ghost use Rattle.mkv_merge.specs.Merge.{merged_verdict, status_of};
 ghost use Rattle.mkv_merge.specs.Prepared.{AreTold, IsPrepared, reads_in};
@@ -97,6 +98,10 @@ pub fn write<F: Files, P: Report>(
     ensures cause { HasStopCause
         (seen F.Reads F.writing_faults F.names P.Report files.old report.old).counts
         (seen F.Reads F.writing_faults F.names P.Report files.new report.new).counts result }
+
+    // Each lane reads at most six times the file of its input.
+    ensures octets { F.octets_read files.new
+        ≤ F.octets_read files.old + 6 * (length prepared.plan.lanes * files_size (live_files F.Reads files.old) ids.now) }
 {
     let Prepared { inputs, plan } = prepared;
     let _ids = ids;

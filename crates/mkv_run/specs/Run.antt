@@ -1,6 +1,7 @@
 -- What the words of a command line come to.
-use Rattle.std.specs.Prelude.{ℕ, Bool, true, false, if◌then◌else◌, List, [], ◌∷◌, Option, Some, is_some, option_map, Result, Ok, Err}
+use Rattle.std.specs.Prelude.{◌≤◌, ⊤, IfOk, ℕ, ◌+◌, Bool, true, false, if◌then◌else◌, List, [], ◌∷◌, Option, Some, is_some, option_map, Result, Ok, Err}
 use Rattle.mkv_io.specs.Names.{Names}
+use Rattle.mkv_io.specs.Told.{Told}
 use Rattle.word_values.specs.Why.{why_name}
 use Rattle.word_values.specs.declared.usage.Usage.{Usage}
 use Rattle.mkv_args.specs.Help.{usage_lines, version_line}
@@ -12,6 +13,7 @@ use Rattle.mkv_lines.specs.Verdict.{Verdict, done, refused}
 use Rattle.mkv_info.specs.Info.{info_verdict}
 use Rattle.extract_model.specs.Job.{taken_of}
 use Rattle.mkv_extract.specs.Extract.{extract_verdict}
+use Rattle.mkv_merge.specs.Bound.{most_read}
 use Rattle.mkv_merge.specs.Merge.{merge_verdict}
 use Rattle.mkv_merge.specs.Takes.{takes}
 
@@ -53,3 +55,14 @@ verdict_after names (Err usage) = Some (refused (usage_line usage))
 
 abbrev pub verdict_in : Names → List (List ℕ) → Option Verdict
 verdict_in names words = verdict_after names (command words)
+
+-- ---- how much is read
+
+-- Of a merge the count of octets read rises by at most its bound, where the names tell. Of other commands no bound is stated.
+abbrev pub ReadsWithin : Names → Command → ℕ → ℕ → Type 0
+ReadsWithin names (Merge words) before now = Told names (λ world. now ≤ before + most_read world words)
+ReadsWithin names _ before now = ⊤
+
+-- the same of the words of a command line; of words that are no command none is stated
+abbrev pub ReadsWithinIn : Names → List (List ℕ) → ℕ → ℕ → Type 0
+ReadsWithinIn names words before now = IfOk (command words) (λ (c : Command). ReadsWithin names c before now)

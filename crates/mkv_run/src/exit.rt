@@ -7,7 +7,7 @@ ghost use Rattle.mkv_lines.specs.Code.{code_of};
 ghost use Rattle.mkv_lines.specs.Seen.{seen};
 ghost use Rattle.word_values.specs.Place.{texts};
 ghost use Rattle.mkv_run.specs.Exit.{HasExited};
-ghost use Rattle.mkv_run.specs.Run.{verdict_in};
+ghost use Rattle.mkv_run.specs.Run.{ReadsWithinIn, verdict_in};
 
 use crate::running::run;
 use mkv_io::{Files, Report};
@@ -47,6 +47,8 @@ pub fn program<F: Files, R: Report>(
     ensures idle { OnErr words.now (seen F.Reads F.writing_faults F.names R.Report files.new report.new
         ≡ seen F.Reads F.writing_faults F.names R.Report files.old report.old) }
     ensures closed { (file : ℕ) → (live_files F.Reads files.new).live file ≡ (live_files F.Reads files.old).live file }
+    ensures octets { IfOk words.now (λ words.
+        ReadsWithinIn (F.names files.old) (texts words.items) (F.octets_read files.old) (F.octets_read files.new)) }
 {
     let status = match words {
         Ok(words) => run(alloc, words, files, report),

@@ -12,7 +12,7 @@ ghost use Rattle.mkv_lines.specs.Said.{HasSayCause};
 ghost use Rattle.mkv_lines.specs.Seen.{seen};
 ghost use Rattle.mkv_lines.specs.Verdict.{Ends, Reaches, SaysVerdict, refused};
 ghost use Rattle.word_values.specs.Place.{texts};
-ghost use Rattle.mkv_run.specs.Run.{verdict_in, verdict_of};
+ghost use Rattle.mkv_run.specs.Run.{ReadsWithin, ReadsWithinIn, verdict_in, verdict_of};
 
 use crate::help::{help, version};
 use extractors::taken_of;
@@ -47,6 +47,9 @@ pub fn run<F: Files, R: Report>(
 
     // No file stays open, and none is closed.
     ensures closed { (file : ℕ) → (live_files F.Reads files.new).live file ≡ (live_files F.Reads files.old).live file }
+
+    // What a merge may read; of other commands no bound is stated.
+    ensures octets { ReadsWithinIn (F.names files.old) (texts words.now.items) (F.octets_read files.old) (F.octets_read files.new) }
 {
     match carry_out(alloc, words, files, report) {
         Ok(status) => status,
@@ -74,6 +77,7 @@ fn carry_out<F: Files, R: Report>(
         (seen F.Reads F.writing_faults F.names R.Report files.old report.old).counts
         (seen F.Reads F.writing_faults F.names R.Report files.new report.new).counts result }
     ensures closed { (file : ℕ) → (live_files F.Reads files.new).live file ≡ (live_files F.Reads files.old).live file }
+    ensures octets { ReadsWithinIn (F.names files.old) (texts words.now.items) (F.octets_read files.old) (F.octets_read files.new) }
 {
     match read_words(alloc, words) {
         Ok(command) => obey(alloc, &command, files, report),
@@ -98,6 +102,7 @@ fn obey<F: Files, R: Report>(
         (seen F.Reads F.writing_faults F.names R.Report files.old report.old).counts
         (seen F.Reads F.writing_faults F.names R.Report files.new report.new).counts result }
     ensures closed { (file : ℕ) → (live_files F.Reads files.new).live file ≡ (live_files F.Reads files.old).live file }
+    ensures octets { ReadsWithin (F.names files.old) command.now (F.octets_read files.old) (F.octets_read files.new) }
 {
     match command {
         Command::Help => help(alloc, report),
@@ -149,6 +154,7 @@ fn merge<F: Files, R: Report>(
         (seen F.Reads F.writing_faults F.names R.Report files.old report.old).counts
         (seen F.Reads F.writing_faults F.names R.Report files.new report.new).counts result }
     ensures closed { (file : ℕ) → (live_files F.Reads files.new).live file ≡ (live_files F.Reads files.old).live file }
+    ensures octets { ReadsWithin (F.names files.old) (Command.Merge words.now) (F.octets_read files.old) (F.octets_read files.new) }
 {
     if !takes(words) {
         return refuse(alloc, 0, "NotBuilt", report);

@@ -7,13 +7,14 @@ use Rattle.input_files.specs.Inputs.{file_names, first_missing}
 use Rattle.merge_plan.specs.Plan.{Source}
 use Rattle.mkv_lines.specs.Seen.{Seen, seen}
 use Rattle.mkv_lines.specs.Verdict.{Reaches, Verdict}
+use Rattle.mkv_merge.specs.Bound.{files_size}
 use Rattle.mkv_merge.specs.Merge.{merge_verdict, sources_of, sources_with, verdict_of}
 use Rattle.mkv_merge.specs.Prepared.{AreTold}
 use Rattle.mkv_merge.specs.Read.{contents_of, unless_missing, writes_input}
 use Rattle.mkv_merge.specs.Refused.{and_then}
 use Rattle.mkv_merge.specs.declared.refusal.Refusal.{Refusal}
 use Rattle.mkv_merge.specs.declared.refusal.Refusal.TheVariants.{OutputIsInput}
-use Rattle.mkv_merge.proofs.MergingLemmas.{all-there}
+use Rattle.mkv_merge.proofs.MergingLemmas.{opened-sources, opened-told, reads-few, reads-none, size-told}
 use Rattle.mkv_merge.proofs.merging.merge_of.Goals as goal
 
 -- the inputs were opened, merged and closed
@@ -26,18 +27,13 @@ returns-clause-verdict g c = λ world told.
     let closed = c.close_all.new in
     let said = c.merge_opened-ended.new.report in
     let contents = map (λ name. unwrap_or (world name) []) (file_names words.files) in
-    let files : c.as_slice.result.now ≡ words.files = c.as_slice.ensures in
-    let there : first_missing world (file_names words.files) ≡ None =
-    subst (λ (fs : List FileWords). first_missing world (file_names fs) ≡ None) files (c.in-Ok.ensures.missing world told) in
     let apart : writes_input words ≡ false = sym c.writes_input.ensures ∙ c.if-writes_input.false in
-    let sources : sources_of world words ≡ sources_with words contents =
-    ap (λ (b : Bool). if b then Err OutputIsInput else and_then (contents_of world words.files) (sources_with words)) apart
-    ∙ ap (λ (missing : Option ℕ). and_then (unless_missing missing contents) (sources_with words)) there in
+    let there = c.in-Ok.ensures.missing world told in
+    let sources : sources_of world words ≡ sources_with words contents = opened-sources world words c.as_slice.result.now apart c.as_slice.ensures there in
     let same = c.in-Ok.ensures.same in
     let ends = c.close_all.ensures in
     let contents-told : AreTold (live_files g.F.Reads opened) c.as_slice-2.result.now contents =
-    ap (inputs.contents_of (live_files g.F.Reads opened).content) c.as_slice-2.ensures ∙ c.in-Ok.ensures.contents world told
-    ∙ ap (λ (fs : List FileWords). map world (file_names fs)) files ∙ all-there world (file_names words.files) there in
+    opened-told (live_files g.F.Reads opened) world words c.as_slice.result.now c.in-Ok.ids c.as_slice-2.result.now c.as_slice.ensures c.as_slice-2.ensures there (c.in-Ok.ensures.contents world told) in
     let was = seen g.F.Reads g.F.Files.writing_faults g.F.Files.names g.P.Report old c.args.report.now in
     let read = seen g.F.Reads g.F.Files.writing_faults g.F.Files.names g.P.Report opened c.args.report.now in
     let wrote = seen g.F.Reads g.F.Files.writing_faults g.F.Files.names g.P.Report merged said in
@@ -57,3 +53,20 @@ returns-clause-verdict g c = λ world told.
     (subst (λ (s : Seen). Reaches s wrote c.merge_opened-ended.result (merge_verdict world words)) begun
     (subst (λ (v : Verdict). Reaches read wrote c.merge_opened-ended.result v) (ap (verdict_of words) (sym sources))
     (c.merge_opened-ended.ensures.verdict contents contents-told)))
+
+-- ---- how much is read
+
+pub returns-clause-octets : goal.returns-clause-octets
+returns-clause-octets g c = λ world told.
+    let words = c.args.words.now in
+    let opened = c.open_all.new.files in
+    let ids = c.as_slice-2.result.now in
+    let f = live_files g.F.Reads opened in
+    let contents = map (λ name. unwrap_or (world name) []) (file_names words.files) in
+    let apart : writes_input words ≡ false = sym c.writes_input.ensures ∙ c.if-writes_input.false in
+    let there = c.in-Ok.ensures.missing world told in
+    let contents-told : AreTold f ids contents =
+    opened-told f world words c.as_slice.result.now c.in-Ok.ids ids c.as_slice.ensures c.as_slice-2.ensures there (c.in-Ok.ensures.contents world told) in
+    reads-few world words (sources_with words contents) (g.F.Reads.octets_read c.args.files.now) (g.F.Reads.octets_read opened) (g.F.Reads.octets_read c.merge_opened-ended.new.files) (g.F.Reads.octets_read c.close_all.new.files) (files_size f ids)
+    (opened-sources world words c.as_slice.result.now apart c.as_slice.ensures there) (size-told f (g.met.F.Reads.told_size (g.F.Reads.standing opened)) world words.files ids contents-told)
+    c.in-Ok.ensures.same.octets (c.merge_opened-ended.ensures.octets contents contents-told) c.close_all.ensures.octets

@@ -1,10 +1,14 @@
-use Rattle.std.proofs.Common.{◌≡◌, ℕ, List, sym, ap, subst}
+use Rattle.std.proofs.Common.{◌≡◌, ℕ, List, length, sym, ap, subst}
+use Rattle.std.specs.List.{zip}
 use Rattle.mkv_io.specs.LiveFiles.{LiveFiles}
 use Rattle.mkv_io.specs.Sources.{live_files}
 use Rattle.mkv_lines.specs.Seen.{Seen, seen}
 use Rattle.mkv_lines.specs.Verdict.{Reaches, Verdict}
 use Rattle.mkv_merge.specs.Merge.{sources_with, verdict_of}
-use Rattle.mkv_merge.specs.Prepared.{AreTold}
+use Rattle.mkv_merge.specs.Bound.{files_size}
+use Rattle.mkv_merge.specs.Prepared.{AreTold, reads_in}
+use Rattle.mkv_merge.proofs.MergingLemmas.{reads-both, reads-once}
+use Rattle.mkv_merge.proofs.WritingLemmas.{lanes-count, many-inputs, merge-is}
 use Rattle.mkv_merge.proofs.merging.merge_opened.Goals as goal
 
 -- reading has changed nothing that is seen, and what was prepared is what the sources come to
@@ -28,3 +32,20 @@ returns-in-Ok-clause-verdict g c = λ contents told.
     subst (λ (s : Seen). Reaches s now c.write.result (verdict_of c.args.words.now (sources_with c.args.words.now contents))) nothing
     (subst (λ (v : Verdict). Reaches read now c.write.result v) (ap (verdict_of c.args.words.now) (sym (c.in-Ok.ensures.exact contents told)))
     (c.write.ensures.verdict contents (subst (λ (f : LiveFiles). AreTold f c.args.ids.now contents) (sym same) told)))
+
+-- ---- how much is read
+
+pub returns-in-Ok-clause-octets : goal.returns-in-Ok-clause-octets
+returns-in-Ok-clause-octets g c = λ contents told.
+    let words = c.args.words.now in
+    let ids = c.args.ids.now in
+    let old = c.args.files.now in
+    let mid = c.prepare.new.src in
+    let p = c.in-Ok.prepared in
+    let now = live_files g.F.Reads mid in
+    let same : now ≡ live_files g.F.Reads old = ap g.F.Reads.files c.in-Ok.ensures.standing in
+    let sources = zip contents (reads_in p.inputs) in
+    let many = many-inputs g.F.Reads g.F.Files old words ids p.inputs c.requires.inputs c.in-Ok.ensures.prepared.inputs.of in
+    let is = merge-is now words ids contents p c.in-Ok.ensures.prepared (subst (λ (f : LiveFiles). AreTold f ids contents) (sym same) told) many in
+    reads-both (sources_with words contents) sources (length p.plan.lanes) (g.F.Reads.octets_read old) (g.F.Reads.octets_read mid) (g.F.Reads.octets_read c.write.new.files) (files_size (live_files g.F.Reads old) ids) (files_size now ids)
+    (c.in-Ok.ensures.exact contents told) (lanes-count now words p.inputs p.plan sources is) (ap (λ (f : LiveFiles). files_size f ids) same) c.prepare.ensures.octets c.write.ensures.octets

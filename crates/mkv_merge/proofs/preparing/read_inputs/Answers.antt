@@ -4,13 +4,13 @@ use Rattle.std.proofs.lemmas.List.{map-append}
 use Rattle.std.proofs.lemmas.List.Elements.{All-push}
 use Rattle.std.proofs.lemmas.Result.{err_from_is_err_and}
 use Rattle.mkv_io.specs.Faults.{counted}
-use Rattle.mkv_io.specs.Sources.{live_files}
+use Rattle.mkv_io.specs.Sources.{file_size, live_files}
 use Rattle.merge_words.specs.declared.files.FileWords.{FileWords}
 use Rattle.merge_words.specs.Sound.{IsSoundFile}
 use Rattle.merge_inputs.specs.Input.{IsInput, read_in}
 use Rattle.merge_inputs.specs.declared.input.Input.{Input}
 use Rattle.mkv_merge.specs.Prepared.{reads_in}
-use Rattle.mkv_merge.proofs.PreparingLemmas.{GoesOn, files-more, read-at, read-end, refused-at}
+use Rattle.mkv_merge.proofs.PreparingLemmas.{GoesOn, files-more, pays-all, pays-more, read-at, read-end, refused-at}
 use Rattle.mkv_merge.proofs.preparing.read_inputs.Goals as goal
 
 -- the words of the file are sound
@@ -30,6 +30,30 @@ returns-in_err-read-clause-exact g c = λ contents told.
     (c.index-as_slice-input.is ∙ ap (λ (files : List FileWords). get_or files c.loop-input.input w) c.as_slice.ensures) told
     (λ bytes is. c.in_err-read.ensures.exact bytes (ap (λ standing. (g.R.Reads.files standing).content (get_or c.args.files.now c.loop-input.input (record { n = 0 })).n) c.loop-input.invariant.standing ∙ is))
     (c.loop-input.invariant.goes_on contents told))
+
+-- the input wasn't read to its end
+pub returns-in_err-read-clause-octets : goal.returns-in_err-read-clause-octets
+returns-in_err-read-clause-octets g c =
+    let f = live_files g.R.Reads c.args.src.now in
+    let start = g.R.Reads.octets_read c.args.src.now in
+    let now = g.R.Reads.octets_read c.read_one.new.src in
+    pays-all f c.args.files.now (c.loop-input.input + 1) start now
+    (pays-more f c.args.files.now c.loop-input.input (record { n = 0 }) start (g.R.Reads.octets_read c.loop-input.src) now
+    (file_size g.R.Reads c.loop-input.src (get_or c.args.files.now c.loop-input.input (record { n = 0 }))) c.loop-input-test.true
+    (ap (λ standing. (g.R.Reads.files standing).size (get_or c.args.files.now c.loop-input.input (record { n = 0 })).n) c.loop-input.invariant.standing)
+    c.loop-input.invariant.octets c.read_one.ensures.octets)
+
+-- there was no memory for it
+pub returns-in_err-push-clause-octets : goal.returns-in_err-push-clause-octets
+returns-in_err-push-clause-octets g c =
+    let f = live_files g.R.Reads c.args.src.now in
+    let start = g.R.Reads.octets_read c.args.src.now in
+    let now = g.R.Reads.octets_read c.read_one.new.src in
+    pays-all f c.args.files.now (c.loop-input.input + 1) start now
+    (pays-more f c.args.files.now c.loop-input.input (record { n = 0 }) start (g.R.Reads.octets_read c.loop-input.src) now
+    (file_size g.R.Reads c.loop-input.src (get_or c.args.files.now c.loop-input.input (record { n = 0 }))) c.loop-input-test.true
+    (ap (λ standing. (g.R.Reads.files standing).size (get_or c.args.files.now c.loop-input.input (record { n = 0 })).n) c.loop-input.invariant.standing)
+    c.loop-input.invariant.octets c.read_one.ensures.octets)
 
 -- one more is read
 pub loop-input-preserved : goal.loop-input-preserved
@@ -53,9 +77,17 @@ loop-input-preserved g c = record {
       (c.loop-input.invariant.goes_on contents told)));
   standing = c.read_one.ensures.standing ∙ c.loop-input.invariant.standing;
   faults = c.in_ok-read.ensures.cause ∙ c.loop-input.invariant.faults;
+  octets = pays-more (live_files g.R.Reads c.args.src.now) c.args.files.now c.loop-input.input (record { n = 0 }) (g.R.Reads.octets_read c.args.src.now) (g.R.Reads.octets_read c.loop-input.src) (g.R.Reads.octets_read c.read_one.new.src)
+      (file_size g.R.Reads c.loop-input.src (get_or c.args.files.now c.loop-input.input (record { n = 0 }))) c.loop-input-test.true
+      (ap (λ standing. (g.R.Reads.files standing).size (get_or c.args.files.now c.loop-input.input (record { n = 0 })).n) c.loop-input.invariant.standing)
+      c.loop-input.invariant.octets c.read_one.ensures.octets;
 }
 
 -- all are read
 pub returns-clause-exact : goal.returns-clause-exact
 returns-clause-exact g c = λ contents told.
     read-end c.args.words.now contents c.loop-input.input c.loop-input.held (reads_in c.loop-input.inputs) (omega arith) (c.loop-input.invariant.goes_on contents told)
+
+pub returns-clause-octets : goal.returns-clause-octets
+returns-clause-octets g c =
+    pays-all (live_files g.R.Reads c.args.src.now) c.args.files.now c.loop-input.input (g.R.Reads.octets_read c.args.src.now) (g.R.Reads.octets_read c.loop-input.src) c.loop-input.invariant.octets

@@ -1,9 +1,10 @@
 -- The first inputs are read, and so are those behind them.
-use Rattle.std.proofs.Common.{◌≡◌, List, ℕ, map, take}
+use Rattle.std.proofs.Common.{◌≡◌, ◌+◌, ◌*◌, ◌≤◌, List, ℕ, map, take}
 use Rattle.std.specs.List.{All}
 use Rattle.mkv_io.specs.Sources.{live_files}
 use Rattle.merge_inputs.specs.Input.{IsInput}
 use Rattle.merge_inputs.specs.declared.input.Input.{Input}
+use Rattle.mkv_merge.specs.Bound.{files_size}
 use Rattle.mkv_merge.specs.Prepared.{AreTold, reads_in}
 use Rattle.mkv_merge.proofs.PreparingLemmas.{GoesOn}
 use Rattle.mkv_merge.proofs.preparing.read_inputs.Given as goal
@@ -15,4 +16,5 @@ invariant-loop-input g l = record {
   goes_on : (contents : List (List ℕ)) → AreTold (live_files g.R.Reads l.initial.src) l.files contents → GoesOn l.words contents l.input l.held (reads_in l.inputs);
   standing : g.R.Reads.standing l.src ≡ g.R.Reads.standing l.initial.src;
   faults : g.R.Reads.reading_faults l.src ≡ g.R.Reads.reading_faults l.initial.src;
+  octets : g.R.Reads.octets_read l.src ≤ g.R.Reads.octets_read l.initial.src + 6 * files_size (live_files g.R.Reads l.initial.src) (take l.input l.files);
 }

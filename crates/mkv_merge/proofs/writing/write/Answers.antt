@@ -8,7 +8,7 @@ use Rattle.mkv_lines.specs.Said.{SaysPart}
 use Rattle.mkv_lines.specs.Seen.{seen}
 use Rattle.mkv_merge.specs.Merge.{has_absent, lines_before}
 use Rattle.mkv_merge.specs.Prepared.{reads_in}
-use Rattle.mkv_merge.proofs.WritingLemmas.{many-inputs, merge-begun, merge-is, merge-left, merge-told, plan-good, plan-told}
+use Rattle.mkv_merge.proofs.WritingLemmas.{many-inputs, merge-begun, merge-is, merge-left, merge-told, plan-good, plan-reads, plan-told}
 use Rattle.mkv_merge.proofs.writing.write.Goals as goal
 
 -- a warning of a track that isn't there couldn't be said
@@ -59,3 +59,13 @@ returns-clause-verdict g c = λ contents told.
     merge-told was now (g.P.Report.lines c.say_absent.new.report) c.tell.result f words prepared.inputs prepared.plan (zip contents (reads_in prepared.inputs)) c.in-Ok.summary c.has_absent-absent.result
     (merge-is f words c.args.ids.now contents prepared c.requires.prepared told many)
     (c.in-Ok.ensures.summary planned) missing said c.tell.ensures.said c.tell.ensures.status (c.in-Ok.ensures.output planned)
+
+-- ---- how much is read
+
+pub returns-in-Err-clause-octets : goal.returns-in-Err-clause-octets
+returns-in-Err-clause-octets g c =
+    plan-reads (live_files g.F.Reads c.args.files.now) c.args.words.now c.args.ids.now c.args.prepared (g.F.Reads.octets_read c.args.files.now) (g.F.Reads.octets_read c.remux.new.files) c.requires.prepared c.remux.ensures.octets
+
+pub returns-clause-octets : goal.returns-clause-octets
+returns-clause-octets g c =
+    plan-reads (live_files g.F.Reads c.args.files.now) c.args.words.now c.args.ids.now c.args.prepared (g.F.Reads.octets_read c.args.files.now) (g.F.Reads.octets_read c.remux.new.files) c.requires.prepared c.remux.ensures.octets

@@ -1,0 +1,31 @@
+-- How many octets a merge may read.
+use Rattle.std.specs.Prelude.{ℕ, ◌+◌, ◌*◌, ◌^◌, List, [], length, sum_by, Option, unwrap_or, Result, Ok, Err}
+use Rattle.mkv_values.specs.declared.outside.FileId.{FileId}
+use Rattle.mkv_io.specs.LiveFiles.{LiveFiles}
+use Rattle.merge_words.specs.declared.files.FileWords.{FileWords}
+use Rattle.merge_words.specs.declared.output.MergeWords.{MergeWords}
+use Rattle.merge_plan.specs.Plan.{Source, lanes_given}
+use Rattle.mkv_merge.specs.Merge.{sources_of}
+use Rattle.mkv_merge.specs.declared.refusal.Refusal.{Refusal}
+
+-- the lengths of live files, of each as often as it is listed
+abbrev pub files_size : LiveFiles → List FileId → ℕ
+files_size f list = sum_by (λ (file : FileId). f.size file.n) list
+
+-- the lengths of the contents of inputs, of each as often as the words name it
+abbrev pub contents_length : (List ℕ → Option (List ℕ)) → List FileWords → ℕ
+contents_length world files = sum_by (λ (w : FileWords). length (unwrap_or (world w.name) [])) files
+
+-- how many lanes an output has; none where the merge is refused
+abbrev pub lane_count : Result (List Source) Refusal → ℕ
+lane_count (Ok sources) = length (lanes_given sources)
+lane_count (Err why) = 0
+
+-- what may be read of inputs of so many octets: all six times before the blocks, and six times for each lane
+abbrev pub most_of : Result (List Source) Refusal → ℕ → ℕ
+most_of sources octets = 6 * ((lane_count sources + 1) * octets)
+
+-- what a merge may read in a world of names: that, and 2^20 octets of the files beside the inputs and the output in which
+-- edits are kept
+abbrev pub most_read : (List ℕ → Option (List ℕ)) → MergeWords → ℕ
+most_read world words = most_of (sources_of world words) (contents_length world words.files) + 2 ^ 20
