@@ -63,15 +63,7 @@ size-told f sized world (w ∷ files) (id ∷ ids) told =
     let right = sum_by-cons (λ (each : FileWords). length (unwrap_or (world each.name) [])) w files in
     omega (arith, one, rest, left, right)
 
--- what is read before the blocks is no more than what may be read
-pub reads-once : (sources : Result (List Source) Refusal) (old new size : ℕ) → new ≤ old + 6 * size → new ≤ old + most_of sources size
-reads-once (Ok sources) old new size paid = fits (length (lanes_given sources)) old new size paid
-  where
-    fits : (lanes old new size : ℕ) → new ≤ old + 6 * size → new ≤ old + 6 * ((lanes + 1) * size)
-    fits lanes old new size paid = omega arith
-reads-once (Err why) old new size paid = omega arith
-
--- and so is what each lane reads besides
+-- what is read before the blocks and what each lane reads are no more than what may be read
 pub reads-both : (found : Result (List Source) Refusal) (sources : List Source) (lanes old mid new size now : ℕ) → found ≡ Ok sources → lanes ≡ length (lanes_given sources) → now ≡ size → mid ≤ old + 6 * size → new ≤ mid + 6 * (lanes * now) → new ≤ old + most_of found size
 reads-both found sources lanes old mid new size now is count same first second =
     subst (λ (r : Result (List Source) Refusal). new ≤ old + most_of r size) (sym is)
@@ -87,10 +79,3 @@ reads-few world words found old opened merged closed size is length begun most e
   where
     within : (n m : ℕ) → n ≡ m → merged ≤ opened + n → closed ≤ old + (m + 2 ^ 20)
     within n m same most = omega arith
-
--- where nothing is read
-pub reads-none : (world : List ℕ → Option (List ℕ)) (words : MergeWords) (old new : ℕ) → new ≡ old → new ≤ old + most_read world words
-reads-none world words old new same = within (most_read world words)
-  where
-    within : (most : ℕ) → new ≤ old + most
-    within most = omega arith

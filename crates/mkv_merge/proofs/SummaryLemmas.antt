@@ -1,7 +1,7 @@
 -- What is told of a summary is what a merge of its sources comes to.
-use Rattle.std.proofs.Common.{◌≡◌, ◌≢◌, ℕ, zero, suc, ◌+◌, ◌<◌, ◌≤◌, ◌==◌, max, Bool, true, false, ◌||◌, if◌then◌else◌, List, [], ◌∷◌, ◌++◌, length, map, filter, flat_map, Option, Some, None, refl, sym, ◌∙◌, ap, subst, arith, append-nil, append_assoc}
-use Rattle.std.specs.List.{find, list_any, range_with_len, zip}
-use Rattle.std.specs.Option.{option_map_or, option_or, unwrap_or}
+use Rattle.std.proofs.Common.{◌≡◌, ◌≢◌, ℕ, zero, suc, ◌+◌, ◌<◌, ◌≤◌, ◌==◌, max, Bool, true, false, ◌||◌, if◌then◌else◌, List, [], ◌∷◌, ◌++◌, length, map, filter, flat_map, Option, Some, None, refl, sym, ◌∙◌, ap, subst, arith, append-nil}
+use Rattle.std.specs.List.{find, range_with_len, zip}
+use Rattle.std.specs.Option.{option_map_or, option_or}
 use Rattle.std.proofs.lemmas.Bool.Decides.{nat_tests}
 use Rattle.std.proofs.lemmas.List.Elements.{filter-append}
 use Rattle.std.proofs.lemmas.List.Folds.{find-append}
@@ -14,16 +14,16 @@ use Rattle.merge_model.specs.Lanes.{lane_damages}
 use Rattle.merge_model.specs.Links.{Given}
 use Rattle.lane_blocks.specs.Links.{given_in}
 use Rattle.remux_plan.specs.Plan.{links_of}
-use Rattle.remux_plan.specs.Summary.{count_to, damages_of, first_damages, inputs_of, link_damages, more_damages}
+use Rattle.remux_plan.specs.Summary.{count_to, damages_of, first_damages, link_damages, more_damages}
 use Rattle.remux_plan.specs.declared.plan.PlannedLane.{PlannedLane}
 use Rattle.remux_plan.specs.declared.summary.InputDamage.{InputDamage}
 use Rattle.remux_plan.specs.declared.summary.MoreDamage.{MoreDamage}
 use Rattle.remux_plan.specs.declared.summary.Summary.{Summary}
 use Rattle.merge_words.specs.declared.files.FileWords.{FileWords}
-use Rattle.merge_inputs.specs.Input.{InputRead, events_in}
+use Rattle.merge_inputs.specs.Input.{events_in}
 use Rattle.merge_inputs.specs.declared.taken.TakenTrack.{TakenTrack}
 use Rattle.merge_plan.specs.Plan.{Source, given_for, inputs_given, lanes_given}
-use Rattle.mkv_lines.specs.Line.{more_damages_line, more_lines, warning_line}
+use Rattle.mkv_lines.specs.Line.{more_damages_line, warning_line}
 use Rattle.mkv_merge.specs.Merge.{damages_in, has_damage, is_some_of, reads_of, told_lines, warnings}
 use Rattle.mkv_merge.specs.Told.{damages_at, input_warnings, more_at, warnings_from}
 

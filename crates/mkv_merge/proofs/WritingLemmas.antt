@@ -45,8 +45,7 @@ use Rattle.remux_plan.specs.declared.plan.MergePlan.{MergePlan}
 use Rattle.remux_plan.specs.declared.plan.PlannedLane.{PlannedLane}
 use Rattle.remux_plan.specs.declared.summary.Summary.{Summary}
 use Rattle.remux_plan.specs.declared.summary.Written.{Written}
-use Rattle.remuxer.specs.Output.{HasRecords}
-use Rattle.remuxer.specs.Plan.{IsPlan, IsPlannedLane, IsToldPlan, WritesLayout, data_length, inputs_length}
+use Rattle.remuxer.specs.Plan.{IsPlan, IsToldPlan, WritesLayout, data_length, inputs_length}
 use Rattle.merge_words.specs.Sound.{IsSoundMerge}
 use Rattle.merge_words.specs.declared.files.FileWords.{FileWords}
 use Rattle.merge_words.specs.declared.output.MergeWords.{MergeWords}
@@ -61,13 +60,13 @@ use Rattle.merge_plan.specs.Records.{front_of}
 use Rattle.mkv_lines.specs.Line.{wrote_blocks_line}
 use Rattle.mkv_lines.specs.Said.{ReportLines, Says, SaysPart}
 use Rattle.mkv_lines.specs.Seen.{Seen}
-use Rattle.mkv_lines.specs.Verdict.{Leaves, Reaches, Verdict, in_turn}
+use Rattle.mkv_lines.specs.Verdict.{Reaches, in_turn}
 use Rattle.mkv_lines.specs.declared.status.Status.{Status}
 use Rattle.mkv_lines.specs.declared.status.Stop.{Stop}
 use Rattle.mkv_lines.proofs.SaidLemmas.{SaysPart-all, SaysPart-before, SaysPart-behind, Says-then}
 use Rattle.mkv_lines.proofs.VerdictLemmas.{Leaves-same}
 use Rattle.mkv_merge.specs.Bound.{files_size}
-use Rattle.mkv_merge.specs.Merge.{blocks_of, document_in, has_absent, has_damage, lines_before, lines_behind, merged_verdict, reads_of, status_of, warnings}
+use Rattle.mkv_merge.specs.Merge.{blocks_of, document_in, has_absent, has_damage, lines_before, lines_behind, merged_verdict, reads_of, status_of}
 use Rattle.mkv_merge.specs.Prepared.{AreInputsOf, AreTold, IsPrepared, reads_in}
 use Rattle.mkv_merge.specs.Read.{writes_input}
 use Rattle.mkv_merge.specs.Told.{is_warned, warnings_from}

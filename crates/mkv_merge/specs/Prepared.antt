@@ -9,7 +9,6 @@ use Rattle.merge_inputs.specs.Input.{InputRead, IsInput, read_in}
 use Rattle.merge_inputs.specs.declared.input.Input.{Input}
 use Rattle.merge_plan.specs.Planned.{CanBeWritten, IsPlanOf}
 use Rattle.mkv_merge.specs.Merge.{sources_with}
-use Rattle.mkv_merge.specs.Read.{inputs_of}
 use Rattle.mkv_merge.specs.declared.preparing.Prepared.{Prepared}
 use Rattle.mkv_merge.specs.declared.refusal.MergeEnd.{MergeEnd}
 use Rattle.mkv_merge.specs.declared.refusal.MergeEnd.TheVariants.{Refused, Stopped}

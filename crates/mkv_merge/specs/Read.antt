@@ -1,5 +1,5 @@
 -- What is read of the inputs of a merge, and what refuses them.
-use Rattle.std.specs.Prelude.{ℕ, suc, Bool, ◌||◌, if◌then◌else◌, List, [], ◌∷◌, ◌++◌, map, codes, Option, Some, None, unwrap_or, Result, Ok, Err}
+use Rattle.std.specs.Prelude.{ℕ, suc, Bool, ◌||◌, List, [], ◌∷◌, ◌++◌, map, codes, Option, Some, None, unwrap_or, Result, Ok, Err}
 use Rattle.std.specs.List.{list_any, zip}
 use Rattle.std.specs.Str.{bytes_eq}
 use Rattle.mkv_io.specs.Faults.{counted}
@@ -10,7 +10,7 @@ use Rattle.merge_inputs.specs.Input.{InputRead, input_of}
 use Rattle.merge_inputs.specs.declared.input.InputRefusal.{InputRefusal}
 use Rattle.mkv_merge.specs.Refused.{and_then}
 use Rattle.mkv_merge.specs.declared.refusal.Refusal.{Refusal}
-use Rattle.mkv_merge.specs.declared.refusal.Refusal.TheVariants.{OutputIsInput, Missing, Input}
+use Rattle.mkv_merge.specs.declared.refusal.Refusal.TheVariants.{Missing, Input}
 
 -- ---- the output's name
 

@@ -1,5 +1,5 @@
 -- The lines that are told of what a merge has found wrong.
-use Rattle.std.specs.Prelude.{ℕ, suc, ◌==◌, Bool, ◌||◌, List, [], ◌∷◌, ◌++◌, map, flat_map, filter}
+use Rattle.std.specs.Prelude.{ℕ, suc, ◌==◌, Bool, ◌||◌, List, [], ◌∷◌, ◌++◌, map, filter}
 use Rattle.merge_words.specs.declared.files.FileWords.{FileWords}
 use Rattle.mkv_lines.specs.Line.{more_damages_line, warning_line}
 use Rattle.mkv_merge.specs.Merge.{is_some_of}

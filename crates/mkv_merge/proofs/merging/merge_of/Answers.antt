@@ -1,20 +1,14 @@
-use Rattle.std.proofs.Common.{◌≡◌, ℕ, false, List, [], map, Option, Some, None, Ok, Result, refl, sym, ◌∙◌, ap, subst}
-use Rattle.std.specs.Prelude.{Bool, if◌then◌else◌, Err, unwrap_or}
+use Rattle.std.proofs.Common.{◌≡◌, false, [], map, sym, ◌∙◌, ap, subst}
+use Rattle.std.specs.Prelude.{unwrap_or}
 use Rattle.mkv_io.specs.Sources.{live_files}
-use Rattle.merge_words.specs.declared.files.FileWords.{FileWords}
-use Rattle.input_files.specs.Inputs as inputs
-use Rattle.input_files.specs.Inputs.{file_names, first_missing}
-use Rattle.merge_plan.specs.Plan.{Source}
+use Rattle.input_files.specs.Inputs.{file_names}
 use Rattle.mkv_lines.specs.Seen.{Seen, seen}
 use Rattle.mkv_lines.specs.Verdict.{Reaches, Verdict}
 use Rattle.mkv_merge.specs.Bound.{files_size}
 use Rattle.mkv_merge.specs.Merge.{merge_verdict, sources_of, sources_with, verdict_of}
 use Rattle.mkv_merge.specs.Prepared.{AreTold}
-use Rattle.mkv_merge.specs.Read.{contents_of, unless_missing, writes_input}
-use Rattle.mkv_merge.specs.Refused.{and_then}
-use Rattle.mkv_merge.specs.declared.refusal.Refusal.{Refusal}
-use Rattle.mkv_merge.specs.declared.refusal.Refusal.TheVariants.{OutputIsInput}
-use Rattle.mkv_merge.proofs.MergingLemmas.{opened-sources, opened-told, reads-few, reads-none, size-told}
+use Rattle.mkv_merge.specs.Read.{writes_input}
+use Rattle.mkv_merge.proofs.MergingLemmas.{opened-sources, opened-told, reads-few, size-told}
 use Rattle.mkv_merge.proofs.merging.merge_of.Goals as goal
 
 -- the inputs were opened, merged and closed

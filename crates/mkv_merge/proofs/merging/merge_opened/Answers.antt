@@ -1,4 +1,4 @@
-use Rattle.std.proofs.Common.{◌≡◌, ℕ, List, length, sym, ap, subst}
+use Rattle.std.proofs.Common.{◌≡◌, length, sym, ap, subst}
 use Rattle.std.specs.List.{zip}
 use Rattle.mkv_io.specs.LiveFiles.{LiveFiles}
 use Rattle.mkv_io.specs.Sources.{live_files}
@@ -7,7 +7,7 @@ use Rattle.mkv_lines.specs.Verdict.{Reaches, Verdict}
 use Rattle.mkv_merge.specs.Merge.{sources_with, verdict_of}
 use Rattle.mkv_merge.specs.Bound.{files_size}
 use Rattle.mkv_merge.specs.Prepared.{AreTold, reads_in}
-use Rattle.mkv_merge.proofs.MergingLemmas.{reads-both, reads-once}
+use Rattle.mkv_merge.proofs.MergingLemmas.{reads-both}
 use Rattle.mkv_merge.proofs.WritingLemmas.{lanes-count, many-inputs, merge-is}
 use Rattle.mkv_merge.proofs.merging.merge_opened.Goals as goal
 

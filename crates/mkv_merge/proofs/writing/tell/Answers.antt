@@ -1,4 +1,4 @@
-use Rattle.std.proofs.Common.{◌≡◌, ℕ, List, map, ◌∙◌, ap, subst}
+use Rattle.std.proofs.Common.{List, map, ◌∙◌, ap, subst}
 use Rattle.std.proofs.lemmas.Result.{err_from_is_err_and}
 use Rattle.mkv_io.specs.Lines.{with_lines}
 use Rattle.mkv_lines.specs.Line.{wrote_blocks_line}
@@ -6,7 +6,6 @@ use Rattle.mkv_lines.specs.Said.{SaysPart}
 use Rattle.mkv_lines.proofs.SaidLemmas.{SaysPart-before, SaysPart-behind}
 use Rattle.remux_plan.specs.declared.summary.Written.{Written}
 use Rattle.mkv_merge.specs.Told.{warnings_from}
-use Rattle.mkv_merge.proofs.WritingLemmas.{merge-told}
 use Rattle.mkv_merge.proofs.writing.tell.Goals as goal
 
 -- the line of an output couldn't be said
