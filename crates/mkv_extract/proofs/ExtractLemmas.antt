@@ -19,7 +19,7 @@ use Rattle.extract_model.specs.Job as jobs
 use Rattle.extract_model.specs.declared.taken.Taken.{Taken}
 use Rattle.extract_model.proofs.ContentLemmas.{names_of-outputs}
 use Rattle.extractors.specs.Source.{entry_in}
-use Rattle.mkv_lines.specs.Line.{no_track_line, wrote_line}
+use Rattle.mkv_lines.specs.Line.{no_track_line, told_lines, wrote_line}
 use Rattle.mkv_lines.specs.Said.{ReportLines, Says, SaysPart}
 use Rattle.mkv_lines.specs.Seen.{Seen}
 use Rattle.mkv_lines.specs.Verdict.{Leaves, Reaches, Verdict, at_once, list_of}
@@ -27,7 +27,7 @@ use Rattle.mkv_lines.specs.declared.status.Status.{Status}
 use Rattle.mkv_lines.specs.declared.status.Stop.{Stop}
 use Rattle.mkv_lines.proofs.SaidLemmas.{SaysPart-before, SaysPart-behind, Says-then}
 use Rattle.mkv_lines.proofs.VerdictLemmas.{Leaves-same}
-use Rattle.mkv_extract.specs.Extract.{absent, told_lines, has_absent, is_input, status_of, taken_verdict}
+use Rattle.mkv_extract.specs.Extract.{absent, has_absent, is_input, status_of, taken_verdict}
 use Rattle.mkv_extract.specs.Told.{written}
 use Rattle.mkv_extract.proofs.ToldLemmas.{written-names}
 

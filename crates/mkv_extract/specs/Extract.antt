@@ -8,12 +8,12 @@ use Rattle.mkv_jobs.specs.declared.job.Target.{Target}
 use Rattle.track_records.specs.declared.track.Track.{Track}
 use Rattle.block_format.specs.Events.{Event, blocks_of, damages_of}
 use Rattle.file_blocks.specs.File.{file_events}
-use Rattle.cluster_reader.specs.ToldDamages.{ToldDamages, told_damages}
+use Rattle.cluster_reader.specs.ToldDamages.{told_damages}
 use Rattle.mkv_outputs.specs.Outputs.{Output, names_of}
 use Rattle.extract_model.specs.Content.{outputs_of}
 use Rattle.extract_model.specs.Job.{job_outputs, targets_of}
 use Rattle.extractors.specs.Source.{entry_in}
-use Rattle.mkv_lines.specs.Line.{damage_lines, missing_line, no_track_line, output_is_input_line, refusal_line, wrote_line}
+use Rattle.mkv_lines.specs.Line.{missing_line, no_track_line, output_is_input_line, refusal_line, told_lines, wrote_line}
 use Rattle.mkv_lines.specs.Verdict.{Verdict, at_once, refused}
 use Rattle.mkv_lines.specs.declared.status.Status.{Status}
 use Rattle.mkv_lines.specs.declared.status.Status.TheVariants.{Done, Warned}
@@ -33,12 +33,6 @@ absent count targets = filter (λ n. nat_le count n) (once (map (λ (t : Target)
 -- a target names a track that a file of so many tracks hasn't
 abbrev pub has_absent : ℕ → List Target → Bool
 has_absent count targets = list_any (λ (t : Target). nat_le count t.id) targets
-
--- ---- the damages
-
--- a warning for each of the damages that are told one by one, and the number of the others
-abbrev pub told_lines : List ℕ → ToldDamages → List (List ℕ)
-told_lines name d = damage_lines name d.first d.more
 
 -- ---- the verdict
 

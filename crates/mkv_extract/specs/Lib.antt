@@ -1,4 +1,3 @@
-pub mod End
 pub mod Extract
 pub mod Read
 pub mod Told

@@ -12,7 +12,6 @@ ghost use Rattle.mkv_lines.specs.Ordinary.{IsOrdinary};
 ghost use Rattle.mkv_lines.specs.Said.{HasSayCause};
 ghost use Rattle.mkv_lines.specs.Seen.{seen};
 ghost use Rattle.mkv_lines.specs.Verdict.{Reaches, SaysVerdict, refused};
-ghost use Rattle.mkv_extract.specs.End.{stop_of};
 ghost use Rattle.mkv_extract.specs.Extract.{extract_verdict, is_input, read_verdict, taken_verdict};
 ghost use Rattle.mkv_extract.specs.Read.{read_of};
 
@@ -21,7 +20,7 @@ use crate::telling::{say_absent, tell};
 use element_reader::OutlineEnd;
 use extractors::{Source, extract, targets_of};
 use mkv_io::{Files, Report};
-use mkv_jobs::{Job, RemuxEnd, Target};
+use mkv_jobs::{Job, Target};
 use mkv_lines::{Line, Status, Stop, say};
 use mkv_values::{Damage, FileId, OpenFault};
 use std::alloc::Global;
@@ -145,19 +144,6 @@ fn extract_source<F: Files, P: Report>(
     let targets = targets_of(job);
     let count = source.tracks.len() as u64;
     say_absent(alloc, name, targets, count, report)?;
-    let damages = match extract(alloc, files, source, job) {
-        Ok(damages) => damages,
-        Err(end) => return Err(stop_of(end)),
-    };
+    let damages = extract(alloc, files, source, job)?;
     tell(alloc, name, targets, count, &damages, report)
-}
-
-/// Why a command stops whose extraction ended early.
-fn stop_of(end: RemuxEnd) -> Stop
-    ensures { result ≡ stop_of end }
-{
-    match end {
-        RemuxEnd::ReadFault | RemuxEnd::WriteFault => Stop::Files,
-        RemuxEnd::Memory => Stop::Memory,
-    }
 }

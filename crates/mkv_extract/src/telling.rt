@@ -3,10 +3,10 @@
 ghost use Rattle.std.specs.Prelude.{◌≡◌, ◌&&◌, not, nat_le, ◌++◌, ◌∷◌, [], List, map, IfOk};
 ghost use Rattle.mkv_values.specs.declared.damage.Damage.{Damage};
 ghost use Rattle.cluster_reader.specs.ToldDamages.{told_damages};
-ghost use Rattle.mkv_lines.specs.Line.{no_track_line, warning_line, wrote_line};
+ghost use Rattle.mkv_lines.specs.Line.{no_track_line, told_lines, warning_line, wrote_line};
 ghost use Rattle.mkv_lines.specs.Ordinary.{IsOrdinary};
 ghost use Rattle.mkv_lines.specs.Said.{HasSayCause, Says};
-ghost use Rattle.mkv_extract.specs.Extract.{absent, told_lines, has_absent, status_of};
+ghost use Rattle.mkv_extract.specs.Extract.{absent, has_absent, status_of};
 ghost use Rattle.mkv_extract.specs.Read.{is_named};
 ghost use Rattle.mkv_extract.specs.Told.{written};
 

@@ -4,6 +4,8 @@ use Rattle.mkv_lines.specs.declared.status.Status.{Status}
 use Rattle.mkv_lines.specs.declared.status.Status.TheVariants.{Done, Warned, Refused, NoMemory, Outside}
 use Rattle.mkv_values.specs.declared.outside.ReadEnd.{ReadEnd}
 use Rattle.mkv_values.specs.declared.outside.ReadEnd.TheVariants as read_end
+use Rattle.mkv_jobs.specs.declared.remux_end.RemuxEnd.{RemuxEnd}
+use Rattle.mkv_jobs.specs.declared.remux_end.RemuxEnd.TheVariants as remux_end
 use Rattle.mkv_lines.specs.declared.status.Stop.{Stop}
 use Rattle.mkv_lines.specs.declared.status.Stop.TheVariants as stop
 
@@ -19,3 +21,9 @@ code_of Outside = 4
 abbrev pub stop_of : ReadEnd → Stop
 stop_of read_end.ReadFault = stop.Files
 stop_of read_end.Memory = stop.Memory
+
+-- one that wrote others besides did
+abbrev pub remux_stop : RemuxEnd → Stop
+remux_stop remux_end.ReadFault = stop.Files
+remux_stop remux_end.WriteFault = stop.Files
+remux_stop remux_end.Memory = stop.Memory

@@ -3,6 +3,7 @@ use Rattle.std.specs.Prelude.{ℕ, ◌==◌, ◌++◌, if◌then◌else◌, List
 use Rattle.std.specs.Fmt.{decimal}
 use Rattle.mkv_values.specs.declared.damage.Damage.{Damage}
 use Rattle.matroska_format.specs.declared.element.Header.{Header}
+use Rattle.cluster_reader.specs.ToldDamages.{ToldDamages}
 use Rattle.mkv_lines.specs.Shown.{damage_text, element_text, level_0_name, level_1_name, place_text, shown_text, track_text}
 use Rattle.mkv_lines.specs.declared.line.Line.{Line}
 use Rattle.mkv_lines.specs.declared.line.Line.TheVariants.{Level0, Level1, Track, Refused, Warned, MoreDamages, NoTrack, Missing, OutputIsInput, NotTaken, NoLane, TooManyLanes, NotWebm, TooLarge, Wrote, WroteBlocks, Word, FilesFault}
@@ -31,9 +32,9 @@ more_damages_line name more = codes "warning: " ++ (shown_text name ++ (codes ":
 abbrev pub more_lines : List ℕ → ℕ → List (List ℕ)
 more_lines name more = if more == 0 then [] else more_damages_line name more ∷ []
 
--- a warning for each of a file's first damages, and the number of the others
-abbrev pub damage_lines : List ℕ → List Damage → ℕ → List (List ℕ)
-damage_lines name first more = map (warning_line name) first ++ more_lines name more
+-- a warning for each of the damages that are told one by one, and the number of the others
+abbrev pub told_lines : List ℕ → ToldDamages → List (List ℕ)
+told_lines name told = map (warning_line name) told.first ++ more_lines name told.more
 
 -- a file that hasn't the track of a number, counted from 0
 abbrev pub no_track_line : List ℕ → ℕ → List ℕ

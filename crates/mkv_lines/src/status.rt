@@ -3,6 +3,7 @@
 ghost use Rattle.std.specs.Prelude.{◌≡◌};
 ghost use Rattle.mkv_lines.specs.Code.{code_of};
 
+use mkv_jobs::RemuxEnd;
 use mkv_values::ReadEnd;
 
 /// How a run ends.
@@ -55,6 +56,19 @@ impl From<ReadEnd> for Stop {
         match why {
             ReadEnd::ReadFault => Stop::Files,
             ReadEnd::Memory => Stop::Memory,
+        }
+    }
+}
+
+impl From<RemuxEnd> for Stop {
+    ghost use Rattle.mkv_lines.specs.Code.{remux_stop};
+
+    ghost from_gives = { λ end stop. stop ≡ remux_stop end };
+
+    fn from(end: RemuxEnd) -> Stop {
+        match end {
+            RemuxEnd::ReadFault | RemuxEnd::WriteFault => Stop::Files,
+            RemuxEnd::Memory => Stop::Memory,
         }
     }
 }

@@ -4,7 +4,7 @@ use Rattle.std.specs.List.{list_any, zip}
 use Rattle.mkv_values.specs.declared.damage.Damage.{Damage}
 use Rattle.mkv_io.specs.Faults.{counted}
 use Rattle.block_format.specs.Events.{damages_of}
-use Rattle.cluster_reader.specs.ToldDamages.{ToldDamages, told_damages}
+use Rattle.cluster_reader.specs.ToldDamages.{told_damages}
 use Rattle.output_model.specs.OutputBlock.{OutputBlock}
 use Rattle.output_model.specs.Document.{Document}
 use Rattle.merge_model.specs.Lanes.{lane_blocks}
@@ -18,7 +18,7 @@ use Rattle.merge_plan.specs.declared.refusal.PlanRefusal.{PlanRefusal}
 use Rattle.merge_plan.specs.Plan.{Source, lanes_given, limits_of, rules_given}
 use Rattle.merge_plan.specs.Records.{front_of}
 use Rattle.merge_plan.specs.Refusal.{plan_refusal}
-use Rattle.mkv_lines.specs.Line.{damage_lines, no_track_line, wrote_blocks_line}
+use Rattle.mkv_lines.specs.Line.{no_track_line, told_lines, wrote_blocks_line}
 use Rattle.mkv_lines.specs.Verdict.{Verdict, in_turn, refused}
 use Rattle.mkv_lines.specs.declared.status.Status.{Status}
 use Rattle.mkv_lines.specs.declared.status.Status.TheVariants.{Done, Warned}
@@ -78,10 +78,6 @@ absent_lines f = map (no_track_line f.0.name) (absent f)
 -- the damages of a source of which a track is taken
 abbrev pub damages_in : Source → List Damage
 damages_in s = if is_some_of s.1.taken then damages_of (events_in s.1 s.0) else []
-
--- a warning for each of those that are told one by one, and the number of the others
-abbrev pub told_lines : List ℕ → ToldDamages → List (List ℕ)
-told_lines name told = damage_lines name told.first told.more
 
 abbrev pub warnings : FileWords × Source → List (List ℕ)
 warnings f = told_lines f.0.name (told_damages (damages_in f.1))

@@ -14,7 +14,6 @@ ghost use Rattle.mkv_lines.specs.Seen.{seen};
 ghost use Rattle.mkv_lines.specs.Verdict.{Reaches};
 ghost use Rattle.remux_plan.specs.declared.summary.Written.{Written as WrittenSeen};
 ghost use Rattle.mkv_merge.specs.Bound.{files_size};
-ghost use Rattle.mkv_merge.specs.Ends.{stop_of};
 ghost use Rattle.mkv_merge.specs.Merge.{merged_verdict, status_of};
 ghost use Rattle.mkv_merge.specs.Prepared.{AreTold, IsPrepared, reads_in};
 ghost use Rattle.mkv_merge.specs.Read.{writes_input};
@@ -24,22 +23,11 @@ use crate::preparing::Prepared;
 use crate::telling::{has_absent, say_absent, warn};
 use merge_words::MergeWords;
 use mkv_io::{Files, Report};
-use mkv_jobs::RemuxEnd;
 use mkv_lines::{Line, Status, Stop, say};
 use mkv_values::FileId;
 use remux_plan::{Summary, Written};
 use remuxer::remux;
 use std::alloc::Global;
-
-/// Why a command stops whose merge ended early.
-fn stop_of(end: RemuxEnd) -> Stop
-    ensures { result ≡ stop_of end }
-{
-    match end {
-        RemuxEnd::ReadFault | RemuxEnd::WriteFault => Stop::Files,
-        RemuxEnd::Memory => Stop::Memory,
-    }
-}
 
 /// Tells of the outputs, which stand whole.
 fn say_wrote<P: Report>(alloc: Global, outputs: &[Written], report: &mut P) -> Result<(), Stop>
@@ -107,9 +95,6 @@ pub fn write<F: Files, P: Report>(
     let _ids = ids;
     say_absent(alloc, words, inputs.as_slice(), report)?;
     let absent = has_absent(words, inputs.as_slice());
-    let summary = match remux(alloc, plan, files) {
-        Ok(summary) => summary,
-        Err(end) => return Err(stop_of(end)),
-    };
+    let summary = remux(alloc, plan, files)?;
     tell(alloc, words, absent, &summary, report)
 }

@@ -20,8 +20,8 @@ returns-in_err-say_absent-clause-verdict g c = λ bytes told.
 pub returns-clause-verdict : goal.returns-clause-verdict
 returns-clause-verdict g c = λ bytes told.
     let events = events_in c.args.source.now bytes in
-    let damages = c.in-Ok.ensures.damages bytes told in
+    let damages = c.in_ok-damages.ensures.damages bytes told in
     taken-told (seen g.F.Reads g.F.Files.writing_faults g.F.Files.names g.P.Report c.args.files.now c.args.report.now)
     (seen g.F.Reads g.F.Files.writing_faults g.F.Files.names g.P.Report c.extract.new.files c.tell.new.report)
-    (g.P.Report.lines c.say_absent.new.report) c.tell.result c.args.name.now c.args.job.now c.args.source.now.tracks events c.targets_of-targets.result.now c.len-count.result c.in-Ok.damages
-    c.requires.takes c.targets_of-targets.ensures c.len-count.ensures damages c.in_ok-say_absent.ensures.said c.tell.ensures.said (c.tell.ensures.status (damages_of events) damages) (c.in-Ok.ensures.writes bytes told)
+    (g.P.Report.lines c.say_absent.new.report) c.tell.result c.args.name.now c.args.job.now c.args.source.now.tracks events c.targets_of-targets.result.now c.len-count.result c.in_ok-damages.damages
+    c.requires.takes c.targets_of-targets.ensures c.len-count.ensures damages c.in_ok-say_absent.ensures.said c.tell.ensures.said (c.tell.ensures.status (damages_of events) damages) (c.in_ok-damages.ensures.writes bytes told)

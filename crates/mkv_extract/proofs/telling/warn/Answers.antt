@@ -5,10 +5,9 @@ use Rattle.std.proofs.lemmas.Result.{err_from_is_err_and}
 use Rattle.mkv_io.specs.Lines.{with_lines}
 use Rattle.mkv_values.specs.declared.damage.Damage.{Damage}
 use Rattle.cluster_reader.specs.ToldDamages.{ToldDamages}
-use Rattle.mkv_lines.specs.Line.{more_lines, more_damages_line, warning_line}
+use Rattle.mkv_lines.specs.Line.{more_lines, more_damages_line, told_lines, warning_line}
 use Rattle.mkv_lines.specs.Said.{ReportLines, SaysPart, SaysUpTo}
 use Rattle.mkv_lines.proofs.SaidLemmas.{SaysPart-before, SaysPart-behind, SaysUpTo-ends, SaysUpTo-more, SaysUpTo-stops}
-use Rattle.mkv_extract.specs.Extract.{told_lines}
 use Rattle.mkv_extract.proofs.ToldLemmas.{warnings-next}
 use Rattle.mkv_extract.proofs.telling.warn.Goals as goal
 

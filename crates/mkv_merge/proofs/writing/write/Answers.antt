@@ -30,8 +30,9 @@ pub remux-requires : goal.remux-requires
 remux-requires g c = plan-good g.F.Reads g.F.Files c.args.files.now c.args.words.now c.args.ids.now c.args.prepared c.requires.sound c.requires.inputs c.requires.apart c.requires.prepared
 
 -- the output couldn't be written
-pub returns-in-Err-clause-verdict : goal.returns-in-Err-clause-verdict
-returns-in-Err-clause-verdict g c = λ contents told.
+pub returns-in_err-summary-clause-verdict : goal.returns-in_err-summary-clause-verdict
+returns-in_err-summary-clause-verdict g c = λ contents told.
+    let p = err_from_is_err_and c.from_residual-in_err-summary.result c.from_residual-in_err-summary.ensures.1 in
     let words = c.args.words.now in
     let prepared = c.args.prepared in
     let old = c.args.files.now in
@@ -40,8 +41,9 @@ returns-in-Err-clause-verdict g c = λ contents told.
     let now = seen g.F.Reads g.F.Files.writing_faults g.F.Files.names g.P.Report c.remux.new.files c.say_absent.new.report in
     let many = many-inputs g.F.Reads g.F.Files old words c.args.ids.now prepared.inputs c.requires.inputs c.requires.prepared.inputs.of in
     let said = c.in_ok-say_absent.ensures.said ∙ ap (λ (inputs : List Input). with_lines (g.P.Report.lines c.args.report.now) (lines_before words (reads_in inputs))) c.as_slice.ensures in
-    merge-left was now c.stop_of.result f words prepared.inputs prepared.plan (zip contents (reads_in prepared.inputs)) (merge-is f words c.args.ids.now contents prepared c.requires.prepared told many) said
-    (c.in-Err.ensures.output (plan-told f words c.args.ids.now contents prepared c.requires.prepared told))
+    rw p.1
+    (merge-left was now p.0 f words prepared.inputs prepared.plan (zip contents (reads_in prepared.inputs)) (merge-is f words c.args.ids.now contents prepared c.requires.prepared told many) said
+    (c.in_err-summary.ensures.output (plan-told f words c.args.ids.now contents prepared c.requires.prepared told)))
 
 -- the output stands, and the rest is told
 pub returns-clause-verdict : goal.returns-clause-verdict
@@ -56,14 +58,14 @@ returns-clause-verdict g c = λ contents told.
     let said = c.in_ok-say_absent.ensures.said ∙ ap (λ (inputs : List Input). with_lines (g.P.Report.lines c.args.report.now) (lines_before words (reads_in inputs))) c.as_slice.ensures in
     let missing = c.has_absent-absent.ensures ∙ ap (λ (inputs : List Input). has_absent words (reads_in inputs)) c.as_slice-2.ensures in
     let planned = plan-told f words c.args.ids.now contents prepared c.requires.prepared told in
-    merge-told was now (g.P.Report.lines c.say_absent.new.report) c.tell.result f words prepared.inputs prepared.plan (zip contents (reads_in prepared.inputs)) c.in-Ok.summary c.has_absent-absent.result
+    merge-told was now (g.P.Report.lines c.say_absent.new.report) c.tell.result f words prepared.inputs prepared.plan (zip contents (reads_in prepared.inputs)) c.in_ok-summary.summary c.has_absent-absent.result
     (merge-is f words c.args.ids.now contents prepared c.requires.prepared told many)
-    (c.in-Ok.ensures.summary planned) missing said c.tell.ensures.said c.tell.ensures.status (c.in-Ok.ensures.output planned)
+    (c.in_ok-summary.ensures.summary planned) missing said c.tell.ensures.said c.tell.ensures.status (c.in_ok-summary.ensures.output planned)
 
 -- ---- how much is read
 
-pub returns-in-Err-clause-octets : goal.returns-in-Err-clause-octets
-returns-in-Err-clause-octets g c =
+pub returns-in_err-summary-clause-octets : goal.returns-in_err-summary-clause-octets
+returns-in_err-summary-clause-octets g c =
     plan-reads (live_files g.F.Reads c.args.files.now) c.args.words.now c.args.ids.now c.args.prepared (g.F.Reads.octets_read c.args.files.now) (g.F.Reads.octets_read c.remux.new.files) c.requires.prepared c.remux.ensures.octets
 
 pub returns-clause-octets : goal.returns-clause-octets
