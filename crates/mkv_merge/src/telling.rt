@@ -1,16 +1,14 @@
 //! What is told of a merge.
 
-ghost use Rattle.std.specs.Prelude.{◌≡◌, map, length, IfOk};
+ghost use Rattle.std.specs.Prelude.{◌≡◌, ◌==◌, ℕ, List, map, filter, length, IfOk};
 ghost use Rattle.mkv_lines.specs.Line.{more_damages_line, no_track_line, text_of, warning_line};
 ghost use Rattle.mkv_lines.specs.Ordinary.{IsOrdinary};
 ghost use Rattle.mkv_lines.specs.Said.{HasSayCause, Says};
 ghost use Rattle.mkv_lines.specs.Verdict.{SaysVerdict, refused};
-ghost use Rattle.remux_plan.specs.declared.summary.InputDamage.{InputDamage as DamageSeen};
-ghost use Rattle.remux_plan.specs.declared.summary.MoreDamage.{MoreDamage as MoreSeen};
 ghost use Rattle.mkv_merge.specs.Merge.{absent_of, has_absent, is_some_of, lines_before};
 ghost use Rattle.mkv_merge.specs.Prepared.{reads_in};
 ghost use Rattle.mkv_merge.specs.Refused.{input_line, line_of, name_of, plan_line};
-ghost use Rattle.mkv_merge.specs.Told.{damages_at, more_at, warnings_from};
+ghost use Rattle.mkv_merge.specs.Told.{warnings_from};
 
 use crate::refusal::Refusal;
 use merge_inputs::{Input, InputRefusal};
@@ -144,44 +142,71 @@ pub fn has_absent(words: &MergeWords, inputs: &[Input]) -> bool
     false
 }
 
-/// Warns of the damages of an input that are told one by one.
-fn warn_of<P: Report>(
-    alloc: Global,
-    name: &str,
-    input: usize,
-    damages: &[InputDamage],
-    report: &mut P,
-) -> Result<(), Stop>
-    ensures said { Says (P.lines report.old) (P.lines report.new) (map (λ (d : DamageSeen). warning_line name.now d.damage) (damages_at input damages.now)) result }
-    ensures cause { HasSayCause (P.faults report.old) (P.faults report.new) result }
-{
-    for each in damages {
-        if each.input != input {
-            continue;
-        }
-        let damage = each.damage;
-        say(alloc, report, &Line::Warned { name, damage })?;
-    }
-    Ok(())
+/// What is warned of an input.
+trait Warning {
+    ghost number: { Self → ℕ };
+
+    ghost text: { List ℕ → Self → List ℕ };
+
+    /// The number of the input.
+    fn input(&self) -> usize
+        ensures { result ≡ number self.now };
+
+    /// The line that an input of this name gets.
+    fn line<'a>(&self, name: &'a str) -> Line<'a>
+        ensures { text_of result ≡ text name.now self.now };
 }
 
-/// Tells how many others an input has.
-fn warn_more<P: Report>(
+impl Warning for InputDamage {
+    ghost number = { λ damage. damage.input };
+
+    ghost text = { λ name damage. warning_line name damage.damage };
+
+    fn input(&self) -> usize {
+        self.input
+    }
+
+    fn line<'a>(&self, name: &'a str) -> Line<'a> {
+        Line::Warned {
+            name,
+            damage: self.damage,
+        }
+    }
+}
+
+impl Warning for MoreDamage {
+    ghost number = { λ more. more.input };
+
+    ghost text = { λ name more. more_damages_line name more.count };
+
+    fn input(&self) -> usize {
+        self.input
+    }
+
+    fn line<'a>(&self, name: &'a str) -> Line<'a> {
+        Line::MoreDamages {
+            name,
+            more: self.count,
+        }
+    }
+}
+
+/// Tells what is warned of an input of this number.
+fn warn_of<W: Warning, P: Report>(
     alloc: Global,
     name: &str,
     input: usize,
-    more: &[MoreDamage],
+    warnings: &[W],
     report: &mut P,
 ) -> Result<(), Stop>
-    ensures said { Says (P.lines report.old) (P.lines report.new) (map (λ (m : MoreSeen). more_damages_line name.now m.count) (more_at input more.now)) result }
+    ensures said { Says (P.lines report.old) (P.lines report.new) (map (W.text name.now) (filter (λ w. W.number w == input) warnings.now)) result }
     ensures cause { HasSayCause (P.faults report.old) (P.faults report.new) result }
 {
-    for each in more {
-        if each.input != input {
+    for warning in warnings {
+        if warning.input() != input {
             continue;
         }
-        let more = each.count;
-        say(alloc, report, &Line::MoreDamages { name, more })?;
+        say(alloc, report, &warning.line(name))?;
     }
     Ok(())
 }
@@ -199,7 +224,7 @@ pub fn warn<P: Report>(
     for (input, file) in words.files.as_slice().iter().enumerate() {
         let name = file.name.as_str();
         warn_of(alloc, name, input, summary.damages.as_slice(), report)?;
-        warn_more(alloc, name, input, summary.more.as_slice(), report)?;
+        warn_of(alloc, name, input, summary.more.as_slice(), report)?;
     }
     Ok(())
 }

@@ -1,13 +1,10 @@
--- The warnings of the first damages were said.
-use Rattle.std.proofs.Common.{◌≡◌, drop, map}
-use Rattle.mkv_lines.specs.Line.{warning_line}
+-- The first warnings were told.
+use Rattle.std.proofs.Common.{◌≡◌, ◌==◌, drop, filter, map}
 use Rattle.mkv_lines.specs.Said.{SaysUpTo}
-use Rattle.remux_plan.specs.declared.summary.InputDamage.{InputDamage}
-use Rattle.mkv_merge.specs.Told.{damages_at}
 use Rattle.mkv_merge.proofs.telling.warn_of.Given as goal
 
-abbrev pub invariant-loop-each : goal.invariant-loop-each
-invariant-loop-each g l = record {
+abbrev pub invariant-loop-warning : goal.invariant-loop-warning
+invariant-loop-warning g l = record {
   report : g.P.Report.faults l.report ≡ g.P.Report.faults l.initial.report;
-  way : SaysUpTo (g.P.Report.lines l.initial.report) (g.P.Report.lines l.report) (map (λ (d : InputDamage). warning_line l.name d.damage) (damages_at l.input l.damages)) (map (λ (d : InputDamage). warning_line l.name d.damage) (damages_at l.input (drop l.each-index l.damages)));
+  way : SaysUpTo (g.P.Report.lines l.initial.report) (g.P.Report.lines l.report) (map (g.W.Warning.text l.name) (filter (λ w. g.W.Warning.number w == l.input) l.warnings)) (map (g.W.Warning.text l.name) (filter (λ w. g.W.Warning.number w == l.input) (drop l.warning-index l.warnings)));
 }
