@@ -62,14 +62,33 @@ pub kept-ends : {A : Type 0} (line : A → List ℕ) (kept : A → Bool) (old ne
 kept-ends {A = A} line kept old new all xs k past way =
     SaysUpTo-ends old new all (subst (SaysUpTo old new all) (ap (λ (ys : List A). map line (filter kept ys)) (drop_all k xs past)) way)
 
--- some item is kept
-pub is_some-kept : {A : Type 0} (kept : A → Bool) (xs : List A) → list_any kept xs ≡ is_some_of (filter kept xs)
-is_some-kept kept [] = refl
-is_some-kept {A = A} kept (x ∷ xs) = step (kept x) (is_some-kept kept xs)
-  where
-    step : (keeps : Bool) → list_any kept xs ≡ is_some_of (filter kept xs) → (keeps || list_any kept xs) ≡ is_some_of (if keeps then x ∷ filter kept xs else filter kept xs)
-    step true rest = refl
-    step false rest = rest
+-- ---- whether an item is kept
+
+or-true : (a : Bool) → (a || true) ≡ true
+or-true true = refl
+or-true false = refl
+
+or-false : (a : Bool) → (a || false) ≡ a
+or-false true = refl
+or-false false = refl
+
+-- the next item is
+pub any-found : {A : Type 0} (kept : A → Bool) (any all : Bool) (xs : List A) (k : ℕ) (x : A) → k < length xs → x ≡ get_or xs k x → kept x ≡ true → (any || is_some_of (filter kept (drop k xs))) ≡ all → true ≡ all
+any-found {A = A} kept any all xs k x below is keeps so =
+    sym (or-true any)
+    ∙ ap (λ (a : Bool). any || is_some_of (if a then x ∷ filter kept (drop (k + 1) xs) else filter kept (drop (k + 1) xs))) (sym keeps)
+    ∙ ap (λ (ys : List A). any || is_some_of (filter kept ys)) (sym (drop-at xs k x below is)) ∙ so
+
+-- it isn't
+pub any-passed : {A : Type 0} (kept : A → Bool) (any all : Bool) (xs : List A) (k : ℕ) (x : A) → k < length xs → x ≡ get_or xs k x → kept x ≡ false → (any || is_some_of (filter kept (drop k xs))) ≡ all → (any || is_some_of (filter kept (drop (k + 1) xs))) ≡ all
+any-passed {A = A} kept any all xs k x below is keeps so =
+    ap (λ (a : Bool). any || is_some_of (if a then x ∷ filter kept (drop (k + 1) xs) else filter kept (drop (k + 1) xs))) (sym keeps)
+    ∙ ap (λ (ys : List A). any || is_some_of (filter kept ys)) (sym (drop-at xs k x below is)) ∙ so
+
+-- none is left
+pub any-ends : {A : Type 0} (kept : A → Bool) (any all : Bool) (xs : List A) (k : ℕ) → length xs ≤ k → (any || is_some_of (filter kept (drop k xs))) ≡ all → any ≡ all
+any-ends {A = A} kept any all xs k past so =
+    sym (or-false any) ∙ ap (λ (ys : List A). any || is_some_of (filter kept ys)) (sym (drop_all k xs past)) ∙ so
 
 -- ---- the files, each with what was read of it
 
@@ -91,29 +110,31 @@ pub files_left-none : (files : List FileWords) (inputs : List Input) (k : ℕ) �
 unfolding files_left
 files_left-none files inputs k past = ap (λ (fs : List FileWords). zip fs (reads_in (drop k inputs))) (drop_all k files past)
 
-pub has_absent-all : (words : MergeWords) (inputs : List Input) → has_absent words (reads_in inputs) ≡ list_any (λ f. is_some_of (absent f)) (files_left words.files inputs 0)
-has_absent-all words inputs = ap (list_any (λ f. is_some_of (absent f))) (files_left-all words.files inputs)
+-- whether one of the files lacks a track, from a place on
+pub lacks_left : List FileWords → List Input → ℕ → Bool
+lacks_left files inputs k = list_any (λ f. is_some_of (absent f)) (files_left files inputs k)
 
--- the next one does, or one of those behind it
-has_absent-next : (any : Bool) (files : List FileWords) (inputs : List Input) (k : ℕ) (file : FileWords) (input : Input) → k < length files → k < length inputs → file ≡ get_or files k file → input ≡ get_or inputs k input
-    → any ≡ list_any (λ f. is_some_of (absent f)) (files_left files inputs k) → any ≡ (is_some_of (absent_of file input.count) || list_any (λ f. is_some_of (absent f)) (files_left files inputs (k + 1)))
-has_absent-next any files inputs k file input here there is of so =
-    so ∙ ap (list_any (λ f. is_some_of (absent f))) (files_left-at files inputs k file input here there is of)
+pub lacks-all : (words : MergeWords) (inputs : List Input) → (false || lacks_left words.files inputs 0) ≡ has_absent words (reads_in inputs)
+unfolding lacks_left
+lacks-all words inputs = ap (list_any (λ f. is_some_of (absent f))) (sym (files_left-all words.files inputs))
 
-pub has_absent-found : (any : Bool) (files : List FileWords) (inputs : List Input) (k : ℕ) (file : FileWords) (input : Input) → k < length files → k < length inputs → file ≡ get_or files k file → input ≡ get_or inputs k input
-    → any ≡ list_any (λ f. is_some_of (absent f)) (files_left files inputs k) → is_some_of (absent_of file input.count) ≡ true → true ≡ any
-has_absent-found any files inputs k file input here there is of so found =
-    sym (has_absent-next any files inputs k file input here there is of so
-    ∙ ap (λ (a : Bool). a || list_any (λ f. is_some_of (absent f)) (files_left files inputs (k + 1))) found)
+-- the next one may
+pub lacks-next : (any one all : Bool) (files : List FileWords) (inputs : List Input) (k : ℕ) (file : FileWords) (input : Input) → k < length files → k < length inputs → file ≡ get_or files k file → input ≡ get_or inputs k input
+    → one ≡ is_some_of (absent_of file input.count) → (any || lacks_left files inputs k) ≡ all → ((any || one) || lacks_left files inputs (k + 1)) ≡ all
+unfolding lacks_left
+lacks-next any one all files inputs k file input here there is of found so =
+    regroup any one
+    ∙ ap (λ (a : Bool). any || (a || list_any (λ f. is_some_of (absent f)) (files_left files inputs (k + 1)))) found
+    ∙ ap (λ (left : List (FileWords × InputRead)). any || list_any (λ f. is_some_of (absent f)) left) (sym (files_left-at files inputs k file input here there is of)) ∙ so
+  where
+    regroup : (a b : Bool) → ((a || b) || list_any (λ f. is_some_of (absent f)) (files_left files inputs (k + 1))) ≡ (a || (b || list_any (λ f. is_some_of (absent f)) (files_left files inputs (k + 1))))
+    regroup true b = refl
+    regroup false b = refl
 
-pub has_absent-passed : (any : Bool) (files : List FileWords) (inputs : List Input) (k : ℕ) (file : FileWords) (input : Input) → k < length files → k < length inputs → file ≡ get_or files k file → input ≡ get_or inputs k input
-    → any ≡ list_any (λ f. is_some_of (absent f)) (files_left files inputs k) → is_some_of (absent_of file input.count) ≡ false → any ≡ list_any (λ f. is_some_of (absent f)) (files_left files inputs (k + 1))
-has_absent-passed any files inputs k file input here there is of so none =
-    has_absent-next any files inputs k file input here there is of so
-    ∙ ap (λ (a : Bool). a || list_any (λ f. is_some_of (absent f)) (files_left files inputs (k + 1))) none
-
-pub has_absent-none : (any : Bool) (files : List FileWords) (inputs : List Input) (k : ℕ) → length files ≤ k → any ≡ list_any (λ f. is_some_of (absent f)) (files_left files inputs k) → false ≡ any
-has_absent-none any files inputs k past so = sym (so ∙ ap (list_any (λ f. is_some_of (absent f))) (files_left-none files inputs k past))
+pub lacks-ends : (any all : Bool) (files : List FileWords) (inputs : List Input) (k : ℕ) → length files ≤ k → (any || lacks_left files inputs k) ≡ all → any ≡ all
+unfolding lacks_left
+lacks-ends any all files inputs k past so =
+    sym (or-false any) ∙ ap (λ (left : List (FileWords × InputRead)). any || list_any (λ f. is_some_of (absent f)) left) (sym (files_left-none files inputs k past)) ∙ so
 
 -- ---- the lines of the tracks that the files lack
 

@@ -81,25 +81,28 @@ pub fn refuse<P: Report>(
     Ok(Status::Refused)
 }
 
-/// Warns of the tracks that the words name of a file with so many tracks, and that it hasn't.
+/// Warns of the tracks that the words name of a file with so many tracks, and that it hasn't. Answers whether there are any.
 fn say_absent_of<P: Report>(
     alloc: Global,
     file: &FileWords,
     count: usize,
     report: &mut P,
-) -> Result<(), Stop>
+) -> Result<bool, Stop>
     ensures said { Says (P.lines report.old) (P.lines report.new) (map (no_track_line file.now.name) (absent_of file.now count)) result }
+    ensures any { IfOk result (λ any. any ≡ is_some_of (absent_of file.now count)) }
     ensures cause { HasSayCause (P.faults report.old) (P.faults report.new) result }
 {
     let name = file.name.as_str();
+    let mut any = false;
     for number in file.named.as_slice() {
         let number = *number;
         if number < count as u64 {
             continue;
         }
         say(alloc, report, &Line::NoTrack { name, number })?;
+        any = true;
     }
-    Ok(())
+    Ok(any)
 }
 
 /// The same of all inputs, in the order of the words.
@@ -108,38 +111,17 @@ pub fn say_absent<P: Report>(
     words: &MergeWords,
     inputs: &[Input],
     report: &mut P,
-) -> Result<(), Stop>
+) -> Result<bool, Stop>
     requires { length inputs.now ≡ length words.now.files }
     ensures said { Says (P.lines report.old) (P.lines report.new) (lines_before words.now (reads_in inputs.now)) result }
+    ensures any { IfOk result (λ any. any ≡ has_absent words.now (reads_in inputs.now)) }
     ensures cause { HasSayCause (P.faults report.old) (P.faults report.new) result }
 {
+    let mut any = false;
     for (k, input) in inputs.iter().enumerate() {
-        say_absent_of(alloc, &words.files.as_slice()[k], input.count, report)?;
+        any |= say_absent_of(alloc, &words.files.as_slice()[k], input.count, report)?;
     }
-    Ok(())
-}
-
-/// Whether the words name a track that a file with so many tracks hasn't.
-fn has_absent_of(file: &FileWords, count: usize) -> bool
-    ensures { result ≡ is_some_of (absent_of file.now count) }
-{
-    file.named
-        .as_slice()
-        .iter()
-        .any(|number| *number >= count as u64)
-}
-
-/// The same of some input.
-pub fn has_absent(words: &MergeWords, inputs: &[Input]) -> bool
-    requires { length inputs.now ≡ length words.now.files }
-    ensures { result ≡ has_absent words.now (reads_in inputs.now) }
-{
-    for (k, input) in inputs.iter().enumerate() {
-        if has_absent_of(&words.files.as_slice()[k], input.count) {
-            return true;
-        }
-    }
-    false
+    Ok(any)
 }
 
 /// What is warned of an input.

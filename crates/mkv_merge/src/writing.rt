@@ -20,7 +20,7 @@ ghost use Rattle.mkv_merge.specs.Read.{writes_input};
 ghost use Rattle.mkv_merge.specs.Told.{is_warned, warnings_from};
 
 use crate::preparing::Prepared;
-use crate::telling::{has_absent, say_absent, warn};
+use crate::telling::{say_absent, warn};
 use merge_words::MergeWords;
 use mkv_io::{Files, Report};
 use mkv_lines::{Line, Status, Stop, say};
@@ -93,8 +93,7 @@ pub fn write<F: Files, P: Report>(
 {
     let Prepared { inputs, plan } = prepared;
     let _ids = ids;
-    say_absent(alloc, words, inputs.as_slice(), report)?;
-    let absent = has_absent(words, inputs.as_slice());
+    let absent = say_absent(alloc, words, inputs.as_slice(), report)?;
     let summary = remux(alloc, plan, files)?;
     tell(alloc, words, absent, &summary, report)
 }

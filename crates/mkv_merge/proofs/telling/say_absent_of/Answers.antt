@@ -5,8 +5,8 @@ use Rattle.std.proofs.lemmas.Result.{err_from_is_err_and}
 use Rattle.mkv_io.specs.Lines.{with_lines}
 use Rattle.mkv_lines.specs.Line.{no_track_line}
 use Rattle.mkv_lines.specs.Said.{SaysPart}
-use Rattle.mkv_merge.specs.Merge.{absent_of}
-use Rattle.mkv_merge.proofs.TellingLemmas.{kept-said, kept-stops}
+use Rattle.mkv_merge.specs.Merge.{absent_of, is_some_of}
+use Rattle.mkv_merge.proofs.TellingLemmas.{any-ends, any-found, any-passed, kept-said, kept-stops}
 use Rattle.mkv_merge.proofs.telling.say_absent_of.Goals as goal
 
 -- a line couldn't be said
@@ -36,4 +36,17 @@ loop-number-preserved g c = record {
       let past : nat_le c.args.count n ≡ true = grind (arith, nat_tests, c.if-number-count.false) in
       kept-said (no_track_line c.args.file.now.name) (λ m. nat_le c.args.count m) (g.P.Report.lines c.args.report.now) (g.P.Report.lines c.loop-number.report) (g.P.Report.lines c.say.new.report) (map (no_track_line c.args.file.now.name) (absent_of c.args.file.now c.args.count)) xs k n below is past c.loop-number.invariant.way
       (c.in_ok-say.ensures.said ∙ ap (λ (name : List ℕ). with_lines (g.P.Report.lines c.loop-number.report) (no_track_line name n ∷ [])) c.as_str-name.ensures.same);
+  any =
+      let xs = c.args.file.now.named in
+      let k = c.loop-number.number-index in
+      let n : ℕ = get_or c.as_slice-number-items.result.now k 0 in
+      let below : k < length xs = omega (arith, ap length c.as_slice-number-items.ensures) in
+      let is : n ≡ get_or xs k n = ap (λ (list : List ℕ). get_or list k 0) c.as_slice-number-items.ensures ∙ get_or_default xs k 0 n below in
+      let past : nat_le c.args.count n ≡ true = grind (arith, nat_tests, c.if-number-count.false) in
+      any-found (λ m. nat_le c.args.count m) c.loop-number.any (is_some_of (absent_of c.args.file.now c.args.count)) xs k n below is past c.loop-number.invariant.any;
 }
+
+-- all were said
+pub returns-clause-any : goal.returns-clause-any
+returns-clause-any g c =
+    any-ends (λ m. nat_le c.args.count m) c.loop-number.any (is_some_of (absent_of c.args.file.now c.args.count)) c.args.file.now.named c.loop-number.number-index (omega (arith, ap length c.as_slice-number-items.ensures)) c.loop-number.invariant.any

@@ -12,8 +12,8 @@ use Rattle.mkv_merge.proofs.WritingLemmas.{many-inputs, merge-begun, merge-is, m
 use Rattle.mkv_merge.proofs.writing.write.Goals as goal
 
 -- a warning of a track that isn't there couldn't be said
-pub returns-in_err-say_absent-clause-verdict : goal.returns-in_err-say_absent-clause-verdict
-returns-in_err-say_absent-clause-verdict g c = λ contents told.
+pub returns-in_err-absent-clause-verdict : goal.returns-in_err-absent-clause-verdict
+returns-in_err-absent-clause-verdict g c = λ contents told.
     let p = err_from_is_err_and c.from_residual.result c.from_residual.ensures.1 in
     let words = c.args.words.now in
     let prepared = c.args.prepared in
@@ -22,7 +22,7 @@ returns-in_err-say_absent-clause-verdict g c = λ contents told.
     let was = seen g.F.Reads g.F.Files.writing_faults g.F.Files.names g.P.Report old c.args.report.now in
     let now = seen g.F.Reads g.F.Files.writing_faults g.F.Files.names g.P.Report old c.say_absent.new.report in
     let many = many-inputs g.F.Reads g.F.Files old words c.args.ids.now prepared.inputs c.requires.inputs c.requires.prepared.inputs.of in
-    let part = subst (λ (inputs : List Input). SaysPart (g.P.Report.lines c.args.report.now) (g.P.Report.lines c.say_absent.new.report) (lines_before words (reads_in inputs))) c.as_slice.ensures c.in_err-say_absent.ensures.said in
+    let part = subst (λ (inputs : List Input). SaysPart (g.P.Report.lines c.args.report.now) (g.P.Report.lines c.say_absent.new.report) (lines_before words (reads_in inputs))) c.as_slice.ensures c.in_err-absent.ensures.said in
     rw p.1
     (merge-begun was now p.0 f words prepared.inputs prepared.plan (zip contents (reads_in prepared.inputs)) (merge-is f words c.args.ids.now contents prepared c.requires.prepared told many) part refl)
 
@@ -40,7 +40,7 @@ returns-in_err-summary-clause-verdict g c = λ contents told.
     let was = seen g.F.Reads g.F.Files.writing_faults g.F.Files.names g.P.Report old c.args.report.now in
     let now = seen g.F.Reads g.F.Files.writing_faults g.F.Files.names g.P.Report c.remux.new.files c.say_absent.new.report in
     let many = many-inputs g.F.Reads g.F.Files old words c.args.ids.now prepared.inputs c.requires.inputs c.requires.prepared.inputs.of in
-    let said = c.in_ok-say_absent.ensures.said ∙ ap (λ (inputs : List Input). with_lines (g.P.Report.lines c.args.report.now) (lines_before words (reads_in inputs))) c.as_slice.ensures in
+    let said = c.in_ok-absent.ensures.said ∙ ap (λ (inputs : List Input). with_lines (g.P.Report.lines c.args.report.now) (lines_before words (reads_in inputs))) c.as_slice.ensures in
     rw p.1
     (merge-left was now p.0 f words prepared.inputs prepared.plan (zip contents (reads_in prepared.inputs)) (merge-is f words c.args.ids.now contents prepared c.requires.prepared told many) said
     (c.in_err-summary.ensures.output (plan-told f words c.args.ids.now contents prepared c.requires.prepared told)))
@@ -55,10 +55,10 @@ returns-clause-verdict g c = λ contents told.
     let was = seen g.F.Reads g.F.Files.writing_faults g.F.Files.names g.P.Report old c.args.report.now in
     let now = seen g.F.Reads g.F.Files.writing_faults g.F.Files.names g.P.Report c.remux.new.files c.tell.new.report in
     let many = many-inputs g.F.Reads g.F.Files old words c.args.ids.now prepared.inputs c.requires.inputs c.requires.prepared.inputs.of in
-    let said = c.in_ok-say_absent.ensures.said ∙ ap (λ (inputs : List Input). with_lines (g.P.Report.lines c.args.report.now) (lines_before words (reads_in inputs))) c.as_slice.ensures in
-    let missing = c.has_absent-absent.ensures ∙ ap (λ (inputs : List Input). has_absent words (reads_in inputs)) c.as_slice-2.ensures in
+    let said = c.in_ok-absent.ensures.said ∙ ap (λ (inputs : List Input). with_lines (g.P.Report.lines c.args.report.now) (lines_before words (reads_in inputs))) c.as_slice.ensures in
+    let missing = c.in_ok-absent.ensures.any ∙ ap (λ (inputs : List Input). has_absent words (reads_in inputs)) c.as_slice.ensures in
     let planned = plan-told f words c.args.ids.now contents prepared c.requires.prepared told in
-    merge-told was now (g.P.Report.lines c.say_absent.new.report) c.tell.result f words prepared.inputs prepared.plan (zip contents (reads_in prepared.inputs)) c.in_ok-summary.summary c.has_absent-absent.result
+    merge-told was now (g.P.Report.lines c.say_absent.new.report) c.tell.result f words prepared.inputs prepared.plan (zip contents (reads_in prepared.inputs)) c.in_ok-summary.summary c.in_ok-absent.absent
     (merge-is f words c.args.ids.now contents prepared c.requires.prepared told many)
     (c.in_ok-summary.ensures.summary planned) missing said c.tell.ensures.said c.tell.ensures.status (c.in_ok-summary.ensures.output planned)
 
