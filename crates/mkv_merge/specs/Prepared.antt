@@ -27,10 +27,13 @@ ReadsAs shown found (Err (Stopped stop)) = ⊤
 abbrev pub reads_in : List Input → List InputRead
 reads_in inputs = map read_in inputs
 
+abbrev pub files_of : List Input → List FileId
+files_of inputs = map (λ (i : Input). i.file) inputs
+
 -- The inputs are those of these files.
 pub record AreInputsOf (f : LiveFiles) (list : List FileId) (inputs : List Input) : Type 0 where
   pub good : All (IsInput f) inputs
-  pub of : map (λ (i : Input). i.file) inputs ≡ list
+  pub of : files_of inputs ≡ list
 
 -- The inputs are those of these files, and the plan is theirs.
 pub record IsPrepared (f : LiveFiles) (words : MergeWords) (list : List FileId) (p : Prepared) : Type 0 where

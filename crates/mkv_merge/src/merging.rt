@@ -51,7 +51,7 @@ fn merge_opened<F: Files, P: Report>(
         ≤ F.octets_read files.old + most_of (sources_with words.now contents) (files_size (live_files F.Reads files.old) ids.now) }
 {
     match prepare(alloc, words, files, ids) {
-        Ok(prepared) => write(alloc, words, prepared, ids, files, report),
+        Ok(prepared) => write(alloc, words, prepared, files, report),
         Err(MergeEnd::Refused(why)) => refuse(alloc, words, &why, report),
         Err(MergeEnd::Stopped(why)) => Err(Stop::from(why)),
     }

@@ -15,7 +15,7 @@ ghost use Rattle.mkv_lines.specs.Verdict.{Reaches};
 ghost use Rattle.remux_plan.specs.declared.summary.Written.{Written as WrittenSeen};
 ghost use Rattle.mkv_merge.specs.Bound.{files_size};
 ghost use Rattle.mkv_merge.specs.Merge.{merged_verdict, status_of};
-ghost use Rattle.mkv_merge.specs.Prepared.{AreTold, IsPrepared, reads_in};
+ghost use Rattle.mkv_merge.specs.Prepared.{AreTold, IsPrepared, files_of, reads_in};
 ghost use Rattle.mkv_merge.specs.Read.{writes_input};
 ghost use Rattle.mkv_merge.specs.Told.{is_warned, warnings_from};
 
@@ -24,7 +24,6 @@ use crate::telling::{say_absent, warn};
 use merge_words::MergeWords;
 use mkv_io::{Files, Report};
 use mkv_lines::{Line, Status, Stop, say};
-use mkv_values::FileId;
 use remux_plan::{Summary, Written};
 use remuxer::remux;
 use std::alloc::Global;
@@ -69,15 +68,14 @@ pub fn write<F: Files, P: Report>(
     alloc: Global,
     words: &MergeWords,
     prepared: Prepared,
-    ids: &[FileId],
     files: &mut F,
     report: &mut P,
 ) -> Result<Status, Stop>
     requires sound { IsSoundMerge words.now }
-    requires inputs { AreInputs F.Reads F.Files.own (file_names words.now.files) files.old ids.now }
+    requires inputs { AreInputs F.Reads F.Files.own (file_names words.now.files) files.old (files_of prepared.inputs) }
     requires apart { writes_input words.now ≡ false }
-    requires prepared { IsPrepared (live_files F.Reads files.old) words.now ids.now prepared }
-    ensures verdict { (contents : List (List ℕ)) → AreTold (live_files F.Reads files.old) ids.now contents → Reaches
+    requires prepared { IsPrepared (live_files F.Reads files.old) words.now (files_of prepared.inputs) prepared }
+    ensures verdict { (contents : List (List ℕ)) → AreTold (live_files F.Reads files.old) (files_of prepared.inputs) contents → Reaches
         (seen F.Reads F.writing_faults F.names P.Report files.old report.old)
         (seen F.Reads F.writing_faults F.names P.Report files.new report.new)
         result (merged_verdict words.now (zip contents (reads_in prepared.inputs))) }
@@ -88,11 +86,10 @@ pub fn write<F: Files, P: Report>(
         (seen F.Reads F.writing_faults F.names P.Report files.new report.new).counts result }
 
     // Each lane reads at most six times the file of its input.
-    ensures octets { F.octets_read files.new
-        ≤ F.octets_read files.old + 6 * (length prepared.plan.lanes * files_size (live_files F.Reads files.old) ids.now) }
+    ensures octets { F.octets_read files.new ≤ F.octets_read files.old
+        + 6 * (length prepared.plan.lanes * files_size (live_files F.Reads files.old) (files_of prepared.inputs)) }
 {
     let Prepared { inputs, plan } = prepared;
-    let _ids = ids;
     let absent = say_absent(alloc, words, inputs.as_slice(), report)?;
     let summary = remux(alloc, plan, files)?;
     tell(alloc, words, absent, &summary, report)

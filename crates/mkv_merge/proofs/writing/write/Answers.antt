@@ -7,7 +7,7 @@ use Rattle.merge_inputs.specs.declared.input.Input.{Input}
 use Rattle.mkv_lines.specs.Said.{SaysPart}
 use Rattle.mkv_lines.specs.Seen.{seen}
 use Rattle.mkv_merge.specs.Merge.{has_absent, lines_before}
-use Rattle.mkv_merge.specs.Prepared.{reads_in}
+use Rattle.mkv_merge.specs.Prepared.{files_of, reads_in}
 use Rattle.mkv_merge.proofs.WritingLemmas.{many-inputs, merge-begun, merge-is, merge-left, merge-told, plan-good, plan-reads, plan-told}
 use Rattle.mkv_merge.proofs.writing.write.Goals as goal
 
@@ -21,13 +21,13 @@ returns-in_err-absent-clause-verdict g c = λ contents told.
     let f = live_files g.F.Reads old in
     let was = seen g.F.Reads g.F.Files.writing_faults g.F.Files.names g.P.Report old c.args.report.now in
     let now = seen g.F.Reads g.F.Files.writing_faults g.F.Files.names g.P.Report old c.say_absent.new.report in
-    let many = many-inputs g.F.Reads g.F.Files old words c.args.ids.now prepared.inputs c.requires.inputs c.requires.prepared.inputs.of in
+    let many = many-inputs g.F.Reads g.F.Files old words (files_of c.args.prepared.inputs) prepared.inputs c.requires.inputs refl in
     let part = subst (λ (inputs : List Input). SaysPart (g.P.Report.lines c.args.report.now) (g.P.Report.lines c.say_absent.new.report) (lines_before words (reads_in inputs))) c.as_slice.ensures c.in_err-absent.ensures.said in
     rw p.1
-    (merge-begun was now p.0 f words prepared.inputs prepared.plan (zip contents (reads_in prepared.inputs)) (merge-is f words c.args.ids.now contents prepared c.requires.prepared told many) part refl)
+    (merge-begun was now p.0 f words prepared.inputs prepared.plan (zip contents (reads_in prepared.inputs)) (merge-is f words (files_of c.args.prepared.inputs) contents prepared c.requires.prepared told many) part refl)
 
 pub remux-requires : goal.remux-requires
-remux-requires g c = plan-good g.F.Reads g.F.Files c.args.files.now c.args.words.now c.args.ids.now c.args.prepared c.requires.sound c.requires.inputs c.requires.apart c.requires.prepared
+remux-requires g c = plan-good g.F.Reads g.F.Files c.args.files.now c.args.words.now (files_of c.args.prepared.inputs) c.args.prepared c.requires.sound c.requires.inputs c.requires.apart c.requires.prepared
 
 -- the output couldn't be written
 pub returns-in_err-summary-clause-verdict : goal.returns-in_err-summary-clause-verdict
@@ -39,11 +39,11 @@ returns-in_err-summary-clause-verdict g c = λ contents told.
     let f = live_files g.F.Reads old in
     let was = seen g.F.Reads g.F.Files.writing_faults g.F.Files.names g.P.Report old c.args.report.now in
     let now = seen g.F.Reads g.F.Files.writing_faults g.F.Files.names g.P.Report c.remux.new.files c.say_absent.new.report in
-    let many = many-inputs g.F.Reads g.F.Files old words c.args.ids.now prepared.inputs c.requires.inputs c.requires.prepared.inputs.of in
+    let many = many-inputs g.F.Reads g.F.Files old words (files_of c.args.prepared.inputs) prepared.inputs c.requires.inputs refl in
     let said = c.in_ok-absent.ensures.said ∙ ap (λ (inputs : List Input). with_lines (g.P.Report.lines c.args.report.now) (lines_before words (reads_in inputs))) c.as_slice.ensures in
     rw p.1
-    (merge-left was now p.0 f words prepared.inputs prepared.plan (zip contents (reads_in prepared.inputs)) (merge-is f words c.args.ids.now contents prepared c.requires.prepared told many) said
-    (c.in_err-summary.ensures.output (plan-told f words c.args.ids.now contents prepared c.requires.prepared told)))
+    (merge-left was now p.0 f words prepared.inputs prepared.plan (zip contents (reads_in prepared.inputs)) (merge-is f words (files_of c.args.prepared.inputs) contents prepared c.requires.prepared told many) said
+    (c.in_err-summary.ensures.output (plan-told f words (files_of c.args.prepared.inputs) contents prepared c.requires.prepared told)))
 
 -- the output stands, and the rest is told
 pub returns-clause-verdict : goal.returns-clause-verdict
@@ -54,20 +54,20 @@ returns-clause-verdict g c = λ contents told.
     let f = live_files g.F.Reads old in
     let was = seen g.F.Reads g.F.Files.writing_faults g.F.Files.names g.P.Report old c.args.report.now in
     let now = seen g.F.Reads g.F.Files.writing_faults g.F.Files.names g.P.Report c.remux.new.files c.tell.new.report in
-    let many = many-inputs g.F.Reads g.F.Files old words c.args.ids.now prepared.inputs c.requires.inputs c.requires.prepared.inputs.of in
+    let many = many-inputs g.F.Reads g.F.Files old words (files_of c.args.prepared.inputs) prepared.inputs c.requires.inputs refl in
     let said = c.in_ok-absent.ensures.said ∙ ap (λ (inputs : List Input). with_lines (g.P.Report.lines c.args.report.now) (lines_before words (reads_in inputs))) c.as_slice.ensures in
     let missing = c.in_ok-absent.ensures.any ∙ ap (λ (inputs : List Input). has_absent words (reads_in inputs)) c.as_slice.ensures in
-    let planned = plan-told f words c.args.ids.now contents prepared c.requires.prepared told in
+    let planned = plan-told f words (files_of c.args.prepared.inputs) contents prepared c.requires.prepared told in
     merge-told was now (g.P.Report.lines c.say_absent.new.report) c.tell.result f words prepared.inputs prepared.plan (zip contents (reads_in prepared.inputs)) c.in_ok-summary.summary c.in_ok-absent.absent
-    (merge-is f words c.args.ids.now contents prepared c.requires.prepared told many)
+    (merge-is f words (files_of c.args.prepared.inputs) contents prepared c.requires.prepared told many)
     (c.in_ok-summary.ensures.summary planned) missing said c.tell.ensures.said c.tell.ensures.status (c.in_ok-summary.ensures.output planned)
 
 -- ---- how much is read
 
 pub returns-in_err-summary-clause-octets : goal.returns-in_err-summary-clause-octets
 returns-in_err-summary-clause-octets g c =
-    plan-reads (live_files g.F.Reads c.args.files.now) c.args.words.now c.args.ids.now c.args.prepared (g.F.Reads.octets_read c.args.files.now) (g.F.Reads.octets_read c.remux.new.files) c.requires.prepared c.remux.ensures.octets
+    plan-reads (live_files g.F.Reads c.args.files.now) c.args.words.now (files_of c.args.prepared.inputs) c.args.prepared (g.F.Reads.octets_read c.args.files.now) (g.F.Reads.octets_read c.remux.new.files) c.requires.prepared c.remux.ensures.octets
 
 pub returns-clause-octets : goal.returns-clause-octets
 returns-clause-octets g c =
-    plan-reads (live_files g.F.Reads c.args.files.now) c.args.words.now c.args.ids.now c.args.prepared (g.F.Reads.octets_read c.args.files.now) (g.F.Reads.octets_read c.remux.new.files) c.requires.prepared c.remux.ensures.octets
+    plan-reads (live_files g.F.Reads c.args.files.now) c.args.words.now (files_of c.args.prepared.inputs) c.args.prepared (g.F.Reads.octets_read c.args.files.now) (g.F.Reads.octets_read c.remux.new.files) c.requires.prepared c.remux.ensures.octets
