@@ -85,15 +85,15 @@ all h = element TRACKS h ∷ element CLUSTER h ∷ element TAGS h ∷ element CH
 pub record AreNotBuilt (h : Header) : Type 0 where
   pub nothing : not_built plain false (element TRACKS h ∷ element CLUSTER h ∷ []) ≡ None
   -- not the first of the file is told, but the first kind
-  pub attachments : not_built plain false (all h) ≡ Some ATTACHMENTS
-  pub chapters : not_built (words_with All All All false true true true) false (all h) ≡ Some CHAPTERS
-  pub tags : not_built (words_with All All All false false true true) false (all h) ≡ Some TAGS
+  pub attachments : not_built plain false (all h) ≡ Some (element ATTACHMENTS h)
+  pub chapters : not_built (words_with All All All false true true true) false (all h) ≡ Some (element CHAPTERS h)
+  pub tags : not_built (words_with All All All false false true true) false (all h) ≡ Some (element TAGS h)
   pub left_out : not_built (words_with All All All false false false false) false (all h) ≡ None
   -- either kind of tags
-  pub track_tags : not_built (words_with All All All false false true false) false (all h) ≡ Some TAGS
-  pub global_tags : not_built (words_with All All All false false false true) false (all h) ≡ Some TAGS
+  pub track_tags : not_built (words_with All All All false false true false) false (all h) ≡ Some (element TAGS h)
+  pub global_tags : not_built (words_with All All All false false false true) false (all h) ≡ Some (element TAGS h)
   -- WebM has neither attached files nor chapters
-  pub webm : not_built plain true (all h) ≡ Some TAGS
+  pub webm : not_built plain true (all h) ≡ Some (element TAGS h)
   pub webm_without_tags : not_built (words_with All All All true true false false) true (all h) ≡ None
 
 pub not_built_yet : (h : Header) → AreNotBuilt h

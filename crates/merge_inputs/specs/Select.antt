@@ -1,5 +1,5 @@
 -- Which tracks of a file the words of a merge take (RFC 9559, section 5.1.4, Tracks Element), and what isn't taken over yet.
-use Rattle.std.specs.Prelude.{ℕ, ◌==◌, Bool, true, false, not, ◌&&◌, ◌||◌, if◌then◌else◌, List, Option, Some, None, is_some}
+use Rattle.std.specs.Prelude.{ℕ, ◌==◌, Bool, true, false, not, ◌&&◌, ◌||◌, if◌then◌else◌, List, Option, None}
 use Rattle.std.specs.List.{list_any}
 use Rattle.std.specs.Option.{option_or}
 use Rattle.mkv_schema.specs.declared.ids.TheConstants.{ATTACHMENTS, CHAPTERS, TAGS}
@@ -33,13 +33,13 @@ is_taken words id type =
 
 -- ---- what isn't taken over yet
 
--- an ID that is wanted, if an Element of it stands in a list
-abbrev pub standing : List Header → Bool → ℕ → Option ℕ
-standing list is_wanted id = if is_wanted && is_some (first_of id list) then Some id else None
+-- the first Element of an ID in a list, if it is wanted
+abbrev pub standing : List Header → Bool → ℕ → Option Header
+standing list is_wanted id = if is_wanted then first_of id list else None
 
 -- the first of Attachments, Chapters and Tags that stands in a list and that the words don't leave out; WebM has neither
 -- attached files nor chapters
-abbrev pub not_built : FileWords → Bool → List Header → Option ℕ
+abbrev pub not_built : FileWords → Bool → List Header → Option Header
 not_built words webm list =
     option_or (option_or
     (standing list (words.attachments && not webm) ATTACHMENTS)

@@ -5,6 +5,7 @@ ghost use Rattle.merge_inputs.specs.declared.input.InputEnd.TheVariants as input
 
 use crate::taken::TakenTrack;
 use element_reader::{Outline, OutlineEnd};
+use matroska_format::Header;
 use mkv_values::{Damage, FileId, List, Text};
 use std::alloc::{AllocError, AllocFailed};
 use std::rc::Rc;
@@ -29,8 +30,8 @@ pub struct Input {
 pub enum InputRefusal {
     /// The file is damaged, passes a limit, or a track that is taken can't be used.
     Damaged(Damage),
-    /// The file has an Element of this ID at level 1, which isn't taken over yet, and which the words don't leave out.
-    NotBuilt { id: u32 },
+    /// The file has this Element at level 1, which isn't taken over yet, and which the words don't leave out.
+    NotBuilt { element: Header },
 }
 
 /// Why an input isn't read.

@@ -82,5 +82,5 @@ fn refusal_of(
     if let Some(damage) = first_unusable(taken) {
         return Some(InputRefusal::Damaged(damage));
     }
-    not_built(words, webm, outline).map(|id| InputRefusal::NotBuilt { id })
+    not_built(words, webm, outline).map(|element| InputRefusal::NotBuilt { element })
 }

@@ -7,6 +7,7 @@ ghost use Rattle.merge_inputs.specs.Select.{is_taken, not_built, standing, takes
 
 use crate::track_type::{AUDIO_TRACK, SUBTITLE_TRACK, VIDEO_TRACK};
 use element_reader::Outline;
+use matroska_format::Header;
 use merge_words::FileWords;
 use mkv_schema::ids::{ATTACHMENTS, CHAPTERS, TAGS};
 use word_values::Select;
@@ -36,7 +37,7 @@ fn takes(select: &Select, id: u64) -> bool
 }
 
 /// The first of Attachments, Chapters and Tags that a file has and that the words don't leave out.
-pub fn not_built(words: &FileWords, webm: bool, outline: &Outline) -> Option<u32>
+pub fn not_built(words: &FileWords, webm: bool, outline: &Outline) -> Option<Header>
     ensures { (held : ℕ) (bytes : List ℕ) → outline_in held bytes ≡ Ok outline.now
         → result ≡ not_built words.now webm (segment_run bytes outline.now.segment).list }
 {
@@ -48,13 +49,13 @@ pub fn not_built(words: &FileWords, webm: bool, outline: &Outline) -> Option<u32
         .or(standing(outline, tags, TAGS))
 }
 
-/// An ID that is wanted, if an Element of it stands at level 1.
-fn standing(outline: &Outline, is_wanted: bool, id: u32) -> Option<u32>
+/// The first Element of this ID at level 1, if it is wanted.
+fn standing(outline: &Outline, is_wanted: bool, id: u32) -> Option<Header>
     ensures { (held : ℕ) (bytes : List ℕ) → outline_in held bytes ≡ Ok outline.now
         → result ≡ standing (segment_run bytes outline.now.segment).list is_wanted id }
 {
-    if is_wanted && outline.first(id).is_some() {
-        Some(id)
+    if is_wanted {
+        outline.first(id)
     } else {
         None
     }

@@ -49,8 +49,8 @@ abbrev pub output_is_input_line : List ℕ → List ℕ
 output_is_input_line name = codes "error: " ++ (shown_text name ++ codes ": OutputIsInput")
 
 -- a file that has an Element which isn't taken over yet, and isn't left out
-abbrev pub not_taken_line : List ℕ → ℕ → List ℕ
-not_taken_line name id = codes "error: " ++ (shown_text name ++ (codes ": NotBuilt" ++ element_text id))
+abbrev pub not_taken_line : List ℕ → Header → List ℕ
+not_taken_line name h = codes "error: " ++ (shown_text name ++ (codes ": NotBuilt" ++ (element_text h.id ++ (codes ", offset " ++ decimal h.offset))))
 
 -- an output that would have no lane, or too many
 abbrev pub no_lane_line : List ℕ
@@ -98,7 +98,7 @@ text_of (MoreDamages name more) = more_damages_line name.now more
 text_of (NoTrack name number) = no_track_line name.now number
 text_of (Missing name) = missing_line name.now
 text_of (OutputIsInput name) = output_is_input_line name.now
-text_of (NotTaken name id) = not_taken_line name.now id
+text_of (NotTaken name header) = not_taken_line name.now header
 text_of NoLane = no_lane_line
 text_of TooManyLanes = too_many_lanes_line
 text_of (NotWebm codec) = not_webm_line codec.now

@@ -27,8 +27,8 @@ pub enum Line<'a> {
     Missing { name: &'a str },
     /// An output has the name of the file that it would be made of.
     OutputIsInput { name: &'a str },
-    /// A file has an Element of this ID, which isn't taken over yet, and which the words don't leave out.
-    NotTaken { name: &'a str, id: u32 },
+    /// A file has this Element, which isn't taken over yet, and which the words don't leave out.
+    NotTaken { name: &'a str, header: Header },
     /// No track is taken.
     NoLane,
     /// More tracks are taken than an output may have.
@@ -88,9 +88,10 @@ impl fmt::Display for Line<'_> {
                 let name = ShownText(name);
                 write!(f, "error: {name}: OutputIsInput")
             }
-            Line::NotTaken { name, id } => {
-                let (name, element) = (ShownText(name), ShownElement(id));
-                write!(f, "error: {name}: NotBuilt{element}")
+            Line::NotTaken { name, header } => {
+                let (name, element) = (ShownText(name), ShownElement(header.id));
+                let offset = header.offset;
+                write!(f, "error: {name}: NotBuilt{element}, offset {offset}")
             }
             Line::NoLane => f.write_str("error: NoLane"),
             Line::TooManyLanes => f.write_str("error: TooManyLanes"),

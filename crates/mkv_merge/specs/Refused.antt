@@ -27,7 +27,7 @@ name_of words input = option_map_or (λ (file : FileWords). file.name) (slice_ge
 
 abbrev pub input_line : List ℕ → InputRefusal → List ℕ
 input_line name (Damaged damage) = refusal_line name damage
-input_line name (NotBuilt id) = not_taken_line name id
+input_line name (NotBuilt element) = not_taken_line name element
 
 abbrev pub plan_line : List ℕ → PlanRefusal → List ℕ
 plan_line output NoLane = no_lane_line
