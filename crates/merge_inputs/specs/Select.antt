@@ -17,18 +17,18 @@ abbrev pub is_among : ℕ → List ℕ → Bool
 is_among id ids = list_any (λ k. k == id) ids
 
 -- a selection takes the track of this ID
-abbrev pub takes : Select → ℕ → Bool
-takes All id = true
-takes (These ids) id = is_among id ids
-takes (AllBut ids) id = not (is_among id ids)
-takes Off id = false
+abbrev pub selects : Select → ℕ → Bool
+selects All id = true
+selects (These ids) id = is_among id ids
+selects (AllBut ids) id = not (is_among id ids)
+selects Off id = false
 
 -- the words take a track of this ID and this TrackType; of other types than these three none is taken
 abbrev pub is_taken : FileWords → ℕ → ℕ → Bool
 is_taken words id type =
-    if type == VIDEO_TRACK then takes words.video id else
-    if type == AUDIO_TRACK then takes words.audio id else
-    if type == SUBTITLE_TRACK then takes words.subtitles id else
+    if type == VIDEO_TRACK then selects words.video id else
+    if type == AUDIO_TRACK then selects words.audio id else
+    if type == SUBTITLE_TRACK then selects words.subtitles id else
     false
 
 -- ---- what isn't taken over yet

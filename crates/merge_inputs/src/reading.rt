@@ -16,7 +16,7 @@ ghost use Rattle.merge_inputs.specs.Taken.{first_unusable};
 use crate::input::{Input, InputEnd, InputRefusal};
 use crate::select::not_built;
 use crate::taken::{TakenTrack, first_unusable, taken_of};
-use crate::title::title_of;
+use crate::title::file_title;
 use element_reader::Outline;
 use file_records::{Records, read_records, scale_of};
 use merge_words::FileWords;
@@ -60,7 +60,7 @@ pub fn read_input<R: Reads>(
         file,
         outline: Rc::new(alloc, outline)?,
         scale: scale_of(&info),
-        title: title_of(alloc, &info)?,
+        title: file_title(alloc, &info)?,
         count,
         taken,
     })

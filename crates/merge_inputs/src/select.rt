@@ -3,7 +3,7 @@
 ghost use Rattle.std.specs.Prelude.{◌≡◌, ℕ, List, Ok};
 ghost use Rattle.matroska_format.specs.Outline.{segment_run};
 ghost use Rattle.element_reader.specs.Outline.{outline_in};
-ghost use Rattle.merge_inputs.specs.Select.{is_taken, not_built, standing, takes};
+ghost use Rattle.merge_inputs.specs.Select.{is_taken, not_built, selects, standing};
 
 use crate::track_type::{AUDIO_TRACK, SUBTITLE_TRACK, VIDEO_TRACK};
 use element_reader::Outline;
@@ -17,16 +17,16 @@ pub fn is_taken(words: &FileWords, id: u64, kind: u64) -> bool
     ensures { result ≡ is_taken words.now id kind }
 {
     match kind {
-        VIDEO_TRACK => takes(&words.video, id),
-        AUDIO_TRACK => takes(&words.audio, id),
-        SUBTITLE_TRACK => takes(&words.subtitles, id),
+        VIDEO_TRACK => selects(&words.video, id),
+        AUDIO_TRACK => selects(&words.audio, id),
+        SUBTITLE_TRACK => selects(&words.subtitles, id),
         _ => false,
     }
 }
 
 /// Whether a selection takes the track of this ID.
-fn takes(select: &Select, id: u64) -> bool
-    ensures { result ≡ takes select.now id }
+fn selects(select: &Select, id: u64) -> bool
+    ensures { result ≡ selects select.now id }
 {
     match select {
         Select::All => true,

@@ -13,7 +13,7 @@ use mkv_values::Text;
 use std::alloc::{AllocError, Global};
 
 /// The title of a file whose first Info this is, empty where it has none.
-pub fn title_of(alloc: Global, info: &Option<Tree>) -> Result<Text, AllocError>
+pub fn file_title(alloc: Global, info: &Option<Tree>) -> Result<Text, AllocError>
     requires { IfSome info.now IsGoodInfo }
     ensures { IfOk result (λ title. title ≡ title_of_info info.now) }
 {

@@ -15,7 +15,7 @@ use Rattle.merge_inputs.specs.Input.{InputRead, input_of, read_in}
 use Rattle.merge_inputs.specs.declared.input.Input.{Input}
 use Rattle.mkv_merge.specs.Bound.{files_size}
 use Rattle.mkv_merge.specs.Prepared.{AreTold, ReadsAs, reads_in}
-use Rattle.mkv_merge.specs.Read.{inputs_from, inputs_of, numbered}
+use Rattle.mkv_merge.specs.Read.{inputs_read_from, inputs_read, numbered}
 use Rattle.mkv_merge.specs.Refused.{and_then}
 use Rattle.mkv_merge.specs.declared.refusal.MergeEnd.{MergeEnd}
 use Rattle.mkv_merge.specs.declared.refusal.MergeEnd.TheVariants.{Refused, Stopped}
@@ -57,19 +57,19 @@ told-count content list contents told =
 
 -- what is read of inputs, the first of which has this number, behind what was read of those before it
 abbrev pub read_behind : Bool → ℕ → ℕ → List InputRead → List (FileWords × List ℕ) → Result (List InputRead) Refusal
-read_behind webm k held done files = and_then (inputs_from webm k held files) (λ rest. Ok (done ++ rest))
+read_behind webm k held done files = and_then (inputs_read_from webm k held files) (λ rest. Ok (done ++ rest))
 
 -- the same, where this is found of the first
 abbrev found_behind : Bool → ℕ → ℕ → List InputRead → List (FileWords × List ℕ) → Result InputRead Refusal → Result (List InputRead) Refusal
 found_behind webm k held done files found =
-    and_then (and_then found (λ read. and_then (inputs_from webm (suc k) (counted held read.held) files) (λ reads. Ok (read ∷ reads)))) (λ rest. Ok (done ++ rest))
+    and_then (and_then found (λ read. and_then (inputs_read_from webm (suc k) (counted held read.held) files) (λ reads. Ok (read ∷ reads)))) (λ rest. Ok (done ++ rest))
 
 -- All inputs are read as these, and then those from the k-th on are.
 abbrev pub GoesOn : MergeWords → List (List ℕ) → ℕ → ℕ → List InputRead → Type 0
-GoesOn words contents k held done = inputs_of words contents ≡ read_behind words.webm k held done (drop k (zip words.files contents))
+GoesOn words contents k held done = inputs_read words contents ≡ read_behind words.webm k held done (drop k (zip words.files contents))
 
 -- what is found of the k-th
-found-at : (f : LiveFiles) (words : MergeWords) (list : List FileId) (contents : List (List ℕ)) (k held : ℕ) (done : List InputRead) (w : FileWords) (file : FileId) (found : Result InputRead Refusal) → length list ≡ length words.files → k < length list → w ≡ get_or words.files k w → AreTold f list contents → Told (f.content (get_or list k file).n) (λ bytes. numbered k (input_of w words.webm held bytes) ≡ found) → GoesOn words contents k held done → inputs_of words contents ≡ found_behind words.webm k held done (drop (suc k) (zip words.files contents)) found
+found-at : (f : LiveFiles) (words : MergeWords) (list : List FileId) (contents : List (List ℕ)) (k held : ℕ) (done : List InputRead) (w : FileWords) (file : FileId) (found : Result InputRead Refusal) → length list ≡ length words.files → k < length list → w ≡ get_or words.files k w → AreTold f list contents → Told (f.content (get_or list k file).n) (λ bytes. numbered k (input_of w words.webm held bytes) ≡ found) → GoesOn words contents k held done → inputs_read words contents ≡ found_behind words.webm k held done (drop (suc k) (zip words.files contents)) found
 found-at f words list contents k held done w file found each below is told finds goes =
     goes
     ∙ ap (read_behind words.webm k held done) (zip-at words.files contents k w [] (omega arith) (omega (arith, told-count f.content list contents told)))
@@ -77,7 +77,7 @@ found-at f words list contents k held done w file found each below is told finds
     ∙ ap (found_behind words.webm k held done (drop (suc k) (zip words.files contents))) (finds (get_or contents k []) (told-at f.content list contents k file told below))
 
 -- it refuses all, or isn't read for another reason
-pub refused-at : (f : LiveFiles) (words : MergeWords) (list : List FileId) (contents : List (List ℕ)) (k held : ℕ) (done : List InputRead) (w : FileWords) (file : FileId) (end : MergeEnd) → length list ≡ length words.files → k < length list → w ≡ get_or words.files k w → AreTold f list contents → Told (f.content (get_or list k file).n) (λ bytes. ReadsAs {B = Input} read_in (numbered k (input_of w words.webm held bytes)) (Err end)) → GoesOn words contents k held done → ReadsAs {B = List Input} reads_in (inputs_of words contents) (Err end)
+pub refused-at : (f : LiveFiles) (words : MergeWords) (list : List FileId) (contents : List (List ℕ)) (k held : ℕ) (done : List InputRead) (w : FileWords) (file : FileId) (end : MergeEnd) → length list ≡ length words.files → k < length list → w ≡ get_or words.files k w → AreTold f list contents → Told (f.content (get_or list k file).n) (λ bytes. ReadsAs {B = Input} read_in (numbered k (input_of w words.webm held bytes)) (Err end)) → GoesOn words contents k held done → ReadsAs {B = List Input} reads_in (inputs_read words contents) (Err end)
 refused-at f words list contents k held done w file (Refused why) each below is told finds goes =
     found-at f words list contents k held done w file (Err why) each below is told finds goes
 refused-at f words list contents k held done w file (Stopped stop) each below is told finds goes = tt
@@ -86,7 +86,7 @@ refused-at f words list contents k held done w file (Stopped stop) each below is
 pub read-at : (f : LiveFiles) (words : MergeWords) (list : List FileId) (contents : List (List ℕ)) (k held : ℕ) (done : List InputRead) (w : FileWords) (file : FileId) (read : InputRead) → length list ≡ length words.files → k < length list → w ≡ get_or words.files k w → AreTold f list contents → Told (f.content (get_or list k file).n) (λ bytes. numbered k (input_of w words.webm held bytes) ≡ Ok read) → GoesOn words contents k held done → GoesOn words contents (k + 1) (counted held read.held) (done ++ read ∷ [])
 read-at f words list contents k held done w file read each below is told finds goes =
     found-at f words list contents k held done w file (Ok read) each below is told finds goes
-    ∙ joined (inputs_from words.webm (suc k) (counted held read.held) (drop (suc k) (zip words.files contents)))
+    ∙ joined (inputs_read_from words.webm (suc k) (counted held read.held) (drop (suc k) (zip words.files contents)))
     ∙ ap (λ (n : ℕ). read_behind words.webm n (counted held read.held) (done ++ read ∷ []) (drop n (zip words.files contents))) (one_more k)
   where
     joined : (r : Result (List InputRead) Refusal) → and_then (and_then r (λ reads. Ok (read ∷ reads))) (λ rest. Ok (done ++ rest)) ≡ and_then r (λ rest. Ok ((done ++ read ∷ []) ++ rest))
@@ -97,7 +97,7 @@ read-at f words list contents k held done w file read each below is told finds g
     one_more n = omega arith
 
 -- all are read
-pub read-end : (words : MergeWords) (contents : List (List ℕ)) (k held : ℕ) (done : List InputRead) → length words.files ≤ k → GoesOn words contents k held done → inputs_of words contents ≡ Ok done
+pub read-end : (words : MergeWords) (contents : List (List ℕ)) (k held : ℕ) (done : List InputRead) → length words.files ≤ k → GoesOn words contents k held done → inputs_read words contents ≡ Ok done
 read-end words contents k held done most goes =
     goes ∙ ap (read_behind words.webm k held done) (zip-end words.files contents k most) ∙ ap Ok (append-nil done)
 

@@ -22,22 +22,23 @@ use Rattle.mkv_lines.specs.Line.{no_track_line, told_lines, wrote_blocks_line}
 use Rattle.mkv_lines.specs.Verdict.{Verdict, in_turn, refused}
 use Rattle.mkv_lines.specs.declared.status.Status.{Status}
 use Rattle.mkv_lines.specs.declared.status.Status.TheVariants.{Done, Warned}
-use Rattle.mkv_merge.specs.Read.{contents_of, inputs_of, writes_input}
+use Rattle.mkv_merge.specs.Read.{contents_of, inputs_read, writes_input}
 use Rattle.mkv_merge.specs.Refused.{and_then, line_of}
 use Rattle.mkv_merge.specs.declared.refusal.Refusal.{Refusal}
 use Rattle.mkv_merge.specs.declared.refusal.Refusal.TheVariants.{OutputIsInput, Plan}
 
 -- ---- the sources
 
-abbrev pub unless_refused : Option PlanRefusal → List InputRead → Result (List InputRead) Refusal
-unless_refused None reads = Ok reads
-unless_refused (Some why) reads = Err (Plan why)
+-- what was read, unless it comes to no plan
+abbrev pub unless_no_plan : Option PlanRefusal → List InputRead → Result (List InputRead) Refusal
+unless_no_plan None reads = Ok reads
+unless_no_plan (Some why) reads = Err (Plan why)
 
 -- the sources of a merge whose inputs have these contents, or what refuses them: what is read of each, and what they come to
 abbrev pub sources_with : MergeWords → List (List ℕ) → Result (List Source) Refusal
 sources_with words contents =
-    and_then (inputs_of words contents) (λ reads.
-    and_then (unless_refused (plan_refusal words reads) reads) (λ taken.
+    and_then (inputs_read words contents) (λ reads.
+    and_then (unless_no_plan (plan_refusal words reads) reads) (λ taken.
     Ok (zip contents taken)))
 
 -- the sources of a merge in a world of names, or the first thing that refuses it: the output's name, an input that isn't

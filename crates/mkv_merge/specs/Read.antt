@@ -44,12 +44,12 @@ numbered input (Err why) = Err (Input input why)
 
 -- what is read of inputs with these contents, from this number on; those before them have so many octets of Info, Tracks, Chapters
 -- and Tags
-abbrev pub inputs_from : Bool → ℕ → ℕ → List (FileWords × List ℕ) → Result (List InputRead) Refusal
-inputs_from webm input held [] = Ok []
-inputs_from webm input held (file ∷ files) =
+abbrev pub inputs_read_from : Bool → ℕ → ℕ → List (FileWords × List ℕ) → Result (List InputRead) Refusal
+inputs_read_from webm input held [] = Ok []
+inputs_read_from webm input held (file ∷ files) =
     and_then (numbered input (input_of file.0 webm held file.1)) (λ read.
-    and_then (inputs_from webm (suc input) (counted held read.held) files) (λ reads.
+    and_then (inputs_read_from webm (suc input) (counted held read.held) files) (λ reads.
     Ok (read ∷ reads)))
 
-abbrev pub inputs_of : MergeWords → List (List ℕ) → Result (List InputRead) Refusal
-inputs_of words contents = inputs_from words.webm 0 0 (zip words.files contents)
+abbrev pub inputs_read : MergeWords → List (List ℕ) → Result (List InputRead) Refusal
+inputs_read words contents = inputs_read_from words.webm 0 0 (zip words.files contents)

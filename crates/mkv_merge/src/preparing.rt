@@ -10,7 +10,7 @@ ghost use Rattle.merge_inputs.specs.Input.{IsInput, input_of, read_in};
 ghost use Rattle.mkv_merge.specs.Bound.{files_size};
 ghost use Rattle.mkv_merge.specs.Ends.{is_files_fault};
 ghost use Rattle.mkv_merge.specs.Prepared.{AreInputsOf, AreTold, IsPrepared, Prepares, ReadsAs, reads_in};
-ghost use Rattle.mkv_merge.specs.Read.{inputs_of, numbered};
+ghost use Rattle.mkv_merge.specs.Read.{inputs_read, numbered};
 
 use crate::refusal::{MergeEnd, Refusal};
 use merge_inputs::{Input, InputEnd, read_input};
@@ -67,7 +67,7 @@ fn read_inputs<R: Reads>(
     requires live { AreLive (live_files R.Reads src.old).live files.now }
     requires each { length files.now ≡ length words.now.files }
     ensures exact { (contents : List (List ℕ)) → AreTold (live_files R.Reads src.old) files.now contents
-        → ReadsAs reads_in (inputs_of words.now contents) result }
+        → ReadsAs reads_in (inputs_read words.now contents) result }
     ensures inputs { IfOk result (AreInputsOf (live_files R.Reads src.new) files.now) }
     ensures standing { R.standing src.new ≡ R.standing src.old }
     ensures cause { HasCause is_files_fault (R.reading_faults src.old) (R.reading_faults src.new) result }

@@ -40,7 +40,7 @@ returns-clause-exact g c = λ bytes told.
     (c.in_ok-info.ensures.exact bytes now c.args.held outline)
     (ap (λ (taken : List TakenTrack). refusal_of c.args.words.now c.args.webm (segment_run bytes c.in_ok-outline.outline.segment).list taken) (sym (c.as_slice.ensures ∙ c.in_ok-taken.ensures))
     ∙ sym (c.refusal_of.ensures.exact c.args.held bytes outline) ∙ c.in_default.is)
-    (read-same c.in_ok-new.field-0.value c.in_ok-outline.outline c.in_ok-new.ensures.ok c.scale_of.ensures.value c.in_ok-title_of.ensures c.len-count.ensures c.in_ok-taken.ensures)
+    (read-same c.in_ok-new.field-0.value c.in_ok-outline.outline c.in_ok-new.ensures.ok c.scale_of.ensures.value c.in_ok-file_title.ensures c.len-count.ensures c.in_ok-taken.ensures)
 
 -- the file is live as before, and the tracks can be used
 pub returns-clause-input : goal.returns-clause-input

@@ -1,6 +1,6 @@
 use Rattle.std.proofs.Common.{sym}
 use Rattle.merge_inputs.proofs.TitleLemmas.{title-utf8}
-use Rattle.merge_inputs.proofs.title.title_of.Goals as goal
+use Rattle.merge_inputs.proofs.title.file_title.Goals as goal
 
 -- a Title is a text
 pub text_of-requires : goal.text_of-requires
