@@ -7,10 +7,11 @@ use Rattle.mkv_lines.specs.declared.status.Status.{Status}
 use Rattle.mkv_run.specs.Ends.{Ends}
 use Rattle.mkv_run.specs.RunSeen.{HasStatusCause, RunSeen}
 
--- The program ends with the number of a status with which a run ends that has this verdict, where it is told; and
--- with that of a fault of the outside only where one was counted.
-pub record HasExited (old new : RunSeen) (verdict : Option Verdict) (code : ℕ) : Type 0 where
+-- The program ends with the number of a status with which a run ends that has this verdict, where it is told; with that of
+-- a fault of the outside only where one was counted; and what it was given is changed as with that status.
+pub record HasExited (old new : RunSeen) (Changed : Status → Type 0) (verdict : Option Verdict) (code : ℕ) : Type 0 where
   pub status : Status
   pub number : code ≡ code_of status
   pub ends : Told verdict (Ends old new status)
   pub cause : HasStatusCause old new status
+  pub changed : Changed status

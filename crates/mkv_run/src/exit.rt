@@ -4,6 +4,7 @@ ghost use Rattle.std.specs.Prelude.{◌≡◌, ◌<◌, ◌⊎◌, ℕ, IfOk, If
 ghost use Rattle.std.specs.Process.{exit_status};
 ghost use Rattle.mkv_io.specs.Sources.{live_files};
 ghost use Rattle.mkv_disk.specs.Calls.{AnyMoment, AtRest};
+ghost use Rattle.mkv_args.specs.Words.{command};
 ghost use Rattle.mkv_lines.specs.Code.{code_of};
 ghost use Rattle.sidecar_edit.specs.Recovering.{IsRecovering};
 ghost use Rattle.word_values.specs.Place.{texts};
@@ -12,6 +13,7 @@ ghost use Rattle.merged_outputs.specs.Merge.{HasMerged};
 ghost use Rattle.mkv_run.specs.Exit.{HasExited};
 ghost use Rattle.mkv_run.specs.Run.{ReadsWithinIn, verdict_in};
 ghost use Rattle.mkv_run.specs.RunSeen.{run_seen};
+ghost use Rattle.mkv_run.specs.Touched.{Touches, edited_in};
 
 use crate::running::run;
 use mkv_disk::Disk;
@@ -49,6 +51,7 @@ pub fn program<F: Files, D: Disk, R: Report>(
     ensures ok { IfOk words.now (λ words. HasExited
         (run_seen F.Reads F.Files.own D.Reads D.Disk.own R.Report files.old disk.old report.old)
         (run_seen F.Reads F.Files.own D.Reads D.Disk.own R.Report files.new disk.new report.new)
+        (Touches D.Reads D.Disk.own (edited_in (command (texts words.items))) files.old files.new disk.old disk.new)
         (verdict_in (F.names files.old) (disk_world D.Disk.own disk.old) (texts words.items)) (exit_status result)) }
 
     // Where it ends with 0 or 1, the merge that the words ask for was written.
