@@ -14,51 +14,52 @@ use Rattle.word_values.specs.declared.values.ValueForm.TheVariants as f
 use Rattle.merge_words.specs.declared.options.Meaning.{Meaning}
 use Rattle.merge_words.specs.declared.options.OptionRow.{OptionRow}
 
--- an option's short and long spelling, what it is about, how often it may stand, its value's form
+-- an option's short and long spelling, what it is about, how often it may stand, its value's form, and what it does
 pub record Row : Type 0 where
   pub short : List ℕ
   pub long : List ℕ
   pub subject : Subject
   pub scope : Scope
   pub form : ValueForm
+  pub does : List ℕ
 
-abbrev pub option : List ℕ → List ℕ → Subject → Scope → ValueForm → Row
-option short long subject scope form = record { short = short; long = long; subject = subject; scope = scope; form = form }
+abbrev pub option : List ℕ → List ℕ → Subject → Scope → ValueForm → List ℕ → Row
+option short long subject scope form does = record { short = short; long = long; subject = subject; scope = scope; form = form; does = does }
 
 -- the options for the whole output, then those for the next file
 unfoldable pub table : List Row
 table =
-    option (codes "-o") (codes "--output") s.Output Output f.Name ∷
-    option (codes "-w") (codes "--webm") s.Webm Output f.Flag ∷
-    option (codes "") (codes "--title") s.Title Output f.Text ∷
-    option (codes "") (codes "--chapters") s.ChapterFile Output f.Name ∷
-    option (codes "") (codes "--timestamp-scale") s.Scale Output f.Scale ∷
-    option (codes "") (codes "--cluster-length") s.ClusterLength Output f.Length ∷
-    option (codes "") (codes "--split") s.Split Output f.Split ∷
-    option (codes "") (codes "--segment-uid") s.Uuids Output f.Uuids ∷
-    option (codes "") (codes "--link") s.Link Output f.Flag ∷
-    option (codes "-J") (codes "") s.Identify Output f.Flag ∷
-    option (codes "-a") (codes "--audio-tracks") s.Audio File f.Ids ∷
-    option (codes "-A") (codes "--no-audio") s.Audio File f.Exclusion ∷
-    option (codes "-d") (codes "--video-tracks") s.Video File f.Ids ∷
-    option (codes "-D") (codes "--no-video") s.Video File f.Exclusion ∷
-    option (codes "-s") (codes "--subtitle-tracks") s.Subtitles File f.Ids ∷
-    option (codes "-S") (codes "--no-subtitles") s.Subtitles File f.Exclusion ∷
-    option (codes "-M") (codes "--no-attachments") s.Attachments File f.Flag ∷
-    option (codes "-T") (codes "--no-track-tags") s.TrackTags File f.Flag ∷
-    option (codes "") (codes "--no-global-tags") s.GlobalTags File f.Flag ∷
-    option (codes "") (codes "--no-chapters") s.Chapters File f.Flag ∷
-    option (codes "-y") (codes "--sync") s.Sync Track f.TrackDelay ∷
-    option (codes "") (codes "--track-name") s.TrackName Track f.TrackText ∷
-    option (codes "") (codes "--language") s.Language Track f.TrackLanguage ∷
-    option (codes "") (codes "--default-track-flag") s.DefaultFlag Track f.TrackFlag ∷
-    option (codes "") (codes "--forced-display-flag") s.ForcedFlag Track f.TrackFlag ∷
-    option (codes "") (codes "--cues") s.Cues Track f.TrackCues ∷
-    option (codes "") (codes "--timestamps") s.Times Track f.TrackFile ∷ []
+    option (codes "-o") (codes "--output") s.Output Output f.Name (codes "write this file") ∷
+    option (codes "-w") (codes "--webm") s.Webm Output f.Flag (codes "make WebM") ∷
+    option (codes "") (codes "--title") s.Title Output f.Text (codes "give the output this title") ∷
+    option (codes "") (codes "--chapters") s.ChapterFile Output f.Name (codes "take chapters from a text (not built)") ∷
+    option (codes "") (codes "--timestamp-scale") s.Scale Output f.Scale (codes "let a tick of the output last so long") ∷
+    option (codes "") (codes "--cluster-length") s.ClusterLength Output f.Length (codes "end a Cluster by then") ∷
+    option (codes "") (codes "--split") s.Split Output f.Split (codes "begin further outputs there (not built)") ∷
+    option (codes "") (codes "--segment-uid") s.Uuids Output f.Uuids (codes "give the outputs these (not built)") ∷
+    option (codes "") (codes "--link") s.Link Output f.Flag (codes "link the outputs to each other (not built)") ∷
+    option (codes "-J") (codes "") s.Identify Output f.Flag (codes "identify FILE, and nothing else (not built)") ∷
+    option (codes "-a") (codes "--audio-tracks") s.Audio File f.Ids (codes "take these audio tracks") ∷
+    option (codes "-A") (codes "--no-audio") s.Audio File f.Exclusion (codes "take no audio track") ∷
+    option (codes "-d") (codes "--video-tracks") s.Video File f.Ids (codes "take these video tracks") ∷
+    option (codes "-D") (codes "--no-video") s.Video File f.Exclusion (codes "take no video track") ∷
+    option (codes "-s") (codes "--subtitle-tracks") s.Subtitles File f.Ids (codes "take these subtitle tracks") ∷
+    option (codes "-S") (codes "--no-subtitles") s.Subtitles File f.Exclusion (codes "take no subtitle track") ∷
+    option (codes "-M") (codes "--no-attachments") s.Attachments File f.Flag (codes "leave the attached files out") ∷
+    option (codes "-T") (codes "--no-track-tags") s.TrackTags File f.Flag (codes "leave the tags of tracks out") ∷
+    option (codes "") (codes "--no-global-tags") s.GlobalTags File f.Flag (codes "leave the other tags out") ∷
+    option (codes "") (codes "--no-chapters") s.Chapters File f.Flag (codes "leave the chapters out") ∷
+    option (codes "-y") (codes "--sync") s.Sync Track f.TrackDelay (codes "let the track come later by DELAY") ∷
+    option (codes "") (codes "--track-name") s.TrackName Track f.TrackText (codes "name the track") ∷
+    option (codes "") (codes "--language") s.Language Track f.TrackLanguage (codes "say which language the track has") ∷
+    option (codes "") (codes "--default-track-flag") s.DefaultFlag Track f.TrackFlag (codes "say whether players prefer the track") ∷
+    option (codes "") (codes "--forced-display-flag") s.ForcedFlag Track f.TrackFlag (codes "say whether the track is always shown") ∷
+    option (codes "") (codes "--cues") s.Cues Track f.TrackCues (codes "say which blocks are listed for seeking") ∷
+    option (codes "") (codes "--timestamps") s.Times Track f.TrackFile (codes "take the times from a file (not built)") ∷ []
 
 -- a row of the code's table
 abbrev pub shown : OptionRow → Row
-shown r = record { short = r.0.now; long = r.1.now; subject = r.2; scope = r.3; form = r.4 }
+shown r = record { short = r.0.now; long = r.1.now; subject = r.2; scope = r.3; form = r.4; does = r.5.now }
 
 -- either spelling is the word
 abbrev pub spelled : List ℕ → Row → Bool

@@ -57,8 +57,8 @@ pub struct Meaning {
     pub form: ValueForm,
 }
 
-/// An option: its short spelling, its long one, what it is about, how often it may stand, and the
-/// form of its value. A spelling is empty where there is none.
+/// An option: its short spelling, its long one, what it is about, how often it may stand, the form
+/// of its value, and what it does. A spelling is empty where there is none.
 #[derive(Clone, Copy, Debug)]
 pub struct OptionRow(
     pub &'static str,
@@ -66,37 +66,38 @@ pub struct OptionRow(
     pub Subject,
     pub Scope,
     pub ValueForm,
+    pub &'static str,
 );
 
 #[rattlefmt::skip]
 static MERGE_OPTIONS: [OptionRow; 27] = [
-    OptionRow("-o", "--output", Subject::Output, Scope::Output, ValueForm::Name),
-    OptionRow("-w", "--webm", Subject::Webm, Scope::Output, ValueForm::Flag),
-    OptionRow("", "--title", Subject::Title, Scope::Output, ValueForm::Text),
-    OptionRow("", "--chapters", Subject::ChapterFile, Scope::Output, ValueForm::Name),
-    OptionRow("", "--timestamp-scale", Subject::Scale, Scope::Output, ValueForm::Scale),
-    OptionRow("", "--cluster-length", Subject::ClusterLength, Scope::Output, ValueForm::Length),
-    OptionRow("", "--split", Subject::Split, Scope::Output, ValueForm::Split),
-    OptionRow("", "--segment-uid", Subject::Uuids, Scope::Output, ValueForm::Uuids),
-    OptionRow("", "--link", Subject::Link, Scope::Output, ValueForm::Flag),
-    OptionRow("-J", "", Subject::Identify, Scope::Output, ValueForm::Flag),
-    OptionRow("-a", "--audio-tracks", Subject::Audio, Scope::File, ValueForm::Ids),
-    OptionRow("-A", "--no-audio", Subject::Audio, Scope::File, ValueForm::Exclusion),
-    OptionRow("-d", "--video-tracks", Subject::Video, Scope::File, ValueForm::Ids),
-    OptionRow("-D", "--no-video", Subject::Video, Scope::File, ValueForm::Exclusion),
-    OptionRow("-s", "--subtitle-tracks", Subject::Subtitles, Scope::File, ValueForm::Ids),
-    OptionRow("-S", "--no-subtitles", Subject::Subtitles, Scope::File, ValueForm::Exclusion),
-    OptionRow("-M", "--no-attachments", Subject::Attachments, Scope::File, ValueForm::Flag),
-    OptionRow("-T", "--no-track-tags", Subject::TrackTags, Scope::File, ValueForm::Flag),
-    OptionRow("", "--no-global-tags", Subject::GlobalTags, Scope::File, ValueForm::Flag),
-    OptionRow("", "--no-chapters", Subject::Chapters, Scope::File, ValueForm::Flag),
-    OptionRow("-y", "--sync", Subject::Sync, Scope::Track, ValueForm::TrackDelay),
-    OptionRow("", "--track-name", Subject::TrackName, Scope::Track, ValueForm::TrackText),
-    OptionRow("", "--language", Subject::Language, Scope::Track, ValueForm::TrackLanguage),
-    OptionRow("", "--default-track-flag", Subject::DefaultFlag, Scope::Track, ValueForm::TrackFlag),
-    OptionRow("", "--forced-display-flag", Subject::ForcedFlag, Scope::Track, ValueForm::TrackFlag),
-    OptionRow("", "--cues", Subject::Cues, Scope::Track, ValueForm::TrackCues),
-    OptionRow("", "--timestamps", Subject::Times, Scope::Track, ValueForm::TrackFile),
+    OptionRow("-o", "--output", Subject::Output, Scope::Output, ValueForm::Name, "write this file"),
+    OptionRow("-w", "--webm", Subject::Webm, Scope::Output, ValueForm::Flag, "make WebM"),
+    OptionRow("", "--title", Subject::Title, Scope::Output, ValueForm::Text, "give the output this title"),
+    OptionRow("", "--chapters", Subject::ChapterFile, Scope::Output, ValueForm::Name, "take chapters from a text (not built)"),
+    OptionRow("", "--timestamp-scale", Subject::Scale, Scope::Output, ValueForm::Scale, "let a tick of the output last so long"),
+    OptionRow("", "--cluster-length", Subject::ClusterLength, Scope::Output, ValueForm::Length, "end a Cluster by then"),
+    OptionRow("", "--split", Subject::Split, Scope::Output, ValueForm::Split, "begin further outputs there (not built)"),
+    OptionRow("", "--segment-uid", Subject::Uuids, Scope::Output, ValueForm::Uuids, "give the outputs these (not built)"),
+    OptionRow("", "--link", Subject::Link, Scope::Output, ValueForm::Flag, "link the outputs to each other (not built)"),
+    OptionRow("-J", "", Subject::Identify, Scope::Output, ValueForm::Flag, "identify FILE, and nothing else (not built)"),
+    OptionRow("-a", "--audio-tracks", Subject::Audio, Scope::File, ValueForm::Ids, "take these audio tracks"),
+    OptionRow("-A", "--no-audio", Subject::Audio, Scope::File, ValueForm::Exclusion, "take no audio track"),
+    OptionRow("-d", "--video-tracks", Subject::Video, Scope::File, ValueForm::Ids, "take these video tracks"),
+    OptionRow("-D", "--no-video", Subject::Video, Scope::File, ValueForm::Exclusion, "take no video track"),
+    OptionRow("-s", "--subtitle-tracks", Subject::Subtitles, Scope::File, ValueForm::Ids, "take these subtitle tracks"),
+    OptionRow("-S", "--no-subtitles", Subject::Subtitles, Scope::File, ValueForm::Exclusion, "take no subtitle track"),
+    OptionRow("-M", "--no-attachments", Subject::Attachments, Scope::File, ValueForm::Flag, "leave the attached files out"),
+    OptionRow("-T", "--no-track-tags", Subject::TrackTags, Scope::File, ValueForm::Flag, "leave the tags of tracks out"),
+    OptionRow("", "--no-global-tags", Subject::GlobalTags, Scope::File, ValueForm::Flag, "leave the other tags out"),
+    OptionRow("", "--no-chapters", Subject::Chapters, Scope::File, ValueForm::Flag, "leave the chapters out"),
+    OptionRow("-y", "--sync", Subject::Sync, Scope::Track, ValueForm::TrackDelay, "let the track come later by DELAY"),
+    OptionRow("", "--track-name", Subject::TrackName, Scope::Track, ValueForm::TrackText, "name the track"),
+    OptionRow("", "--language", Subject::Language, Scope::Track, ValueForm::TrackLanguage, "say which language the track has"),
+    OptionRow("", "--default-track-flag", Subject::DefaultFlag, Scope::Track, ValueForm::TrackFlag, "say whether players prefer the track"),
+    OptionRow("", "--forced-display-flag", Subject::ForcedFlag, Scope::Track, ValueForm::TrackFlag, "say whether the track is always shown"),
+    OptionRow("", "--cues", Subject::Cues, Scope::Track, ValueForm::TrackCues, "say which blocks are listed for seeking"),
+    OptionRow("", "--timestamps", Subject::Times, Scope::Track, ValueForm::TrackFile, "take the times from a file (not built)"),
 ];
 
 /// The options of `merge`: those for the whole output, then those for the next file.

@@ -43,7 +43,7 @@ use Rattle.mkv_args.specs.Commands.{commands}
 use Rattle.mkv_args.specs.Extract.{is_taken, target_of, target, targets_from, targets, tracks_by, tracks, simple, chapters, listed, modes, job_of, job, extract}
 use Rattle.mkv_args.specs.Propedit.{place, typed, track, selector, step_of, selected, selector_at, edit_of, changed, edit_at, turn, closed, edits_from, edits, propedit}
 use Rattle.mkv_args.specs.Merge.{beside, identified, identify, is_word, merged_by, merge}
-use Rattle.mkv_args.specs.Words.{only_file, alone, info, recover, reindex, count_at, blocks_at, generate, command_named, command}
+use Rattle.mkv_args.specs.Words.{only_file, alone, info, recover, reindex, count_at, blocks_at, generate, command_named, first_command, is_short_help, helped, help_or, command}
 use Rattle.mkv_args.specs.Sound.{names_of, AreTargets, IsSoundJob, IsSoundPlace, AreEdits, IsSound}
 use Rattle.mkv_io.specs.Names.{AreOthers, AreApart}
 
@@ -332,14 +332,23 @@ named-sound (Some verb.Propedit) words c is = propedit-sound words c is
 named-sound (Some verb.Recover) words c is = file-sound command_is.Recover words c (λ file. tt) is
 named-sound (Some verb.Reindex) words c is = file-sound command_is.Reindex words c (λ file. tt) is
 named-sound (Some verb.Generate) words c is = generate-sound words c is
-named-sound (Some verb.Help) words c is = alone-sound command_is.Help c words tt is
+named-sound (Some verb.Help) words c is = alone-sound (command_is.Help None) c words tt is
 named-sound (Some verb.Version) words c is = alone-sound command_is.Version c words tt is
+
+first-sound : (words : List (List ℕ)) (c : Command) → first_command words ≡ Ok c → IsSound c
+unfolding first_command
+first-sound [] c is = absurd (cc)
+first-sound (first ∷ rest) c is = named-sound (meant commands first) (first ∷ rest) c is
 
 -- A command that words ask for keeps its limits.
 pub command-sound : (words : List (List ℕ)) (c : Command) → command words ≡ Ok c → IsSound c
 unfolding command
-command-sound [] c is = absurd (cc)
-command-sound (first ∷ rest) c is = named-sound (meant commands first) (first ∷ rest) c is
+command-sound words c is = split (is_short_help words) (helped words) is
+  where
+    split : (b : Bool) (o : Option Verb) → (if b then Ok (command_is.Help None) else help_or o words) ≡ Ok c → IsSound c
+    split true o found = ok-made IsSound (command_is.Help None) c found tt
+    split false (Some verb) found = ok-made IsSound (command_is.Help (Some verb)) c found tt
+    split false None found = first-sound words c found
 
 -- So does what is answered for them.
 pub told-sound : (words : List (List ℕ)) (r : Result Command ArgsEnd) → Tells r (command words) → IfOk r IsSound

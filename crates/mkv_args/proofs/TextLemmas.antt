@@ -18,7 +18,7 @@ use Rattle.mkv_args.specs.Entry.{meant}
 use Rattle.mkv_args.specs.Extract.{extract, job}
 use Rattle.mkv_args.specs.Merge.{beside, identified, identify, is_word, merged_by, merge}
 use Rattle.mkv_args.specs.Propedit.{edits, propedit}
-use Rattle.mkv_args.specs.Words.{alone, blocks_at, command, command_named, generate, info, only_file, recover, reindex}
+use Rattle.mkv_args.specs.Words.{alone, blocks_at, command, command_named, first_command, generate, help_or, helped, info, is_short_help, only_file, recover, reindex}
 use Rattle.merge_words.specs.Texts.{AreTexts}
 use Rattle.merge_words.proofs.TextLemmas.{merged-texts}
 
@@ -92,13 +92,22 @@ named-texts (Some verb.Propedit) words c utf8 is = propedit-texts words c is
 named-texts (Some verb.Recover) words c utf8 is = file-texts command_is.Recover words c (λ file. tt) is
 named-texts (Some verb.Reindex) words c utf8 is = file-texts command_is.Reindex words c (λ file. tt) is
 named-texts (Some verb.Generate) words c utf8 is = generate-texts words c is
-named-texts (Some verb.Help) words c utf8 is = alone-texts command_is.Help c words tt is
+named-texts (Some verb.Help) words c utf8 is = alone-texts (command_is.Help None) c words tt is
 named-texts (Some verb.Version) words c utf8 is = alone-texts command_is.Version c words tt is
+
+first-texts : (words : List (List ℕ)) (c : Command) → All IsUtf8 words → first_command words ≡ Ok c → HasTextsAsked c
+unfolding first_command
+first-texts [] c utf8 is = absurd (cc)
+first-texts (first ∷ rest) c utf8 is = named-texts (meant commands first) (first ∷ rest) c utf8 is
 
 command-texts : (words : List (List ℕ)) (c : Command) → All IsUtf8 words → command words ≡ Ok c → HasTextsAsked c
 unfolding command
-command-texts [] c utf8 is = absurd (cc)
-command-texts (first ∷ rest) c utf8 is = named-texts (meant commands first) (first ∷ rest) c utf8 is
+command-texts words c utf8 is = split (is_short_help words) (helped words) is
+  where
+    split : (b : Bool) (o : Option Verb) → (if b then Ok (command_is.Help None) else help_or o words) ≡ Ok c → HasTextsAsked c
+    split true o found = ok-made HasTextsAsked (command_is.Help None) c found tt
+    split false (Some verb) found = ok-made HasTextsAsked (command_is.Help (Some verb)) c found tt
+    split false None found = first-texts words c utf8 found
 
 -- What the words give to the merge that they ask for are texts.
 pub asked-texts : (words : List (List ℕ)) (w : MergeWords) → All IsUtf8 words → command words ≡ Ok (command_is.Merge w) → AreTexts w

@@ -44,7 +44,7 @@ pub record AreEdits (edits : List Edit) : Type 0 where
   pub each : All (λ (e : Edit). IsSoundPlace e.place) edits
 
 abbrev pub IsSound : Command → Type 0
-IsSound command.Help = ⊤
+IsSound (command.Help about) = ⊤
 IsSound command.Version = ⊤
 IsSound (command.Info file) = ⊤
 IsSound (command.Identify file) = ⊤

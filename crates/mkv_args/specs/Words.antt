@@ -1,5 +1,5 @@
 -- The words of a command line: a command, or the first word that is wrong and why.
-use Rattle.std.specs.Prelude.{ℕ, List, [], ◌∷◌, Option, Some, None, Result, Ok}
+use Rattle.std.specs.Prelude.{ℕ, Bool, ◌&&◌, if◌then◌else◌, List, [], ◌∷◌, slice_get, codes, Option, Some, None, is_none, option_and_then, Result, Ok}
 use Rattle.word_values.specs.declared.usage.Usage.{Usage}
 use Rattle.word_values.specs.declared.usage.Why.TheVariants.{NoCommand, UnknownCommand, BadValue}
 use Rattle.mkv_args.specs.declared.command.Command.{Command}
@@ -10,10 +10,10 @@ use Rattle.mkv_args.specs.Entry.{meant}
 use Rattle.mkv_args.specs.Commands.{commands as verbs}
 use Rattle.word_values.specs.Answers.{wrong, ◌>>=◌}
 use Rattle.word_values.specs.Numbers.{below, from, number}
-use Rattle.word_values.specs.Place.{due_at, file_at, end_at}
+use Rattle.word_values.specs.Place.{due_at, file_at, end_at, is_option}
 use Rattle.mkv_args.specs.Extract.{extract}
 use Rattle.mkv_args.specs.Propedit.{propedit}
-use Rattle.mkv_args.specs.Merge.{merge}
+use Rattle.mkv_args.specs.Merge.{merge, is_word}
 
 -- a file's name, behind which nothing stands
 unfoldable pub only_file : List (List ℕ) → Result (List ℕ) Usage
@@ -70,10 +70,29 @@ command_named (Some verb.Propedit) words = propedit words
 command_named (Some verb.Recover) words = recover words
 command_named (Some verb.Reindex) words = reindex words
 command_named (Some verb.Generate) words = generate words
-command_named (Some verb.Help) words = alone commands.Help words
+command_named (Some verb.Help) words = alone (commands.Help None) words
 command_named (Some verb.Version) words = alone commands.Version words
+
+unfoldable pub first_command : List (List ℕ) → Result Command Usage
+first_command [] = wrong 0 NoCommand
+first_command (first ∷ rest) = command_named (meant verbs first) (first ∷ rest)
+
+-- `-h` alone
+abbrev pub is_short_help : List (List ℕ) → Bool
+is_short_help words = is_word (codes "-h") (slice_get words 0) && is_none (slice_get words 1)
+
+-- the command of this name, which doesn't look like an option
+abbrev pub named : List ℕ → Option Verb
+named word = if is_option word then None else meant verbs word
+
+-- the command behind which `--help` stands, and nothing else
+abbrev pub helped : List (List ℕ) → Option Verb
+helped words = if is_word (codes "--help") (slice_get words 1) && is_none (slice_get words 2) then option_and_then named (slice_get words 0) else None
+
+abbrev pub help_or : Option Verb → List (List ℕ) → Result Command Usage
+help_or (Some verb) words = Ok (commands.Help (Some verb))
+help_or None words = first_command words
 
 -- the command that the words ask for, or the first word that is wrong
 unfoldable pub command : List (List ℕ) → Result Command Usage
-command [] = wrong 0 NoCommand
-command (first ∷ rest) = command_named (meant verbs first) (first ∷ rest)
+command words = if is_short_help words then Ok (commands.Help None) else help_or (helped words) words

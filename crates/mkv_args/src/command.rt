@@ -1,5 +1,6 @@
 //! What a command line asks for.
 
+use crate::commands::Verb;
 use merge_words::MergeWords;
 use mkv_jobs::{Edit, Job};
 use mkv_values::{List, Text};
@@ -7,8 +8,8 @@ use mkv_values::{List, Text};
 /// One command with all that its words say.
 #[derive(Debug, Drop)]
 pub enum Command {
-    /// Show how the words are written.
-    Help,
+    /// Show how the words are written, of one command or of all.
+    Help { about: Option<Verb> },
     /// Show the name and the version.
     Version,
     /// List a file's Elements and tracks.

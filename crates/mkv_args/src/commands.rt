@@ -7,8 +7,8 @@ ghost use Rattle.mkv_args.specs.Entry as words;
 use crate::entry::{Entry, meant};
 
 /// What a first word asks for.
-#[derive(Clone, Copy, PartialEq, Eq)]
-pub(crate) enum Verb {
+#[derive(Clone, Copy, Debug, PartialEq, Eq)]
+pub enum Verb {
     Info,
     Merge,
     Extract,
@@ -25,11 +25,11 @@ static COMMANDS: [Entry<Verb>; 9] = [
     Entry("", "info", Verb::Info, "FILE", "show the Elements and tracks of a file"),
     Entry("", "merge", Verb::Merge, "OPTIONS FILES | -J FILE", "join and split files, or identify one"),
     Entry("", "extract", Verb::Extract, "FILE MODE", "take tracks or other parts out of a file"),
-    Entry("", "propedit", Verb::Propedit, "FILE SECTIONS", "change properties of a file in place"),
+    Entry("", "propedit", Verb::Propedit, "FILE SECTIONS", "change properties in place (not built)"),
     Entry("", "recover", Verb::Recover, "FILE", "finish an edit that was stopped"),
-    Entry("", "reindex", Verb::Reindex, "FILE", "write the Cues and the SeekHead anew"),
-    Entry("", "generate", Verb::Generate, "N PREFIX", "make two files for trials, and merge them"),
-    Entry("", "--help", Verb::Help, "", "show these lines"),
+    Entry("", "reindex", Verb::Reindex, "FILE", "write the Cues and the SeekHead anew (not built)"),
+    Entry("", "generate", Verb::Generate, "N PREFIX", "make two files for trials (not built)"),
+    Entry("", "--help", Verb::Help, "", "show this, as -h; COMMAND --help shows its part"),
     Entry("", "--version", Verb::Version, "", "show the name and the version"),
 ];
 

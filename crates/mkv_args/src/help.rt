@@ -10,7 +10,7 @@ use crate::commands::{Verb, commands};
 use crate::entry::Entry;
 use crate::extract::modes;
 use crate::propedit::steps;
-use merge_words::{OptionRow, Scope, Subject, merge_options};
+use merge_words::{OptionRow, Scope, merge_options};
 use mkv_values::{List, Text};
 use std::alloc::{AllocError, Global};
 use word_values::ValueForm;
@@ -19,23 +19,25 @@ use word_values::ValueForm;
 const COLUMN: usize = 32;
 
 /// The word `+` of `merge`.
-static APPEND: Entry<()> = Entry(
-    "",
-    "+",
-    (),
-    "",
-    "the next file goes on where the one before ends",
-);
+#[rattlefmt::skip]
+static JOINS: [Entry<()>; 1] = [
+    Entry("", "+", (), "", "append the next file to this one (not built)"),
+];
 
 /// What the placeholders stand for.
 #[rattlefmt::skip]
-static VALUES: [Entry<()>; 17] = [
+static VALUES: [Entry<()>; 4] = [
     Entry("", "FILE", (), "", "the name of a file"),
     Entry("", "TEXT", (), "", "any text"),
     Entry("", "ID", (), "", "a track, from 0"),
+    Entry("", "LANGUAGE", (), "", "three lower-case letters"),
+];
+
+/// What the placeholders of `merge` stand for.
+#[rattlefmt::skip]
+static MERGE_VALUES: [Entry<()>; 11] = [
     Entry("", "IDS", (), "", "1,2 for these tracks, !1,2 for all others"),
     Entry("", "DELAY", (), "", "milliseconds, which may begin with -"),
-    Entry("", "LANGUAGE", (), "", "three lower-case letters"),
     Entry("", "FLAG", (), "", "0 or 1; 1 where it is left out"),
     Entry("", "CUES", (), "", "none, iframes or all"),
     Entry("", "TICK", (), "", "nanoseconds, 1000 to 10000000"),
@@ -45,8 +47,52 @@ static VALUES: [Entry<()>; 17] = [
     Entry("", "", (), "", "parts:TIME-TIME,TIME-TIME,.. or size:N[k, m, g]"),
     Entry("", "TIME", (), "", "1:02:03, 1:02:03.5 or 90s"),
     Entry("", "UUIDS", (), "", "32 hexadecimal digits each, commas between them"),
+];
+
+/// How `extract tracks` writes frames.
+#[rattlefmt::skip]
+static FORMS: [Entry<()>; 2] = [
+    Entry("", "--raw", (), "", "the frames, one behind the other"),
+    Entry("", "--fullraw", (), "", "their CodecPrivate, and then the frames"),
+];
+
+/// The sections of `propedit`.
+#[rattlefmt::skip]
+static SECTIONS: [Entry<()>; 2] = [
     Entry("", "SECTION", (), "", "info, track:N, track:=UID, track:@NUMBER,"),
     Entry("", "", (), "", "or track:vN, track:aN, track:sN by type"),
+];
+
+/// The properties of `propedit`: the name of each, and its value.
+#[rattlefmt::skip]
+static PROPERTIES: [Entry<()>; 17] = [
+    Entry("", "title", (), "TEXT", "of info; what the recording is called"),
+    Entry("", "segment-filename", (), "TEXT", "of info; the name of its file"),
+    Entry("", "muxing-application", (), "TEXT", "of info; the library; no --delete"),
+    Entry("", "writing-application", (), "TEXT", "of info; the program; no --delete"),
+    Entry("", "name", (), "TEXT", "of a track; what it is called"),
+    Entry("", "language", (), "LANGUAGE", "of a track"),
+    Entry("", "language-ietf", (), "TAG", "of a track; letters, digits and -, up to 63"),
+    Entry("", "codec-id", (), "CODEC", "of a track; no --delete"),
+    Entry("", "default-duration", (), "N", "of a track; nanoseconds of a frame, from 1"),
+    Entry("", "flag-enabled", (), "0 or 1", "of a track; whether it may be played"),
+    Entry("", "flag-default", (), "0 or 1", "of a track; whether players prefer it"),
+    Entry("", "flag-forced", (), "0 or 1", "of a track; whether it is always shown"),
+    Entry("", "flag-hearing-impaired", (), "0 or 1", "of a track; for those who can't hear"),
+    Entry("", "flag-visual-impaired", (), "0 or 1", "of a track; for those who can't see"),
+    Entry("", "flag-text-descriptions", (), "0 or 1", "of a track; describes the picture"),
+    Entry("", "flag-original", (), "0 or 1", "of a track; in the original language"),
+    Entry("", "flag-commentary", (), "0 or 1", "of a track; comments"),
+];
+
+/// The exit statuses.
+#[rattlefmt::skip]
+static STATUSES: [Entry<()>; 5] = [
+    Entry("", "0", (), "", "all is done"),
+    Entry("", "1", (), "", "all is done, and a line warns"),
+    Entry("", "2", (), "", "nothing is done, and a line says why"),
+    Entry("", "3", (), "", "there was no memory"),
+    Entry("", "4", (), "", "the files or the output failed"),
 ];
 
 /// The name of the program and its version, in one line.
@@ -56,24 +102,27 @@ pub fn version_line() -> &'static str
     "mkvsuite 0.1.0"
 }
 
-/// How the words are written: each command with its options, a line each, of at most 80 characters.
-pub fn usage_lines(alloc: Global) -> Result<List<Text>, AllocError>
-    ensures ok { IfOk result (λ lines. lines ≡ spec.usage_lines) }
+/// How the words are written: the lines of one command or of each, then what the placeholders stand
+/// for and the exit statuses. A line has at most 80 characters.
+pub fn usage_lines(alloc: Global, about: Option<Verb>) -> Result<List<Text>, AllocError>
+    ensures ok { IfOk result (λ lines. lines ≡ spec.usage_lines about) }
     ensures narrow { IfOk result (λ lines. AllPass (λ line. nat_le (length line) 80) lines) }
 {
-    Ok(all_lines(alloc)?)
+    Ok(all_lines(alloc, about)?)
 }
 
 #[tactic(auto, unfolding(crate::specs::Help::usage_lines))]
-fn all_lines(alloc: Global) -> Result<List<Text>, AllocError>
-    ensures { IfOk result (λ lines. lines ≡ spec.usage_lines) }
+fn all_lines(alloc: Global, about: Option<Verb>) -> Result<List<Text>, AllocError>
+    ensures { IfOk result (λ lines. lines ≡ spec.usage_lines about) }
 {
     let mut lines = List::new(alloc);
     add_line(alloc, &mut lines, "usage: mkvsuite COMMAND")?;
     add_line(alloc, &mut lines, "")?;
-    add_commands(alloc, &mut lines, commands())?;
+    add_commands(alloc, &mut lines, about, commands())?;
     add_line(alloc, &mut lines, "")?;
     add_entries(alloc, &mut lines, "", values())?;
+    add_line(alloc, &mut lines, "exit status:")?;
+    add_entries(alloc, &mut lines, "  ", statuses())?;
     Ok(lines)
 }
 
@@ -84,6 +133,48 @@ fn values() -> &'static [Entry<()>]
     &VALUES
 }
 
+#[tactic(auto, unfolding(crate::specs::Help::joins))]
+fn joins() -> &'static [Entry<()>]
+    ensures { map words.shown result.now ≡ spec.joins }
+{
+    &JOINS
+}
+
+#[tactic(auto, unfolding(crate::specs::Help::merge_values))]
+fn merge_values() -> &'static [Entry<()>]
+    ensures { map words.shown result.now ≡ spec.merge_values }
+{
+    &MERGE_VALUES
+}
+
+#[tactic(auto, unfolding(crate::specs::Help::forms))]
+fn forms() -> &'static [Entry<()>]
+    ensures { map words.shown result.now ≡ spec.forms }
+{
+    &FORMS
+}
+
+#[tactic(auto, unfolding(crate::specs::Help::sections))]
+fn sections() -> &'static [Entry<()>]
+    ensures { map words.shown result.now ≡ spec.sections }
+{
+    &SECTIONS
+}
+
+#[tactic(auto, unfolding(crate::specs::Help::properties))]
+fn properties() -> &'static [Entry<()>]
+    ensures { map words.shown result.now ≡ spec.properties }
+{
+    &PROPERTIES
+}
+
+#[tactic(auto, unfolding(crate::specs::Help::statuses))]
+fn statuses() -> &'static [Entry<()>]
+    ensures { map words.shown result.now ≡ spec.statuses }
+{
+    &STATUSES
+}
+
 fn add_line(alloc: Global, lines: &mut List<Text>, words: &str) -> Result<(), AllocError>
     ensures { OnOk result (lines.new ≡ lines.old ++ words.now ∷ []) }
 {
@@ -92,18 +183,31 @@ fn add_line(alloc: Global, lines: &mut List<Text>, words: &str) -> Result<(), Al
     lines.push(line)
 }
 
-/// Adds each command with the lines below it.
+/// Adds each command that is shown, with the lines below it.
 fn add_commands(
     alloc: Global,
     lines: &mut List<Text>,
+    about: Option<Verb>,
     commands: &[Entry<Verb>],
 ) -> Result<(), AllocError>
-    ensures { OnOk result (lines.new ≡ lines.old ++ flat_map spec.command_lines (map words.shown commands.now)) }
+    ensures { OnOk result (lines.new ≡ lines.old ++ flat_map (spec.shown_lines about) (map words.shown commands.now)) }
 {
     for command in commands {
-        add_command(alloc, lines, command)?;
+        if is_shown(about, command) {
+            add_command(alloc, lines, command)?;
+        }
     }
     Ok(())
+}
+
+/// Whether a command is shown: the one that is asked about, or each.
+fn is_shown(about: Option<Verb>, command: &Entry<Verb>) -> bool
+    ensures { result ≡ spec.is_shown about (words.shown command.now) }
+{
+    match about {
+        Some(verb) => command.2 == verb,
+        None => true,
+    }
 }
 
 fn add_command(
@@ -123,29 +227,82 @@ fn add_details(alloc: Global, lines: &mut List<Text>, verb: Verb) -> Result<(), 
 {
     match verb {
         Verb::Merge => add_merge(alloc, lines),
-        Verb::Extract => add_entries(alloc, lines, "  ", modes()),
-        Verb::Propedit => add_entries(alloc, lines, "  ", steps()),
+        Verb::Extract => add_extract(alloc, lines),
+        Verb::Propedit => add_propedit(alloc, lines),
         _ => Ok(()),
     }
 }
 
-/// Adds the options of `merge`, and `+`.
+/// Adds `+`, the options of `merge`, and what their placeholders stand for.
 fn add_merge(alloc: Global, lines: &mut List<Text>) -> Result<(), AllocError>
     ensures { OnOk result (lines.new ≡ lines.old ++ spec.merge_lines) }
 {
-    add_options(alloc, lines, merge_options())?;
-    let line = entry_line(alloc, "  ", &APPEND)?;
-    lines.push(line)?;
+    add_entries(alloc, lines, "  ", joins())?;
+    add_all_options(alloc, lines)?;
+    add_headed(alloc, lines, "  where:", merge_values())
+}
+
+/// Adds the options of all scopes.
+fn add_all_options(alloc: Global, lines: &mut List<Text>) -> Result<(), AllocError>
+    ensures { OnOk result (lines.new ≡ lines.old ++ spec.all_options) }
+{
+    add_scope(alloc, lines, Scope::Output)?;
+    add_scope(alloc, lines, Scope::File)?;
+    add_scope(alloc, lines, Scope::Track)
+}
+
+/// Adds the options of one scope, below what they are for.
+fn add_scope(alloc: Global, lines: &mut List<Text>, scope: Scope) -> Result<(), AllocError>
+    ensures { OnOk result (lines.new ≡ lines.old ++ spec.scope_lines scope) }
+{
+    add_line(alloc, lines, scope_text(scope))?;
+    add_options(alloc, lines, scope, merge_options())
+}
+
+fn add_options(
+    alloc: Global,
+    lines: &mut List<Text>,
+    scope: Scope,
+    rows: &[OptionRow],
+) -> Result<(), AllocError>
+    ensures { OnOk result (lines.new ≡ lines.old ++ flat_map (spec.option_lines scope) (map options.shown rows.now)) }
+{
+    for row in rows {
+        if row.3 == scope {
+            lines.push(option_line(alloc, row)?)?;
+        }
+    }
     Ok(())
 }
 
-fn add_options(alloc: Global, lines: &mut List<Text>, rows: &[OptionRow]) -> Result<(), AllocError>
-    ensures { OnOk result (lines.new ≡ lines.old ++ map spec.option_line (map options.shown rows.now)) }
+/// Adds the modes of `extract`, and how frames are written.
+fn add_extract(alloc: Global, lines: &mut List<Text>) -> Result<(), AllocError>
+    ensures { OnOk result (lines.new ≡ lines.old ++ spec.extract_lines) }
 {
-    for row in rows {
-        lines.push(option_line(alloc, row)?)?;
-    }
-    Ok(())
+    add_entries(alloc, lines, "  ", modes())?;
+    add_headed(alloc, lines, "  where:", forms())
+}
+
+/// Adds the options of `propedit`, its sections and its properties.
+fn add_propedit(alloc: Global, lines: &mut List<Text>) -> Result<(), AllocError>
+    ensures { OnOk result (lines.new ≡ lines.old ++ spec.propedit_lines) }
+{
+    add_entries(alloc, lines, "  ", steps())?;
+    add_headed(alloc, lines, "  where:", sections())?;
+    add_headed(alloc, lines, "  NAME and VALUE:", properties())
+}
+
+/// Adds a heading, and the entries below it.
+fn add_headed(
+    alloc: Global,
+    lines: &mut List<Text>,
+    head: &str,
+    entries: &[Entry<()>],
+) -> Result<(), AllocError>
+    ensures { OnOk result (lines.new ≡ lines.old ++ spec.headed head.now (map words.shown entries.now)) }
+{
+    add_line(alloc, lines, head)?;
+    add_entries(alloc, lines, "    ", entries)
 }
 
 fn add_entries<T>(
@@ -165,8 +322,8 @@ fn add_entries<T>(
 fn option_line(alloc: Global, row: &OptionRow) -> Result<Text, AllocError>
     ensures { IfOk result (λ line. line ≡ spec.option_line (options.shown row.now)) }
 {
-    let entry = Entry(row.0, row.1, (), placeholder(row.4), option_text(row));
-    entry_line(alloc, "  ", &entry)
+    let entry = Entry(row.0, row.1, (), placeholder(row.4), row.5);
+    entry_line(alloc, "    ", &entry)
 }
 
 fn entry_line<T>(alloc: Global, indent: &str, entry: &Entry<T>) -> Result<Text, AllocError>
@@ -246,24 +403,13 @@ fn placeholder(form: ValueForm) -> &'static str
     }
 }
 
-/// What is said of an option: `-J` stands with one file alone.
-fn option_text(row: &OptionRow) -> &'static str
-    ensures { result.now ≡ spec.option_text (options.shown row.now) }
-{
-    if row.2.is(Subject::Identify) {
-        "identifies FILE, and nothing else"
-    } else {
-        scope_text(row.3)
-    }
-}
-
-/// How often an option may stand.
+/// What the options of a scope are for.
 fn scope_text(scope: Scope) -> &'static str
     ensures { result.now ≡ spec.scope_text scope }
 {
     match scope {
-        Scope::Output => "for the whole output",
-        Scope::File => "for the next file",
-        Scope::Track => "for a track of the next file",
+        Scope::Output => "  for the whole output:",
+        Scope::File => "  for the next file:",
+        Scope::Track => "  for a track of the next file:",
     }
 }

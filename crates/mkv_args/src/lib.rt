@@ -12,6 +12,7 @@ mod propedit;
 mod words;
 
 pub use command::Command;
+pub use commands::Verb;
 pub use help::{usage_lines, version_line};
 pub use merge_words::{
     FileWords, Meaning, MergeWords, OptionRow, Scope, Subject, meaning_of, merge_options,

@@ -13,7 +13,9 @@ use crate::extract::extract;
 use crate::merge::merge;
 use crate::propedit::propedit;
 use std::alloc::Global;
-use word_values::{ArgsEnd, Why, due_at, end_at, file_at, name, number, refused, word_at};
+use word_values::{
+    ArgsEnd, Why, due_at, end_at, file_at, is_option, name, number, refused, word_at,
+};
 
 /// The command that the words ask for, or the first word that is wrong. Words are counted from 0,
 /// and the program's own name is none of them.
@@ -26,9 +28,48 @@ pub fn read_words(alloc: Global, words: &Vec<String>) -> Result<Command, ArgsEnd
     command(alloc, words.as_slice())
 }
 
-#[tactic(auto, unfolding(crate::specs::Words::command, crate::specs::Words::command_named))]
+#[tactic(auto, unfolding(crate::specs::Words::command))]
 fn command(alloc: Global, words: &[String]) -> Result<Command, ArgsEnd>
     ensures { Tells result (spec.command (texts words.now)) }
+{
+    if is_short_help(words) {
+        return Ok(Command::Help { about: None });
+    }
+    match helped(words) {
+        Some(verb) => Ok(Command::Help { about: Some(verb) }),
+        None => first_command(alloc, words),
+    }
+}
+
+/// `-h` alone.
+fn is_short_help(words: &[String]) -> bool
+    ensures { result ≡ spec.is_short_help (texts words.now) }
+{
+    word_at(words, 0) == Some("-h") && word_at(words, 1).is_none()
+}
+
+/// The command behind which `--help` stands, and nothing else.
+fn helped(words: &[String]) -> Option<Verb>
+    ensures { result ≡ spec.helped (texts words.now) }
+{
+    if word_at(words, 1) == Some("--help") && word_at(words, 2).is_none() {
+        named(word_at(words, 0)?)
+    } else {
+        None
+    }
+}
+
+/// The command of this name, which doesn't look like an option.
+fn named(word: &str) -> Option<Verb>
+    ensures { result ≡ spec.named word.now }
+{
+    if is_option(word) { None } else { verb_of(word) }
+}
+
+/// The command that the first word names.
+#[tactic(auto, unfolding(crate::specs::Words::first_command, crate::specs::Words::command_named))]
+fn first_command(alloc: Global, words: &[String]) -> Result<Command, ArgsEnd>
+    ensures { Tells result (spec.first_command (texts words.now)) }
 {
     let Some(first) = word_at(words, 0) else {
         return refused(0, Why::NoCommand);
@@ -50,10 +91,10 @@ fn command(alloc: Global, words: &[String]) -> Result<Command, ArgsEnd>
 /// `--help`.
 #[tactic(auto, unfolding(crate::specs::Words::alone))]
 fn help(words: &[String]) -> Result<Command, ArgsEnd>
-    ensures { Tells result (spec.alone Command.Help (texts words.now)) }
+    ensures { Tells result (spec.alone (Command.Help None) (texts words.now)) }
 {
     end_at(words, 1)?;
-    Ok(Command::Help)
+    Ok(Command::Help { about: None })
 }
 
 /// `--version`.

@@ -135,7 +135,7 @@ touches-nothing r d None files disk rest only = refl
 
 -- a command that isn't recovering edits no file in place
 pub edited-none : (c : Command) → ((file : List ℕ) → c ≡ command.Recover file → ⊥) → edited_by c ≡ None
-edited-none command.Help isnt = refl
+edited-none (command.Help about) isnt = refl
 edited-none command.Version isnt = refl
 edited-none (command.Info file) isnt = refl
 edited-none (command.Identify file) isnt = refl

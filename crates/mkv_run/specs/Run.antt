@@ -24,7 +24,7 @@ usage_line usage = word_line usage.word (why_name usage.why)
 
 -- Which commands are built, whatever their words are.
 abbrev pub is_built : Command → Bool
-is_built Help = true
+is_built (Help about) = true
 is_built Version = true
 is_built (Info file) = true
 is_built (Identify file) = false
@@ -38,7 +38,7 @@ is_built (Merge words) = takes words
 -- What a command that is built comes to, where the names tell, or for an edit in place the disk: its verdict is a function
 -- of the whole world of names, or of all that the disk tells. What asks for no file needs none of them.
 abbrev pub built_verdict : Names → Option DiskWorld → Command → Option Verdict
-built_verdict names disk Help = Some (done usage_lines)
+built_verdict names disk (Help about) = Some (done (usage_lines about))
 built_verdict names disk Version = Some (done (version_line ∷ []))
 built_verdict names disk (Info file) = option_map (λ world. info_verdict world file) names
 built_verdict names disk (Recover file) = option_map (λ world. verdict_on world file) disk

@@ -6,19 +6,23 @@ ghost use Rattle.mkv_lines.specs.Ordinary.{IsOrdinary};
 ghost use Rattle.mkv_lines.specs.Said.{HasSayCause, Says};
 ghost use Rattle.mkv_lines.specs.Verdict.{SaysVerdict, done};
 
-use mkv_args::{usage_lines, version_line};
+use mkv_args::{Verb, usage_lines, version_line};
 use mkv_io::Report;
 use mkv_lines::{Status, Stop, say_text};
 use mkv_values::{List, Text};
 use std::alloc::Global;
 
-/// Says how the words are written.
-pub fn help<R: Report>(alloc: Global, report: &mut R) -> Result<Status, Stop>
-    ensures verdict { SaysVerdict (R.lines report.old) (R.lines report.new) result (done usage_lines) }
+/// Says how the words are written, of one command or of all.
+pub fn help<R: Report>(
+    alloc: Global,
+    about: Option<Verb>,
+    report: &mut R,
+) -> Result<Status, Stop>
+    ensures verdict { SaysVerdict (R.lines report.old) (R.lines report.new) result (done (usage_lines about)) }
     ensures ordinary { IfOk result IsOrdinary }
     ensures cause { HasSayCause (R.faults report.old) (R.faults report.new) result }
 {
-    let Ok(lines) = usage_lines(alloc) else {
+    let Ok(lines) = usage_lines(alloc, about) else {
         return Err(Stop::Memory);
     };
     say_texts(&lines, report)?;

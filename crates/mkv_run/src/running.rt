@@ -138,7 +138,7 @@ fn obey<F: Files, D: Disk, R: Report>(
     ensures touches { Touches D.Reads D.Disk.own (edited_by command.now) files.old files.new disk.old disk.new (status_of result) }
 {
     match command {
-        Command::Help => help(alloc, report),
+        Command::Help { about } => help(alloc, *about, report),
         Command::Version => version(report),
         Command::Info { file } => info_of(alloc, file.as_str(), files, report),
         Command::Recover { file } => recover_of(alloc, file.as_str(), disk, report),

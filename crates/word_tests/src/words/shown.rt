@@ -1,6 +1,6 @@
 //! A command on one line, for the table. What has its default isn't shown.
 
-use mkv_args::{ArgsEnd, Command, CueWord, FileWords, MergeWords, Select, SplitWords};
+use mkv_args::{ArgsEnd, Command, CueWord, FileWords, MergeWords, Select, SplitWords, Verb};
 use mkv_jobs::{Change, Edit, Form, Job, Selector, Target};
 use mkv_values::Text;
 use std::alloc::{AllocError, Global};
@@ -65,7 +65,8 @@ impl Line {
 
     fn command(&mut self, command: &Command) -> Result<(), AllocError> {
         match command {
-            Command::Help => self.say("help"),
+            Command::Help { about: None } => self.say("help"),
+            Command::Help { about: Some(verb) } => self.say(help_of(*verb)),
             Command::Version => self.say("version"),
             Command::Info { file } => self.named("info ", file),
             Command::Identify { file } => self.named("identify ", file),
@@ -288,5 +289,20 @@ impl Line {
             })?;
         }
         Ok(())
+    }
+}
+
+/// The help of one command, by its name.
+fn help_of(verb: Verb) -> &'static str {
+    match verb {
+        Verb::Info => "help of info",
+        Verb::Merge => "help of merge",
+        Verb::Extract => "help of extract",
+        Verb::Propedit => "help of propedit",
+        Verb::Recover => "help of recover",
+        Verb::Reindex => "help of reindex",
+        Verb::Generate => "help of generate",
+        Verb::Help => "help of --help",
+        Verb::Version => "help of --version",
     }
 }

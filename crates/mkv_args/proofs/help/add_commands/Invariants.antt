@@ -2,9 +2,9 @@
 use Rattle.std.proofs.Common.{◌≡◌, ◌++◌, map, drop}
 use Rattle.std.specs.List.{flat_map}
 use Rattle.mkv_args.specs.Entry.{shown}
-use Rattle.mkv_args.specs.Help.{command_lines}
+use Rattle.mkv_args.specs.Help.{shown_lines}
 use Rattle.mkv_args.proofs.help.add_commands.Given as goal
 
 abbrev pub invariant-loop-command : goal.invariant-loop-command
 invariant-loop-command l =
-    l.lines ++ flat_map command_lines (map shown (drop l.command-index l.commands)) ≡ l.initial.lines ++ flat_map command_lines (map shown l.commands)
+    l.lines ++ flat_map (shown_lines l.about) (map shown (drop l.command-index l.commands)) ≡ l.initial.lines ++ flat_map (shown_lines l.about) (map shown l.commands)
