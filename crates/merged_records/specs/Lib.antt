@@ -1,0 +1,5 @@
+pub mod Inputs
+pub mod Attachments
+pub mod Chapters
+pub mod Tags
+pub mod Limits
