@@ -13,11 +13,7 @@ use mkv_values::{List, Text};
 use std::alloc::Global;
 
 /// Says how the words are written, of one command or of all.
-pub fn help<R: Report>(
-    alloc: Global,
-    about: Option<Verb>,
-    report: &mut R,
-) -> Result<Status, Stop>
+pub fn help<R: Report>(alloc: Global, about: Option<Verb>, report: &mut R) -> Result<Status, Stop>
     ensures verdict { SaysVerdict (R.lines report.old) (R.lines report.new) result (done (usage_lines about)) }
     ensures ordinary { IfOk result IsOrdinary }
     ensures cause { HasSayCause (R.faults report.old) (R.faults report.new) result }
