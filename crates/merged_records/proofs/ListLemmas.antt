@@ -1,13 +1,11 @@
 -- Inputs one behind the other.
-use Rattle.std.proofs.Common.{◌≡◌, ◌≤◌, ◌<◌, ℕ, zero, suc, ◌+◌, List, [], ◌∷◌, ◌++◌, length, take, drop, map, flat_map, get_or, refl, sym, ap, ap₂, subst, ◌∙◌, arith, add-one, drop-cons, append-nil, append_assoc, length-append}
+use Rattle.std.proofs.Common.{◌≡◌, ◌≤◌, ◌<◌, ℕ, zero, suc, ◌+◌, List, [], ◌∷◌, ◌++◌, length, take, drop, flat_map, get_or, refl, sym, ap, subst, ◌∙◌, arith, add-one, drop-cons, append-nil, append_assoc, length-append}
 use Rattle.std.specs.Prelude.{All}
 use Rattle.std.proofs.lemmas.Grind.{flat_map-append}
-use Rattle.std.proofs.lemmas.List.{take_more, take_all, drop_all, map-append}
-use Rattle.std.proofs.lemmas.List.Elements.{All-append}
+use Rattle.std.proofs.lemmas.List.{take_more, map-append}
 use Rattle.attachment_records.specs.declared.attachment.Attachment.{Attachment}
 use Rattle.merged_records.specs.declared.inputs.InputRecords.{InputRecords}
 use Rattle.merged_records.specs.Attachments.{files_of, file_uids, with_uid, with_uids}
-use Rattle.merged_records.specs.Inputs.{IsInput, IsAttached}
 
 module _ {X : Type 0} (xs : List X) (i : ℕ) (x : X) (inside : i < length xs) (is : x ≡ get_or xs i x) where
   pub take-next : take (i + 1) xs ≡ take i xs ++ x ∷ []

@@ -1,11 +1,10 @@
 -- Records that grow, or in which a child is set, are read again.
-use Rattle.std.proofs.Common.{◌≡◌, ◌≤◌, ◌<◌, ℕ, true, List, [], ◌∷◌, ◌++◌, length, flat_map, max, IfSome, refl, sym, ap, subst, ◌∙◌, arith, append-nil, append_assoc}
+use Rattle.std.proofs.Common.{◌≡◌, ◌<◌, ℕ, true, List, [], ◌∷◌, ◌++◌, length, IfSome, refl, sym, ap, subst, ◌∙◌, arith, append-nil}
 use Rattle.mkv_schema.specs.declared.ids.TheConstants.{CHAPTERS, TAGS, ATTACHED_FILE, FILE_DATA, FILE_UID}
 use Rattle.mkv_schema.specs.Table.{table}
 use Rattle.mkv_schema.specs.Schema.{entry_of, is_master}
 use Rattle.ebml_format.specs.Number.{is_id}
 use Rattle.tree_format.specs.Node.{Node, Nodes, leaf, master, nodes_of, list_of, id_of, offset_of, children, with_children, depth, depth_all, deepest, IsMaster}
-use Rattle.tree_format.specs.NormalForm.{octets, content, longest}
 use Rattle.tree_format.specs.Changes.{AreTooLong, part, with_child}
 use Rattle.tree_format.specs.Standing.{StandsIn, AllStandIn, IsSound, KeepsLimits}
 use Rattle.tree_format.proofs.NodeLemmas.{nodes-list, list-nodes}

@@ -7,4 +7,6 @@ mod changes;
 #[cfg(test)]
 mod chapters;
 #[cfg(test)]
+mod merged;
+#[cfg(test)]
 mod subrip;

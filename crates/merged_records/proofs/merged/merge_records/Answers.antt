@@ -1,7 +1,6 @@
 -- Each has a number, and what is made of them can be read again.
 use Rattle.std.proofs.Common.{length, sym, ap, subst, arith, IfSome}
 use Rattle.mkv_schema.specs.declared.ids.TheConstants.{CHAPTERS}
-use Rattle.tree_format.specs.Node.{Node}
 use Rattle.chapter_changes.specs.Atoms.{edition_uids, chapter_uids}
 use Rattle.output_model.specs.Sound.{IsRecord}
 use Rattle.merged_records.specs.Attachments.{files_of, file_uids}

@@ -1,7 +1,7 @@
 -- Each child is put behind the others.
-use Rattle.std.proofs.Common.{◌≡◌, ◌≤◌, ℕ, List, [], ◌∷◌, ◌++◌, refl, sym, ap, subst, ◌∙◌, arith, append-nil, append_assoc}
-use Rattle.tree_format.specs.Node.{Node, id_of, offset_of, children, nodes_of, depth, depth_all}
-use Rattle.tree_format.specs.Standing.{StandsIn, AllStandIn}
+use Rattle.std.proofs.Common.{List, [], ◌∷◌, ◌++◌, refl, sym, ap, subst, ◌∙◌, arith, append-nil, append_assoc}
+use Rattle.tree_format.specs.Node.{Node, id_of, offset_of, children, nodes_of, depth_all}
+use Rattle.tree_format.specs.Standing.{AllStandIn}
 use Rattle.tree_building.specs.Building.{IsBuilt}
 use Rattle.tree_building.proofs.BuildLemmas.{built-push, put-is}
 use Rattle.merged_records.proofs.RecordLemmas.{record-built, built-record, all-stand}

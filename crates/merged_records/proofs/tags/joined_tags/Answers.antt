@@ -1,7 +1,7 @@
 -- Each input's are put behind the others.
 use Rattle.std.proofs.Common.{◌≡◌, [], ◌∷◌, ◌++◌, ◌+◌, List, sym, ap, ◌∙◌, arith, append_assoc, drop}
 use Rattle.mkv_schema.specs.declared.ids.TheConstants.{TAGS}
-use Rattle.tree_format.specs.Node.{Node, master, nodes_of}
+use Rattle.tree_format.specs.Node.{Node}
 use Rattle.merged_records.specs.declared.inputs.InputRecords.{InputRecords}
 use Rattle.merged_records.specs.declared.uids.Uids.{Uids}
 use Rattle.merged_records.specs.Tags.{all_uids, tags_in, tags_from, uids_of}

@@ -1,5 +1,5 @@
 -- Each of the four maps is so.
-use Rattle.std.proofs.Common.{◌≡◌, ℕ, ap₂, ap, ◌∙◌}
+use Rattle.std.proofs.Common.{ap₂, ap, ◌∙◌}
 use Rattle.merged_records.specs.Tags.{number_of, all_uids}
 use Rattle.merged_records.proofs.UidLemmas.{map-for}
 use Rattle.merged_records.proofs.uids.map_of.Goals as goal
