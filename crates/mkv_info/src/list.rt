@@ -1,10 +1,11 @@
 //! A file's Elements, a line for each.
 
-ghost use Rattle.std.specs.Prelude.{◌≡◌, ◌++◌, ◌∷◌, [], ℕ, List, Ok, length, map, IfOk, IsTrue};
+ghost use Rattle.std.specs.Prelude.{◌≡◌, ◌++◌, ◌∷◌, [], ℕ, List, Ok, length, map, if◌then◌else◌, IfOk, IsTrue};
 ghost use Rattle.mkv_io.specs.Faults.{HasRisen};
 ghost use Rattle.mkv_io.specs.Sources.{IfTold, IsLive, file_size, live_files};
-ghost use Rattle.matroska_format.specs.Outline.{outline_of};
-ghost use Rattle.element_reader.specs.LevelOne.{CanRead, left};
+ghost use Rattle.matroska_format.specs.Element.{end_in, is_unknown};
+ghost use Rattle.matroska_format.specs.Outline.{outline_of, segment_run};
+ghost use Rattle.element_window.specs.Window.{nothing_at};
 ghost use Rattle.element_reader.specs.Outline.{outline_in};
 ghost use Rattle.mkv_lines.specs.Faults.{HasReadStop};
 ghost use Rattle.mkv_lines.specs.Line.{level_1_line};
@@ -14,7 +15,9 @@ ghost use Rattle.mkv_lines.specs.Verdict.{SaysVerdict};
 ghost use Rattle.mkv_info.specs.Info.{content_verdict, shown_lines, status_with, warnings};
 
 use crate::tracks::{say_tracks, tracks_of};
-use element_reader::{LevelOne, Outline, OutlineEnd};
+use ebml_format::Size;
+use element_reader::{Header, Outline, OutlineEnd, Window};
+use element_walks::{Level1Step, end_in, next_of_segment};
 use mkv_io::{Reads, Report};
 use mkv_lines::{Line, Status, Stop, say};
 use mkv_values::{Damage, FileId};
@@ -90,28 +93,51 @@ fn say_elements<R: Reads, P: Report>(
     ensures standing { R.standing src.new ≡ R.standing src.old }
     ensures cause { HasReadStop (R.reading_faults src.old) (R.reading_faults src.new) (P.faults report.old) (P.faults report.new) result }
 {
+    let Ok(mut window) = Window::new(alloc) else {
+        return Err(Stop::Memory);
+    };
     say(alloc, report, &Line::Level0(outline.ebml()))?;
     say(alloc, report, &Line::Level0(outline.segment()))?;
-    let mut elements = LevelOne::start(outline, file);
-    say_level_1(alloc, &mut elements, src, report)
+    say_level_1(alloc, outline, &mut window, src, file, report)
 }
 
-// A line for each Element of level 1 that is left.
+// The place up to which a Segment may reach in a file of `total` octets.
+fn segment_bound(segment: &Header, total: u64) -> u64
+    ensures { result ≡ (if is_unknown segment.now.size then total else end_in total segment.now) }
+{
+    match segment.size {
+        Size::Known(_) => end_in(segment, total),
+        Size::Unknown => total,
+    }
+}
+
+// A line for each Element of level 1, met through a window that holds nothing yet.
 fn say_level_1<R: Reads, P: Report>(
     alloc: Global,
-    elements: &mut LevelOne,
+    outline: &Outline,
+    window: &mut Window,
     src: &mut R,
+    file: FileId,
     report: &mut P,
 ) -> Result<(), Stop>
-    requires { CanRead (live_files R.Reads src.old) elements.old }
-    ensures said { IfTold R.Reads src.old elements.old.file (λ bytes. Says (P.lines report.old) (P.lines report.new) (map level_1_line (left bytes elements.old)) result) }
+    requires live { IsLive R.Reads src.old file }
+    requires whole { outline.now.total ≡ file_size R.Reads src.old file }
+    requires empty { window.old ≡ nothing_at 0 }
+    ensures said { IfTold R.Reads src.old file (λ bytes.
+        Says (P.lines report.old) (P.lines report.new) (map level_1_line (segment_run bytes outline.now.segment).list) result) }
     ensures standing { R.standing src.new ≡ R.standing src.old }
     ensures cause { HasReadStop (R.reading_faults src.old) (R.reading_faults src.new) (P.faults report.old) (P.faults report.new) result }
 {
+    let segment = outline.segment();
+    let end = segment_bound(&segment, outline.total());
+    let mut at = segment.body;
     loop {
-        match elements.next(src) {
-            Ok(Some(header)) => say(alloc, report, &Line::Level1(header))?,
-            Ok(None) => return Ok(()),
+        match next_of_segment(window, src, file, segment.size, at, end) {
+            Ok(Level1Step::Element { header, next }) => {
+                say(alloc, report, &Line::Level1(header))?;
+                at = next.unwrap_or(end);
+            }
+            Ok(Level1Step::Damaged(_) | Level1Step::End) => return Ok(()),
             Err(_) => return Err(Stop::Files),
         }
     }

@@ -1,6 +1,6 @@
-use Rattle.std.proofs.Common.{◌≡◌, length, sym, ◌∙◌, ap}
+use Rattle.std.proofs.Common.{refl}
 use Rattle.std.proofs.lemmas.Result.{err_from_is_err_and}
-use Rattle.element_reader.specs.LevelOne.{Listing, left}
+use Rattle.matroska_format.specs.Outline.{segment_run}
 use Rattle.mkv_info.proofs.InfoLemmas.{elements-first, elements-second, elements-all}
 use Rattle.mkv_info.proofs.list.say_elements.Goals as goal
 
@@ -21,7 +21,5 @@ returns-in_err-say-2-clause-said g c = λ bytes told.
 -- both were said, and then those of level 1
 pub returns-clause-said : goal.returns-clause-said
 returns-clause-said g c = λ bytes told.
-    let total : c.args.outline.now.total ≡ length bytes = c.requires.whole ∙ sym (g.met.R.Reads.told_size (g.R.Reads.standing c.args.src.now) c.args.file.n bytes told) in
-    let here = ap (λ (p : Listing). (g.R.Reads.files (g.R.Reads.standing c.args.src.now)).content p.file.n) c.start-elements.ensures.place ∙ told in
-    elements-all (g.P.Report.lines c.args.report.now) (g.P.Report.lines c.say.new.report) (g.P.Report.lines c.say-2.new.report) (g.P.Report.lines c.say_level_1.new.report) bytes c.args.outline.now c.ebml.result c.segment.result (left bytes c.start-elements.result) c.say_level_1.result
-    c.ebml.ensures c.segment.ensures.exact (c.start-elements.ensures.left bytes total) c.in_ok-say.ensures.said c.in_ok-say-2.ensures.said (c.say_level_1.ensures.said bytes here)
+    elements-all (g.P.Report.lines c.args.report.now) (g.P.Report.lines c.say.new.report) (g.P.Report.lines c.say-2.new.report) (g.P.Report.lines c.say_level_1.new.report) bytes c.args.outline.now c.ebml.result c.segment.result (segment_run bytes c.args.outline.now.segment).list c.say_level_1.result
+    c.ebml.ensures c.segment.ensures.exact refl c.in_ok-say.ensures.said c.in_ok-say-2.ensures.said (c.say_level_1.ensures.said bytes told)

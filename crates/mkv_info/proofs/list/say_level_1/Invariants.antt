@@ -1,19 +1,21 @@
-use Rattle.std.proofs.Common.{◌≡◌, ◌-◌, map}
+use Rattle.std.proofs.Common.{◌≡◌, ◌-◌, ◌≤◌, map}
 use Rattle.mkv_io.specs.Told.{Told}
-use Rattle.element_reader.specs.LevelOne.{CanRead, IsSameSegment, left}
+use Rattle.matroska_format.specs.Elements.{level_1}
+use Rattle.matroska_format.specs.Outline.{segment_run}
+use Rattle.element_window.specs.Window.{Holds}
 use Rattle.mkv_lines.specs.Line.{level_1_line}
 use Rattle.mkv_lines.specs.Said.{SaysUpTo}
 use Rattle.mkv_info.proofs.list.say_level_1.Given as goal
 
 abbrev pub invariant-loop-header : goal.invariant-loop-header
 invariant-loop-header g l = record {
-  place : CanRead (g.R.Reads.files (g.R.Reads.standing l.src)) l.elements;
-  same : IsSameSegment l.initial.elements l.elements;
+  place : l.at ≤ l.end;
   standing : g.R.Reads.standing l.src ≡ g.R.Reads.standing l.initial.src;
   reading : g.R.Reads.reading_faults l.src ≡ g.R.Reads.reading_faults l.initial.src;
   report : g.P.Report.faults l.report ≡ g.P.Report.faults l.initial.report;
-  way : Told ((g.R.Reads.files (g.R.Reads.standing l.initial.src)).content l.initial.elements.file.n) (λ bytes. SaysUpTo (g.P.Report.lines l.initial.report) (g.P.Report.lines l.report) (map level_1_line (left bytes l.initial.elements)) (map level_1_line (left bytes l.elements)));
+  holds : Told ((g.R.Reads.files (g.R.Reads.standing l.initial.src)).content l.file.n) (λ bytes. Holds bytes l.window);
+  way : Told ((g.R.Reads.files (g.R.Reads.standing l.initial.src)).content l.file.n) (λ bytes. SaysUpTo (g.P.Report.lines l.initial.report) (g.P.Report.lines l.report) (map level_1_line (segment_run bytes l.outline.segment).list) (map level_1_line (level_1 bytes l.segment.size l.at l.end).list));
 }
 
 abbrev pub decreases-loop-header : goal.decreases-loop-header
-decreases-loop-header g l = l.elements.end - l.elements.at
+decreases-loop-header g l = l.end - l.at
