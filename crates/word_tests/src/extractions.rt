@@ -65,7 +65,7 @@ fn put(files: &mut MemFiles, name: &str, octets: &[u8]) -> Result<(), AllocError
 
 /// A row: a file `a.mkv`, the words, the status, the lines, and what two names then hold.
 #[derive(Clone, Copy)]
-struct Row<'a> {
+pub struct Row<'a> {
     file: &'a [u8],
     words: &'a [&'a str],
     status: Status,
@@ -87,7 +87,7 @@ fn written<'a>(file: &'a [u8], words: &'a [&'a str], r: &'a [u8]) -> Row<'a> {
 }
 
 /// A row of a command that writes nothing.
-fn refused<'a>(file: &'a [u8], words: &'a [&'a str], lines: &'a [&'a str]) -> Row<'a> {
+pub fn refused<'a>(file: &'a [u8], words: &'a [&'a str], lines: &'a [&'a str]) -> Row<'a> {
     Row {
         file,
         words,
@@ -245,7 +245,7 @@ fn what_is_refused_is_told_and_writes_nothing(rt: HostRuntime) -> Result<(), Fai
 }
 
 /// Whether a row that is run says and leaves what it has to.
-fn agrees(alloc: Global, row: &Row) -> Result<bool, AllocError> {
+pub fn agrees(alloc: Global, row: &Row) -> Result<bool, AllocError> {
     let mut files = MemFiles::new(alloc)?;
     let mut report = MemReport::new(alloc, 100, 4096)?;
     put(&mut files, "a.mkv", row.file)?;

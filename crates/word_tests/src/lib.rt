@@ -10,6 +10,8 @@ mod lines;
 #[cfg(test)]
 mod pending;
 #[cfg(test)]
+mod records;
+#[cfg(test)]
 mod running;
 #[cfg(test)]
 mod runs;
