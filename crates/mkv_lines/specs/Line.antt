@@ -6,7 +6,7 @@ use Rattle.matroska_format.specs.declared.element.Header.{Header}
 use Rattle.sidecar_format.specs.declared.recovery.Mark.{Mark}
 use Rattle.mkv_lines.specs.Shown.{damage_text, element_text, level_0_name, level_1_name, mark_text, place_text, shown_text, track_text}
 use Rattle.mkv_lines.specs.declared.line.Line.{Line}
-use Rattle.mkv_lines.specs.declared.line.Line.TheVariants.{Level0, Level1, Track, Refused, Warned, MoreDamages, NoTrack, Missing, PendingEdit, OutputIsInput, NotTaken, NoLane, TooManyLanes, NotWebm, TooLarge, Wrote, WroteBlocks, Recovered, NothingToRecover, BadSidecar, Foreign, Word, FilesFault}
+use Rattle.mkv_lines.specs.declared.line.Line.TheVariants.{Level0, Level1, Track, Refused, Warned, MoreDamages, NoTrack, NoAttachment, NoExtractor, Missing, PendingEdit, OutputIsInput, NotTaken, NoLane, TooManyLanes, NotWebm, TooLarge, Wrote, WroteBlocks, Recovered, NothingToRecover, BadSidecar, Foreign, Word, FilesFault}
 
 -- an Element at the top of a file
 abbrev pub level_0_line : Header → List ℕ
@@ -39,6 +39,14 @@ damage_lines name first more = map (warning_line name) first ++ more_lines name 
 -- a file that hasn't the track of a number, counted from 0
 abbrev pub no_track_line : List ℕ → ℕ → List ℕ
 no_track_line name number = codes "warning: " ++ (shown_text name ++ (codes ": no track " ++ decimal number))
+
+-- a file that hasn't the attached file of a number, counted from 1
+abbrev pub no_attachment_line : List ℕ → ℕ → List ℕ
+no_attachment_line name number = codes "warning: " ++ (shown_text name ++ (codes ": no attachment " ++ decimal number))
+
+-- a track, by its number from 0, whose codec has no form of its own that is known
+abbrev pub no_extractor_line : List ℕ → ℕ → List ℕ
+no_extractor_line name number = codes "error: " ++ (shown_text name ++ (codes ": NoExtractor, track " ++ decimal number))
 
 -- a file that isn't there
 abbrev pub missing_line : List ℕ → List ℕ
@@ -122,6 +130,8 @@ text_of (Refused name damage) = refusal_line name.now damage
 text_of (Warned name damage) = warning_line name.now damage
 text_of (MoreDamages name more) = more_damages_line name.now more
 text_of (NoTrack name number) = no_track_line name.now number
+text_of (NoAttachment name number) = no_attachment_line name.now number
+text_of (NoExtractor name number) = no_extractor_line name.now number
 text_of (Missing name) = missing_line name.now
 text_of (PendingEdit name) = pending_edit_line name.now
 text_of (OutputIsInput name) = output_is_input_line name.now

@@ -38,6 +38,16 @@ pub enum Line<'a> {
         name: &'a str,
         number: u64,
     },
+    /// A file hasn't the attached file of a number, counted from 1.
+    NoAttachment {
+        name: &'a str,
+        number: u64,
+    },
+    /// The track of a number, counted from 0, has a codec for which no form of its own is known.
+    NoExtractor {
+        name: &'a str,
+        number: u64,
+    },
     /// A file isn't there.
     Missing {
         name: &'a str,
@@ -138,6 +148,14 @@ impl fmt::Display for Line<'_> {
             Line::NoTrack { name, number } => {
                 let name = ShownText(name);
                 write!(f, "warning: {name}: no track {number}")
+            }
+            Line::NoAttachment { name, number } => {
+                let name = ShownText(name);
+                write!(f, "warning: {name}: no attachment {number}")
+            }
+            Line::NoExtractor { name, number } => {
+                let name = ShownText(name);
+                write!(f, "error: {name}: NoExtractor, track {number}")
             }
             Line::Missing { name } => {
                 let name = ShownText(name);

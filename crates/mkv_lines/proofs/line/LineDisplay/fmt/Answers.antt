@@ -10,3 +10,15 @@ returns-in-TooLarge-clause-writes g c = λ plain ok.
 pub returns-in-BadSidecar-clause-writes : goal.returns-in-BadSidecar-clause-writes
 returns-in-BadSidecar-clause-writes g c = λ plain ok.
     has_written_of_eq _ _ _ _ _ (ap text_of (sym c.in-BadSidecar.is)) (c.write-in-BadSidecar.ensures.writes plain ok)
+
+pub returns-in-NoAttachment-clause-writes : goal.returns-in-NoAttachment-clause-writes
+returns-in-NoAttachment-clause-writes g c = λ plain ok.
+    has_written_of_eq _ _ _ _ _ (ap text_of (sym c.in-NoAttachment.is)) (c.write-in-NoAttachment.ensures.writes plain ok)
+
+pub returns-in-NoExtractor-clause-writes : goal.returns-in-NoExtractor-clause-writes
+returns-in-NoExtractor-clause-writes g c = λ plain ok.
+    has_written_of_eq _ _ _ _ _ (ap text_of (sym c.in-NoExtractor.is)) (c.write-in-NoExtractor.ensures.writes plain ok)
+
+pub returns-in-Missing-clause-writes : goal.returns-in-Missing-clause-writes
+returns-in-Missing-clause-writes g c = λ plain ok.
+    has_written_of_eq _ _ _ _ _ (ap text_of (sym c.in-Missing.is)) (c.write-in-Missing.ensures.writes plain ok)
