@@ -17,6 +17,7 @@ use Rattle.edit_format.specs.declared.refusal.Why.{Why}
 use Rattle.edit_format.specs.declared.refusal.Why.TheVariants.{NoInfo, NoSuchTrack, NoSuchProperty, BadPropertyValue, AlreadyThere, Mandatory}
 use Rattle.edit_format.specs.declared.refusal.Refusal.{Refusal}
 use Rattle.edit_format.specs.declared.refusal.Refusal.TheVariants as refusal
+use Rattle.edit_format.specs.declared.trees.Trees.{Trees}
 use Rattle.edit_format.specs.Property.{is_info, property_of, value_of}
 
 -- ---- which TrackEntry is meant
@@ -85,11 +86,6 @@ abbrev pub edited_node : Edit → Node → Result Node Why
 edited_node e n = named e.change e.value n (property_of (is_info e.place) e.name)
 
 -- ---- the edits of a file, one after the other
-
--- The Info of a file, if it has one, and what stands in its Tracks.
-pub record Trees : Type 0 where
-  pub info : Option Node
-  pub tracks : List Node
 
 abbrev pub and_then : {A B E : Type 0} → Result A E → (A → Result B E) → Result B E
 and_then (Ok x) more = more x

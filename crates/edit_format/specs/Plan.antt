@@ -26,7 +26,8 @@ use Rattle.edit_format.specs.declared.refusal.Refusal.TheVariants.{Damaged, Edit
 use Rattle.edit_format.specs.declared.refusal.Room.{Room}
 use Rattle.edit_format.specs.declared.refusal.Room.TheVariants.{Tail, Twin, SeekHead, SegmentSize}
 use Rattle.edit_format.specs.declared.refusal.TheConstants.{MOST_WRITTEN}
-use Rattle.edit_format.specs.Change.{Trees, and_then, edited_trees, are_of_info, are_of_tracks}
+use Rattle.edit_format.specs.declared.trees.Trees.{Trees}
+use Rattle.edit_format.specs.Change.{and_then, edited_trees, are_of_info, are_of_tracks}
 use Rattle.edit_format.specs.Records.{editable}
 use Rattle.edit_format.specs.Span.{span_of, void_header, fitted}
 use Rattle.edit_format.specs.SeekHead.{SeekHeadAt, seek_head_of, seek_head_with}

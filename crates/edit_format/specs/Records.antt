@@ -12,7 +12,7 @@ use Rattle.tree_format.specs.Node.{Node, children}
 use Rattle.tree_format.specs.Reading.{tree_of}
 use Rattle.track_format.specs.Refusal.{refusal_of}
 use Rattle.meta_format.specs.Info.{info_refusal}
-use Rattle.edit_format.specs.Change.{Trees}
+use Rattle.edit_format.specs.declared.trees.Trees.{Trees}
 
 -- an Element of level 1 as a tree, if there is one, or the first damage inside
 abbrev pub tree_at : List ℕ → Option Header → Result (Option Node) Damage

@@ -7,6 +7,8 @@
 
 mod property;
 mod refusal;
+mod trees;
 
 pub use property::{Property, ValueKind};
 pub use refusal::{MOST_WRITTEN, Refusal, Room, Why};
+pub use trees::Trees;
