@@ -8,7 +8,7 @@ use Rattle.mkv_values.specs.declared.damage.Damage.{Damage}
 use Rattle.mkv_jobs.specs.declared.edit.Edit.{Edit}
 use Rattle.matroska_format.specs.declared.element.Header.{Header}
 use Rattle.matroska_format.specs.Element.{is_unknown, stated_end}
-use Rattle.matroska_format.specs.Outline.{Outlined}
+use Rattle.element_reader.specs.Outline.{FileOutline}
 use Rattle.matroska_format.specs.Value.{first_of}
 use Rattle.tree_format.specs.declared.limits.TheConstants.{MOST_NODES}
 use Rattle.tree_format.specs.Node.{Node, nodes_of, children}
@@ -92,11 +92,11 @@ abbrev pub seek_to : List Seek → ℕ → Option Header → List Seek
 seek_to moved base None = []
 seek_to moved base (Some h) = record { id = h.id; position = position_in moved base h } ∷ []
 
--- the Seeks of Info and Tracks, each where there is one, of a file of so many octets whose Segment's body begins at `base`
-abbrev pub seeks : ℕ → ℕ → List Header → List Part → List Seek
-seeks total base list ps =
-    let moved = seeks_from (total - base) (elements_moving ps) in
-    seek_to moved base (first_of INFO list) ++ seek_to moved base (first_of TRACKS list)
+-- the Seeks of Info and Tracks, each where there is one
+abbrev pub seeks : FileOutline → List Part → List Seek
+seeks o ps =
+    let moved = seeks_from (o.total - o.segment.body) (elements_moving ps) in
+    seek_to moved o.segment.body (first_of INFO o.others) ++ seek_to moved o.segment.body (first_of TRACKS o.others)
 
 -- the octets of a SeekHead and the Voids behind it, none where there is no SeekHead
 abbrev pub room_of : Option SeekHeadAt → List Header → ℕ
@@ -106,9 +106,8 @@ abbrev pub place_of : Option SeekHeadAt → ℕ
 place_of head = option_map_or (λ s. s.header.offset) head 0
 
 -- the new SeekHead
-abbrev pub seek_head : ℕ → Outlined → List Part → Option SeekHeadAt → Element
-seek_head total o ps head =
-    seek_head_with (seeks total o.segment.body o.list ps) (option_map_or (λ s. s.seeks) head [])
+abbrev pub seek_head : FileOutline → List Part → Option SeekHeadAt → Element
+seek_head o ps head = seek_head_with (seeks o ps) (option_map_or (λ s. s.seeks) head [])
 
 -- how many octets the Segment's size takes, and how many it needs where the Segment ends at a place
 abbrev pub size_width : Header → ℕ
@@ -123,23 +122,17 @@ size_need segment end = least_size_width (end - segment.body)
 abbrev pub other_end : ℕ → Header → Option ℕ
 other_end total h = if is_unknown h.size || stated_end h == total then None else Some (stated_end h)
 
--- the last Element of level 1
-abbrev pub last_of : List Header → Option Header
-last_of [] = None
-last_of (h ∷ []) = Some h
-last_of (h ∷ g ∷ hs) = last_of (g ∷ hs)
-
 abbrev pub cluster_end : ℕ → Option Header → Option ℕ
 cluster_end total None = None
 cluster_end total (Some h) = if h.id == CLUSTER then other_end total h else None
 
 -- The end that keeps anything from being added to the file: the one that the Segment states; the one that the Cluster
 -- states that is the last Element of level 1; and the one of a Segment of unknown size with octets behind it.
-abbrev pub wrong_end : ℕ → Outlined → Option ℕ
-wrong_end total o =
-    option_or (other_end total o.segment)
-    (option_or (cluster_end total (last_of o.list))
-    (if o.end == total then None else Some o.end))
+abbrev pub wrong_end : FileOutline → Option ℕ
+wrong_end o =
+    option_or (other_end o.total o.segment)
+    (option_or (cluster_end o.total o.last)
+    (if o.end == o.total then None else Some o.end))
 
 abbrev pub number_of : ℕ → List Header → ℕ
 number_of id list = count_by (λ h. h.id == id) list
@@ -148,8 +141,8 @@ number_of id list = count_by (λ h. h.id == id) list
 abbrev pub lacks : Room → ℕ → ℕ → Option Refusal
 lacks why need have = if nat_lt have need then Some (NoRoom why need have) else None
 
-abbrev pub tail_refusal : ℕ → Outlined → Option Refusal
-tail_refusal total o = option_map (λ end. NoRoom Tail end total) (wrong_end total o)
+abbrev pub tail_refusal : FileOutline → Option Refusal
+tail_refusal o = option_map (λ end. NoRoom Tail end o.total) (wrong_end o)
 
 -- the first that moves and isn't the only one of its ID
 abbrev pub twin_refusal : List Header → List Part → Option Refusal
@@ -213,37 +206,41 @@ first_refusal (None ∷ rs) = first_refusal rs
 first_refusal (Some r ∷ rs) = Some r
 
 -- the octets of the writes where something moves; a SeekHead that isn't there or has no room counts as it is without Voids
-abbrev pub length_moving : ℕ → Outlined → List Part → Element → ℕ → ℕ
-length_moving total o ps seeks room =
+abbrev pub length_moving : FileOutline → List Part → Element → ℕ → ℕ
+length_moving o ps seeks room =
     length_in_place ps + length (appended ps) + length (unwrap_or (fitted seeks room) (octets_of seeks))
     + (if is_unknown o.segment.size then 0 else size_width o.segment)
 
+-- where the file ends once what moves is appended
+abbrev pub new_end : FileOutline → List Part → ℕ
+new_end o ps = o.total + length (appended ps)
+
 -- what refuses it where something moves, in the order in which it is asked
-abbrev pub moving_refusals : ℕ → Outlined → List Part → Element → ℕ → List (Option Refusal)
-moving_refusals total o ps seeks room =
-    too_large (length_moving total o ps seeks room) ps
-    ∷ tail_refusal total o
-    ∷ twin_refusal o.list (moving ps)
+abbrev pub moving_refusals : FileOutline → List Part → Element → ℕ → List (Option Refusal)
+moving_refusals o ps seeks room =
+    too_large (length_moving o ps seeks room) ps
+    ∷ tail_refusal o
+    ∷ twin_refusal o.others (moving ps)
     ∷ lacks SeekHead (length (octets_of seeks)) room
-    ∷ size_refusal o.segment (total + length (appended ps)) ∷ []
+    ∷ size_refusal o.segment (new_end o ps) ∷ []
 
 -- The Segment's size; the SeekHead, and Info and Tracks, by their places; and what goes to the end of the file.
-abbrev pub moving_writes : ℕ → Outlined → List Part → Element → ℕ → ℕ → List Write
-moving_writes total o ps seeks place room =
-    size_writes o.segment (total + length (appended ps))
+abbrev pub moving_writes : FileOutline → List Part → Element → ℕ → ℕ → List Write
+moving_writes o ps seeks place room =
+    size_writes o.segment (new_end o ps)
     ++ ascending (write place (unwrap_or (fitted seeks room) []) ∷ part_writes ps)
-    ++ write total (appended ps) ∷ []
+    ++ write o.total (appended ps) ∷ []
 
 -- something moves, so the SeekHead has to tell where it goes
-abbrev pub writes_moving : ℕ → Outlined → List Part → Option SeekHeadAt → Result (List Write) Refusal
-writes_moving total o ps head =
-    let seeks = seek_head total o ps head in
-    let room = room_of head o.list in
-    unless (first_refusal (moving_refusals total o ps seeks room)) (moving_writes total o ps seeks (place_of head) room)
+abbrev pub writes_moving : FileOutline → List Part → Option SeekHeadAt → Result (List Write) Refusal
+writes_moving o ps head =
+    let seeks = seek_head o ps head in
+    let room = room_of head o.others in
+    unless (first_refusal (moving_refusals o ps seeks room)) (moving_writes o ps seeks (place_of head) room)
 
-abbrev pub writes_of_parts : List ℕ → Outlined → List Part → Result (List Write) Refusal
+abbrev pub writes_of_parts : List ℕ → FileOutline → List Part → Result (List Write) Refusal
 writes_of_parts bytes o ps =
-    if list_any moves ps then writes_moving (length bytes) o ps (seek_head_of bytes o.list) else writes_in_place ps
+    if list_any moves ps then writes_moving o ps (seek_head_of bytes o) else writes_in_place ps
 
 abbrev pub if_editable : {A : Type 0} → Result A Damage → Result A Refusal
 if_editable (Ok x) = Ok x
@@ -254,7 +251,7 @@ unfoldable pub plan_of : List ℕ → List Edit → Result (List Write) Refusal
 plan_of bytes edits =
     and_then (if_editable (editable bytes)) (λ f.
     and_then (edited_trees edits f.trees) (λ t.
-    writes_of_parts bytes f.outline (parts f.outline.list edits t)))
+    writes_of_parts bytes f.outline (parts f.outline.others edits t)))
 
 -- ---- the edited file, and the record of the edit
 
