@@ -144,11 +144,14 @@ lacks why need have = if nat_lt have need then Some (NoRoom why need have) else 
 abbrev pub tail_refusal : FileOutline → Option Refusal
 tail_refusal o = option_map (λ end. NoRoom Tail end o.total) (wrong_end o)
 
--- the first that moves and isn't the only one of its ID
+-- an Element of an ID that moves isn't the only one
+abbrev pub twin_of : List Header → ℕ → Option Refusal
+twin_of list id = if nat_lt 1 (number_of id list) then Some (NoRoom Twin 1 (number_of id list)) else None
+
+-- the first that isn't
 abbrev pub twin_refusal : List Header → List Part → Option Refusal
 twin_refusal list [] = None
-twin_refusal list (p ∷ ps) =
-    if nat_lt 1 (number_of p.element.id list) then Some (NoRoom Twin 1 (number_of p.element.id list)) else twin_refusal list ps
+twin_refusal list (p ∷ ps) = option_or (twin_of list p.element.id) (twin_refusal list ps)
 
 abbrev pub size_refusal : Header → ℕ → Option Refusal
 size_refusal segment end =

@@ -66,3 +66,5 @@ fitted-void e room many =
     rw (long, just, more) refl
 
 pub ruleset fits = (fitted-none, fitted-just, fitted-wider, fitted-void)
+
+pub ruleset ids = (length-uint_octets, is_id-bounds)

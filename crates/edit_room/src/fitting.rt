@@ -1,6 +1,6 @@
 //! What is written into a span.
 
-ghost use Rattle.std.specs.Prelude.{◌≡◌, ◌≤◌, ◌<◌, ◌+◌, ◌++◌, ◌^◌, IfOk, IsTrue, ℕ, List, length, option_map};
+ghost use Rattle.std.specs.Prelude.{◌≡◌, ◌≤◌, ◌<◌, ◌+◌, ◌++◌, ◌^◌, IfOk, IsTrue, ℕ, List, length, option_map, unwrap_or};
 ghost use Rattle.ebml_format.specs.Number.{is_id, id_octets, size_octets, least_size_width, all_ones};
 ghost use Rattle.element_octets.specs.Element.{Element, element, octets_of};
 ghost use Rattle.edit_format.specs.Span as spec;
@@ -86,4 +86,19 @@ pub fn fit(alloc: Global, id: u32, body: &[u8], room: u64) -> Result<Option<Vec<
     let mut out = element(alloc, id, body, width)?;
     out.extend_from_slice(void_header(alloc, room - shortest)?.as_slice())?;
     Ok(Some(out))
+}
+
+/// What is written in the place of an Element with this body: itself, or the header of a Void where it is longer than
+/// its room.
+pub fn in_place(alloc: Global, id: u32, body: &[u8], room: u64) -> Result<Vec<u8>, AllocError>
+    requires id { IsTrue (is_id id) }
+    requires short { length body.now ≤ 2 ^ 48 }
+    requires least { 2 ≤ room }
+    requires most { room ≤ 2 ^ 48 }
+    ensures { IfOk result (λ octets. octets.items ≡ unwrap_or (spec.fitted (element id body.now) room) (spec.void_header room)) }
+{
+    match fit(alloc, id, body, room)? {
+        Some(octets) => Ok(octets),
+        None => void_header(alloc, room),
+    }
 }
