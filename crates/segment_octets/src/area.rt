@@ -32,7 +32,8 @@ fn put_seek(out: &mut Bytes, seek: &Seek) -> Result<(), AllocError>
     Ok(())
 }
 
-fn put_seeks(out: &mut Bytes, seeks: &[Seek]) -> Result<(), AllocError>
+/// Adds Seeks, one behind the other.
+pub fn put_seeks(out: &mut Bytes, seeks: &[Seek]) -> Result<(), AllocError>
     requires { AreIds seeks.now }
     ensures ok { OnOk result (out.new ≡ out.old ++ joined (map seek_element seeks.now)) }
 {

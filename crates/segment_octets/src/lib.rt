@@ -11,7 +11,7 @@ mod elements;
 mod front;
 mod places;
 
-pub use area::area_octets;
+pub use area::{area_octets, put_seeks};
 pub use attached::{attached_len, octets_before_data, octets_behind_data};
 pub use back::back_octets;
 pub use front::{Front, Opening, body_start, open_octets};

@@ -1,0 +1,4 @@
+pub mod PropertyLemmas
+pub mod SelectLemmas
+pub mod ChangeLemmas
+pub mod TrackLemmas

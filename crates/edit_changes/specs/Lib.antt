@@ -1,0 +1,3 @@
+pub mod Properties
+pub mod Made
+pub mod Trees

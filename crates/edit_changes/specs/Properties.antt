@@ -1,0 +1,32 @@
+-- The table of properties, as the code has it, and where its Elements stand.
+use Rattle.std.specs.Prelude.{◌≡◌, ℕ, Bool, true, if◌then◌else◌}
+use Rattle.ebml_format.specs.Number.{is_id}
+use Rattle.mkv_schema.specs.declared.ids.TheConstants.{INFO, TRACK_ENTRY}
+use Rattle.tree_building.specs.Leaves.{IsTextIn, IsUintIn}
+use Rattle.edit_format.specs.declared.property.Property.{Property}
+use Rattle.edit_format.specs.declared.property.ValueKind.{ValueKind}
+use Rattle.edit_format.specs.declared.property.ValueKind.TheVariants.{Words, Language, LanguageTag, Codec, Duration, Flag}
+use Rattle.edit_format.specs.Property as spec
+use Rattle.edit_changes.specs.declared.property.Row.{Row}
+
+-- a row of the code's table
+abbrev pub shown : Row → spec.Row
+shown r = record { name = r.0.now; property = r.1 }
+
+-- the master in which the properties of a section stand
+abbrev pub section_of : Bool → ℕ
+section_of info = if info then INFO else TRACK_ENTRY
+
+-- the table of Elements has it there as what its values are
+abbrev pub IsOfKind : ℕ → ℕ → ValueKind → Type 0
+IsOfKind parent id Words = IsTextIn parent id
+IsOfKind parent id Language = IsTextIn parent id
+IsOfKind parent id LanguageTag = IsTextIn parent id
+IsOfKind parent id Codec = IsTextIn parent id
+IsOfKind parent id Duration = IsUintIn parent id
+IsOfKind parent id Flag = IsUintIn parent id
+
+-- A property's Element stands in this master, with values of its kind.
+pub record IsPropertyOf (parent : ℕ) (p : Property) : Type 0 where
+  pub valid : is_id p.id ≡ true
+  pub kind : IsOfKind parent p.id p.kind

@@ -1,0 +1,68 @@
+-- The trees of a file, edited.
+use Rattle.std.specs.Prelude.{◌≡◌, ⊤, ℕ, ◌+◌, List, Option, Some, None, slice_get, slice_set, IfSome, Result, Ok, Err}
+use Rattle.std.specs.List.{All}
+use Rattle.mkv_schema.specs.declared.ids.TheConstants.{INFO, TRACKS, TRACK_ENTRY}
+use Rattle.mkv_jobs.specs.declared.edit.Edit.{Edit}
+use Rattle.tree_format.specs.Node.{Node, id_of}
+use Rattle.tree_format.specs.Standing.{StandsIn}
+use Rattle.tree_building.specs.Building.{IsRead}
+use Rattle.edit_format.specs.declared.trees.Trees.{Trees}
+use Rattle.edit_format.specs.declared.refusal.Refusal.{Refusal}
+use Rattle.edit_format.specs.declared.refusal.Refusal.TheVariants.{Edit as RefusedEdit}
+use Rattle.edit_format.specs.declared.refusal.Why.{Why}
+use Rattle.edit_format.specs.declared.refusal.Why.TheVariants.{NoInfo, NoSuchTrack}
+use Rattle.edit_format.specs.Change.{and_then, edited_node, place_of}
+use Rattle.edit_changes.specs.declared.change.EditEnd.{EditEnd}
+use Rattle.edit_changes.specs.declared.change.EditEnd.TheVariants as end
+use Rattle.edit_changes.specs.declared.trees.EditsEnd.{EditsEnd}
+use Rattle.edit_changes.specs.declared.trees.EditsEnd.TheVariants.{Refused, Memory}
+use Rattle.edit_changes.specs.Made.{Makes, Sounds}
+
+-- An Info is one, and what stands in Tracks may stand there.
+pub record AreSound (t : Trees) : Type 0 where
+  pub info : IfSome t.info (IsRead INFO)
+  pub tracks : All (StandsIn TRACKS) t.tracks
+
+-- There is a TrackEntry at a place.
+pub record IsEntryAt (ns : List Node) (k : ℕ) : Type 0 where
+  pub entry : Node
+  pub at : slice_get ns k ≡ Some entry
+  pub id : id_of entry ≡ TRACK_ENTRY
+
+-- an edit of the Info
+abbrev pub info_edited : Edit → Option Node → Result (Option Node) Why
+info_edited e None = Err NoInfo
+info_edited e (Some n) = and_then (edited_node e n) (λ m. Ok (Some m))
+
+-- an edit of the TrackEntry at a place
+abbrev pub entry_edited : Edit → List Node → ℕ → Option Node → Result (List Node) Why
+entry_edited e ns k None = Err NoSuchTrack
+entry_edited e ns k (Some n) = and_then (edited_node e n) (λ m. Ok (slice_set ns k m))
+
+abbrev pub tracks_edited_at : Edit → List Node → Option ℕ → Result (List Node) Why
+tracks_edited_at e ns None = Err NoSuchTrack
+tracks_edited_at e ns (Some k) = entry_edited e ns k (slice_get ns k)
+
+-- an edit of the TrackEntry that is meant
+abbrev pub tracks_edited : Edit → List Node → Result (List Node) Why
+tracks_edited e ns = tracks_edited_at e ns (place_of e.place ns)
+
+-- The TrackEntry at a place is edited, and the others stay.
+pub record MakesEntry {A : Type 0} (result : Result A EditEnd) (old new : List Node) (k : ℕ) (e : Edit) : Type 0 where
+  pub before : Node
+  pub after : Node
+  pub was : slice_get old k ≡ Some before
+  pub becomes : new ≡ slice_set old k after
+  pub makes : Makes result before after (edited_node e before)
+  pub sounds : Sounds before after
+
+-- an edit that isn't made, behind so many others
+abbrev pub numbered : ℕ → EditEnd → EditsEnd
+numbered k (end.Refused why) = Refused (k + 1) why
+numbered k end.Memory = Memory
+
+-- What edits make of the trees, or the first that is refused; or there is no memory.
+abbrev pub MakesAll : Result Trees EditsEnd → Result Trees Refusal → Type 0
+MakesAll (Ok t) made = made ≡ Ok t
+MakesAll (Err (Refused edit why)) made = made ≡ Err (RefusedEdit edit why)
+MakesAll (Err Memory) made = ⊤

@@ -1,0 +1,106 @@
+//! One change of an Info or a TrackEntry.
+
+ghost use Rattle.std.specs.Prelude.{◌≡◌};
+ghost use Rattle.tree_format.specs.Node.{IsMaster, id_of};
+ghost use Rattle.tree_format.specs.Standing.{IsSound};
+ghost use Rattle.edit_format.specs.Change as spec;
+ghost use Rattle.edit_format.specs.Property.{is_info, value_of};
+ghost use Rattle.edit_changes.specs.Made.{Makes, Sounds};
+ghost use Rattle.edit_changes.specs.Properties.{IsPropertyOf, section_of};
+ghost use Rattle.edit_changes.specs.declared.change.EditEnd.TheVariants as end;
+
+use crate::property::property_of;
+use crate::value::leaf_of;
+use ebml_tree::Tree;
+use edit_format::{Property, Why};
+use mkv_jobs::{Change, Edit, Selector};
+use mkv_values::Text;
+use std::alloc::{AllocError, Global};
+
+/// Why an edit isn't made.
+#[derive(Clone, Copy, Debug, PartialEq, Eq)]
+pub enum EditEnd {
+    /// The edit is refused.
+    Refused(Why),
+    /// There is no memory.
+    Memory,
+}
+
+impl From<AllocError> for EditEnd {
+    ghost from_gives = { λ _ e. e ≡ end.Memory };
+
+    fn from(_error: AllocError) -> EditEnd {
+        EditEnd::Memory
+    }
+}
+
+/// Puts a value in the place of the first child of the property.
+#[tactic(auto, using(crate::proofs::ChangeLemmas::changes))]
+fn set(alloc: Global, tree: &mut Tree, property: Property, value: &Text) -> Result<(), EditEnd>
+    requires master { IsMaster tree.old }
+    requires property { IsPropertyOf (id_of tree.old) property }
+    ensures exact { Makes result tree.old tree.new (spec.set property.id tree.old (value_of property.kind value.now)) }
+    ensures sound { Sounds tree.old tree.new }
+{
+    let Some(leaf) = leaf_of(alloc, property, value)? else {
+        return Err(EditEnd::Refused(Why::BadPropertyValue));
+    };
+    tree.set(leaf)?;
+    Ok(())
+}
+
+/// Adds a value where the property isn't there.
+#[tactic(auto, using(crate::proofs::ChangeLemmas::changes))]
+fn add(alloc: Global, tree: &mut Tree, property: Property, value: &Text) -> Result<(), EditEnd>
+    requires master { IsMaster tree.old }
+    requires property { IsPropertyOf (id_of tree.old) property }
+    ensures exact { Makes result tree.old tree.new (spec.added property.id tree.old (value_of property.kind value.now)) }
+    ensures sound { Sounds tree.old tree.new }
+{
+    let Some(leaf) = leaf_of(alloc, property, value)? else {
+        return Err(EditEnd::Refused(Why::BadPropertyValue));
+    };
+    if tree.child(property.id).is_some() {
+        return Err(EditEnd::Refused(Why::AlreadyThere));
+    }
+    tree.push(leaf)?;
+    Ok(())
+}
+
+/// Takes every child of the property, if it may go.
+#[tactic(auto, using(crate::proofs::ChangeLemmas::changes))]
+fn delete(tree: &mut Tree, property: Property) -> Result<(), EditEnd>
+    requires { IsMaster tree.old }
+    ensures exact { Makes result tree.old tree.new (spec.deleted property tree.old) }
+    ensures sound { Sounds tree.old tree.new }
+{
+    if !property.deletable {
+        return Err(EditEnd::Refused(Why::Mandatory));
+    }
+    tree.remove(property.id);
+    Ok(())
+}
+
+/// The edit is one of Info.
+pub fn is_info(place: Selector) -> bool
+    ensures { result ≡ is_info place }
+{
+    matches!(place, Selector::Info)
+}
+
+/// Makes one change of an Info, or of a TrackEntry. A refused one leaves it as it was.
+pub fn apply(alloc: Global, tree: &mut Tree, edit: &Edit) -> Result<(), EditEnd>
+    requires master { IsMaster tree.old }
+    requires section { id_of tree.old ≡ section_of (is_info edit.now.place) }
+    ensures exact { Makes result tree.old tree.new (spec.edited_node edit.now tree.old) }
+    ensures sound { Sounds tree.old tree.new }
+{
+    match property_of(is_info(edit.place), edit.name.as_str()) {
+        None => Err(EditEnd::Refused(Why::NoSuchProperty)),
+        Some(property) => match edit.change {
+            Change::Set => set(alloc, tree, property, &edit.value),
+            Change::Add => add(alloc, tree, property, &edit.value),
+            Change::Delete => delete(tree, property),
+        },
+    }
+}

@@ -1,0 +1,76 @@
+//! Which TrackEntry a selector means.
+
+ghost use Rattle.std.specs.Prelude.{◌≡◌, IfSome};
+ghost use Rattle.std.specs.List.{All};
+ghost use Rattle.mkv_schema.specs.declared.ids.TheConstants.{TRACKS, TRACK_ENTRY as ENTRY_ID};
+ghost use Rattle.tree_format.specs.Standing.{StandsIn, IsSoundOf};
+ghost use Rattle.tree_format.specs.Values.{uint_in, HasUint};
+ghost use Rattle.edit_format.specs.Change as spec;
+ghost use Rattle.edit_changes.specs.Trees.{IsEntryAt};
+
+use ebml_tree::Tree;
+use mkv_jobs::Selector;
+use mkv_schema::ids::{TRACK_ENTRY, TRACK_NUMBER, TRACK_TYPE, TRACK_UID};
+use mkv_schema::uint_default;
+
+/// The unsigned integer of an ID in a TrackEntry, or the table's default, or 0.
+fn uint_in(entry: &Tree, id: u32) -> u64
+    requires entry { IsSoundOf ENTRY_ID entry.now }
+    requires uint { HasUint ENTRY_ID id }
+    ensures { result ≡ uint_in id entry.now }
+{
+    match entry.child(id) {
+        Some(child) => child.uint(),
+        None => uint_default(id).unwrap_or(0),
+    }
+}
+
+/// An Element of Tracks is a TrackEntry that the selector fits, its turn let alone.
+#[tactic(auto, using(crate::proofs::SelectLemmas::entries))]
+fn fits(selector: Selector, tree: &Tree) -> bool
+    requires { StandsIn TRACKS tree.now }
+    ensures { result ≡ spec.fits selector tree.now }
+{
+    if tree.id() != TRACK_ENTRY {
+        return false;
+    }
+    match selector {
+        Selector::Info => false,
+        Selector::Nth { n: _ } => true,
+        Selector::Typed { kind, n: _ } => uint_in(tree, TRACK_TYPE) == kind,
+        Selector::Uid { uid } => uint_in(tree, TRACK_UID) == uid,
+        Selector::Number { number } => uint_in(tree, TRACK_NUMBER) == number,
+    }
+}
+
+/// Which of those that fit is meant, counted from 1.
+fn turn_of(selector: Selector) -> u64
+    ensures { result ≡ spec.turn_of selector }
+{
+    match selector {
+        Selector::Info => 0,
+        Selector::Nth { n } => n,
+        Selector::Typed { kind: _, n } => n,
+        Selector::Uid { uid: _ } => 1,
+        Selector::Number { number: _ } => 1,
+    }
+}
+
+/// The place of the TrackEntry that is meant among the children of Tracks.
+#[tactic(auto, using(crate::proofs::SelectLemmas::places))]
+pub fn place_of(selector: Selector, tracks: &[Tree]) -> Option<usize>
+    requires { All (StandsIn TRACKS) tracks.now }
+    ensures exact { result ≡ spec.place_of selector tracks.now }
+    ensures entry { IfSome result (IsEntryAt tracks.now) }
+{
+    let mut left = turn_of(selector);
+    for (k, tree) in tracks.iter().enumerate() {
+        if fits(selector, tree) {
+            if left == 1 {
+                return Some(k);
+            }
+            left = left.saturating_sub(1);
+        }
+    }
+    None
+}

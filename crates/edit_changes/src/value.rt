@@ -1,0 +1,139 @@
+//! The values of properties.
+
+ghost use Rattle.std.specs.Prelude.{◌≡◌, ℕ, IfOk, IfSome, IsTrue, option_map};
+ghost use Rattle.std.specs.List.{list_all};
+ghost use Rattle.ebml_format.specs.Number.{is_id};
+ghost use Rattle.tree_format.specs.Node.{leaf};
+ghost use Rattle.tree_format.specs.Standing.{StandsIn};
+ghost use Rattle.tree_building.specs.Leaves.{IsTextIn, IsUintIn};
+ghost use Rattle.word_values.specs.Numbers as words;
+ghost use Rattle.edit_format.specs.Property as spec;
+ghost use Rattle.edit_changes.specs.Properties.{IsPropertyOf};
+
+use ebml_tree::Tree;
+use edit_format::{Property, ValueKind};
+use mkv_values::Text;
+use std::alloc::{AllocError, Global};
+use tree_building::{text_leaf, uint_leaf};
+use word_values::number;
+
+fn is_between(least: u64, most: u64, n: u64) -> bool
+    ensures { result ≡ spec.is_between least most n }
+{
+    least <= n && n <= most
+}
+
+fn is_lower(octet: u8) -> bool
+    ensures { result ≡ spec.is_lower octet }
+{
+    octet.is_ascii_lowercase()
+}
+
+fn is_in_tag(octet: u8) -> bool
+    ensures { result ≡ spec.is_in_tag octet }
+{
+    octet.is_ascii_alphanumeric() || octet == b'-'
+}
+
+fn is_printable(octet: u8) -> bool
+    ensures { result ≡ spec.is_printable octet }
+{
+    0x20 <= octet && octet <= 0x7E
+}
+
+fn has_no_zero(octets: &[u8]) -> bool
+    ensures { result ≡ list_all spec.is_not_zero octets.now }
+{
+    octets.iter().all(|&octet| octet != 0)
+}
+
+fn are_lower(octets: &[u8]) -> bool
+    ensures { result ≡ list_all spec.is_lower octets.now }
+{
+    octets.iter().all(|&octet| is_lower(octet))
+}
+
+fn are_in_tag(octets: &[u8]) -> bool
+    ensures { result ≡ list_all spec.is_in_tag octets.now }
+{
+    octets.iter().all(|&octet| is_in_tag(octet))
+}
+
+fn are_printable(octets: &[u8]) -> bool
+    ensures { result ≡ list_all spec.is_printable octets.now }
+{
+    octets.iter().all(|&octet| is_printable(octet))
+}
+
+fn is_words(value: &str) -> bool
+    ensures { result ≡ spec.is_words value.now }
+{
+    has_no_zero(value.as_bytes())
+}
+
+fn is_language(octets: &[u8]) -> bool
+    ensures { result ≡ spec.is_language octets.now }
+{
+    octets.len() == 3 && are_lower(octets)
+}
+
+fn is_tag(octets: &[u8]) -> bool
+    ensures { result ≡ spec.is_short spec.is_in_tag octets.now }
+{
+    is_between(1, 63, octets.len() as u64) && are_in_tag(octets)
+}
+
+fn is_codec(octets: &[u8]) -> bool
+    ensures { result ≡ spec.is_short spec.is_printable octets.now }
+{
+    is_between(1, 63, octets.len() as u64) && are_printable(octets)
+}
+
+/// A text, where it passes.
+fn text_where(alloc: Global, id: u32, passes: bool, text: &str) -> Result<Option<Tree>, AllocError>
+    requires { IsTrue (is_id id) }
+    ensures exact { IfOk result (λ tree. tree ≡ option_map (leaf id 0) (spec.where_text passes text.now)) }
+    ensures stands { (parent : ℕ) → IsTextIn parent id → IfOk result (λ tree. IfSome tree (StandsIn parent)) }
+{
+    if !passes {
+        return Ok(None);
+    }
+    Ok(Some(text_leaf(alloc, id, text)?))
+}
+
+/// A number that is spelled, where it is one from `least` to `most`.
+fn number_where(
+    alloc: Global,
+    id: u32,
+    least: u64,
+    most: u64,
+    octets: &[u8],
+) -> Result<Option<Tree>, AllocError>
+    requires { IsTrue (is_id id) }
+    ensures exact { IfOk result (λ tree. tree ≡ option_map (leaf id 0) (spec.where_number least most (words.number octets.now))) }
+    ensures stands { (parent : ℕ) → IsUintIn parent id → IfOk result (λ tree. IfSome tree (StandsIn parent)) }
+{
+    match number(octets) {
+        Some(n) if is_between(least, most, n) => Ok(Some(uint_leaf(alloc, id, n)?)),
+        _ => Ok(None),
+    }
+}
+
+/// The property with this value, where it is one of its kind.
+pub fn leaf_of(alloc: Global, property: Property, value: &Text) -> Result<Option<Tree>, AllocError>
+    requires { IsTrue (is_id property.id) }
+    ensures exact { IfOk result (λ tree. tree ≡ option_map (leaf property.id 0) (spec.value_of property.kind value.now)) }
+    ensures stands { (parent : ℕ) → IsPropertyOf parent property → IfOk result (λ tree. IfSome tree (StandsIn parent)) }
+{
+    let id = property.id;
+    let text = value.as_str();
+    let octets = text.as_bytes();
+    match property.kind {
+        ValueKind::Words => text_where(alloc, id, is_words(text), text),
+        ValueKind::Language => text_where(alloc, id, is_language(octets), text),
+        ValueKind::LanguageTag => text_where(alloc, id, is_tag(octets), text),
+        ValueKind::Codec => text_where(alloc, id, is_codec(octets), text),
+        ValueKind::Duration => number_where(alloc, id, 1, (1 << 48) - 1, octets),
+        ValueKind::Flag => number_where(alloc, id, 0, 1, octets),
+    }
+}
