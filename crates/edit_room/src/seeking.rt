@@ -24,7 +24,12 @@ fn position_in(moved: &[Seek], base: u64, header: &Header) -> u64
 }
 
 /// Adds the Seek of an Element, if there is one.
-fn add_seek(out: &mut Vec<Seek>, moved: &[Seek], base: u64, header: Option<Header>) -> Result<(), AllocError>
+fn add_seek(
+    out: &mut Vec<Seek>,
+    moved: &[Seek],
+    base: u64,
+    header: Option<Header>,
+) -> Result<(), AllocError>
     ensures { OnOk result (out.new.items ≡ out.old.items ++ plan.seek_to moved.now base header) }
 {
     if let Some(header) = header {
