@@ -17,11 +17,10 @@ use Rattle.chapter_changes.specs.Identifiers.{with_identifiers}
 use Rattle.tag_records.specs.Tags.{written_tags}
 use Rattle.merged_records.specs.Attachments as merged
 use Rattle.merged_records.specs.Attachments.{files_of, merged_attachments, with_uid, with_uids}
-use Rattle.merged_records.specs.Chapters.{chapters_in, merged_chapters}
+use Rattle.merged_records.specs.Chapters.{chapter_numbers, chapters_in, edition_numbers, merged_chapters}
 use Rattle.merged_records.specs.Inputs.{children_in, uids_in, with_some}
-use Rattle.merged_records.specs.Tags.{all_uids, behind, joined_tags, merged_tags, number_of, numbers_for, numbers_of, tags_from, tags_in, uids_of}
+use Rattle.merged_records.specs.Tags.{all_uids, behind, joined_tags, merged_tags, number_of, numbers_of, tags_from, tags_in}
 use Rattle.merged_records.specs.declared.inputs.InputRecords.{InputRecords}
-use Rattle.merged_records.specs.declared.uids.Uids.{Uids}
 use Rattle.lane_blocks.specs.Links.{octets_in}
 use Rattle.merge_inputs.specs.Input.{InputRead, read_in}
 use Rattle.merge_inputs.specs.declared.input.Input.{Input}
@@ -154,29 +153,28 @@ chapters-anywhere numbers inputs =
 
 -- ---- Tags
 
--- the identifiers that the targets of Tags have, where these are those of the attached files
-abbrev numbers_with : List ℕ → InputRecords → Uids → ℕ → ℕ → Option ℕ
-numbers_with files i numbers id uid =
+-- the identifiers that the targets of Tags have, where those of the attached files are these
+abbrev numbers_with : List ℕ → InputRecords → List ℕ → List ℕ → List ℕ → ℕ → ℕ → Option ℕ
+numbers_with files i editions chapters attachments id uid =
     if id == TAG_TRACK_UID then number_of i.track_uids i.track_numbers uid else
-    (if id == TAG_EDITION_UID then number_of (uids_in edition_uids i.chapters) numbers.editions uid else
-    (if id == TAG_CHAPTER_UID then number_of (uids_in chapter_uids i.chapters) numbers.chapters uid else
-    (if id == TAG_ATTACHMENT_UID then number_of files numbers.attachments uid else None)))
+    (if id == TAG_EDITION_UID then number_of (uids_in edition_uids i.chapters) editions uid else
+    (if id == TAG_CHAPTER_UID then number_of (uids_in chapter_uids i.chapters) chapters uid else
+    (if id == TAG_ATTACHMENT_UID then number_of files attachments uid else None)))
 
--- the Tags of an input, with what is behind it
-abbrev tags_with : List ℕ → InputRecords → Uids → List Node
-tags_with files i numbers = children_in (option_map (written_tags i.keep (numbers_with files i numbers)) i.tags)
+-- the Tags of an input, and those of inputs behind it
+abbrev tags_with : List ℕ → InputRecords → List InputRecords → List ℕ → List ℕ → List ℕ → List Node
+tags_with files i others editions chapters attachments =
+    children_in (option_map (written_tags i.keep (numbers_with files i editions chapters attachments)) i.tags)
+    ++ tags_from (behind (all_uids (uids_in edition_uids i.chapters) (uids_in chapter_uids i.chapters) files) (all_uids editions chapters attachments)) others
 
-abbrev uids_with : List ℕ → InputRecords → Uids
-uids_with files i = all_uids (uids_in edition_uids i.chapters) (uids_in chapter_uids i.chapters) files
-
-tags-same : (numbers : List ℕ) (inputs : List Input) (given : Uids) → tags_from given (records_at numbers inputs) ≡ tags_from given (anywhere_at numbers inputs)
-tags-same numbers [] given = refl
-tags-same numbers (i ∷ is) given =
+tags-same : (numbers : List ℕ) (inputs : List Input) (editions chapters attachments : List ℕ) → tags_from (all_uids editions chapters attachments) (records_at numbers inputs) ≡ tags_from (all_uids editions chapters attachments) (anywhere_at numbers inputs)
+tags-same numbers [] editions chapters attachments = refl
+tags-same numbers (i ∷ is) editions chapters attachments =
     let own : InputRecords = records_in (take (length i.taken) numbers) (kept_in i) in
     let rest : List ℕ = drop (length i.taken) numbers in
-    let uids : merged.file_uids i.attachments ≡ merged.file_uids (map anywhere (map in_file i.attachments)) = sym (uids-anywhere i.attachments) in
-    ap (λ l. tags_in own given ++ l) (tags-same rest is (behind (uids_of own) given))
-    ∙ ap (λ files. tags_with files own given ++ tags_from (behind (uids_with files own) given) (anywhere_at rest is)) uids
+    ap (λ l. tags_in own (all_uids editions chapters attachments) ++ l)
+    (tags-same rest is (drop (length (uids_in edition_uids i.chapters)) editions) (drop (length (uids_in chapter_uids i.chapters)) chapters) (drop (length (merged.file_uids i.attachments)) attachments))
+    ∙ ap (λ files. tags_with files own (anywhere_at rest is) editions chapters attachments) (sym (uids-anywhere i.attachments))
 
 numbers-same : (numbers : List ℕ) (inputs : List Input) → numbers_of (records_at numbers inputs) ≡ numbers_of (anywhere_at numbers inputs)
 numbers-same numbers inputs =
@@ -184,7 +182,8 @@ numbers-same numbers inputs =
 
 pub tags-anywhere : (numbers : List ℕ) (inputs : List Input) → merged_tags (records_at numbers inputs) ≡ merged_tags (anywhere_at numbers inputs)
 tags-anywhere numbers inputs =
-    ap (λ list. with_some (master TAGS 0 (nodes_of list))) (tags-same numbers inputs (numbers_of (records_at numbers inputs)))
+    ap (λ list. with_some (master TAGS 0 (nodes_of list)))
+    (tags-same numbers inputs (edition_numbers (records_at numbers inputs)) (chapter_numbers (records_at numbers inputs)) (merged.file_numbers (records_at numbers inputs)))
     ∙ ap (λ given. with_some (joined_tags given (anywhere_at numbers inputs))) (numbers-same numbers inputs)
 
 -- ---- one input more
