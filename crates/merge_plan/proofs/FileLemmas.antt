@@ -1,13 +1,15 @@
 -- The attached files of an output, and what inputs give besides their tracks and blocks.
 use Rattle.std.proofs.Common.{◌≡◌, ◌≤◌, ◌<◌, ℕ, zero, suc, ◌+◌, ◌==◌, List, [], ◌∷◌, ◌++◌, length, take, drop, map, flat_map, get_or, Option, Some, None, if◌then◌else◌, refl, sym, ap, ap₂, subst, ◌∙◌, arith, append-nil, append_assoc}
-use Rattle.std.specs.List.{All}
+use Rattle.std.specs.List.{All, sum_by}
 use Rattle.std.specs.Option.{option_map}
-use Rattle.std.proofs.lemmas.List.{map-append}
+use Rattle.std.proofs.lemmas.List.{length-map, map-append}
+use Rattle.std.proofs.lemmas.List.Sums.{sum_by-append, sum_by-cons}
 use Rattle.std.proofs.lemmas.List.Elements.{All-append}
 use Rattle.mkv_schema.specs.declared.ids.TheConstants.{CHAPTERS, TAGS, TAG_TRACK_UID, TAG_EDITION_UID, TAG_CHAPTER_UID, TAG_ATTACHMENT_UID}
 use Rattle.mkv_io.specs.LiveFiles.{LiveFiles}
 use Rattle.tree_format.specs.Node.{Node, master, nodes_of}
 use Rattle.identifier_format.specs.Identifiers.{renumbered}
+use Rattle.identifier_format.proofs.GivenLemmas.{length-from}
 use Rattle.attachment_records.specs.Attached.{attached_file, octets_told}
 use Rattle.attachment_records.specs.declared.attachment.Attachment.{Attachment}
 use Rattle.attachment_reading.specs.Walk.{IsAttachedIn}
@@ -24,7 +26,7 @@ use Rattle.merged_records.specs.declared.inputs.InputRecords.{InputRecords}
 use Rattle.lane_blocks.specs.Links.{octets_in}
 use Rattle.merge_inputs.specs.Input.{InputRead, read_in}
 use Rattle.merge_inputs.specs.declared.input.Input.{Input}
-use Rattle.merge_plan.specs.Front.{attached_from, attachments_of, files_in, reads_of}
+use Rattle.merge_plan.specs.Front.{attached_from, attachments_of, attached_length, files_in, reads_of}
 use Rattle.merge_plan.specs.Plan.{Source}
 use Rattle.merge_plan.specs.Planned.{IsFileOf, IsToldInput, source_in}
 use Rattle.merge_plan.specs.Records as plan
@@ -104,6 +106,35 @@ attached-all f numbers inputs told has =
     ap (λ files. map (attached_file f) (with_uids (renumbered (merged.file_uids files)) files)) (files-at numbers inputs)
     ∙ with-data f (renumbered (merged.file_uids (files_in_all inputs))) (files_in_all inputs)
     ∙ ap₂ (λ uids files. attached_from (renumbered uids) files) (sym (all-uids-read f inputs)) (data-all f inputs told has)
+
+-- ---- how many octets their data are
+
+octets-uids : (uids : List ℕ) (files : List Attachment) → length uids ≡ length files → sum_by (λ (a : Attachment). a.len) (with_uids uids files) ≡ sum_by (λ (a : Attachment). a.len) files
+octets-uids [] [] many = refl
+octets-uids [] (a ∷ files) many = absurd (omega arith)
+octets-uids (uid ∷ uids) [] many = absurd (omega arith)
+octets-uids (uid ∷ uids) (a ∷ files) many =
+    let rest : sum_by (λ (b : Attachment). b.len) (with_uids uids files) ≡ sum_by (λ (b : Attachment). b.len) files = octets-uids uids files (omega arith) in
+    sum_by-cons (λ (b : Attachment). b.len) (with_uid uid a) (with_uids uids files) ∙ ap (λ n. a.len + n) rest ∙ sym (sum_by-cons (λ (b : Attachment). b.len) a files)
+
+octets-shown : (files : List Attachment) → sum_by (λ (a : Attachment). a.len) files ≡ sum_by (λ (a : AttachedFile). a.len) (map in_file files)
+octets-shown [] = refl
+octets-shown (a ∷ files) = sum_by-cons (λ (b : Attachment). b.len) a files ∙ ap (λ n. a.len + n) (octets-shown files) ∙ sym (sum_by-cons (λ (b : AttachedFile). b.len) (in_file a) (map in_file files))
+
+octets-read : (inputs : List Input) → sum_by (λ (a : Attachment). a.len) (files_in_all inputs) ≡ attached_length (map read_in inputs)
+octets-read [] = refl
+octets-read (i ∷ is) =
+    sum_by-append (λ (a : Attachment). a.len) i.attachments (files_in_all is)
+    ∙ ap₂ (λ m n. m + n) (octets-shown i.attachments) (octets-read is)
+    ∙ sym (sum_by-cons (λ (j : InputRead). sum_by (λ (a : AttachedFile). a.len) j.attachments) (read_in i) (map read_in is))
+
+pub octets-all : (numbers : List ℕ) (inputs : List Input) → sum_by (λ (a : Attachment). a.len) (merged_attachments (records_at numbers inputs)) ≡ attached_length (map read_in inputs)
+octets-all numbers inputs =
+    let files : List Attachment = files_in_all inputs in
+    let uids : List ℕ = merged.file_uids files in
+    ap (λ list. sum_by (λ (a : Attachment). a.len) (with_uids (renumbered (merged.file_uids list)) list)) (files-at numbers inputs)
+    ∙ octets-uids (renumbered uids) files (length-from uids [] uids ∙ length-map files (λ (a : Attachment). a.uid))
+    ∙ octets-read inputs
 
 -- ---- whose they are
 

@@ -1,5 +1,5 @@
 -- What stands in front of the Clusters of a merge: RFC 9559, sections 5.1.2 (Info Element), 5.1.4 (Tracks Element) and 5.1.6 (Attachments Element).
-use Rattle.std.specs.Prelude.{ℕ, List, [], ◌∷◌, map, flat_map}
+use Rattle.std.specs.Prelude.{ℕ, List, [], ◌∷◌, map, flat_map, sum_by}
 use Rattle.mkv_io.specs.Contents.{octets_from}
 use Rattle.mkv_schema.specs.declared.ids.TheConstants.{FILE_UID}
 use Rattle.tree_format.specs.Node.{Node}
@@ -39,6 +39,10 @@ attached_from (uid ∷ uids) (f ∷ files) = attached uid f ∷ attached_from ui
 -- those of all inputs, one input behind the other
 abbrev pub attachments_of : List Source → List Node
 attachments_of sources = attached_from (file_uids (reads_of sources)) (flat_map files_in sources)
+
+-- how many octets the data of all attached files are
+abbrev pub attached_length : List InputRead → ℕ
+attached_length reads = sum_by (λ (i : InputRead). sum_by (λ (a : AttachedFile). a.len) i.attachments) reads
 
 -- ---- the front
 

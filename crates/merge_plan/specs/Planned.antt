@@ -1,5 +1,5 @@
 -- What a plan is.
-use Rattle.std.specs.Prelude.{◌≡◌, ◌<◌, ◌≤◌, ⊤, ℕ, ◌+◌, List, length, map, get_or, None, Some, IfSome, Result, Ok, Err}
+use Rattle.std.specs.Prelude.{◌≡◌, ◌<◌, ◌≤◌, ⊤, ℕ, ◌+◌, List, length, map, get_or, sum_by, None, Some, IfSome, Result, Ok, Err}
 use Rattle.std.specs.List.{All}
 use Rattle.mkv_io.specs.LiveFiles.{LiveFiles}
 use Rattle.mkv_io.specs.Names.{AreOthers}
@@ -23,7 +23,7 @@ use Rattle.merge_plan.specs.declared.refusal.PlanEnd.{PlanEnd}
 use Rattle.merge_plan.specs.declared.refusal.PlanEnd.TheVariants.{Refused, Memory}
 use Rattle.merge_plan.specs.declared.outputs.OutputRecords.{OutputRecords}
 use Rattle.merge_plan.specs.Records.{chapters_of, tags_of, tracks_of}
-use Rattle.merge_plan.specs.Front.{attachments_of, front_of}
+use Rattle.merge_plan.specs.Front.{attachments_of, attached_length, front_of}
 use Rattle.merge_plan.specs.Plan.{Source, inputs_given, lanes_given, limits_of, rules_given}
 use Rattle.merge_plan.specs.Refusal.{plan_refusal}
 
@@ -37,10 +37,11 @@ IsToldInput f i = f.content i.file.n ≡ Some (octets_in f i.file.n)
 
 -- ---- the records of an output
 
--- The records are those that the inputs come to: the attached files with their data, by the contents of the files.
+-- The records are those that the inputs come to: the attached files with their data, by the contents of the files, and how many octets these are.
 pub record AreRecordsOf (inputs : List Input) (r : OutputRecords) : Type 0 where
   pub tracks : r.tracks ≡ tracks_of (map read_in inputs)
   pub attachments : (f : LiveFiles) → All (IsToldInput f) inputs → map (attached_file f) r.attachments ≡ attachments_of (map (source_in f) inputs)
+  pub octets : sum_by (λ (a : Attachment). a.len) r.attachments ≡ attached_length (map read_in inputs)
   pub chapters : r.chapters ≡ chapters_of (map read_in inputs)
   pub tags : r.tags ≡ tags_of (map read_in inputs)
 
@@ -69,12 +70,14 @@ GivesRecords words inputs (Err Memory) = ⊤
 
 -- ---- the plan
 
--- The plan that words and inputs come to: its name, where its Clusters end, what stands in front of them and what behind;
+-- The plan that words and inputs come to: its name, where its Clusters end, what stands in front of them and what behind,
+-- with how many octets of attached files' data;
 -- and of each lane what its links give, by the contents of their files, their inputs, and which blocks get a cue point.
 pub record IsPlanOf (words : MergeWords) (inputs : List Input) (p : MergePlan) : Type 0 where
   pub output : p.output ≡ words.output
   pub limits : p.limits ≡ limits_of words
   pub front : (f : LiveFiles) → All (IsToldInput f) inputs → front_with f p.front ≡ front_of words (map (source_in f) inputs)
+  pub octets : sum_by (λ (a : Attachment). a.len) p.front.attachments ≡ attached_length (map read_in inputs)
   pub chapters : p.chapters ≡ chapters_of (map read_in inputs)
   pub tags : p.tags ≡ tags_of (map read_in inputs)
   pub lanes : (f : LiveFiles) → map (map (given_in f)) (links_of p.lanes) ≡ lanes_given (map (source_in f) inputs)

@@ -1,6 +1,6 @@
 -- Each track is taken so, and the records are those of the inputs.
 use Rattle.std.proofs.Common.{◌≡◌, List, ℕ, map, sym, ap, subst, ◌∙◌}
-use Rattle.std.specs.List.{All}
+use Rattle.std.specs.List.{All, sum_by}
 use Rattle.attachment_records.specs.Attached.{attached_file}
 use Rattle.attachment_records.specs.declared.attachment.Attachment.{Attachment}
 use Rattle.merged_records.specs.Attachments.{merged_attachments}
@@ -13,7 +13,7 @@ use Rattle.merge_inputs.specs.Taken.{IsTaken}
 use Rattle.merge_plan.specs.Lent.{lent}
 use Rattle.merge_plan.specs.Planned.{IsFileOf}
 use Rattle.merge_plan.specs.Records.{entries_of, tracks_taken, uids_of}
-use Rattle.merge_plan.proofs.FileLemmas.{attached-all, chapters-anywhere, files-are, records_at, tags-anywhere}
+use Rattle.merge_plan.proofs.FileLemmas.{attached-all, chapters-anywhere, files-are, octets-all, records_at, tags-anywhere}
 use Rattle.merge_plan.proofs.RecordLemmas.{each-taken, taken-read}
 use Rattle.merge_plan.proofs.outputs.output_of.Goals as goal
 
@@ -36,6 +36,7 @@ returns-clause-exact c =
     record {
       tracks = c.in_ok-tracks.ensures.exact ∙ ap output_tracks c.in_ok-entries_of.ensures.exact ∙ ap (λ ts. output_tracks (entries_of ts)) c.requires.taken;
       attachments = λ f told. ap (map (attached_file f)) (made.attachments ∙ ap merged_attachments kept) ∙ attached-all f numbers inputs told c.requires.records;
+      octets = ap (sum_by (λ (a : Attachment). a.len)) (made.attachments ∙ ap merged_attachments kept) ∙ octets-all numbers inputs;
       chapters = made.chapters ∙ ap merged_chapters kept ∙ chapters-anywhere numbers inputs;
       tags = made.tags ∙ ap merged_tags kept ∙ tags-anywhere numbers inputs;
     }

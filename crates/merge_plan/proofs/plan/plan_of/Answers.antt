@@ -24,6 +24,7 @@ returns-clause-exact c =
         front = λ f told.
             let reads = sym (reads-in f inputs) in
             λ i. record { webm = words.webm; info = (info ∙ ap (info_of words) reads) i; tracks = (records.tracks ∙ ap tracks_of reads) i; attachments = records.attachments f told i };
+        octets = records.octets;
         chapters = records.chapters;
         tags = records.tags;
         lanes = lanes-given inputs lanes are;
