@@ -8,7 +8,7 @@ ghost use Rattle.tree_format.specs.Standing.{IsSoundOf};
 ghost use Rattle.element_reader.specs.Outline.{is_outline_fault, outline_in};
 ghost use Rattle.file_records.specs.Records.{AreGood, AreRead, IsGoodInfo, ReadsAs, file_records, good_info, good_tracks, scale_of_info};
 
-use crate::first_tree::first_tree;
+use crate::first::first_tree;
 use ebml_tree::{Tree, TreeEnd};
 use element_reader::{Header, Outline, OutlineEnd};
 use meta_records::{DEFAULT_SCALE, read_info};
