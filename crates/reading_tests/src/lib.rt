@@ -3,6 +3,8 @@
 //! Files in memory with the Elements, blocks and damages that readers must give: tests alone.
 
 #[cfg(test)]
+mod attachments;
+#[cfg(test)]
 mod blocks;
 #[cfg(test)]
 mod files;

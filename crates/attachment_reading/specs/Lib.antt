@@ -1,0 +1,3 @@
+pub mod Attachments
+pub mod End
+pub mod Walk

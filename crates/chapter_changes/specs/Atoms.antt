@@ -1,0 +1,50 @@
+-- The editions and the chapters of a Chapters Element, and their identifiers: RFC 9559, section 5.1.7 (Chapters Element). Their order is this project's.
+use Rattle.std.specs.Prelude.{ℕ, ◌==◌, if◌then◌else◌, List, [], ◌∷◌, ◌++◌, map, flat_map}
+use Rattle.std.specs.Option.{option_map_or}
+use Rattle.mkv_schema.specs.declared.ids.TheConstants.{EDITION_ENTRY, EDITION_UID, CHAPTER_ATOM, CHAPTER_UID}
+use Rattle.tree_format.specs.Node.{Node, Nodes, leaf, master, none, node, nodes_of, children}
+use Rattle.tree_format.specs.Values.{first_child, integer_of}
+use Rattle.tree_format.specs.Changes.{part}
+
+-- ---- which there are
+
+-- the editions, in their order
+abbrev pub editions_of : Node → List Node
+editions_of chapters = part EDITION_ENTRY (children chapters)
+
+-- an Element, if it is an atom, and then the atoms inside it, in their order
+abbrev mutual
+  pub atoms_at : Node → List Node
+  atoms_at (leaf id at body) = []
+  atoms_at (master id at kids) = if id == CHAPTER_ATOM then master id at kids ∷ atoms_among kids else []
+
+  pub atoms_among : Nodes → List Node
+  atoms_among none = []
+  atoms_among (node n ns) = atoms_at n ++ atoms_among ns
+
+-- the atoms of an edition, and of all editions
+abbrev pub atoms_inside : Node → List Node
+atoms_inside edition = atoms_among (nodes_of (children edition))
+
+abbrev pub atoms_of : Node → List Node
+atoms_of chapters = flat_map atoms_inside (editions_of chapters)
+
+-- ---- their identifiers
+
+-- the unsigned integer of an ID among the children, 0 where it is missing
+abbrev pub value_in : ℕ → Node → ℕ
+value_in id n = option_map_or integer_of (first_child id n) 0
+
+-- those that a child of Chapters has, if it is an edition: its own, and those of its atoms
+abbrev pub own_uids : Node → List ℕ
+own_uids child = map (value_in EDITION_UID) (part EDITION_ENTRY (child ∷ []))
+
+abbrev pub inner_uids : Node → List ℕ
+inner_uids child = map (value_in CHAPTER_UID) (flat_map atoms_inside (part EDITION_ENTRY (child ∷ [])))
+
+-- those of all editions, and of all their atoms
+abbrev pub edition_uids : Node → List ℕ
+edition_uids chapters = map (value_in EDITION_UID) (editions_of chapters)
+
+abbrev pub chapter_uids : Node → List ℕ
+chapter_uids chapters = map (value_in CHAPTER_UID) (atoms_of chapters)

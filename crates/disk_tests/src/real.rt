@@ -1,0 +1,103 @@
+//! A file of the system and its sidecar.
+
+use crate::calls::{cut, open, read, sync, write};
+use crate::data::{EDITED, FILE, RECORD};
+use crate::running::recover_on;
+use mkv_disk::{Disk, MEDIA, SIDECAR};
+use mkv_host_disk::RealDisk;
+use mkv_io::Reads;
+use mkv_lines::Status;
+use mkv_values::{Failed, OpenFault};
+use std::test::Fail;
+use std::{fs, io};
+
+/// A folder of its own for a test, empty.
+fn fresh_folder(rt: &HostRuntime, folder: &str) -> io::Result<()> {
+    let _ = fs::remove_dir_all(rt, folder);
+    fs::create_dir(rt, folder)
+}
+
+#[test]
+fn a_pair_of_files_is_written_cut_and_synced(rt: HostRuntime) -> Result<(), Fail> {
+    fresh_folder(&rt, "disk_test_pair")?;
+    fs::write(&rt, "disk_test_pair/a.mkv", b"Matrojka".as_slice())?;
+    let mut disk = RealDisk::new(rt.alloc(), &rt);
+    open(&mut disk, "disk_test_pair/a.mkv")?;
+    assert_eq!(rt; disk.size(MEDIA), 8);
+    assert_eq!(rt; disk.size(SIDECAR), 0);
+    assert_eq!(rt;
+        fs::read(&rt, "disk_test_pair/a.mkv.mkvedit")?.as_slice(),
+        b"".as_slice()
+    );
+
+    assert_eq!(rt; write(&mut disk, MEDIA, 5, b"ska file"), Ok(()));
+    assert_eq!(rt; cut(&mut disk, MEDIA, 8), Ok(()));
+    assert_eq!(rt; sync(&mut disk, MEDIA), Ok(()));
+    assert_eq!(rt; write(&mut disk, SIDECAR, 0, b"beside"), Ok(()));
+    assert_eq!(rt; sync(&mut disk, SIDECAR), Ok(()));
+    assert_eq!(rt; (disk.size(MEDIA), disk.size(SIDECAR)), (8, 6));
+    let mut octets = [0; 4];
+    assert_eq!(rt; read(&mut disk, SIDECAR, 2, &mut octets), Ok(()));
+    assert_eq!(rt; octets, *b"side");
+    assert_eq!(rt;
+        fs::read(&rt, "disk_test_pair/a.mkv")?.as_slice(),
+        b"Matroska".as_slice()
+    );
+    assert_eq!(rt;
+        fs::read(&rt, "disk_test_pair/a.mkv.mkvedit")?.as_slice(),
+        b"beside".as_slice()
+    );
+
+    fs::write(&rt, "disk_test_pair/a.mkv", b"cut".as_slice())?;
+    assert_eq!(rt; read(&mut disk, MEDIA, 4, &mut octets), Err(Failed));
+    fs::remove_dir_all(&rt, "disk_test_pair")?;
+    Ok(())
+}
+
+#[test]
+fn a_pair_is_missing_or_cannot_be_opened(rt: HostRuntime) -> Result<(), Fail> {
+    fresh_folder(&rt, "disk_test_names")?;
+    fs::write(&rt, "disk_test_names/a.mkv", b"kept".as_slice())?;
+    fs::create_dir(&rt, "disk_test_names/a.mkv.mkvedit")?;
+    let rows = [
+        ("", OpenFault::Missing),
+        ("disk_test_names/none.mkv", OpenFault::Missing),
+        ("disk_test_names/a.mkv/x", OpenFault::Missing),
+        ("disk_test_names", OpenFault::Failed),
+        ("disk_test_names/a.mkv", OpenFault::Failed),
+        ("/dev/null", OpenFault::Failed),
+    ];
+    let mut disk = RealDisk::new(rt.alloc(), &rt);
+    for (name, fault) in rows {
+        assert_eq!(rt; disk.open_pair(name), Err(fault), "{name}");
+    }
+    assert!(rt; fs::metadata(&rt, "disk_test_names/none.mkv.mkvedit").is_err());
+    fs::remove_dir_all(&rt, "disk_test_names")?;
+    Ok(())
+}
+
+#[test]
+fn a_stopped_edit_of_a_file_is_made_whole(rt: HostRuntime) -> Result<(), Fail> {
+    fresh_folder(&rt, "disk_test_recover")?;
+    fs::write(&rt, "disk_test_recover/a.mkv", FILE.as_slice())?;
+    fs::write(&rt, "disk_test_recover/a.mkv.mkvedit", RECORD.as_slice())?;
+    let mut disk = RealDisk::new(rt.alloc(), &rt);
+    for line in [
+        "recovered disk_test_recover/a.mkv",
+        "nothing to recover in disk_test_recover/a.mkv",
+    ] {
+        let (status, report) = recover_on(rt.alloc(), "disk_test_recover/a.mkv", &mut disk)?;
+        assert_eq!(rt; status, Status::Done);
+        assert_eq!(rt; report.line(0), Some(line));
+        assert_eq!(rt;
+            fs::read(&rt, "disk_test_recover/a.mkv")?.as_slice(),
+            EDITED.as_slice()
+        );
+        assert_eq!(rt;
+            fs::read(&rt, "disk_test_recover/a.mkv.mkvedit")?.as_slice(),
+            [0].as_slice()
+        );
+    }
+    fs::remove_dir_all(&rt, "disk_test_recover")?;
+    Ok(())
+}

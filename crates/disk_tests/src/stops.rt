@@ -1,0 +1,191 @@
+//! An edit is stopped at each call of the disk, recovered with a stop at each call, and recovered again.
+
+ghost use Rattle.std.specs.Prelude.{◌≡◌, ◌≤◌, ◌+◌, length, IfOk, IsTrue};
+ghost use Rattle.mkv_values.specs.declared.outside.TheConstants.{LONGEST_FILE};
+ghost use Rattle.mkv_disk.specs.Calls.{AtRest, OfReads};
+ghost use Rattle.sidecar_format.specs.Fields.{IsMadeFor};
+ghost use Rattle.sidecar_format.specs.Recovery.{IsQuiet};
+ghost use Rattle.disk_tests.specs.declared.data.TheConstants.{FILE};
+
+use crate::data::{EDITED, FILE, PAYLOAD, PLACES};
+use crate::running::{copied, failing, octets_of, recover_on, stopped, stopped_copy};
+use memory_disk::MemDisk;
+use mkv_disk::{Disk, MEDIA};
+use mkv_lines::Status;
+use sidecar_edit::{DiskFault, commit, settle};
+use sidecar_format::{OPEN, Plan};
+use std::alloc::{AllocError, Global};
+use std::test::Fail;
+
+/// The plan of the edit.
+fn plan(alloc: Global) -> Result<Plan, AllocError>
+    ensures made { IfOk result (λ plan. IsMadeFor plan.head FILE) }
+    ensures some { IfOk result (λ plan. 1 ≤ length plan.head.places) }
+{
+    let places = PLACES.as_slice().to_vec(alloc)?;
+    Plan::new(alloc, 393, 423, &FILE[..64], places, &PAYLOAD)
+}
+
+/// Opens the pair and makes the edit of a plan.
+fn edit<D: Disk>(plan: &Plan, disk: &mut D) -> Result<(), DiskFault>
+    requires at_rest { AtRest D.Disk.own disk.old }
+    requires quiet { OfReads D.Disk.own disk.old (λ M S. IsQuiet S) }
+    requires some { 1 ≤ length plan.now.head.places }
+    requires made { OfReads D.Disk.own disk.old (λ M S. IsMadeFor plan.now.head M) }
+{
+    let Ok(()) = disk.open_pair("out.mkv") else {
+        return Err(DiskFault);
+    };
+    settle(disk)?;
+    commit(plan, disk)
+}
+
+/// Whether no edit is begun in a sidecar.
+fn is_quiet(sidecar: &[u8]) -> bool
+    ensures { IsTrue result → IsQuiet sidecar.now }
+{
+    sidecar.len() <= 1 || sidecar[0] != OPEN
+}
+
+/// The edit on a disk with this sidecar, stopped at a call of the disk; and whether it came to its end.
+fn edited(alloc: Global, sidecar: &[u8], stop: u64) -> Result<(MemDisk, bool), Fail>
+    requires { length sidecar.now ≤ LONGEST_FILE }
+{
+    if !is_quiet(sidecar) {
+        return Err("an edit is begun".into());
+    }
+    let plan = plan(alloc)?;
+    let mut disk = stopped(alloc, &FILE, sidecar, stop)?;
+    let whole = edit(&plan, &mut disk).is_ok();
+    Ok((disk, whole))
+}
+
+/// The file that `recover` makes of what a crash left.
+fn recovered(alloc: Global, left: &MemDisk) -> Result<Vec<u8>, Fail> {
+    let mut disk = copied(alloc, left)?;
+    let (status, _) = recover_on(alloc, "out.mkv", &mut disk)?;
+    if status != Status::Done {
+        return Err("not recovered".into());
+    }
+    octets_of(alloc, &disk, MEDIA)
+}
+
+/// Whether these are the octets of the file or of the edited one.
+fn is_either(file: &[u8]) -> bool {
+    file == FILE.as_slice() || file == EDITED.as_slice()
+}
+
+/// Whether `recover`, stopped at any call and crashed with any image, and then run again, makes the file that it makes
+/// without a stop; which is the file or the edited one.
+fn recovers(alloc: Global, left: &MemDisk) -> Result<bool, Fail> {
+    let file = recovered(alloc, left)?;
+    if !is_either(&file) {
+        return Ok(false);
+    }
+    for stop in 0..100 {
+        let mut disk = stopped_copy(alloc, left, stop)?;
+        let (status, _) = recover_on(alloc, "out.mkv", &mut disk)?;
+        for pick in 0..6 {
+            let again = recovered(alloc, &disk.crashed(alloc, pick)?)?;
+            if again.as_slice() != file.as_slice() {
+                return Ok(false);
+            }
+        }
+        if status == Status::Done {
+            return Ok(true);
+        }
+    }
+    Ok(false)
+}
+
+/// Whether the edit beside this sidecar, stopped at any call and crashed with any image, is recovered whole or not at all.
+fn is_safe(alloc: Global, sidecar: &[u8]) -> Result<bool, Fail>
+    requires { length sidecar.now ≤ LONGEST_FILE }
+{
+    for stop in 0..100 {
+        let (disk, whole) = edited(alloc, sidecar, stop)?;
+        for pick in 0..6 {
+            let left = disk.crashed(alloc, pick)?;
+            if !recovers(alloc, &left)? {
+                return Ok(false);
+            }
+            if whole && recovered(alloc, &left)?.as_slice() != EDITED.as_slice() {
+                return Ok(false);
+            }
+        }
+        if whole {
+            return Ok(stop > 10);
+        }
+    }
+    Ok(false)
+}
+
+/// Whether each image that a crash leaves is recovered to the file or to the edited one.
+fn comes_to_either(alloc: Global, disk: &MemDisk) -> Result<bool, Fail> {
+    for pick in 0..6 {
+        if !is_either(&recovered(alloc, &disk.crashed(alloc, pick)?)?) {
+            return Ok(false);
+        }
+    }
+    Ok(true)
+}
+
+#[test]
+fn an_edit_of_which_a_call_fails_tells_it_and_is_recovered(rt: HostRuntime) -> Result<(), Fail> {
+    let plan = plan(rt.alloc())?;
+    for call in 0..100 {
+        let mut disk = failing(rt.alloc(), &FILE, &[], call)?;
+        let whole = edit(&plan, &mut disk).is_ok();
+        assert!(rt; comes_to_either(rt.alloc(), &disk)?);
+        if whole {
+            assert!(rt; call > 10);
+            return Ok(());
+        }
+    }
+    Err("no edit comes to its end".into())
+}
+
+#[test]
+fn a_stopped_edit_beside_an_empty_sidecar_is_recovered(rt: HostRuntime) -> Result<(), Fail> {
+    assert!(rt; is_safe(rt.alloc(), &[])?);
+    Ok(())
+}
+
+#[test]
+fn a_stopped_edit_beside_a_closed_gate_is_recovered(rt: HostRuntime) -> Result<(), Fail> {
+    assert!(rt; is_safe(rt.alloc(), &[0])?);
+    Ok(())
+}
+
+/// What stands behind the gate of an older record of 300 octets, up to its first place: of one write of 140 octets at the
+/// start of a file.
+const OLD_FRONT: [u8; 47] = [
+    0x4D, 0x4B, 0x56, 0x45, 0x44, 0x49, 0x54, 0x00, 0x00, 0x00, 0x00, 0x00, 0x00, 0x01, 0x2C, 0x00,
+    0x00, 0x00, 0x00, 0x00, 0x00, 0x01, 0x89, 0x01, 0x01, 0x00, 0x00, 0x00, 0x00, 0x00, 0x00, 0x00,
+    0x00, 0x00, 0x00, 0x00, 0x00, 0x00, 0x00, 0x00, 0x00, 0x00, 0x00, 0x00, 0x00, 0x00, 0x8C,
+];
+
+/// The older record behind these octets.
+fn old_record(alloc: Global, gate: &[u8]) -> Result<Vec<u8>, AllocError>
+    ensures { IfOk result (λ octets. length octets.items ≡ length gate.now + 299) }
+{
+    let mut octets = gate.to_vec(alloc)?;
+    octets.extend_from_slice(&OLD_FRONT)?;
+    octets.extend_from_slice(&[0; 112])?;
+    octets.extend_from_slice(&[0x58; 140])?;
+    Ok(octets)
+}
+
+#[test]
+fn an_older_record_behind_a_closed_gate_stays_dead(rt: HostRuntime) -> Result<(), Fail> {
+    let closed = old_record(rt.alloc(), &[0x37])?;
+    assert!(rt; is_safe(rt.alloc(), &closed)?);
+    Ok(())
+}
+
+#[test]
+fn an_older_record_behind_another_octet_stays_dead(rt: HostRuntime) -> Result<(), Fail> {
+    let shifted = old_record(rt.alloc(), &[0x37, 0xA5])?;
+    assert!(rt; is_safe(rt.alloc(), &shifted)?);
+    Ok(())
+}
