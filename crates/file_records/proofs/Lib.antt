@@ -1,2 +1,3 @@
+pub mod AttachedLemmas
 pub mod CausesLemmas
 pub mod RecordsLemmas

@@ -6,7 +6,7 @@ use Rattle.std.proofs.lemmas.Bool.{cond-false}
 use Rattle.std.proofs.lemmas.Bool.Decides.{nat_tests}
 use Rattle.mkv_schema.specs.Schema.{entry_of}
 use Rattle.mkv_schema.specs.Table.{table}
-use Rattle.mkv_schema.specs.declared.ids.TheConstants.{CLUSTER, INFO, TRACKS}
+use Rattle.mkv_schema.specs.declared.ids.TheConstants.{CHAPTERS, CLUSTER, INFO, TAGS, TRACKS}
 use Rattle.mkv_values.specs.declared.damage.Damage.{Damage}
 use Rattle.mkv_values.specs.declared.damage.Kind.TheVariants.{HeaderTooLarge}
 use Rattle.matroska_format.specs.declared.element.Header.{Header}
@@ -29,17 +29,24 @@ use Rattle.track_format.specs.Tracks.{AreTracks, IsTrack}
 use Rattle.track_records.specs.Sound.{IsEntry}
 use Rattle.track_records.specs.Track.{track_of, tracks_of}
 use Rattle.track_records.specs.declared.track.Track.{Track}
-use Rattle.file_records.specs.Records.{AreRead, IsHeld, file_records, first_tree, good_info, good_tracks, scale_of_info, tree_at}
-use Rattle.file_records.specs.declared.records.Records.{Records}
+use Rattle.file_records.specs.Attached.{first_attached}
+use Rattle.file_records.specs.Records.{AreRead, FileRecords, IsHeld, file_records, first_tree, good_info, good_tracks, scale_of_info, tree_at}
 
--- Info and Tracks are read whole
-pub held-info : IsHeld INFO
-unfolding entry_of table
-held-info = record { master = refl; described = refl; limit = refl; other = refl }
+-- Info, Tracks, Chapters and Tags are read whole
+pub record AreHeld : Type 0 where
+  pub info : IsHeld INFO
+  pub tracks : IsHeld TRACKS
+  pub chapters : IsHeld CHAPTERS
+  pub tags : IsHeld TAGS
 
-pub held-tracks : IsHeld TRACKS
+pub held : AreHeld
 unfolding entry_of table
-held-tracks = record { master = refl; described = refl; limit = refl; other = refl }
+held = record {
+  info = record { master = refl; described = refl; limit = refl; other = refl };
+  tracks = record { master = refl; described = refl; limit = refl; other = refl };
+  chapters = record { master = refl; described = refl; limit = refl; other = refl };
+  tags = record { master = refl; described = refl; limit = refl; other = refl };
+}
 
 -- ---- an Element that an outline shows isn't too large to be read
 
@@ -86,26 +93,26 @@ pub record IsFirst (id : ℕ) (bytes : List ℕ) (v : FileOutline) (h : Header) 
   pub small : too_large h ≡ None
 
 -- the first of those that the outline has
-first_listed : (id before : ℕ) (bytes : List ℕ) (v : FileOutline) → IsHeld id → (of : Outlines before bytes v) → first_in id v ≡ first_of id of.outlined.list
-first_listed id before bytes v held of =
+first_listed : (id before : ℕ) (bytes : List ℕ) (v : FileOutline) → (id == CLUSTER) ≡ false → (of : Outlines before bytes v) → first_in id v ≡ first_of id of.outlined.list
+first_listed id before bytes v other of =
     ap (λ (w : FileOutline). first_in id w) of.shows
-    ∙ cond-false (id == CLUSTER) (first_of CLUSTER of.outlined.list) (first_of id (others_of of.outlined.list)) held.other
-    ∙ first_in-others id of.outlined.list held.other
+    ∙ cond-false (id == CLUSTER) (first_of CLUSTER of.outlined.list) (first_of id (others_of of.outlined.list)) other
+    ∙ first_in-others id of.outlined.list other
 
 -- is that of the Segment
-first_same : (id before : ℕ) (bytes : List ℕ) (v : FileOutline) → IsHeld id → (of : Outlines before bytes v) → first_in id v ≡ first_of id (segment_run bytes v.segment).list
-first_same id before bytes v held of =
-    first_listed id before bytes v held of ∙ ap (first_of id) of.list
+pub first_same : (id before : ℕ) (bytes : List ℕ) (v : FileOutline) → (id == CLUSTER) ≡ false → (of : Outlines before bytes v) → first_in id v ≡ first_of id (segment_run bytes v.segment).list
+first_same id before bytes v other of =
+    first_listed id before bytes v other of ∙ ap (first_of id) of.list
     ∙ ap (λ (w : FileOutline). first_of id (segment_run bytes w.segment).list) (sym of.shows)
 
 pub IsFirst-shown : (id before : ℕ) (bytes : List ℕ) (v : FileOutline) (h : Header) → IsHeld id → outline_in before bytes ≡ Ok v → first_in id v ≡ Some h → IsFirst id bytes v h
 IsFirst-shown id before bytes v h held outline found =
     let of = Outlines-shown before bytes v outline in
     let o = of.outlined in
-    let first : first_of id o.list ≡ Some h = sym (first_listed id before bytes v held of) ∙ found in
+    let first : first_of id o.list ≡ Some h = sym (first_listed id before bytes v held.other of) ∙ found in
     let small = small_first id before [] o.list h held.described (outline_of-limits before bytes o of.is) first in
     record {
-      first = sym (first_same id before bytes v held of) ∙ found;
+      first = sym (first_same id before bytes v held.other of) ∙ found;
       own = small.0;
       small = limited h small.0 small.1;
     }
@@ -122,7 +129,7 @@ IsFirst-shown id before bytes v h held outline found =
 
 -- there is none
 pub first_tree-none : (id before : ℕ) (bytes : List ℕ) (v : FileOutline) → IsHeld id → outline_in before bytes ≡ Ok v → first_in id v ≡ None → first_tree id bytes v.segment ≡ Ok None
-first_tree-none id before bytes v held outline found = ap (tree_at bytes) (sym (first_same id before bytes v held (Outlines-shown before bytes v outline)) ∙ found)
+first_tree-none id before bytes v held outline found = ap (tree_at bytes) (sym (first_same id before bytes v held.other (Outlines-shown before bytes v outline)) ∙ found)
 
 -- there is one
 pub first_tree-some : (id : ℕ) (bytes : List ℕ) (v : FileOutline) (h : Header) (body : List ℕ) → IsFirst id bytes v h → body ≡ body_of bytes h → first_tree id bytes v.segment ≡ and_then (tree_of id h.offset body h.body MOST_NODES) (λ (tree : Node). Ok (Some tree))
@@ -146,13 +153,16 @@ scale_of-first : (bytes : List ℕ) (first : Option Header) (info : Option Node)
 scale_of-first bytes None info is = let same : None ≡ info = cc in ap scale_of_info (sym same)
 scale_of-first bytes (Some h) info is = scale_of-tree bytes h (info_tree bytes h) info is
 
-pub file_records-scale : (bytes : List ℕ) (segment : Header) (r : Records) → file_records bytes segment ≡ Ok r → scale_of_info r.info ≡ file_scale bytes segment
+pub file_records-scale : (bytes : List ℕ) (segment : Header) (r : FileRecords) → file_records bytes segment ≡ Ok r → scale_of_info r.info ≡ file_scale bytes segment
 unfolding file_scale
 file_records-scale bytes segment r is =
     let info = and_then-ok (and_then (first_tree INFO bytes segment) good_info) _ r is in
     let tracks = and_then-ok (and_then (first_tree TRACKS bytes segment) (good_tracks segment)) _ r info.1.1 in
-    let made : record { info = info.0; tracks = tracks.0 } ≡ r = cc (tracks.1.1) in
-    ap (λ (each : Records). scale_of_info each.info) (sym made) ∙ scale_of-first bytes (first_info bytes segment) info.0 info.1.0
+    let attached = and_then-ok (first_attached bytes segment) _ r tracks.1.1 in
+    let chapters = and_then-ok (first_tree CHAPTERS bytes segment) _ r attached.1.1 in
+    let tags = and_then-ok (first_tree TAGS bytes segment) _ r chapters.1.1 in
+    let made : record { info = info.0; tracks = tracks.0; attachments = attached.0; chapters = chapters.0; tags = tags.0 } ≡ r = cc (tags.1.1) in
+    ap (λ (each : FileRecords). scale_of_info each.info) (sym made) ∙ scale_of-first bytes (first_info bytes segment) info.0 info.1.0
 
 -- ---- the tracks
 

@@ -1,9 +1,10 @@
--- The records of a file: RFC 9559, sections 5.1.2 (Info Element) and 5.1.4 (Tracks Element). What refuses a file, and the order, are this project's.
-use Rattle.std.specs.Prelude.{◌≡◌, ⊤, ℕ, ◌==◌, true, false, List, Option, Some, None, IfSome, Result, Ok, Err}
+-- The records of a file: RFC 9559, sections 5.1.2 (Info Element), 5.1.4 (Tracks Element), 5.1.6 (Attachments Element), 5.1.7 (Chapters Element) and 5.1.8 (Tags Element). What refuses a file, and the order, are this project's.
+use Rattle.std.specs.Prelude.{◌≡◌, ⊤, ℕ, ◌==◌, true, false, List, map, Option, Some, None, IfSome, Result, Ok, Err}
 use Rattle.std.specs.List.{All}
-use Rattle.mkv_schema.specs.declared.ids.TheConstants.{CLUSTER, INFO, TRACKS}
+use Rattle.mkv_schema.specs.declared.ids.TheConstants.{CHAPTERS, CLUSTER, INFO, TAGS, TRACKS}
 use Rattle.mkv_values.specs.declared.damage.Damage.{Damage}
 use Rattle.mkv_values.specs.declared.damage.Kind.TheVariants.{NoTracks}
+use Rattle.mkv_values.specs.declared.outside.FileId.{FileId}
 use Rattle.matroska_format.specs.declared.element.Header.{Header}
 use Rattle.matroska_format.specs.Element.{damage}
 use Rattle.mkv_schema.specs.Schema.{is_master}
@@ -23,6 +24,8 @@ use Rattle.track_records.specs.Track.{track_of, tracks_of}
 use Rattle.track_records.specs.declared.track.Track.{Track}
 use Rattle.meta_format.specs.Info.{info_refusal, scale_of}
 use Rattle.meta_format.specs.declared.scale.TheConstants.{DEFAULT_SCALE}
+use Rattle.attachment_reading.specs.Walk.{IsAttachedIn}
+use Rattle.file_records.specs.Attached.{AttachedFile, first_attached, in_file}
 use Rattle.file_records.specs.declared.records.Records.{Records}
 
 -- An Element of this ID is a master of level 1, other than a Cluster, of which at most 16 MiB are read.
@@ -51,12 +54,24 @@ abbrev pub good_tracks : Header → Option Node → Result (List Track) Damage
 good_tracks segment None = Err (damage NoTracks 0 segment.offset)
 good_tracks segment (Some tracks) = tracks_of tracks
 
--- the records of a content with this Segment, or what refuses it: Info, and then Tracks
-abbrev pub file_records : List ℕ → Header → Result Records Damage
+-- What describes a file: its first Info, the tracks of its first Tracks, the attached files of its first Attachments, its
+-- first Chapters and its first Tags.
+pub record FileRecords : Type 0 where
+  pub info : Option Node
+  pub tracks : List Track
+  pub attachments : List AttachedFile
+  pub chapters : Option Node
+  pub tags : Option Node
+
+-- the records of a content with this Segment, or what refuses it: Info, Tracks, Attachments, Chapters, and then Tags
+abbrev pub file_records : List ℕ → Header → Result FileRecords Damage
 file_records bytes segment =
     and_then (and_then (first_tree INFO bytes segment) good_info) (λ info.
     and_then (and_then (first_tree TRACKS bytes segment) (good_tracks segment)) (λ tracks.
-    Ok (record { info = info; tracks = tracks })))
+    and_then (first_attached bytes segment) (λ attachments.
+    and_then (first_tree CHAPTERS bytes segment) (λ chapters.
+    and_then (first_tree TAGS bytes segment) (λ tags.
+    Ok (record { info = info; tracks = tracks; attachments = attachments; chapters = chapters; tags = tags }))))))
 
 -- nanoseconds a tick of a file whose first Info this is
 abbrev pub scale_of_info : Option Node → ℕ
@@ -69,6 +84,23 @@ ReadsAs found (Ok x) = found ≡ Ok x
 ReadsAs found (Err (outline_end.Refused d)) = found ≡ Err d
 ReadsAs found (Err outline_end.ReadFault) = ⊤
 ReadsAs found (Err outline_end.Memory) = ⊤
+
+-- what was read of a file
+abbrev pub described_by : Records → FileRecords
+described_by r = record {
+  info = r.info;
+  tracks = r.tracks;
+  attachments = map in_file r.attachments;
+  chapters = r.chapters;
+  tags = r.tags;
+}
+
+-- Records were read so, or this refuses the file; a read may fail, and there may be no memory.
+abbrev pub ReadsRecords : Result FileRecords Damage → Result Records OutlineEnd → Type 0
+ReadsRecords found (Ok r) = found ≡ Ok (described_by r)
+ReadsRecords found (Err (outline_end.Refused d)) = found ≡ Err d
+ReadsRecords found (Err outline_end.ReadFault) = ⊤
+ReadsRecords found (Err outline_end.Memory) = ⊤
 
 -- ---- what was read
 
@@ -84,7 +116,10 @@ pub record AreRead (tracks : List Track) : Type 0 where
   pub each : All (λ (t : Track). IsTrack t.entry) tracks
   pub room : All (λ (t : Track). HasRoom t.entry) tracks
 
--- The records are such as nothing refuses.
-pub record AreGood (r : Records) : Type 0 where
+-- The records of a file of so many octets are such as nothing refuses.
+pub record AreGood (file : FileId) (total : ℕ) (r : Records) : Type 0 where
   pub info : IfSome r.info IsGoodInfo
   pub tracks : AreRead r.tracks
+  pub attachments : All (IsAttachedIn file total) r.attachments
+  pub chapters : IfSome r.chapters (IsSoundOf CHAPTERS)
+  pub tags : IfSome r.tags (IsSoundOf TAGS)

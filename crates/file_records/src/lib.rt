@@ -1,8 +1,10 @@
 #![tactic(auto)]
 
-//! The records of a file: what stands before its blocks and describes them (RFC 9559, sections 5.1.2, Info
-//! Element, and 5.1.4, Tracks Element), or the first thing that refuses it.
+//! The records of a file: what describes it besides its blocks (RFC 9559, sections 5.1.2, Info Element, 5.1.4,
+//! Tracks Element, 5.1.6, Attachments Element, 5.1.7, Chapters Element, and 5.1.8, Tags Element), or the first
+//! thing that refuses it.
 
+mod first_attachments;
 mod first_tree;
 mod records;
 

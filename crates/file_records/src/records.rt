@@ -5,15 +5,18 @@ ghost use Rattle.mkv_schema.specs.declared.ids.TheConstants.{INFO as INFO_ID, TR
 ghost use Rattle.mkv_io.specs.Faults.{HasCause};
 ghost use Rattle.mkv_io.specs.Sources.{IfTold, IsLive, file_size};
 ghost use Rattle.tree_format.specs.Standing.{IsSoundOf};
+ghost use Rattle.attachment_reading.specs.declared.limits.TheConstants.{MOST_OF_ATTACHMENTS};
 ghost use Rattle.element_reader.specs.Outline.{is_outline_fault, outline_in};
-ghost use Rattle.file_records.specs.Records.{AreGood, AreRead, IsGoodInfo, ReadsAs, file_records, good_info, good_tracks, scale_of_info};
+ghost use Rattle.file_records.specs.Records.{AreGood, AreRead, IsGoodInfo, ReadsAs, ReadsRecords, file_records, good_info, good_tracks, scale_of_info};
 
+use crate::first_attachments::first_attachments;
 use crate::first_tree::first_tree;
+use attachment_reading::Attachment;
 use ebml_tree::{Tree, TreeEnd};
 use element_reader::{Header, Outline, OutlineEnd};
 use meta_records::{DEFAULT_SCALE, read_info};
 use mkv_io::Reads;
-use mkv_schema::ids::{INFO, TRACKS};
+use mkv_schema::ids::{CHAPTERS, INFO, TAGS, TRACKS};
 use mkv_values::{Damage, FileId, Kind, List};
 use std::alloc::Global;
 use track_records::{Track, read_tracks};
@@ -25,11 +28,18 @@ pub struct Records {
     pub info: Option<Tree>,
     /// The tracks of its first Tracks.
     pub tracks: List<Track>,
+    /// The attached files of its first Attachments, whose data stay in the file.
+    pub attachments: List<Attachment>,
+    /// Its first Chapters, if it has one.
+    pub chapters: Option<Tree>,
+    /// Its first Tags, if it has one.
+    pub tags: Option<Tree>,
 }
 
-/// The records of a file with this outline, or the first thing that refuses them: of Info and then of Tracks, first
-/// what is wrong inside, and then a value that is refused. A file without Tracks is refused. Earlier inputs may have
-/// held any number of octets when the outline was read.
+/// The records of a file with this outline, or the first thing that refuses them: of Info, Tracks, Attachments, Chapters
+/// and Tags, in this order, first what is wrong inside, and then a value that is refused. A file without Tracks is
+/// refused. Earlier inputs may have held any number of octets when the outline was read.
+#[tactic(auto, using(crate::proofs::RecordsLemmas::held))]
 pub fn read_records<R: Reads>(
     alloc: Global,
     outline: &Outline,
@@ -39,17 +49,30 @@ pub fn read_records<R: Reads>(
     requires live { IsLive R.Reads src.old file }
     requires whole { outline.now.total ≡ file_size R.Reads src.old file }
     ensures exact { IfTold R.Reads src.old file (λ bytes. (held : ℕ) → outline_in held bytes ≡ Ok outline.now
-        → ReadsAs (file_records bytes outline.now.segment) result) }
-    ensures good { IfOk result AreGood }
+        → ReadsRecords (file_records bytes outline.now.segment) result) }
+    ensures good { IfOk result (AreGood file outline.now.total) }
     ensures standing { R.standing src.new ≡ R.standing src.old }
     ensures cause { HasCause is_outline_fault (R.reading_faults src.old) (R.reading_faults src.new) result }
-    ensures octets { R.octets_read src.new ≤ R.octets_read src.old + 2 * file_size R.Reads src.old file }
+
+    // Info, Tracks, Chapters and Tags are each read once, and of Attachments no data.
+    ensures octets { R.octets_read src.new ≤ R.octets_read src.old + 20 * file_size R.Reads src.old file }
+    ensures few { R.octets_read src.new
+        ≤ R.octets_read src.old + (4 * file_size R.Reads src.old file + 2 * MOST_OF_ATTACHMENTS) }
 {
     let info = first_tree(alloc, outline, src, file, INFO)?;
     let info = good_info(info)?;
     let tracks = first_tree(alloc, outline, src, file, TRACKS)?;
     let tracks = good_tracks(alloc, &outline.segment(), tracks)?;
-    Ok(Records { info, tracks })
+    let attachments = first_attachments(alloc, outline, src, file)?;
+    let chapters = first_tree(alloc, outline, src, file, CHAPTERS)?;
+    let tags = first_tree(alloc, outline, src, file, TAGS)?;
+    Ok(Records {
+        info,
+        tracks,
+        attachments,
+        chapters,
+        tags,
+    })
 }
 
 /// Nanoseconds a tick of a file whose first Info this is.

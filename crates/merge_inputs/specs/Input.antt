@@ -1,17 +1,21 @@
 -- What is read of an input of a merge before its blocks.
-use Rattle.std.specs.Prelude.{◌≡◌, ◌≤◌, ⊤, true, ℕ, Bool, List, length, Option, Some, None, option_map, Result, Ok, Err}
+use Rattle.std.specs.Prelude.{◌≡◌, ◌≤◌, ⊤, true, ℕ, Bool, List, length, map, Option, Some, None, IfSome, option_map, Result, Ok, Err}
 use Rattle.std.specs.List.{All}
 use Rattle.std.specs.Option.{option_or}
+use Rattle.mkv_schema.specs.declared.ids.TheConstants.{CHAPTERS, TAGS}
 use Rattle.mkv_values.specs.declared.damage.Damage.{Damage}
 use Rattle.mkv_io.specs.LiveFiles.{LiveFiles}
 use Rattle.matroska_format.specs.declared.element.Header.{Header}
 use Rattle.matroska_format.specs.Outline.{Outlined, described, outline_of}
+use Rattle.tree_format.specs.Node.{Node}
+use Rattle.tree_format.specs.Standing.{IsSoundOf}
 use Rattle.block_format.specs.Elements.{with_limits}
 use Rattle.block_format.specs.Events.{Event, events_of}
-use Rattle.file_records.specs.Records.{file_records, scale_of_info}
-use Rattle.file_records.specs.declared.records.Records.{Records}
+use Rattle.attachment_reading.specs.Walk.{IsAttachedIn}
+use Rattle.file_records.specs.Attached.{AttachedFile, in_file}
+use Rattle.file_records.specs.Records.{FileRecords, file_records, scale_of_info}
 use Rattle.merge_words.specs.declared.files.FileWords.{FileWords}
-use Rattle.merge_inputs.specs.Select.{not_built}
+use Rattle.merge_inputs.specs.Select.{keeps_attachments, keeps_chapters, keeps_tags, kept_list, kept_one, not_built}
 use Rattle.merge_inputs.specs.Taken.{IsTaken, first_unusable, taken_from}
 use Rattle.merge_inputs.specs.Title.{title_of_info}
 use Rattle.merge_inputs.specs.declared.taken.TakenTrack.{TakenTrack}
@@ -22,7 +26,7 @@ use Rattle.merge_inputs.specs.declared.input.InputRefusal.{InputRefusal}
 use Rattle.merge_inputs.specs.declared.input.InputRefusal.TheVariants.{Damaged, NotBuilt}
 
 -- The Segment of a file, nanoseconds a tick, its title; the octets of every Info, Tracks, Chapters and Tags; how many
--- tracks it has, and those that are taken.
+-- tracks it has, and those that are taken; and what is kept of its attached files, Chapters and Tags.
 pub record InputRead : Type 0 where
   pub segment : Header
   pub scale : ℕ
@@ -30,6 +34,9 @@ pub record InputRead : Type 0 where
   pub held : ℕ
   pub count : ℕ
   pub taken : List TakenTrack
+  pub attachments : List AttachedFile
+  pub chapters : Option Node
+  pub tags : Option Node
 
 -- ---- what is read of a content
 
@@ -49,14 +56,17 @@ abbrev pub refusal_of : FileWords → Bool → List Header → List TakenTrack �
 refusal_of words webm list taken = option_or (option_map Damaged (first_unusable taken)) (option_map NotBuilt (not_built words webm list))
 
 -- what is read of a file with this outline and these records
-abbrev pub input_with : FileWords → Outlined → Records → InputRead
-input_with words o r = record {
+abbrev pub input_with : FileWords → Bool → Outlined → FileRecords → InputRead
+input_with words webm o r = record {
   segment = o.segment;
   scale = scale_of_info r.info;
   title = title_of_info r.info;
   held = described o.list;
   count = length r.tracks;
   taken = taken_from words 0 r.tracks;
+  attachments = kept_list (keeps_attachments words webm) r.attachments;
+  chapters = kept_one (keeps_chapters words webm) r.chapters;
+  tags = kept_one (keeps_tags words) r.tags;
 }
 
 -- what is read of a content, or the first thing that refuses it: its outline, where earlier inputs have held so many octets;
@@ -64,8 +74,8 @@ input_with words o r = record {
 abbrev pub input_of : FileWords → Bool → ℕ → List ℕ → Result InputRead InputRefusal
 input_of words webm held bytes =
     found_then (outline_of held bytes) (λ (o : Outlined).
-    found_then (file_records bytes o.segment) (λ (r : Records).
-    unless_refused (refusal_of words webm o.list (taken_from words 0 r.tracks)) (input_with words o r)))
+    found_then (file_records bytes o.segment) (λ (r : FileRecords).
+    unless_refused (refusal_of words webm o.list (taken_from words 0 r.tracks)) (input_with words webm o r)))
 
 -- ---- an input that was read
 
@@ -78,6 +88,9 @@ read_in i = record {
   held = i.outline.value.held;
   count = i.count;
   taken = i.taken;
+  attachments = map in_file i.attachments;
+  chapters = i.chapters;
+  tags = i.tags;
 }
 
 -- the blocks and damages of an input whose file has this content
@@ -91,9 +104,13 @@ ReadsInput found (Err (input_end.Refused why)) = found ≡ Err why
 ReadsInput found (Err input_end.ReadFault) = ⊤
 ReadsInput found (Err input_end.Memory) = ⊤
 
--- The file is live and has the length of its outline, a tick has some length, and the tracks are such as can be taken.
+-- The file is live and has the length of its outline, a tick has some length, and the tracks are such as can be taken; the
+-- data of its attached files stand in it, and its Chapters and Tags can be read again.
 pub record IsInput (files : LiveFiles) (i : Input) : Type 0 where
   pub live : files.live i.file.n ≡ true
   pub size : files.size i.file.n ≡ i.outline.value.total
   pub scale : 1 ≤ i.scale
   pub taken : All IsTaken i.taken
+  pub attachments : All (IsAttachedIn i.file i.outline.value.total) i.attachments
+  pub chapters : IfSome i.chapters (IsSoundOf CHAPTERS)
+  pub tags : IfSome i.tags (IsSoundOf TAGS)

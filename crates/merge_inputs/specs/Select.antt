@@ -1,5 +1,5 @@
--- Which tracks of a file the words of a merge take (RFC 9559, section 5.1.4, Tracks Element), and what isn't taken over yet.
-use Rattle.std.specs.Prelude.{ℕ, ◌==◌, Bool, true, false, not, ◌&&◌, ◌||◌, if◌then◌else◌, List, Option, Some, None, is_some}
+-- Which tracks of a file the words of a merge take (RFC 9559, section 5.1.4, Tracks Element), what they keep besides, and what isn't taken over yet.
+use Rattle.std.specs.Prelude.{ℕ, ◌==◌, Bool, true, false, not, ◌&&◌, ◌||◌, if◌then◌else◌, List, [], Option, Some, None, is_some}
 use Rattle.std.specs.List.{list_any}
 use Rattle.std.specs.Option.{option_or}
 use Rattle.mkv_schema.specs.declared.ids.TheConstants.{ATTACHMENTS, CHAPTERS, TAGS}
@@ -31,17 +31,38 @@ is_taken words id type =
     if type == SUBTITLE_TRACK then takes words.subtitles id else
     false
 
+-- ---- what is kept besides tracks
+
+-- attached files and chapters, unless the words leave them out; WebM has neither
+abbrev pub keeps_attachments : FileWords → Bool → Bool
+keeps_attachments words webm = words.attachments && not webm
+
+abbrev pub keeps_chapters : FileWords → Bool → Bool
+keeps_chapters words webm = words.chapters && not webm
+
+-- tags of either kind, those of tracks and the others
+abbrev pub keeps_tags : FileWords → Bool
+keeps_tags words = words.track_tags || words.global_tags
+
+-- a list that is kept or left out, and an Element
+abbrev pub kept_list : {T : Type 0} → Bool → List T → List T
+kept_list true list = list
+kept_list false list = []
+
+abbrev pub kept_one : {T : Type 0} → Bool → Option T → Option T
+kept_one true one = one
+kept_one false one = None
+
 -- ---- what isn't taken over yet
 
 -- an ID that is wanted, if an Element of it stands in a list
 abbrev pub standing : List Header → Bool → ℕ → Option ℕ
 standing list is_wanted id = if is_wanted && is_some (first_of id list) then Some id else None
 
--- the first of Attachments, Chapters and Tags that stands in a list and that the words don't leave out; WebM has neither
--- attached files nor chapters
+-- the first of Attachments, Chapters and Tags that stands in a list and is kept
 abbrev pub not_built : FileWords → Bool → List Header → Option ℕ
 not_built words webm list =
     option_or (option_or
-    (standing list (words.attachments && not webm) ATTACHMENTS)
-    (standing list (words.chapters && not webm) CHAPTERS))
-    (standing list (words.track_tags || words.global_tags) TAGS)
+    (standing list (keeps_attachments words webm) ATTACHMENTS)
+    (standing list (keeps_chapters words webm) CHAPTERS))
+    (standing list (keeps_tags words) TAGS)

@@ -4,6 +4,8 @@ ghost use Rattle.std.specs.Prelude.{◌≡◌};
 ghost use Rattle.merge_inputs.specs.declared.input.InputEnd.TheVariants as input_end;
 
 use crate::taken::TakenTrack;
+use attachment_reading::Attachment;
+use ebml_tree::Tree;
 use element_reader::{Outline, OutlineEnd};
 use mkv_values::{Damage, FileId, List, Text};
 use std::alloc::{AllocError, AllocFailed};
@@ -22,6 +24,12 @@ pub struct Input {
     pub count: usize,
     /// The tracks that are taken, in the order of the file's.
     pub taken: List<TakenTrack>,
+    /// The attached files that are kept, whose data stay in the file.
+    pub attachments: List<Attachment>,
+    /// Its first Chapters, if it has one that is kept.
+    pub chapters: Option<Tree>,
+    /// Its first Tags, if it has one of which something is kept.
+    pub tags: Option<Tree>,
 }
 
 /// What refuses an input.

@@ -4,6 +4,7 @@
 //! words take of it (RFC 9559, section 5.1.4, Tracks Element); or what refuses it.
 
 mod input;
+mod kept;
 pub mod laws;
 mod reading;
 mod select;

@@ -14,7 +14,8 @@ ghost use Rattle.merge_inputs.specs.Input.{IsInput, ReadsInput, events_in, input
 ghost use Rattle.merge_inputs.specs.Taken.{first_unusable};
 
 use crate::input::{Input, InputEnd, InputRefusal};
-use crate::select::not_built;
+use crate::kept::{kept_files, kept_tree};
+use crate::select::{keeps_attachments, keeps_chapters, keeps_tags, not_built};
 use crate::taken::{TakenTrack, first_unusable, taken_of};
 use crate::title::title_of;
 use element_reader::Outline;
@@ -47,10 +48,16 @@ pub fn read_input<R: Reads>(
         events_in (read_in input) bytes ≡ file_events true bytes input.outline.value.segment)) }
     ensures standing { R.standing src.new ≡ R.standing src.old }
     ensures cause { HasCause is_input_fault (R.reading_faults src.old) (R.reading_faults src.new) result }
-    ensures octets { R.octets_read src.new ≤ R.octets_read src.old + 6 * file_size R.Reads src.old file }
+    ensures octets { R.octets_read src.new ≤ R.octets_read src.old + 24 * file_size R.Reads src.old file }
 {
     let outline = Outline::read_after(alloc, src, file, held)?;
-    let Records { info, tracks } = read_records(alloc, &outline, src, file)?;
+    let Records {
+        info,
+        tracks,
+        attachments,
+        chapters,
+        tags,
+    } = read_records(alloc, &outline, src, file)?;
     let count = tracks.len();
     let taken = taken_of(alloc, words, tracks)?;
     if let Some(refusal) = refusal_of(words, webm, &outline, taken.as_slice()) {
@@ -63,6 +70,9 @@ pub fn read_input<R: Reads>(
         title: title_of(alloc, &info)?,
         count,
         taken,
+        attachments: kept_files(alloc, keeps_attachments(words, webm), attachments),
+        chapters: kept_tree(keeps_chapters(words, webm), chapters),
+        tags: kept_tree(keeps_tags(words), tags),
     })
 }
 

@@ -1,9 +1,9 @@
-//! Which tracks of a file the words take, and what they leave out besides.
+//! Which tracks of a file the words take, and what they keep besides.
 
 ghost use Rattle.std.specs.Prelude.{◌≡◌, ℕ, List, Ok};
 ghost use Rattle.matroska_format.specs.Outline.{segment_run};
 ghost use Rattle.element_reader.specs.Outline.{outline_in};
-ghost use Rattle.merge_inputs.specs.Select.{is_taken, not_built, standing, takes};
+ghost use Rattle.merge_inputs.specs.Select.{is_taken, keeps_attachments, keeps_chapters, keeps_tags, not_built, standing, takes};
 
 use crate::track_type::{AUDIO_TRACK, SUBTITLE_TRACK, VIDEO_TRACK};
 use element_reader::Outline;
@@ -35,17 +35,35 @@ fn takes(select: &Select, id: u64) -> bool
     }
 }
 
-/// The first of Attachments, Chapters and Tags that a file has and that the words don't leave out.
+/// Whether attached files are kept. WebM has none.
+pub fn keeps_attachments(words: &FileWords, webm: bool) -> bool
+    ensures { result ≡ keeps_attachments words.now webm }
+{
+    words.attachments && !webm
+}
+
+/// Whether chapters are kept. WebM has none.
+pub fn keeps_chapters(words: &FileWords, webm: bool) -> bool
+    ensures { result ≡ keeps_chapters words.now webm }
+{
+    words.chapters && !webm
+}
+
+/// Whether tags of either kind are kept, those of tracks and the others.
+pub fn keeps_tags(words: &FileWords) -> bool
+    ensures { result ≡ keeps_tags words.now }
+{
+    words.track_tags || words.global_tags
+}
+
+/// The first of Attachments, Chapters and Tags that a file has and that is kept.
 pub fn not_built(words: &FileWords, webm: bool, outline: &Outline) -> Option<u32>
     ensures { (held : ℕ) (bytes : List ℕ) → outline_in held bytes ≡ Ok outline.now
         → result ≡ not_built words.now webm (segment_run bytes outline.now.segment).list }
 {
-    let attachments = words.attachments && !webm;
-    let chapters = words.chapters && !webm;
-    let tags = words.track_tags || words.global_tags;
-    standing(outline, attachments, ATTACHMENTS)
-        .or(standing(outline, chapters, CHAPTERS))
-        .or(standing(outline, tags, TAGS))
+    standing(outline, keeps_attachments(words, webm), ATTACHMENTS)
+        .or(standing(outline, keeps_chapters(words, webm), CHAPTERS))
+        .or(standing(outline, keeps_tags(words), TAGS))
 }
 
 /// An ID that is wanted, if an Element of it stands at level 1.

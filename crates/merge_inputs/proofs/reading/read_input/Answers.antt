@@ -1,4 +1,4 @@
-use Rattle.std.proofs.Common.{ℕ, true, List, sym, ◌∙◌, ap, subst}
+use Rattle.std.proofs.Common.{ℕ, Bool, true, List, map, Option, IfSome, sym, ◌∙◌, ap, subst}
 use Rattle.std.specs.List.{All}
 use Rattle.matroska_format.specs.Outline.{segment_run}
 use Rattle.element_reader.specs.Outline.{FileOutline}
@@ -7,11 +7,18 @@ use Rattle.block_format.specs.Events.{events_of}
 use Rattle.file_blocks.specs.File.{file_events}
 use Rattle.track_records.specs.Sound.{IsEntry}
 use Rattle.track_records.specs.declared.track.Track.{Track}
+use Rattle.tree_format.specs.Node.{Node}
+use Rattle.tree_format.specs.Standing.{IsSoundOf}
+use Rattle.mkv_schema.specs.declared.ids.TheConstants.{CHAPTERS, TAGS}
+use Rattle.attachment_reading.specs.Walk.{IsAttachedIn}
+use Rattle.file_records.specs.Attached.{in_file}
+use Rattle.file_records.specs.Records.{described_by}
 use Rattle.file_records.proofs.RecordsLemmas.{file_records-scale}
 use Rattle.merge_inputs.specs.Input.{refusal_of}
+use Rattle.merge_inputs.specs.Select.{kept_list, kept_one}
 use Rattle.merge_inputs.specs.Taken.{first_unusable}
 use Rattle.merge_inputs.specs.declared.taken.TakenTrack.{TakenTrack}
-use Rattle.merge_inputs.proofs.InputLemmas.{input_of-all, input_of-refused, read-same}
+use Rattle.merge_inputs.proofs.InputLemmas.{input_of-all, input_of-refused, kept-all, kept-files, kept-some, read-same}
 use Rattle.merge_inputs.proofs.TakenLemmas.{AreTaken-read, taken-tracks}
 use Rattle.merge_inputs.proofs.reading.read_input.Goals as goal
 
@@ -26,7 +33,7 @@ pub returns-in-Some-clause-exact : goal.returns-in-Some-clause-exact
 returns-in-Some-clause-exact g c = λ bytes told.
     let outline = c.in_ok-outline.ensures.exact bytes told in
     let now = ap (λ s. (g.R.Reads.files s).content c.args.file.n) c.read_after.ensures.same.standing ∙ told in
-    input_of-refused c.args.words.now c.args.webm c.args.held bytes c.in_ok-outline.outline c.in_ok-info.field-0 c.in-Some.refusal outline
+    input_of-refused c.args.words.now c.args.webm c.args.held bytes c.in_ok-outline.outline (described_by c.in_ok-info.field-0) c.in-Some.refusal outline
     (c.in_ok-info.ensures.exact bytes now c.args.held outline)
     (ap (λ (taken : List TakenTrack). refusal_of c.args.words.now c.args.webm (segment_run bytes c.in_ok-outline.outline.segment).list taken) (sym (c.as_slice.ensures ∙ c.in_ok-taken.ensures))
     ∙ sym (c.refusal_of.ensures.exact c.args.held bytes outline) ∙ c.in-Some.is)
@@ -36,11 +43,15 @@ pub returns-clause-exact : goal.returns-clause-exact
 returns-clause-exact g c = λ bytes told.
     let outline = c.in_ok-outline.ensures.exact bytes told in
     let now = ap (λ s. (g.R.Reads.files s).content c.args.file.n) c.read_after.ensures.same.standing ∙ told in
-    input_of-all c.args.words.now c.args.webm c.args.held bytes c.in_ok-outline.outline c.in_ok-info.field-0 _ outline
+    input_of-all c.args.words.now c.args.webm c.args.held bytes c.in_ok-outline.outline (described_by c.in_ok-info.field-0) _ outline
     (c.in_ok-info.ensures.exact bytes now c.args.held outline)
     (ap (λ (taken : List TakenTrack). refusal_of c.args.words.now c.args.webm (segment_run bytes c.in_ok-outline.outline.segment).list taken) (sym (c.as_slice.ensures ∙ c.in_ok-taken.ensures))
     ∙ sym (c.refusal_of.ensures.exact c.args.held bytes outline) ∙ c.in_default.is)
-    (read-same c.in_ok-new.field-0.value c.in_ok-outline.outline c.in_ok-new.ensures.ok c.scale_of.ensures.value c.in_ok-title_of.ensures c.len-count.ensures c.in_ok-taken.ensures)
+    (read-same c.in_ok-new.field-0.value c.in_ok-outline.outline c.in_ok-new.ensures.ok c.scale_of.ensures.value c.in_ok-title_of.ensures c.len-count.ensures c.in_ok-taken.ensures
+    (ap (map in_file) c.kept_files.ensures ∙ kept-files c.keeps_attachments.result c.in_ok-info.field-0.attachments
+    ∙ ap (λ (is_kept : Bool). kept_list is_kept (map in_file c.in_ok-info.field-0.attachments)) c.keeps_attachments.ensures)
+    (c.kept_tree.ensures ∙ ap (λ (is_kept : Bool). kept_one is_kept c.in_ok-info.field-0.chapters) c.keeps_chapters.ensures)
+    (c.kept_tree-2.ensures ∙ ap (λ (is_kept : Bool). kept_one is_kept c.in_ok-info.field-0.tags) c.keeps_tags.ensures))
 
 -- the file is live as before, and the tracks can be used
 pub returns-clause-input : goal.returns-clause-input
@@ -52,6 +63,12 @@ returns-clause-input g c =
       scale = c.scale_of.ensures.some;
       taken = AreTaken-read c.args.words.now c.in_ok-info.field-0.tracks c.in_ok-taken.taken c.in_ok-taken.ensures c.in_ok-info.ensures.good.tracks c.requires.delays
           (ap first_unusable (sym c.as_slice.ensures) ∙ c.in_default.ensures.usable);
+      attachments =
+          subst (λ (o : FileOutline). All (IsAttachedIn c.args.file o.total) c.kept_files.result) (sym c.in_ok-new.ensures.ok)
+          (subst (All (IsAttachedIn c.args.file c.in_ok-outline.outline.total)) (sym c.kept_files.ensures)
+          (kept-all (IsAttachedIn c.args.file c.in_ok-outline.outline.total) _ _ c.in_ok-info.ensures.good.attachments));
+      chapters = subst (λ (tree : Option Node). IfSome tree (IsSoundOf CHAPTERS)) (sym c.kept_tree.ensures) (kept-some (IsSoundOf CHAPTERS) _ _ c.in_ok-info.ensures.good.chapters);
+      tags = subst (λ (tree : Option Node). IfSome tree (IsSoundOf TAGS)) (sym c.kept_tree-2.ensures) (kept-some (IsSoundOf TAGS) _ _ c.in_ok-info.ensures.good.tags);
     }
 
 -- the Info that was read gives the length of a tick
@@ -61,5 +78,5 @@ returns-clause-events g c = λ bytes told.
     let now = ap (λ s. (g.R.Reads.files s).content c.args.file.n) c.read_after.ensures.same.standing ∙ told in
     ap (λ (o : FileOutline). events_of (with_limits c.scale_of.result) bytes o.segment) c.in_ok-new.ensures.ok
     ∙ ap (λ (scale : ℕ). events_of (with_limits scale) bytes c.in_ok-outline.outline.segment)
-    (c.scale_of.ensures.value ∙ file_records-scale bytes c.in_ok-outline.outline.segment c.in_ok-info.field-0 (c.in_ok-info.ensures.exact bytes now c.args.held outline))
+    (c.scale_of.ensures.value ∙ file_records-scale bytes c.in_ok-outline.outline.segment (described_by c.in_ok-info.field-0) (c.in_ok-info.ensures.exact bytes now c.args.held outline))
     ∙ ap (λ (o : FileOutline). file_events true bytes o.segment) (sym c.in_ok-new.ensures.ok)

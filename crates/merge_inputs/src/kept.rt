@@ -1,0 +1,23 @@
+//! What is kept of a file besides its tracks, or left out.
+
+ghost use Rattle.std.specs.Prelude.{◌≡◌};
+ghost use Rattle.merge_inputs.specs.Select.{kept_list, kept_one};
+
+use attachment_reading::Attachment;
+use ebml_tree::Tree;
+use mkv_values::List;
+use std::alloc::Global;
+
+/// Attached files, if they are kept.
+pub fn kept_files(alloc: Global, is_kept: bool, files: List<Attachment>) -> List<Attachment>
+    ensures { result ≡ kept_list is_kept files }
+{
+    if is_kept { files } else { List::new(alloc) }
+}
+
+/// A Chapters or a Tags, if it is kept.
+pub fn kept_tree(is_kept: bool, tree: Option<Tree>) -> Option<Tree>
+    ensures { result ≡ kept_one is_kept tree }
+{
+    if is_kept { tree } else { None }
+}
