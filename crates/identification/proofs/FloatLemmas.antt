@@ -8,7 +8,7 @@ use Rattle.mkv_schema.specs.declared.ids.TheConstants.{LANGUAGE_BCP47, NAME}
 use Rattle.tree_format.specs.Node.{Node}
 use Rattle.tree_format.specs.Values.{text_in}
 use Rattle.track_records.specs.declared.track.Track as tracks
-use Rattle.attachment_records.specs.declared.attachment.Attachment.{Attachment}
+use Rattle.file_records.specs.Records.{FileRecords}
 use Rattle.identification.specs.declared.tags.Scope.TheVariants.{Global, Track}
 use Rattle.identification.specs.Json.{array_of, numbered, whole, with_first}
 use Rattle.identification.specs.Texts.{text_or_empty, unless_empty}
@@ -61,12 +61,12 @@ container_none : (info : Option Node) → has_float (container_value info) ≡ f
 container_none info = neither _ _ (left_out (λ s. string s) (λ s. refl) _ (title_of info) _ refl) refl
 
 -- so its text is said to the letter
-pub no-float : (name : List ℕ) (info : Option Node) (list : List tracks.Track) (files : List Attachment) (chapters tags : Option Node) → has_float (identification name info list files chapters tags) ≡ false
+pub no-float : (name : List ℕ) (file : FileRecords) → has_float (identification name file) ≡ false
 unfolding identification
-no-float name info list files chapters tags =
-    neither _ _ (each_shown (λ k a. attachment_value k a ∷ []) (λ k a. refl) 1 files)
-    (neither _ _ (entries_none (chapter_count chapters))
-    (neither _ _ (container_none info)
-    (neither _ _ (entries_none (tag_count Global tags))
-    (neither _ _ (each_shown (track_tags tags) (tags_none tags) 0 list)
-    (neither _ _ (each_shown (λ k t. track_value k t ∷ []) (λ k t. neither _ _ (track_none k t) refl) 0 list) refl)))))
+no-float name file =
+    neither _ _ (each_shown (λ k a. attachment_value k a ∷ []) (λ k a. refl) 1 file.attachments)
+    (neither _ _ (entries_none (chapter_count file.chapters))
+    (neither _ _ (container_none file.info)
+    (neither _ _ (entries_none (tag_count Global file.tags))
+    (neither _ _ (each_shown (track_tags file.tags) (tags_none file.tags) 0 file.tracks)
+    (neither _ _ (each_shown (λ k t. track_value k t ∷ []) (λ k t. neither _ _ (track_none k t) refl) 0 file.tracks) refl)))))

@@ -73,6 +73,11 @@ numbered-next shown k i xs x done all below is was =
 pub numbered-all : {A : Type 0} (shown : ℕ → A → List Data) (k i : ℕ) (xs : List A) (done all : List Data) → length xs ≤ i → done ++ numbered shown k (drop i xs) ≡ all → done ≡ all
 numbered-all shown k i xs done all past was = sym (append-nil done) ∙ sym (ap (λ rest. done ++ numbered shown k rest) (drop_all i xs past)) ∙ was
 
+-- what is shown of what a function makes of each item
+pub numbered-map : {A B : Type 0} (shown : ℕ → B → List Data) (f : A → B) (k : ℕ) (xs : List A) → numbered shown k (map f xs) ≡ numbered (λ n x. shown n (f x)) k xs
+numbered-map shown f k [] = refl
+numbered-map shown f k (x ∷ xs) = ap (λ rest. shown k (f x) ++ rest) (numbered-map shown f (k + 1) xs)
+
 -- a value that is added is shown behind the others
 pub view-more : (before after : List Value) (value : Value) (shown : Data) → after ≡ before ++ value ∷ [] → view value ≡ shown → map view after ≡ map view before ++ shown ∷ []
 view-more before after value shown is same = ap (map view) is ∙ map-append view before (value ∷ []) ∙ ap (λ one. map view before ++ one ∷ []) same

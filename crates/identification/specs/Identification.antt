@@ -6,9 +6,7 @@ use Rattle.serde_json.specs.Data.{Data, boolean, string}
 use Rattle.serde_json.specs.Written.{compact_text}
 use Rattle.mkv_schema.specs.declared.ids.TheConstants.{TITLE}
 use Rattle.tree_format.specs.Node.{Node}
-use Rattle.track_records.specs.declared.track.Track.{Track}
-use Rattle.file_records.specs.Records.{scale_of_info}
-use Rattle.attachment_records.specs.declared.attachment.Attachment.{Attachment}
+use Rattle.file_records.specs.Records.{FileRecords, scale_of_info}
 use Rattle.identification.specs.declared.tags.Scope.TheVariants.{Global}
 use Rattle.identification.specs.Json.{given, if_there, object_of, whole}
 use Rattle.identification.specs.Texts.{text_or_empty, unless_empty}
@@ -36,19 +34,18 @@ container_value info = object_of (
     given "type" (string (codes "Matroska")) ∷
     [])
 
--- what a file of a name has that has this Info, these tracks, attached files and chapters, and these tags
-unfoldable pub identification : List ℕ → Option Node → List Track → List Attachment → Option Node → Option Node → Data
-identification name info tracks attachments chapters tags = object_of (
-    given "attachments" (attachments_value attachments) ∷
-    given "chapters" (entries_value (chapter_count chapters)) ∷
-    given "container" (container_value info) ∷
+-- what a file of a name has, of which this was read
+unfoldable pub identification : List ℕ → FileRecords → Data
+identification name file = object_of (
+    given "attachments" (attachments_value file.attachments) ∷
+    given "chapters" (entries_value (chapter_count file.chapters)) ∷
+    given "container" (container_value file.info) ∷
     given "file_name" (string name) ∷
-    given "global_tags" (entries_value (tag_count Global tags)) ∷
-    given "track_tags" (track_tags_value tags tracks) ∷
-    given "tracks" (tracks_value tracks) ∷
+    given "global_tags" (entries_value (tag_count Global file.tags)) ∷
+    given "track_tags" (track_tags_value file.tags file.tracks) ∷
+    given "tracks" (tracks_value file.tracks) ∷
     [])
 
 -- the line: the text of that value, with no blank between its parts
-abbrev pub identification_line : List ℕ → Option Node → List Track → List Attachment → Option Node → Option Node → List ℕ
-identification_line name info tracks attachments chapters tags =
-    compact_text (identification name info tracks attachments chapters tags)
+abbrev pub identification_line : List ℕ → FileRecords → List ℕ
+identification_line name file = compact_text (identification name file)

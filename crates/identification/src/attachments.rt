@@ -1,7 +1,8 @@
 //! The attached files: RFC 9559, section 5.1.6 (Attachments Element).
 
-ghost use Rattle.std.specs.Prelude.{◌≡◌, All, IfOk};
+ghost use Rattle.std.specs.Prelude.{◌≡◌, All, IfOk, map};
 ghost use Rattle.serde_json.specs.View.{view};
+ghost use Rattle.file_records.specs.Attached.{in_file};
 ghost use Rattle.identification.specs.Attachments.{attachment_value, attachments_value};
 ghost use Rattle.identification.specs.Sound.{IsAttached};
 
@@ -17,7 +18,7 @@ pub(crate) fn attachments_value(
     attachments: &[Attachment],
 ) -> Result<Value, AllocError>
     requires { All IsAttached attachments.now }
-    ensures { IfOk result (λ value. view value ≡ attachments_value attachments.now) }
+    ensures { IfOk result (λ value. view value ≡ attachments_value (map in_file attachments.now)) }
 {
     let mut values = Vec::new(alloc);
     for (index, attachment) in attachments.iter().enumerate() {
@@ -30,7 +31,7 @@ pub(crate) fn attachments_value(
 #[tactic(auto, using(crate::proofs::ValueLemmas::known))]
 fn attachment_value(alloc: Global, id: u64, attachment: &Attachment) -> Result<Value, AllocError>
     requires { IsAttached attachment.now }
-    ensures { IfOk result (λ value. view value ≡ attachment_value id attachment.now) }
+    ensures { IfOk result (λ value. view value ≡ attachment_value id (in_file attachment.now)) }
 {
     let entry = &attachment.entry;
     json!(in alloc; {

@@ -7,5 +7,5 @@ use Rattle.identification.proofs.line.identify.Goals as goal
 pub returns : goal.returns
 returns c =
     c.from_string.ensures
-    ∙ c.in_ok-to_string.ensures.text (ap has_float c.in_ok-value.ensures ∙ no-float _ _ _ _ _ _)
+    ∙ c.in_ok-to_string.ensures.text (ap has_float c.in_ok-value.ensures ∙ no-float _ _)
     ∙ ap compact_text c.in_ok-value.ensures
