@@ -12,8 +12,7 @@ use Rattle.element_reader.proofs.OutlineLemmas.{Outlines-shown, outline_of-refus
 use Rattle.block_format.specs.Elements.{with_limits}
 use Rattle.block_format.specs.Events.{Event, events_of}
 use Rattle.file_blocks.specs.File.{file_events}
-use Rattle.file_records.specs.Records.{ReadsAs, file_records, scale_of_info}
-use Rattle.file_records.specs.declared.records.Records.{Records}
+use Rattle.file_records.specs.Records.{FileRecords, ReadsRecords, file_records, scale_of_info}
 use Rattle.file_records.proofs.RecordsLemmas.{file_records-scale}
 use Rattle.track_format.specs.Encoding.{usable_prefix}
 use Rattle.track_records.specs.declared.track.Track.{Track}
@@ -58,29 +57,29 @@ module _ (f : LiveFiles) (events : List Event) (tracks : List Track) (k : ℕ) (
 
 -- what is found behind an outline
 abbrev behind : List ℕ → Outlined → FoundLanes Damage
-behind bytes o = and_then (file_records bytes o.segment) (λ (r : Records). track_lanes (file_events true bytes o.segment) r.tracks)
+behind bytes o = and_then (file_records bytes o.segment) (λ (r : FileRecords). track_lanes (file_events true bytes o.segment) r.tracks)
 
 -- an outline refuses it
 pub file-outline : (bytes : List ℕ) (d : Damage) → outline_in 0 bytes ≡ Err d → file_lanes bytes ≡ Err d
 file-outline bytes d outline = ap (λ (found : Result Outlined Damage). and_then found (behind bytes)) (outline_of-refused 0 bytes d outline)
 
 -- what is found of its records
-file-found : (bytes : List ℕ) (v : FileOutline) → outline_in 0 bytes ≡ Ok v → file_lanes bytes ≡ and_then (file_records bytes v.segment) (λ (r : Records). track_lanes (file_events true bytes v.segment) r.tracks)
+file-found : (bytes : List ℕ) (v : FileOutline) → outline_in 0 bytes ≡ Ok v → file_lanes bytes ≡ and_then (file_records bytes v.segment) (λ (r : FileRecords). track_lanes (file_events true bytes v.segment) r.tracks)
 file-found bytes v outline =
     let of = Outlines-shown 0 bytes v outline in
     ap (λ (found : Result Outlined Damage). and_then found (behind bytes)) of.is
-    ∙ ap (λ (w : FileOutline). and_then (file_records bytes w.segment) (λ (r : Records). track_lanes (file_events true bytes w.segment) r.tracks)) (sym of.shows)
+    ∙ ap (λ (w : FileOutline). and_then (file_records bytes w.segment) (λ (r : FileRecords). track_lanes (file_events true bytes w.segment) r.tracks)) (sym of.shows)
 
 -- a record refuses it
 pub file-records : (bytes : List ℕ) (v : FileOutline) (d : Damage) → outline_in 0 bytes ≡ Ok v → file_records bytes v.segment ≡ Err d → file_lanes bytes ≡ Err d
 file-records bytes v d outline records =
-    file-found bytes v outline ∙ ap (λ (found : Result Records Damage). and_then found (λ (r : Records). track_lanes (file_events true bytes v.segment) r.tracks)) records
+    file-found bytes v outline ∙ ap (λ (found : Result FileRecords Damage). and_then found (λ (r : FileRecords). track_lanes (file_events true bytes v.segment) r.tracks)) records
 
 -- nothing does
-pub file-tracks : (bytes : List ℕ) (v : FileOutline) (r : Records) (scale : ℕ) → outline_in 0 bytes ≡ Ok v → file_records bytes v.segment ≡ Ok r → scale ≡ scale_of_info r.info → track_lanes (events_of (with_limits scale) bytes v.segment) r.tracks ≡ file_lanes bytes
+pub file-tracks : (bytes : List ℕ) (v : FileOutline) (r : FileRecords) (scale : ℕ) → outline_in 0 bytes ≡ Ok v → file_records bytes v.segment ≡ Ok r → scale ≡ scale_of_info r.info → track_lanes (events_of (with_limits scale) bytes v.segment) r.tracks ≡ file_lanes bytes
 file-tracks bytes v r scale outline records is =
     ap (λ (n : ℕ). track_lanes (events_of (with_limits n) bytes v.segment) r.tracks) (is ∙ file_records-scale bytes v.segment r records)
-    ∙ sym (file-found bytes v outline ∙ ap (λ (found : Result Records Damage). and_then found (λ (each : Records). track_lanes (file_events true bytes v.segment) each.tracks)) records)
+    ∙ sym (file-found bytes v outline ∙ ap (λ (found : Result FileRecords Damage). and_then found (λ (each : FileRecords). track_lanes (file_events true bytes v.segment) each.tracks)) records)
 
 -- what is answered, where the outline refuses the file
 pub outline-refused : (f : LiveFiles) (bytes : List ℕ) (end : OutlineEnd) → IsOutline (outline_in 0 bytes) (Err end) → ReadsLanes f (file_lanes bytes) (Err end)
@@ -89,13 +88,13 @@ outline-refused f bytes outline_end.ReadFault is = tt
 outline-refused f bytes outline_end.Memory is = tt
 
 -- where its records do
-pub records-refused : (f : LiveFiles) (bytes : List ℕ) (v : FileOutline) (end : OutlineEnd) → outline_in 0 bytes ≡ Ok v → ReadsAs (file_records bytes v.segment) (Err end) → ReadsLanes f (file_lanes bytes) (Err end)
+pub records-refused : (f : LiveFiles) (bytes : List ℕ) (v : FileOutline) (end : OutlineEnd) → outline_in 0 bytes ≡ Ok v → ReadsRecords (file_records bytes v.segment) (Err end) → ReadsLanes f (file_lanes bytes) (Err end)
 records-refused f bytes v (outline_end.Refused d) outline is = file-records bytes v d outline is
 records-refused f bytes v outline_end.ReadFault outline is = tt
 records-refused f bytes v outline_end.Memory outline is = tt
 
 -- where its tracks are asked
-pub tracks-read : (f : LiveFiles) (o : ReadyFile) (bytes : List ℕ) (v : FileOutline) (r : Records) (tracks : List Track) (result : Result (List LaneSeen) OutlineEnd) → f.content o.file.n ≡ Some bytes → o.outline.value ≡ v → outline_in 0 bytes ≡ Ok v → file_records bytes v.segment ≡ Ok r → o.scale ≡ scale_of_info r.info → tracks ≡ r.tracks
+pub tracks-read : (f : LiveFiles) (o : ReadyFile) (bytes : List ℕ) (v : FileOutline) (r : FileRecords) (tracks : List Track) (result : Result (List LaneSeen) OutlineEnd) → f.content o.file.n ≡ Some bytes → o.outline.value ≡ v → outline_in 0 bytes ≡ Ok v → file_records bytes v.segment ≡ Ok r → o.scale ≡ scale_of_info r.info → tracks ≡ r.tracks
     → (IsToldFile f o → ReadsLanes f (track_lanes (opened_events f o) tracks) result) → ReadsLanes f (file_lanes bytes) result
 tracks-read f o bytes v r tracks result told outline_is outline records scale_is tracks_is reads =
     let octets : octets_in f o.file.n ≡ bytes = ap (λ (content : Option (List ℕ)). unwrap_or content []) told in

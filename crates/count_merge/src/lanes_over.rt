@@ -102,7 +102,7 @@ pub fn file_lanes<R: Reads>(
     ensures cause { HasCause is_outline_fault (R.reading_faults src.old) (R.reading_faults src.new) result }
 {
     let outline = Outline::read(alloc, src, file)?;
-    let Records { info, tracks } = read_records(alloc, &outline, src, file)?;
+    let Records { info, tracks, .. } = read_records(alloc, &outline, src, file)?;
     let scale = scale_of(&info);
     let Ok(outline) = Rc::new(alloc, outline) else {
         return Err(OutlineEnd::Memory);

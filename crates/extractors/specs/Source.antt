@@ -3,12 +3,15 @@ use Rattle.std.specs.Prelude.{◌≡◌, ℕ, List, map, None, IfSome, slice_get
 use Rattle.std.specs.List.{All}
 use Rattle.mkv_io.specs.Sources.{IsLive, file_size}
 use Rattle.mkv_io.specs.declared.reads.Reads.{Ghosts}
+use Rattle.mkv_schema.specs.declared.ids.TheConstants.{CHAPTERS}
 use Rattle.mkv_jobs.specs.declared.job.Job.{Job}
 use Rattle.mkv_jobs.specs.declared.job.Target.{Target}
 use Rattle.matroska_format.specs.Outline.{first_damage}
 use Rattle.tree_format.specs.Node.{Node}
+use Rattle.tree_format.specs.Standing.{IsSoundOf}
 use Rattle.track_format.specs.Encoding.{usable_causes}
 use Rattle.track_records.specs.declared.track.Track.{Track}
+use Rattle.attachment_reading.specs.Walk.{IsAttachedIn}
 use Rattle.file_records.specs.Records.{AreRead, IsGoodInfo, scale_of_info}
 use Rattle.block_format.specs.Elements.{with_limits}
 use Rattle.block_format.specs.Events.{Event, events_of}
@@ -40,6 +43,8 @@ pub record IsSource {S : Type 0} (r : Ghosts S) (files : S) (s : Source) : Type 
   pub whole : s.outline.total ≡ file_size r files s.file
   pub info : IfSome s.info IsGoodInfo
   pub tracks : AreRead s.tracks
+  pub attachments : All (IsAttachedIn s.file s.outline.total) s.attachments
+  pub chapters : IfSome s.chapters (IsSoundOf CHAPTERS)
 
 -- Nothing keeps the frames of a track from being used.
 abbrev pub IsUsable : Node → Type 0

@@ -1,5 +1,6 @@
 //! A file of which something is taken.
 
+use attachment_reading::Attachment;
 use ebml_tree::Tree;
 use element_reader::Outline;
 use mkv_values::{FileId, List};
@@ -14,4 +15,8 @@ pub struct Source {
     pub info: Option<Tree>,
     /// The tracks of its first Tracks.
     pub tracks: List<Track>,
+    /// The attached files of its first Attachments, whose data stay in it.
+    pub attachments: List<Attachment>,
+    /// Its first Chapters, if it has one.
+    pub chapters: Option<Tree>,
 }

@@ -12,15 +12,14 @@ use Rattle.element_reader.proofs.OutlineLemmas.{Outlines-shown, outline_of-refus
 use Rattle.block_format.specs.Elements.{with_limits}
 use Rattle.block_format.specs.Events.{events_of}
 use Rattle.file_blocks.specs.File.{file_events}
-use Rattle.file_records.specs.Records.{file_records, scale_of_info}
-use Rattle.file_records.specs.declared.records.Records.{Records}
+use Rattle.file_records.specs.Records.{FileRecords, file_records, scale_of_info}
 use Rattle.file_records.proofs.CausesLemmas.{first_damage-behind, first_damage-front, first_damage-some}
 use Rattle.file_records.proofs.RecordsLemmas.{file_records-scale}
 use Rattle.extract_model.specs.Job.{targets_of}
 use Rattle.track_format.specs.Encoding.{usable_causes}
 use Rattle.track_records.specs.declared.track.Track.{Track}
 use Rattle.extractors.specs.Source.{AreUsableOf, IsUsable, entry_in}
-use Rattle.mkv_extract.specs.Read.{FileRead, causes_from, causes_of, first_unusable, is_named, read_of}
+use Rattle.mkv_extract.specs.Read.{FileRead, causes_from, causes_of, first_unusable, is_named, read_of, read_with}
 
 -- ---- in a walk over the tracks
 
@@ -91,7 +90,7 @@ AreUsableOf-read targets tracks none = λ i d below.
 
 -- behind an outline
 abbrev behind : Job → List ℕ → Header → Result FileRead Damage
-behind job bytes segment = and_then (file_records bytes segment) (λ (r : Records). unless (first_unusable (targets_of job) r.tracks) (record { segment = segment; records = r }))
+behind job bytes segment = and_then (file_records bytes segment) (λ (r : FileRecords). unless (first_unusable (targets_of job) r.tracks) (read_with segment r))
 
 read_of-behind : (job : Job) (bytes : List ℕ) (v : FileOutline) → outline_in 0 bytes ≡ Ok v → read_of job bytes ≡ behind job bytes v.segment
 read_of-behind job bytes v outline =
@@ -107,24 +106,24 @@ read_of-refused job bytes d outline = ap (λ (found : Result Outlined Damage). a
 pub read_of-records : (job : Job) (bytes : List ℕ) (v : FileOutline) (d : Damage) → outline_in 0 bytes ≡ Ok v → file_records bytes v.segment ≡ Err d → read_of job bytes ≡ Err d
 read_of-records job bytes v d outline records =
     read_of-behind job bytes v outline
-    ∙ ap (λ (found : Result Records Damage). and_then found (λ (r : Records). unless (first_unusable (targets_of job) r.tracks) (record { segment = v.segment; records = r }))) records
+    ∙ ap (λ (found : Result FileRecords Damage). and_then found (λ (r : FileRecords). unless (first_unusable (targets_of job) r.tracks) (read_with v.segment r))) records
 
 -- the records, unless a track that is named refuses the file
-read_of-unless : (job : Job) (bytes : List ℕ) (v : FileOutline) (r : Records) → outline_in 0 bytes ≡ Ok v → file_records bytes v.segment ≡ Ok r → read_of job bytes ≡ unless (first_unusable (targets_of job) r.tracks) (record { segment = v.segment; records = r })
+read_of-unless : (job : Job) (bytes : List ℕ) (v : FileOutline) (r : FileRecords) → outline_in 0 bytes ≡ Ok v → file_records bytes v.segment ≡ Ok r → read_of job bytes ≡ unless (first_unusable (targets_of job) r.tracks) (read_with v.segment r)
 read_of-unless job bytes v r outline records =
     read_of-behind job bytes v outline
-    ∙ ap (λ (found : Result Records Damage). and_then found (λ (each : Records). unless (first_unusable (targets_of job) each.tracks) (record { segment = v.segment; records = each }))) records
+    ∙ ap (λ (found : Result FileRecords Damage). and_then found (λ (each : FileRecords). unless (first_unusable (targets_of job) each.tracks) (read_with v.segment each))) records
 
-pub read_of-unusable : (job : Job) (bytes : List ℕ) (v : FileOutline) (r : Records) (d : Damage) → outline_in 0 bytes ≡ Ok v → file_records bytes v.segment ≡ Ok r → first_unusable (targets_of job) r.tracks ≡ Some d → read_of job bytes ≡ Err d
+pub read_of-unusable : (job : Job) (bytes : List ℕ) (v : FileOutline) (r : FileRecords) (d : Damage) → outline_in 0 bytes ≡ Ok v → file_records bytes v.segment ≡ Ok r → first_unusable (targets_of job) r.tracks ≡ Some d → read_of job bytes ≡ Err d
 read_of-unusable job bytes v r d outline records bad =
     read_of-unless job bytes v r outline records
-    ∙ ap (λ (refusal : Option Damage). unless refusal (record { segment = v.segment; records = r })) bad
+    ∙ ap (λ (refusal : Option Damage). unless refusal (read_with v.segment r)) bad
 
-pub read_of-all : (job : Job) (bytes : List ℕ) (v : FileOutline) (r : Records) → outline_in 0 bytes ≡ Ok v → file_records bytes v.segment ≡ Ok r → first_unusable (targets_of job) r.tracks ≡ None → read_of job bytes ≡ Ok (record { segment = v.segment; records = r })
+pub read_of-all : (job : Job) (bytes : List ℕ) (v : FileOutline) (r : FileRecords) → outline_in 0 bytes ≡ Ok v → file_records bytes v.segment ≡ Ok r → first_unusable (targets_of job) r.tracks ≡ None → read_of job bytes ≡ Ok (read_with v.segment r)
 read_of-all job bytes v r outline records good =
     read_of-unless job bytes v r outline records
-    ∙ ap (λ (refusal : Option Damage). unless refusal (record { segment = v.segment; records = r })) good
+    ∙ ap (λ (refusal : Option Damage). unless refusal (read_with v.segment r)) good
 
 -- its blocks and damages are the file's own
-pub events-read : (bytes : List ℕ) (segment : Header) (r : Records) → file_records bytes segment ≡ Ok r → events_of (with_limits (scale_of_info r.info)) bytes segment ≡ file_events true bytes segment
+pub events-read : (bytes : List ℕ) (segment : Header) (r : FileRecords) → file_records bytes segment ≡ Ok r → events_of (with_limits (scale_of_info r.info)) bytes segment ≡ file_events true bytes segment
 events-read bytes segment r is = ap (λ (scale : ℕ). events_of (with_limits scale) bytes segment) (file_records-scale bytes segment r is)

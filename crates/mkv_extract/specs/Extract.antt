@@ -64,7 +64,7 @@ taken_verdict name job tracks events =
 
 abbrev pub read_verdict : List ℕ → Job → List ℕ → Result FileRead Damage → Verdict
 read_verdict name job bytes (Err d) = refused (refusal_line name d)
-read_verdict name job bytes (Ok file) = taken_verdict name job file.records.tracks (file_events true bytes file.segment)
+read_verdict name job bytes (Ok file) = taken_verdict name job file.tracks (file_events true bytes file.segment)
 
 -- what is told of a name, which may have no content, and of whose file an edit may be pending
 abbrev pub name_verdict : List ℕ → Job → Bool → Option (List ℕ) → Verdict

@@ -1,5 +1,5 @@
 -- What is read of a file before its blocks, for a job that takes something of its tracks.
-use Rattle.std.specs.Prelude.{◌≡◌, ⊤, ℕ, ◌+◌, ◌==◌, Bool, if◌then◌else◌, List, [], ◌∷◌, ◌++◌, Option, Result, Ok, Err}
+use Rattle.std.specs.Prelude.{◌≡◌, ⊤, ℕ, ◌+◌, ◌==◌, Bool, if◌then◌else◌, List, [], ◌∷◌, ◌++◌, map, Option, Result, Ok, Err}
 use Rattle.std.specs.List.{list_any}
 use Rattle.mkv_values.specs.declared.damage.Damage.{Damage}
 use Rattle.mkv_jobs.specs.declared.job.Job.{Job}
@@ -8,10 +8,11 @@ use Rattle.matroska_format.specs.declared.element.Header.{Header}
 use Rattle.matroska_format.specs.Outline.{Outlined, and_then, first_damage, outline_of, unless}
 use Rattle.element_reader.specs.declared.outline_end.OutlineEnd.{OutlineEnd}
 use Rattle.element_reader.specs.declared.outline_end.OutlineEnd.TheVariants as outline_end
+use Rattle.tree_format.specs.Node.{Node}
 use Rattle.track_format.specs.Encoding.{usable_causes}
 use Rattle.track_records.specs.declared.track.Track.{Track}
-use Rattle.file_records.specs.Records.{file_records}
-use Rattle.file_records.specs.declared.records.Records.{Records}
+use Rattle.file_records.specs.Attached.{AttachedFile, in_file}
+use Rattle.file_records.specs.Records.{FileRecords, file_records}
 use Rattle.extract_model.specs.Job.{targets_of}
 use Rattle.extractors.specs.declared.source.Source.{Source}
 
@@ -31,21 +32,34 @@ causes_from targets k (t ∷ ts) = causes_of targets k t ++ causes_from targets 
 abbrev pub first_unusable : List Target → List Track → Option Damage
 first_unusable targets tracks = first_damage (causes_from targets 0 tracks)
 
--- the Segment of a file and its records
+-- the Segment of a file, and what is taken of its records
 pub record FileRead : Type 0 where
   pub segment : Header
-  pub records : Records
+  pub info : Option Node
+  pub tracks : List Track
+  pub attachments : List AttachedFile
+  pub chapters : Option Node
 
 -- what is read of a source
 abbrev pub read_in : Source → FileRead
-read_in s = record { segment = s.outline.segment; records = record { info = s.info; tracks = s.tracks } }
+read_in s = record {
+  segment = s.outline.segment;
+  info = s.info;
+  tracks = s.tracks;
+  attachments = map in_file s.attachments;
+  chapters = s.chapters;
+}
+
+-- the same of a file with this Segment and these records
+abbrev pub read_with : Header → FileRecords → FileRead
+read_with segment r = record { segment = segment; info = r.info; tracks = r.tracks; attachments = r.attachments; chapters = r.chapters }
 
 -- what is read of a content, or the first thing that refuses it: its outline, its records, and then the tracks that are named
 abbrev pub read_of : Job → List ℕ → Result FileRead Damage
 read_of job bytes =
     and_then (outline_of 0 bytes) (λ (o : Outlined).
-    and_then (file_records bytes o.segment) (λ (r : Records).
-    unless (first_unusable (targets_of job) r.tracks) (record { segment = o.segment; records = r })))
+    and_then (file_records bytes o.segment) (λ (r : FileRecords).
+    unless (first_unusable (targets_of job) r.tracks) (read_with o.segment r)))
 
 -- A source was read so, or what refuses the file; a read may fail, and there may be no memory.
 abbrev pub ReadsSource : Result FileRead Damage → Result Source OutlineEnd → Type 0

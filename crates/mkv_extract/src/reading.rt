@@ -51,6 +51,8 @@ pub fn read_source<R: Reads>(
         outline,
         info: records.info,
         tracks: records.tracks,
+        attachments: records.attachments,
+        chapters: records.chapters,
     })
 }
 

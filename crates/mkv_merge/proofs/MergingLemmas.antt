@@ -65,12 +65,12 @@ size-told f sized world (w ∷ files) (id ∷ ids) told =
     omega (arith, one, rest, left, right)
 
 -- what is read before the blocks and what each lane reads are no more than what may be read
-pub reads-both : (found : Result (List Source) Refusal) (sources : List Source) (lanes old mid new size now : ℕ) → found ≡ Ok sources → lanes ≡ length (lanes_given sources) → now ≡ size → mid ≤ old + 6 * size → new ≤ mid + 6 * (lanes * now) → new ≤ old + most_of found size
+pub reads-both : (found : Result (List Source) Refusal) (sources : List Source) (lanes old mid new size now : ℕ) → found ≡ Ok sources → lanes ≡ length (lanes_given sources) → now ≡ size → mid ≤ old + 24 * size → new ≤ mid + 6 * (lanes * now) → new ≤ old + most_of found size
 reads-both found sources lanes old mid new size now is count same first second =
     subst (λ (r : Result (List Source) Refusal). new ≤ old + most_of r size) (sym is)
     (fits (length (lanes_given sources)) (subst (λ (n : ℕ). new ≤ mid + 6 * (n * size)) count (subst (λ (s : ℕ). new ≤ mid + 6 * (lanes * s)) same second)))
   where
-    fits : (n : ℕ) → new ≤ mid + 6 * (n * size) → new ≤ old + 6 * ((n + 1) * size)
+    fits : (n : ℕ) → new ≤ mid + 6 * (n * size) → new ≤ old + (24 * size + 6 * (n * size))
     fits n more = omega arith
 
 -- where no edit is pending, sidecars and then inputs are read

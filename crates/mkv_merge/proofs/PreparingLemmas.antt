@@ -115,10 +115,10 @@ files-more inputs input list k file below is of =
 -- ---- how much is read
 
 -- what was read of one file more is paid by its length
-pub pays-more : (f : LiveFiles) (list : List FileId) (k : ℕ) (file : FileId) (start mid now size : ℕ) → k < length list → size ≡ f.size (get_or list k file).n → mid ≤ start + 6 * files_size f (take k list) → now ≤ mid + 6 * size → now ≤ start + 6 * files_size f (take (k + 1) list)
+pub pays-more : (f : LiveFiles) (list : List FileId) (k : ℕ) (file : FileId) (start mid now size : ℕ) → k < length list → size ≡ f.size (get_or list k file).n → mid ≤ start + 24 * files_size f (take k list) → now ≤ mid + 24 * size → now ≤ start + 24 * files_size f (take (k + 1) list)
 pays-more f list k file start mid now size below is before more =
     omega (arith, sum_by_more (λ (each : FileId). f.size each.n) list k file below)
 
 -- the first files are no longer than all
-pub pays-all : (f : LiveFiles) (list : List FileId) (k start now : ℕ) → now ≤ start + 6 * files_size f (take k list) → now ≤ start + 6 * files_size f list
+pub pays-all : (f : LiveFiles) (list : List FileId) (k start now : ℕ) → now ≤ start + 24 * files_size f (take k list) → now ≤ start + 24 * files_size f list
 pays-all f list k start now paid = omega (arith, sum_by-take-le (λ (each : FileId). f.size each.n) list k)

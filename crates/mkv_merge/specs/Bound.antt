@@ -22,9 +22,9 @@ abbrev pub lane_count : Result (List Source) Refusal → ℕ
 lane_count (Ok sources) = length (lanes_given sources)
 lane_count (Err why) = 0
 
--- what may be read of inputs of so many octets: all six times before the blocks, and six times for each lane
+-- what may be read of inputs of so many octets: all 24 times before the blocks, and six times for each lane
 abbrev pub most_of : Result (List Source) Refusal → ℕ → ℕ
-most_of sources octets = 6 * ((lane_count sources + 1) * octets)
+most_of sources octets = 24 * octets + 6 * (lane_count sources * octets)
 
 -- what may be read to see whether an edit of an input or of the output is pending: what each sidecar begins with
 abbrev pub most_looked : MergeWords → ℕ

@@ -46,7 +46,7 @@ fn read_one<R: Reads>(
     ensures file { IfOk result (λ read. read.file ≡ file) }
     ensures standing { R.standing src.new ≡ R.standing src.old }
     ensures cause { HasCause is_files_fault (R.reading_faults src.old) (R.reading_faults src.new) result }
-    ensures octets { R.octets_read src.new ≤ R.octets_read src.old + 6 * file_size R.Reads src.old file }
+    ensures octets { R.octets_read src.new ≤ R.octets_read src.old + 24 * file_size R.Reads src.old file }
 {
     match read_input(alloc, words, webm, held, src, file) {
         Ok(read) => Ok(read),
@@ -71,7 +71,7 @@ fn read_inputs<R: Reads>(
     ensures inputs { IfOk result (AreInputsOf (live_files R.Reads src.new) files.now) }
     ensures standing { R.standing src.new ≡ R.standing src.old }
     ensures cause { HasCause is_files_fault (R.reading_faults src.old) (R.reading_faults src.new) result }
-    ensures octets { R.octets_read src.new ≤ R.octets_read src.old + 6 * files_size (live_files R.Reads src.old) files.now }
+    ensures octets { R.octets_read src.new ≤ R.octets_read src.old + 24 * files_size (live_files R.Reads src.old) files.now }
 {
     let mut inputs = List::new(alloc);
     let mut held: u64 = 0;
@@ -98,7 +98,7 @@ pub fn prepare<R: Reads>(
     ensures prepared { IfOk result (IsPrepared (live_files R.Reads src.new) words.now files.now) }
     ensures standing { R.standing src.new ≡ R.standing src.old }
     ensures cause { HasCause is_files_fault (R.reading_faults src.old) (R.reading_faults src.new) result }
-    ensures octets { R.octets_read src.new ≤ R.octets_read src.old + 6 * files_size (live_files R.Reads src.old) files.now }
+    ensures octets { R.octets_read src.new ≤ R.octets_read src.old + 24 * files_size (live_files R.Reads src.old) files.now }
 {
     let inputs = read_inputs(alloc, words, src, files)?;
     match plan_of(alloc, words, inputs.as_slice()) {

@@ -2,6 +2,7 @@ use Rattle.std.proofs.Common.{sym, ◌∙◌, ap}
 use Rattle.std.proofs.lemmas.Result.{err_from_is_err_and}
 use Rattle.mkv_io.specs.Sources.{live_files}
 use Rattle.element_reader.specs.Outline.{FileOutline}
+use Rattle.file_records.specs.Records.{described_by}
 use Rattle.count_merge.proofs.FileLemmas.{outline-refused, records-refused, tracks-read}
 use Rattle.count_merge.proofs.lanes_over.file_lanes.Goals as goal
 
@@ -26,7 +27,7 @@ returns-clause-exact g c = λ bytes told.
     let outline = c.in_ok-outline.ensures.exact bytes told in
     let then = ap (λ s. (g.R.Reads.files s).content c.args.file.n) c.read.ensures.same.standing ∙ told in
     let now = ap (λ s. (g.R.Reads.files s).content c.args.file.n) c.read_records.ensures.standing ∙ then in
-    tracks-read f (record { file = c.args.file; outline = c.in-Ok.outline; scale = c.scale_of-scale.result }) bytes c.in_ok-outline.outline c.in_ok-info.field-0 c.as_slice.result.now c.lanes_over.result now c.in-Ok.ensures.ok outline
+    tracks-read f (record { file = c.args.file; outline = c.in-Ok.outline; scale = c.scale_of-scale.result }) bytes c.in_ok-outline.outline (described_by c.in_ok-info.field-0) c.as_slice.result.now c.lanes_over.result now c.in-Ok.ensures.ok outline
     (c.in_ok-info.ensures.exact bytes then 0 outline) c.scale_of-scale.ensures.value c.as_slice.ensures (c.lanes_over.ensures.exact f)
 
 pub returns-clause-ready : goal.returns-clause-ready

@@ -2,6 +2,7 @@ use Rattle.std.proofs.Common.{◌≡◌, List, None, sym, ◌∙◌, ap}
 use Rattle.mkv_jobs.specs.declared.job.Target.{Target}
 use Rattle.track_records.specs.declared.track.Track.{Track}
 use Rattle.extract_model.specs.Job.{targets_of}
+use Rattle.file_records.specs.Records.{described_by}
 use Rattle.mkv_extract.specs.Read.{first_unusable}
 use Rattle.mkv_extract.proofs.ReadLemmas.{AreUsableOf-read, events-read}
 use Rattle.mkv_extract.proofs.reading.read_source.Goals as goal
@@ -20,5 +21,5 @@ returns-clause-usable g c =
 pub returns-clause-events : goal.returns-clause-events
 returns-clause-events g c = λ bytes told.
     let now = ap (λ s. (g.R.Reads.files s).content c.args.file.n) c.read.ensures.same.standing ∙ told in
-    events-read bytes c.in_ok-outline.outline.segment c.in_ok-records.records
+    events-read bytes c.in_ok-outline.outline.segment (described_by c.in_ok-records.records)
     (c.in_ok-records.ensures.exact bytes now 0 (c.in_ok-outline.ensures.exact bytes told))
