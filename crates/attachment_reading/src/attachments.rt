@@ -3,7 +3,7 @@
 ghost use Rattle.std.specs.Prelude.{◌≡◌, ◌+◌, ◌*◌, ◌<◌, ◌≤◌, false, All, IfOk, OnOk};
 ghost use Rattle.mkv_io.specs.Faults.{HasCause};
 ghost use Rattle.mkv_io.specs.Sources.{IfTold, IsLive, file_size};
-ghost use Rattle.matroska_format.specs.Element.{element_at, in_master, is_unknown, known, stated_end};
+ghost use Rattle.matroska_format.specs.Element.{is_unknown, known, stated_end};
 ghost use Rattle.attachment_reading.specs.declared.limits.TheConstants.{MOST_OF_ATTACHMENTS};
 ghost use Rattle.attachment_reading.specs.Attachments.{attachments_in, child_of};
 ghost use Rattle.attachment_reading.specs.Walk.{AreAttachedIn, IsAttachedIn, Meets, PaysUpTo, ReadsAs, ReadsChild, WalksAll, child_met, good_files, is_attachments_fault};

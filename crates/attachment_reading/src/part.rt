@@ -3,7 +3,7 @@
 ghost use Rattle.std.specs.Prelude.{◌≡◌, ◌+◌, ◌^◌, ◌<◌, ◌≤◌, IfOk};
 ghost use Rattle.mkv_io.specs.Faults.{HasCause, is_read_fault};
 ghost use Rattle.mkv_io.specs.Sources.{IfTold, IsLive, file_size};
-ghost use Rattle.matroska_format.specs.Element.{element_at, in_master, known, stated_end};
+ghost use Rattle.matroska_format.specs.Element.{known, stated_end};
 ghost use Rattle.matroska_format.specs.Value.{body_of};
 ghost use Rattle.attachment_reading.specs.Attachments.{counted_of};
 ghost use Rattle.attachment_reading.specs.Walk.{IsChild, IsPart, IsPartLeaf, Meets, Pays, ReadsAs, behind_part, is_attachments_fault, leaf_in, octets_of, part_met};

@@ -9,7 +9,7 @@ use Rattle.std.proofs.lemmas.Str.{IsUtf8-nil, IsUtf8-from_is_utf8}
 use Rattle.ebml_format.specs.Number.{AreOctets}
 use Rattle.ebml_format.proofs.SpelledLemmas.{AreOctets-take, AreOctets-drop}
 use Rattle.mkv_schema.specs.Schema.{may_stand, kind_of}
-use Rattle.mkv_schema.specs.declared.ids.TheConstants.{INFO, TITLE, TRACKS, TRACK_ENTRY, TRACK_UID}
+use Rattle.mkv_schema.specs.declared.ids.TheConstants.{CHAPTERS, INFO, TAGS, TITLE, TRACKS, TRACK_ENTRY, TRACK_UID}
 use Rattle.mkv_schema.specs.declared.kind.ElementKind.TheVariants.{Ascii, Utf8}
 use Rattle.mkv_values.specs.declared.damage.Damage.{Damage}
 use Rattle.mkv_io.specs.Faults.{counted}
@@ -34,8 +34,8 @@ use Rattle.track_records.specs.Track.{track_of, tracks_of}
 use Rattle.track_records.specs.declared.track.Track.{Track}
 use Rattle.track_changes.proofs.StandLemmas as row
 use Rattle.meta_format.specs.Info.{info_refusal}
-use Rattle.file_records.specs.Records.{AreRead, file_records, first_tree, good_info, good_tracks, tree_at}
-use Rattle.file_records.specs.declared.records.Records.{Records}
+use Rattle.file_records.specs.Attached.{first_attached}
+use Rattle.file_records.specs.Records.{AreRead, FileRecords, file_records, first_tree, good_info, good_tracks, tree_at}
 use Rattle.file_records.proofs.RecordsLemmas.{AreRead-made}
 use Rattle.record_changes.specs.Entry.{IsWholeEntry}
 use Rattle.record_laws.proofs.WholeLemmas.{read-entries-whole}
@@ -164,15 +164,18 @@ good-title bytes segment info octets is =
 
 -- ---- the records of a file
 
-record AreReadRecords (r : Records) : Type 0 where
+record AreReadRecords (r : FileRecords) : Type 0 where
   title : IsUtf8 (title_of_info r.info)
   tracks : AreReadTracks r.tracks
 
-records-read : (bytes : List ℕ) (segment : Header) (r : Records) → AreOctets bytes → file_records bytes segment ≡ Ok r → AreReadRecords r
+records-read : (bytes : List ℕ) (segment : Header) (r : FileRecords) → AreOctets bytes → file_records bytes segment ≡ Ok r → AreReadRecords r
 records-read bytes segment r octets is =
     let info = and_then-ok (and_then (first_tree INFO bytes segment) good_info) _ r is in
     let list = and_then-ok (and_then (first_tree TRACKS bytes segment) (good_tracks segment)) _ r info.1.1 in
-    let made : record { info = info.0; tracks = list.0 } ≡ r = cc (list.1.1) in
+    let attached = and_then-ok (first_attached bytes segment) _ r list.1.1 in
+    let chapters = and_then-ok (first_tree CHAPTERS bytes segment) _ r attached.1.1 in
+    let tags = and_then-ok (first_tree TAGS bytes segment) _ r chapters.1.1 in
+    let made : record { info = info.0; tracks = list.0; attachments = attached.0; chapters = chapters.0; tags = tags.0 } ≡ r = cc (tags.1.1) in
     subst AreReadRecords made (record { title = good-title bytes segment info.0 octets info.1.0; tracks = good-tracks bytes segment list.0 octets list.1.0 })
 
 -- ---- the tracks that are taken
@@ -219,9 +222,9 @@ input-read words webm held bytes read octets sound has is =
     let outline = found-ok (outline_of held bytes) _ read is in
     let o = outline.0 in
     let records = found-ok (file_records bytes o.segment) _ read outline.1.1 in
-    let r : Records = records.0 in
+    let r : FileRecords = records.0 in
     let taken : List TakenTrack = taken_from words 0 r.tracks in
-    let made = unrefused-ok (refusal_of words webm o.list taken) (input_with words o r) read records.1.1 in
+    let made = unrefused-ok (refusal_of words webm o.list taken) (input_with words webm o r) read records.1.1 in
     let found = records-read bytes o.segment r octets records.1.0 in
     let usable : first_unusable taken ≡ None = no-unusable (first_unusable taken) (option_map _ (not_built words webm o.list)) made.0 in
     let good = AreTaken-read words r.tracks taken refl found.tracks.read sound usable in
