@@ -1,7 +1,8 @@
 -- What a job takes of the tracks of a file: RFC 9559, section 5.1.4 (Tracks Element).
-use Rattle.std.specs.Prelude.{ℕ, List, [], ◌∷◌, map, Option, Some, None, slice_get, unwrap_or}
-use Rattle.std.specs.List.{flat_map}
+use Rattle.std.specs.Prelude.{ℕ, Bool, true, false, not, List, [], ◌∷◌, map, codes, Option, Some, None, option_map, slice_get, unwrap_or}
+use Rattle.std.specs.List.{find, flat_map}
 use Rattle.std.specs.Option.{option_map_or}
+use Rattle.std.specs.Str.{bytes_eq}
 use Rattle.mkv_jobs.specs.declared.job.Job.{Job}
 use Rattle.mkv_jobs.specs.declared.job.Job.TheVariants as jobs
 use Rattle.mkv_jobs.specs.declared.job.Form.TheVariants as form
@@ -9,7 +10,7 @@ use Rattle.mkv_jobs.specs.declared.job.Target.{Target}
 use Rattle.mkv_schema.specs.declared.ids.TheConstants.{CODEC_PRIVATE}
 use Rattle.tree_format.specs.Node.{Node, body_of}
 use Rattle.tree_format.specs.Values.{first_child}
-use Rattle.track_format.specs.Entry.{default_duration_of, number_of}
+use Rattle.track_format.specs.Entry.{codec_of, default_duration_of, number_of}
 use Rattle.track_format.specs.Encoding.{prefix_of}
 use Rattle.extract_model.specs.declared.taken.Taken.{Taken}
 use Rattle.extract_model.specs.declared.taken.Taken.TheVariants as taken
@@ -21,7 +22,7 @@ use Rattle.extract_model.specs.declared.track_output.TrackOutput.{TrackOutput}
 abbrev pub taken_of : Job → Option Taken
 taken_of (jobs.Tracks form.Raw list) = Some taken.Raw
 taken_of (jobs.Tracks form.Full list) = Some taken.Full
-taken_of (jobs.Tracks form.SubRip list) = None
+taken_of (jobs.Tracks form.SubRip list) = Some taken.SubRip
 taken_of (jobs.Timestamps list) = Some taken.Times
 taken_of (jobs.Attachments list) = None
 taken_of (jobs.Cues list) = None
@@ -47,7 +48,27 @@ private_of entry = option_map_or body_of (first_child CODEC_PRIVATE entry) []
 abbrev pub format_of : Taken → Node → Format
 format_of taken.Raw entry = format.Frames [] (prefix_of entry)
 format_of taken.Full entry = format.Frames (private_of entry) (prefix_of entry)
+format_of taken.SubRip entry = format.SubRip (prefix_of entry)
 format_of taken.Times entry = format.Times
+
+-- the CodecID of tracks of SubRip texts
+abbrev pub subrip_codec : List ℕ
+subrip_codec = codes "S_TEXT/UTF8"
+
+-- this can be written of a track: texts only where it has them
+abbrev pub fits : Taken → Node → Bool
+fits taken.Raw entry = true
+fits taken.Full entry = true
+fits taken.SubRip entry = bytes_eq (codec_of entry) subrip_codec
+fits taken.Times entry = true
+
+-- a target names a track of which this can't be written
+abbrev pub is_unfit : Taken → List Node → Target → Bool
+is_unfit kind entries t = option_map_or (λ entry. not (fits kind entry)) (slice_get entries t.id) false
+
+-- the number, from 0, of the first track that is named and of which this can't be written
+abbrev pub first_unfit : Taken → List Target → List Node → Option ℕ
+first_unfit kind targets entries = option_map (λ (t : Target). t.id) (find (is_unfit kind entries) targets)
 
 -- the output of a target whose track has this entry
 abbrev pub track_output : Taken → List ℕ → Node → TrackOutput
@@ -74,3 +95,11 @@ outputs_taken (Some kind) targets entries = outputs_for kind targets entries
 -- the outputs that a job comes to, where these are the entries of the tracks
 abbrev pub job_outputs : Job → List Node → List TrackOutput
 job_outputs job entries = outputs_taken (taken_of job) (targets_of job) entries
+
+-- the number, from 0, of the first track that a job names and that it can't take so
+abbrev pub unfit_taken : Option Taken → List Target → List Node → Option ℕ
+unfit_taken None targets entries = None
+unfit_taken (Some kind) targets entries = first_unfit kind targets entries
+
+abbrev pub job_unfit : Job → List Node → Option ℕ
+job_unfit job entries = unfit_taken (taken_of job) (targets_of job) entries

@@ -7,6 +7,8 @@ pub enum Taken {
     Raw,
     /// Its CodecPrivate, and then its frames.
     Full,
+    /// Its frames as the texts of a SubRip file.
+    SubRip,
     /// The times of its frames.
     Times,
 }

@@ -7,6 +7,8 @@ use mkv_values::{Bytes, Text};
 pub enum Format {
     /// `head` once, and then each frame behind `prefix`.
     Frames { head: Bytes, prefix: Bytes },
+    /// An entry of SubRip for each frame, whose text is the frame behind `prefix`.
+    SubRip { prefix: Bytes },
     /// A first line that names the format, and then a line for each frame, with its time.
     Times,
 }

@@ -1,5 +1,5 @@
 -- Octets that are given to one output, one after the other.
-use Rattle.std.proofs.Common.{◌≡◌, ℕ, suc, ◌+◌, ◌<◌, ◌≤◌, ◌*◌, ℤ, pos, ◌+ℤ◌, List, [], ◌∷◌, ◌++◌, length, take, drop, get_or, sum, Result, Ok, Err, IsErr, refl, sym, ◌∙◌, ap, subst, arith, append_assoc, append-nil}
+use Rattle.std.proofs.Common.{◌≡◌, ℕ, suc, ◌+◌, ◌<◌, ◌≤◌, ◌*◌, ℤ, pos, ◌+ℤ◌, List, [], ◌∷◌, ◌++◌, length, take, drop, get_or, sum, unwrap_or, Result, Ok, Err, IsErr, refl, sym, ◌∙◌, ap, subst, arith, append_assoc, append-nil}
 use Rattle.std.proofs.Math.Seq.{drop-cons}
 use Rattle.std.proofs.lemmas.List.{drop-drop, drop_all}
 use Rattle.std.proofs.lemmas.List.Sums.{sum_by-cons}
@@ -13,12 +13,16 @@ use Rattle.mkv_outputs.specs.declared.sink.Sink.{Sink}
 use Rattle.mkv_outputs.proofs.GivenLemmas.{HaveBeenGiven-part}
 use Rattle.mkv_outputs.proofs.OutputsLemmas.{with_more-none, with_more-twice}
 use Rattle.mkv_outputs.proofs.StartsLemmas.{StandsInPart-more}
-use Rattle.extract_model.specs.Content.{entries_of, entry_of}
+use Rattle.extract_model.specs.Content.{counted, entries_from, entry_of}
 use Rattle.block_records.specs.Buffered.{Buffered, block_of}
 use Rattle.block_records.specs.declared.head.BlockHead.{BlockHead}
-use Rattle.extract_model.specs.Frames.{frames_from, frames_in}
+use Rattle.extract_model.specs.Frames.{Frame, frames_from, frames_in}
 use Rattle.extract_model.specs.declared.track_output.Format.{Format}
-use Rattle.extractors.specs.Walks.{frame}
+use Rattle.extract_model.proofs.ContentLemmas.{entry_of-counted}
+
+-- a frame of these octets, this time and this duration
+abbrev pub framed : List ℕ → ℤ → ℕ → Frame
+framed octets time duration = record { octets = octets; time = time; duration = duration }
 
 -- whatever was given before, that and these octets were given
 abbrev pub HasGiven : {S : Type 0} → Ghosts S → S → S → List Sink → List Sink → ℕ → List ℕ → Type 0
@@ -87,35 +91,55 @@ GivesUpTo-ends f old new sinks later k all left so none = λ since given has.
 
 -- ---- the frames of a block
 
--- what is written of those that are left, from the i-th on
-pub entries_left : Format → ℕ → ℤ → List ℕ → List ℕ → ℕ → ℕ → List ℕ
-entries_left format step time sizes body i at = entries_of format (frames_from step time i (frames_cut (drop i sizes) (drop at body)))
+-- what is written of those that are left, from the i-th on, where the first has this number
+pub entries_left : Format → ℕ → ℕ → ℤ → ℕ → List ℕ → List ℕ → ℕ → ℕ → List ℕ
+entries_left format number step time duration sizes body i at = entries_from format (number + i) (frames_from step time duration i (frames_cut (drop i sizes) (drop at body)))
 
 -- the next frame is the first of them
-pub entries_left-next : (format : Format) (step : ℕ) (time now : ℤ) (sizes body octets : List ℕ) (i at size : ℕ) → i < length sizes → size ≡ get_or sizes i 0 → octets ≡ take size (drop at body) → now ≡ time +ℤ pos (i * step) → entries_left format step time sizes body i at ≡ entry_of format (frame octets now) ++ entries_left format step time sizes body (i + 1) (at + size)
+pub entries_left-next : (format : Format) (number step : ℕ) (time : ℤ) (duration : ℕ) (sizes body : List ℕ) (i at size n : ℕ) (f : Frame) → i < length sizes → size ≡ get_or sizes i 0 → n ≡ counted (number + i) → f ≡ framed (take size (drop at body)) (time +ℤ pos (i * step)) duration → entries_left format number step time duration sizes body i at ≡ entry_of format n f ++ entries_left format number step time duration sizes body (i + 1) (at + size)
 unfolding entries_left
-entries_left-next format step time now sizes body octets i at size below is cut when =
-    ap (λ (ss : List ℕ). entries_of format (frames_from step time i (frames_cut ss (drop at body)))) (drop-cons sizes i 0 below ∙ ap (λ (s : ℕ). s ∷ drop (suc i) sizes) (sym is))
-    ∙ ap (λ (left : List ℕ). entry_of format (frame (take size (drop at body)) (time +ℤ pos (i * step))) ++ entries_of format (frames_from step time (i + 1) (frames_cut (drop (suc i) sizes) left))) (drop-drop size at body)
-    ∙ ap (λ (n : ℕ). entry_of format (frame (take size (drop at body)) (time +ℤ pos (i * step))) ++ entries_of format (frames_from step time (i + 1) (frames_cut (drop n sizes) (drop (at + size) body)))) (one_more i)
-    ∙ ap (λ (o : List ℕ). entry_of format (frame o (time +ℤ pos (i * step))) ++ entries_left format step time sizes body (i + 1) (at + size)) (sym cut)
-    ∙ ap (λ (t : ℤ). entry_of format (frame octets t) ++ entries_left format step time sizes body (i + 1) (at + size)) (sym when)
+entries_left-next format number step time duration sizes body i at size n f below is named cut =
+    ap (λ (ss : List ℕ). entries_from format (number + i) (frames_from step time duration i (frames_cut ss (drop at body)))) (drop-cons sizes i 0 below ∙ ap (λ (s : ℕ). s ∷ drop (suc i) sizes) (sym is))
+    ∙ ap (λ (left : List ℕ). entry_of format (number + i) (framed (take size (drop at body)) (time +ℤ pos (i * step)) duration) ++ entries_from format ((number + i) + 1) (frames_from step time duration (i + 1) (frames_cut (drop (suc i) sizes) left))) (drop-drop size at body)
+    ∙ ap (λ (k : ℕ). entry_of format (number + i) (framed (take size (drop at body)) (time +ℤ pos (i * step)) duration) ++ entries_from format ((number + i) + 1) (frames_from step time duration (i + 1) (frames_cut (drop k sizes) (drop (at + size) body)))) (one_more i)
+    ∙ ap (λ (k : ℕ). entry_of format (number + i) (framed (take size (drop at body)) (time +ℤ pos (i * step)) duration) ++ entries_from format k (frames_from step time duration (i + 1) (frames_cut (drop (i + 1) sizes) (drop (at + size) body)))) (one_further number i)
+    ∙ ap (λ (one : Frame). entry_of format (number + i) one ++ entries_left format number step time duration sizes body (i + 1) (at + size)) (sym cut)
+    ∙ ap (λ (octets : List ℕ). octets ++ entries_left format number step time duration sizes body (i + 1) (at + size)) (entry_of-counted format (number + i) n f (stands (number + i) named))
   where
-    one_more : (n : ℕ) → suc n ≡ n + 1
-    one_more n = omega arith
+    one_more : (k : ℕ) → suc k ≡ k + 1
+    one_more k = omega arith
+
+    one_further : (k j : ℕ) → (k + j) + 1 ≡ k + (j + 1)
+    one_further k j = omega arith
+
+    stands : (m : ℕ) → n ≡ counted m → counted m ≡ counted n
+    stands m same = omega (arith, same)
 
 -- at first those of the whole block are left
-pub entries_left-block : (format : Format) (step : ℕ) (sizes body : List ℕ) (head : BlockHead) (b : Buffered) → head ≡ b.head → sizes ≡ b.sizes → body ≡ b.body → entries_left format step head.time sizes body 0 0 ≡ entries_of format (frames_in step (block_of b))
+pub entries_left-block : (format : Format) (number step : ℕ) (sizes body : List ℕ) (head : BlockHead) (duration : ℕ) (b : Buffered) → head ≡ b.head → sizes ≡ b.sizes → body ≡ b.body → duration ≡ unwrap_or head.duration 0 → entries_left format number step head.time duration sizes body 0 0 ≡ entries_from format number (frames_in step (block_of b))
 unfolding entries_left
-entries_left-block format step sizes body head b heads cut octets =
-    ap (λ (h : BlockHead). entries_of format (frames_from step h.time 0 (frames_cut sizes body))) heads
-    ∙ ap (λ (ss : List ℕ). entries_of format (frames_from step b.head.time 0 (frames_cut ss body))) cut
-    ∙ ap (λ (os : List ℕ). entries_of format (frames_from step b.head.time 0 (frames_cut b.sizes os))) octets
+entries_left-block format number step sizes body head duration b heads cut octets lasts =
+    ap (λ (d : ℕ). entries_from format (number + 0) (frames_from step head.time d 0 (frames_cut sizes body))) lasts
+    ∙ ap (λ (h : BlockHead). entries_from format (number + 0) (frames_from step h.time (unwrap_or h.duration 0) 0 (frames_cut sizes body))) heads
+    ∙ ap (λ (ss : List ℕ). entries_from format (number + 0) (frames_from step b.head.time (unwrap_or b.head.duration 0) 0 (frames_cut ss body))) cut
+    ∙ ap (λ (os : List ℕ). entries_from format (number + 0) (frames_from step b.head.time (unwrap_or b.head.duration 0) 0 (frames_cut b.sizes os))) octets
+    ∙ ap (λ (n : ℕ). entries_from format n (frames_in step (block_of b))) (plus_none number)
+  where
+    plus_none : (k : ℕ) → k + 0 ≡ k
+    plus_none k = omega arith
 
 -- and at last none
-pub entries_left-none : (format : Format) (step : ℕ) (time : ℤ) (sizes body : List ℕ) (i at : ℕ) → length sizes ≤ i → entries_left format step time sizes body i at ≡ []
+pub entries_left-none : (format : Format) (number step : ℕ) (time : ℤ) (duration : ℕ) (sizes body : List ℕ) (i at : ℕ) → length sizes ≤ i → entries_left format number step time duration sizes body i at ≡ []
 unfolding entries_left
-entries_left-none format step time sizes body i at all = ap (λ (ss : List ℕ). entries_of format (frames_from step time i (frames_cut ss (drop at body)))) (drop_all i sizes all)
+entries_left-none format number step time duration sizes body i at all = ap (λ (ss : List ℕ). entries_from format (number + i) (frames_from step time duration i (frames_cut ss (drop at body)))) (drop_all i sizes all)
+
+-- a block has as many frames as sizes
+length-frames_from : (step : ℕ) (time : ℤ) (duration i : ℕ) (sizes body : List ℕ) → length (frames_from step time duration i (frames_cut sizes body)) ≡ length sizes
+length-frames_from step time duration i [] body = refl
+length-frames_from step time duration i (s ∷ ss) body = ap suc (length-frames_from step time duration (i + 1) ss (drop s body))
+
+pub length-frames_in : (step : ℕ) (b : Buffered) (sizes : List ℕ) → sizes ≡ b.sizes → length (frames_in step (block_of b)) ≡ length sizes
+length-frames_in step b sizes same = length-frames_from step b.head.time (unwrap_or b.head.duration 0) 0 b.sizes b.body ∙ ap length (sym same)
 
 -- the sizes that are left add up to the octets that are left
 pub rest-next : (sizes : List ℕ) (i at size total : ℕ) → i < length sizes → size ≡ get_or sizes i 0 → at + sum (drop i sizes) ≡ total → (at + size) + sum (drop (i + 1) sizes) ≡ total

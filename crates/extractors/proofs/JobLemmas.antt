@@ -1,8 +1,9 @@
 -- The outputs of targets.
-use Rattle.std.proofs.Common.{◌≡◌, ℕ, zero, suc, ◌+◌, ◌<◌, ◌^◌, List, [], ◌∷◌, ◌++◌, length, take, get_or, map, Option, Some, None, IfSome, slice_get, unwrap_or, refl, sym, ◌∙◌, ap, subst, arith, append-nil}
-use Rattle.std.specs.List.{All}
+use Rattle.std.proofs.Common.{◌≡◌, ℕ, zero, suc, ◌+◌, ◌<◌, ◌≤◌, ◌^◌, Bool, true, false, if◌then◌else◌, List, [], ◌∷◌, ◌++◌, length, take, drop, get_or, map, Option, Some, None, IfSome, slice_get, unwrap_or, refl, sym, ◌∙◌, ap, subst, arith, append-nil}
+use Rattle.std.specs.List.{All, find}
 use Rattle.std.specs.Option.{option_map}
-use Rattle.std.proofs.Math.Seq.{take-suc}
+use Rattle.std.proofs.Math.Seq.{drop-cons, take-suc}
+use Rattle.std.proofs.lemmas.List.{drop_all}
 use Rattle.std.proofs.lemmas.Grind.{flat_map-append}
 use Rattle.mkv_io.specs.Names.{AreApart, AreOthers}
 use Rattle.mkv_jobs.specs.declared.job.Job.{Job}
@@ -14,7 +15,7 @@ use Rattle.track_format.specs.Tracks.{IsTrack}
 use Rattle.track_records.specs.declared.track.Track.{Track}
 use Rattle.file_records.specs.Records.{AreRead}
 use Rattle.extract_model.specs.Content.{names_in}
-use Rattle.extract_model.specs.Job.{job_outputs, names_of, output_for, outputs_for, outputs_taken, taken_of, targets_of, track_output}
+use Rattle.extract_model.specs.Job.{first_unfit, is_unfit, job_outputs, names_of, output_for, outputs_for, outputs_taken, taken_of, targets_of, track_output}
 use Rattle.extract_model.specs.declared.taken.Taken.{Taken}
 use Rattle.extract_model.specs.declared.track_output.TrackOutput.{TrackOutput}
 use Rattle.extractors.specs.Source.{AreUsableOf, IsUsable, entry_in}
@@ -57,6 +58,36 @@ pub usable-at : (targets : List Target) (tracks : List Track) (k : ℕ) (t : Tar
 usable-at targets tracks k t track usable below is found =
     subst (λ (o : Option Node). IfSome o IsUsable) (entry-at tracks t.id ∙ ap (option_map entry_in) found)
     (subst (λ (each : Target). IfSome (slice_get (map entry_in tracks) each.id) IsUsable) (sym is) (usable k t below))
+
+-- ---- targets of whose tracks something can't be written
+
+-- the next one is passed
+pub unfit-passed : (kind : Taken) (entries : List Node) (targets : List Target) (k : ℕ) (t : Target) → k < length targets → t ≡ get_or targets k t → is_unfit kind entries t ≡ false → first_unfit kind (drop k targets) entries ≡ first_unfit kind (drop (k + 1) targets) entries
+unfit-passed kind entries targets k t below is fine =
+    ap (λ (ts : List Target). first_unfit kind ts entries) (drop-cons targets k t below ∙ ap (λ (each : Target). each ∷ drop (suc k) targets) (sym is))
+    ∙ step (is_unfit kind entries t) fine
+    ∙ ap (λ (n : ℕ). first_unfit kind (drop n targets) entries) (one_more k)
+  where
+    step : (a : Bool) → a ≡ false → option_map (λ (each : Target). each.id) (if a then Some t else find (is_unfit kind entries) (drop (suc k) targets)) ≡ first_unfit kind (drop (suc k) targets) entries
+    step true same = absurd (cc)
+    step false same = refl
+
+    one_more : (n : ℕ) → suc n ≡ n + 1
+    one_more n = omega arith
+
+-- or is the first
+pub unfit-found : (kind : Taken) (entries : List Node) (targets : List Target) (k : ℕ) (t : Target) → k < length targets → t ≡ get_or targets k t → is_unfit kind entries t ≡ true → first_unfit kind (drop k targets) entries ≡ Some t.id
+unfit-found kind entries targets k t below is unfit =
+    ap (λ (ts : List Target). first_unfit kind ts entries) (drop-cons targets k t below ∙ ap (λ (each : Target). each ∷ drop (suc k) targets) (sym is))
+    ∙ step (is_unfit kind entries t) unfit
+  where
+    step : (a : Bool) → a ≡ true → option_map (λ (each : Target). each.id) (if a then Some t else find (is_unfit kind entries) (drop (suc k) targets)) ≡ Some t.id
+    step true same = refl
+    step false same = absurd (cc)
+
+-- at last none is left
+pub unfit-none : (kind : Taken) (entries : List Node) (targets : List Target) (k : ℕ) → length targets ≤ k → first_unfit kind (drop k targets) entries ≡ None
+unfit-none kind entries targets k all = ap (λ (ts : List Target). first_unfit kind ts entries) (drop_all k targets all)
 
 -- ---- their names
 

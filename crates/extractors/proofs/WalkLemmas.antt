@@ -1,5 +1,6 @@
 -- A walk over the blocks of a file that is open while outputs are written.
-use Rattle.std.proofs.Common.{◌≡◌, ℕ, ◌+◌, ◌≤◌, List, [], ◌∷◌, ◌++◌, Bool, true, false, refl, sym, ◌∙◌, ap, subst, append_assoc, append-nil, arith}
+use Rattle.std.proofs.Common.{◌≡◌, ℕ, ◌+◌, ◌≤◌, List, [], ◌∷◌, ◌++◌, length, Bool, true, false, refl, sym, ◌∙◌, ap, subst, append_assoc, append-nil, arith}
+use Rattle.std.proofs.Math.ListN.{replicate}
 use Rattle.mkv_values.specs.declared.damage.Damage.{Damage}
 use Rattle.mkv_io.specs.Names.{AreOthers, Names}
 use Rattle.mkv_io.specs.Sources.{live_files}
@@ -22,7 +23,7 @@ use Rattle.mkv_outputs.proofs.StartsLemmas.{StandsInPart-then}
 use Rattle.extract_model.specs.Content.{outputs_of}
 use Rattle.extract_model.specs.declared.track_output.TrackOutput.{TrackOutput}
 use Rattle.extract_model.proofs.ContentLemmas.{outputs_of-begun}
-use Rattle.extractors.specs.Walks.{WritesAndReads}
+use Rattle.extractors.specs.Walks.{HaveBlocks, WritesAndReads, numbers_after}
 
 -- ---- the events of a file
 
@@ -69,11 +70,10 @@ MetUpTo-damages all left passed damages met none =
     met.kept ∙ ap told_damages (sym (met.split ∙ ap (λ (es : List Event). met.met ++ damages_of es) none ∙ append-nil met.met))
 
 -- the outputs of what was met are first parts of all
-pub MetUpTo-begun : (list : List TrackOutput) (before : List Block) (all left : List Event) (passed : List Block) (damages : ToldDamages) → MetUpTo all left passed damages → AreBegun (outputs_of list (before ++ passed)) (outputs_of list (before ++ blocks_of all))
-MetUpTo-begun list before all left passed damages met =
-    subst (λ (bs : List Block). AreBegun (outputs_of list (before ++ passed)) (outputs_of list bs))
-    (append_assoc before passed (blocks_of left) ∙ ap (λ (bs : List Block). before ++ bs) (sym met.blocks))
-    (outputs_of-begun list (before ++ passed) (blocks_of left))
+pub MetUpTo-begun : (list : List TrackOutput) (all left : List Event) (passed : List Block) (damages : ToldDamages) → MetUpTo all left passed damages → AreBegun (outputs_of list passed) (outputs_of list (blocks_of all))
+MetUpTo-begun list all left passed damages met =
+    subst (λ (bs : List Block). AreBegun (outputs_of list passed) (outputs_of list bs)) (sym met.blocks)
+    (outputs_of-begun list passed (blocks_of left))
 
 -- ---- what was given
 
@@ -83,37 +83,47 @@ HaveBeenGiven-moved since old new holder later sinks given has names holders =
     subst (λ (n : Names). HaveBeenGiven since n later sinks given) (sym names)
     (subst (λ (h : ℕ → List ℕ). HaveBeenGiven since old h sinks given) (sym (λ i file. holders file i)) has)
 
--- whatever blocks were given before, these have been given too
-abbrev pub Given : {S : Type 0} → writing.Ghosts S → List TrackOutput → S → S → List Sink → List Sink → List Block → Type 0
-Given f list old new sinks later more = (since : Names) (blocks : List Block) → HaveBeenGiven since (f.names old) (f.holder old) sinks (outputs_of list blocks) → HaveBeenGiven since (f.names new) (f.holder new) later (outputs_of list (blocks ++ more))
+-- outputs that were given no block yet have these, and these are the numbers of their next frames
+abbrev pub Given : {S : Type 0} → writing.Ghosts S → List TrackOutput → S → S → List Sink → List Sink → List ℕ → List Block → Type 0
+Given f list old new sinks later numbers passed = (since : Names) → HaveBeenGiven since (f.names old) (f.holder old) sinks (outputs_of list []) → HaveBlocks f since list new later numbers passed
 
 -- none at first
-pub Given-none : {S : Type 0} (f : writing.Ghosts S) (list : List TrackOutput) (files : S) (sinks : List Sink) → Given f list files files sinks sinks []
-Given-none f list files sinks = λ since blocks has. subst (λ (bs : List Block). HaveBeenGiven since (f.names files) (f.holder files) sinks (outputs_of list bs)) (sym (append-nil blocks)) has
+pub Given-none : {S : Type 0} (f : writing.Ghosts S) (list : List TrackOutput) (files : S) (sinks : List Sink) (numbers : List ℕ) → numbers ≡ replicate (length list) 1 → Given f list files files sinks sinks numbers []
+Given-none f list files sinks numbers ones = λ since has. record { given = has; next = ones ∙ all list }
+  where
+    all : (os : List TrackOutput) → replicate (length os) 1 ≡ numbers_after os []
+    all [] = refl
+    all (o ∷ os) = ap (λ (rest : List ℕ). 1 ∷ rest) (all os)
 
 -- what reading leaves changes nothing
-pub Given-read : {S : Type 0} (f : writing.Ghosts S) (list : List TrackOutput) (a b c : S) (sinks now : List Sink) (passed : List Block) → Given f list a b sinks now passed → f.names c ≡ f.names b → ((file : ℕ) → f.holder c file ≡ f.holder b file) → Given f list a c sinks now passed
-Given-read f list a b c sinks now passed gave names holders = λ since blocks has.
-    HaveBeenGiven-moved since (f.names b) (f.names c) (f.holder b) (f.holder c) now (outputs_of list (blocks ++ passed)) (gave since blocks has) names holders
+pub Given-read : {S : Type 0} (f : writing.Ghosts S) (list : List TrackOutput) (a b c : S) (sinks now : List Sink) (numbers : List ℕ) (passed : List Block) → Given f list a b sinks now numbers passed → f.names c ≡ f.names b → ((file : ℕ) → f.holder c file ≡ f.holder b file) → Given f list a c sinks now numbers passed
+Given-read f list a b c sinks now numbers passed gave names holders = λ since has.
+    let had = gave since has in
+    record {
+      given = HaveBeenGiven-moved since (f.names b) (f.names c) (f.holder b) (f.holder c) now (outputs_of list passed) had.given names holders;
+      next = had.next;
+    }
 
 -- one block more
-pub Given-more : {S : Type 0} (f : writing.Ghosts S) (list : List TrackOutput) (a b c : S) (sinks now later : List Sink) (passed : List Block) (next : Block) → Given f list a b sinks now passed → Given f list b c now later (next ∷ []) → Given f list a c sinks later (passed ++ next ∷ [])
-Given-more f list a b c sinks now later passed next gave gives = λ since blocks has.
-    subst (λ (bs : List Block). HaveBeenGiven since (f.names c) (f.holder c) later (outputs_of list bs)) (append_assoc blocks passed (next ∷ [])) (gives since (blocks ++ passed) (gave since blocks has))
+pub Given-more : {S : Type 0} (f : writing.Ghosts S) (list : List TrackOutput) (a b c : S) (sinks now later : List Sink) (numbers next : List ℕ) (passed : List Block) (b' : Block) → Given f list a b sinks now numbers passed → ((since : Names) (blocks : List Block) → HaveBlocks f since list b now numbers blocks → HaveBlocks f since list c later next (blocks ++ b' ∷ [])) → Given f list a c sinks later next (passed ++ b' ∷ [])
+Given-more f list a b c sinks now later numbers next passed b' gave gives = λ since has. gives since passed (gave since has)
 
 -- a refused block stands in part of all
-pub Given-part : {S : Type 0} (f : writing.Ghosts S) (list : List TrackOutput) (a b c : S) (sinks now : List Sink) (passed more all : List Block) → Given f list a b sinks now passed → ((since : Names) (blocks : List Block) → HaveBeenGiven since (f.names b) (f.holder b) now (outputs_of list blocks) → StandsInPart since (f.names c) (outputs_of list (blocks ++ more))) → ((before : List Block) → AreBegun (outputs_of list (before ++ (passed ++ more))) (outputs_of list (before ++ all))) → (since : Names) (blocks : List Block) → HaveBeenGiven since (f.names a) (f.holder a) sinks (outputs_of list blocks) → StandsInPart since (f.names c) (outputs_of list (blocks ++ all))
-Given-part f list a b c sinks now passed more all gave part begun since blocks has =
-    StandsInPart-then since (f.names c) (outputs_of list (blocks ++ (passed ++ more))) (outputs_of list (blocks ++ all))
-    (subst (λ (bs : List Block). StandsInPart since (f.names c) (outputs_of list bs)) (append_assoc blocks passed more) (part since (blocks ++ passed) (gave since blocks has)))
-    (begun blocks)
+pub Given-part : {S : Type 0} (f : writing.Ghosts S) (list : List TrackOutput) (a b c : S) (sinks now : List Sink) (numbers : List ℕ) (passed : List Block) (b' : Block) (all : List Block) → Given f list a b sinks now numbers passed → ((since : Names) (blocks : List Block) → HaveBlocks f since list b now numbers blocks → StandsInPart since (f.names c) (outputs_of list (blocks ++ b' ∷ []))) → AreBegun (outputs_of list (passed ++ b' ∷ [])) (outputs_of list all) → (since : Names) → HaveBeenGiven since (f.names a) (f.holder a) sinks (outputs_of list []) → StandsInPart since (f.names c) (outputs_of list all)
+Given-part f list a b c sinks now numbers passed b' all gave part begun since has =
+    StandsInPart-then since (f.names c) (outputs_of list (passed ++ b' ∷ [])) (outputs_of list all) (part since passed (gave since has)) begun
 
 -- what was given so far stands in part of all
-pub Given-begun : {S : Type 0} (f : writing.Ghosts S) (list : List TrackOutput) (a b : S) (sinks now : List Sink) (passed all : List Block) → Given f list a b sinks now passed → ((before : List Block) → AreBegun (outputs_of list (before ++ passed)) (outputs_of list (before ++ all))) → (since : Names) (blocks : List Block) → HaveBeenGiven since (f.names a) (f.holder a) sinks (outputs_of list blocks) → StandsInPart since (f.names b) (outputs_of list (blocks ++ all))
-Given-begun f list a b sinks now passed all gave begun since blocks has =
-    StandsInPart-then since (f.names b) (outputs_of list (blocks ++ passed)) (outputs_of list (blocks ++ all))
-    (HaveBeenGiven-part since (f.names b) (f.holder b) now (outputs_of list (blocks ++ passed)) (gave since blocks has))
-    (begun blocks)
+pub Given-begun : {S : Type 0} (f : writing.Ghosts S) (list : List TrackOutput) (a b : S) (sinks now : List Sink) (numbers : List ℕ) (passed all : List Block) → Given f list a b sinks now numbers passed → AreBegun (outputs_of list passed) (outputs_of list all) → (since : Names) → HaveBeenGiven since (f.names a) (f.holder a) sinks (outputs_of list []) → StandsInPart since (f.names b) (outputs_of list all)
+Given-begun f list a b sinks now numbers passed all gave begun since has =
+    StandsInPart-then since (f.names b) (outputs_of list passed) (outputs_of list all)
+    (HaveBeenGiven-part since (f.names b) (f.holder b) now (outputs_of list passed) (gave since has).given)
+    begun
+
+-- at the end they have them all
+pub Given-ends : {S : Type 0} (f : writing.Ghosts S) (list : List TrackOutput) (a b : S) (sinks now : List Sink) (numbers : List ℕ) (passed all : List Block) → Given f list a b sinks now numbers passed → passed ≡ all → (since : Names) → HaveBeenGiven since (f.names a) (f.holder a) sinks (outputs_of list []) → HaveBeenGiven since (f.names b) (f.holder b) now (outputs_of list all)
+Given-ends f list a b sinks now numbers passed all gave same since has =
+    subst (λ (bs : List Block). HaveBeenGiven since (f.names b) (f.holder b) now (outputs_of list bs)) same (gave since has).given
 
 -- ---- the files
 

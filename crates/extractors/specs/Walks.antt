@@ -1,5 +1,6 @@
 -- What is written on a walk over the blocks of a file.
-use Rattle.std.specs.Prelude.{◌≡◌, ◌≤◌, ◌<◌, ℕ, ◌+◌, ◌*◌, ◌^◌, ℤ, List, ◌++◌, Result, Ok, Err}
+use Rattle.std.specs.Prelude.{◌≡◌, ◌≤◌, ◌<◌, ℕ, ◌+◌, ◌*◌, ◌^◌, List, [], ◌∷◌, ◌++◌, length, map, Result, Ok, Err}
+use Rattle.srt_texts.specs.Writing.{put_srt}
 use Rattle.mkv_io.specs.Names.{Names}
 use Rattle.mkv_io.specs.Writing.{KeepsOthers}
 use Rattle.mkv_io.specs.declared.reads.Reads.{Ghosts}
@@ -9,19 +10,28 @@ use Rattle.mkv_outputs.specs.Outputs.{Output, with_outputs}
 use Rattle.mkv_outputs.specs.Sinks.{AreOpen, HaveBeenGiven, ids_of, names_under}
 use Rattle.mkv_outputs.specs.Starts.{StandsInPart}
 use Rattle.mkv_outputs.specs.declared.sink.Sink.{Sink}
-use Rattle.extract_model.specs.Content.{entries_of, outputs_of}
-use Rattle.extract_model.specs.Frames.{Frame, frames_for}
+use Rattle.extract_model.specs.Content.{counted, entries_from, outputs_of}
+use Rattle.extract_model.specs.Frames.{Frame, frames_for, frames_of}
 use Rattle.extract_model.specs.declared.track_output.TrackOutput.{TrackOutput}
+use Rattle.extractors.specs.declared.frames.Framed.{Framed}
 
 -- ---- one block
 
--- a frame of these octets and this time
-abbrev pub frame : List ℕ → ℤ → Frame
-frame octets time = record { octets = octets; time = time }
+-- a frame that is given to an output
+abbrev pub frame_of : Framed → Frame
+frame_of f = record { octets = f.octets.now; time = f.time; duration = f.duration }
 
--- what a block adds to an output: what is written of its frames, if it is of the output's track
-abbrev pub piece : TrackOutput → Block → List ℕ
-piece o b = entries_of o.format (frames_for o.step o.track b)
+-- the same as an entry of SubRip, whose text is the frame behind a prefix
+abbrev pub text_entry : List ℕ → Framed → List ℕ
+text_entry prefix f = put_srt f.number f.time f.duration (prefix ++ f.octets.now)
+
+-- how many frames a block has for an output: none, if it isn't of the output's track
+abbrev pub count_in : TrackOutput → Block → ℕ
+count_in o b = length (frames_for o.step o.track b)
+
+-- what a block adds to an output whose next frame has this number: what is written of its frames
+abbrev pub piece : TrackOutput → ℕ → Block → List ℕ
+piece o n b = entries_from o.format n (frames_for o.step o.track b)
 
 -- From one frame to the next it isn't too long: a DefaultDuration is below 2^48.
 abbrev pub HasSmallStep : TrackOutput → Type 0
@@ -29,11 +39,28 @@ HasSmallStep o = o.step < 2 ^ 48
 
 -- ---- many blocks
 
--- Whatever blocks the outputs were given before, they have then been given these too. After a refusal that stands
+-- the number of the next frame of an output that has these blocks
+abbrev pub number_after : List Block → TrackOutput → ℕ
+number_after blocks o = counted (1 + length (frames_of o.step o.track blocks))
+
+abbrev pub numbers_after : List TrackOutput → List Block → List ℕ
+numbers_after list blocks = map (number_after blocks) list
+
+-- Since the names were so, outputs were made and given these blocks, and these are the numbers of their next frames.
+pub record HaveBlocks {S : Type 0} (f : writing.Ghosts S) (since : Names) (list : List TrackOutput) (files : S) (sinks : List Sink) (numbers : List ℕ) (blocks : List Block) : Type 0 where
+  pub given : HaveBeenGiven since (f.names files) (f.holder files) sinks (outputs_of list blocks)
+  pub next : numbers ≡ numbers_after list blocks
+
+-- Whatever blocks the outputs were given before, they have then been given this one too. After a refusal that stands
 -- in part.
+abbrev pub GivesBlock : {S T E : Type 0} → writing.Ghosts S → List TrackOutput → S → S → List Sink → List Sink → List ℕ → List ℕ → Block → Result T E → Type 0
+GivesBlock f list old new sinks later before after b (Ok _) = (since : Names) (blocks : List Block) → HaveBlocks f since list old sinks before blocks → HaveBlocks f since list new later after (blocks ++ b ∷ [])
+GivesBlock f list old new sinks later before after b (Err _) = (since : Names) (blocks : List Block) → HaveBlocks f since list old sinks before blocks → StandsInPart since (f.names new) (outputs_of list (blocks ++ b ∷ []))
+
+-- Outputs that were given no block yet have then been given all these. After a refusal that stands in part.
 abbrev pub GivesBlocks : {S T E : Type 0} → writing.Ghosts S → List TrackOutput → S → S → List Sink → List Sink → List Block → Result T E → Type 0
-GivesBlocks f list old new sinks later more (Ok _) = (since : Names) (blocks : List Block) → HaveBeenGiven since (f.names old) (f.holder old) sinks (outputs_of list blocks) → HaveBeenGiven since (f.names new) (f.holder new) later (outputs_of list (blocks ++ more))
-GivesBlocks f list old new sinks later more (Err _) = (since : Names) (blocks : List Block) → HaveBeenGiven since (f.names old) (f.holder old) sinks (outputs_of list blocks) → StandsInPart since (f.names new) (outputs_of list (blocks ++ more))
+GivesBlocks f list old new sinks later all (Ok _) = (since : Names) → HaveBeenGiven since (f.names old) (f.holder old) sinks (outputs_of list []) → HaveBeenGiven since (f.names new) (f.holder new) later (outputs_of list all)
+GivesBlocks f list old new sinks later all (Err _) = (since : Names) → HaveBeenGiven since (f.names old) (f.holder old) sinks (outputs_of list []) → StandsInPart since (f.names new) (outputs_of list all)
 
 -- Outputs were made and given these octets, or after a refusal stand in part.
 abbrev pub Makes : {S T E : Type 0} → writing.Ghosts S → S → S → List Sink → List Output → Result T E → Type 0

@@ -1,6 +1,6 @@
 //! The blocks of a file are written into the outputs.
 
-ghost use Rattle.std.specs.Prelude.{◌≡◌, ◌<◌, ◌∷◌, [], ◌^◌, length, IfOk};
+ghost use Rattle.std.specs.Prelude.{◌≡◌, ◌<◌, ◌+◌, length, IfOk};
 ghost use Rattle.std.specs.List.{All};
 ghost use Rattle.mkv_io.specs.Faults.{HasCause, is_make_failure};
 ghost use Rattle.mkv_io.specs.Names.{AreOthers};
@@ -10,11 +10,12 @@ ghost use Rattle.block_format.specs.Events.{blocks_of, damages_of};
 ghost use Rattle.block_records.specs.Buffered.{block_of};
 ghost use Rattle.cluster_reader.specs.Reading.{CanRead, left_of};
 ghost use Rattle.cluster_reader.specs.ToldDamages.{told_damages};
+ghost use Rattle.extract_model.specs.Content.{counted};
 ghost use Rattle.mkv_outputs.specs.Outputs.{with_more};
 ghost use Rattle.mkv_outputs.specs.Sinks.{AreOpen, Gives, WritesOutputs, names_under};
-ghost use Rattle.extractors.specs.Walks.{GivesBlocks, HasSmallStep, ReadsFew, WritesAndReads, piece};
+ghost use Rattle.extractors.specs.Walks.{GivesBlock, GivesBlocks, HasSmallStep, ReadsFew, WritesAndReads, count_in, piece};
 
-use crate::frames::give_frames;
+use crate::frames::{Scratch, give_frames};
 use cluster_reader::{Cursor, Damages, Step};
 use extract_model::TrackOutput;
 use mkv_io::Files;
@@ -23,52 +24,58 @@ use mkv_outputs::Outputs;
 use mkv_values::MakeFault;
 use std::alloc::Global;
 
-/// Gives a block to the k-th output, which takes the frames of its track.
+/// Gives a block to the k-th output, whose next frame has this number, and answers the number of the one behind. It takes
+/// the frames of its track.
 fn give_to<F: Files>(
     outputs: &mut Outputs,
     files: &mut F,
     k: usize,
     output: &TrackOutput,
+    number: u64,
     cursor: &Cursor,
-    text: &mut String,
-) -> Result<(), MakeFault>
+    scratch: &mut Scratch,
+) -> Result<u64, MakeFault>
     requires below { k < length outputs.old }
     requires open { AreOpen F.Reads files.old outputs.old }
     requires step { HasSmallStep output.now }
     ensures gives { Gives F.Files.own files.old files.new outputs.old outputs.new
-        (with_more k (piece output.now (block_of cursor.now.block))) result }
+        (with_more k (piece output.now number (block_of cursor.now.block))) result }
+    ensures number { IfOk result (λ next. next ≡ counted (number + count_in output.now (block_of cursor.now.block))) }
     ensures only { WritesOutputs F.Reads F.Files.own files.old files.new outputs.old outputs.new }
     ensures cause { HasCause is_make_failure (F.writing_faults files.old) (F.writing_faults files.new) result }
 {
     if cursor.head().track != output.track {
-        return Ok(());
+        return Ok(number);
     }
-    give_frames(outputs, files, k, output, cursor, text)
+    give_frames(outputs, files, k, output, number, cursor, scratch)
 }
 
-/// Gives a block to the outputs of its track.
+/// Gives a block to the outputs of its track. The numbers are those of their next frames.
 fn give_block<F: Files>(
     list: &[TrackOutput],
     outputs: &mut Outputs,
     files: &mut F,
+    numbers: &mut Vec<u64>,
     cursor: &Cursor,
-    text: &mut String,
+    scratch: &mut Scratch,
 ) -> Result<(), MakeFault>
     requires count { length list.now ≡ length outputs.old }
+    requires numbers { length list.now ≡ length numbers.old.items }
     requires open { AreOpen F.Reads files.old outputs.old }
     requires steps { All HasSmallStep list.now }
-    ensures gives { GivesBlocks F.Files.own list.now files.old files.new outputs.old outputs.new
-        (block_of cursor.now.block ∷ []) result }
+    ensures gives { GivesBlock F.Files.own list.now files.old files.new outputs.old outputs.new
+        numbers.old.items numbers.new.items (block_of cursor.now.block) result }
+    ensures count { length numbers.new.items ≡ length numbers.old.items }
     ensures only { WritesOutputs F.Reads F.Files.own files.old files.new outputs.old outputs.new }
     ensures cause { HasCause is_make_failure (F.writing_faults files.old) (F.writing_faults files.new) result }
 {
     for k in 0..list.len() {
-        give_to(outputs, files, k, &list[k], cursor, text)?;
+        numbers[k] = give_to(outputs, files, k, &list[k], numbers[k], cursor, scratch)?;
     }
     Ok(())
 }
 
-/// Gives all blocks that a cursor has left to the outputs of their tracks, and answers the damages.
+/// Gives all blocks that a cursor has left to the outputs of their tracks, which have none yet, and answers the damages.
 pub fn write_blocks<F: Files>(
     alloc: Global,
     list: &[TrackOutput],
@@ -89,11 +96,14 @@ pub fn write_blocks<F: Files>(
     ensures cause { HasRemuxCause F.Reads F.Files.own files.old files.new result }
     ensures octets { ReadsFew (file_size F.Reads files.old cursor.old.file) (F.octets_read files.old) (F.octets_read files.new) result }
 {
-    let mut text = String::new(alloc);
+    let mut scratch = Scratch::new(alloc);
+    let mut numbers = vec![in alloc; 1; list.len()]?;
     let mut damages = Damages::new(alloc)?;
     'steps: loop {
         match cursor.advance(files)? {
-            Step::Block => give_block(list, outputs, files, cursor, &mut text)?,
+            Step::Block => {
+                give_block(list, outputs, files, &mut numbers, cursor, &mut scratch)?
+            },
             Step::Damaged(damage) => damages.add(damage),
             Step::End => return Ok(damages),
         }

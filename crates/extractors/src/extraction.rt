@@ -124,6 +124,7 @@ fn head_of(format: &Format) -> &[u8]
 {
     match format {
         Format::Frames { head, .. } => head.as_slice(),
+        Format::SubRip { .. } => &[],
         Format::Times => b"# timestamp format v2\n",
     }
 }

@@ -5,7 +5,7 @@ ghost use Rattle.std.specs.List.{All};
 ghost use Rattle.track_format.specs.Encoding.{prefix_of, usable_prefix};
 ghost use Rattle.track_records.specs.Sound.{IsEntry};
 ghost use Rattle.track_records.specs.Track.{track_of};
-ghost use Rattle.extract_model.specs.Job.{format_of, output_for, outputs_for, private_of, taken_of, targets_of, track_output};
+ghost use Rattle.extract_model.specs.Job.{first_unfit, fits, format_of, is_unfit, job_unfit, outputs_for, private_of, taken_of, targets_of, track_output};
 ghost use Rattle.file_records.specs.Records.{AreRead};
 ghost use Rattle.extractors.specs.Source.{AreUsableOf, IsUsable, entry_in};
 
@@ -29,6 +29,10 @@ pub fn taken_of(job: &Job) -> Option<Taken>
             form: Form::Full,
             ..
         } => Some(Taken::Full),
+        Job::Tracks {
+            form: Form::SubRip,
+            ..
+        } => Some(Taken::SubRip),
         Job::Timestamps { .. } => Some(Taken::Times),
         _ => None,
     }
@@ -66,6 +70,54 @@ pub fn track_outputs(
         list.push(track_output(alloc, taken, &target.name, track)?)?;
     }
     Ok(list)
+}
+
+/// The number, from 0, of the first track that a job names and that it can't take so, since the track's codec has no form
+/// of its own that is known.
+pub fn job_unfit(job: &Job, tracks: &[Track]) -> Option<u64>
+    requires { AreRead tracks.now }
+    ensures { result ≡ job_unfit job.now (map entry_in tracks.now) }
+{
+    match taken_of(job) {
+        Some(taken) => first_unfit(taken, targets_of(job), tracks),
+        None => None,
+    }
+}
+
+/// The number of the first track that a target names and of which this can't be written. Tracks that aren't there
+/// are passed.
+fn first_unfit(taken: Taken, targets: &[Target], tracks: &[Track]) -> Option<u64>
+    requires { AreRead tracks.now }
+    ensures { result ≡ first_unfit taken targets.now (map entry_in tracks.now) }
+{
+    for target in targets {
+        if is_unfit(taken, target, tracks) {
+            return Some(target.id);
+        }
+    }
+    None
+}
+
+/// Whether a target names a track of which this can't be written.
+fn is_unfit(taken: Taken, target: &Target, tracks: &[Track]) -> bool
+    requires { AreRead tracks.now }
+    ensures { result ≡ is_unfit taken (map entry_in tracks.now) target.now }
+{
+    match tracks.get(target.id as usize) {
+        Some(track) => !fits(taken, track),
+        None => false,
+    }
+}
+
+/// Whether this can be written of a track.
+fn fits(taken: Taken, track: &Track) -> bool
+    requires { track.now ≡ track_of track.now.entry }
+    ensures { result ≡ fits taken track.now.entry }
+{
+    match taken {
+        Taken::SubRip => track.codec.as_str() == "S_TEXT/UTF8",
+        _ => true,
+    }
 }
 
 /// The output of this name, which takes the frames of a track.
@@ -108,6 +160,9 @@ fn format_of(
         },
         Taken::Full => Format::Frames {
             head: bytes_of(alloc, private_of(track))?,
+            prefix: bytes_of(alloc, prefix)?,
+        },
+        Taken::SubRip => Format::SubRip {
             prefix: bytes_of(alloc, prefix)?,
         },
         Taken::Times => Format::Times,

@@ -11,5 +11,5 @@ mod source;
 mod times;
 
 pub use extraction::extract;
-pub use job::{taken_of, targets_of};
+pub use job::{job_unfit, taken_of, targets_of};
 pub use source::Source;

@@ -11,9 +11,9 @@ use Rattle.file_blocks.specs.File.{file_events}
 use Rattle.cluster_reader.specs.ToldDamages.{ToldDamages, told_damages}
 use Rattle.mkv_outputs.specs.Outputs.{Output, names_of}
 use Rattle.extract_model.specs.Content.{outputs_of}
-use Rattle.extract_model.specs.Job.{job_outputs, targets_of}
+use Rattle.extract_model.specs.Job.{job_outputs, job_unfit, targets_of}
 use Rattle.extractors.specs.Source.{entry_in}
-use Rattle.mkv_lines.specs.Line.{damage_lines, missing_line, no_track_line, output_is_input_line, refusal_line, wrote_line}
+use Rattle.mkv_lines.specs.Line.{damage_lines, missing_line, no_extractor_line, no_track_line, output_is_input_line, refusal_line, wrote_line}
 use Rattle.mkv_lines.specs.Verdict.{Verdict, at_once, refused, unless_pending}
 use Rattle.mkv_lines.specs.declared.status.Status.{Status}
 use Rattle.mkv_lines.specs.declared.status.Status.TheVariants.{Done, Warned}
@@ -62,9 +62,17 @@ abbrev pub taken_verdict : List ℕ → Job → List Track → List Event → Ve
 taken_verdict name job tracks events =
     extracted name (targets_of job) (length tracks) (outputs_of (job_outputs job (map entry_in tracks)) (blocks_of events)) (damages_of events)
 
+-- a track that is named and that can't be taken so is refused
+abbrev pub unless_unfit : List ℕ → Option ℕ → Verdict → Verdict
+unless_unfit name None v = v
+unless_unfit name (Some number) v = refused (no_extractor_line name number)
+
+abbrev pub fit_verdict : List ℕ → Job → List Track → List Event → Verdict
+fit_verdict name job tracks events = unless_unfit name (job_unfit job (map entry_in tracks)) (taken_verdict name job tracks events)
+
 abbrev pub read_verdict : List ℕ → Job → List ℕ → Result FileRead Damage → Verdict
 read_verdict name job bytes (Err d) = refused (refusal_line name d)
-read_verdict name job bytes (Ok file) = taken_verdict name job file.tracks (file_events true bytes file.segment)
+read_verdict name job bytes (Ok file) = fit_verdict name job file.tracks (file_events true bytes file.segment)
 
 -- what is told of a name, which may have no content, and of whose file an edit may be pending
 abbrev pub name_verdict : List ℕ → Job → Bool → Option (List ℕ) → Verdict

@@ -8,19 +8,19 @@ ghost use Rattle.extract_model.specs.Job.{names_of, taken_of, targets_of};
 ghost use Rattle.extractors.specs.Source.{AreUsable, IsSource, events_in};
 ghost use Rattle.pending_edits.specs.Pending.{is_pending};
 ghost use Rattle.mkv_lines.specs.Faults.{HasStopCause};
-ghost use Rattle.mkv_lines.specs.Line.{refusal_line};
+ghost use Rattle.mkv_lines.specs.Line.{no_extractor_line, refusal_line};
 ghost use Rattle.mkv_lines.specs.Ordinary.{IsOrdinary};
 ghost use Rattle.mkv_lines.specs.Said.{HasSayCause};
 ghost use Rattle.mkv_lines.specs.Seen.{seen};
 ghost use Rattle.mkv_lines.specs.Verdict.{Reaches, SaysVerdict, refused, unless_pending};
 ghost use Rattle.mkv_extract.specs.End.{stop_of};
-ghost use Rattle.mkv_extract.specs.Extract.{extract_verdict, is_input, read_verdict, taken_verdict};
+ghost use Rattle.mkv_extract.specs.Extract.{extract_verdict, fit_verdict, is_input, read_verdict, taken_verdict};
 ghost use Rattle.mkv_extract.specs.Read.{read_of};
 
 use crate::reading::read_source;
 use crate::telling::{say_absent, tell};
 use element_reader::OutlineEnd;
-use extractors::{Source, extract, targets_of};
+use extractors::{Source, extract, job_unfit, targets_of};
 use mkv_io::{Files, Report};
 use mkv_jobs::{Job, RemuxEnd, Target};
 use mkv_lines::{Line, Status, Stop, say};
@@ -129,7 +129,7 @@ fn extract_file<F: Files, P: Report>(
         (seen F.Reads F.writing_faults F.names P.Report files.new report.new).counts result }
 {
     match read_source(alloc, job, files, file) {
-        Ok(source) => extract_source(alloc, name, job, &source, files, report),
+        Ok(source) => extract_fit(alloc, name, job, &source, files, report),
         Err(OutlineEnd::Refused(damage)) => refuse(alloc, name, damage, report),
         Err(OutlineEnd::ReadFault) => Err(Stop::Files),
         Err(OutlineEnd::Memory) => Err(Stop::Memory),
@@ -148,6 +148,51 @@ fn refuse<P: Report>(
     ensures cause { HasSayCause (P.faults report.old) (P.faults report.new) result }
 {
     say(alloc, report, &Line::Refused { name, damage })?;
+    Ok(Status::Refused)
+}
+
+/// Takes what a job asks for out of a source, unless a track that it names can't be taken so.
+fn extract_fit<F: Files, P: Report>(
+    alloc: Global,
+    name: &str,
+    job: &Job,
+    source: &Source,
+    files: &mut F,
+    report: &mut P,
+) -> Result<Status, Stop>
+    requires takes { IsSome (taken_of job.now) }
+    requires apart { AreApart (names_of (targets_of job.now)) }
+    requires source { IsSource F.Reads files.old source.now }
+    requires usable { AreUsable source.now (targets_of job.now) }
+    requires other { AreOthers (F.holder files.old source.now.file.n) (names_of (targets_of job.now)) }
+    ensures verdict { IfTold F.Reads files.old source.now.file (λ bytes. Reaches
+        (seen F.Reads F.writing_faults F.names P.Report files.old report.old)
+        (seen F.Reads F.writing_faults F.names P.Report files.new report.new)
+        result (fit_verdict name.now job.now source.now.tracks (events_in source.now bytes))) }
+    ensures ordinary { IfOk result IsOrdinary }
+    ensures live { (file : ℕ) → (live_files F.Reads files.new).live file ≡ (live_files F.Reads files.old).live file }
+    ensures cause { HasStopCause
+        (seen F.Reads F.writing_faults F.names P.Report files.old report.old).counts
+        (seen F.Reads F.writing_faults F.names P.Report files.new report.new).counts result }
+{
+    if let Some(number) = job_unfit(job, source.tracks.as_slice()) {
+        return refuse_track(alloc, name, number, report);
+    }
+    extract_source(alloc, name, job, source, files, report)
+}
+
+/// A track can't be taken so.
+fn refuse_track<P: Report>(
+    alloc: Global,
+    name: &str,
+    number: u64,
+    report: &mut P,
+) -> Result<Status, Stop>
+    ensures verdict { SaysVerdict (P.lines report.old) (P.lines report.new) result (refused (no_extractor_line name.now number)) }
+    ensures ordinary { IfOk result IsOrdinary }
+    ensures cause { HasSayCause (P.faults report.old) (P.faults report.new) result }
+{
+    say(alloc, report, &Line::NoExtractor { name, number })?;
     Ok(Status::Refused)
 }
 

@@ -1,4 +1,5 @@
-use Rattle.std.proofs.Common.{◌≤◌, ◌+◌, ℕ, [], ◌∷◌, ◌++◌, refl, ap, subst, sym, ◌∙◌, arith}
+use Rattle.std.proofs.Common.{◌≤◌, ◌+◌, ℕ, List, length, [], ◌∷◌, ◌++◌, refl, ap, subst, sym, ◌∙◌, arith}
+use Rattle.std.proofs.lemmas.List.{length-replicate}
 use Rattle.std.proofs.lemmas.Result.{err_from_is_err_and}
 use Rattle.mkv_values.specs.declared.outside.FileId.{FileId}
 use Rattle.mkv_io.specs.Names.{AreOthers}
@@ -13,14 +14,15 @@ use Rattle.mkv_outputs.proofs.StartsLemmas.{StandsInPart-then}
 use Rattle.extract_model.specs.Content.{outputs_of}
 use Rattle.extract_model.proofs.ContentLemmas.{outputs_of-begun}
 use Rattle.extractors.proofs.BlocksLemmas.{GivesBlocks-err}
-use Rattle.extractors.proofs.WalkLemmas.{Given, Given-begun, Given-more, Given-none, Given-part, Given-read, MetUpTo-begins, MetUpTo-begun, MetUpTo-block, MetUpTo-blocks, MetUpTo-damage, WritesAndReads-none, WritesAndReads-read, WritesAndReads-write, input-other, pays-step}
+use Rattle.extractors.proofs.WalkLemmas.{Given, Given-begun, Given-ends, Given-more, Given-none, Given-part, Given-read, MetUpTo-begins, MetUpTo-begun, MetUpTo-block, MetUpTo-blocks, MetUpTo-damage, WritesAndReads-none, WritesAndReads-read, WritesAndReads-write, input-other, pays-step}
 use Rattle.extractors.proofs.blocks.write_blocks.Goals as goal
 
 -- nothing was done yet
 pub steps-init : goal.steps-init
 steps-init g c = record {
   passed = [];
-  has = Given-none g.F.Files c.args.list.now c.args.files.now c.args.outputs.now;
+  has = Given-none g.F.Files c.args.list.now c.args.files.now c.args.outputs.now c.in_ok-numbers.numbers.items (c.in_ok-numbers.ensures.items_if_clones_equal (λ y is. is));
+  count = ap length (c.in_ok-numbers.ensures.items_if_clones_equal (λ y is. is)) ∙ length-replicate (length c.args.list.now) 1;
   met = λ bytes told. MetUpTo-begins (left_of bytes c.args.cursor.now) c.in_ok-damages.damages c.in_ok-damages.ensures;
   ready = c.requires.stands;
   file = refl;
@@ -30,13 +32,21 @@ steps-init g c = record {
   reading = refl;
 }
 
+-- there is no memory for the numbers, and nothing was written
+pub returns-in_err-numbers-clause-gives : goal.returns-in_err-numbers-clause-gives
+returns-in_err-numbers-clause-gives g c = λ bytes told.
+    GivesBlocks-err g.F.Files c.args.list.now c.args.files.now c.args.files.now c.args.outputs.now c.args.outputs.now (blocks_of (left_of bytes c.args.cursor.now)) c.from_residual.result c.from_residual.ensures.0
+    (λ since has. StandsInPart-then since (g.F.Files.names c.args.files.now) (outputs_of c.args.list.now []) (outputs_of c.args.list.now (blocks_of (left_of bytes c.args.cursor.now)))
+    (HaveBeenGiven-part since (g.F.Files.names c.args.files.now) (g.F.Files.holder c.args.files.now) c.args.outputs.now (outputs_of c.args.list.now []) has)
+    (outputs_of-begun c.args.list.now [] (blocks_of (left_of bytes c.args.cursor.now))))
+
 -- there is no memory for the damages, and nothing was written
 pub returns-in_err-damages-clause-gives : goal.returns-in_err-damages-clause-gives
 returns-in_err-damages-clause-gives g c = λ bytes told.
-    GivesBlocks-err g.F.Files c.args.list.now c.args.files.now c.args.files.now c.args.outputs.now c.args.outputs.now (blocks_of (left_of bytes c.args.cursor.now)) c.from_residual.result c.from_residual.ensures.0
-    (λ since blocks has. StandsInPart-then since (g.F.Files.names c.args.files.now) (outputs_of c.args.list.now blocks) (outputs_of c.args.list.now (blocks ++ blocks_of (left_of bytes c.args.cursor.now)))
-    (HaveBeenGiven-part since (g.F.Files.names c.args.files.now) (g.F.Files.holder c.args.files.now) c.args.outputs.now (outputs_of c.args.list.now blocks) has)
-    (outputs_of-begun c.args.list.now blocks (blocks_of (left_of bytes c.args.cursor.now))))
+    GivesBlocks-err g.F.Files c.args.list.now c.args.files.now c.args.files.now c.args.outputs.now c.args.outputs.now (blocks_of (left_of bytes c.args.cursor.now)) c.from_residual-in_err-damages.result c.from_residual-in_err-damages.ensures.0
+    (λ since has. StandsInPart-then since (g.F.Files.names c.args.files.now) (outputs_of c.args.list.now []) (outputs_of c.args.list.now (blocks_of (left_of bytes c.args.cursor.now)))
+    (HaveBeenGiven-part since (g.F.Files.names c.args.files.now) (g.F.Files.holder c.args.files.now) c.args.outputs.now (outputs_of c.args.list.now []) has)
+    (outputs_of-begun c.args.list.now [] (blocks_of (left_of bytes c.args.cursor.now))))
 
 -- the cursor couldn't go on
 pub returns-in_err-advance-clause-gives : goal.returns-in_err-advance-clause-gives
@@ -45,13 +55,13 @@ returns-in_err-advance-clause-gives g c = λ bytes told.
     let names_same = g.met.F.Files.names_stand c.advance.new.src c.steps.files c.advance.ensures.standing in
     let holders_same = g.met.F.Files.holders_stand c.advance.new.src c.steps.files c.advance.ensures.standing in
     GivesBlocks-err g.F.Files c.args.list.now c.args.files.now c.advance.new.src c.args.outputs.now c.steps.outputs (blocks_of (left_of bytes c.args.cursor.now)) c.from_residual-in_err-advance.result c.from_residual-in_err-advance.ensures.0
-    (Given-begun g.F.Files c.args.list.now c.args.files.now c.advance.new.src c.args.outputs.now c.steps.outputs passed (blocks_of (left_of bytes c.args.cursor.now))
-    (Given-read g.F.Files c.args.list.now c.args.files.now c.steps.files c.advance.new.src c.args.outputs.now c.steps.outputs passed c.steps.invariant.has names_same holders_same)
-    (λ before. MetUpTo-begun c.args.list.now before (left_of bytes c.args.cursor.now) (left_of bytes c.steps.cursor) passed c.steps.damages (c.steps.invariant.met bytes told)))
+    (Given-begun g.F.Files c.args.list.now c.args.files.now c.advance.new.src c.args.outputs.now c.steps.outputs c.steps.numbers.items passed (blocks_of (left_of bytes c.args.cursor.now))
+    (Given-read g.F.Files c.args.list.now c.args.files.now c.steps.files c.advance.new.src c.args.outputs.now c.steps.outputs c.steps.numbers.items passed c.steps.invariant.has names_same holders_same)
+    (MetUpTo-begun c.args.list.now (left_of bytes c.args.cursor.now) (left_of bytes c.steps.cursor) passed c.steps.damages (c.steps.invariant.met bytes told)))
 
 -- a block was given
-pub steps-preserved-in-Continue-branch-4 : goal.steps-preserved-in-Continue-branch-4
-steps-preserved-in-Continue-branch-4 g c =
+pub steps-preserved-in-Continue-branch-5 : goal.steps-preserved-in-Continue-branch-5
+steps-preserved-in-Continue-branch-5 g c =
     let b = block_of c.advance.new.self.block in
     let passed = c.steps.invariant.passed in
     let give = c.in_ok-give_block-in-Block.ensures in
@@ -66,9 +76,10 @@ steps-preserved-in-Continue-branch-4 g c =
     (input-other g.F.Reads g.F.Files c.args.files.now c.advance.new.src c.args.outputs.now c.steps.outputs c.args.cursor.now.file.n c.requires.open walks c.requires.stands.live c.requires.other) in
     record {
       passed = passed ++ b ∷ [];
-      has = Given-more g.F.Files c.args.list.now c.args.files.now c.advance.new.src c.give_block.new.files c.args.outputs.now c.steps.outputs c.give_block.new.outputs passed b
-          (Given-read g.F.Files c.args.list.now c.args.files.now c.steps.files c.advance.new.src c.args.outputs.now c.steps.outputs passed c.steps.invariant.has names_same holders_same)
+      has = Given-more g.F.Files c.args.list.now c.args.files.now c.advance.new.src c.give_block.new.files c.args.outputs.now c.steps.outputs c.give_block.new.outputs c.steps.numbers.items c.give_block.new.numbers.items passed b
+          (Given-read g.F.Files c.args.list.now c.args.files.now c.steps.files c.advance.new.src c.args.outputs.now c.steps.outputs c.steps.numbers.items passed c.steps.invariant.has names_same holders_same)
           give.gives;
+      count = c.give_block.ensures.count ∙ c.steps.invariant.count;
       met = λ bytes told.
           let here = ap (λ (f : FileId). (g.F.Reads.files (g.F.Reads.standing c.steps.files)).content f.n) c.steps.invariant.file ∙ same.content c.requires.stands.live ∙ told in
           MetUpTo-block (left_of bytes c.args.cursor.now) (left_of bytes c.steps.cursor) (left_of bytes c.advance.new.self) passed c.steps.damages b (c.steps.invariant.met bytes told) (rw c.in-Block.is at (c.in_ok-advance.ensures.gives bytes here));
@@ -95,10 +106,10 @@ returns-in_err-give_block-in-Block-clause-gives g c = λ bytes told.
     let here = ap (λ (f : FileId). (g.F.Reads.files (g.F.Reads.standing c.steps.files)).content f.n) c.steps.invariant.file ∙ same.content c.requires.stands.live ∙ told in
     let met = MetUpTo-block (left_of bytes c.args.cursor.now) (left_of bytes c.steps.cursor) (left_of bytes c.advance.new.self) passed c.steps.damages b (c.steps.invariant.met bytes told) (rw c.in-Block.is at (c.in_ok-advance.ensures.gives bytes here)) in
     GivesBlocks-err g.F.Files c.args.list.now c.args.files.now c.give_block.new.files c.args.outputs.now c.give_block.new.outputs (blocks_of (left_of bytes c.args.cursor.now)) c.from_residual-in_err-give_block-in-Block.result c.from_residual-in_err-give_block-in-Block.ensures.0
-    (Given-part g.F.Files c.args.list.now c.args.files.now c.advance.new.src c.give_block.new.files c.args.outputs.now c.steps.outputs passed (b ∷ []) (blocks_of (left_of bytes c.args.cursor.now))
-    (Given-read g.F.Files c.args.list.now c.args.files.now c.steps.files c.advance.new.src c.args.outputs.now c.steps.outputs passed c.steps.invariant.has names_same holders_same)
+    (Given-part g.F.Files c.args.list.now c.args.files.now c.advance.new.src c.give_block.new.files c.args.outputs.now c.steps.outputs c.steps.numbers.items passed b (blocks_of (left_of bytes c.args.cursor.now))
+    (Given-read g.F.Files c.args.list.now c.args.files.now c.steps.files c.advance.new.src c.args.outputs.now c.steps.outputs c.steps.numbers.items passed c.steps.invariant.has names_same holders_same)
     c.in_err-give_block-in-Block.ensures.gives
-    (λ before. MetUpTo-begun c.args.list.now before (left_of bytes c.args.cursor.now) (left_of bytes c.advance.new.self) (passed ++ b ∷ []) c.steps.damages met))
+    (MetUpTo-begun c.args.list.now (left_of bytes c.args.cursor.now) (left_of bytes c.advance.new.self) (passed ++ b ∷ []) c.steps.damages met))
 
 pub returns-in_err-give_block-in-Block-clause-walks : goal.returns-in_err-give_block-in-Block-clause-walks
 returns-in_err-give_block-in-Block-clause-walks g c =
@@ -127,7 +138,8 @@ steps-preserved g c =
     let same = c.steps.invariant.walks.kept.others c.args.cursor.now.file.n c.requires.other in
     record {
       passed = passed;
-      has = Given-read g.F.Files c.args.list.now c.args.files.now c.steps.files c.advance.new.src c.args.outputs.now c.steps.outputs passed c.steps.invariant.has names_same holders_same;
+      has = Given-read g.F.Files c.args.list.now c.args.files.now c.steps.files c.advance.new.src c.args.outputs.now c.steps.outputs c.steps.numbers.items passed c.steps.invariant.has names_same holders_same;
+      count = c.steps.invariant.count;
       met = λ bytes told.
           let here = ap (λ (f : FileId). (g.F.Reads.files (g.F.Reads.standing c.steps.files)).content f.n) c.steps.invariant.file ∙ same.content c.requires.stands.live ∙ told in
           MetUpTo-damage (left_of bytes c.args.cursor.now) (left_of bytes c.steps.cursor) (left_of bytes c.advance.new.self) passed c.steps.damages c.add.new.self c.advance.new.self.stopped c.in-Damaged.damage (c.steps.invariant.met bytes told)
@@ -150,6 +162,6 @@ returns-in-End-clause-gives g c = λ bytes told.
     let holders_same = g.met.F.Files.holders_stand c.advance.new.src c.steps.files c.advance.ensures.standing in
     let same = c.steps.invariant.walks.kept.others c.args.cursor.now.file.n c.requires.other in
     let here = ap (λ (f : FileId). (g.F.Reads.files (g.F.Reads.standing c.steps.files)).content f.n) c.steps.invariant.file ∙ same.content c.requires.stands.live ∙ told in
-    subst (Given g.F.Files c.args.list.now c.args.files.now c.advance.new.src c.args.outputs.now c.steps.outputs)
+    Given-ends g.F.Files c.args.list.now c.args.files.now c.advance.new.src c.args.outputs.now c.steps.outputs c.steps.numbers.items passed (blocks_of (left_of bytes c.args.cursor.now))
+    (Given-read g.F.Files c.args.list.now c.args.files.now c.steps.files c.advance.new.src c.args.outputs.now c.steps.outputs c.steps.numbers.items passed c.steps.invariant.has names_same holders_same)
     (MetUpTo-blocks (left_of bytes c.args.cursor.now) (left_of bytes c.steps.cursor) passed c.steps.damages (c.steps.invariant.met bytes told) (rw c.in-End.is at (c.in_ok-advance.ensures.gives bytes here)).0)
-    (Given-read g.F.Files c.args.list.now c.args.files.now c.steps.files c.advance.new.src c.args.outputs.now c.steps.outputs passed c.steps.invariant.has names_same holders_same)

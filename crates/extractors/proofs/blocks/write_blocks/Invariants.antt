@@ -1,5 +1,5 @@
 -- The blocks that were passed were given, what was met and what is left make up the file, and its octets are paid by the way.
-use Rattle.std.proofs.Common.{◌≡◌, ◌≤◌, ◌+◌, ◌-◌, List}
+use Rattle.std.proofs.Common.{◌≡◌, ◌≤◌, ◌+◌, ◌-◌, List, length}
 use Rattle.mkv_io.specs.Told.{Told}
 use Rattle.block_format.specs.Block.{Block}
 use Rattle.cluster_reader.specs.Reading.{CanRead, left_of, paid}
@@ -10,7 +10,8 @@ use Rattle.extractors.proofs.blocks.write_blocks.Given as goal
 abbrev pub invariant-steps : goal.invariant-steps
 invariant-steps g l = record {
   passed : List Block;
-  has : Given g.F.Files l.list l.initial.files l.files l.initial.outputs l.outputs passed;
+  has : Given g.F.Files l.list l.initial.files l.files l.initial.outputs l.outputs l.numbers.items passed;
+  count : length l.numbers.items ≡ length l.list;
   met : Told ((g.F.Reads.files (g.F.Reads.standing l.initial.files)).content l.initial.cursor.file.n) (λ bytes. MetUpTo (left_of bytes l.initial.cursor) (left_of bytes l.cursor) passed l.damages);
   ready : CanRead (g.F.Reads.files (g.F.Reads.standing l.files)) l.cursor;
   file : l.cursor.file ≡ l.initial.cursor.file;

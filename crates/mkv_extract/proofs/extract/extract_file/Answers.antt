@@ -5,7 +5,7 @@ use Rattle.extractors.specs.Source.{events_in}
 use Rattle.mkv_lines.specs.Faults.{Counts, HasStopCause}
 use Rattle.mkv_lines.specs.Seen.{Seen, seen}
 use Rattle.mkv_lines.specs.Verdict.{Reaches, Verdict}
-use Rattle.mkv_extract.specs.Extract.{read_verdict, taken_verdict}
+use Rattle.mkv_extract.specs.Extract.{read_verdict, fit_verdict}
 use Rattle.mkv_extract.proofs.extract.extract_file.Goals as goal
 
 -- reading leaves all as it was
@@ -22,18 +22,18 @@ returns-in-Ok-clause-verdict g c = λ bytes told.
     let names : g.F.Files.names mid ≡ g.F.Files.names old = g.met.F.Files.names_stand mid old standing in
     let there : (live_files g.F.Reads mid).content source.file.n ≡ Some bytes =
     ap (λ s. (g.F.Reads.files s).content source.file.n) standing ∙ ap (λ (file : FileId). (live_files g.F.Reads old).content file.n) c.in-Ok.ensures.file ∙ told in
-    let read : taken_verdict name job source.tracks (events_in source bytes) ≡ read_verdict name job bytes _ =
-    ap (taken_verdict name job source.tracks) (c.in-Ok.ensures.events bytes told) ∙ ap (read_verdict name job bytes) (sym (c.in-Ok.ensures.exact bytes told)) in
+    let read : fit_verdict name job source.tracks (events_in source bytes) ≡ read_verdict name job bytes _ =
+    ap (fit_verdict name job source.tracks) (c.in-Ok.ensures.events bytes told) ∙ ap (read_verdict name job bytes) (sym (c.in-Ok.ensures.exact bytes told)) in
     let before : Seen = seen g.F.Reads g.F.Files.writing_faults g.F.Files.names g.P.Report old c.args.report.now in
-    let after : Seen = seen g.F.Reads g.F.Files.writing_faults g.F.Files.names g.P.Report c.extract_source.new.files c.extract_source.new.report in
+    let after : Seen = seen g.F.Reads g.F.Files.writing_faults g.F.Files.names g.P.Report c.extract_fit.new.files c.extract_fit.new.report in
     let same : seen g.F.Reads g.F.Files.writing_faults g.F.Files.names g.P.Report mid c.args.report.now ≡ before =
     λ i. record {
       counts = record { reading = reading i; writing = writing i; report = g.P.Report.faults c.args.report.now };
       lines = g.P.Report.lines c.args.report.now;
       names = names i;
     } in
-    subst (λ (v : Verdict). Reaches before after c.extract_source.result v) read
-    (subst (λ (s : Seen). Reaches s after c.extract_source.result (taken_verdict name job source.tracks (events_in source bytes))) same (c.extract_source.ensures.verdict bytes there))
+    subst (λ (v : Verdict). Reaches before after c.extract_fit.result v) read
+    (subst (λ (s : Seen). Reaches s after c.extract_fit.result (fit_verdict name job source.tracks (events_in source bytes))) same (c.extract_fit.ensures.verdict bytes there))
 
 pub returns-in-Ok-clause-cause : goal.returns-in-Ok-clause-cause
 returns-in-Ok-clause-cause g c =
@@ -41,7 +41,7 @@ returns-in-Ok-clause-cause g c =
     let mid = c.read_source.new.src in
     let reading : g.F.Reads.reading_faults mid ≡ g.F.Reads.reading_faults old = c.in-Ok.ensures.cause in
     let writing : g.F.Files.writing_faults mid ≡ g.F.Files.writing_faults old = g.met.F.Files.writing_stands mid old c.in-Ok.ensures.standing in
-    let after : Counts = (seen g.F.Reads g.F.Files.writing_faults g.F.Files.names g.P.Report c.extract_source.new.files c.extract_source.new.report).counts in
+    let after : Counts = (seen g.F.Reads g.F.Files.writing_faults g.F.Files.names g.P.Report c.extract_fit.new.files c.extract_fit.new.report).counts in
     let same : (seen g.F.Reads g.F.Files.writing_faults g.F.Files.names g.P.Report mid c.args.report.now).counts ≡ (seen g.F.Reads g.F.Files.writing_faults g.F.Files.names g.P.Report old c.args.report.now).counts =
     λ i. record { reading = reading i; writing = writing i; report = g.P.Report.faults c.args.report.now } in
-    subst (λ (counts : Counts). HasStopCause counts after c.extract_source.result) same c.extract_source.ensures.cause
+    subst (λ (counts : Counts). HasStopCause counts after c.extract_fit.result) same c.extract_fit.ensures.cause
