@@ -1,3 +1,4 @@
+pub mod AttachedLemmas
 pub mod BlocksLemmas
 pub mod FramesLemmas
 pub mod JobLemmas

@@ -43,8 +43,11 @@ pub fn is_taken(job: &Job) -> bool
     ensures { result ≡ is_taken job.now }
 {
     match job {
-        Job::Tracks { .. } | Job::Timestamps { .. } | Job::Chapters { .. } => true,
-        Job::Attachments { .. } | Job::Cues { .. } => false,
+        Job::Tracks { .. }
+        | Job::Timestamps { .. }
+        | Job::Attachments { .. }
+        | Job::Chapters { .. } => true,
+        Job::Cues { .. } => false,
     }
 }
 

@@ -8,7 +8,7 @@ use Rattle.std.proofs.lemmas.List.Folds.{list_any-append}
 use Rattle.mkv_values.specs.declared.damage.Damage.{Damage}
 use Rattle.mkv_jobs.specs.declared.job.Target.{Target}
 use Rattle.tree_format.specs.Node.{Node}
-use Rattle.mkv_lines.specs.Line.{no_track_line, warning_line, wrote_line}
+use Rattle.mkv_lines.specs.Line.{warning_line, wrote_line}
 use Rattle.mkv_lines.specs.Said.{ReportLines, SaysUpTo}
 use Rattle.extract_model.specs.Content.{names_in}
 use Rattle.extract_model.specs.Job.{output_for, outputs_for}
@@ -115,20 +115,20 @@ unfolding absent_left ids_of
 absent_left-none count seen = refl
 
 -- the next line is said
-pub absent-said : (old now : ReportLines) (all : List (List ℕ)) (name : List ℕ) (count : ℕ) (targets : List Target) (k : ℕ) (t : Target) → k < length targets → t ≡ get_or targets k t → (nat_le count t.id && not (is_named (take k targets) t.id)) ≡ true → SaysUpTo old now all (map (no_track_line name) (absent_left count (take k targets) (drop k targets))) → SaysUpTo old now all (no_track_line name t.id ∷ map (no_track_line name) (absent_left count (take (k + 1) targets) (drop (k + 1) targets)))
-absent-said old now all name count targets k t below is told way =
-    subst (SaysUpTo old now all) (ap (map (no_track_line name)) (absent_left-told count targets k t below is told)) way
+pub absent-said : (old now : ReportLines) (all : List (List ℕ)) (line : ℕ → List ℕ) (count : ℕ) (targets : List Target) (k : ℕ) (t : Target) → k < length targets → t ≡ get_or targets k t → (nat_le count t.id && not (is_named (take k targets) t.id)) ≡ true → SaysUpTo old now all (map (line) (absent_left count (take k targets) (drop k targets))) → SaysUpTo old now all (line t.id ∷ map (line) (absent_left count (take (k + 1) targets) (drop (k + 1) targets)))
+absent-said old now all line count targets k t below is told way =
+    subst (SaysUpTo old now all) (ap (map (line)) (absent_left-told count targets k t below is told)) way
 
 -- or none is
-pub absent-passed : (old now : ReportLines) (all : List (List ℕ)) (name : List ℕ) (count : ℕ) (targets : List Target) (k : ℕ) (t : Target) → k < length targets → t ≡ get_or targets k t → (nat_le count t.id && not (is_named (take k targets) t.id)) ≡ false → SaysUpTo old now all (map (no_track_line name) (absent_left count (take k targets) (drop k targets))) → SaysUpTo old now all (map (no_track_line name) (absent_left count (take (k + 1) targets) (drop (k + 1) targets)))
-absent-passed old now all name count targets k t below is told way =
-    subst (SaysUpTo old now all) (ap (map (no_track_line name)) (absent_left-passed count targets k t below is told)) way
+pub absent-passed : (old now : ReportLines) (all : List (List ℕ)) (line : ℕ → List ℕ) (count : ℕ) (targets : List Target) (k : ℕ) (t : Target) → k < length targets → t ≡ get_or targets k t → (nat_le count t.id && not (is_named (take k targets) t.id)) ≡ false → SaysUpTo old now all (map (line) (absent_left count (take k targets) (drop k targets))) → SaysUpTo old now all (map (line) (absent_left count (take (k + 1) targets) (drop (k + 1) targets)))
+absent-passed old now all line count targets k t below is told way =
+    subst (SaysUpTo old now all) (ap (map (line)) (absent_left-passed count targets k t below is told)) way
 
 -- at last all are said
-pub absent-ends : (count : ℕ) (targets : List Target) (k : ℕ) (name : List ℕ) → length targets ≤ k → map (no_track_line name) (absent_left count (take k targets) (drop k targets)) ≡ []
-absent-ends count targets k name all =
-    ap (λ (rest : List Target). map (no_track_line name) (absent_left count (take k targets) rest)) (drop_all k targets all)
-    ∙ ap (map (no_track_line name)) (absent_left-none count (take k targets))
+pub absent-ends : (count : ℕ) (targets : List Target) (k : ℕ) (line : ℕ → List ℕ) → length targets ≤ k → map (line) (absent_left count (take k targets) (drop k targets)) ≡ []
+absent-ends count targets k line all =
+    ap (λ (rest : List Target). map (line) (absent_left count (take k targets) rest)) (drop_all k targets all)
+    ∙ ap (map (line)) (absent_left-none count (take k targets))
 
 -- ---- the outputs
 
