@@ -4,7 +4,7 @@ ghost use Rattle.std.specs.Prelude.{◌≡◌, ◌≤◌, ◌==◌, not, length}
 ghost use Rattle.std.specs.List.{prefix_len};
 ghost use Rattle.matroska_format.specs.Value.{is_known_value, is_value, text_of};
 
-use mkv_schema::{ElementKind, may_stand, row};
+use mkv_schema::{ElementKind, kind_under};
 
 /// A text's octets, up to its first zero octet.
 pub fn text_of(body: &[u8]) -> &[u8]
@@ -39,11 +39,8 @@ pub fn is_value(kind: ElementKind, body: &[u8]) -> bool
 pub fn is_known_value(parent: u32, id: u32, body: &[u8]) -> bool
     ensures { result ≡ is_known_value parent id body.now }
 {
-    if !may_stand(id, parent) {
-        return true;
-    }
-    match row(id) {
-        Some(row) => is_value(row.kind, body),
+    match kind_under(id, parent) {
+        Some(kind) => is_value(kind, body),
         None => true,
     }
 }

@@ -52,7 +52,7 @@ fn ended(kept: Collected, segment: &Header, total: u64, at: u64, damage: Option<
     Level { kept, damage, end }
 }
 
-/// The place up to which a Segment may reach.
+/// The place up to which a Segment may reach in a file of `total` octets, from the file's start.
 pub fn segment_bound(segment: &Header, total: u64) -> u64
     ensures { result ≡ (if is_unknown segment.now.size then total else end_in total segment.now) }
 {

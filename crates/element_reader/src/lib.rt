@@ -21,6 +21,7 @@ pub use element_headers::{Header, Parent};
 pub use element_window::Window;
 pub use head::header_at;
 pub use head_end::HeadEnd;
+pub use level::segment_bound;
 pub use level_one::LevelOne;
 pub use loading::{LoadEnd, load};
 pub use outline::Outline;

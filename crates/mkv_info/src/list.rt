@@ -1,9 +1,8 @@
 //! A file's Elements, a line for each.
 
-ghost use Rattle.std.specs.Prelude.{◌≡◌, ◌++◌, ◌∷◌, [], ℕ, List, Ok, length, map, if◌then◌else◌, IfOk, IsTrue};
+ghost use Rattle.std.specs.Prelude.{◌≡◌, ◌++◌, ◌∷◌, [], ℕ, List, Ok, length, map, IfOk, IsTrue};
 ghost use Rattle.mkv_io.specs.Faults.{HasRisen};
 ghost use Rattle.mkv_io.specs.Sources.{IfTold, IsLive, file_size, live_files};
-ghost use Rattle.matroska_format.specs.Element.{end_in, is_unknown};
 ghost use Rattle.matroska_format.specs.Outline.{outline_of, segment_run};
 ghost use Rattle.element_window.specs.Window.{nothing_at};
 ghost use Rattle.element_reader.specs.Outline.{outline_in};
@@ -15,9 +14,8 @@ ghost use Rattle.mkv_lines.specs.Verdict.{SaysVerdict};
 ghost use Rattle.mkv_info.specs.Info.{content_verdict, shown_lines, status_with, warnings};
 
 use crate::tracks::{say_tracks, tracks_of};
-use ebml_format::Size;
-use element_reader::{Header, Outline, OutlineEnd, Window};
-use element_walks::{Level1Step, end_in, next_of_segment};
+use element_reader::{Header, Outline, OutlineEnd, Window, segment_bound};
+use element_walks::{Level1Step, next_of_segment};
 use mkv_io::{Reads, Report};
 use mkv_lines::{Line, Status, Stop, say};
 use mkv_values::{Damage, FileId};
@@ -99,16 +97,6 @@ fn say_elements<R: Reads, P: Report>(
     say(alloc, report, &Line::Level0(outline.ebml()))?;
     say(alloc, report, &Line::Level0(outline.segment()))?;
     say_level_1(alloc, outline, &mut window, src, file, report)
-}
-
-// The place up to which a Segment may reach in a file of `total` octets.
-fn segment_bound(segment: &Header, total: u64) -> u64
-    ensures { result ≡ (if is_unknown segment.now.size then total else end_in total segment.now) }
-{
-    match segment.size {
-        Size::Known(_) => end_in(segment, total),
-        Size::Unknown => total,
-    }
 }
 
 // A line for each Element of level 1, met through a window that holds nothing yet.

@@ -1,5 +1,5 @@
 -- What the table says of an ID.
-use Rattle.std.specs.Prelude.{ℕ, ◌==◌, Bool, true, false, ◌||◌, Option, Some, None, List, map, find}
+use Rattle.std.specs.Prelude.{ℕ, ◌==◌, Bool, true, false, ◌||◌, Option, Some, None, if◌then◌else◌, List, map, find}
 use Rattle.std.specs.Option.{option_map, option_map_or, option_and_then}
 use Rattle.mkv_schema.specs.declared.kind.ElementKind.{ElementKind}
 use Rattle.mkv_schema.specs.declared.kind.ElementKind.TheVariants.{Master}
@@ -58,6 +58,10 @@ allows (ChildOfOrItself own) id parent = parent == own || parent == id
 -- an Element of the one ID may stand directly under one of the other
 abbrev pub may_stand : ℕ → ℕ → Bool
 may_stand id parent = option_map_or (λ e. allows e.parents id parent) (entry_of id) false
+
+-- the kind of an Element where it may stand under this parent
+abbrev pub kind_under : ℕ → ℕ → Option ElementKind
+kind_under id parent = if may_stand id parent then kind_of id else None
 
 -- ---- Defaults
 

@@ -12,4 +12,6 @@ mod schema;
 mod table;
 
 pub use kind::{ElementKind, Row};
-pub use schema::{is_level0, is_level1, is_master, may_stand, row, text_default, uint_default};
+pub use schema::{
+    is_level0, is_level1, is_master, kind_under, may_stand, row, text_default, uint_default,
+};

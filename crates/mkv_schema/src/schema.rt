@@ -4,7 +4,7 @@ ghost use Rattle.std.specs.Prelude.{◌≡◌, ◌≢◌, ◌<◌, ◌^◌, ◌�
 ghost use Rattle.std.specs.Option.{option_map, option_copied};
 ghost use Rattle.std.specs.List.{IsDistinct};
 ghost use Rattle.ebml_format.specs.Number.{is_id};
-ghost use Rattle.mkv_schema.specs.Schema.{table_ids, name_of, kind_of, is_master, is_level0, is_level1, allows, may_stand, uint_default, text_default};
+ghost use Rattle.mkv_schema.specs.Schema.{table_ids, name_of, kind_of, is_master, is_level0, is_level1, allows, may_stand, kind_under, uint_default, text_default};
 
 use crate::ids::{CHAPTER_DISPLAY, SEGMENT};
 use crate::kind::{ElementKind, Row};
@@ -64,6 +64,15 @@ pub fn may_stand(id: u32, parent: u32) -> bool
     ensures parent { IsTrue result → IsTrue (is_master parent) }
 {
     look_up(id).is_some_and(|entry| allows(entry.parents, id, parent))
+}
+
+/// The kind of an Element directly under a parent; None where the table doesn't have it there.
+#[tactic(auto, using(crate::proofs::SchemaLemmas::laws))]
+pub fn kind_under(id: u32, parent: u32) -> Option<ElementKind>
+    ensures { result ≡ kind_under id parent }
+{
+    let entry = look_up(id)?;
+    allows(entry.parents, id, parent).then_some(entry.row.kind)
 }
 
 /// Whether this parent is one of those of an ID.
