@@ -1,11 +1,13 @@
 #![tactic(auto)]
 
-//! Merges of small files in memory: what is written and told, and what a failure leaves. Tests alone.
+//! Merges of small files in memory, and what `merge -J` tells of them: what is written and told, and what a failure leaves. Tests alone.
 
 #[cfg(test)]
 mod damage;
 #[cfg(test)]
 mod failing;
+#[cfg(test)]
+mod identified;
 #[cfg(test)]
 mod large;
 #[cfg(test)]

@@ -38,7 +38,7 @@ table =
     option (codes "") (codes "--split") s.Split Output f.Split (codes "begin further outputs there (not built)") ∷
     option (codes "") (codes "--segment-uid") s.Uuids Output f.Uuids (codes "give the outputs these (not built)") ∷
     option (codes "") (codes "--link") s.Link Output f.Flag (codes "link the outputs to each other (not built)") ∷
-    option (codes "-J") (codes "") s.Identify Output f.Flag (codes "identify FILE, and nothing else (not built)") ∷
+    option (codes "-J") (codes "") s.Identify Output f.Flag (codes "identify FILE, and nothing else") ∷
     option (codes "-a") (codes "--audio-tracks") s.Audio File f.Ids (codes "take these audio tracks") ∷
     option (codes "-A") (codes "--no-audio") s.Audio File f.Exclusion (codes "take no audio track") ∷
     option (codes "-d") (codes "--video-tracks") s.Video File f.Ids (codes "take these video tracks") ∷

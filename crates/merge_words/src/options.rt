@@ -80,7 +80,7 @@ static MERGE_OPTIONS: [OptionRow; 27] = [
     OptionRow("", "--split", Subject::Split, Scope::Output, ValueForm::Split, "begin further outputs there (not built)"),
     OptionRow("", "--segment-uid", Subject::Uuids, Scope::Output, ValueForm::Uuids, "give the outputs these (not built)"),
     OptionRow("", "--link", Subject::Link, Scope::Output, ValueForm::Flag, "link the outputs to each other (not built)"),
-    OptionRow("-J", "", Subject::Identify, Scope::Output, ValueForm::Flag, "identify FILE, and nothing else (not built)"),
+    OptionRow("-J", "", Subject::Identify, Scope::Output, ValueForm::Flag, "identify FILE, and nothing else"),
     OptionRow("-a", "--audio-tracks", Subject::Audio, Scope::File, ValueForm::Ids, "take these audio tracks"),
     OptionRow("-A", "--no-audio", Subject::Audio, Scope::File, ValueForm::Exclusion, "take no audio track"),
     OptionRow("-d", "--video-tracks", Subject::Video, Scope::File, ValueForm::Ids, "take these video tracks"),

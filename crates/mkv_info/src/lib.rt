@@ -7,3 +7,4 @@ mod list;
 mod tracks;
 
 pub use info::info_of;
+pub use list::warn;

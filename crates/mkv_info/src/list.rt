@@ -131,8 +131,8 @@ fn say_level_1<R: Reads, P: Report>(
     }
 }
 
-// Warns of a damage, if there is one.
-fn warn<P: Report>(
+/// Warns of a damage, if there is one.
+pub fn warn<P: Report>(
     alloc: Global,
     name: &str,
     damage: Option<Damage>,

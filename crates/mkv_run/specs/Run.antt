@@ -11,6 +11,7 @@ use Rattle.mkv_args.specs.declared.command.Command.TheVariants.{Help, Version, I
 use Rattle.mkv_lines.specs.Line.{not_built_line, word_line}
 use Rattle.mkv_lines.specs.Verdict.{Verdict, done, refused}
 use Rattle.mkv_info.specs.Info.{info_verdict}
+use Rattle.mkv_identify.specs.Identify.{identify_verdict}
 use Rattle.mkv_recover.specs.Recover.{DiskWorld, verdict_on}
 use Rattle.extract_model.specs.Job.{taken_of}
 use Rattle.mkv_extract.specs.Extract.{extract_verdict}
@@ -27,7 +28,7 @@ abbrev pub is_built : Command → Bool
 is_built (Help about) = true
 is_built Version = true
 is_built (Info file) = true
-is_built (Identify file) = false
+is_built (Identify file) = true
 is_built (Recover file) = true
 is_built (Reindex file) = false
 is_built (Generate n prefix) = false
@@ -41,6 +42,7 @@ abbrev pub built_verdict : Names → Option DiskWorld → Command → Option Ver
 built_verdict names disk (Help about) = Some (done (usage_lines about))
 built_verdict names disk Version = Some (done (version_line ∷ []))
 built_verdict names disk (Info file) = option_map (λ world. info_verdict world file) names
+built_verdict names disk (Identify file) = option_map (λ world. identify_verdict world file) names
 built_verdict names disk (Recover file) = option_map (λ world. verdict_on world file) disk
 built_verdict names disk (Extract file job) = option_map (λ world. extract_verdict world file job) names
 built_verdict names disk (Merge words) = option_map (λ world. merge_verdict world words) names

@@ -1,0 +1,4 @@
+pub mod JsonLemmas
+pub mod ValueLemmas
+pub mod TagLemmas
+pub mod FloatLemmas

@@ -1,0 +1,10 @@
+pub mod Json
+pub mod Put
+pub mod Sound
+pub mod Texts
+pub mod Attachments
+pub mod Chapters
+pub mod Named
+pub mod Tags
+pub mod Tracks
+pub mod Identification

@@ -1,0 +1,49 @@
+//! The identification of a file, as a value and as its text.
+
+ghost use Rattle.std.specs.Prelude.{◌≡◌, IfOk};
+ghost use Rattle.serde_json.specs.View.{view};
+ghost use Rattle.file_records.specs.Records.{described_by};
+ghost use Rattle.identification.specs.Identification.{identification, identification_line};
+ghost use Rattle.identification.specs.Sound.{CanBeTold};
+
+use crate::attachments::attachments_value;
+use crate::chapters::{chapter_count, entries_value};
+use crate::container::container_value;
+use crate::tags::{Scope, tag_count, track_tags_value};
+use crate::tracks::tracks_value;
+use file_records::Records;
+use mkv_values::Text;
+use serde_json::{Value, json};
+use std::alloc::{AllocError, Global};
+
+/// The identification of a file of this name as one line of JSON, by what was read of the file.
+pub fn identify(alloc: Global, name: &str, records: &Records) -> Result<Text, AllocError>
+    requires { CanBeTold records.now }
+    ensures { IfOk result (λ line. line ≡ identification_line name.now (described_by records.now)) }
+{
+    let value = identification(alloc, name, records)?;
+    Ok(Text::from_string(value.to_string(alloc)?))
+}
+
+// The same as a value.
+#[tactic(auto, unfolding(crate::specs::Identification::identification))]
+fn identification(alloc: Global, name: &str, records: &Records) -> Result<Value, AllocError>
+    requires { CanBeTold records.now }
+    ensures { IfOk result (λ value. view value ≡ identification name.now (described_by records.now)) }
+{
+    let attachments = attachments_value(alloc, records.attachments.as_slice())?;
+    let chapters = entries_value(alloc, chapter_count(&records.chapters)?)?;
+    let container = container_value(alloc, &records.info)?;
+    let global_tags = entries_value(alloc, tag_count(&records.tags, Scope::Global)?)?;
+    let track_tags = track_tags_value(alloc, &records.tags, records.tracks.as_slice())?;
+    let tracks = tracks_value(alloc, records.tracks.as_slice())?;
+    json!(in alloc; {
+        "attachments": attachments,
+        "chapters": chapters,
+        "container": container,
+        "file_name": name,
+        "global_tags": global_tags,
+        "track_tags": track_tags,
+        "tracks": tracks
+    })
+}

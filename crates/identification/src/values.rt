@@ -1,0 +1,117 @@
+//! The values among the children of a master: RFC 8794, section 7 (EBML Element Types).
+
+ghost use Rattle.std.specs.Prelude.{◌≡◌, ◌+◌, length, IfOk};
+ghost use Rattle.std.specs.Option.{option_copied, option_map};
+ghost use Rattle.std.specs.Str.{IsUtf8};
+ghost use Rattle.serde_json.specs.Data.{string};
+ghost use Rattle.serde_json.specs.View.{view};
+ghost use Rattle.matroska_format.specs.Value.{text_of};
+ghost use Rattle.tree_format.specs.Node.{body_of, children, id_of};
+ghost use Rattle.tree_format.specs.Changes.{part};
+ghost use Rattle.tree_format.specs.Standing.{IsSound};
+ghost use Rattle.tree_format.specs.Values.{HasUint, integer_in, text_in, uint_in};
+ghost use Rattle.identification.specs.Json.{whole};
+ghost use Rattle.identification.specs.Texts.{HasText, text_or_empty, unless_empty};
+
+use ebml_tree::Tree;
+use mkv_schema::{text_default, uint_default};
+use serde_json::Value;
+use std::alloc::{AllocError, Global};
+
+/// The unsigned integer of an ID, where it stands.
+pub(crate) fn integer_in(tree: &Tree, id: u32) -> Option<u64>
+    requires sound { IsSound tree.now }
+    requires uint { HasUint (id_of tree.now) id }
+    ensures { result ≡ integer_in id tree.now }
+{
+    let child = tree.child(id)?;
+    Some(child.uint())
+}
+
+/// The same, or the table's default, or 0.
+pub(crate) fn uint_in(tree: &Tree, id: u32) -> u64
+    requires sound { IsSound tree.now }
+    requires uint { HasUint (id_of tree.now) id }
+    ensures { result ≡ uint_in id tree.now }
+{
+    match integer_in(tree, id) {
+        Some(value) => value,
+        None => uint_default(id).unwrap_or(0),
+    }
+}
+
+/// The text of an ID, or the table's default.
+pub(crate) fn text_in<'a>(tree: &'a Tree, id: u32) -> Option<&'a str>
+    requires sound { IsSound tree.now }
+    requires text { HasText (id_of tree.now) id }
+    ensures { option_copied result ≡ text_in id tree.now }
+{
+    match tree.child(id) {
+        Some(child) => Some(text_of(child)),
+        None => text_default(id),
+    }
+}
+
+/// The same, empty where there is none.
+pub(crate) fn text_or_empty<'a>(tree: &'a Tree, id: u32) -> &'a str
+    requires sound { IsSound tree.now }
+    requires text { HasText (id_of tree.now) id }
+    ensures { result.now ≡ text_or_empty id tree.now }
+{
+    text_in(tree, id).unwrap_or("")
+}
+
+// A text up to its first zero octet.
+fn text_of(child: &Tree) -> &str
+    requires { IsUtf8 (text_of (body_of child.now)) }
+    ensures { result.now ≡ text_of (body_of child.now) }
+{
+    match str::from_utf8(child.text()) {
+        Ok(text) => text,
+        Err(_) => unreachable!(),
+    }
+}
+
+/// A text that has an octet at least.
+pub(crate) fn unless_empty(text: &str) -> Option<&str>
+    ensures { option_copied result ≡ unless_empty text.now }
+{
+    if text.is_empty() { None } else { Some(text) }
+}
+
+/// A text as a JSON string, where it is there.
+pub(crate) fn string_if(alloc: Global, text: Option<&str>) -> Result<Option<Value>, AllocError>
+    ensures { IfOk result (λ value. option_map view value ≡ option_map string (option_copied text.entry)) }
+{
+    match text {
+        Some(text) => Ok(Some(Value::try_from_str(alloc, text)?)),
+        None => Ok(None),
+    }
+}
+
+/// A number as a JSON number, where it is there.
+pub(crate) fn number_if(number: Option<u64>) -> Option<Value>
+    ensures { option_map view result ≡ option_map whole number }
+{
+    number.map(Value::from)
+}
+
+/// A number of Elements, and how many children of an ID a master has beside them. No memory holds more than can be counted.
+pub(crate) fn with_children(count: usize, tree: &Tree, id: u32) -> Result<usize, AllocError>
+    ensures { IfOk result (λ more. more ≡ count + length (part id (children tree.now))) }
+{
+    match count.checked_add(count_of(tree, id)) {
+        Some(more) => Ok(more),
+        None => Err(AllocError),
+    }
+}
+
+// How many children of an ID a master has.
+fn count_of(tree: &Tree, id: u32) -> usize
+    ensures { result ≡ length (part id (children tree.now)) }
+{
+    tree.children()
+        .iter()
+        .filter(|child| child.id() == id)
+        .count()
+}

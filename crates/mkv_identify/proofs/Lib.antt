@@ -1,0 +1,2 @@
+pub mod IdentifyLemmas
+pub mod ReadLemmas

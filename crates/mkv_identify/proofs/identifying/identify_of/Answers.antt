@@ -1,0 +1,32 @@
+use Rattle.std.proofs.Common.{refl, ◌∙◌}
+use Rattle.pending_edits.specs.Pending.{is_pending}
+use Rattle.mkv_lines.specs.Seen.{seen}
+use Rattle.mkv_lines.proofs.VerdictLemmas.{IsStopped-before}
+use Rattle.mkv_identify.specs.Identify.{identify_verdict}
+use Rattle.mkv_identify.proofs.IdentifyLemmas.{reaches-settled}
+use Rattle.mkv_identify.proofs.identifying.identify_of.Goals as goal
+
+-- the file couldn't be opened
+pub returns-in-Err-Failed-clause-verdict : goal.returns-in-Err-Failed-clause-verdict
+returns-in-Err-Failed-clause-verdict g c = λ world told.
+    IsStopped-before (seen g.F.Reads g.F.Files.writing_faults g.F.Files.names g.P.Report c.args.files.now c.args.report.now)
+    (seen g.F.Reads g.F.Files.writing_faults g.F.Files.names g.P.Report c.open_file.new.self c.args.report.now)
+    (identify_verdict world c.args.name.now) refl c.open_file.ensures.names
+
+pub returns-in-Err-Memory-clause-verdict : goal.returns-in-Err-Memory-clause-verdict
+returns-in-Err-Memory-clause-verdict g c = λ world told.
+    IsStopped-before (seen g.F.Reads g.F.Files.writing_faults g.F.Files.names g.P.Report c.args.files.now c.args.report.now)
+    (seen g.F.Reads g.F.Files.writing_faults g.F.Files.names g.P.Report c.open_file.new.self c.args.report.now)
+    (identify_verdict world c.args.name.now) refl c.open_file.ensures.names
+
+-- the file was there
+pub returns-clause-verdict : goal.returns-clause-verdict
+returns-clause-verdict g c = λ world told.
+    let name = c.args.name.now in
+    let opened = c.open_file.ensures.names in
+    reaches-settled (seen g.F.Reads g.F.Files.writing_faults g.F.Files.names g.P.Report c.args.files.now c.args.report.now)
+    (seen g.F.Reads g.F.Files.writing_faults g.F.Files.names g.P.Report c.close.new.self c.tell_settled-ended.new.report)
+    c.tell_settled-ended.result name (is_pending world name) (world name)
+    (λ none. let refused = (c.in-Ok.ensures.missing world told).1 none in absurd (cc))
+    (λ bytes is. c.tell_settled-ended.ensures.verdict world (opened ∙ told) bytes (c.in-Ok.ensures.content world told ∙ is))
+    (c.close.ensures.names ∙ c.tell_settled-ended.ensures.looks.names ∙ opened)

@@ -1,0 +1,19 @@
+use Rattle.std.proofs.Common.{◌∙◌}
+use Rattle.std.proofs.lemmas.Result.{err_from_is_err_and}
+use Rattle.mkv_identify.specs.Read.{read_in}
+use Rattle.mkv_identify.proofs.IdentifyLemmas.{says-all, says-part}
+use Rattle.mkv_identify.proofs.telling.tell.Goals as goal
+
+-- the line couldn't be said
+pub returns-in_err-say_text-clause-verdict : goal.returns-in_err-say_text-clause-verdict
+returns-in_err-say_text-clause-verdict g c =
+    let p = err_from_is_err_and c.from_residual.result c.from_residual.ensures.1 in
+    rw p.1
+    (says-part (g.P.Report.lines c.args.report.now) (g.P.Report.lines c.say_text.new.report) c.args.name.now c.as_str.result.now (read_in c.args.read.now) p.0
+    (c.as_str.ensures.same ∙ c.in-Ok.ensures) c.in_err-say_text.ensures.said)
+
+-- it was said, and then the warning
+pub returns-clause-verdict : goal.returns-clause-verdict
+returns-clause-verdict g c =
+    says-all (g.P.Report.lines c.args.report.now) (g.P.Report.lines c.say_text.new.report) (g.P.Report.lines c.warn.new.report) c.args.name.now c.as_str.result.now (read_in c.args.read.now) c.warn.result
+    (c.as_str.ensures.same ∙ c.in-Ok.ensures) c.in_ok-say_text.ensures.said c.warn.ensures.said c.warn.ensures.status

@@ -1,0 +1,2 @@
+pub mod Identify
+pub mod Read

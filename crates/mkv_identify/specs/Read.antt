@@ -1,0 +1,30 @@
+-- What is read of a file to identify it.
+use Rattle.std.specs.Prelude.{◌≡◌, ⊤, List, ℕ, Option, Result, Ok, Err}
+use Rattle.mkv_values.specs.declared.damage.Damage.{Damage}
+use Rattle.matroska_format.specs.Outline.{Outlined, and_then, outline_of}
+use Rattle.element_reader.specs.declared.outline_end.OutlineEnd.{OutlineEnd}
+use Rattle.element_reader.specs.declared.outline_end.OutlineEnd.TheVariants as outline_end
+use Rattle.file_records.specs.Records.{FileRecords, described_by, file_records}
+use Rattle.mkv_identify.specs.declared.reading.FileRead.{FileRead}
+
+-- what describes a file, and what is damaged at level 1
+pub record Described : Type 0 where
+  pub records : FileRecords
+  pub damage : Option Damage
+
+-- what was read of a file
+abbrev pub read_in : FileRead → Described
+read_in r = record { records = described_by r.records; damage = r.damage }
+
+-- what is read of a content, or the first thing that refuses it: its outline, and then its records
+abbrev pub read_of : List ℕ → Result Described Damage
+read_of bytes =
+    and_then (outline_of 0 bytes) (λ (o : Outlined).
+    and_then (file_records bytes o.segment) (λ (r : FileRecords). Ok (record { records = r; damage = o.damage })))
+
+-- A file was read so, or this refuses it; a read may fail, and there may be no memory.
+abbrev pub ReadsFile : Result Described Damage → Result FileRead OutlineEnd → Type 0
+ReadsFile found (Ok r) = found ≡ Ok (read_in r)
+ReadsFile found (Err (outline_end.Refused d)) = found ≡ Err d
+ReadsFile found (Err outline_end.ReadFault) = ⊤
+ReadsFile found (Err outline_end.Memory) = ⊤

@@ -1,0 +1,72 @@
+//! A file is opened, identified and closed.
+
+ghost use Rattle.std.specs.Prelude.{◌≡◌, ℕ, IfOk};
+ghost use Rattle.mkv_io.specs.Sources.{IfTold, IsLive, live_files};
+ghost use Rattle.mkv_io.specs.Told.{Told};
+ghost use Rattle.pending_edits.specs.Pending.{LooksOnly, is_pending};
+ghost use Rattle.mkv_lines.specs.Faults.{HasReadStop, HasStopCause};
+ghost use Rattle.mkv_lines.specs.Ordinary.{IsOrdinary};
+ghost use Rattle.mkv_lines.specs.Seen.{seen};
+ghost use Rattle.mkv_lines.specs.Verdict.{Reaches, SaysVerdict, unless_pending};
+ghost use Rattle.mkv_identify.specs.Identify.{content_verdict, identify_verdict};
+
+use crate::telling::tell_file;
+use mkv_io::{Files, Report};
+use mkv_lines::{Line, Status, Stop, say};
+use mkv_values::{FileId, OpenFault};
+use pending_edits::is_pending;
+use std::alloc::Global;
+
+/// Tells what the file of a name is, which is open in the meantime.
+pub fn identify_of<F: Files, P: Report>(
+    alloc: Global,
+    name: &str,
+    files: &mut F,
+    report: &mut P,
+) -> Result<Status, Stop>
+    ensures verdict { Told (F.names files.old) (λ world. Reaches
+        (seen F.Reads F.writing_faults F.names P.Report files.old report.old)
+        (seen F.Reads F.writing_faults F.names P.Report files.new report.new)
+        result (identify_verdict world name.now)) }
+    ensures ordinary { IfOk result IsOrdinary }
+    ensures names { F.names files.new ≡ F.names files.old }
+    ensures live { (file : ℕ) → (live_files F.Reads files.new).live file ≡ (live_files F.Reads files.old).live file }
+    ensures cause { HasStopCause
+        (seen F.Reads F.writing_faults F.names P.Report files.old report.old).counts
+        (seen F.Reads F.writing_faults F.names P.Report files.new report.new).counts result }
+{
+    let file = match files.open_file(name) {
+        Ok(file) => file,
+        Err(OpenFault::Missing) => {
+            say(alloc, report, &Line::Missing { name })?;
+            return Ok(Status::Refused);
+        }
+        Err(OpenFault::Failed) => return Err(Stop::Files),
+        Err(OpenFault::Memory) => return Err(Stop::Memory),
+    };
+    let ended = tell_settled(alloc, name, files, file, report);
+    files.close(file);
+    ended
+}
+
+/// Tells what a live file is, unless an edit of the file of this name is pending.
+fn tell_settled<F: Files, P: Report>(
+    alloc: Global,
+    name: &str,
+    files: &mut F,
+    file: FileId,
+    report: &mut P,
+) -> Result<Status, Stop>
+    requires { IsLive F.Reads files.old file }
+    ensures verdict { Told (F.names files.old) (λ world. IfTold F.Reads files.old file (λ bytes. SaysVerdict (P.lines report.old) (P.lines report.new)
+        result (unless_pending name.now (is_pending world name.now) (content_verdict name.now bytes)))) }
+    ensures ordinary { IfOk result IsOrdinary }
+    ensures looks { LooksOnly F.Reads F.Files.own files.old files.new }
+    ensures cause { HasReadStop (F.reading_faults files.old) (F.reading_faults files.new) (P.faults report.old) (P.faults report.new) result }
+{
+    if is_pending(alloc, name, files)? {
+        say(alloc, report, &Line::PendingEdit { name })?;
+        return Ok(Status::Refused);
+    }
+    tell_file(alloc, name, files, file, report)
+}

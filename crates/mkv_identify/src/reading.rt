@@ -1,0 +1,37 @@
+//! What is read of a file to identify it.
+
+ghost use Rattle.std.specs.Prelude.{◌≡◌, IfOk};
+ghost use Rattle.mkv_io.specs.Faults.{HasCause};
+ghost use Rattle.mkv_io.specs.Sources.{IfTold, IsLive};
+ghost use Rattle.element_reader.specs.Outline.{is_outline_fault};
+ghost use Rattle.identification.specs.Sound.{CanBeTold};
+ghost use Rattle.mkv_identify.specs.Read.{ReadsFile, read_of};
+
+use element_reader::{Outline, OutlineEnd};
+use file_records::{Records, read_records};
+use mkv_io::Reads;
+use mkv_values::{Damage, FileId};
+use std::alloc::Global;
+
+/// What was read of a file.
+#[derive(Drop)]
+pub struct FileRead {
+    pub records: Records,
+    /// What is damaged at level 1, up to where the file was read.
+    pub damage: Option<Damage>,
+}
+
+/// Reads what tells a live file, or the first thing that refuses it: its outline, and then its records.
+#[tactic(auto, using(crate::proofs::ReadLemmas::told))]
+pub fn read_file<R: Reads>(alloc: Global, src: &mut R, file: FileId) -> Result<FileRead, OutlineEnd>
+    requires { IsLive R.Reads src.old file }
+    ensures exact { IfTold R.Reads src.old file (λ bytes. ReadsFile (read_of bytes) result) }
+    ensures sound { IfOk result (λ read. CanBeTold read.records) }
+    ensures standing { R.standing src.new ≡ R.standing src.old }
+    ensures cause { HasCause is_outline_fault (R.reading_faults src.old) (R.reading_faults src.new) result }
+{
+    let outline = Outline::read(alloc, src, file)?;
+    let records = read_records(alloc, &outline, src, file)?;
+    let damage = outline.damage();
+    Ok(FileRead { records, damage })
+}

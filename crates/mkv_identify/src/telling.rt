@@ -1,0 +1,66 @@
+//! What is told of a file.
+
+ghost use Rattle.std.specs.Prelude.{◌≡◌, Ok, IfOk};
+ghost use Rattle.mkv_io.specs.Sources.{IfTold, IsLive};
+ghost use Rattle.identification.specs.Sound.{CanBeTold};
+ghost use Rattle.mkv_lines.specs.Faults.{HasReadStop};
+ghost use Rattle.mkv_lines.specs.Ordinary.{IsOrdinary};
+ghost use Rattle.mkv_lines.specs.Said.{HasSayCause};
+ghost use Rattle.mkv_lines.specs.Verdict.{SaysVerdict};
+ghost use Rattle.mkv_identify.specs.Identify.{content_verdict, identified};
+ghost use Rattle.mkv_identify.specs.Read.{read_in};
+
+use crate::reading::{FileRead, read_file};
+use element_reader::OutlineEnd;
+use identification::identify;
+use mkv_info::warn;
+use mkv_io::{Reads, Report};
+use mkv_lines::{Line, Status, Stop, say, say_text};
+use mkv_values::FileId;
+use std::alloc::Global;
+
+/// Tells what a live file is, and warns of the damage that ends its outline; or says what refuses it.
+pub fn tell_file<R: Reads, P: Report>(
+    alloc: Global,
+    name: &str,
+    src: &mut R,
+    file: FileId,
+    report: &mut P,
+) -> Result<Status, Stop>
+    requires { IsLive R.Reads src.old file }
+    ensures verdict { IfTold R.Reads src.old file (λ bytes. SaysVerdict (P.lines report.old) (P.lines report.new)
+        result (content_verdict name.now bytes)) }
+    ensures ordinary { IfOk result IsOrdinary }
+    ensures standing { R.standing src.new ≡ R.standing src.old }
+    ensures cause { HasReadStop (R.reading_faults src.old) (R.reading_faults src.new)
+        (P.faults report.old) (P.faults report.new) result }
+{
+    match read_file(alloc, src, file) {
+        Ok(read) => tell(alloc, name, &read, report),
+        Err(OutlineEnd::Refused(damage)) => {
+            say(alloc, report, &Line::Refused { name, damage })?;
+            Ok(Status::Refused)
+        }
+        Err(OutlineEnd::ReadFault) => Err(Stop::Files),
+        Err(OutlineEnd::Memory) => Err(Stop::Memory),
+    }
+}
+
+/// Tells what a file is of which this was read.
+fn tell<P: Report>(
+    alloc: Global,
+    name: &str,
+    read: &FileRead,
+    report: &mut P,
+) -> Result<Status, Stop>
+    requires { CanBeTold read.now.records }
+    ensures verdict { SaysVerdict (P.lines report.old) (P.lines report.new) result (identified name.now (Ok (read_in read.now))) }
+    ensures ordinary { IfOk result IsOrdinary }
+    ensures cause { HasSayCause (P.faults report.old) (P.faults report.new) result }
+{
+    let Ok(line) = identify(alloc, name, &read.records) else {
+        return Err(Stop::Memory);
+    };
+    say_text(report, line.as_str())?;
+    warn(alloc, name, read.damage, report)
+}
