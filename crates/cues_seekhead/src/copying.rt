@@ -10,7 +10,7 @@ use mkv_io::{Files, Reads};
 use mkv_values::FileId;
 
 /// Adds octets at the end of a file.
-pub(crate) fn append<F: Files>(files: &mut F, file: FileId, octets: &[u8]) -> Result<(), OutEnd>
+pub fn append<F: Files>(files: &mut F, file: FileId, octets: &[u8]) -> Result<(), OutEnd>
     requires { IsLive F.Reads files.old file }
     ensures { AppendsOnly F.Reads F.Files.own file octets.now 0 files.old files.new result }
 {
@@ -39,7 +39,7 @@ fn copy_chunk<F: Files>(
 }
 
 /// Adds so many octets of one file, from a place on, to another, as many at a time as the buffer holds.
-pub(crate) fn copy_data<F: Files>(
+pub fn copy_data<F: Files>(
     files: &mut F,
     from: FileId,
     at: u64,

@@ -10,6 +10,7 @@ mod ending;
 mod out;
 
 pub use attachment_records::Attachment;
+pub use copying::{append, copy_data};
 pub use mkv_jobs::RemuxEnd as OutEnd;
 pub use out::OutFile;
 pub use output_model::{CuePoint, Seek};

@@ -18,7 +18,7 @@ use Rattle.extract_model.specs.declared.track_output.Format.{Format}
 use Rattle.extract_model.specs.declared.track_output.Format.TheVariants as format
 use Rattle.extract_model.specs.declared.track_output.TrackOutput.{TrackOutput}
 
--- what a job takes of tracks; the other jobs aren't built
+-- what a job takes of tracks; the other jobs take something else
 abbrev pub taken_of : Job → Option Taken
 taken_of (jobs.Tracks form.Raw list) = Some taken.Raw
 taken_of (jobs.Tracks form.Full list) = Some taken.Full
@@ -39,6 +39,22 @@ targets_of (jobs.Chapters name) = []
 -- the names of the files that targets are written to
 abbrev pub names_of : List Target → List (List ℕ)
 names_of targets = map (λ (t : Target). t.name) targets
+
+-- the names of the files that a job writes
+abbrev pub names_for : Job → List (List ℕ)
+names_for (jobs.Tracks form list) = names_of list
+names_for (jobs.Timestamps list) = names_of list
+names_for (jobs.Attachments list) = names_of list
+names_for (jobs.Cues list) = names_of list
+names_for (jobs.Chapters name) = name ∷ []
+
+-- the jobs that are built
+abbrev pub is_taken : Job → Bool
+is_taken (jobs.Tracks form list) = true
+is_taken (jobs.Timestamps list) = true
+is_taken (jobs.Attachments list) = false
+is_taken (jobs.Cues list) = false
+is_taken (jobs.Chapters name) = true
 
 -- the CodecPrivate of a track, empty where it has none
 abbrev pub private_of : Node → List ℕ

@@ -1,3 +1,4 @@
+pub mod Chapters
 pub mod Content
 pub mod Frames
 pub mod Job

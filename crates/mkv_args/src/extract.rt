@@ -41,11 +41,11 @@ pub(crate) enum Mode {
 
 #[rattlefmt::skip]
 static MODES: [Entry<Mode>; 5] = [
-    Entry("", "tracks", Mode::Tracks, "[--raw or --fullraw] ID:FILE..", "texts as SubRip (not built), or frames"),
+    Entry("", "tracks", Mode::Tracks, "[--raw or --fullraw] ID:FILE..", "texts as SubRip, or frames"),
     Entry("", "timestamps_v2", Mode::Timestamps, "ID:FILE..", "times of the frames"),
     Entry("", "cues", Mode::Cues, "ID:FILE..", "cue points (not built)"),
     Entry("", "attachments", Mode::Attachments, "ID:FILE..", "attached files, from 1 (not built)"),
-    Entry("", "chapters", Mode::Chapters, "--simple FILE", "chapters as text (not built)"),
+    Entry("", "chapters", Mode::Chapters, "--simple FILE", "chapters as text"),
 ];
 
 /// The modes of `extract`.

@@ -6,6 +6,8 @@ use Rattle.std.proofs.lemmas.Slice.Eq.{bytes_eq-Decides}
 use Rattle.mkv_io.specs.Lines.{with_lines}
 use Rattle.mkv_io.specs.Names.{AreOthers}
 use Rattle.mkv_jobs.specs.declared.job.Job.{Job}
+use Rattle.mkv_jobs.specs.declared.job.Job.TheVariants as form
+use Rattle.mkv_jobs.specs.declared.job.Form.TheVariants as raw
 use Rattle.mkv_jobs.specs.declared.job.Target.{Target}
 use Rattle.mkv_outputs.specs.Outputs.{Output, names_of, with_outputs}
 use Rattle.mkv_outputs.proofs.StartsLemmas.{StandsInPart-whole}
@@ -14,7 +16,7 @@ use Rattle.track_records.specs.declared.track.Track.{Track}
 use Rattle.block_format.specs.Events.{Event, blocks_of, damages_of}
 use Rattle.cluster_reader.specs.ToldDamages.{ToldDamages, told_damages}
 use Rattle.extract_model.specs.Content.{names_in, outputs_of}
-use Rattle.extract_model.specs.Job.{job_outputs, outputs_taken, taken_of, targets_of}
+use Rattle.extract_model.specs.Job.{is_taken, job_outputs, names_for, outputs_taken, taken_of, targets_of}
 use Rattle.extract_model.specs.Job as jobs
 use Rattle.extract_model.specs.declared.taken.Taken.{Taken}
 use Rattle.extract_model.proofs.ContentLemmas.{names_of-outputs}
@@ -27,20 +29,54 @@ use Rattle.mkv_lines.specs.declared.status.Status.{Status}
 use Rattle.mkv_lines.specs.declared.status.Stop.{Stop}
 use Rattle.mkv_lines.proofs.SaidLemmas.{SaysPart-before, SaysPart-behind, Says-then}
 use Rattle.mkv_lines.proofs.VerdictLemmas.{Leaves-same}
-use Rattle.mkv_extract.specs.Extract.{absent, told_lines, has_absent, is_input, status_of, taken_verdict}
+use Rattle.mkv_extract.specs.Extract.{absent, told_lines, fit_verdict, has_absent, is_among, is_input, job_verdict, status_of, taken_verdict}
+use Rattle.mkv_extract.specs.Read.{FileRead}
 use Rattle.mkv_extract.specs.Told.{written}
 use Rattle.mkv_extract.proofs.ToldLemmas.{written-names}
 
 -- ---- the names of the outputs
 
 -- no output has the name of the file
-pub others-named : (name holder : List ℕ) (targets : List Target) → is_input name targets ≡ false → holder ≡ name → AreOthers holder (jobs.names_of targets)
+pub others-named : (name holder : List ℕ) (targets : List Target) → is_among name targets ≡ false → holder ≡ name → AreOthers holder (jobs.names_of targets)
 others-named name holder [] none same = tt
-others-named name holder (t ∷ ts) none same = (λ one. let yes : bytes_eq t.name name ≡ true = (bytes_eq-Decides t.name name).1 (one ∙ same) in let never : true ≡ false = sym (ap (λ (a : Bool). a || is_input name ts) yes) ∙ none in absurd (cc), others-named name holder ts (behind (bytes_eq t.name name) none) same)
+others-named name holder (t ∷ ts) none same = (λ one. let yes : bytes_eq t.name name ≡ true = (bytes_eq-Decides t.name name).1 (one ∙ same) in let never : true ≡ false = sym (ap (λ (a : Bool). a || is_among name ts) yes) ∙ none in absurd (cc), others-named name holder ts (behind (bytes_eq t.name name) none) same)
   where
-    behind : (a : Bool) → (a || is_input name ts) ≡ false → is_input name ts ≡ false
+    behind : (a : Bool) → (a || is_among name ts) ≡ false → is_among name ts ≡ false
     behind true bad = absurd (cc)
     behind false is = is
+
+-- the same of all that a job writes
+pub others-input : (name holder : List ℕ) (job : Job) → is_input name job ≡ false → holder ≡ name → AreOthers holder (names_for job)
+others-input name holder (form.Tracks f list) none same = others-named name holder list none same
+others-input name holder (form.Timestamps list) none same = others-named name holder list none same
+others-input name holder (form.Attachments list) none same = others-named name holder list none same
+others-input name holder (form.Cues list) none same = others-named name holder list none same
+others-input name holder (form.Chapters out) none same = (λ one. let yes : bytes_eq out name ≡ true = (bytes_eq-Decides out name).1 (one ∙ same) in let never : true ≡ false = sym yes ∙ none in absurd (cc), tt)
+
+-- ---- a job that isn't one of chapters
+
+pub taken-job : (job : Job) → is_taken job ≡ true → ((out : List ℕ) → job ≡ form.Chapters out → ⊥) → IsSome (taken_of job)
+taken-job (form.Tracks raw.Raw list) takes other = refl
+taken-job (form.Tracks raw.Full list) takes other = refl
+taken-job (form.Tracks raw.SubRip list) takes other = refl
+taken-job (form.Timestamps list) takes other = refl
+taken-job (form.Attachments list) takes other = absurd (cc)
+taken-job (form.Cues list) takes other = absurd (cc)
+taken-job (form.Chapters out) takes other = absurd (other out refl)
+
+pub names-job : (job : Job) → ((out : List ℕ) → job ≡ form.Chapters out → ⊥) → names_for job ≡ jobs.names_of (targets_of job)
+names-job (form.Tracks f list) other = refl
+names-job (form.Timestamps list) other = refl
+names-job (form.Attachments list) other = refl
+names-job (form.Cues list) other = refl
+names-job (form.Chapters out) other = absurd (other out refl)
+
+pub verdict-job : (name : List ℕ) (job : Job) (file : FileRead) (events : List Event) → ((out : List ℕ) → job ≡ form.Chapters out → ⊥) → fit_verdict name job file.tracks events ≡ job_verdict name job file events
+verdict-job name (form.Tracks f list) file events other = refl
+verdict-job name (form.Timestamps list) file events other = refl
+verdict-job name (form.Attachments list) file events other = refl
+verdict-job name (form.Cues list) file events other = refl
+verdict-job name (form.Chapters out) file events other = absurd (other out refl)
 
 -- the outputs of a job have the names of those targets whose tracks the file has
 taken-names : (kind : Option Taken) (targets : List Target) (entries : List Node) → IsSome kind → names_in (outputs_taken kind targets entries) ≡ written (length entries) targets
@@ -57,7 +93,7 @@ reaches-begun old new why v first rest lines part names = record {
 }
 
 -- the outputs stand whole, and the others are said
-reaches-told : (old new : Seen) (mid : ReportLines) (r : Result Status Stop) (v : Verdict) (first rest : List (List ℕ)) (outputs : List Output) → v.lines ≡ first ++ rest → v.outputs ≡ at_once outputs → mid ≡ with_lines old.lines first → Says mid new.lines rest r → IfOk r (λ s. s ≡ v.status) → new.names ≡ with_outputs old.names outputs → Reaches old new r v
+pub reaches-told : (old new : Seen) (mid : ReportLines) (r : Result Status Stop) (v : Verdict) (first rest : List (List ℕ)) (outputs : List Output) → v.lines ≡ first ++ rest → v.outputs ≡ at_once outputs → mid ≡ with_lines old.lines first → Says mid new.lines rest r → IfOk r (λ s. s ≡ v.status) → new.names ≡ with_outputs old.names outputs → Reaches old new r v
 reaches-told old new mid (Ok s) v first rest outputs lines writes said says status names = (
   status,
   record {

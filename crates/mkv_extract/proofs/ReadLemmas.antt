@@ -89,40 +89,40 @@ AreUsableOf-read targets tracks none = λ i d below.
 -- ---- what is read
 
 -- behind an outline
-abbrev behind : Job → List ℕ → Header → Result FileRead Damage
-behind job bytes segment = and_then (file_records bytes segment) (λ (r : FileRecords). unless (first_unusable (targets_of job) r.tracks) (read_with segment r))
+abbrev behind : Job → List ℕ → Header → Option Damage → Result FileRead Damage
+behind job bytes segment damage = and_then (file_records bytes segment) (λ (r : FileRecords). unless (first_unusable (targets_of job) r.tracks) (read_with segment damage r))
 
-read_of-behind : (job : Job) (bytes : List ℕ) (v : FileOutline) → outline_in 0 bytes ≡ Ok v → read_of job bytes ≡ behind job bytes v.segment
+read_of-behind : (job : Job) (bytes : List ℕ) (v : FileOutline) → outline_in 0 bytes ≡ Ok v → read_of job bytes ≡ behind job bytes v.segment v.damage
 read_of-behind job bytes v outline =
     let of = Outlines-shown 0 bytes v outline in
-    ap (λ (found : Result Outlined Damage). and_then found (λ (o : Outlined). behind job bytes o.segment)) of.is
-    ∙ ap (λ (w : FileOutline). behind job bytes w.segment) (sym of.shows)
+    ap (λ (found : Result Outlined Damage). and_then found (λ (o : Outlined). behind job bytes o.segment o.damage)) of.is
+    ∙ ap (λ (w : FileOutline). behind job bytes w.segment w.damage) (sym of.shows)
 
 -- nothing, where the outline refuses the file
 pub read_of-refused : (job : Job) (bytes : List ℕ) (d : Damage) → outline_in 0 bytes ≡ Err d → read_of job bytes ≡ Err d
-read_of-refused job bytes d outline = ap (λ (found : Result Outlined Damage). and_then found (λ (o : Outlined). behind job bytes o.segment)) (outline_of-refused 0 bytes d outline)
+read_of-refused job bytes d outline = ap (λ (found : Result Outlined Damage). and_then found (λ (o : Outlined). behind job bytes o.segment o.damage)) (outline_of-refused 0 bytes d outline)
 
 -- nor where a record does
 pub read_of-records : (job : Job) (bytes : List ℕ) (v : FileOutline) (d : Damage) → outline_in 0 bytes ≡ Ok v → file_records bytes v.segment ≡ Err d → read_of job bytes ≡ Err d
 read_of-records job bytes v d outline records =
     read_of-behind job bytes v outline
-    ∙ ap (λ (found : Result FileRecords Damage). and_then found (λ (r : FileRecords). unless (first_unusable (targets_of job) r.tracks) (read_with v.segment r))) records
+    ∙ ap (λ (found : Result FileRecords Damage). and_then found (λ (r : FileRecords). unless (first_unusable (targets_of job) r.tracks) (read_with v.segment v.damage r))) records
 
 -- the records, unless a track that is named refuses the file
-read_of-unless : (job : Job) (bytes : List ℕ) (v : FileOutline) (r : FileRecords) → outline_in 0 bytes ≡ Ok v → file_records bytes v.segment ≡ Ok r → read_of job bytes ≡ unless (first_unusable (targets_of job) r.tracks) (read_with v.segment r)
+read_of-unless : (job : Job) (bytes : List ℕ) (v : FileOutline) (r : FileRecords) → outline_in 0 bytes ≡ Ok v → file_records bytes v.segment ≡ Ok r → read_of job bytes ≡ unless (first_unusable (targets_of job) r.tracks) (read_with v.segment v.damage r)
 read_of-unless job bytes v r outline records =
     read_of-behind job bytes v outline
-    ∙ ap (λ (found : Result FileRecords Damage). and_then found (λ (each : FileRecords). unless (first_unusable (targets_of job) each.tracks) (read_with v.segment each))) records
+    ∙ ap (λ (found : Result FileRecords Damage). and_then found (λ (each : FileRecords). unless (first_unusable (targets_of job) each.tracks) (read_with v.segment v.damage each))) records
 
 pub read_of-unusable : (job : Job) (bytes : List ℕ) (v : FileOutline) (r : FileRecords) (d : Damage) → outline_in 0 bytes ≡ Ok v → file_records bytes v.segment ≡ Ok r → first_unusable (targets_of job) r.tracks ≡ Some d → read_of job bytes ≡ Err d
 read_of-unusable job bytes v r d outline records bad =
     read_of-unless job bytes v r outline records
-    ∙ ap (λ (refusal : Option Damage). unless refusal (read_with v.segment r)) bad
+    ∙ ap (λ (refusal : Option Damage). unless refusal (read_with v.segment v.damage r)) bad
 
-pub read_of-all : (job : Job) (bytes : List ℕ) (v : FileOutline) (r : FileRecords) → outline_in 0 bytes ≡ Ok v → file_records bytes v.segment ≡ Ok r → first_unusable (targets_of job) r.tracks ≡ None → read_of job bytes ≡ Ok (read_with v.segment r)
+pub read_of-all : (job : Job) (bytes : List ℕ) (v : FileOutline) (r : FileRecords) → outline_in 0 bytes ≡ Ok v → file_records bytes v.segment ≡ Ok r → first_unusable (targets_of job) r.tracks ≡ None → read_of job bytes ≡ Ok (read_with v.segment v.damage r)
 read_of-all job bytes v r outline records good =
     read_of-unless job bytes v r outline records
-    ∙ ap (λ (refusal : Option Damage). unless refusal (read_with v.segment r)) good
+    ∙ ap (λ (refusal : Option Damage). unless refusal (read_with v.segment v.damage r)) good
 
 -- its blocks and damages are the file's own
 pub events-read : (bytes : List ℕ) (segment : Header) (r : FileRecords) → file_records bytes segment ≡ Ok r → events_of (with_limits (scale_of_info r.info)) bytes segment ≡ file_events true bytes segment

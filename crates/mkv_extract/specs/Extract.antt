@@ -4,16 +4,18 @@ use Rattle.std.specs.List.{list_any}
 use Rattle.std.specs.Str.{bytes_eq}
 use Rattle.mkv_values.specs.declared.damage.Damage.{Damage}
 use Rattle.mkv_jobs.specs.declared.job.Job.{Job}
+use Rattle.mkv_jobs.specs.declared.job.Job.TheVariants as jobs
 use Rattle.mkv_jobs.specs.declared.job.Target.{Target}
 use Rattle.track_records.specs.declared.track.Track.{Track}
 use Rattle.block_format.specs.Events.{Event, blocks_of, damages_of}
 use Rattle.file_blocks.specs.File.{file_events}
 use Rattle.cluster_reader.specs.ToldDamages.{ToldDamages, told_damages}
 use Rattle.mkv_outputs.specs.Outputs.{Output, names_of}
+use Rattle.extract_model.specs.Chapters.{chapters_output}
 use Rattle.extract_model.specs.Content.{outputs_of}
 use Rattle.extract_model.specs.Job.{job_outputs, job_unfit, targets_of}
 use Rattle.extractors.specs.Source.{entry_in}
-use Rattle.mkv_lines.specs.Line.{damage_lines, missing_line, no_extractor_line, no_track_line, output_is_input_line, refusal_line, wrote_line}
+use Rattle.mkv_lines.specs.Line.{damage_lines, missing_line, no_extractor_line, no_track_line, output_is_input_line, refusal_line, warning_line, wrote_line}
 use Rattle.mkv_lines.specs.Verdict.{Verdict, at_once, refused, unless_pending}
 use Rattle.mkv_lines.specs.declared.status.Status.{Status}
 use Rattle.mkv_lines.specs.declared.status.Status.TheVariants.{Done, Warned}
@@ -70,9 +72,34 @@ unless_unfit name (Some number) v = refused (no_extractor_line name number)
 abbrev pub fit_verdict : List ℕ → Job → List Track → List Event → Verdict
 fit_verdict name job tracks events = unless_unfit name (job_unfit job (map entry_in tracks)) (taken_verdict name job tracks events)
 
+-- ---- what isn't taken of blocks
+
+-- the damage of level 1 is warned of
+abbrev pub outline_lines : List ℕ → Option Damage → List (List ℕ)
+outline_lines name None = []
+outline_lines name (Some d) = warning_line name d ∷ []
+
+-- all is done, or something is warned of
+abbrev pub warned_status : List (List ℕ) → Status
+warned_status [] = Done
+warned_status (line ∷ lines) = Warned
+
+-- what is warned of before the outputs; the outputs, in the order of the words; and what is wrong with level 1
+abbrev pub held_verdict : List ℕ → List (List ℕ) → List Output → Option Damage → Verdict
+held_verdict name absent outputs damage = record {
+  status = warned_status (absent ++ outline_lines name damage);
+  lines = absent ++ (map wrote_line (names_of outputs) ++ outline_lines name damage);
+  outputs = at_once outputs;
+}
+
+-- what a job comes to of a file that was read, and that has these blocks and damages
+abbrev pub job_verdict : List ℕ → Job → FileRead → List Event → Verdict
+job_verdict name (jobs.Chapters out) file events = held_verdict name [] (chapters_output out file.chapters ∷ []) file.damage
+job_verdict name job file events = fit_verdict name job file.tracks events
+
 abbrev pub read_verdict : List ℕ → Job → List ℕ → Result FileRead Damage → Verdict
 read_verdict name job bytes (Err d) = refused (refusal_line name d)
-read_verdict name job bytes (Ok file) = fit_verdict name job file.tracks (file_events true bytes file.segment)
+read_verdict name job bytes (Ok file) = job_verdict name job file (file_events true bytes file.segment)
 
 -- what is told of a name, which may have no content, and of whose file an edit may be pending
 abbrev pub name_verdict : List ℕ → Job → Bool → Option (List ℕ) → Verdict
@@ -80,9 +107,16 @@ name_verdict name job pending None = refused (missing_line name)
 name_verdict name job pending (Some bytes) = unless_pending name pending (read_verdict name job bytes (read_of job bytes))
 
 -- an output has the name of the file
-abbrev pub is_input : List ℕ → List Target → Bool
-is_input name targets = list_any (λ (t : Target). bytes_eq t.name name) targets
+abbrev pub is_among : List ℕ → List Target → Bool
+is_among name targets = list_any (λ (t : Target). bytes_eq t.name name) targets
+
+abbrev pub is_input : List ℕ → Job → Bool
+is_input name (jobs.Tracks form list) = is_among name list
+is_input name (jobs.Timestamps list) = is_among name list
+is_input name (jobs.Attachments list) = is_among name list
+is_input name (jobs.Cues list) = is_among name list
+is_input name (jobs.Chapters out) = bytes_eq out name
 
 -- what `extract` comes to in a world of names
 abbrev pub extract_verdict : (List ℕ → Option (List ℕ)) → List ℕ → Job → Verdict
-extract_verdict world name job = if is_input name (targets_of job) then refused (output_is_input_line name) else name_verdict name job (is_pending world name) (world name)
+extract_verdict world name job = if is_input name job then refused (output_is_input_line name) else name_verdict name job (is_pending world name) (world name)

@@ -32,9 +32,10 @@ causes_from targets k (t ∷ ts) = causes_of targets k t ++ causes_from targets 
 abbrev pub first_unusable : List Target → List Track → Option Damage
 first_unusable targets tracks = first_damage (causes_from targets 0 tracks)
 
--- the Segment of a file, and what is taken of its records
+-- the Segment of a file, the damage that ends its level 1, and what is taken of its records
 pub record FileRead : Type 0 where
   pub segment : Header
+  pub damage : Option Damage
   pub info : Option Node
   pub tracks : List Track
   pub attachments : List AttachedFile
@@ -44,22 +45,23 @@ pub record FileRead : Type 0 where
 abbrev pub read_in : Source → FileRead
 read_in s = record {
   segment = s.outline.segment;
+  damage = s.outline.damage;
   info = s.info;
   tracks = s.tracks;
   attachments = map in_file s.attachments;
   chapters = s.chapters;
 }
 
--- the same of a file with this Segment and these records
-abbrev pub read_with : Header → FileRecords → FileRead
-read_with segment r = record { segment = segment; info = r.info; tracks = r.tracks; attachments = r.attachments; chapters = r.chapters }
+-- the same of a file with this Segment, this damage of level 1 and these records
+abbrev pub read_with : Header → Option Damage → FileRecords → FileRead
+read_with segment damage r = record { segment = segment; damage = damage; info = r.info; tracks = r.tracks; attachments = r.attachments; chapters = r.chapters }
 
 -- what is read of a content, or the first thing that refuses it: its outline, its records, and then the tracks that are named
 abbrev pub read_of : Job → List ℕ → Result FileRead Damage
 read_of job bytes =
     and_then (outline_of 0 bytes) (λ (o : Outlined).
     and_then (file_records bytes o.segment) (λ (r : FileRecords).
-    unless (first_unusable (targets_of job) r.tracks) (read_with o.segment r)))
+    unless (first_unusable (targets_of job) r.tracks) (read_with o.segment o.damage r)))
 
 -- A source was read so, or what refuses the file; a read may fail, and there may be no memory.
 abbrev pub ReadsSource : Result FileRead Damage → Result Source OutlineEnd → Type 0

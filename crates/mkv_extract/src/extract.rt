@@ -4,7 +4,7 @@ ghost use Rattle.std.specs.Prelude.{◌≡◌, true, ℕ, IfOk, IsSome};
 ghost use Rattle.mkv_io.specs.Names.{AreApart, AreOthers};
 ghost use Rattle.mkv_io.specs.Sources.{IfTold, IsLive, live_files};
 ghost use Rattle.mkv_io.specs.Told.{Told};
-ghost use Rattle.extract_model.specs.Job.{names_of, taken_of, targets_of};
+ghost use Rattle.extract_model.specs.Job.{is_taken, names_for, names_of, taken_of, targets_of};
 ghost use Rattle.extractors.specs.Source.{AreUsable, IsSource, events_in};
 ghost use Rattle.pending_edits.specs.Pending.{is_pending};
 ghost use Rattle.mkv_lines.specs.Faults.{HasStopCause};
@@ -14,9 +14,10 @@ ghost use Rattle.mkv_lines.specs.Said.{HasSayCause};
 ghost use Rattle.mkv_lines.specs.Seen.{seen};
 ghost use Rattle.mkv_lines.specs.Verdict.{Reaches, SaysVerdict, refused, unless_pending};
 ghost use Rattle.mkv_extract.specs.End.{stop_of};
-ghost use Rattle.mkv_extract.specs.Extract.{extract_verdict, fit_verdict, is_input, read_verdict, taken_verdict};
-ghost use Rattle.mkv_extract.specs.Read.{read_of};
+ghost use Rattle.mkv_extract.specs.Extract.{extract_verdict, fit_verdict, is_among, is_input, job_verdict, read_verdict, taken_verdict};
+ghost use Rattle.mkv_extract.specs.Read.{read_in, read_of};
 
+use crate::chapters::extract_chapters;
 use crate::reading::read_source;
 use crate::telling::{say_absent, tell};
 use element_reader::OutlineEnd;
@@ -28,8 +29,8 @@ use mkv_values::{Damage, FileId, OpenFault};
 use pending_edits::is_pending;
 use std::alloc::Global;
 
-/// Takes what a job asks for out of the file of a name, each target into a file of its own. The job takes something
-/// of tracks, and no two of its targets have one name.
+/// Takes what a job asks for out of the file of a name, each target into a file of its own. The job is built, and no two
+/// of its targets have one name.
 pub fn extract_of<F: Files, P: Report>(
     alloc: Global,
     name: &str,
@@ -37,8 +38,8 @@ pub fn extract_of<F: Files, P: Report>(
     files: &mut F,
     report: &mut P,
 ) -> Result<Status, Stop>
-    requires takes { IsSome (taken_of job.now) }
-    requires apart { AreApart (names_of (targets_of job.now)) }
+    requires takes { is_taken job.now ≡ true }
+    requires apart { AreApart (names_for job.now) }
     ensures verdict { Told (F.names files.old) (λ world. Reaches
         (seen F.Reads F.writing_faults F.names P.Report files.old report.old)
         (seen F.Reads F.writing_faults F.names P.Report files.new report.new)
@@ -49,7 +50,7 @@ pub fn extract_of<F: Files, P: Report>(
         (seen F.Reads F.writing_faults F.names P.Report files.old report.old).counts
         (seen F.Reads F.writing_faults F.names P.Report files.new report.new).counts result }
 {
-    if is_input(name, targets_of(job)) {
+    if is_input(name, job) {
         say(alloc, report, &Line::OutputIsInput { name })?;
         return Ok(Status::Refused);
     }
@@ -68,8 +69,21 @@ pub fn extract_of<F: Files, P: Report>(
 }
 
 /// Whether an output has the name of the file.
-fn is_input(name: &str, targets: &[Target]) -> bool
-    ensures { result ≡ is_input name.now targets.now }
+fn is_input(name: &str, job: &Job) -> bool
+    ensures { result ≡ is_input name.now job.now }
+{
+    match job {
+        Job::Tracks { list, .. }
+        | Job::Timestamps { list }
+        | Job::Attachments { list }
+        | Job::Cues { list } => is_among(name, list.as_slice()),
+        Job::Chapters { name: out } => out.as_str() == name,
+    }
+}
+
+/// Whether a target has this name.
+fn is_among(name: &str, targets: &[Target]) -> bool
+    ensures { result ≡ is_among name.now targets.now }
 {
     targets.iter().any(|target| target.name.as_str() == name)
 }
@@ -84,10 +98,10 @@ fn extract_settled<F: Files, P: Report>(
     file: FileId,
     report: &mut P,
 ) -> Result<Status, Stop>
-    requires takes { IsSome (taken_of job.now) }
-    requires apart { AreApart (names_of (targets_of job.now)) }
+    requires takes { is_taken job.now ≡ true }
+    requires apart { AreApart (names_for job.now) }
     requires live { IsLive F.Reads files.old file }
-    requires other { AreOthers (F.holder files.old file.n) (names_of (targets_of job.now)) }
+    requires other { AreOthers (F.holder files.old file.n) (names_for job.now) }
     ensures verdict { Told (F.names files.old) (λ world. IfTold F.Reads files.old file (λ bytes. Reaches
         (seen F.Reads F.writing_faults F.names P.Report files.old report.old)
         (seen F.Reads F.writing_faults F.names P.Report files.new report.new)
@@ -114,10 +128,10 @@ fn extract_file<F: Files, P: Report>(
     file: FileId,
     report: &mut P,
 ) -> Result<Status, Stop>
-    requires takes { IsSome (taken_of job.now) }
-    requires apart { AreApart (names_of (targets_of job.now)) }
+    requires takes { is_taken job.now ≡ true }
+    requires apart { AreApart (names_for job.now) }
     requires live { IsLive F.Reads files.old file }
-    requires other { AreOthers (F.holder files.old file.n) (names_of (targets_of job.now)) }
+    requires other { AreOthers (F.holder files.old file.n) (names_for job.now) }
     ensures verdict { IfTold F.Reads files.old file (λ bytes. Reaches
         (seen F.Reads F.writing_faults F.names P.Report files.old report.old)
         (seen F.Reads F.writing_faults F.names P.Report files.new report.new)
@@ -129,7 +143,7 @@ fn extract_file<F: Files, P: Report>(
         (seen F.Reads F.writing_faults F.names P.Report files.new report.new).counts result }
 {
     match read_source(alloc, job, files, file) {
-        Ok(source) => extract_fit(alloc, name, job, &source, files, report),
+        Ok(source) => extract_job(alloc, name, job, &source, files, report),
         Err(OutlineEnd::Refused(damage)) => refuse(alloc, name, damage, report),
         Err(OutlineEnd::ReadFault) => Err(Stop::Files),
         Err(OutlineEnd::Memory) => Err(Stop::Memory),
@@ -149,6 +163,43 @@ fn refuse<P: Report>(
 {
     say(alloc, report, &Line::Refused { name, damage })?;
     Ok(Status::Refused)
+}
+
+/// Takes what a job asks for out of a source.
+fn extract_job<F: Files, P: Report>(
+    alloc: Global,
+    name: &str,
+    job: &Job,
+    source: &Source,
+    files: &mut F,
+    report: &mut P,
+) -> Result<Status, Stop>
+    requires takes { is_taken job.now ≡ true }
+    requires apart { AreApart (names_for job.now) }
+    requires source { IsSource F.Reads files.old source.now }
+    requires usable { AreUsable source.now (targets_of job.now) }
+    requires other { AreOthers (F.holder files.old source.now.file.n) (names_for job.now) }
+    ensures verdict { IfTold F.Reads files.old source.now.file (λ bytes. Reaches
+        (seen F.Reads F.writing_faults F.names P.Report files.old report.old)
+        (seen F.Reads F.writing_faults F.names P.Report files.new report.new)
+        result (job_verdict name.now job.now (read_in source.now) (events_in source.now bytes))) }
+    ensures ordinary { IfOk result IsOrdinary }
+    ensures live { (file : ℕ) → (live_files F.Reads files.new).live file ≡ (live_files F.Reads files.old).live file }
+    ensures cause { HasStopCause
+        (seen F.Reads F.writing_faults F.names P.Report files.old report.old).counts
+        (seen F.Reads F.writing_faults F.names P.Report files.new report.new).counts result }
+{
+    match job {
+        Job::Chapters { name: out } => extract_chapters(
+            alloc,
+            name,
+            out.as_str(),
+            source,
+            files,
+            report,
+        ),
+        _ => extract_fit(alloc, name, job, source, files, report),
+    }
 }
 
 /// Takes what a job asks for out of a source, unless a track that it names can't be taken so.
@@ -231,7 +282,7 @@ fn extract_source<F: Files, P: Report>(
 }
 
 /// Why a command stops whose extraction ended early.
-fn stop_of(end: RemuxEnd) -> Stop
+pub(crate) fn stop_of(end: RemuxEnd) -> Stop
     ensures { result ≡ stop_of end }
 {
     match end {

@@ -1,7 +1,8 @@
 #![tactic(auto)]
 
-//! The command `extract`, which takes frames of tracks, or their times, out of a file.
+//! The command `extract`, which takes frames of tracks, their times, or the chapters out of a file.
 
+mod chapters;
 mod extract;
 mod reading;
 mod telling;

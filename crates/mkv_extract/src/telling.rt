@@ -104,7 +104,7 @@ fn warn<P: Report>(alloc: Global, name: &str, damages: &Damages, report: &mut P)
 }
 
 /// Warns of a damage.
-fn warn_of<P: Report>(
+pub(crate) fn warn_of<P: Report>(
     alloc: Global,
     name: &str,
     damage: &Damage,

@@ -28,7 +28,7 @@ use Rattle.mkv_io.specs.Names.{AreApart}
 use Rattle.mkv_jobs.specs.declared.job.Job.{Job}
 use Rattle.mkv_jobs.specs.declared.job.Job.TheVariants as jobs
 use Rattle.mkv_args.specs.Sound.{IsSoundJob}
-use Rattle.extract_model.specs.Job.{names_of, taken_of, targets_of}
+use Rattle.extract_model.specs.Job.{names_for}
 use Rattle.mkv_lines.proofs.SaidLemmas.{with_lines-both, with_lines-none}
 
 -- the line of the fault stands behind a first part of the lines
@@ -156,10 +156,10 @@ texts-next old now all k texts t below is way =
 
 -- ---- an extraction
 
--- no two outputs of a job that takes something of tracks have one name
-pub outputs-apart : (job : Job) → IsSoundJob job → IsSome (taken_of job) → AreApart (names_of (targets_of job))
-outputs-apart (jobs.Tracks form list) sound takes = sound.apart
-outputs-apart (jobs.Timestamps list) sound takes = sound.apart
-outputs-apart (jobs.Attachments list) sound takes = sound.apart
-outputs-apart (jobs.Cues list) sound takes = sound.apart
-outputs-apart (jobs.Chapters name) sound takes = tt
+-- no two outputs of a job have one name
+pub outputs-apart : (job : Job) → IsSoundJob job → AreApart (names_for job)
+outputs-apart (jobs.Tracks form list) sound = sound.apart
+outputs-apart (jobs.Timestamps list) sound = sound.apart
+outputs-apart (jobs.Attachments list) sound = sound.apart
+outputs-apart (jobs.Cues list) sound = sound.apart
+outputs-apart (jobs.Chapters name) sound = (tt, tt)

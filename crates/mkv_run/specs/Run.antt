@@ -1,5 +1,5 @@
 -- What the words of a command line come to.
-use Rattle.std.specs.Prelude.{◌≤◌, ⊤, IfOk, ℕ, ◌+◌, Bool, true, false, if◌then◌else◌, List, [], ◌∷◌, Option, Some, is_some, option_map, Result, Ok, Err}
+use Rattle.std.specs.Prelude.{◌≤◌, ⊤, IfOk, ℕ, ◌+◌, Bool, true, false, if◌then◌else◌, List, [], ◌∷◌, Option, Some, option_map, Result, Ok, Err}
 use Rattle.mkv_io.specs.Names.{Names}
 use Rattle.mkv_io.specs.Told.{Told}
 use Rattle.word_values.specs.Why.{why_name}
@@ -13,7 +13,7 @@ use Rattle.mkv_lines.specs.Verdict.{Verdict, done, refused}
 use Rattle.mkv_info.specs.Info.{info_verdict}
 use Rattle.mkv_identify.specs.Identify.{identify_verdict}
 use Rattle.mkv_recover.specs.Recover.{DiskWorld, verdict_on}
-use Rattle.extract_model.specs.Job.{taken_of}
+use Rattle.extract_model.specs.Job.{is_taken}
 use Rattle.mkv_extract.specs.Extract.{extract_verdict}
 use Rattle.mkv_merge.specs.Bound.{most_read}
 use Rattle.mkv_merge.specs.Merge.{merge_verdict}
@@ -32,7 +32,7 @@ is_built (Identify file) = true
 is_built (Recover file) = true
 is_built (Reindex file) = false
 is_built (Generate n prefix) = false
-is_built (Extract file job) = is_some (taken_of job)
+is_built (Extract file job) = is_taken job
 is_built (Propedit file edits) = false
 is_built (Merge words) = takes words
 

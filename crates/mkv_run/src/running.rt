@@ -24,7 +24,7 @@ ghost use Rattle.mkv_run.specs.RunSeen.{HasRunStop, HasStatusCause, run_seen};
 ghost use Rattle.mkv_run.specs.Touched.{Touches, edited_by, edited_in};
 
 use crate::help::{help, version};
-use extractors::taken_of;
+use extractors::is_taken;
 use merge_words::MergeWords;
 use mkv_args::{ArgsEnd, Command, read_words};
 use mkv_disk::Disk;
@@ -168,7 +168,7 @@ fn extract<F: Files, R: Report>(
         (seen F.Reads F.writing_faults F.names R.Report files.new report.new).counts result }
     ensures closed { (file : ℕ) → (live_files F.Reads files.new).live file ≡ (live_files F.Reads files.old).live file }
 {
-    if taken_of(job).is_none() {
+    if !is_taken(job) {
         return refuse(alloc, 0, "NotBuilt", report);
     }
     extract_of(alloc, file.as_str(), job, files, report)

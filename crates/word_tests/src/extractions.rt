@@ -63,6 +63,14 @@ const TEXTS: [u8; 84] = [
     0x42, 0x9B, 0x81, 0x64,
 ];
 
+/// No Tracks but an empty one, and a chapter of the name Intro at 0 s.
+const CHAPTERS: [u8; 62] = [
+    0x1A, 0x45, 0xDF, 0xA3, 0x8B, 0x42, 0x82, 0x88, 0x6D, 0x61, 0x74, 0x72, 0x6F, 0x73, 0x6B, 0x61,
+    0x18, 0x53, 0x80, 0x67, 0xA9, 0x16, 0x54, 0xAE, 0x6B, 0x80, 0x10, 0x43, 0xA7, 0x70, 0x9F, 0x45,
+    0xB9, 0x9C, 0x45, 0xBC, 0x81, 0x01, 0xB6, 0x96, 0x73, 0xC4, 0x81, 0x01, 0x91, 0x81, 0x00, 0x80,
+    0x8D, 0x85, 0x85, 0x49, 0x6E, 0x74, 0x72, 0x6F, 0x43, 0x7C, 0x83, 0x75, 0x6E, 0x64,
+];
+
 /// An Info whose TimestampScale is 0, and no Tracks.
 const NO_SCALE: [u8; 31] = [
     0x1A, 0x45, 0xDF, 0xA3, 0x8B, 0x42, 0x82, 0x88, 0x6D, 0x61, 0x74, 0x72, 0x6F, 0x73, 0x6B, 0x61,
@@ -165,6 +173,16 @@ fn frames_and_times_are_taken_out(rt: HostRuntime) -> Result<(), Fail> {
             &TEXTS,
             &["extract", "a.mkv", "tracks", "0:r"],
             b"1\n00:00:00,000 --> 00:00:00,099\nA\n\n2\n00:00:00,000 --> 00:00:00,099\nB\n\n",
+        ),
+        written(
+            &CHAPTERS,
+            &["extract", "a.mkv", "chapters", "--simple", "r"],
+            b"CHAPTER01=00:00:00.000\nCHAPTER01NAME=Intro\n",
+        ),
+        written(
+            &TWO_BLOCKS,
+            &["extract", "a.mkv", "chapters", "--simple", "r"],
+            b"",
         ),
         Row {
             lines: &["wrote q", "wrote r"],
@@ -275,6 +293,11 @@ fn what_is_refused_is_told_and_writes_nothing(rt: HostRuntime) -> Result<(), Fai
                 &["warning: a.mkv: no track 1"],
             )
         },
+        refused(
+            &CHAPTERS,
+            &["extract", "a.mkv", "chapters", "--simple", "a.mkv"],
+            &["error: a.mkv: OutputIsInput"],
+        ),
         refused(
             &TWO_BLOCKS,
             &["extract", "a.mkv", "cues", "0:r"],

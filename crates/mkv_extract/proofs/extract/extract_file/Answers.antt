@@ -5,7 +5,8 @@ use Rattle.extractors.specs.Source.{events_in}
 use Rattle.mkv_lines.specs.Faults.{Counts, HasStopCause}
 use Rattle.mkv_lines.specs.Seen.{Seen, seen}
 use Rattle.mkv_lines.specs.Verdict.{Reaches, Verdict}
-use Rattle.mkv_extract.specs.Extract.{read_verdict, fit_verdict}
+use Rattle.mkv_extract.specs.Extract.{job_verdict, read_verdict}
+use Rattle.mkv_extract.specs.Read.{read_in}
 use Rattle.mkv_extract.proofs.extract.extract_file.Goals as goal
 
 -- reading leaves all as it was
@@ -22,18 +23,18 @@ returns-in-Ok-clause-verdict g c = λ bytes told.
     let names : g.F.Files.names mid ≡ g.F.Files.names old = g.met.F.Files.names_stand mid old standing in
     let there : (live_files g.F.Reads mid).content source.file.n ≡ Some bytes =
     ap (λ s. (g.F.Reads.files s).content source.file.n) standing ∙ ap (λ (file : FileId). (live_files g.F.Reads old).content file.n) c.in-Ok.ensures.file ∙ told in
-    let read : fit_verdict name job source.tracks (events_in source bytes) ≡ read_verdict name job bytes _ =
-    ap (fit_verdict name job source.tracks) (c.in-Ok.ensures.events bytes told) ∙ ap (read_verdict name job bytes) (sym (c.in-Ok.ensures.exact bytes told)) in
+    let read : job_verdict name job (read_in source) (events_in source bytes) ≡ read_verdict name job bytes _ =
+    ap (job_verdict name job (read_in source)) (c.in-Ok.ensures.events bytes told) ∙ ap (read_verdict name job bytes) (sym (c.in-Ok.ensures.exact bytes told)) in
     let before : Seen = seen g.F.Reads g.F.Files.writing_faults g.F.Files.names g.P.Report old c.args.report.now in
-    let after : Seen = seen g.F.Reads g.F.Files.writing_faults g.F.Files.names g.P.Report c.extract_fit.new.files c.extract_fit.new.report in
+    let after : Seen = seen g.F.Reads g.F.Files.writing_faults g.F.Files.names g.P.Report c.extract_job.new.files c.extract_job.new.report in
     let same : seen g.F.Reads g.F.Files.writing_faults g.F.Files.names g.P.Report mid c.args.report.now ≡ before =
     λ i. record {
       counts = record { reading = reading i; writing = writing i; report = g.P.Report.faults c.args.report.now };
       lines = g.P.Report.lines c.args.report.now;
       names = names i;
     } in
-    subst (λ (v : Verdict). Reaches before after c.extract_fit.result v) read
-    (subst (λ (s : Seen). Reaches s after c.extract_fit.result (fit_verdict name job source.tracks (events_in source bytes))) same (c.extract_fit.ensures.verdict bytes there))
+    subst (λ (v : Verdict). Reaches before after c.extract_job.result v) read
+    (subst (λ (s : Seen). Reaches s after c.extract_job.result (job_verdict name job (read_in source) (events_in source bytes))) same (c.extract_job.ensures.verdict bytes there))
 
 pub returns-in-Ok-clause-cause : goal.returns-in-Ok-clause-cause
 returns-in-Ok-clause-cause g c =
@@ -41,7 +42,7 @@ returns-in-Ok-clause-cause g c =
     let mid = c.read_source.new.src in
     let reading : g.F.Reads.reading_faults mid ≡ g.F.Reads.reading_faults old = c.in-Ok.ensures.cause in
     let writing : g.F.Files.writing_faults mid ≡ g.F.Files.writing_faults old = g.met.F.Files.writing_stands mid old c.in-Ok.ensures.standing in
-    let after : Counts = (seen g.F.Reads g.F.Files.writing_faults g.F.Files.names g.P.Report c.extract_fit.new.files c.extract_fit.new.report).counts in
+    let after : Counts = (seen g.F.Reads g.F.Files.writing_faults g.F.Files.names g.P.Report c.extract_job.new.files c.extract_job.new.report).counts in
     let same : (seen g.F.Reads g.F.Files.writing_faults g.F.Files.names g.P.Report mid c.args.report.now).counts ≡ (seen g.F.Reads g.F.Files.writing_faults g.F.Files.names g.P.Report old c.args.report.now).counts =
     λ i. record { reading = reading i; writing = writing i; report = g.P.Report.faults c.args.report.now } in
-    subst (λ (counts : Counts). HasStopCause counts after c.extract_fit.result) same c.extract_fit.ensures.cause
+    subst (λ (counts : Counts). HasStopCause counts after c.extract_job.result) same c.extract_job.ensures.cause

@@ -1,18 +1,14 @@
-use Rattle.std.proofs.Common.{List, refl, sym, ◌∙◌, ap}
-use Rattle.mkv_jobs.specs.declared.job.Target.{Target}
-use Rattle.extract_model.specs.Job.{targets_of}
+use Rattle.std.proofs.Common.{refl, sym, ◌∙◌}
 use Rattle.mkv_lines.specs.Seen.{seen}
 use Rattle.mkv_lines.proofs.VerdictLemmas.{IsStopped-before}
-use Rattle.mkv_extract.specs.Extract.{extract_verdict, is_input}
-use Rattle.mkv_extract.proofs.ExtractLemmas.{others-named}
+use Rattle.mkv_extract.specs.Extract.{extract_verdict}
+use Rattle.mkv_extract.proofs.ExtractLemmas.{others-input}
 use Rattle.mkv_extract.proofs.extract.extract_of.Goals as goal
 
 -- no output has the name of the file
 pub extract_settled-ended-requires-clause-other : goal.extract_settled-ended-requires-clause-other
 extract_settled-ended-requires-clause-other g c =
-    others-named c.args.name.now (g.F.Files.holder c.open_file.new.self c.in-Ok.file.n) (targets_of c.args.job.now)
-    (ap (λ (ts : List Target). is_input c.args.name.now ts) (sym c.targets_of.ensures) ∙ sym c.is_input.ensures ∙ c.if-is_input.false)
-    c.in-Ok.ensures.holder
+    others-input c.args.name.now (g.F.Files.holder c.open_file.new.self c.in-Ok.file.n) c.args.job.now (sym c.is_input.ensures ∙ c.if-is_input.false) c.in-Ok.ensures.holder
 
 -- the file couldn't be opened
 pub returns-in-Err-Failed-clause-verdict : goal.returns-in-Err-Failed-clause-verdict

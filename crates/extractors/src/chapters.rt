@@ -1,0 +1,33 @@
+//! The chapters of a file are written as text.
+
+ghost use Rattle.std.specs.Prelude.{IfSome};
+ghost use Rattle.mkv_schema.specs.declared.ids.TheConstants.{CHAPTERS as CHAPTERS_ID};
+ghost use Rattle.tree_format.specs.Standing.{IsSoundOf};
+ghost use Rattle.extract_model.specs.Chapters.{chapters_text};
+ghost use Rattle.whole_files.specs.Whole.{WritesFile};
+
+use ebml_tree::Tree;
+use mkv_io::Files;
+use mkv_jobs::RemuxEnd;
+use mkv_values::Bytes;
+use srt_chapters::put_simple;
+use std::alloc::Global;
+use whole_files::write_file;
+
+/// Makes the file of a name, whatever it was, with a file's first Chapters as simple chapters; without one it is empty. It
+/// is closed, whatever the answer.
+pub fn write_chapters<F: Files>(
+    alloc: Global,
+    files: &mut F,
+    chapters: &Option<Tree>,
+    name: &str,
+) -> Result<(), RemuxEnd>
+    requires { IfSome chapters.now (IsSoundOf CHAPTERS_ID) }
+    ensures { WritesFile F.Reads F.Files.own name.now (chapters_text chapters.now) 0 files.old files.new result }
+{
+    let mut text = Bytes::new(alloc);
+    if let Some(chapters) = chapters {
+        put_simple(chapters, &mut text)?;
+    }
+    write_file(files, name, text.as_slice())
+}
