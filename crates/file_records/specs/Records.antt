@@ -18,6 +18,7 @@ use Rattle.tree_format.specs.declared.limits.TheConstants.{MOST_NODES}
 use Rattle.tree_format.specs.Node.{HasRoom, Node}
 use Rattle.tree_format.specs.Reading.{tree_of}
 use Rattle.tree_format.specs.Standing.{IsSoundOf}
+use Rattle.tree_building.specs.Building.{IsRead}
 use Rattle.track_format.specs.Tracks.{IsTrack}
 use Rattle.track_records.specs.Sound.{IsEntry}
 use Rattle.track_records.specs.Track.{track_of, tracks_of}
@@ -121,5 +122,5 @@ pub record AreGood (file : FileId) (total : ℕ) (r : Records) : Type 0 where
   pub info : IfSome r.info IsGoodInfo
   pub tracks : AreRead r.tracks
   pub attachments : All (IsAttachedIn file total) r.attachments
-  pub chapters : IfSome r.chapters (IsSoundOf CHAPTERS)
-  pub tags : IfSome r.tags (IsSoundOf TAGS)
+  pub chapters : IfSome r.chapters (IsRead CHAPTERS)
+  pub tags : IfSome r.tags (IsRead TAGS)

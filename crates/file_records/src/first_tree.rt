@@ -4,6 +4,7 @@ ghost use Rattle.std.specs.Prelude.{◌≡◌, ◌+◌, ◌≤◌, List, ℕ, Ok
 ghost use Rattle.mkv_io.specs.Faults.{HasCause};
 ghost use Rattle.mkv_io.specs.Sources.{IfTold, IsLive, file_size};
 ghost use Rattle.tree_format.specs.Standing.{IsSoundOf};
+ghost use Rattle.tree_building.specs.Building.{IsRead};
 ghost use Rattle.element_reader.specs.Outline.{is_outline_fault, outline_in};
 ghost use Rattle.file_records.specs.Records.{IsHeld, ReadsAs, first_tree};
 
@@ -27,6 +28,7 @@ pub fn first_tree<R: Reads>(
     ensures exact { IfTold R.Reads src.old file (λ bytes. (held : ℕ) → outline_in held bytes ≡ Ok outline.now
         → ReadsAs (first_tree id bytes outline.now.segment) result) }
     ensures sound { IfOk result (λ tree. IfSome tree (IsSoundOf id)) }
+    ensures read { IfOk result (λ tree. IfSome tree (IsRead id)) }
     ensures standing { R.standing src.new ≡ R.standing src.old }
     ensures cause { HasCause is_outline_fault (R.reading_faults src.old) (R.reading_faults src.new) result }
     ensures octets { R.octets_read src.new ≤ R.octets_read src.old + file_size R.Reads src.old file }

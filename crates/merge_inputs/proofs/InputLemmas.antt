@@ -2,18 +2,18 @@
 use Rattle.std.proofs.Common.{◌≡◌, ℕ, Bool, true, false, List, length, map, Option, Some, None, IfSome, Result, Ok, Err, refl, sym, ◌∙◌, ap, arith}
 use Rattle.std.specs.List.{All}
 use Rattle.mkv_values.specs.declared.damage.Damage.{Damage}
-use Rattle.matroska_format.specs.declared.element.Header.{Header}
-use Rattle.matroska_format.specs.Outline.{Outlined, segment_run}
+use Rattle.matroska_format.specs.Outline.{Outlined}
 use Rattle.element_reader.specs.Outline.{FileOutline, outline_in}
 use Rattle.element_reader.proofs.OutlineLemmas.{Outlines-shown, outline_of-refused}
 use Rattle.tree_format.specs.Node.{Node}
 use Rattle.attachment_records.specs.declared.attachment.Attachment.{Attachment}
+use Rattle.tag_records.specs.declared.uid_map.TagKeep.{TagKeep}
 use Rattle.file_records.specs.Attached.{AttachedFile, in_file}
 use Rattle.file_records.specs.Records.{FileRecords, file_records, scale_of_info}
 use Rattle.merge_words.specs.declared.files.FileWords.{FileWords}
 use Rattle.merge_inputs.specs.Input.{InputRead, found_then, input_of, input_with, refusal_of, unless_refused}
 use Rattle.merge_inputs.specs.Laws.{InputsStay}
-use Rattle.merge_inputs.specs.Select.{keeps_attachments, keeps_chapters, keeps_tags, kept_list, kept_one}
+use Rattle.merge_inputs.specs.Select.{keep_of, keeps_attachments, keeps_chapters, keeps_tags, kept_list, kept_one}
 use Rattle.merge_inputs.specs.Taken.{taken_from}
 use Rattle.merge_inputs.specs.Title.{title_of_info}
 use Rattle.merge_inputs.specs.declared.taken.TakenTrack.{TakenTrack}
@@ -23,8 +23,8 @@ use Rattle.merge_inputs.specs.declared.input.InputRefusal.TheVariants.{Damaged}
 -- ---- what is read
 
 -- what is read of a file with this outline
-abbrev pub read_with : FileOutline → ℕ → List ℕ → ℕ → List TakenTrack → List AttachedFile → Option Node → Option Node → InputRead
-read_with v scale title count taken attachments chapters tags = record {
+abbrev pub read_with : FileOutline → ℕ → List ℕ → ℕ → List TakenTrack → List AttachedFile → Option Node → Option Node → TagKeep → InputRead
+read_with v scale title count taken attachments chapters tags keep = record {
   segment = v.segment;
   scale = scale;
   title = title;
@@ -34,23 +34,24 @@ read_with v scale title count taken attachments chapters tags = record {
   attachments = attachments;
   chapters = chapters;
   tags = tags;
+  keep = keep;
 }
 
 -- the same of one with these records
 abbrev pub read_as : FileWords → Bool → FileOutline → FileRecords → InputRead
 read_as words webm v r =
     read_with v (scale_of_info r.info) (title_of_info r.info) (length r.tracks) (taken_from words 0 r.tracks)
-    (kept_list (keeps_attachments words webm) r.attachments) (kept_one (keeps_chapters words webm) r.chapters) (kept_one (keeps_tags words) r.tags)
+    (kept_list (keeps_attachments words webm) r.attachments) (kept_one (keeps_chapters words webm) r.chapters) (kept_one (keeps_tags words) r.tags) (keep_of words)
 
 -- what refuses it
-abbrev pub refusal_as : FileWords → Bool → List Header → FileRecords → Option InputRefusal
-refusal_as words webm list r = refusal_of words webm list (taken_from words 0 r.tracks)
+abbrev pub refusal_as : FileWords → FileRecords → Option InputRefusal
+refusal_as words r = refusal_of (taken_from words 0 r.tracks)
 
 -- what is read behind an outline
 abbrev behind : FileWords → Bool → List ℕ → Outlined → Result InputRead InputRefusal
 behind words webm bytes o =
     found_then (file_records bytes o.segment) (λ (r : FileRecords).
-    unless_refused (refusal_as words webm o.list r) (input_with words webm o r))
+    unless_refused (refusal_as words r) (input_with words webm o r))
 
 -- nothing, where the outline refuses the file
 pub input_of-outline : (words : FileWords) (webm : Bool) (held : ℕ) (bytes : List ℕ) (d : Damage) → outline_in held bytes ≡ Err d → input_of words webm held bytes ≡ Err (Damaged d)
@@ -61,39 +62,37 @@ pub input_of-records : (words : FileWords) (webm : Bool) (held : ℕ) (bytes : L
 input_of-records words webm held bytes v d outline records =
     let of = Outlines-shown held bytes v outline in
     ap (λ (found : Result Outlined Damage). found_then found (behind words webm bytes)) of.is
-    ∙ ap (λ (found : Result FileRecords Damage). found_then found (λ (r : FileRecords). unless_refused (refusal_as words webm of.outlined.list r) (input_with words webm of.outlined r)))
+    ∙ ap (λ (found : Result FileRecords Damage). found_then found (λ (r : FileRecords). unless_refused (refusal_as words r) (input_with words webm of.outlined r)))
     (ap (λ (w : FileOutline). file_records bytes w.segment) (sym of.shows) ∙ records)
 
 -- what is taken of it, unless something refuses that
-input_of-unless : (words : FileWords) (webm : Bool) (held : ℕ) (bytes : List ℕ) (v : FileOutline) (r : FileRecords) → outline_in held bytes ≡ Ok v → file_records bytes v.segment ≡ Ok r → input_of words webm held bytes ≡ unless_refused (refusal_as words webm (segment_run bytes v.segment).list r) (read_as words webm v r)
+input_of-unless : (words : FileWords) (webm : Bool) (held : ℕ) (bytes : List ℕ) (v : FileOutline) (r : FileRecords) → outline_in held bytes ≡ Ok v → file_records bytes v.segment ≡ Ok r → input_of words webm held bytes ≡ unless_refused (refusal_as words r) (read_as words webm v r)
 input_of-unless words webm held bytes v r outline records =
     let of = Outlines-shown held bytes v outline in
-    let list : of.outlined.list ≡ (segment_run bytes v.segment).list = of.list ∙ ap (λ (w : FileOutline). (segment_run bytes w.segment).list) (sym of.shows) in
     ap (λ (found : Result Outlined Damage). found_then found (behind words webm bytes)) of.is
-    ∙ ap (λ (found : Result FileRecords Damage). found_then found (λ (each : FileRecords). unless_refused (refusal_as words webm of.outlined.list each) (input_with words webm of.outlined each)))
+    ∙ ap (λ (found : Result FileRecords Damage). found_then found (λ (each : FileRecords). unless_refused (refusal_as words each) (input_with words webm of.outlined each)))
     (ap (λ (w : FileOutline). file_records bytes w.segment) (sym of.shows) ∙ records)
-    ∙ ap (λ (each : List Header). unless_refused (refusal_as words webm each r) (input_with words webm of.outlined r)) list
-    ∙ ap (λ (w : FileOutline). unless_refused (refusal_as words webm (segment_run bytes v.segment).list r) (read_as words webm w r)) (sym of.shows)
+    ∙ ap (λ (w : FileOutline). unless_refused (refusal_as words r) (read_as words webm w r)) (sym of.shows)
 
 -- where something does
-pub input_of-refused : (words : FileWords) (webm : Bool) (held : ℕ) (bytes : List ℕ) (v : FileOutline) (r : FileRecords) (why : InputRefusal) → outline_in held bytes ≡ Ok v → file_records bytes v.segment ≡ Ok r → refusal_as words webm (segment_run bytes v.segment).list r ≡ Some why → input_of words webm held bytes ≡ Err why
+pub input_of-refused : (words : FileWords) (webm : Bool) (held : ℕ) (bytes : List ℕ) (v : FileOutline) (r : FileRecords) (why : InputRefusal) → outline_in held bytes ≡ Ok v → file_records bytes v.segment ≡ Ok r → refusal_as words r ≡ Some why → input_of words webm held bytes ≡ Err why
 input_of-refused words webm held bytes v r why outline records bad =
     input_of-unless words webm held bytes v r outline records
     ∙ ap (λ (refusal : Option InputRefusal). unless_refused refusal (read_as words webm v r)) bad
 
 -- where nothing does
-pub input_of-all : (words : FileWords) (webm : Bool) (held : ℕ) (bytes : List ℕ) (v : FileOutline) (r : FileRecords) (input : InputRead) → outline_in held bytes ≡ Ok v → file_records bytes v.segment ≡ Ok r → refusal_as words webm (segment_run bytes v.segment).list r ≡ None → input ≡ read_as words webm v r → input_of words webm held bytes ≡ Ok input
+pub input_of-all : (words : FileWords) (webm : Bool) (held : ℕ) (bytes : List ℕ) (v : FileOutline) (r : FileRecords) (input : InputRead) → outline_in held bytes ≡ Ok v → file_records bytes v.segment ≡ Ok r → refusal_as words r ≡ None → input ≡ read_as words webm v r → input_of words webm held bytes ≡ Ok input
 input_of-all words webm held bytes v r input outline records good is =
     input_of-unless words webm held bytes v r outline records
     ∙ ap (λ (refusal : Option InputRefusal). unless_refused refusal (read_as words webm v r)) good
     ∙ ap Ok (sym is)
 
 -- two that agree in each part
-pub read-same : (v w : FileOutline) {scale scale' : ℕ} {title title' : List ℕ} {count count' : ℕ} {taken taken' : List TakenTrack} {attachments attachments' : List AttachedFile} {chapters chapters' tags tags' : Option Node}
-    → v ≡ w → scale ≡ scale' → title ≡ title' → count ≡ count' → taken ≡ taken' → attachments ≡ attachments' → chapters ≡ chapters' → tags ≡ tags'
-    → read_with v scale title count taken attachments chapters tags ≡ read_with w scale' title' count' taken' attachments' chapters' tags'
-read-same v w outline scale_is title_is count_is taken_is attachments_is chapters_is tags_is =
-    λ i. read_with (outline i) (scale_is i) (title_is i) (count_is i) (taken_is i) (attachments_is i) (chapters_is i) (tags_is i)
+pub read-same : (v w : FileOutline) {scale scale' : ℕ} {title title' : List ℕ} {count count' : ℕ} {taken taken' : List TakenTrack} {attachments attachments' : List AttachedFile} {chapters chapters' tags tags' : Option Node} {keep keep' : TagKeep}
+    → v ≡ w → scale ≡ scale' → title ≡ title' → count ≡ count' → taken ≡ taken' → attachments ≡ attachments' → chapters ≡ chapters' → tags ≡ tags' → keep ≡ keep'
+    → read_with v scale title count taken attachments chapters tags keep ≡ read_with w scale' title' count' taken' attachments' chapters' tags' keep'
+read-same v w outline scale_is title_is count_is taken_is attachments_is chapters_is tags_is keep_is =
+    λ i. read_with (outline i) (scale_is i) (title_is i) (count_is i) (taken_is i) (attachments_is i) (chapters_is i) (tags_is i) (keep_is i)
 
 -- ---- what is kept
 

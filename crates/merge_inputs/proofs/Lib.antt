@@ -1,5 +1,4 @@
 pub mod InputLemmas
-pub mod SelectLemmas
 pub mod StandardFacts
 pub mod TakenLemmas
 pub mod TitleLemmas

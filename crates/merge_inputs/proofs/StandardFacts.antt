@@ -1,12 +1,10 @@
 -- The words of small inputs, and what they take, computed, so that a wrong definition does not check.
 use Rattle.std.proofs.Common.{◌≡◌, ℕ, Bool, true, false, List, [], ◌∷◌, Some, None, refl}
 use Rattle.std.specs.Prelude.{ℤ, pos, neg_ℤ}
-use Rattle.mkv_schema.specs.declared.ids.TheConstants.{ATTACHMENTS, CHAPTERS, CLUSTER, TAGS, TRACKS}
-use Rattle.matroska_format.specs.declared.element.Header.{Header}
 use Rattle.word_values.specs.declared.lists.Select.{Select}
 use Rattle.word_values.specs.declared.lists.Select.TheVariants.{All, These, AllBut, Off}
 use Rattle.merge_words.specs.declared.files.FileWords.{FileWords}
-use Rattle.merge_inputs.specs.Select.{is_taken, not_built}
+use Rattle.merge_inputs.specs.Select.{is_taken, keeps_attachments, keeps_chapters, keeps_tags}
 use Rattle.merge_inputs.specs.Taken.{value_for}
 
 -- ---- the words of a file
@@ -72,29 +70,21 @@ pub record AreValues : Type 0 where
 pub values : AreValues
 values = record { own = refl; first = refl; none = refl; delay = refl }
 
--- ---- what isn't taken over yet
+-- ---- what is kept besides tracks
 
--- an Element of an ID, wherever it stands and however long it is
-abbrev element : ℕ → Header → Header
-element id h = record h { id = id }
-
--- Tags before Chapters and attached files
-abbrev all : Header → List Header
-all h = element TRACKS h ∷ element CLUSTER h ∷ element TAGS h ∷ element CHAPTERS h ∷ element ATTACHMENTS h ∷ []
-
-pub record AreNotBuilt (h : Header) : Type 0 where
-  pub nothing : not_built plain false (element TRACKS h ∷ element CLUSTER h ∷ []) ≡ None
-  -- not the first of the file is told, but the first kind
-  pub attachments : not_built plain false (all h) ≡ Some ATTACHMENTS
-  pub chapters : not_built (words_with All All All false true true true) false (all h) ≡ Some CHAPTERS
-  pub tags : not_built (words_with All All All false false true true) false (all h) ≡ Some TAGS
-  pub left_out : not_built (words_with All All All false false false false) false (all h) ≡ None
-  -- either kind of tags
-  pub track_tags : not_built (words_with All All All false false true false) false (all h) ≡ Some TAGS
-  pub global_tags : not_built (words_with All All All false false false true) false (all h) ≡ Some TAGS
+pub record AreKept : Type 0 where
+  pub attachments : keeps_attachments plain false ≡ true
+  pub chapters : keeps_chapters plain false ≡ true
+  -- `-M`, `--no-chapters`
+  pub no_attachments : keeps_attachments (words_with All All All false true true true) false ≡ false
+  pub no_chapters : keeps_chapters (words_with All All All true false true true) false ≡ false
   -- WebM has neither attached files nor chapters
-  pub webm : not_built plain true (all h) ≡ Some TAGS
-  pub webm_without_tags : not_built (words_with All All All true true false false) true (all h) ≡ None
+  pub webm_attachments : keeps_attachments plain true ≡ false
+  pub webm_chapters : keeps_chapters plain true ≡ false
+  -- either kind of tags
+  pub track_tags : keeps_tags (words_with All All All false false true false) ≡ true
+  pub global_tags : keeps_tags (words_with All All All false false false true) ≡ true
+  pub no_tags : keeps_tags (words_with All All All true true false false) ≡ false
 
-pub not_built_yet : (h : Header) → AreNotBuilt h
-not_built_yet h = record { nothing = refl; attachments = refl; chapters = refl; tags = refl; left_out = refl; track_tags = refl; global_tags = refl; webm = refl; webm_without_tags = refl }
+pub kept : AreKept
+kept = record { attachments = refl; chapters = refl; no_attachments = refl; no_chapters = refl; webm_attachments = refl; webm_chapters = refl; track_tags = refl; global_tags = refl; no_tags = refl }

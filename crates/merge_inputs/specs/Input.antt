@@ -1,21 +1,21 @@
 -- What is read of an input of a merge before its blocks.
 use Rattle.std.specs.Prelude.{◌≡◌, ◌≤◌, ⊤, true, ℕ, Bool, List, length, map, Option, Some, None, IfSome, option_map, Result, Ok, Err}
 use Rattle.std.specs.List.{All}
-use Rattle.std.specs.Option.{option_or}
 use Rattle.mkv_schema.specs.declared.ids.TheConstants.{CHAPTERS, TAGS}
 use Rattle.mkv_values.specs.declared.damage.Damage.{Damage}
 use Rattle.mkv_io.specs.LiveFiles.{LiveFiles}
 use Rattle.matroska_format.specs.declared.element.Header.{Header}
 use Rattle.matroska_format.specs.Outline.{Outlined, described, outline_of}
 use Rattle.tree_format.specs.Node.{Node}
-use Rattle.tree_format.specs.Standing.{IsSoundOf}
+use Rattle.tree_building.specs.Building.{IsRead}
 use Rattle.block_format.specs.Elements.{with_limits}
 use Rattle.block_format.specs.Events.{Event, events_of}
 use Rattle.attachment_reading.specs.Walk.{IsAttachedIn}
+use Rattle.tag_records.specs.declared.uid_map.TagKeep.{TagKeep}
 use Rattle.file_records.specs.Attached.{AttachedFile, in_file}
 use Rattle.file_records.specs.Records.{FileRecords, file_records, scale_of_info}
 use Rattle.merge_words.specs.declared.files.FileWords.{FileWords}
-use Rattle.merge_inputs.specs.Select.{keeps_attachments, keeps_chapters, keeps_tags, kept_list, kept_one, not_built}
+use Rattle.merge_inputs.specs.Select.{keep_of, keeps_attachments, keeps_chapters, keeps_tags, kept_list, kept_one}
 use Rattle.merge_inputs.specs.Taken.{IsTaken, first_unusable, taken_from}
 use Rattle.merge_inputs.specs.Title.{title_of_info}
 use Rattle.merge_inputs.specs.declared.taken.TakenTrack.{TakenTrack}
@@ -23,10 +23,10 @@ use Rattle.merge_inputs.specs.declared.input.Input.{Input}
 use Rattle.merge_inputs.specs.declared.input.InputEnd.{InputEnd}
 use Rattle.merge_inputs.specs.declared.input.InputEnd.TheVariants as input_end
 use Rattle.merge_inputs.specs.declared.input.InputRefusal.{InputRefusal}
-use Rattle.merge_inputs.specs.declared.input.InputRefusal.TheVariants.{Damaged, NotBuilt}
+use Rattle.merge_inputs.specs.declared.input.InputRefusal.TheVariants.{Damaged}
 
 -- The Segment of a file, nanoseconds a tick, its title; the octets of every Info, Tracks, Chapters and Tags; how many
--- tracks it has, and those that are taken; and what is kept of its attached files, Chapters and Tags.
+-- tracks it has, and those that are taken; what is kept of its attached files, Chapters and Tags; and which of the Tags are.
 pub record InputRead : Type 0 where
   pub segment : Header
   pub scale : ℕ
@@ -37,6 +37,7 @@ pub record InputRead : Type 0 where
   pub attachments : List AttachedFile
   pub chapters : Option Node
   pub tags : Option Node
+  pub keep : TagKeep
 
 -- ---- what is read of a content
 
@@ -50,10 +51,9 @@ abbrev pub unless_refused : Option InputRefusal → InputRead → Result InputRe
 unless_refused None input = Ok input
 unless_refused (Some why) input = Err why
 
--- what refuses an input whose records are good: of the tracks that are taken the first that can't be used, and then the
--- first Element of level 1 that isn't taken over yet
-abbrev pub refusal_of : FileWords → Bool → List Header → List TakenTrack → Option InputRefusal
-refusal_of words webm list taken = option_or (option_map Damaged (first_unusable taken)) (option_map NotBuilt (not_built words webm list))
+-- what refuses an input whose records are good: of the tracks that are taken the first that can't be used
+abbrev pub refusal_of : List TakenTrack → Option InputRefusal
+refusal_of taken = option_map Damaged (first_unusable taken)
 
 -- what is read of a file with this outline and these records
 abbrev pub input_with : FileWords → Bool → Outlined → FileRecords → InputRead
@@ -67,6 +67,7 @@ input_with words webm o r = record {
   attachments = kept_list (keeps_attachments words webm) r.attachments;
   chapters = kept_one (keeps_chapters words webm) r.chapters;
   tags = kept_one (keeps_tags words) r.tags;
+  keep = keep_of words;
 }
 
 -- what is read of a content, or the first thing that refuses it: its outline, where earlier inputs have held so many octets;
@@ -75,7 +76,7 @@ abbrev pub input_of : FileWords → Bool → ℕ → List ℕ → Result InputRe
 input_of words webm held bytes =
     found_then (outline_of held bytes) (λ (o : Outlined).
     found_then (file_records bytes o.segment) (λ (r : FileRecords).
-    unless_refused (refusal_of words webm o.list (taken_from words 0 r.tracks)) (input_with words webm o r)))
+    unless_refused (refusal_of (taken_from words 0 r.tracks)) (input_with words webm o r)))
 
 -- ---- an input that was read
 
@@ -91,6 +92,7 @@ read_in i = record {
   attachments = map in_file i.attachments;
   chapters = i.chapters;
   tags = i.tags;
+  keep = i.keep;
 }
 
 -- the blocks and damages of an input whose file has this content
@@ -112,5 +114,5 @@ pub record IsInput (files : LiveFiles) (i : Input) : Type 0 where
   pub scale : 1 ≤ i.scale
   pub taken : All IsTaken i.taken
   pub attachments : All (IsAttachedIn i.file i.outline.value.total) i.attachments
-  pub chapters : IfSome i.chapters (IsSoundOf CHAPTERS)
-  pub tags : IfSome i.tags (IsSoundOf TAGS)
+  pub chapters : IfSome i.chapters (IsRead CHAPTERS)
+  pub tags : IfSome i.tags (IsRead TAGS)

@@ -1,10 +1,7 @@
--- Which tracks of a file the words of a merge take (RFC 9559, section 5.1.4, Tracks Element), what they keep besides, and what isn't taken over yet.
-use Rattle.std.specs.Prelude.{ℕ, ◌==◌, Bool, true, false, not, ◌&&◌, ◌||◌, if◌then◌else◌, List, [], Option, Some, None, is_some}
+-- Which tracks of a file the words of a merge take (RFC 9559, section 5.1.4, Tracks Element), and what they keep besides.
+use Rattle.std.specs.Prelude.{ℕ, ◌==◌, Bool, true, false, not, ◌&&◌, ◌||◌, if◌then◌else◌, List, [], Option, None}
 use Rattle.std.specs.List.{list_any}
-use Rattle.std.specs.Option.{option_or}
-use Rattle.mkv_schema.specs.declared.ids.TheConstants.{ATTACHMENTS, CHAPTERS, TAGS}
-use Rattle.matroska_format.specs.declared.element.Header.{Header}
-use Rattle.matroska_format.specs.Value.{first_of}
+use Rattle.tag_records.specs.declared.uid_map.TagKeep.{TagKeep}
 use Rattle.word_values.specs.declared.lists.Select.{Select}
 use Rattle.word_values.specs.declared.lists.Select.TheVariants.{All, These, AllBut, Off}
 use Rattle.merge_words.specs.declared.files.FileWords.{FileWords}
@@ -44,6 +41,9 @@ keeps_chapters words webm = words.chapters && not webm
 abbrev pub keeps_tags : FileWords → Bool
 keeps_tags words = words.track_tags || words.global_tags
 
+abbrev pub keep_of : FileWords → TagKeep
+keep_of words = record { tracks = words.track_tags; global = words.global_tags }
+
 -- a list that is kept or left out, and an Element
 abbrev pub kept_list : {T : Type 0} → Bool → List T → List T
 kept_list true list = list
@@ -52,17 +52,3 @@ kept_list false list = []
 abbrev pub kept_one : {T : Type 0} → Bool → Option T → Option T
 kept_one true one = one
 kept_one false one = None
-
--- ---- what isn't taken over yet
-
--- an ID that is wanted, if an Element of it stands in a list
-abbrev pub standing : List Header → Bool → ℕ → Option ℕ
-standing list is_wanted id = if is_wanted && is_some (first_of id list) then Some id else None
-
--- the first of Attachments, Chapters and Tags that stands in a list and is kept
-abbrev pub not_built : FileWords → Bool → List Header → Option ℕ
-not_built words webm list =
-    option_or (option_or
-    (standing list (keeps_attachments words webm) ATTACHMENTS)
-    (standing list (keeps_chapters words webm) CHAPTERS))
-    (standing list (keeps_tags words) TAGS)

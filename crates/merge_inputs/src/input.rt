@@ -10,6 +10,7 @@ use element_reader::{Outline, OutlineEnd};
 use mkv_values::{Damage, FileId, List, Text};
 use std::alloc::{AllocError, AllocFailed};
 use std::rc::Rc;
+use tag_records::TagKeep;
 
 /// A live file that is merged, and what was read of it before its blocks.
 #[derive(Drop)]
@@ -30,6 +31,8 @@ pub struct Input {
     pub chapters: Option<Tree>,
     /// Its first Tags, if it has one of which something is kept.
     pub tags: Option<Tree>,
+    /// Which of the Tags are taken.
+    pub keep: TagKeep,
 }
 
 /// What refuses an input.
@@ -37,8 +40,6 @@ pub struct Input {
 pub enum InputRefusal {
     /// The file is damaged, passes a limit, or a track that is taken can't be used.
     Damaged(Damage),
-    /// The file has an Element of this ID at level 1, which isn't taken over yet, and which the words don't leave out.
-    NotBuilt { id: u32 },
 }
 
 /// Why an input isn't read.

@@ -1,22 +1,17 @@
 //! What is read of an input before its blocks.
 
-ghost use Rattle.std.specs.Prelude.{◌≡◌, ◌+◌, ◌*◌, ◌≤◌, true, ℕ, List, None, Ok, IfOk, IfNone};
-ghost use Rattle.std.specs.List.{All};
+ghost use Rattle.std.specs.Prelude.{◌≡◌, ◌+◌, ◌*◌, ◌≤◌, true, IfOk};
 ghost use Rattle.mkv_io.specs.Faults.{HasCause};
 ghost use Rattle.mkv_io.specs.Sources.{IfTold, IsLive, file_size, live_files};
-ghost use Rattle.matroska_format.specs.Outline.{segment_run};
-ghost use Rattle.element_reader.specs.Outline.{outline_in};
-ghost use Rattle.track_records.specs.Sound.{IsEntry};
 ghost use Rattle.file_blocks.specs.File.{file_events};
 ghost use Rattle.merge_words.specs.Sound.{IsSoundFile};
 ghost use Rattle.merge_inputs.specs.End.{is_input_fault};
-ghost use Rattle.merge_inputs.specs.Input.{IsInput, ReadsInput, events_in, input_of, read_in, refusal_of};
-ghost use Rattle.merge_inputs.specs.Taken.{first_unusable};
+ghost use Rattle.merge_inputs.specs.Input.{IsInput, ReadsInput, events_in, input_of, read_in};
 
 use crate::input::{Input, InputEnd, InputRefusal};
 use crate::kept::{kept_files, kept_tree};
-use crate::select::{keeps_attachments, keeps_chapters, keeps_tags, not_built};
-use crate::taken::{TakenTrack, first_unusable, taken_of};
+use crate::select::{keep_of, keeps_attachments, keeps_chapters, keeps_tags};
+use crate::taken::{first_unusable, taken_of};
 use crate::title::title_of;
 use element_reader::Outline;
 use file_records::{Records, read_records, scale_of};
@@ -27,8 +22,8 @@ use std::alloc::Global;
 use std::rc::Rc;
 
 /// What is read of a live file before its blocks, or the first thing that refuses it: its outline, its records,
-/// then the tracks that the words take, in their order, and at last what isn't built yet. Earlier inputs have held
-/// so many octets of Info, Tracks, Chapters and Tags. A WebM output leaves attached files and chapters out.
+/// and then the tracks that the words take, in their order. Earlier inputs have held so many octets of Info, Tracks,
+/// Chapters and Tags. A WebM output leaves attached files and chapters out.
 pub fn read_input<R: Reads>(
     alloc: Global,
     words: &FileWords,
@@ -60,8 +55,8 @@ pub fn read_input<R: Reads>(
     } = read_records(alloc, &outline, src, file)?;
     let count = tracks.len();
     let taken = taken_of(alloc, words, tracks)?;
-    if let Some(refusal) = refusal_of(words, webm, &outline, taken.as_slice()) {
-        return Err(InputEnd::Refused(refusal));
+    if let Some(damage) = first_unusable(taken.as_slice()) {
+        return Err(InputEnd::Refused(InputRefusal::Damaged(damage)));
     }
     Ok(Input {
         file,
@@ -73,24 +68,6 @@ pub fn read_input<R: Reads>(
         attachments: kept_files(alloc, keeps_attachments(words, webm), attachments),
         chapters: kept_tree(keeps_chapters(words, webm), chapters),
         tags: kept_tree(keeps_tags(words), tags),
+        keep: keep_of(words),
     })
-}
-
-/// What refuses an input whose records are good: of the tracks that are taken the first that can't be used, and
-/// then what isn't built.
-fn refusal_of(
-    words: &FileWords,
-    webm: bool,
-    outline: &Outline,
-    taken: &[TakenTrack],
-) -> Option<InputRefusal>
-    requires { All (λ t. IsEntry t.track.entry) taken.now }
-    ensures exact { (held : ℕ) (bytes : List ℕ) → outline_in held bytes ≡ Ok outline.now
-        → result ≡ refusal_of words.now webm (segment_run bytes outline.now.segment).list taken.now }
-    ensures usable { IfNone result (first_unusable taken.now ≡ None) }
-{
-    if let Some(damage) = first_unusable(taken) {
-        return Some(InputRefusal::Damaged(damage));
-    }
-    not_built(words, webm, outline).map(|id| InputRefusal::NotBuilt { id })
 }

@@ -1,14 +1,11 @@
 //! Which tracks of a file the words take, and what they keep besides.
 
-ghost use Rattle.std.specs.Prelude.{◌≡◌, ℕ, List, Ok};
-ghost use Rattle.matroska_format.specs.Outline.{segment_run};
-ghost use Rattle.element_reader.specs.Outline.{outline_in};
-ghost use Rattle.merge_inputs.specs.Select.{is_taken, keeps_attachments, keeps_chapters, keeps_tags, not_built, standing, takes};
+ghost use Rattle.std.specs.Prelude.{◌≡◌};
+ghost use Rattle.merge_inputs.specs.Select.{is_taken, keep_of, keeps_attachments, keeps_chapters, keeps_tags, takes};
 
 use crate::track_type::{AUDIO_TRACK, SUBTITLE_TRACK, VIDEO_TRACK};
-use element_reader::Outline;
 use merge_words::FileWords;
-use mkv_schema::ids::{ATTACHMENTS, CHAPTERS, TAGS};
+use tag_records::TagKeep;
 use word_values::Select;
 
 /// Whether the words take a track of this ID and this TrackType.
@@ -56,24 +53,12 @@ pub fn keeps_tags(words: &FileWords) -> bool
     words.track_tags || words.global_tags
 }
 
-/// The first of Attachments, Chapters and Tags that a file has and that is kept.
-pub fn not_built(words: &FileWords, webm: bool, outline: &Outline) -> Option<u32>
-    ensures { (held : ℕ) (bytes : List ℕ) → outline_in held bytes ≡ Ok outline.now
-        → result ≡ not_built words.now webm (segment_run bytes outline.now.segment).list }
+/// Which tags are kept.
+pub fn keep_of(words: &FileWords) -> TagKeep
+    ensures { result ≡ keep_of words.now }
 {
-    standing(outline, keeps_attachments(words, webm), ATTACHMENTS)
-        .or(standing(outline, keeps_chapters(words, webm), CHAPTERS))
-        .or(standing(outline, keeps_tags(words), TAGS))
-}
-
-/// An ID that is wanted, if an Element of it stands at level 1.
-fn standing(outline: &Outline, is_wanted: bool, id: u32) -> Option<u32>
-    ensures { (held : ℕ) (bytes : List ℕ) → outline_in held bytes ≡ Ok outline.now
-        → result ≡ standing (segment_run bytes outline.now.segment).list is_wanted id }
-{
-    if is_wanted && outline.first(id).is_some() {
-        Some(id)
-    } else {
-        None
+    TagKeep {
+        tracks: words.track_tags,
+        global: words.global_tags,
     }
 }

@@ -3,3 +3,4 @@ pub mod RecordLemmas
 pub mod LaneLemmas
 pub mod RefusalLemmas
 pub mod PlanLemmas
+pub mod FileLemmas

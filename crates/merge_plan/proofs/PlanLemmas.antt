@@ -1,5 +1,5 @@
 -- What a plan's lanes are.
-use Rattle.std.proofs.Common.{◌≡◌, ◌≤◌, ◌<◌, ℕ, zero, suc, ◌+◌, List, [], ◌∷◌, ◌++◌, length, map, get_or, Bool, Option, Some, None, nat_abs, refl, sym, ap, ap₂, subst, ◌∙◌, arith}
+use Rattle.std.proofs.Common.{◌≡◌, ◌≤◌, ◌<◌, ℕ, zero, suc, ◌+◌, List, [], ◌∷◌, ◌++◌, length, map, get_or, Option, Some, None, nat_abs, refl, sym, ap, ap₂, subst, ◌∙◌, arith}
 use Rattle.std.specs.List.{All, AllZip}
 use Rattle.std.specs.Option.{option_or}
 use Rattle.std.proofs.lemmas.List.{map-append, length-map}
@@ -19,6 +19,7 @@ use Rattle.time_merge.specs.Laws.{IsApartLink}
 use Rattle.remux_plan.specs.Plan.{links_of, rules_of}
 use Rattle.remux_plan.specs.declared.plan.PlannedLane.{PlannedLane}
 use Rattle.output_model.specs.declared.TheConstants.{MOST_LANES}
+use Rattle.merge_words.specs.declared.output.MergeWords.{MergeWords}
 use Rattle.merge_inputs.specs.Input.{InputRead, IsInput, events_in, read_in}
 use Rattle.merge_inputs.specs.Taken.{IsTaken}
 use Rattle.merge_inputs.specs.declared.input.Input.{Input}
@@ -26,7 +27,7 @@ use Rattle.merge_inputs.specs.declared.taken.TakenTrack.{TakenTrack}
 use Rattle.merge_plan.specs.Plan.{given_for, inputs_given, lanes_given, placing_for, rule_of, rules_given}
 use Rattle.merge_plan.specs.Planned.{source_in}
 use Rattle.merge_plan.specs.Records.{tracks_taken}
-use Rattle.merge_plan.specs.Refusal.{lanes_refusal, tracks_refusal, tracks_too_large}
+use Rattle.merge_plan.specs.Refusal.{lanes_refusal, plan_refusal, records_refusal}
 use Rattle.merge_plan.specs.declared.refusal.PlanRefusal.{PlanRefusal}
 use Rattle.merge_plan.specs.Spots.{Spot, HasTaken, IsLaneOf, IsLinkOf, spot, spots_in, spots_from}
 use Rattle.merge_plan.proofs.RecordLemmas.{taken_in, taken-read}
@@ -214,8 +215,8 @@ module _ (inputs : List Input) (lanes : List PlannedLane) (are : AllZip IsLaneOf
 -- ---- the plan
 
 -- what isn't refused has few lanes
-pub plan-few : (webm : Bool) (reads : List InputRead) → tracks_refusal webm reads ≡ None → length (tracks_taken reads) ≤ MOST_LANES
-plan-few webm reads none = unrefused-few webm (tracks_taken reads) (first-none (lanes_refusal webm (tracks_taken reads)) (tracks_too_large reads) none)
+pub plan-few : (words : MergeWords) (reads : List InputRead) → plan_refusal words reads ≡ None → length (tracks_taken reads) ≤ MOST_LANES
+plan-few words reads none = unrefused-few words.webm (tracks_taken reads) (first-none (lanes_refusal words.webm (tracks_taken reads)) (records_refusal reads) none)
   where
     first-none : (o p : Option PlanRefusal) → option_or o p ≡ None → o ≡ None
     first-none None p none = refl

@@ -1,6 +1,7 @@
 pub mod Lent
 pub mod Records
 pub mod Plan
+pub mod Front
 pub mod Spots
 pub mod Webm
 pub mod Refusal

@@ -1,12 +1,14 @@
 -- What a plan is.
-use Rattle.std.specs.Prelude.{◌≡◌, ◌≤◌, ⊤, ℕ, Bool, List, [], length, map, None, Some, Result, Ok, Err}
+use Rattle.std.specs.Prelude.{◌≡◌, ◌<◌, ◌≤◌, ⊤, ℕ, ◌+◌, List, length, map, get_or, sum_by, None, Some, IfSome, Result, Ok, Err}
 use Rattle.std.specs.List.{All}
 use Rattle.mkv_io.specs.LiveFiles.{LiveFiles}
 use Rattle.mkv_io.specs.Names.{AreOthers}
-use Rattle.mkv_schema.specs.declared.ids.TheConstants.{INFO, TRACKS}
+use Rattle.mkv_schema.specs.declared.ids.TheConstants.{INFO, TRACKS, CHAPTERS, TAGS}
 use Rattle.output_model.specs.declared.TheConstants.{MOST_LANES}
-use Rattle.tree_format.specs.Node.{Node}
+use Rattle.attachment_records.specs.Attached.{attached_file}
+use Rattle.attachment_records.specs.declared.attachment.Attachment.{Attachment}
 use Rattle.output_model.specs.Sound.{IsRecord}
+use Rattle.merged_records.specs.Inputs.{IsAttached}
 use Rattle.segment_octets.specs.Front.{front_with}
 use Rattle.lane_blocks.specs.Links.{octets_in, given_in, IsOpenLink, IsToldLink, IsSmallLink}
 use Rattle.lane_blocks.specs.declared.link.Link.{Link}
@@ -15,35 +17,72 @@ use Rattle.remux_plan.specs.Plan.{links_of, rules_of}
 use Rattle.remux_plan.specs.declared.plan.MergePlan.{MergePlan}
 use Rattle.remux_plan.specs.declared.plan.PlannedLane.{PlannedLane}
 use Rattle.merge_words.specs.declared.output.MergeWords.{MergeWords}
-use Rattle.merge_inputs.specs.Input.{InputRead, IsInput, read_in}
+use Rattle.merge_inputs.specs.Input.{IsInput, read_in}
 use Rattle.merge_inputs.specs.declared.input.Input.{Input}
 use Rattle.merge_plan.specs.declared.refusal.PlanEnd.{PlanEnd}
 use Rattle.merge_plan.specs.declared.refusal.PlanEnd.TheVariants.{Refused, Memory}
-use Rattle.merge_plan.specs.Records.{front_of, tracks_of}
+use Rattle.merge_plan.specs.declared.outputs.OutputRecords.{OutputRecords}
+use Rattle.merge_plan.specs.Records.{chapters_of, tags_of, tracks_of}
+use Rattle.merge_plan.specs.Front.{attachments_of, attached_length, front_of}
 use Rattle.merge_plan.specs.Plan.{Source, inputs_given, lanes_given, limits_of, rules_given}
-use Rattle.merge_plan.specs.Refusal.{plan_refusal, tracks_refusal}
+use Rattle.merge_plan.specs.Refusal.{plan_refusal}
 
 -- an input, with its content among live files
 abbrev pub source_in : LiveFiles → Input → Source
 source_in f i = (octets_in f i.file.n, read_in i)
 
--- The plan that words and inputs come to: its name, where its Clusters end, what stands in front of them and what behind;
+-- the file of an input tells its content
+abbrev pub IsToldInput : LiveFiles → Input → Type 0
+IsToldInput f i = f.content i.file.n ≡ Some (octets_in f i.file.n)
+
+-- ---- the records of an output
+
+-- The records are those that the inputs come to: the attached files with their data, by the contents of the files, and how many octets these are.
+pub record AreRecordsOf (inputs : List Input) (r : OutputRecords) : Type 0 where
+  pub tracks : r.tracks ≡ tracks_of (map read_in inputs)
+  pub attachments : (f : LiveFiles) → All (IsToldInput f) inputs → map (attached_file f) r.attachments ≡ attachments_of (map (source_in f) inputs)
+  pub octets : sum_by (λ (a : Attachment). a.len) r.attachments ≡ attached_length (map read_in inputs)
+  pub chapters : r.chapters ≡ chapters_of (map read_in inputs)
+  pub tags : r.tags ≡ tags_of (map read_in inputs)
+
+-- An attached file's data stand in the file of one of the inputs.
+pub record IsFileOf (inputs : List Input) (a : Attachment) : Type 0 where
+  pub number : ℕ
+  pub input : Input
+  pub inside : number < length inputs
+  pub is : input ≡ get_or inputs number input
+  pub same : a.file ≡ input.file
+  pub within : a.at + a.len ≤ input.outline.value.total
+
+-- They can be written and read again.
+pub record AreSound (inputs : List Input) (r : OutputRecords) : Type 0 where
+  pub tracks : IsRecord TRACKS r.tracks
+  pub attachments : All IsAttached r.attachments
+  pub files : All (IsFileOf inputs) r.attachments
+  pub chapters : IfSome r.chapters (IsRecord CHAPTERS)
+  pub tags : IfSome r.tags (IsRecord TAGS)
+
+-- They are those of the inputs, which nothing refuses; the inputs are refused for what refuses them; or there is no memory.
+abbrev pub GivesRecords : MergeWords → List Input → Result OutputRecords PlanEnd → Type 0
+GivesRecords words inputs (Ok r) = (plan_refusal words (map read_in inputs) ≡ None) × AreRecordsOf inputs r
+GivesRecords words inputs (Err (Refused why)) = plan_refusal words (map read_in inputs) ≡ Some why
+GivesRecords words inputs (Err Memory) = ⊤
+
+-- ---- the plan
+
+-- The plan that words and inputs come to: its name, where its Clusters end, what stands in front of them and what behind,
+-- with how many octets of attached files' data;
 -- and of each lane what its links give, by the contents of their files, their inputs, and which blocks get a cue point.
 pub record IsPlanOf (words : MergeWords) (inputs : List Input) (p : MergePlan) : Type 0 where
   pub output : p.output ≡ words.output
   pub limits : p.limits ≡ limits_of words
-  pub front : (f : LiveFiles) → front_with f p.front ≡ front_of words (map read_in inputs)
-  pub chapters : p.chapters ≡ None
-  pub tags : p.tags ≡ None
+  pub front : (f : LiveFiles) → All (IsToldInput f) inputs → front_with f p.front ≡ front_of words (map (source_in f) inputs)
+  pub octets : sum_by (λ (a : Attachment). a.len) p.front.attachments ≡ attached_length (map read_in inputs)
+  pub chapters : p.chapters ≡ chapters_of (map read_in inputs)
+  pub tags : p.tags ≡ tags_of (map read_in inputs)
   pub lanes : (f : LiveFiles) → map (map (given_in f)) (links_of p.lanes) ≡ lanes_given (map (source_in f) inputs)
   pub numbers : map (λ (l : PlannedLane). l.inputs) p.lanes ≡ inputs_given 0 (map read_in inputs)
   pub rules : rules_of p.lanes ≡ rules_given (map read_in inputs)
-
--- The Tracks are those of the inputs, which nothing refuses; they are refused for what refuses them; or there is no memory.
-abbrev pub GivesTracks : Bool → List InputRead → Result Node PlanEnd → Type 0
-GivesTracks webm reads (Ok tracks) = (tracks_refusal webm reads ≡ None) × (tracks ≡ tracks_of reads)
-GivesTracks webm reads (Err (Refused why)) = tracks_refusal webm reads ≡ Some why
-GivesTracks webm reads (Err Memory) = ⊤
 
 -- A plan is that of the words and inputs, which nothing refuses; they are refused for what refuses them; or there is no
 -- memory.
@@ -59,15 +98,18 @@ abbrev pub AllLinks : (Link → Type 0) → MergePlan → Type 0
 AllLinks P p = All (All P) (links_of p.lanes)
 
 -- A plan of these inputs can be carried out: its lanes are few, each with one link and its input's number; the links are
--- small, and tracks of the inputs; its records are read again, and nothing is attached.
+-- small, and tracks of the inputs; its records are read again, and its attached files stand in those of the inputs.
 pub record CanBeWritten (inputs : List Input) (p : MergePlan) : Type 0 where
   pub few : length p.lanes ≤ MOST_LANES
   pub one : All (λ (l : PlannedLane). (length l.spec.links ≡ 1) × (length l.inputs ≡ 1)) p.lanes
   pub small : AllLinks IsSmallLink p
   pub is_open : (f : LiveFiles) → All (IsInput f) inputs → AllLinks (IsOpenLink f) p
-  pub told : (f : LiveFiles) → All (λ (i : Input). f.content i.file.n ≡ Some (octets_in f i.file.n)) inputs → AllLinks (IsToldLink f) p
+  pub told : (f : LiveFiles) → All (IsToldInput f) inputs → AllLinks (IsToldLink f) p
   pub apart : (holder : ℕ → List ℕ) (names : List (List ℕ)) → All (λ (i : Input). AreOthers (holder i.file.n) names) inputs
       → AllLinks (IsApartLink holder names) p
   pub info : IsRecord INFO p.front.info
   pub tracks : IsRecord TRACKS p.front.tracks
-  pub attachments : p.front.attachments ≡ []
+  pub attachments : All IsAttached p.front.attachments
+  pub files : All (IsFileOf inputs) p.front.attachments
+  pub chapters : IfSome p.chapters (IsRecord CHAPTERS)
+  pub tags : IfSome p.tags (IsRecord TAGS)

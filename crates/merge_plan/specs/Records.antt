@@ -1,13 +1,18 @@
--- What stands in front of the Clusters of a merge: RFC 9559, sections 5.1.2 (Info Element) and 5.1.4 (Tracks Element). Which titles and identifiers an output gets is this project's.
-use Rattle.std.specs.Prelude.{ℕ, ◌+◌, List, [], ◌∷◌, map, flat_map, unwrap_or}
+-- The records of a merge: RFC 9559, sections 5.1.2 (Info Element), 5.1.4 (Tracks Element), 5.1.6 (Attachments Element), 5.1.7 (Chapters Element) and 5.1.8 (Tags Element). Which titles and identifiers an output gets is this project's.
+use Rattle.std.specs.Prelude.{ℕ, ◌+◌, List, [], ◌∷◌, length, take, drop, map, flat_map, Option, None, unwrap_or}
 use Rattle.tree_format.specs.Node.{Node}
-use Rattle.output_model.specs.Document.{Front}
+use Rattle.attachment_records.specs.declared.attachment.Attachment.{Attachment}
+use Rattle.file_records.specs.Attached.{AttachedFile}
 use Rattle.identifier_format.specs.Identifiers.{renumbered}
 use Rattle.record_changes.specs.Entry.{written_entry}
 use Rattle.record_changes.specs.declared.track_change.TrackChange.{TrackChange}
 use Rattle.merge_words.specs.declared.output.MergeWords.{MergeWords}
-use Rattle.merge_inputs.specs.Input.{InputRead}
+use Rattle.merge_inputs.specs.Input.{InputRead, read_in}
+use Rattle.merge_inputs.specs.declared.input.Input.{Input}
 use Rattle.merge_inputs.specs.declared.taken.TakenTrack.{TakenTrack}
+use Rattle.merged_records.specs.Chapters.{merged_chapters}
+use Rattle.merged_records.specs.Tags.{merged_tags}
+use Rattle.merged_records.specs.declared.inputs.InputRecords.{InputRecords}
 use Rattle.output_records.specs.Info.{output_info}
 use Rattle.output_records.specs.Tracks.{output_tracks}
 
@@ -66,7 +71,46 @@ title_of words reads = unwrap_or words.title (first_title reads)
 abbrev pub info_of : MergeWords → List InputRead → Node
 info_of words reads = output_info words.scale (title_of words reads)
 
--- ---- both
+-- ---- Attachments, Chapters and Tags
 
-abbrev pub front_of : MergeWords → List InputRead → Front
-front_of words reads = record { webm = words.webm; info = info_of words reads; tracks = tracks_of reads; attachments = [] }
+-- what was read of an input, and its attached files, each in a live file
+abbrev pub Kept : Type 0
+Kept = List Attachment × InputRead
+
+-- what an input gives besides its tracks and blocks, where its tracks have these TrackUIDs in the output
+abbrev pub records_in : List ℕ → Kept → InputRecords
+records_in numbers k = record {
+  track_uids = map (λ (t : TakenTrack). t.track.uid) k.1.taken;
+  track_numbers = numbers;
+  attachments = k.0;
+  chapters = k.1.chapters;
+  shift = None;
+  tags = k.1.tags;
+  keep = k.1.keep;
+}
+
+-- the same of inputs, one behind the other
+abbrev pub records_from : List ℕ → List Kept → List InputRecords
+records_from numbers [] = []
+records_from numbers (k ∷ ks) = records_in (take (length k.1.taken) numbers) k ∷ records_from (drop (length k.1.taken) numbers) ks
+
+-- those that inputs hold, in their files
+abbrev pub kept_in : Input → Kept
+kept_in i = (i.attachments, read_in i)
+
+-- an attached file, whichever live file has its data
+abbrev pub anywhere : AttachedFile → Attachment
+anywhere a = record { uid = a.uid; file = record { n = 0 }; at = a.at; len = a.len; entry = a.entry }
+
+abbrev pub kept_anywhere : InputRead → Kept
+kept_anywhere i = (map anywhere i.attachments, i)
+
+-- what all inputs give, whose tracks get the TrackUIDs of the output
+abbrev pub records_of : List InputRead → List InputRecords
+records_of reads = records_from (uids_of (tracks_taken reads)) (map kept_anywhere reads)
+
+abbrev pub chapters_of : List InputRead → Option Node
+chapters_of reads = merged_chapters (records_of reads)
+
+abbrev pub tags_of : List InputRead → Option Node
+tags_of reads = merged_tags (records_of reads)

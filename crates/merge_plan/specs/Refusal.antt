@@ -1,15 +1,14 @@
 -- What refuses a merge whose inputs were read. The causes, their order and the limits are this project's.
 use Rattle.std.specs.Prelude.{ℕ, ◌==◌, nat_lt, Bool, true, false, not, if◌then◌else◌, List, length, find, Option, Some, None, option_map}
 use Rattle.std.specs.Option.{option_or}
-use Rattle.mkv_schema.specs.declared.ids.TheConstants.{TRACKS}
 use Rattle.output_model.specs.declared.TheConstants.{MOST_LANES}
-use Rattle.output_records.specs.Limits.{is_too_large}
+use Rattle.merged_records.specs.Limits.{first_too_large}
 use Rattle.merge_words.specs.declared.output.MergeWords.{MergeWords}
 use Rattle.merge_inputs.specs.Input.{InputRead}
 use Rattle.merge_inputs.specs.declared.taken.TakenTrack.{TakenTrack}
 use Rattle.merge_plan.specs.declared.refusal.PlanRefusal.{PlanRefusal}
 use Rattle.merge_plan.specs.declared.refusal.PlanRefusal.TheVariants.{NoLane, TooManyLanes, NotWebm, HeaderTooLarge}
-use Rattle.merge_plan.specs.Records.{tracks_taken, tracks_of}
+use Rattle.merge_plan.specs.Records.{chapters_of, tags_of, tracks_of, tracks_taken}
 use Rattle.merge_plan.specs.Webm.{is_webm_codec}
 
 -- something that stands only if a test passes
@@ -36,13 +35,10 @@ not_webm webm taken = if webm then option_map NotWebm (other_codec taken) else N
 abbrev pub lanes_refusal : Bool → List TakenTrack → Option PlanRefusal
 lanes_refusal webm taken = option_or (no_lane taken) (option_or (too_many_lanes taken) (not_webm webm taken))
 
--- the Tracks would be refused when they are read
-abbrev pub tracks_too_large : List InputRead → Option PlanRefusal
-tracks_too_large reads = where_so (is_too_large (tracks_of reads)) (HeaderTooLarge TRACKS)
-
-abbrev pub tracks_refusal : Bool → List InputRead → Option PlanRefusal
-tracks_refusal webm reads = option_or (lanes_refusal webm (tracks_taken reads)) (tracks_too_large reads)
+-- Tracks, Chapters or Tags, of which the first counts, would be refused when they are read
+abbrev pub records_refusal : List InputRead → Option PlanRefusal
+records_refusal reads = option_map HeaderTooLarge (first_too_large (tracks_of reads) (chapters_of reads) (tags_of reads))
 
 -- what refuses it, in the order in which it is told
 abbrev pub plan_refusal : MergeWords → List InputRead → Option PlanRefusal
-plan_refusal words reads = tracks_refusal words.webm reads
+plan_refusal words reads = option_or (lanes_refusal words.webm (tracks_taken reads)) (records_refusal reads)

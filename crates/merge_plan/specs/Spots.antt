@@ -1,7 +1,10 @@
--- Where the blocks of a lane come from.
-use Rattle.std.specs.Prelude.{◌≡◌, ◌≤◌, ℕ, ◌+◌, List, [], ◌∷◌, ◌++◌, length, map}
+-- Where the blocks of a lane come from, and the attached files of an output.
+use Rattle.std.specs.Prelude.{◌≡◌, ◌≤◌, ℕ, ◌+◌, List, [], ◌∷◌, ◌++◌, length, map, IfSome}
 use Rattle.std.specs.List.{All, AllZip}
+use Rattle.mkv_schema.specs.declared.ids.TheConstants.{CHAPTERS, TAGS}
+use Rattle.tree_building.specs.Building.{IsRead}
 use Rattle.track_format.specs.Encoding.{prefix_of}
+use Rattle.attachment_reading.specs.Walk.{IsAttachedIn}
 use Rattle.output_model.specs.declared.TheConstants.{MOST_OF_PREFIX}
 use Rattle.lane_blocks.specs.declared.link.Link.{Link}
 use Rattle.lane_blocks.specs.declared.link.Link.TheVariants.{Track}
@@ -58,3 +61,9 @@ AreLanesOf inputs lanes = AllZip IsLaneOf (spots_from 0 inputs) lanes
 
 abbrev pub HasTaken : Input → Type 0
 HasTaken i = All IsTaken i.taken
+
+-- The data of the attached files of an input stand in its file, and its Chapters and Tags were read.
+pub record HasRecords (i : Input) : Type 0 where
+  pub attachments : All (IsAttachedIn i.file i.outline.value.total) i.attachments
+  pub chapters : IfSome i.chapters (IsRead CHAPTERS)
+  pub tags : IfSome i.tags (IsRead TAGS)

@@ -29,7 +29,7 @@ pub(crate) fn tracks_taken(alloc: Global, inputs: &[Input]) -> Result<Vec<&Taken
 }
 
 /// The TrackUIDs that tracks get.
-fn uids_of(alloc: Global, taken: &[&TakenTrack]) -> Result<List<u64>, AllocError>
+pub(crate) fn uids_of(alloc: Global, taken: &[&TakenTrack]) -> Result<List<u64>, AllocError>
     ensures { IfOk result (λ uids. uids ≡ uids_of (lent taken.now)) }
 {
     let uids: Vec<u64> = taken.iter().map(|each| each.track.uid).collect(alloc)?;
@@ -53,16 +53,20 @@ fn entry_of(alloc: Global, number: u64, uid: u64, taken: &TakenTrack) -> Result<
     written(alloc, &taken.track, &change)
 }
 
-/// The entries that are written of tracks, numbered from 1 on.
-pub(crate) fn entries_of(alloc: Global, taken: &[&TakenTrack]) -> Result<List<Tree>, AllocError>
-    requires { All IsTaken (lent taken.now) }
+/// The entries that are written of tracks with these TrackUIDs, numbered from 1 on.
+pub(crate) fn entries_of(
+    alloc: Global,
+    taken: &[&TakenTrack],
+    uids: &[u64],
+) -> Result<List<Tree>, AllocError>
+    requires taken { All IsTaken (lent taken.now) }
+    requires uids { uids.now ≡ uids_of (lent taken.now) }
     ensures exact { IfOk result (λ entries. entries ≡ entries_of (lent taken.now)) }
     ensures whole { IfOk result (All IsWholeEntry) }
 {
-    let uids = uids_of(alloc, taken)?;
     let mut entries = List::new(alloc);
     for (k, each) in taken.iter().enumerate() {
-        entries.push(entry_of(alloc, k as u64 + 1, uids.as_slice()[k], each)?)?;
+        entries.push(entry_of(alloc, k as u64 + 1, uids[k], each)?)?;
     }
     Ok(entries)
 }

@@ -4,8 +4,10 @@
 //! file is read or written here.
 
 mod entries;
+mod outputs;
 mod plan;
 mod planned_lanes;
+mod records;
 mod refusal;
 mod title;
 mod webm;

@@ -1,28 +1,25 @@
 //! The plan of a merge.
 
-ghost use Rattle.std.specs.Prelude.{◌≡◌, map, IfOk};
+ghost use Rattle.std.specs.Prelude.{◌≡◌, IfOk};
 ghost use Rattle.std.specs.List.{All};
 ghost use Rattle.std.specs.Option.{option_copied};
-ghost use Rattle.mkv_schema.specs.declared.ids.TheConstants.{TRACKS as TRACKS_ID};
-ghost use Rattle.output_model.specs.Sound.{IsRecord};
-ghost use Rattle.merge_inputs.specs.Input.{read_in};
 ghost use Rattle.merge_plan.specs.Lent.{lent};
-ghost use Rattle.merge_plan.specs.Planned.{CanBeWritten, GivesTracks, Plans};
+ghost use Rattle.merge_plan.specs.Planned.{AreSound, CanBeWritten, GivesRecords, Plans};
 ghost use Rattle.merge_plan.specs.Refusal.{lanes_refusal, other_codec};
-ghost use Rattle.merge_plan.specs.Spots.{HasTaken};
+ghost use Rattle.merge_plan.specs.Spots.{HasRecords, HasTaken};
 
-use crate::entries::{entries_of, tracks_taken};
+use crate::entries::tracks_taken;
+use crate::outputs::{OutputRecords, output_of};
 use crate::planned_lanes::lanes_of;
 use crate::refusal::{PlanEnd, PlanRefusal};
 use crate::title::title_of;
 use crate::webm::is_webm_codec;
-use ebml_tree::Tree;
 use merge_inputs::{Input, TakenTrack};
 use merge_words::MergeWords;
-use mkv_schema::ids::TRACKS;
-use mkv_values::{List, Text};
+use merged_records::first_too_large;
+use mkv_values::Text;
 use output_model::{ClusterLimits, MOST_LANES};
-use output_records::{info_of, is_too_large, tracks_of};
+use output_records::info_of;
 use remux_plan::MergePlan;
 use segment_octets::Front;
 use std::alloc::{AllocError, Global};
@@ -59,31 +56,42 @@ fn lanes_refusal(webm: bool, taken: &[&TakenTrack]) -> Result<Option<PlanRefusal
     Ok(None)
 }
 
-/// The Tracks of the output, or what refuses it.
-fn tracks_for(alloc: Global, webm: bool, inputs: &[Input]) -> Result<Tree, PlanEnd>
-    requires { All HasTaken inputs.now }
-    ensures exact { GivesTracks webm (map read_in inputs.now) result }
-    ensures sound { IfOk result (IsRecord TRACKS_ID) }
+/// The records of the output, or what refuses it.
+fn records_for(
+    alloc: Global,
+    words: &MergeWords,
+    inputs: &[Input],
+) -> Result<OutputRecords, PlanEnd>
+    requires tracks { All HasTaken inputs.now }
+    requires records { All HasRecords inputs.now }
+    ensures exact { GivesRecords words.now inputs.now result }
+    ensures sound { IfOk result (AreSound inputs.now) }
 {
     let taken = tracks_taken(alloc, inputs)?;
-    if let Some(refusal) = lanes_refusal(webm, taken.as_slice())? {
+    if let Some(refusal) = lanes_refusal(words.webm, taken.as_slice())? {
         return Err(PlanEnd::Refused(refusal));
     }
-    let tracks = tracks_of(alloc, entries_of(alloc, taken.as_slice())?)?;
-    if is_too_large(&tracks) {
-        return Err(PlanEnd::Refused(PlanRefusal::HeaderTooLarge { id: TRACKS }));
+    let output = output_of(alloc, taken.as_slice(), inputs)?;
+    match first_too_large(&output.tracks, &output.chapters, &output.tags) {
+        Some(id) => Err(PlanEnd::Refused(PlanRefusal::HeaderTooLarge { id })),
+        None => Ok(output),
     }
-    Ok(tracks)
 }
 
 /// What these inputs come to in one output, or the first thing that refuses them: that no track is taken, or more than 64;
-/// in WebM a track of a codec that it can't have; and Tracks that would be too large to be read again.
+/// in WebM a track of a codec that it can't have; and Tracks, Chapters or Tags that would be too large to be read again.
 pub fn plan_of(alloc: Global, words: &MergeWords, inputs: &[Input]) -> Result<MergePlan, PlanEnd>
-    requires { All HasTaken inputs.now }
+    requires tracks { All HasTaken inputs.now }
+    requires records { All HasRecords inputs.now }
     ensures exact { Plans words.now inputs.now result }
     ensures written { IfOk result (CanBeWritten inputs.now) }
 {
-    let tracks = tracks_for(alloc, words.webm, inputs)?;
+    let OutputRecords {
+        tracks,
+        attachments,
+        chapters,
+        tags,
+    } = records_for(alloc, words, inputs)?;
     let info = info_of(alloc, words.scale, title_of(words, inputs))?;
     Ok(MergePlan {
         output: words.output.clone()?,
@@ -97,9 +105,9 @@ pub fn plan_of(alloc: Global, words: &MergeWords, inputs: &[Input]) -> Result<Me
             webm: words.webm,
             info,
             tracks,
-            attachments: List::new(alloc),
+            attachments,
         },
-        chapters: None,
-        tags: None,
+        chapters,
+        tags,
     })
 }

@@ -11,6 +11,7 @@ use Rattle.input_files.specs.Inputs as inputs
 use Rattle.input_files.specs.Inputs.{file_names, first_missing}
 use Rattle.merge_words.specs.declared.files.FileWords.{FileWords}
 use Rattle.merge_words.specs.declared.output.MergeWords.{MergeWords}
+use Rattle.merge_plan.specs.Front.{attached_length, reads_of}
 use Rattle.merge_plan.specs.Plan.{Source, lanes_given}
 use Rattle.mkv_merge.specs.Bound.{contents_length, files_size, most_looked, most_of, most_read}
 use Rattle.mkv_merge.specs.Merge.{sources_of, sources_settled, sources_with}
@@ -64,14 +65,15 @@ size-told f sized world (w ∷ files) (id ∷ ids) told =
     let right = sum_by-cons (λ (each : FileWords). length (unwrap_or (world each.name) [])) w files in
     omega (arith, one, rest, left, right)
 
--- what is read before the blocks and what each lane reads are no more than what may be read
-pub reads-both : (found : Result (List Source) Refusal) (sources : List Source) (lanes old mid new size now : ℕ) → found ≡ Ok sources → lanes ≡ length (lanes_given sources) → now ≡ size → mid ≤ old + 24 * size → new ≤ mid + 6 * (lanes * now) → new ≤ old + most_of found size
-reads-both found sources lanes old mid new size now is count same first second =
+-- what is read before the blocks, what each lane reads and what is copied are no more than what may be read
+pub reads-both : (found : Result (List Source) Refusal) (sources : List Source) (lanes old mid new size now copied : ℕ) → found ≡ Ok sources → lanes ≡ length (lanes_given sources) → now ≡ size → copied ≡ attached_length (reads_of sources) → mid ≤ old + 24 * size → new ≤ mid + (6 * (lanes * now) + copied) → new ≤ old + most_of found size
+reads-both found sources lanes old mid new size now copied is count same copied_is first second =
     subst (λ (r : Result (List Source) Refusal). new ≤ old + most_of r size) (sym is)
-    (fits (length (lanes_given sources)) (subst (λ (n : ℕ). new ≤ mid + 6 * (n * size)) count (subst (λ (s : ℕ). new ≤ mid + 6 * (lanes * s)) same second)))
+    (fits (length (lanes_given sources)) (attached_length (reads_of sources))
+    (subst (λ (d : ℕ). new ≤ mid + (6 * (length (lanes_given sources) * size) + d)) copied_is (subst (λ (n : ℕ). new ≤ mid + (6 * (n * size) + copied)) count (subst (λ (s : ℕ). new ≤ mid + (6 * (lanes * s) + copied)) same second))))
   where
-    fits : (n : ℕ) → new ≤ mid + 6 * (n * size) → new ≤ old + (24 * size + 6 * (n * size))
-    fits n more = omega arith
+    fits : (n d : ℕ) → new ≤ mid + (6 * (n * size) + d) → new ≤ old + (24 * size + (6 * (n * size) + d))
+    fits n d more = omega arith
 
 -- where no edit is pending, sidecars and then inputs are read
 pub reads-settled : (world : List ℕ → Option (List ℕ)) (words : MergeWords) (contents : List (List ℕ)) (old mid new size now look : ℕ) → pending_of world words ≡ None → now ≡ size → mid ≤ old + look → new ≤ mid + most_of (sources_with words contents) now → new ≤ old + (most_of (sources_settled world words contents) size + look)

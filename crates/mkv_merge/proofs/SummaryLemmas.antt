@@ -22,9 +22,10 @@ use Rattle.remux_plan.specs.declared.summary.Summary.{Summary}
 use Rattle.merge_words.specs.declared.files.FileWords.{FileWords}
 use Rattle.merge_inputs.specs.Input.{events_in}
 use Rattle.merge_inputs.specs.declared.taken.TakenTrack.{TakenTrack}
+use Rattle.merge_plan.specs.Front.{reads_of}
 use Rattle.merge_plan.specs.Plan.{Source, given_for, inputs_given, lanes_given}
 use Rattle.mkv_lines.specs.Line.{more_damages_line, warning_line}
-use Rattle.mkv_merge.specs.Merge.{damages_in, has_damage, is_some_of, reads_of, told_lines, warnings}
+use Rattle.mkv_merge.specs.Merge.{damages_in, has_damage, is_some_of, told_lines, warnings}
 use Rattle.mkv_merge.specs.Told.{damages_at, input_warnings, more_at, warnings_from}
 
 -- ---- tests of numbers

@@ -1,5 +1,5 @@
 -- A merge that was prepared can be written, and comes to its verdict.
-use Rattle.std.proofs.Common.{◌≡◌, ℕ, zero, suc, ◌+◌, ◌*◌, ◌<◌, ◌≤◌, nat_le, Bool, true, false, ◌||◌, List, [], ◌∷◌, ◌++◌, length, map, get_or, Option, Some, None, Result, Ok, Err, IfOk, IfSome, refl, sym, ◌∙◌, ap, subst, arith}
+use Rattle.std.proofs.Common.{◌≡◌, ◌≢◌, ℕ, zero, suc, ◌+◌, ◌*◌, ◌<◌, ◌≤◌, nat_le, Bool, true, false, ◌||◌, List, [], ◌∷◌, ◌++◌, length, map, get_or, Option, Some, None, Result, Ok, Err, IfOk, IfSome, refl, sym, ◌∙◌, ap, subst, arith}
 use Rattle.std.specs.List.{All, AllByRecursion, flat_map, sum_by, zip}
 use Rattle.std.specs.Option.{unwrap_or}
 use Rattle.std.proofs.Math.ListN.{get_or-map}
@@ -12,7 +12,7 @@ use Rattle.mkv_io.specs.Faults.{counted}
 use Rattle.mkv_io.specs.Lines.{with_lines}
 use Rattle.mkv_io.specs.LiveFiles.{LiveFiles}
 use Rattle.mkv_io.specs.Names.{AreOthers, Names, with_content}
-use Rattle.mkv_io.specs.Sources.{live_files}
+use Rattle.mkv_io.specs.Sources.{IsLive, live_files}
 use Rattle.mkv_io.specs.declared.files.Files as writing
 use Rattle.mkv_io.specs.declared.reads.Reads.{Ghosts}
 use Rattle.mkv_outputs.specs.Drafts.{Draft, StandsInTurn, outputs_of}
@@ -22,6 +22,8 @@ use Rattle.mkv_schema.specs.declared.ids.TheConstants.{CHAPTERS, TAGS}
 use Rattle.tree_format.specs.Node.{Node, id_of}
 use Rattle.segment_octets.specs.Front.{front_with}
 use Rattle.attachment_records.specs.declared.attachment.Attachment.{Attachment}
+use Rattle.merged_records.specs.Inputs.{IsAttached}
+use Rattle.output_model.specs.Sound.{IsRecord}
 use Rattle.output_model.specs.Document.{Document, Front}
 use Rattle.output_model.specs.OutputBlock.{OutputBlock}
 use Rattle.output_model.specs.declared.heads.ClusterLimits.{ClusterLimits}
@@ -51,12 +53,14 @@ use Rattle.merge_words.specs.declared.files.FileWords.{FileWords}
 use Rattle.merge_words.specs.declared.output.MergeWords.{MergeWords}
 use Rattle.input_files.specs.Inputs.{AreInputs, file_names}
 use Rattle.input_files.specs.Inputs as files
-use Rattle.merge_inputs.specs.Input.{InputRead, read_in}
+use Rattle.merge_inputs.specs.Input.{InputRead, IsInput, read_in}
 use Rattle.merge_inputs.specs.declared.input.Input.{Input}
 use Rattle.merge_inputs.specs.declared.taken.TakenTrack.{TakenTrack}
 use Rattle.merge_plan.specs.Plan.{Source, inputs_given, lanes_given, limits_of, rules_given}
-use Rattle.merge_plan.specs.Planned.{AllLinks, IsPlanOf, source_in}
-use Rattle.merge_plan.specs.Records.{front_of}
+use Rattle.merge_plan.specs.Planned.{AllLinks, IsFileOf, IsPlanOf, IsToldInput, source_in}
+use Rattle.merge_plan.specs.Front.{attached_length, front_of, reads_of}
+use Rattle.merge_plan.specs.Records.{chapters_of, tags_of}
+use Rattle.merge_plan.proofs.FileLemmas.{reads-in}
 use Rattle.mkv_lines.specs.Line.{wrote_blocks_line}
 use Rattle.mkv_lines.specs.Said.{ReportLines, Says, SaysPart}
 use Rattle.mkv_lines.specs.Seen.{Seen}
@@ -66,7 +70,7 @@ use Rattle.mkv_lines.specs.declared.status.Stop.{Stop}
 use Rattle.mkv_lines.proofs.SaidLemmas.{SaysPart-all, SaysPart-before, SaysPart-behind, Says-then}
 use Rattle.mkv_lines.proofs.VerdictLemmas.{Leaves-same}
 use Rattle.mkv_merge.specs.Bound.{files_size}
-use Rattle.mkv_merge.specs.Merge.{blocks_of, document_in, has_absent, has_damage, lines_before, lines_behind, merged_verdict, reads_of, status_of}
+use Rattle.mkv_merge.specs.Merge.{blocks_of, document_in, has_absent, has_damage, lines_before, lines_behind, merged_verdict, status_of}
 use Rattle.mkv_merge.specs.Prepared.{AreInputsOf, AreTold, IsPrepared, reads_in}
 use Rattle.mkv_merge.specs.Read.{writes_input}
 use Rattle.mkv_merge.specs.Told.{is_warned, warnings_from}
@@ -99,6 +103,26 @@ numbers-small n (i ∷ is) few =
     one n small zero d below = small
     one n small (suc k) d below = absurd (omega arith)
 
+-- a record has its ID, where it is there
+record-id : (own : ℕ) (n : Option Node) → IfSome n (IsRecord own) → IfSome n (λ (m : Node). id_of m ≡ own)
+record-id own None is = tt
+record-id own (Some m) is = is.id
+
+-- an attached file stands in the live file of an input, which is none of the output's name
+file-good : {S : Type 0} (r : Ghosts S) (f : writing.Ghosts S) (files : S) (name : List ℕ) (inputs : List Input) (a : Attachment) → All (IsInput (live_files r files)) inputs → All (λ (i : Input). AreOthers (f.holder files i.file.n) (name ∷ [])) inputs → IsAttached a → IsFileOf inputs a → CanAttach r f files name a
+file-good r f files name inputs a good others entry is =
+    let now = live_files r files in
+    let input : IsInput now is.input = subst (IsInput now) (sym is.is) (good is.number is.input is.inside) in
+    let other : AreOthers (f.holder files is.input.file.n) (name ∷ []) = subst (λ (i : Input). AreOthers (f.holder files i.file.n) (name ∷ [])) (sym is.is) (others is.number is.input is.inside) in
+    let within : a.at + a.len ≤ now.size is.input.file.n = subst (λ (n : ℕ). a.at + a.len ≤ n) (sym input.size) is.within in
+    record {
+      id = entry.is.id;
+      master = entry.is.master;
+      live = subst (λ (file : FileId). IsLive r files file) (sym is.same) input.live;
+      inside = subst (λ (file : FileId). a.at + a.len ≤ now.size file.n) (sym is.same) within;
+      apart = subst (λ (file : FileId). f.holder files file.n ≢ name) (sym is.same) (λ same. other.0 (sym same));
+    }
+
 -- what was prepared can be carried out
 pub plan-good : {S : Type 0} (r : Ghosts S) (f : writing.Ghosts S) (files : S) (words : MergeWords) (ids : List FileId) (p : Prepared) → IsSoundMerge words → AreInputs r f (file_names words.files) files ids → writes_input words ≡ false → IsPrepared (live_files r files) words ids p → IsPlan r f files p.plan
 plan-good {S = S} r f files words ids p sound opened apart prepared =
@@ -124,9 +148,9 @@ plan-good {S = S} r f files words ids p sound opened apart prepared =
       records = record {
         info = written.info.id;
         tracks = written.tracks.id;
-        attached = subst (λ (list : List Attachment). All (CanAttach r f files p.plan.output) list) (sym written.attachments) (λ k d below. absurd (omega arith));
-        chapters = subst (λ (n : Option Node). IfSome n (λ (n : Node). id_of n ≡ CHAPTERS)) (sym plan.chapters) tt;
-        tags = subst (λ (n : Option Node). IfSome n (λ (n : Node). id_of n ≡ TAGS)) (sym plan.tags) tt;
+        attached = λ k d below. file-good r f files p.plan.output p.inputs (get_or p.plan.front.attachments k d) prepared.inputs.good others (written.attachments k d below) (written.files k d below);
+        chapters = record-id CHAPTERS p.plan.chapters written.chapters;
+        tags = record-id TAGS p.plan.tags written.tags;
       };
     }
 
@@ -169,22 +193,20 @@ plan-told f words ids contents p prepared told =
 
 -- ---- the plan is that of the sources
 
--- A plan is that of the words and of these sources.
+-- A plan is that of the words and of these sources, whose files are told.
 pub record IsMergeOf (f : LiveFiles) (words : MergeWords) (inputs : List Input) (p : MergePlan) (sources : List Source) : Type 0 where
   pub plan : IsPlanOf words inputs p
   pub from : map (source_in f) inputs ≡ sources
   pub many : length words.files ≡ length inputs
+  pub told : All (IsToldInput f) inputs
 
 pub merge-is : (f : LiveFiles) (words : MergeWords) (ids : List FileId) (contents : List (List ℕ)) (p : Prepared) → IsPrepared f words ids p → AreTold f ids contents → length p.inputs ≡ length words.files → IsMergeOf f words p.inputs p.plan (zip contents (reads_in p.inputs))
 merge-is f words ids contents p prepared told many = record {
   plan = prepared.plan;
   from = sources-told f p.inputs contents (told-contents f ids contents p.inputs prepared.inputs told);
   many = sym many;
+  told = each-told f p.inputs contents (told-contents f ids contents p.inputs prepared.inputs told);
 }
-
-reads-in : (f : LiveFiles) (inputs : List Input) → reads_of (map (source_in f) inputs) ≡ reads_in inputs
-reads-in f [] = refl
-reads-in f (i ∷ is) = ap (λ (rest : List InputRead). read_in i ∷ rest) (reads-in f is)
 
 -- what was read of the sources
 pub reads-are : (f : LiveFiles) (words : MergeWords) (inputs : List Input) (p : MergePlan) (sources : List Source) → IsMergeOf f words inputs p sources → reads_of sources ≡ reads_in inputs
@@ -211,10 +233,10 @@ document-is f words inputs p sources is =
     let blocks = planned.blocks_of f p in
     ap (λ (l : ClusterLimits). document_of l (rules_of p.lanes) (front_with f p.front) p.chapters p.tags blocks) is.plan.limits
     ∙ ap (λ (rules : List CueRule). document_of (limits_of words) rules (front_with f p.front) p.chapters p.tags blocks) (is.plan.rules ∙ ap rules_given (sym reads))
-    ∙ ap (λ (front : Front). document_of (limits_of words) (rules_given (reads_of sources)) front p.chapters p.tags blocks) (is.plan.front f ∙ ap (front_of words) (sym reads))
-    ∙ ap (λ (n : Option Node). document_of (limits_of words) (rules_given (reads_of sources)) (front_of words (reads_of sources)) n p.tags blocks) is.plan.chapters
-    ∙ ap (λ (n : Option Node). document_of (limits_of words) (rules_given (reads_of sources)) (front_of words (reads_of sources)) None n blocks) is.plan.tags
-    ∙ ap (λ (bs : List OutputBlock). document_of (limits_of words) (rules_given (reads_of sources)) (front_of words (reads_of sources)) None None bs) (blocks-are f words inputs p sources is)
+    ∙ ap (λ (front : Front). document_of (limits_of words) (rules_given (reads_of sources)) front p.chapters p.tags blocks) (is.plan.front f is.told ∙ ap (front_of words) is.from)
+    ∙ ap (λ (n : Option Node). document_of (limits_of words) (rules_given (reads_of sources)) (front_of words sources) n p.tags blocks) (is.plan.chapters ∙ ap chapters_of (sym reads))
+    ∙ ap (λ (n : Option Node). document_of (limits_of words) (rules_given (reads_of sources)) (front_of words sources) (chapters_of (reads_of sources)) n blocks) (is.plan.tags ∙ ap tags_of (sym reads))
+    ∙ ap (λ (bs : List OutputBlock). document_of (limits_of words) (rules_given (reads_of sources)) (front_of words sources) (chapters_of (reads_of sources)) (tags_of (reads_of sources)) bs) (blocks-are f words inputs p sources is)
 
 -- ---- how much is read
 
@@ -272,17 +294,17 @@ lengths-within f words ids p prepared =
     (λ k l below. one-within f (files_size f ids) (get_or p.plan.lanes k l).spec.links (prepared.written.one k l below).0
     (All-unmap (All (λ (link : Link). walks.file_length f link ≤ files_size f ids)) (λ (each : PlannedLane). each.spec.links) p.plan.lanes (links-within f words ids p prepared) k l below))
 
--- and there is no attached file to copy
-pub data-none : (f : LiveFiles) (words : MergeWords) (ids : List FileId) (p : Prepared) → IsPrepared f words ids p → data_length p.plan ≡ 0
-data-none f words ids p prepared = ap (sum_by (λ (a : Attachment). a.len)) prepared.written.attachments
-
 -- what a merge of this plan may read
-pub plan-reads : (f : LiveFiles) (words : MergeWords) (ids : List FileId) (p : Prepared) (old new : ℕ) → IsPrepared f words ids p → new ≤ old + 6 * inputs_length f p.plan + data_length p.plan → new ≤ old + 6 * (length p.plan.lanes * files_size f ids)
+pub plan-reads : (f : LiveFiles) (words : MergeWords) (ids : List FileId) (p : Prepared) (old new : ℕ) → IsPrepared f words ids p → new ≤ old + 6 * inputs_length f p.plan + data_length p.plan → new ≤ old + (6 * (length p.plan.lanes * files_size f ids) + data_length p.plan)
 plan-reads f words ids p old new prepared paid =
-    within (inputs_length f p.plan) (length p.plan.lanes * files_size f ids) (data_length p.plan) (lengths-within f words ids p prepared) (data-none f words ids p prepared) paid
+    within (inputs_length f p.plan) (length p.plan.lanes * files_size f ids) (data_length p.plan) (lengths-within f words ids p prepared) paid
   where
-    within : (read most data_read : ℕ) → read ≤ most → data_read ≡ 0 → new ≤ old + 6 * read + data_read → new ≤ old + 6 * most
-    within read most data_read fits none paid = omega arith
+    within : (read most data_read : ℕ) → read ≤ most → new ≤ old + 6 * read + data_read → new ≤ old + (6 * most + data_read)
+    within read most data_read fits paid = omega arith
+
+-- its attached files are those of the sources
+pub data-counted : (f : LiveFiles) (words : MergeWords) (inputs : List Input) (p : MergePlan) (sources : List Source) → IsMergeOf f words inputs p sources → data_length p ≡ attached_length (reads_of sources)
+data-counted f words inputs p sources is = is.plan.octets ∙ ap attached_length (sym (reads-are f words inputs p sources is))
 
 -- its lanes are those of the sources
 pub lanes-count : (f : LiveFiles) (words : MergeWords) (inputs : List Input) (p : MergePlan) (sources : List Source) → IsMergeOf f words inputs p sources → length p.lanes ≡ length (lanes_given sources)

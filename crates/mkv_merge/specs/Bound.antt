@@ -5,6 +5,7 @@ use Rattle.mkv_io.specs.LiveFiles.{LiveFiles}
 use Rattle.sidecar_format.specs.declared.place.TheConstants.{HEAD}
 use Rattle.merge_words.specs.declared.files.FileWords.{FileWords}
 use Rattle.merge_words.specs.declared.output.MergeWords.{MergeWords}
+use Rattle.merge_plan.specs.Front.{attached_length, reads_of}
 use Rattle.merge_plan.specs.Plan.{Source, lanes_given}
 use Rattle.mkv_merge.specs.Merge.{sources_of}
 use Rattle.mkv_merge.specs.declared.refusal.Refusal.{Refusal}
@@ -22,9 +23,15 @@ abbrev pub lane_count : Result (List Source) Refusal → ℕ
 lane_count (Ok sources) = length (lanes_given sources)
 lane_count (Err why) = 0
 
--- what may be read of inputs of so many octets: all 24 times before the blocks, and six times for each lane
+-- how many octets the data of its attached files are
+abbrev pub data_count : Result (List Source) Refusal → ℕ
+data_count (Ok sources) = attached_length (reads_of sources)
+data_count (Err why) = 0
+
+-- what may be read of inputs of so many octets: all 24 times before the blocks, six times for each lane, and the data of
+-- their attached files
 abbrev pub most_of : Result (List Source) Refusal → ℕ → ℕ
-most_of sources octets = 24 * octets + 6 * (lane_count sources * octets)
+most_of sources octets = 24 * octets + (6 * (lane_count sources * octets) + data_count sources)
 
 -- what may be read to see whether an edit of an input or of the output is pending: what each sidecar begins with
 abbrev pub most_looked : MergeWords → ℕ

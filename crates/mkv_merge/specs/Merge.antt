@@ -16,7 +16,8 @@ use Rattle.merge_words.specs.declared.output.MergeWords.{MergeWords}
 use Rattle.merge_inputs.specs.Input.{InputRead, events_in}
 use Rattle.merge_plan.specs.declared.refusal.PlanRefusal.{PlanRefusal}
 use Rattle.merge_plan.specs.Plan.{Source, lanes_given, limits_of, rules_given}
-use Rattle.merge_plan.specs.Records.{front_of}
+use Rattle.merge_plan.specs.Front.{front_of, reads_of}
+use Rattle.merge_plan.specs.Records.{chapters_of, tags_of}
 use Rattle.merge_plan.specs.Refusal.{plan_refusal}
 use Rattle.mkv_lines.specs.Line.{damage_lines, no_track_line, wrote_blocks_line}
 use Rattle.mkv_lines.specs.Verdict.{Verdict, in_turn, refused}
@@ -51,16 +52,13 @@ sources_of world words = if writes_input words then Err OutputIsInput else and_t
 
 -- ---- the output
 
-abbrev pub reads_of : List Source → List InputRead
-reads_of sources = map (λ (s : Source). s.1) sources
-
 -- the merged list of the tracks that are taken
 abbrev pub blocks_of : MergeWords → List Source → List OutputBlock
 blocks_of words sources = merged (map (lane_blocks words.scale) (lanes_given sources))
 
 abbrev pub document_in : MergeWords → List Source → Document
 document_in words sources =
-    document_of (limits_of words) (rules_given (reads_of sources)) (front_of words (reads_of sources)) None None (blocks_of words sources)
+    document_of (limits_of words) (rules_given (reads_of sources)) (front_of words sources) (chapters_of (reads_of sources)) (tags_of (reads_of sources)) (blocks_of words sources)
 
 -- ---- what is warned of
 

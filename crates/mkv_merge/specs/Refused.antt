@@ -5,10 +5,10 @@ use Rattle.std.specs.Option.{option_map_or}
 use Rattle.merge_words.specs.declared.files.FileWords.{FileWords}
 use Rattle.merge_words.specs.declared.output.MergeWords.{MergeWords}
 use Rattle.merge_inputs.specs.declared.input.InputRefusal.{InputRefusal}
-use Rattle.merge_inputs.specs.declared.input.InputRefusal.TheVariants.{Damaged, NotBuilt}
+use Rattle.merge_inputs.specs.declared.input.InputRefusal.TheVariants.{Damaged}
 use Rattle.merge_plan.specs.declared.refusal.PlanRefusal.{PlanRefusal}
 use Rattle.merge_plan.specs.declared.refusal.PlanRefusal.TheVariants.{NoLane, TooManyLanes, NotWebm, HeaderTooLarge}
-use Rattle.mkv_lines.specs.Line.{missing_line, no_lane_line, not_taken_line, not_webm_line, output_is_input_line, pending_edit_line, refusal_line, too_large_line, too_many_lanes_line}
+use Rattle.mkv_lines.specs.Line.{missing_line, no_lane_line, not_webm_line, output_is_input_line, pending_edit_line, refusal_line, too_large_line, too_many_lanes_line}
 use Rattle.mkv_merge.specs.declared.refusal.Refusal.{Refusal}
 use Rattle.mkv_merge.specs.declared.refusal.Refusal.TheVariants.{OutputIsInput, Missing, PendingInput, PendingOutput, Input, Plan}
 
@@ -32,7 +32,6 @@ name_of words input = option_map_or (λ (file : FileWords). file.name) (slice_ge
 
 abbrev pub input_line : List ℕ → InputRefusal → List ℕ
 input_line name (Damaged damage) = refusal_line name damage
-input_line name (NotBuilt id) = not_taken_line name id
 
 abbrev pub plan_line : List ℕ → PlanRefusal → List ℕ
 plan_line output NoLane = no_lane_line

@@ -36,7 +36,6 @@ fn input_line<'a>(name: &'a str, why: &InputRefusal) -> Line<'a>
 {
     match *why {
         InputRefusal::Damaged(damage) => Line::Refused { name, damage },
-        InputRefusal::NotBuilt { id } => Line::NotTaken { name, id },
     }
 }
 

@@ -13,6 +13,7 @@ ghost use Rattle.mkv_lines.specs.Said.{HasSayCause, Says};
 ghost use Rattle.mkv_lines.specs.Seen.{seen};
 ghost use Rattle.mkv_lines.specs.Verdict.{Reaches};
 ghost use Rattle.remux_plan.specs.declared.summary.Written.{Written as WrittenSeen};
+ghost use Rattle.remuxer.specs.Plan.{data_length};
 ghost use Rattle.mkv_merge.specs.Bound.{files_size};
 ghost use Rattle.mkv_merge.specs.Ends.{stop_of};
 ghost use Rattle.mkv_merge.specs.Merge.{merged_verdict, status_of};
@@ -99,9 +100,9 @@ pub fn write<F: Files, P: Report>(
         (seen F.Reads F.writing_faults F.names P.Report files.old report.old).counts
         (seen F.Reads F.writing_faults F.names P.Report files.new report.new).counts result }
 
-    // Each lane reads at most six times the file of its input.
-    ensures octets { F.octets_read files.new
-        ≤ F.octets_read files.old + 6 * (length prepared.plan.lanes * files_size (live_files F.Reads files.old) ids.now) }
+    // Each lane reads at most six times the file of its input, and attached files are copied.
+    ensures octets { F.octets_read files.new ≤ F.octets_read files.old
+        + (6 * (length prepared.plan.lanes * files_size (live_files F.Reads files.old) ids.now) + data_length prepared.plan) }
 {
     let Prepared { inputs, plan } = prepared;
     let _ids = ids;

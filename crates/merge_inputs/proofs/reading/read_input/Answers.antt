@@ -1,6 +1,5 @@
-use Rattle.std.proofs.Common.{ℕ, Bool, true, List, map, Option, IfSome, sym, ◌∙◌, ap, subst}
+use Rattle.std.proofs.Common.{ℕ, Bool, true, List, map, Option, IfSome, option_map, sym, ◌∙◌, ap, subst}
 use Rattle.std.specs.List.{All}
-use Rattle.matroska_format.specs.Outline.{segment_run}
 use Rattle.element_reader.specs.Outline.{FileOutline}
 use Rattle.block_format.specs.Elements.{with_limits}
 use Rattle.block_format.specs.Events.{events_of}
@@ -8,7 +7,7 @@ use Rattle.file_blocks.specs.File.{file_events}
 use Rattle.track_records.specs.Sound.{IsEntry}
 use Rattle.track_records.specs.declared.track.Track.{Track}
 use Rattle.tree_format.specs.Node.{Node}
-use Rattle.tree_format.specs.Standing.{IsSoundOf}
+use Rattle.tree_building.specs.Building.{IsRead}
 use Rattle.mkv_schema.specs.declared.ids.TheConstants.{CHAPTERS, TAGS}
 use Rattle.attachment_reading.specs.Walk.{IsAttachedIn}
 use Rattle.file_records.specs.Attached.{in_file}
@@ -17,14 +16,15 @@ use Rattle.file_records.proofs.RecordsLemmas.{file_records-scale}
 use Rattle.merge_inputs.specs.Input.{refusal_of}
 use Rattle.merge_inputs.specs.Select.{kept_list, kept_one}
 use Rattle.merge_inputs.specs.Taken.{first_unusable}
+use Rattle.merge_inputs.specs.declared.input.InputRefusal.TheVariants.{Damaged}
 use Rattle.merge_inputs.specs.declared.taken.TakenTrack.{TakenTrack}
 use Rattle.merge_inputs.proofs.InputLemmas.{input_of-all, input_of-refused, kept-all, kept-files, kept-some, read-same}
 use Rattle.merge_inputs.proofs.TakenLemmas.{AreTaken-read, taken-tracks}
 use Rattle.merge_inputs.proofs.reading.read_input.Goals as goal
 
 -- the tracks that are taken are entries
-pub refusal_of-requires : goal.refusal_of-requires
-refusal_of-requires g c =
+pub first_unusable-requires : goal.first_unusable-requires
+first_unusable-requires g c =
     subst (All (λ (t : TakenTrack). IsEntry t.track.entry)) (sym (c.as_slice.ensures ∙ c.in_ok-taken.ensures))
     (taken-tracks (λ (t : Track). IsEntry t.entry) c.args.words.now c.in_ok-info.field-0.tracks c.in_ok-info.ensures.good.tracks.sound)
 
@@ -33,10 +33,9 @@ pub returns-in-Some-clause-exact : goal.returns-in-Some-clause-exact
 returns-in-Some-clause-exact g c = λ bytes told.
     let outline = c.in_ok-outline.ensures.exact bytes told in
     let now = ap (λ s. (g.R.Reads.files s).content c.args.file.n) c.read_after.ensures.same.standing ∙ told in
-    input_of-refused c.args.words.now c.args.webm c.args.held bytes c.in_ok-outline.outline (described_by c.in_ok-info.field-0) c.in-Some.refusal outline
+    input_of-refused c.args.words.now c.args.webm c.args.held bytes c.in_ok-outline.outline (described_by c.in_ok-info.field-0) (Damaged c.in-Some.damage) outline
     (c.in_ok-info.ensures.exact bytes now c.args.held outline)
-    (ap (λ (taken : List TakenTrack). refusal_of c.args.words.now c.args.webm (segment_run bytes c.in_ok-outline.outline.segment).list taken) (sym (c.as_slice.ensures ∙ c.in_ok-taken.ensures))
-    ∙ sym (c.refusal_of.ensures.exact c.args.held bytes outline) ∙ c.in-Some.is)
+    (ap refusal_of (sym (c.as_slice.ensures ∙ c.in_ok-taken.ensures)) ∙ ap (option_map Damaged) (sym c.first_unusable.ensures ∙ c.in-Some.is))
 
 -- nothing does
 pub returns-clause-exact : goal.returns-clause-exact
@@ -45,13 +44,13 @@ returns-clause-exact g c = λ bytes told.
     let now = ap (λ s. (g.R.Reads.files s).content c.args.file.n) c.read_after.ensures.same.standing ∙ told in
     input_of-all c.args.words.now c.args.webm c.args.held bytes c.in_ok-outline.outline (described_by c.in_ok-info.field-0) _ outline
     (c.in_ok-info.ensures.exact bytes now c.args.held outline)
-    (ap (λ (taken : List TakenTrack). refusal_of c.args.words.now c.args.webm (segment_run bytes c.in_ok-outline.outline.segment).list taken) (sym (c.as_slice.ensures ∙ c.in_ok-taken.ensures))
-    ∙ sym (c.refusal_of.ensures.exact c.args.held bytes outline) ∙ c.in_default.is)
+    (ap refusal_of (sym (c.as_slice.ensures ∙ c.in_ok-taken.ensures)) ∙ ap (option_map Damaged) (sym c.first_unusable.ensures ∙ c.in_default.is))
     (read-same c.in_ok-new.field-0.value c.in_ok-outline.outline c.in_ok-new.ensures.ok c.scale_of.ensures.value c.in_ok-title_of.ensures c.len-count.ensures c.in_ok-taken.ensures
     (ap (map in_file) c.kept_files.ensures ∙ kept-files c.keeps_attachments.result c.in_ok-info.field-0.attachments
     ∙ ap (λ (is_kept : Bool). kept_list is_kept (map in_file c.in_ok-info.field-0.attachments)) c.keeps_attachments.ensures)
     (c.kept_tree.ensures ∙ ap (λ (is_kept : Bool). kept_one is_kept c.in_ok-info.field-0.chapters) c.keeps_chapters.ensures)
-    (c.kept_tree-2.ensures ∙ ap (λ (is_kept : Bool). kept_one is_kept c.in_ok-info.field-0.tags) c.keeps_tags.ensures))
+    (c.kept_tree-2.ensures ∙ ap (λ (is_kept : Bool). kept_one is_kept c.in_ok-info.field-0.tags) c.keeps_tags.ensures)
+    c.keep_of.ensures)
 
 -- the file is live as before, and the tracks can be used
 pub returns-clause-input : goal.returns-clause-input
@@ -62,13 +61,13 @@ returns-clause-input g c =
       size = ap (λ s. (g.R.Reads.files s).size c.args.file.n) stands ∙ sym c.in_ok-outline.ensures.total ∙ ap (λ (o : FileOutline). o.total) (sym c.in_ok-new.ensures.ok);
       scale = c.scale_of.ensures.some;
       taken = AreTaken-read c.args.words.now c.in_ok-info.field-0.tracks c.in_ok-taken.taken c.in_ok-taken.ensures c.in_ok-info.ensures.good.tracks c.requires.delays
-          (ap first_unusable (sym c.as_slice.ensures) ∙ c.in_default.ensures.usable);
+          (ap first_unusable (sym c.as_slice.ensures) ∙ sym c.first_unusable.ensures ∙ c.in_default.is);
       attachments =
           subst (λ (o : FileOutline). All (IsAttachedIn c.args.file o.total) c.kept_files.result) (sym c.in_ok-new.ensures.ok)
           (subst (All (IsAttachedIn c.args.file c.in_ok-outline.outline.total)) (sym c.kept_files.ensures)
           (kept-all (IsAttachedIn c.args.file c.in_ok-outline.outline.total) _ _ c.in_ok-info.ensures.good.attachments));
-      chapters = subst (λ (tree : Option Node). IfSome tree (IsSoundOf CHAPTERS)) (sym c.kept_tree.ensures) (kept-some (IsSoundOf CHAPTERS) _ _ c.in_ok-info.ensures.good.chapters);
-      tags = subst (λ (tree : Option Node). IfSome tree (IsSoundOf TAGS)) (sym c.kept_tree-2.ensures) (kept-some (IsSoundOf TAGS) _ _ c.in_ok-info.ensures.good.tags);
+      chapters = subst (λ (tree : Option Node). IfSome tree (IsRead CHAPTERS)) (sym c.kept_tree.ensures) (kept-some (IsRead CHAPTERS) _ _ c.in_ok-info.ensures.good.chapters);
+      tags = subst (λ (tree : Option Node). IfSome tree (IsRead TAGS)) (sym c.kept_tree-2.ensures) (kept-some (IsRead TAGS) _ _ c.in_ok-info.ensures.good.tags);
     }
 
 -- the Info that was read gives the length of a tick

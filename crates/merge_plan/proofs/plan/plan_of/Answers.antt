@@ -1,9 +1,10 @@
 -- The lanes are those of the tracks that are taken, and nothing refuses them.
-use Rattle.std.proofs.Common.{◌≡◌, [], map, refl, ap, ◌∙◌, arith, rules}
-use Rattle.segment_octets.specs.Front.{front_with}
+use Rattle.std.proofs.Common.{◌≡◌, map, refl, sym, ap, ◌∙◌, arith, rules}
 use Rattle.output_records.specs.Info.{output_info}
 use Rattle.merge_inputs.specs.Input.{read_in}
+use Rattle.merge_plan.specs.Planned.{source_in}
 use Rattle.merge_plan.specs.Records.{info_of, tracks_of}
+use Rattle.merge_plan.proofs.FileLemmas.{reads-in}
 use Rattle.merge_plan.proofs.PlanLemmas.{lanes-length, lanes-given, lanes-numbers, lanes-rules, lanes-one, links-small, links-open, links-told, links-apart, plan-few}
 use Rattle.merge_plan.proofs.plan.plan_of.Goals as goal
 
@@ -13,17 +14,19 @@ returns-clause-exact c =
     let lanes = c.in_ok-lanes_of.field-0 in
     let are = c.in_ok-lanes_of.ensures in
     let words = c.args.words.now in
+    let records = c.in_ok-tracks.ensures.exact.1 in
     let info : c.in_ok-info.info ≡ info_of words (map read_in inputs) = c.in_ok-info.ensures.exact ∙ ap (output_info words.scale) c.title_of.ensures in
-    let tracks : c.in_ok-tracks.tracks ≡ tracks_of (map read_in inputs) = c.in_ok-tracks.ensures.exact.1 in
-    let none : c.new.result ≡ [] = c.new.ensures in
     let output : c.in_ok-clone.field-0 ≡ words.output = search (rules, c.in_ok-clone.ensures.cases) in (
       c.in_ok-tracks.ensures.exact.0,
       record {
         output = output;
         limits = refl;
-        front = λ f. (λ i. front_with f (record { webm = words.webm; info = info i; tracks = tracks i; attachments = none i }));
-        chapters = refl;
-        tags = refl;
+        front = λ f told.
+            let reads = sym (reads-in f inputs) in
+            λ i. record { webm = words.webm; info = (info ∙ ap (info_of words) reads) i; tracks = (records.tracks ∙ ap tracks_of reads) i; attachments = records.attachments f told i };
+        octets = records.octets;
+        chapters = records.chapters;
+        tags = records.tags;
         lanes = lanes-given inputs lanes are;
         numbers = lanes-numbers inputs lanes are;
         rules = lanes-rules inputs lanes are;
@@ -36,15 +39,19 @@ returns-clause-written c =
     let lanes = c.in_ok-lanes_of.field-0 in
     let are = c.in_ok-lanes_of.ensures in
     let long = lanes-length inputs lanes are in
-    let few = plan-few c.args.words.now.webm (map read_in inputs) c.in_ok-tracks.ensures.exact.0 in
+    let few = plan-few c.args.words.now (map read_in inputs) c.in_ok-tracks.ensures.exact.0 in
+    let records = c.in_ok-tracks.ensures.sound in
     record {
       few = omega arith;
       one = lanes-one inputs lanes are;
-      small = links-small inputs lanes are c.requires;
-      is_open = links-open inputs lanes are c.requires;
-      told = links-told inputs lanes are c.requires;
-      apart = links-apart inputs lanes are c.requires;
+      small = links-small inputs lanes are c.requires.tracks;
+      is_open = links-open inputs lanes are c.requires.tracks;
+      told = links-told inputs lanes are c.requires.tracks;
+      apart = links-apart inputs lanes are c.requires.tracks;
       info = c.in_ok-info.ensures.sound;
-      tracks = c.in_ok-tracks.ensures.sound;
-      attachments = c.new.ensures;
+      tracks = records.tracks;
+      attachments = records.attachments;
+      files = records.files;
+      chapters = records.chapters;
+      tags = records.tags;
     }

@@ -2,13 +2,14 @@ use Rattle.std.proofs.Common.{◌≡◌, length, sym, ap, subst}
 use Rattle.std.specs.List.{zip}
 use Rattle.mkv_io.specs.LiveFiles.{LiveFiles}
 use Rattle.mkv_io.specs.Sources.{live_files}
+use Rattle.remuxer.specs.Plan.{data_length}
 use Rattle.mkv_lines.specs.Seen.{Seen, seen}
 use Rattle.mkv_lines.specs.Verdict.{Reaches, Verdict}
 use Rattle.mkv_merge.specs.Merge.{sources_with, verdict_of}
 use Rattle.mkv_merge.specs.Bound.{files_size}
 use Rattle.mkv_merge.specs.Prepared.{AreTold, reads_in}
 use Rattle.mkv_merge.proofs.MergingLemmas.{reads-both}
-use Rattle.mkv_merge.proofs.WritingLemmas.{lanes-count, many-inputs, merge-is}
+use Rattle.mkv_merge.proofs.WritingLemmas.{data-counted, lanes-count, many-inputs, merge-is}
 use Rattle.mkv_merge.proofs.merging.merge_opened.Goals as goal
 
 -- reading has changed nothing that is seen, and what was prepared is what the sources come to
@@ -47,5 +48,5 @@ returns-in-Ok-clause-octets g c = λ contents told.
     let sources = zip contents (reads_in p.inputs) in
     let many = many-inputs g.F.Reads g.F.Files old words ids p.inputs c.requires.inputs c.in-Ok.ensures.prepared.inputs.of in
     let is = merge-is now words ids contents p c.in-Ok.ensures.prepared (subst (λ (f : LiveFiles). AreTold f ids contents) (sym same) told) many in
-    reads-both (sources_with words contents) sources (length p.plan.lanes) (g.F.Reads.octets_read old) (g.F.Reads.octets_read mid) (g.F.Reads.octets_read c.write.new.files) (files_size (live_files g.F.Reads old) ids) (files_size now ids)
-    (c.in-Ok.ensures.exact contents told) (lanes-count now words p.inputs p.plan sources is) (ap (λ (f : LiveFiles). files_size f ids) same) c.prepare.ensures.octets c.write.ensures.octets
+    reads-both (sources_with words contents) sources (length p.plan.lanes) (g.F.Reads.octets_read old) (g.F.Reads.octets_read mid) (g.F.Reads.octets_read c.write.new.files) (files_size (live_files g.F.Reads old) ids) (files_size now ids) (data_length p.plan)
+    (c.in-Ok.ensures.exact contents told) (lanes-count now words p.inputs p.plan sources is) (ap (λ (f : LiveFiles). files_size f ids) same) (data-counted now words p.inputs p.plan sources is) c.prepare.ensures.octets c.write.ensures.octets

@@ -1,0 +1,241 @@
+-- The attached files of an output, and what inputs give besides their tracks and blocks.
+use Rattle.std.proofs.Common.{◌≡◌, ◌≤◌, ◌<◌, ℕ, zero, suc, ◌+◌, ◌==◌, List, [], ◌∷◌, ◌++◌, length, take, drop, map, flat_map, get_or, Option, Some, None, if◌then◌else◌, refl, sym, ap, ap₂, subst, ◌∙◌, arith, append-nil, append_assoc}
+use Rattle.std.specs.List.{All, sum_by}
+use Rattle.std.specs.Option.{option_map}
+use Rattle.std.proofs.lemmas.List.{length-map, map-append}
+use Rattle.std.proofs.lemmas.List.Sums.{sum_by-append, sum_by-cons}
+use Rattle.std.proofs.lemmas.List.Elements.{All-append}
+use Rattle.mkv_schema.specs.declared.ids.TheConstants.{CHAPTERS, TAGS, TAG_TRACK_UID, TAG_EDITION_UID, TAG_CHAPTER_UID, TAG_ATTACHMENT_UID}
+use Rattle.mkv_io.specs.LiveFiles.{LiveFiles}
+use Rattle.tree_format.specs.Node.{Node, master, nodes_of}
+use Rattle.identifier_format.specs.Identifiers.{renumbered}
+use Rattle.identifier_format.proofs.GivenLemmas.{length-from}
+use Rattle.attachment_records.specs.Attached.{attached_file, octets_told}
+use Rattle.attachment_records.specs.declared.attachment.Attachment.{Attachment}
+use Rattle.attachment_reading.specs.Walk.{IsAttachedIn}
+use Rattle.file_records.specs.Attached.{AttachedFile, in_file}
+use Rattle.chapter_changes.specs.Atoms.{edition_uids, chapter_uids}
+use Rattle.chapter_changes.specs.Identifiers.{with_identifiers}
+use Rattle.tag_records.specs.Tags.{written_tags}
+use Rattle.merged_records.specs.Attachments as merged
+use Rattle.merged_records.specs.Attachments.{files_of, merged_attachments, with_uid, with_uids}
+use Rattle.merged_records.specs.Chapters.{chapter_numbers, chapters_in, edition_numbers, merged_chapters}
+use Rattle.merged_records.specs.Inputs.{children_in, uids_in, with_some}
+use Rattle.merged_records.specs.Tags.{all_uids, behind, joined_tags, merged_tags, number_of, numbers_of, tags_from, tags_in}
+use Rattle.merged_records.specs.declared.inputs.InputRecords.{InputRecords}
+use Rattle.lane_blocks.specs.Links.{octets_in}
+use Rattle.merge_inputs.specs.Input.{InputRead, read_in}
+use Rattle.merge_inputs.specs.declared.input.Input.{Input}
+use Rattle.merge_plan.specs.Front.{attached_from, attachments_of, attached_length, files_in, reads_of}
+use Rattle.merge_plan.specs.Plan.{Source}
+use Rattle.merge_plan.specs.Planned.{IsFileOf, IsToldInput, source_in}
+use Rattle.merge_plan.specs.Records as plan
+use Rattle.merge_plan.specs.Records.{Kept, anywhere, chapters_of, kept_anywhere, kept_in, records_from, records_in, tags_of, tracks_taken}
+use Rattle.merge_plan.specs.Spots.{HasRecords}
+
+-- what inputs give, in their files
+abbrev pub records_at : List ℕ → List Input → List InputRecords
+records_at numbers inputs = records_from numbers (map kept_in inputs)
+
+-- the same, whichever file has the data
+abbrev anywhere_at : List ℕ → List Input → List InputRecords
+anywhere_at numbers inputs = records_from numbers (map kept_anywhere (map read_in inputs))
+
+abbrev files_in_all : List Input → List Attachment
+files_in_all inputs = flat_map (λ (i : Input). i.attachments) inputs
+
+-- ---- FileUIDs
+
+files-at : (numbers : List ℕ) (inputs : List Input) → files_of (records_at numbers inputs) ≡ files_in_all inputs
+files-at numbers [] = refl
+files-at numbers (i ∷ is) = ap (λ l. i.attachments ++ l) (files-at (drop (length i.taken) numbers) is)
+
+uids-anywhere : (files : List Attachment) → merged.file_uids (map anywhere (map in_file files)) ≡ merged.file_uids files
+uids-anywhere [] = refl
+uids-anywhere (a ∷ files) = ap (λ l. a.uid ∷ l) (uids-anywhere files)
+
+all-uids-anywhere : (numbers : List ℕ) (inputs : List Input) → merged.file_uids (files_of (anywhere_at numbers inputs)) ≡ merged.file_uids (files_of (records_at numbers inputs))
+all-uids-anywhere numbers [] = refl
+all-uids-anywhere numbers (i ∷ is) =
+    let rest : List ℕ = drop (length i.taken) numbers in
+    map-append (λ (a : Attachment). a.uid) (map anywhere (map in_file i.attachments)) (files_of (anywhere_at rest is))
+    ∙ ap₂ (λ a b. a ++ b) (uids-anywhere i.attachments) (all-uids-anywhere rest is)
+    ∙ sym (map-append (λ (a : Attachment). a.uid) i.attachments (files_of (records_at rest is)))
+
+-- those of what was read
+uids-shown : (files : List Attachment) → map (λ (a : AttachedFile). a.uid) (map in_file files) ≡ merged.file_uids files
+uids-shown [] = refl
+uids-shown (a ∷ files) = ap (λ l. a.uid ∷ l) (uids-shown files)
+
+all-uids-read : (f : LiveFiles) (inputs : List Input)
+    → map (λ (a : AttachedFile). a.uid) (flat_map (λ (i : InputRead). i.attachments) (reads_of (map (source_in f) inputs))) ≡ merged.file_uids (files_in_all inputs)
+all-uids-read f [] = refl
+all-uids-read f (i ∷ is) =
+    map-append (λ (a : AttachedFile). a.uid) (map in_file i.attachments) (flat_map (λ (j : InputRead). j.attachments) (reads_of (map (source_in f) is)))
+    ∙ ap₂ (λ a b. a ++ b) (uids-shown i.attachments) (all-uids-read f is)
+    ∙ sym (map-append (λ (a : Attachment). a.uid) i.attachments (files_in_all is))
+
+-- ---- data
+
+-- an attached file with its data
+abbrev with_octets : LiveFiles → Attachment → AttachedFile × List ℕ
+with_octets f a = (in_file a, octets_told (f.content a.file.n) a.at a.len)
+
+with-data : (f : LiveFiles) (uids : List ℕ) (files : List Attachment) → map (attached_file f) (with_uids uids files) ≡ attached_from uids (map (with_octets f) files)
+with-data f [] files = refl
+with-data f (uid ∷ uids) [] = refl
+with-data f (uid ∷ uids) (a ∷ files) = ap (λ l. attached_file f (with_uid uid a) ∷ l) (with-data f uids files)
+
+data-one : (f : LiveFiles) (i : Input) → IsToldInput f i → (files : List Attachment) → All (IsAttachedIn i.file i.outline.value.total) files
+    → map (with_octets f) files ≡ map (λ (a : AttachedFile). (a, octets_told (Some (octets_in f i.file.n)) a.at a.len)) (map in_file files)
+data-one f i told [] each = refl
+data-one f i told (a ∷ files) each =
+    let same = (each 0 a (omega arith)).same in
+    let content : f.content a.file.n ≡ Some (octets_in f i.file.n) = ap (λ file. f.content file.n) same ∙ told in
+    ap₂ (λ x l. x ∷ l) (ap (λ c. (in_file a, octets_told c a.at a.len)) content) (data-one f i told files (λ k d inside. each (suc k) d (omega arith)))
+
+data-all : (f : LiveFiles) (inputs : List Input) → All (IsToldInput f) inputs → All HasRecords inputs → map (with_octets f) (files_in_all inputs) ≡ flat_map files_in (map (source_in f) inputs)
+data-all f [] told has = refl
+data-all f (i ∷ is) told has =
+    map-append (with_octets f) i.attachments (files_in_all is)
+    ∙ ap₂ (λ a b. a ++ b) (data-one f i (told 0 i (omega arith)) i.attachments (has 0 i (omega arith)).attachments) (data-all f is (λ k d inside. told (suc k) d (omega arith)) (λ k d inside. has (suc k) d (omega arith)))
+
+-- the attached files of an output are those of its sources
+pub attached-all : (f : LiveFiles) (numbers : List ℕ) (inputs : List Input) → All (IsToldInput f) inputs → All HasRecords inputs → map (attached_file f) (merged_attachments (records_at numbers inputs)) ≡ attachments_of (map (source_in f) inputs)
+attached-all f numbers inputs told has =
+    ap (λ files. map (attached_file f) (with_uids (renumbered (merged.file_uids files)) files)) (files-at numbers inputs)
+    ∙ with-data f (renumbered (merged.file_uids (files_in_all inputs))) (files_in_all inputs)
+    ∙ ap₂ (λ uids files. attached_from (renumbered uids) files) (sym (all-uids-read f inputs)) (data-all f inputs told has)
+
+-- ---- how many octets their data are
+
+octets-uids : (uids : List ℕ) (files : List Attachment) → length uids ≡ length files → sum_by (λ (a : Attachment). a.len) (with_uids uids files) ≡ sum_by (λ (a : Attachment). a.len) files
+octets-uids [] [] many = refl
+octets-uids [] (a ∷ files) many = absurd (omega arith)
+octets-uids (uid ∷ uids) [] many = absurd (omega arith)
+octets-uids (uid ∷ uids) (a ∷ files) many =
+    let rest : sum_by (λ (b : Attachment). b.len) (with_uids uids files) ≡ sum_by (λ (b : Attachment). b.len) files = octets-uids uids files (omega arith) in
+    sum_by-cons (λ (b : Attachment). b.len) (with_uid uid a) (with_uids uids files) ∙ ap (λ n. a.len + n) rest ∙ sym (sum_by-cons (λ (b : Attachment). b.len) a files)
+
+octets-shown : (files : List Attachment) → sum_by (λ (a : Attachment). a.len) files ≡ sum_by (λ (a : AttachedFile). a.len) (map in_file files)
+octets-shown [] = refl
+octets-shown (a ∷ files) = sum_by-cons (λ (b : Attachment). b.len) a files ∙ ap (λ n. a.len + n) (octets-shown files) ∙ sym (sum_by-cons (λ (b : AttachedFile). b.len) (in_file a) (map in_file files))
+
+octets-read : (inputs : List Input) → sum_by (λ (a : Attachment). a.len) (files_in_all inputs) ≡ attached_length (map read_in inputs)
+octets-read [] = refl
+octets-read (i ∷ is) =
+    sum_by-append (λ (a : Attachment). a.len) i.attachments (files_in_all is)
+    ∙ ap₂ (λ m n. m + n) (octets-shown i.attachments) (octets-read is)
+    ∙ sym (sum_by-cons (λ (j : InputRead). sum_by (λ (a : AttachedFile). a.len) j.attachments) (read_in i) (map read_in is))
+
+pub octets-all : (numbers : List ℕ) (inputs : List Input) → sum_by (λ (a : Attachment). a.len) (merged_attachments (records_at numbers inputs)) ≡ attached_length (map read_in inputs)
+octets-all numbers inputs =
+    let files : List Attachment = files_in_all inputs in
+    let uids : List ℕ = merged.file_uids files in
+    ap (λ list. sum_by (λ (a : Attachment). a.len) (with_uids (renumbered (merged.file_uids list)) list)) (files-at numbers inputs)
+    ∙ octets-uids (renumbered uids) files (length-from uids [] uids ∙ length-map files (λ (a : Attachment). a.uid))
+    ∙ octets-read inputs
+
+-- ---- whose they are
+
+flat-each : {X Y : Type 0} (f : X → List Y) (P : Y → Type 0) (xs : List X) → ((k : ℕ) (x : X) → k < length xs → x ≡ get_or xs k x → All P (f x)) → All P (flat_map f xs)
+flat-each f P [] each = λ k d inside. absurd (omega arith)
+flat-each f P (x ∷ xs) each = All-append P (f x) (flat_map f xs) (each 0 x (omega arith) refl) (flat-each f P xs (λ k y inside is. each (suc k) y (omega arith) is))
+
+all-first : {A : Type 0} (P : A → Type 0) (x : A) (xs : List A) → P x → All P xs → All P (x ∷ xs)
+all-first P x xs one rest = of
+  where
+    of : (k : ℕ) (d : _) → k < length (x ∷ xs) → P (get_or (x ∷ xs) k d)
+    of zero d inside = one
+    of (suc k) d inside = rest k d (omega arith)
+
+each-uid : (P : Attachment → Type 0) → ((uid : ℕ) (a : Attachment) → P a → P (with_uid uid a)) → (uids : List ℕ) (files : List Attachment) → All P files → All P (with_uids uids files)
+each-uid P so [] files each = λ k d inside. absurd (omega arith)
+each-uid P so (uid ∷ uids) [] each = λ k d inside. absurd (omega arith)
+each-uid P so (uid ∷ uids) (a ∷ files) each =
+    all-first P (with_uid uid a) (with_uids uids files) (so uid a (each 0 a (omega arith))) (each-uid P so uids files (λ k d inside. each (suc k) d (omega arith)))
+
+files-each : (inputs : List Input) → All HasRecords inputs → All (IsFileOf inputs) (files_in_all inputs)
+files-each inputs has = flat-each (λ (i : Input). i.attachments) (IsFileOf inputs) inputs (λ k i inside is. of k i inside is (subst HasRecords (sym is) (has k i inside)))
+  where
+    of : (k : ℕ) (i : Input) → k < length inputs → i ≡ get_or inputs k i → HasRecords i → All (IsFileOf inputs) i.attachments
+    of k i inside is holds = λ j d below. record { number = k; input = i; inside = inside; is = is; same = (holds.attachments j d below).same; within = (holds.attachments j d below).inside }
+
+-- each stands in the file of one of them
+pub files-are : (numbers : List ℕ) (inputs : List Input) → All HasRecords inputs → All (IsFileOf inputs) (merged_attachments (records_at numbers inputs))
+files-are numbers inputs has =
+    let files : List Attachment = files_in_all inputs in
+    subst (λ (l : List Attachment). All (IsFileOf inputs) (with_uids (renumbered (merged.file_uids l)) l)) (sym (files-at numbers inputs))
+    (each-uid (IsFileOf inputs) (λ uid a is. record { number = is.number; input = is.input; inside = is.inside; is = is.is; same = is.same; within = is.within }) (renumbered (merged.file_uids files)) files (files-each inputs has))
+
+-- ---- Chapters
+
+chapters-same : (numbers : List ℕ) (inputs : List Input) → flat_map chapters_in (records_at numbers inputs) ≡ flat_map chapters_in (anywhere_at numbers inputs)
+chapters-same numbers [] = refl
+chapters-same numbers (i ∷ is) = ap (λ l. chapters_in (records_in (take (length i.taken) numbers) (kept_in i)) ++ l) (chapters-same (drop (length i.taken) numbers) is)
+
+-- the identifiers, and what becomes of editions one behind the other
+abbrev joined : List Node → Node
+joined editions = master CHAPTERS 0 (nodes_of editions)
+
+pub chapters-anywhere : (numbers : List ℕ) (inputs : List Input) → merged_chapters (records_at numbers inputs) ≡ merged_chapters (anywhere_at numbers inputs)
+chapters-anywhere numbers inputs =
+    ap (λ es. with_some (with_identifiers (renumbered (edition_uids (joined es))) (renumbered (chapter_uids (joined es))) (joined es))) (chapters-same numbers inputs)
+
+-- ---- Tags
+
+-- the identifiers that the targets of Tags have, where those of the attached files are these
+abbrev numbers_with : List ℕ → InputRecords → List ℕ → List ℕ → List ℕ → ℕ → ℕ → Option ℕ
+numbers_with files i editions chapters attachments id uid =
+    if id == TAG_TRACK_UID then number_of i.track_uids i.track_numbers uid else
+    (if id == TAG_EDITION_UID then number_of (uids_in edition_uids i.chapters) editions uid else
+    (if id == TAG_CHAPTER_UID then number_of (uids_in chapter_uids i.chapters) chapters uid else
+    (if id == TAG_ATTACHMENT_UID then number_of files attachments uid else None)))
+
+-- the Tags of an input, and those of inputs behind it
+abbrev tags_with : List ℕ → InputRecords → List InputRecords → List ℕ → List ℕ → List ℕ → List Node
+tags_with files i others editions chapters attachments =
+    children_in (option_map (written_tags i.keep (numbers_with files i editions chapters attachments)) i.tags)
+    ++ tags_from (behind (all_uids (uids_in edition_uids i.chapters) (uids_in chapter_uids i.chapters) files) (all_uids editions chapters attachments)) others
+
+tags-same : (numbers : List ℕ) (inputs : List Input) (editions chapters attachments : List ℕ) → tags_from (all_uids editions chapters attachments) (records_at numbers inputs) ≡ tags_from (all_uids editions chapters attachments) (anywhere_at numbers inputs)
+tags-same numbers [] editions chapters attachments = refl
+tags-same numbers (i ∷ is) editions chapters attachments =
+    let own : InputRecords = records_in (take (length i.taken) numbers) (kept_in i) in
+    let rest : List ℕ = drop (length i.taken) numbers in
+    ap (λ l. tags_in own (all_uids editions chapters attachments) ++ l)
+    (tags-same rest is (drop (length (uids_in edition_uids i.chapters)) editions) (drop (length (uids_in chapter_uids i.chapters)) chapters) (drop (length (merged.file_uids i.attachments)) attachments))
+    ∙ ap (λ files. tags_with files own (anywhere_at rest is) editions chapters attachments) (sym (uids-anywhere i.attachments))
+
+numbers-same : (numbers : List ℕ) (inputs : List Input) → numbers_of (records_at numbers inputs) ≡ numbers_of (anywhere_at numbers inputs)
+numbers-same numbers inputs =
+    ap₂ (λ es files. all_uids (renumbered (edition_uids (joined es))) (renumbered (chapter_uids (joined es))) (renumbered files)) (chapters-same numbers inputs) (sym (all-uids-anywhere numbers inputs))
+
+pub tags-anywhere : (numbers : List ℕ) (inputs : List Input) → merged_tags (records_at numbers inputs) ≡ merged_tags (anywhere_at numbers inputs)
+tags-anywhere numbers inputs =
+    ap (λ list. with_some (master TAGS 0 (nodes_of list)))
+    (tags-same numbers inputs (edition_numbers (records_at numbers inputs)) (chapter_numbers (records_at numbers inputs)) (merged.file_numbers (records_at numbers inputs)))
+    ∙ ap (λ given. with_some (joined_tags given (anywhere_at numbers inputs))) (numbers-same numbers inputs)
+
+-- ---- one input more
+
+module _ (left own after : List ℕ) (count : ℕ) (i : Input) (as_many : count ≡ length i.taken) (first : own ≡ take count left) (behind_it : after ≡ drop count left) where
+  pub records-next : (inputs rest : List Input) (records new all : List InputRecords) (one : InputRecords) → inputs ≡ i ∷ rest → one ≡ records_in own (kept_in i) → new ≡ records ++ one ∷ []
+      → records ++ records_at left inputs ≡ all → new ++ records_at after rest ≡ all
+  records-next inputs rest records new all one next made put so_far =
+      let own_is : own ≡ take (length i.taken) left = first ∙ ap (λ n. take n left) as_many in
+      let after_is : after ≡ drop (length i.taken) left = behind_it ∙ ap (λ n. drop n left) as_many in
+      ap₂ (λ l n. l ++ records_at n rest) put after_is
+      ∙ append_assoc records (one ∷ []) (records_at (drop (length i.taken) left) rest)
+      ∙ ap (λ r. records ++ r ∷ records_at (drop (length i.taken) left) rest) (made ∙ ap (λ n. records_in n (kept_in i)) own_is)
+      ∙ ap (λ is. records ++ records_at left is) (sym next)
+      ∙ so_far
+
+pub records-none : (left : List ℕ) (records all : List InputRecords) (inputs : List Input) → inputs ≡ [] → records ++ records_at left inputs ≡ all → records ≡ all
+records-none left records all inputs none so_far = sym (append-nil records) ∙ ap (λ is. records ++ records_at left is) (sym none) ∙ so_far
+
+-- ---- what was read
+
+pub reads-in : (f : LiveFiles) (inputs : List Input) → reads_of (map (source_in f) inputs) ≡ map read_in inputs
+reads-in f [] = refl
+reads-in f (i ∷ is) = ap (λ l. read_in i ∷ l) (reads-in f is)

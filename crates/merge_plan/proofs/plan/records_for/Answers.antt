@@ -1,0 +1,7 @@
+-- The tracks that were collected are those of the inputs.
+use Rattle.std.proofs.Common.{◌≡◌, ap, sym, ◌∙◌}
+use Rattle.merge_plan.specs.Lent.{lent}
+use Rattle.merge_plan.proofs.plan.records_for.Goals as goal
+
+pub output_of-requires-clause-taken : goal.output_of-requires-clause-taken
+output_of-requires-clause-taken c = ap lent c.as_slice-2.ensures.value ∙ c.in_ok-taken.ensures

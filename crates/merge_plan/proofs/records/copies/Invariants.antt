@@ -1,0 +1,6 @@
+-- The copies are those of the files so far.
+use Rattle.std.proofs.Common.{◌≡◌, take}
+use Rattle.merge_plan.proofs.records.copies.Given as goal
+
+abbrev pub invariant-loop-file : goal.invariant-loop-file
+invariant-loop-file l = l.copies ≡ take l.file-index l.files

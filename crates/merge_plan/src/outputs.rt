@@ -1,0 +1,56 @@
+//! The records of an output.
+
+ghost use Rattle.std.specs.Prelude.{◌≡◌, map, IfOk};
+ghost use Rattle.std.specs.List.{All};
+ghost use Rattle.merge_inputs.specs.Input.{read_in};
+ghost use Rattle.merge_plan.specs.Lent.{lent};
+ghost use Rattle.merge_plan.specs.Planned.{AreRecordsOf, AreSound};
+ghost use Rattle.merge_plan.specs.Records.{tracks_taken};
+ghost use Rattle.merge_plan.specs.Spots.{HasRecords, HasTaken};
+
+use crate::entries::{entries_of, uids_of};
+use crate::records::records_of;
+use attachment_records::Attachment;
+use ebml_tree::Tree;
+use merge_inputs::{Input, TakenTrack};
+use merged_records::{MergedRecords, merge_records};
+use mkv_values::List;
+use output_records::tracks_of;
+use std::alloc::{AllocError, Global};
+
+/// What stands around the Clusters of an output, but for its Info.
+#[derive(Drop)]
+pub(crate) struct OutputRecords {
+    pub(crate) tracks: Tree,
+    pub(crate) attachments: List<Attachment>,
+    pub(crate) chapters: Option<Tree>,
+    pub(crate) tags: Option<Tree>,
+}
+
+/// The records that inputs come to, of which these tracks are taken.
+pub(crate) fn output_of(
+    alloc: Global,
+    taken: &[&TakenTrack],
+    inputs: &[Input],
+) -> Result<OutputRecords, AllocError>
+    requires taken { lent taken.now ≡ tracks_taken (map read_in inputs.now) }
+    requires tracks { All HasTaken inputs.now }
+    requires records { All HasRecords inputs.now }
+    ensures exact { IfOk result (AreRecordsOf inputs.now) }
+    ensures sound { IfOk result (AreSound inputs.now) }
+{
+    let uids = uids_of(alloc, taken)?;
+    let tracks = tracks_of(alloc, entries_of(alloc, taken, uids.as_slice())?)?;
+    let kept = records_of(alloc, uids.as_slice(), inputs)?;
+    let MergedRecords {
+        attachments,
+        chapters,
+        tags,
+    } = merge_records(alloc, kept.as_slice())?;
+    Ok(OutputRecords {
+        tracks,
+        attachments,
+        chapters,
+        tags,
+    })
+}
