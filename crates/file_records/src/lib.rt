@@ -4,8 +4,10 @@
 //! Tracks Element, 5.1.6, Attachments Element, 5.1.7, Chapters Element, and 5.1.8, Tags Element), or the first
 //! thing that refuses it.
 
-mod first_attachments;
-mod first_tree;
+mod attached;
+mod first;
 mod records;
 
-pub use records::{Records, read_records, scale_of};
+pub use attached::first_attachments;
+pub use first::first_tree;
+pub use records::{Records, good_info, read_records, scale_of};

@@ -9,8 +9,8 @@ ghost use Rattle.attachment_reading.specs.declared.limits.TheConstants.{MOST_OF_
 ghost use Rattle.element_reader.specs.Outline.{is_outline_fault, outline_in};
 ghost use Rattle.file_records.specs.Records.{AreGood, AreRead, IsGoodInfo, ReadsAs, ReadsRecords, file_records, good_info, good_tracks, scale_of_info};
 
-use crate::first_attachments::first_attachments;
-use crate::first_tree::first_tree;
+use crate::attached::first_attachments;
+use crate::first::first_tree;
 use attachment_reading::Attachment;
 use ebml_tree::{Tree, TreeEnd};
 use element_reader::{Header, Outline, OutlineEnd};
@@ -91,7 +91,7 @@ pub fn scale_of(info: &Option<Tree>) -> u64
 }
 
 /// An Info, unless something refuses it.
-fn good_info(info: Option<Tree>) -> Result<Option<Tree>, Damage>
+pub fn good_info(info: Option<Tree>) -> Result<Option<Tree>, Damage>
     requires { IfSome info (IsSoundOf INFO_ID) }
     ensures { result ≡ good_info info }
 {

@@ -2,7 +2,7 @@ use Rattle.std.proofs.Common.{List, map, Ok, sym, ◌∙◌, ap}
 use Rattle.attachment_records.specs.declared.attachment.Attachment.{Attachment}
 use Rattle.file_records.specs.Attached.{in_file}
 use Rattle.file_records.proofs.AttachedLemmas.{attached-read, attached-refused, first_attached-of}
-use Rattle.file_records.proofs.first_attachments.first_attachments.Goals as goal
+use Rattle.file_records.proofs.attached.first_attachments.Goals as goal
 
 -- there are none
 pub returns-in_default-clause-exact : goal.returns-in_default-clause-exact

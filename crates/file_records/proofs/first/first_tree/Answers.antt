@@ -3,7 +3,7 @@ use Rattle.mkv_values.specs.declared.damage.Damage.{Damage}
 use Rattle.matroska_format.specs.Outline.{and_then}
 use Rattle.tree_format.specs.Node.{Node}
 use Rattle.file_records.proofs.RecordsLemmas.{IsFirst-shown, first_tree-none, first_tree-some}
-use Rattle.file_records.proofs.first_tree.first_tree.Goals as goal
+use Rattle.file_records.proofs.first.first_tree.Goals as goal
 
 -- there is no such Element
 pub returns-in_default-clause-exact : goal.returns-in_default-clause-exact
