@@ -60,11 +60,6 @@ pub enum Line<'a> {
     OutputIsInput {
         name: &'a str,
     },
-    /// A file has an Element of this ID, which isn't taken over yet, and which the words don't leave out.
-    NotTaken {
-        name: &'a str,
-        id: u32,
-    },
     /// No track is taken.
     NoLane,
     /// More tracks are taken than an output may have.
@@ -168,10 +163,6 @@ impl fmt::Display for Line<'_> {
             Line::OutputIsInput { name } => {
                 let name = ShownText(name);
                 write!(f, "error: {name}: OutputIsInput")
-            }
-            Line::NotTaken { name, id } => {
-                let (name, element) = (ShownText(name), ShownElement(id));
-                write!(f, "error: {name}: NotBuilt{element}")
             }
             Line::NoLane => f.write_str("error: NoLane"),
             Line::TooManyLanes => f.write_str("error: TooManyLanes"),
