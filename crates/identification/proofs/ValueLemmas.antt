@@ -1,18 +1,17 @@
 -- The values that the table has under the masters that are read.
-use Rattle.std.proofs.Common.{◌≡◌, ◌<◌, ◌≤◌, ℕ, true, List, length, get_or, Some, inl, inr, refl, sym, subst, ap, ◌∙◌, arith}
+use Rattle.std.proofs.Common.{◌≡◌, ◌<◌, ◌≤◌, ℕ, true, List, length, get_or, inl, inr, refl, ap, ◌∙◌, arith}
 use Rattle.std.proofs.lemmas.Bool.Decides.{nat_tests}
-use Rattle.std.proofs.lemmas.Str.{IsUtf8-from_is_utf8}
-use Rattle.std.specs.Str.{IsUtf8}
 use Rattle.mkv_schema.specs.declared.ids.TheConstants.{ATTACHED_FILE, FILE_DESCRIPTION, FILE_MEDIA_TYPE, FILE_NAME, FLAG_DEFAULT, FLAG_ENABLED, FLAG_FORCED, INFO, LANGUAGE_BCP47, NAME, PIXEL_HEIGHT, PIXEL_WIDTH, TAG_TRACK_UID, TARGETS, TITLE, TRACK_ENTRY, VIDEO}
-use Rattle.mkv_schema.specs.declared.kind.ElementKind.TheVariants.{Ascii, Uint, Utf8}
+use Rattle.mkv_schema.specs.declared.kind.ElementKind.TheVariants.{Uint}
 use Rattle.mkv_schema.specs.Table.{table}
 use Rattle.mkv_schema.specs.Schema.{entry_of, kind_of, may_stand}
-use Rattle.matroska_format.specs.Value.{is_value, text_of}
+use Rattle.matroska_format.specs.Value.{is_value}
 use Rattle.tree_format.specs.Node.{Node, body_of, children, id_of}
 use Rattle.tree_format.specs.Standing.{IsSound, IsSoundOf}
-use Rattle.tree_format.specs.Values.{first_child, HasUint}
-use Rattle.tree_format.proofs.ChildLemmas.{HasUint-of, child-stands, first_child-value, stands-sound, stands-value}
-use Rattle.identification.specs.Texts.{HasText}
+use Rattle.tree_format.specs.Values.{HasUint}
+use Rattle.tree_format.proofs.ChildLemmas.{HasUint-of, child-stands, stands-sound, stands-value}
+use Rattle.tree_values.specs.Texts.{HasText}
+use Rattle.tree_values.proofs.TextLemmas.{HasText-of}
 
 -- ---- what the table has
 
@@ -64,20 +63,9 @@ pub track_uid : HasUint TARGETS TAG_TRACK_UID
 unfolding entry_of table
 track_uid = record { stands = refl; kind = refl }
 
--- a parent is told by its ID
-pub HasText-of : (parent id : ℕ) (n : Node) → IsSoundOf parent n → HasText parent id → HasText (id_of n) id
-HasText-of parent id n is text = let P : ℕ → Type 0 = λ p. HasText p id in subst P (sym is.id) text
-
 pub ruleset known = (HasText-of, HasUint-of, title, media_type, description, file_name, name, language_bcp47, flag_default, flag_enabled, flag_forced, pixel_width, pixel_height)
 
 -- ---- the values
-
--- a text is UTF-8
-pub text-utf8 : (tree n : Node) (id : ℕ) → IsSound tree → HasText (id_of tree) id → first_child id tree ≡ Some n → IsUtf8 (text_of (body_of n))
-text-utf8 tree n id sound text found = elim text.kind [
-  | inl is ↦ IsUtf8-from_is_utf8 (text_of (body_of n)) (first_child-value tree n id Ascii sound text.stands is found)
-  | inr is ↦ IsUtf8-from_is_utf8 (text_of (body_of n)) (first_child-value tree n id Utf8 sound text.stands is found)
-]
 
 -- an integer among the children of a sound master has at most eight octets
 pub child-short : (parent : ℕ) (tree n : Node) (ns : List Node) (i id : ℕ) → IsSoundOf parent tree → HasUint parent id → ns ≡ children tree → i < length ns → n ≡ get_or ns i n → id_of n ≡ id → length (body_of n) ≤ 8

@@ -13,9 +13,7 @@ ghost use Rattle.identification.specs.Json.{object_of};
 ghost use Rattle.identification.specs.Tracks.{dimensions_of, dimensions_text, flag, pixels_in, properties_of, track_value, tracks_value};
 
 use crate::json::put_if;
-use crate::values::{
-    integer_in, number_if, string_if, text_in, text_or_empty, uint_in, unless_empty,
-};
+use crate::values::{number_if, string_if, text_or_empty, unless_empty};
 use ebml_tree::Tree;
 use mkv_schema::ids::{
     FLAG_DEFAULT, FLAG_ENABLED, FLAG_FORCED, LANGUAGE_BCP47, NAME, PIXEL_HEIGHT, PIXEL_WIDTH, VIDEO,
@@ -23,6 +21,7 @@ use mkv_schema::ids::{
 use serde_json::{Map, Value, json, put};
 use std::alloc::{AllocError, Global};
 use track_records::Track;
+use tree_values::{integer_in, text_in, uint_in};
 
 /// The tracks, numbered from 0.
 pub(crate) fn tracks_value(alloc: Global, tracks: &[Track]) -> Result<Value, AllocError>

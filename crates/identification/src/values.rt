@@ -2,74 +2,27 @@
 
 ghost use Rattle.std.specs.Prelude.{◌≡◌, ◌+◌, length, IfOk};
 ghost use Rattle.std.specs.Option.{option_copied, option_map};
-ghost use Rattle.std.specs.Str.{IsUtf8};
 ghost use Rattle.serde_json.specs.Data.{string};
 ghost use Rattle.serde_json.specs.View.{view};
-ghost use Rattle.matroska_format.specs.Value.{text_of};
-ghost use Rattle.tree_format.specs.Node.{body_of, children, id_of};
+ghost use Rattle.tree_format.specs.Node.{children, id_of};
 ghost use Rattle.tree_format.specs.Changes.{part};
 ghost use Rattle.tree_format.specs.Standing.{IsSound};
-ghost use Rattle.tree_format.specs.Values.{HasUint, integer_in, text_in, uint_in};
+ghost use Rattle.tree_values.specs.Texts.{HasText};
 ghost use Rattle.identification.specs.Json.{whole};
-ghost use Rattle.identification.specs.Texts.{HasText, text_or_empty, unless_empty};
+ghost use Rattle.identification.specs.Texts.{text_or_empty, unless_empty};
 
 use ebml_tree::Tree;
-use mkv_schema::{text_default, uint_default};
 use serde_json::Value;
 use std::alloc::{AllocError, Global};
+use tree_values::text_in;
 
-/// The unsigned integer of an ID, where it stands.
-pub(crate) fn integer_in(tree: &Tree, id: u32) -> Option<u64>
-    requires sound { IsSound tree.now }
-    requires uint { HasUint (id_of tree.now) id }
-    ensures { result ≡ integer_in id tree.now }
-{
-    let child = tree.child(id)?;
-    Some(child.uint())
-}
-
-/// The same, or the table's default, or 0.
-pub(crate) fn uint_in(tree: &Tree, id: u32) -> u64
-    requires sound { IsSound tree.now }
-    requires uint { HasUint (id_of tree.now) id }
-    ensures { result ≡ uint_in id tree.now }
-{
-    match integer_in(tree, id) {
-        Some(value) => value,
-        None => uint_default(id).unwrap_or(0),
-    }
-}
-
-/// The text of an ID, or the table's default.
-pub(crate) fn text_in<'a>(tree: &'a Tree, id: u32) -> Option<&'a str>
-    requires sound { IsSound tree.now }
-    requires text { HasText (id_of tree.now) id }
-    ensures { option_copied result ≡ text_in id tree.now }
-{
-    match tree.child(id) {
-        Some(child) => Some(text_of(child)),
-        None => text_default(id),
-    }
-}
-
-/// The same, empty where there is none.
+/// The text of an ID, empty where there is none.
 pub(crate) fn text_or_empty<'a>(tree: &'a Tree, id: u32) -> &'a str
     requires sound { IsSound tree.now }
     requires text { HasText (id_of tree.now) id }
     ensures { result.now ≡ text_or_empty id tree.now }
 {
     text_in(tree, id).unwrap_or("")
-}
-
-// A text up to its first zero octet.
-fn text_of(child: &Tree) -> &str
-    requires { IsUtf8 (text_of (body_of child.now)) }
-    ensures { result.now ≡ text_of (body_of child.now) }
-{
-    match str::from_utf8(child.text()) {
-        Ok(text) => text,
-        Err(_) => unreachable!(),
-    }
 }
 
 /// A text that has an octet at least.

@@ -1,9 +1,6 @@
 //! The title of a file: RFC 9559, section 5.1.2 (Info Element), Title.
 
 ghost use Rattle.std.specs.Prelude.{◌≡◌, IfOk, IfSome};
-ghost use Rattle.std.specs.Str.{IsUtf8};
-ghost use Rattle.matroska_format.specs.Value.{text_of};
-ghost use Rattle.tree_format.specs.Node.{body_of};
 ghost use Rattle.file_records.specs.Records.{IsGoodInfo};
 ghost use Rattle.merge_inputs.specs.Title.{title_of_info};
 
@@ -11,6 +8,7 @@ use ebml_tree::Tree;
 use mkv_schema::ids::TITLE;
 use mkv_values::Text;
 use std::alloc::{AllocError, Global};
+use tree_values::text_of;
 
 /// The title of a file whose first Info this is, empty where it has none.
 pub fn title_of(alloc: Global, info: &Option<Tree>) -> Result<Text, AllocError>
@@ -23,16 +21,5 @@ pub fn title_of(alloc: Global, info: &Option<Tree>) -> Result<Text, AllocError>
     match info.child(TITLE) {
         Some(title) => Ok(Text::from_string(String::from_str(alloc, text_of(title))?)),
         None => Ok(Text::new(alloc)),
-    }
-}
-
-/// A text up to its first zero octet.
-fn text_of(leaf: &Tree) -> &str
-    requires { IsUtf8 (text_of (body_of leaf.now)) }
-    ensures { result.now ≡ text_of (body_of leaf.now) }
-{
-    match str::from_utf8(leaf.text()) {
-        Ok(text) => text,
-        Err(_) => unreachable!(),
     }
 }

@@ -1,18 +1,17 @@
 -- The values of a TrackEntry that stands in a sound tree.
-use Rattle.std.proofs.Common.{◌≡◌, ◌≤◌, ℕ, true, length, Some, refl, ap, ◌∙◌, arith}
+use Rattle.std.proofs.Common.{◌≡◌, ◌≤◌, ℕ, true, length, inl, refl, arith}
 use Rattle.std.proofs.lemmas.Bool.Decides.{nat_tests}
-use Rattle.std.proofs.lemmas.Str.{IsUtf8-from_is_utf8}
-use Rattle.std.specs.Str.{IsUtf8}
 use Rattle.mkv_schema.specs.declared.ids.TheConstants.{TRACK_ENTRY, TRACK_NUMBER, TRACK_UID, TRACK_TYPE, CODEC_ID, LANGUAGE, LANGUAGE_BCP47, DEFAULT_DURATION, CONTENT_ENCODING, CONTENT_ENCODING_SCOPE, CONTENT_ENCODING_TYPE, CONTENT_COMPRESSION, CONTENT_COMP_ALGO}
-use Rattle.mkv_schema.specs.declared.kind.ElementKind.TheVariants.{Uint, Ascii}
+use Rattle.mkv_schema.specs.declared.kind.ElementKind.TheVariants.{Uint}
 use Rattle.mkv_schema.specs.Table.{table}
-use Rattle.mkv_schema.specs.Schema.{entry_of, may_stand}
-use Rattle.matroska_format.specs.Value.{is_value, text_of}
+use Rattle.mkv_schema.specs.Schema.{entry_of}
+use Rattle.matroska_format.specs.Value.{is_value}
 use Rattle.tree_format.specs.Node.{Node, id_of, body_of}
 use Rattle.tree_format.specs.Standing.{StandsIn}
-use Rattle.tree_format.specs.Values.{first_child, HasUint}
-use Rattle.tree_format.proofs.ChildLemmas.{stands-value, first_child-value, HasUint-of}
-use Rattle.track_records.specs.Sound.{IsEntry, IsText}
+use Rattle.tree_format.specs.Values.{HasUint}
+use Rattle.tree_format.proofs.ChildLemmas.{stands-value, HasUint-of}
+use Rattle.tree_values.specs.Texts.{HasText}
+use Rattle.tree_values.proofs.TextLemmas.{HasText-of}
 
 -- ---- what the table has in a TrackEntry and in its encodings
 
@@ -32,17 +31,17 @@ pub default_duration : HasUint TRACK_ENTRY DEFAULT_DURATION
 unfolding entry_of table
 default_duration = record { stands = refl; kind = refl }
 
-pub codec : IsText CODEC_ID
+pub codec : HasText TRACK_ENTRY CODEC_ID
 unfolding entry_of table
-codec = record { stands = refl; kind = refl }
+codec = record { stands = refl; kind = inl refl }
 
-pub language : IsText LANGUAGE
+pub language : HasText TRACK_ENTRY LANGUAGE
 unfolding entry_of table
-language = record { stands = refl; kind = refl }
+language = record { stands = refl; kind = inl refl }
 
-pub language_bcp47 : IsText LANGUAGE_BCP47
+pub language_bcp47 : HasText TRACK_ENTRY LANGUAGE_BCP47
 unfolding entry_of table
-language_bcp47 = record { stands = refl; kind = refl }
+language_bcp47 = record { stands = refl; kind = inl refl }
 
 pub scope : HasUint CONTENT_ENCODING CONTENT_ENCODING_SCOPE
 unfolding entry_of table
@@ -56,13 +55,9 @@ pub algorithm : HasUint CONTENT_COMPRESSION CONTENT_COMP_ALGO
 unfolding entry_of table
 algorithm = record { stands = refl; kind = refl }
 
-pub ruleset known = (HasUint-of, number, uid, type, default_duration, codec, language, language_bcp47, scope, encoding_type, algorithm)
+pub ruleset known = (HasUint-of, HasText-of, number, uid, type, default_duration, codec, language, language_bcp47, scope, encoding_type, algorithm)
 
 -- ---- the values of these
-
-pub text-utf8 : (entry n : Node) (id : ℕ) → IsEntry entry → IsText id → first_child id entry ≡ Some n → IsUtf8 (text_of (body_of n))
-text-utf8 entry n id is text found =
-    IsUtf8-from_is_utf8 (text_of (body_of n)) (first_child-value entry n id Ascii is.sound (ap (may_stand id) is.id ∙ text.stands) text.kind found)
 
 pub stands-short : (n : Node) (id : ℕ) → StandsIn TRACK_ENTRY n → id ≡ id_of n → HasUint TRACK_ENTRY id → length (body_of n) ≤ 8
 stands-short n id stands is integer =

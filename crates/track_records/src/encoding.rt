@@ -9,7 +9,6 @@ ghost use Rattle.track_format.specs.Encoding.{algorithm_of, settings_of, most_st
 ghost use Rattle.track_records.specs.Sound.{IsEntry};
 ghost use Rattle.track_records.specs.Outcome.{lent};
 
-use crate::entry::uint_in;
 use crate::track::Track;
 use ebml_tree::Tree;
 use mkv_schema::ids::{
@@ -17,6 +16,7 @@ use mkv_schema::ids::{
     CONTENT_ENCODING_SCOPE, CONTENT_ENCODING_TYPE, CONTENT_ENCODINGS, TRACK_TIMESTAMP_SCALE,
 };
 use mkv_values::{Damage, Kind};
+use tree_values::uint_in;
 
 /// The ContentEncodingScope of what encodes frames and nothing else.
 const FRAMES: u64 = 1;

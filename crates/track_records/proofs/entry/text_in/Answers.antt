@@ -1,7 +1,0 @@
--- The child is a text of the table.
-use Rattle.std.proofs.Common.{sym}
-use Rattle.track_records.proofs.EntryLemmas.{text-utf8}
-use Rattle.track_records.proofs.entry.text_in.Goals as goal
-
-pub text_of-requires : goal.text_of-requires
-text_of-requires c = text-utf8 _ _ _ c.requires.entry c.requires.text (sym c.in-Some.ensures.exact)
