@@ -1,2 +1,5 @@
+pub mod IdentifiedLemmas
 pub mod InfoLemmas
+pub mod ListedLemmas
+pub mod ReadLemmas
 pub mod TracksLemmas

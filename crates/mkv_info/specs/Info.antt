@@ -1,60 +1,23 @@
--- What `info` tells of a file.
-use Rattle.std.specs.Prelude.{ℕ, ◌++◌, Bool, List, [], ◌∷◌, map, Option, Some, None, Result, Ok, Err}
-use Rattle.mkv_values.specs.declared.damage.Damage.{Damage}
-use Rattle.matroska_format.specs.Outline.{Outlined, outline_of, segment_run}
-use Rattle.element_reader.specs.Outline.{FileOutline}
-use Rattle.track_records.specs.declared.track.Track.{Track}
-use Rattle.mkv_lines.specs.Line.{level_0_line, level_1_line, missing_line, refusal_line, warning_line}
-use Rattle.mkv_lines.specs.Verdict.{Verdict, nothing, refused, unless_pending}
-use Rattle.mkv_lines.specs.declared.status.Status.{Status}
-use Rattle.mkv_lines.specs.declared.status.Status.TheVariants.{Done, Warned}
+-- What is told of one file, in either form.
+use Rattle.std.specs.Prelude.{ℕ, Bool, List, Option, Some, None}
+use Rattle.mkv_lines.specs.Line.{missing_line}
+use Rattle.mkv_lines.specs.Verdict.{Verdict, refused, unless_pending}
 use Rattle.pending_edits.specs.Pending.{is_pending}
-use Rattle.mkv_info.specs.Tracks.{file_tracks, track_lines}
-
--- a line for the EBML header, for the Segment, and for each Element of level 1
-abbrev pub element_lines : Outlined → List (List ℕ)
-element_lines o = level_0_line o.ebml ∷ level_0_line o.segment ∷ map level_1_line o.list
-
--- the same lines, of an outline that was read and the Elements that its Segment has
-abbrev pub shown_lines : List ℕ → FileOutline → List (List ℕ)
-shown_lines bytes o = level_0_line o.ebml ∷ level_0_line o.segment ∷ map level_1_line (segment_run bytes o.segment).list
-
--- a file that is damaged at level 1 is listed up to there, with a warning behind the list
-abbrev pub warnings : List ℕ → Option Damage → List (List ℕ)
-warnings name None = []
-warnings name (Some d) = warning_line name d ∷ []
-
-abbrev pub status_with : Option Damage → Status
-status_with None = Done
-status_with (Some d) = Warned
-
--- the Elements, then the tracks, then the warning
-abbrev pub listed : List ℕ → Outlined → List Track → Verdict
-listed name o tracks = record {
-  status = status_with o.damage;
-  lines = element_lines o ++ (track_lines 0 tracks ++ warnings name o.damage);
-  outputs = nothing;
-}
-
--- a file whose tracks are refused isn't listed
-abbrev pub with_tracks : List ℕ → Outlined → Result (List Track) Damage → Verdict
-with_tracks name o (Ok tracks) = listed name o tracks
-with_tracks name o (Err d) = refused (refusal_line name d)
-
--- nor is one whose outline is
-abbrev pub listed_or_refused : List ℕ → List ℕ → Result Outlined Damage → Verdict
-listed_or_refused name bytes (Ok o) = with_tracks name o (file_tracks bytes o)
-listed_or_refused name bytes (Err d) = refused (refusal_line name d)
+use Rattle.mkv_info.specs.Identified.{identified_verdict}
+use Rattle.mkv_info.specs.Listed.{listed_verdict}
+use Rattle.mkv_info.specs.declared.info.Form.{Form}
+use Rattle.mkv_info.specs.declared.info.Form.TheVariants.{Lines, Json}
 
 -- what is told of a content that bears a name
-abbrev pub content_verdict : List ℕ → List ℕ → Verdict
-content_verdict name bytes = listed_or_refused name bytes (outline_of 0 bytes)
+abbrev pub content_verdict : Form → List ℕ → List ℕ → Verdict
+content_verdict Lines name bytes = listed_verdict name bytes
+content_verdict Json name bytes = identified_verdict name bytes
 
 -- what is told of a name, which may have no content, and of whose file an edit may be pending
-abbrev pub name_verdict : List ℕ → Bool → Option (List ℕ) → Verdict
-name_verdict name pending None = refused (missing_line name)
-name_verdict name pending (Some bytes) = unless_pending name pending (content_verdict name bytes)
+abbrev pub name_verdict : Form → List ℕ → Bool → Option (List ℕ) → Verdict
+name_verdict form name pending None = refused (missing_line name)
+name_verdict form name pending (Some bytes) = unless_pending name pending (content_verdict form name bytes)
 
 -- what is told of a name in a world of names
-abbrev pub info_verdict : (List ℕ → Option (List ℕ)) → List ℕ → Verdict
-info_verdict world name = name_verdict name (is_pending world name) (world name)
+abbrev pub info_verdict : Form → (List ℕ → Option (List ℕ)) → List ℕ → Verdict
+info_verdict form world name = name_verdict form name (is_pending world name) (world name)

@@ -1,4 +1,4 @@
-//! A file is opened, listed and closed.
+//! A file is opened, told of and closed.
 
 ghost use Rattle.std.specs.Prelude.{◌≡◌, ℕ, IfOk};
 ghost use Rattle.mkv_io.specs.Sources.{IfTold, IsLive, live_files};
@@ -10,6 +10,7 @@ ghost use Rattle.mkv_lines.specs.Seen.{seen};
 ghost use Rattle.mkv_lines.specs.Verdict.{Reaches, SaysVerdict, unless_pending};
 ghost use Rattle.mkv_info.specs.Info.{content_verdict, info_verdict};
 
+use crate::identified::identify_file;
 use crate::list::list_file;
 use mkv_io::{Files, Report};
 use mkv_lines::{Line, Status, Stop, say};
@@ -17,9 +18,19 @@ use mkv_values::{FileId, OpenFault};
 use pending_edits::is_pending;
 use std::alloc::Global;
 
-/// Lists the Elements and tracks of the file of a name, which is open in the meantime.
+/// The form in which a file is told of.
+#[derive(Clone, Copy, Debug, PartialEq, Eq)]
+pub enum Form {
+    /// A line for each Element and each track.
+    Lines,
+    /// One line of JSON.
+    Json,
+}
+
+/// Tells what the file of a name is, which is open in the meantime.
 pub fn info_of<F: Files, P: Report>(
     alloc: Global,
+    form: Form,
     name: &str,
     files: &mut F,
     report: &mut P,
@@ -27,7 +38,7 @@ pub fn info_of<F: Files, P: Report>(
     ensures verdict { Told (F.names files.old) (λ world. Reaches
         (seen F.Reads F.writing_faults F.names P.Report files.old report.old)
         (seen F.Reads F.writing_faults F.names P.Report files.new report.new)
-        result (info_verdict world name.now)) }
+        result (info_verdict form world name.now)) }
     ensures ordinary { IfOk result IsOrdinary }
     ensures names { F.names files.new ≡ F.names files.old }
     ensures live { (file : ℕ) → (live_files F.Reads files.new).live file ≡ (live_files F.Reads files.old).live file }
@@ -44,14 +55,15 @@ pub fn info_of<F: Files, P: Report>(
         Err(OpenFault::Failed) => return Err(Stop::Files),
         Err(OpenFault::Memory) => return Err(Stop::Memory),
     };
-    let ended = list_settled(alloc, name, files, file, report);
+    let ended = tell_settled(alloc, form, name, files, file, report);
     files.close(file);
     ended
 }
 
-/// Lists a live file, unless an edit of the file of this name is pending.
-fn list_settled<F: Files, P: Report>(
+/// Tells what a live file is, unless an edit of the file of this name is pending.
+fn tell_settled<F: Files, P: Report>(
     alloc: Global,
+    form: Form,
     name: &str,
     files: &mut F,
     file: FileId,
@@ -59,7 +71,7 @@ fn list_settled<F: Files, P: Report>(
 ) -> Result<Status, Stop>
     requires { IsLive F.Reads files.old file }
     ensures verdict { Told (F.names files.old) (λ world. IfTold F.Reads files.old file (λ bytes. SaysVerdict (P.lines report.old) (P.lines report.new)
-        result (unless_pending name.now (is_pending world name.now) (content_verdict name.now bytes)))) }
+        result (unless_pending name.now (is_pending world name.now) (content_verdict form name.now bytes)))) }
     ensures ordinary { IfOk result IsOrdinary }
     ensures looks { LooksOnly F.Reads F.Files.own files.old files.new }
     ensures cause { HasReadStop (F.reading_faults files.old) (F.reading_faults files.new) (P.faults report.old) (P.faults report.new) result }
@@ -68,5 +80,8 @@ fn list_settled<F: Files, P: Report>(
         say(alloc, report, &Line::PendingEdit { name })?;
         return Ok(Status::Refused);
     }
-    list_file(alloc, name, files, file, report)
+    match form {
+        Form::Lines => list_file(alloc, name, files, file, report),
+        Form::Json => identify_file(alloc, name, files, file, report),
+    }
 }

@@ -1,10 +1,12 @@
 #![tactic(auto)]
 
-//! The command `info`, which lists a file's Elements and tracks.
+//! What is told of one file: the command `info`, which lists its Elements and tracks, and `merge -J`, which tells what it is
+//! as one line of JSON.
 
+mod identified;
 mod info;
 mod list;
+mod reading;
 mod tracks;
 
-pub use info::info_of;
-pub use list::warn;
+pub use info::{Form, info_of};

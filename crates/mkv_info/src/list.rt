@@ -11,7 +11,7 @@ ghost use Rattle.mkv_lines.specs.Line.{level_1_line};
 ghost use Rattle.mkv_lines.specs.Ordinary.{IsOrdinary};
 ghost use Rattle.mkv_lines.specs.Said.{HasSayCause, Says};
 ghost use Rattle.mkv_lines.specs.Verdict.{SaysVerdict};
-ghost use Rattle.mkv_info.specs.Info.{content_verdict, shown_lines, status_with, warnings};
+ghost use Rattle.mkv_info.specs.Listed.{listed_verdict, shown_lines, status_with, warnings};
 
 use crate::tracks::{say_tracks, tracks_of};
 use element_reader::{Header, Outline, OutlineEnd, Window, segment_bound};
@@ -31,7 +31,7 @@ pub fn list_file<R: Reads, P: Report>(
     report: &mut P,
 ) -> Result<Status, Stop>
     requires { IsLive R.Reads src.old file }
-    ensures verdict { IfTold R.Reads src.old file (λ bytes. SaysVerdict (P.lines report.old) (P.lines report.new) result (content_verdict name.now bytes)) }
+    ensures verdict { IfTold R.Reads src.old file (λ bytes. SaysVerdict (P.lines report.old) (P.lines report.new) result (listed_verdict name.now bytes)) }
     ensures ordinary { IfOk result IsOrdinary }
     ensures standing { R.standing src.new ≡ R.standing src.old }
     ensures cause { HasReadStop (R.reading_faults src.old) (R.reading_faults src.new) (P.faults report.old) (P.faults report.new) result }
@@ -59,7 +59,7 @@ fn list_outline<R: Reads, P: Report>(
     requires live { IsLive R.Reads src.old file }
     requires whole { outline.now.total ≡ file_size R.Reads src.old file }
     ensures verdict { IfTold R.Reads src.old file (λ bytes.
-        outline_in 0 bytes ≡ Ok outline.now → SaysVerdict (P.lines report.old) (P.lines report.new) result (content_verdict name.now bytes)) }
+        outline_in 0 bytes ≡ Ok outline.now → SaysVerdict (P.lines report.old) (P.lines report.new) result (listed_verdict name.now bytes)) }
     ensures ordinary { IfOk result IsOrdinary }
     ensures standing { R.standing src.new ≡ R.standing src.old }
     ensures cause { HasReadStop (R.reading_faults src.old) (R.reading_faults src.new) (P.faults report.old) (P.faults report.new) result }
@@ -132,7 +132,7 @@ fn say_level_1<R: Reads, P: Report>(
 }
 
 /// Warns of a damage, if there is one.
-pub fn warn<P: Report>(
+pub(crate) fn warn<P: Report>(
     alloc: Global,
     name: &str,
     damage: Option<Damage>,

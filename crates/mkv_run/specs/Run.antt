@@ -11,7 +11,7 @@ use Rattle.mkv_args.specs.declared.command.Command.TheVariants.{Help, Version, I
 use Rattle.mkv_lines.specs.Line.{not_built_line, word_line}
 use Rattle.mkv_lines.specs.Verdict.{Verdict, done, refused}
 use Rattle.mkv_info.specs.Info.{info_verdict}
-use Rattle.mkv_identify.specs.Identify.{identify_verdict}
+use Rattle.mkv_info.specs.declared.info.Form.TheVariants.{Lines, Json}
 use Rattle.mkv_recover.specs.Recover.{DiskWorld, verdict_on}
 use Rattle.extract_model.specs.Job.{is_taken}
 use Rattle.mkv_extract.specs.Extract.{extract_verdict}
@@ -41,8 +41,8 @@ is_built (Merge words) = takes words
 abbrev pub built_verdict : Names → Option DiskWorld → Command → Option Verdict
 built_verdict names disk (Help about) = Some (done (usage_lines about))
 built_verdict names disk Version = Some (done (version_line ∷ []))
-built_verdict names disk (Info file) = option_map (λ world. info_verdict world file) names
-built_verdict names disk (Identify file) = option_map (λ world. identify_verdict world file) names
+built_verdict names disk (Info file) = option_map (λ world. info_verdict Lines world file) names
+built_verdict names disk (Identify file) = option_map (λ world. info_verdict Json world file) names
 built_verdict names disk (Recover file) = option_map (λ world. verdict_on world file) disk
 built_verdict names disk (Extract file job) = option_map (λ world. extract_verdict world file job) names
 built_verdict names disk (Merge words) = option_map (λ world. merge_verdict world words) names

@@ -29,8 +29,7 @@ use merge_words::MergeWords;
 use mkv_args::{ArgsEnd, Command, read_words};
 use mkv_disk::Disk;
 use mkv_extract::extract_of;
-use mkv_identify::identify_of;
-use mkv_info::info_of;
+use mkv_info::{Form, info_of};
 use mkv_io::{Files, Report};
 use mkv_jobs::Job;
 use mkv_lines::{Line, Status, Stop, say, say_disk_fault, say_files_fault};
@@ -141,8 +140,8 @@ fn obey<F: Files, D: Disk, R: Report>(
     match command {
         Command::Help { about } => help(alloc, *about, report),
         Command::Version => version(report),
-        Command::Info { file } => info_of(alloc, file.as_str(), files, report),
-        Command::Identify { file } => identify_of(alloc, file.as_str(), files, report),
+        Command::Info { file } => info_of(alloc, Form::Lines, file.as_str(), files, report),
+        Command::Identify { file } => info_of(alloc, Form::Json, file.as_str(), files, report),
         Command::Recover { file } => recover_of(alloc, file.as_str(), disk, report),
         Command::Extract { file, job } => extract(alloc, file, job, files, report),
         Command::Merge { words } => merge(alloc, words, files, report),

@@ -11,13 +11,13 @@ pub returns-in-Err-Failed-clause-verdict : goal.returns-in-Err-Failed-clause-ver
 returns-in-Err-Failed-clause-verdict g c = λ world told.
     IsStopped-before (seen g.F.Reads g.F.Files.writing_faults g.F.Files.names g.P.Report c.args.files.now c.args.report.now)
     (seen g.F.Reads g.F.Files.writing_faults g.F.Files.names g.P.Report c.open_file.new.self c.args.report.now)
-    (info_verdict world c.args.name.now) refl c.open_file.ensures.names
+    (info_verdict c.args.form world c.args.name.now) refl c.open_file.ensures.names
 
 pub returns-in-Err-Memory-clause-verdict : goal.returns-in-Err-Memory-clause-verdict
 returns-in-Err-Memory-clause-verdict g c = λ world told.
     IsStopped-before (seen g.F.Reads g.F.Files.writing_faults g.F.Files.names g.P.Report c.args.files.now c.args.report.now)
     (seen g.F.Reads g.F.Files.writing_faults g.F.Files.names g.P.Report c.open_file.new.self c.args.report.now)
-    (info_verdict world c.args.name.now) refl c.open_file.ensures.names
+    (info_verdict c.args.form world c.args.name.now) refl c.open_file.ensures.names
 
 -- the file was there
 pub returns-clause-verdict : goal.returns-clause-verdict
@@ -25,8 +25,8 @@ returns-clause-verdict g c = λ world told.
     let name = c.args.name.now in
     let opened = c.open_file.ensures.names in
     reaches-settled (seen g.F.Reads g.F.Files.writing_faults g.F.Files.names g.P.Report c.args.files.now c.args.report.now)
-    (seen g.F.Reads g.F.Files.writing_faults g.F.Files.names g.P.Report c.close.new.self c.list_settled-ended.new.report)
-    c.list_settled-ended.result name (is_pending world name) (world name)
+    (seen g.F.Reads g.F.Files.writing_faults g.F.Files.names g.P.Report c.close.new.self c.tell_settled-ended.new.report)
+    c.tell_settled-ended.result c.args.form name (is_pending world name) (world name)
     (λ none. let refused = (c.in-Ok.ensures.missing world told).1 none in absurd (cc))
-    (λ bytes is. c.list_settled-ended.ensures.verdict world (opened ∙ told) bytes (c.in-Ok.ensures.content world told ∙ is))
-    (c.close.ensures.names ∙ c.list_settled-ended.ensures.looks.names ∙ opened)
+    (λ bytes is. c.tell_settled-ended.ensures.verdict world (opened ∙ told) bytes (c.in-Ok.ensures.content world told ∙ is))
+    (c.close.ensures.names ∙ c.tell_settled-ended.ensures.looks.names ∙ opened)

@@ -1,7 +1,7 @@
 use Rattle.std.proofs.Common.{Err, Ok, refl, ◌∙◌, ap}
 use Rattle.std.proofs.lemmas.Result.{err_from_is_err_and}
 use Rattle.mkv_lines.specs.declared.status.Status.TheVariants.{Refused}
-use Rattle.mkv_info.proofs.InfoLemmas.{reaches-part, reaches-second, reaches-refused, reaches-warned}
+use Rattle.mkv_info.proofs.ListedLemmas.{reaches-part, reaches-second, reaches-refused, reaches-warned}
 use Rattle.mkv_info.proofs.list.list_outline.Goals as goal
 
 -- the Elements couldn't be said

@@ -1,8 +1,8 @@
 use Rattle.std.proofs.Common.{◌∙◌}
 use Rattle.std.proofs.lemmas.Result.{err_from_is_err_and}
-use Rattle.mkv_identify.specs.Read.{read_in}
-use Rattle.mkv_identify.proofs.IdentifyLemmas.{says-all, says-part}
-use Rattle.mkv_identify.proofs.telling.tell.Goals as goal
+use Rattle.mkv_info.specs.Read.{read_in}
+use Rattle.mkv_info.proofs.IdentifiedLemmas.{says-all, says-part}
+use Rattle.mkv_info.proofs.identified.tell.Goals as goal
 
 -- the line couldn't be said
 pub returns-in_err-say_text-clause-verdict : goal.returns-in_err-say_text-clause-verdict

@@ -10,7 +10,7 @@ use Rattle.attachment_reading.specs.Walk.{IsAttachedIn}
 use Rattle.file_records.specs.Records.{AreGood, FileRecords, file_records}
 use Rattle.file_records.specs.declared.records.Records.{Records}
 use Rattle.identification.specs.Sound.{CanBeTold, IsAttached}
-use Rattle.mkv_identify.specs.Read.{Described, read_of}
+use Rattle.mkv_info.specs.Read.{Described, read_of}
 
 -- ---- the records that were read can be told
 

@@ -1,18 +1,16 @@
--- What is said of a file, one line after the other.
-use Rattle.std.proofs.Common.{◌≡◌, ◌≢◌, ℕ, Bool, true, false, List, [], ◌∷◌, Option, Some, None, Result, Ok, Err, IfOk, refl}
+-- A line of JSON, and then the warning.
+use Rattle.std.proofs.Common.{◌≡◌, ℕ, List, [], ◌∷◌, Result, Ok, Err, IfOk, refl}
 use Rattle.mkv_io.specs.Lines.{with_lines}
 use Rattle.mkv_values.specs.declared.damage.Damage.{Damage}
 use Rattle.identification.specs.Identification.{identification_line}
 use Rattle.mkv_lines.specs.Said.{ReportLines, Says, SaysPart}
-use Rattle.mkv_lines.specs.Seen.{Seen}
-use Rattle.mkv_lines.specs.Verdict.{Reaches, SaysVerdict, nothing, unless_pending}
+use Rattle.mkv_lines.specs.Verdict.{SaysVerdict, nothing}
 use Rattle.mkv_lines.specs.declared.status.Status.{Status}
 use Rattle.mkv_lines.specs.declared.status.Stop.{Stop}
 use Rattle.mkv_lines.proofs.SaidLemmas.{SaysPart-before, SaysPart-none, Says-then}
-use Rattle.mkv_lines.proofs.VerdictLemmas.{Reaches-lines}
-use Rattle.mkv_info.specs.Info.{status_with, warnings}
-use Rattle.mkv_identify.specs.Identify.{content_verdict, identified, name_verdict}
-use Rattle.mkv_identify.specs.Read.{Described, read_of}
+use Rattle.mkv_info.specs.Listed.{status_with, warnings}
+use Rattle.mkv_info.specs.Identified.{identified}
+use Rattle.mkv_info.specs.Read.{Described}
 
 -- nothing was said yet
 pub says-none : (old : ReportLines) (name : List ℕ) (read : Result Described Damage) (why : Stop) → SaysVerdict old old (Err why) (identified name read)
@@ -30,19 +28,7 @@ says-all old mid new name line file r is said says status = step r (Says-then ol
     step (Ok s) all is_status = (is_status, all)
     step (Err why) all is_status = all
 
--- ---- a file and its sidecar
-
 -- nothing is written
-tells-nothing : (name : List ℕ) (read : Result Described Damage) → (identified name read).outputs ≡ nothing
-tells-nothing name (Ok file) = refl
-tells-nothing name (Err d) = refl
-
-settled-nothing : (name bytes : List ℕ) (pending : Bool) → (unless_pending name pending (content_verdict name bytes)).outputs ≡ nothing
-settled-nothing name bytes true = refl
-settled-nothing name bytes false = tells-nothing name (read_of bytes)
-
--- what was said of a content is the verdict on its name
-pub reaches-settled : (old new : Seen) (r : Result Status Stop) (name : List ℕ) (pending : Bool) (content : Option (List ℕ)) → content ≢ None → ((bytes : List ℕ) → content ≡ Some bytes → SaysVerdict old.lines new.lines r (unless_pending name pending (content_verdict name bytes))) → new.names ≡ old.names → Reaches old new r (name_verdict name pending content)
-reaches-settled old new r name pending None there says names = absurd (there refl)
-reaches-settled old new r name pending (Some bytes) there says names =
-    Reaches-lines old new r (unless_pending name pending (content_verdict name bytes)) (says bytes refl) (settled-nothing name bytes pending) names
+pub identified-nothing : (name : List ℕ) (read : Result Described Damage) → (identified name read).outputs ≡ nothing
+identified-nothing name (Ok file) = refl
+identified-nothing name (Err d) = refl

@@ -1,4 +1,4 @@
-//! What is told of a file.
+//! A file as one line of JSON.
 
 ghost use Rattle.std.specs.Prelude.{◌≡◌, Ok, IfOk};
 ghost use Rattle.mkv_io.specs.Sources.{IfTold, IsLive};
@@ -7,20 +7,20 @@ ghost use Rattle.mkv_lines.specs.Faults.{HasReadStop};
 ghost use Rattle.mkv_lines.specs.Ordinary.{IsOrdinary};
 ghost use Rattle.mkv_lines.specs.Said.{HasSayCause};
 ghost use Rattle.mkv_lines.specs.Verdict.{SaysVerdict};
-ghost use Rattle.mkv_identify.specs.Identify.{content_verdict, identified};
-ghost use Rattle.mkv_identify.specs.Read.{read_in};
+ghost use Rattle.mkv_info.specs.Identified.{identified, identified_verdict};
+ghost use Rattle.mkv_info.specs.Read.{read_in};
 
+use crate::list::warn;
 use crate::reading::{FileRead, read_file};
 use element_reader::OutlineEnd;
 use identification::identify;
-use mkv_info::warn;
 use mkv_io::{Reads, Report};
 use mkv_lines::{Line, Status, Stop, say, say_text};
 use mkv_values::FileId;
 use std::alloc::Global;
 
 /// Tells what a live file is, and warns of the damage that ends its outline; or says what refuses it.
-pub fn tell_file<R: Reads, P: Report>(
+pub fn identify_file<R: Reads, P: Report>(
     alloc: Global,
     name: &str,
     src: &mut R,
@@ -29,7 +29,7 @@ pub fn tell_file<R: Reads, P: Report>(
 ) -> Result<Status, Stop>
     requires { IsLive R.Reads src.old file }
     ensures verdict { IfTold R.Reads src.old file (λ bytes. SaysVerdict (P.lines report.old) (P.lines report.new)
-        result (content_verdict name.now bytes)) }
+        result (identified_verdict name.now bytes)) }
     ensures ordinary { IfOk result IsOrdinary }
     ensures standing { R.standing src.new ≡ R.standing src.old }
     ensures cause { HasReadStop (R.reading_faults src.old) (R.reading_faults src.new)

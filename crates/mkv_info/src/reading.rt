@@ -5,7 +5,7 @@ ghost use Rattle.mkv_io.specs.Faults.{HasCause};
 ghost use Rattle.mkv_io.specs.Sources.{IfTold, IsLive};
 ghost use Rattle.element_reader.specs.Outline.{is_outline_fault};
 ghost use Rattle.identification.specs.Sound.{CanBeTold};
-ghost use Rattle.mkv_identify.specs.Read.{ReadsFile, read_of};
+ghost use Rattle.mkv_info.specs.Read.{ReadsFile, read_of};
 
 use element_reader::{Outline, OutlineEnd};
 use file_records::{Records, read_records};

@@ -5,7 +5,7 @@ use Rattle.matroska_format.specs.Outline.{Outlined, and_then, outline_of}
 use Rattle.element_reader.specs.declared.outline_end.OutlineEnd.{OutlineEnd}
 use Rattle.element_reader.specs.declared.outline_end.OutlineEnd.TheVariants as outline_end
 use Rattle.file_records.specs.Records.{FileRecords, described_by, file_records}
-use Rattle.mkv_identify.specs.declared.reading.FileRead.{FileRead}
+use Rattle.mkv_info.specs.declared.reading.FileRead.{FileRead}
 
 -- what describes a file, and what is damaged at level 1
 pub record Described : Type 0 where

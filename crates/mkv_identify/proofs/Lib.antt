@@ -1,2 +1,0 @@
-pub mod IdentifyLemmas
-pub mod ReadLemmas

@@ -1,2 +1,0 @@
-pub mod Identify
-pub mod Read

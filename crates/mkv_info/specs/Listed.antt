@@ -1,0 +1,50 @@
+-- What `info` tells of a file: a line for each Element and each track.
+use Rattle.std.specs.Prelude.{ℕ, ◌++◌, List, [], ◌∷◌, map, Option, Some, None, Result, Ok, Err}
+use Rattle.mkv_values.specs.declared.damage.Damage.{Damage}
+use Rattle.matroska_format.specs.Outline.{Outlined, outline_of, segment_run}
+use Rattle.element_reader.specs.Outline.{FileOutline}
+use Rattle.track_records.specs.declared.track.Track.{Track}
+use Rattle.mkv_lines.specs.Line.{level_0_line, level_1_line, refusal_line, warning_line}
+use Rattle.mkv_lines.specs.Verdict.{Verdict, nothing, refused}
+use Rattle.mkv_lines.specs.declared.status.Status.{Status}
+use Rattle.mkv_lines.specs.declared.status.Status.TheVariants.{Done, Warned}
+use Rattle.mkv_info.specs.Tracks.{file_tracks, track_lines}
+
+-- a line for the EBML header, for the Segment, and for each Element of level 1
+abbrev pub element_lines : Outlined → List (List ℕ)
+element_lines o = level_0_line o.ebml ∷ level_0_line o.segment ∷ map level_1_line o.list
+
+-- the same lines, of an outline that was read and the Elements that its Segment has
+abbrev pub shown_lines : List ℕ → FileOutline → List (List ℕ)
+shown_lines bytes o = level_0_line o.ebml ∷ level_0_line o.segment ∷ map level_1_line (segment_run bytes o.segment).list
+
+-- a file that is damaged at level 1 is listed up to there, with a warning behind the list
+abbrev pub warnings : List ℕ → Option Damage → List (List ℕ)
+warnings name None = []
+warnings name (Some d) = warning_line name d ∷ []
+
+abbrev pub status_with : Option Damage → Status
+status_with None = Done
+status_with (Some d) = Warned
+
+-- the Elements, then the tracks, then the warning
+abbrev pub listed : List ℕ → Outlined → List Track → Verdict
+listed name o tracks = record {
+  status = status_with o.damage;
+  lines = element_lines o ++ (track_lines 0 tracks ++ warnings name o.damage);
+  outputs = nothing;
+}
+
+-- a file whose tracks are refused isn't listed
+abbrev pub with_tracks : List ℕ → Outlined → Result (List Track) Damage → Verdict
+with_tracks name o (Ok tracks) = listed name o tracks
+with_tracks name o (Err d) = refused (refusal_line name d)
+
+-- nor is one whose outline is
+abbrev pub listed_or_refused : List ℕ → List ℕ → Result Outlined Damage → Verdict
+listed_or_refused name bytes (Ok o) = with_tracks name o (file_tracks bytes o)
+listed_or_refused name bytes (Err d) = refused (refusal_line name d)
+
+-- what is told of a content that bears a name, line by line
+abbrev pub listed_verdict : List ℕ → List ℕ → Verdict
+listed_verdict name bytes = listed_or_refused name bytes (outline_of 0 bytes)
