@@ -1,10 +1,14 @@
 -- What is read of a file to identify it.
-use Rattle.std.proofs.Common.{◌≡◌, ℕ, List, All, Result, Ok, Err, sym, ◌∙◌, ap}
+use Rattle.std.proofs.Common.{◌≡◌, ℕ, List, All, Option, Some, None, IfSome, Result, Ok, Err, sym, ◌∙◌, ap}
+use Rattle.mkv_schema.specs.declared.ids.TheConstants.{TAGS}
 use Rattle.mkv_values.specs.declared.damage.Damage.{Damage}
 use Rattle.mkv_values.specs.declared.outside.FileId.{FileId}
 use Rattle.matroska_format.specs.Outline.{Outlined, and_then}
 use Rattle.element_reader.specs.Outline.{FileOutline, outline_in}
 use Rattle.element_reader.proofs.OutlineLemmas.{Outlines-shown, outline_of-refused}
+use Rattle.tree_format.specs.Node.{Node}
+use Rattle.tree_format.specs.Standing.{IsSoundOf}
+use Rattle.tree_building.specs.Building.{IsRead}
 use Rattle.attachment_records.specs.declared.attachment.Attachment.{Attachment}
 use Rattle.attachment_reading.specs.Walk.{IsAttachedIn}
 use Rattle.file_records.specs.Records.{AreGood, FileRecords, file_records}
@@ -17,12 +21,16 @@ use Rattle.mkv_info.specs.Read.{Described, read_of}
 each_attached : (file : FileId) (total : ℕ) (list : List Attachment) → All (IsAttachedIn file total) list → All IsAttached list
 each_attached file total list are = λ k d below. let is = are k d below in record { id = is.entry.is.id; sound = is.entry.is.sound }
 
+sound_of : (own : ℕ) (tree : Option Node) → IfSome tree (IsRead own) → IfSome tree (IsSoundOf own)
+sound_of own None read = read
+sound_of own (Some n) read = record { id = read.id; sound = read.sound }
+
 pub CanBeTold-read : (file : FileId) (total : ℕ) (r : Records) → AreGood file total r → CanBeTold r
 CanBeTold-read file total r good = record {
   info = good.info;
   tracks = good.tracks.sound;
   attachments = each_attached file total r.attachments good.attachments;
-  tags = good.tags;
+  tags = sound_of TAGS r.tags good.tags;
 }
 
 pub ruleset told = (CanBeTold-read)
