@@ -1,6 +1,6 @@
 -- A merge that was prepared can be written, and comes to its verdict.
 use Rattle.std.proofs.Common.{◌≡◌, ◌≢◌, ℕ, zero, suc, ◌+◌, ◌*◌, ◌<◌, ◌≤◌, nat_le, Bool, true, false, ◌||◌, List, [], ◌∷◌, ◌++◌, length, map, get_or, Option, Some, None, Result, Ok, Err, IfOk, IfSome, refl, sym, ◌∙◌, ap, subst, arith}
-use Rattle.std.specs.List.{All, AllByRecursion, flat_map, sum_by, zip}
+use Rattle.std.specs.List.{All, AllByRecursion, flat_map, zip}
 use Rattle.std.specs.Option.{unwrap_or}
 use Rattle.std.proofs.Math.ListN.{get_or-map}
 use Rattle.std.proofs.lemmas.List.{length-map}
@@ -21,6 +21,7 @@ use Rattle.mkv_outputs.proofs.DraftsLemmas.{StandsInTurn-whole}
 use Rattle.mkv_schema.specs.declared.ids.TheConstants.{CHAPTERS, TAGS}
 use Rattle.tree_format.specs.Node.{Node, id_of}
 use Rattle.segment_octets.specs.Front.{front_with}
+use Rattle.attachment_records.specs.Attached.{attached_file, data_of}
 use Rattle.attachment_records.specs.declared.attachment.Attachment.{Attachment}
 use Rattle.merged_records.specs.Inputs.{IsAttached}
 use Rattle.output_model.specs.Sound.{IsRecord}
@@ -57,8 +58,8 @@ use Rattle.merge_inputs.specs.Input.{InputRead, IsInput, read_in}
 use Rattle.merge_inputs.specs.declared.input.Input.{Input}
 use Rattle.merge_inputs.specs.declared.taken.TakenTrack.{TakenTrack}
 use Rattle.merge_plan.specs.Plan.{Source, inputs_given, lanes_given, limits_of, rules_given}
-use Rattle.merge_plan.specs.Planned.{AllLinks, IsFileOf, IsPlanOf, IsToldInput, source_in}
-use Rattle.merge_plan.specs.Front.{attached_length, front_of, reads_of}
+use Rattle.merge_plan.specs.Planned.{AllLinks, CanBeWritten, IsFileOf, IsPlanOf, IsToldInput, source_in}
+use Rattle.merge_plan.specs.Front.{attached_length, attachments_of, front_of, reads_of}
 use Rattle.merge_plan.specs.Records.{chapters_of, tags_of}
 use Rattle.merge_plan.proofs.FileLemmas.{reads-in}
 use Rattle.mkv_lines.specs.Line.{wrote_blocks_line}
@@ -73,8 +74,10 @@ use Rattle.mkv_merge.specs.Bound.{files_size}
 use Rattle.mkv_merge.specs.Merge.{blocks_of, document_in, has_absent, has_damage, lines_before, lines_behind, merged_verdict, status_of}
 use Rattle.mkv_merge.specs.Prepared.{AreInputsOf, AreTold, IsPrepared, reads_in}
 use Rattle.mkv_merge.specs.Read.{writes_input}
+use Rattle.mkv_merge.specs.Records.{EndsWithRecords, HaveRecords, IsFilled}
 use Rattle.mkv_merge.specs.Told.{is_warned, warnings_from}
 use Rattle.mkv_merge.specs.declared.preparing.Prepared.{Prepared}
+use Rattle.mkv_merge.specs.declared.refusal.Refusal.{Refusal}
 use Rattle.mkv_merge.proofs.NamesLemmas.{others-held}
 use Rattle.mkv_merge.proofs.SummaryLemmas.{AreLanesFor, Tells, damages-are, past-damages, some-told, warnings-told}
 
@@ -104,7 +107,7 @@ numbers-small n (i ∷ is) few =
     one n small (suc k) d below = absurd (omega arith)
 
 -- a record has its ID, where it is there
-record-id : (own : ℕ) (n : Option Node) → IfSome n (IsRecord own) → IfSome n (λ (m : Node). id_of m ≡ own)
+pub record-id : (own : ℕ) (n : Option Node) → IfSome n (IsRecord own) → IfSome n (λ (m : Node). id_of m ≡ own)
 record-id own None is = tt
 record-id own (Some m) is = is.id
 
@@ -237,6 +240,42 @@ document-is f words inputs p sources is =
     ∙ ap (λ (n : Option Node). document_of (limits_of words) (rules_given (reads_of sources)) (front_of words sources) n p.tags blocks) (is.plan.chapters ∙ ap chapters_of (sym reads))
     ∙ ap (λ (n : Option Node). document_of (limits_of words) (rules_given (reads_of sources)) (front_of words sources) (chapters_of (reads_of sources)) n blocks) (is.plan.tags ∙ ap tags_of (sym reads))
     ∙ ap (λ (bs : List OutputBlock). document_of (limits_of words) (rules_given (reads_of sources)) (front_of words sources) (chapters_of (reads_of sources)) (tags_of (reads_of sources)) bs) (blocks-are f words inputs p sources is)
+
+-- ---- its records are those of the sources
+
+-- each attached file has its data
+files-filled : (f : LiveFiles) (list : List Attachment) → All IsAttached list → All IsFilled (map (attached_file f) list)
+files-filled f list each =
+    All-map IsFilled (attached_file f) list
+    (λ k d below. record { entry = (get_or list k d).entry; octets = data_of f (get_or list k d); is = refl; attachment = each k d below })
+
+-- so they can be written and read again
+pub records-are : (f : LiveFiles) (words : MergeWords) (inputs : List Input) (p : MergePlan) (sources : List Source) → IsMergeOf f words inputs p sources → CanBeWritten inputs p → HaveRecords sources
+records-are f words inputs p sources is written =
+    let reads = reads-are f words inputs p sources is in
+    record {
+      attachments =
+          subst (All IsFilled) (ap (λ (front : Front). front.attachments) (is.plan.front f is.told) ∙ ap attachments_of is.from)
+          (files-filled f p.front.attachments written.attachments);
+      chapters = subst (λ (o : Option Node). IfSome o (IsRecord CHAPTERS)) (is.plan.chapters ∙ ap chapters_of (sym reads)) written.chapters;
+      tags = subst (λ (o : Option Node). IfSome o (IsRecord TAGS)) (is.plan.tags ∙ ap tags_of (sym reads)) written.tags;
+    }
+
+-- where sources were found
+pub records-found : (found : Result (List Source) Refusal) (sources : List Source) (r : Result Status Stop) → found ≡ Ok sources → HaveRecords sources → EndsWithRecords found r
+records-found found sources r is have = subst (λ (o : Result (List Source) Refusal). EndsWithRecords o r) (sym is) (of r)
+  where
+    of : (r : Result Status Stop) → EndsWithRecords (Ok sources) r
+    of (Ok s) = have
+    of (Err why) = tt
+
+-- where a merge is refused there are none
+pub records-none : (found : Result (List Source) Refusal) (why : Refusal) (r : Result Status Stop) → found ≡ Err why → EndsWithRecords found r
+records-none found why r is = subst (λ (o : Result (List Source) Refusal). EndsWithRecords o r) (sym is) (of r)
+  where
+    of : (r : Result Status Stop) → EndsWithRecords (Err why) r
+    of (Ok s) = tt
+    of (Err stop) = tt
 
 -- ---- how much is read
 

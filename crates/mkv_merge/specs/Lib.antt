@@ -4,5 +4,6 @@ pub mod Prepared
 pub mod Read
 pub mod Refused
 pub mod Ends
+pub mod Records
 pub mod Takes
 pub mod Told

@@ -11,9 +11,10 @@ ghost use Rattle.mkv_lines.specs.Ordinary.{IsOrdinary};
 ghost use Rattle.mkv_lines.specs.Seen.{seen};
 ghost use Rattle.mkv_lines.specs.Verdict.{Reaches};
 ghost use Rattle.mkv_merge.specs.Bound.{files_size, most_looked, most_of, most_read};
-ghost use Rattle.mkv_merge.specs.Merge.{merge_verdict, sources_settled, sources_with, verdict_of};
+ghost use Rattle.mkv_merge.specs.Merge.{merge_verdict, sources_of, sources_settled, sources_with, verdict_of};
 ghost use Rattle.mkv_merge.specs.Prepared.{AreTold};
 ghost use Rattle.mkv_merge.specs.Read.{writes_input};
+ghost use Rattle.mkv_merge.specs.Records.{EndsWithRecords};
 
 use crate::names::writes_input;
 use crate::pending::pending_of;
@@ -48,6 +49,8 @@ fn merge_opened<F: Files, P: Report>(
     ensures cause { HasStopCause
         (seen F.Reads F.writing_faults F.names P.Report files.old report.old).counts
         (seen F.Reads F.writing_faults F.names P.Report files.new report.new).counts result }
+    ensures records { (contents : List (List ℕ)) → AreTold (live_files F.Reads files.old) ids.now contents
+        → EndsWithRecords (sources_with words.now contents) result }
     ensures octets { (contents : List (List ℕ)) → AreTold (live_files F.Reads files.old) ids.now contents → F.octets_read files.new
         ≤ F.octets_read files.old + most_of (sources_with words.now contents) (files_size (live_files F.Reads files.old) ids.now) }
 {
@@ -78,6 +81,8 @@ fn merge_settled<F: Files, P: Report>(
     ensures cause { HasStopCause
         (seen F.Reads F.writing_faults F.names P.Report files.old report.old).counts
         (seen F.Reads F.writing_faults F.names P.Report files.new report.new).counts result }
+    ensures records { Told (F.names files.old) (λ world. (contents : List (List ℕ)) → AreTold (live_files F.Reads files.old) ids.now contents
+        → EndsWithRecords (sources_settled world words.now contents) result) }
     ensures octets { Told (F.names files.old) (λ world. (contents : List (List ℕ)) → AreTold (live_files F.Reads files.old) ids.now contents
         → F.octets_read files.new ≤ F.octets_read files.old
         + (most_of (sources_settled world words.now contents) (files_size (live_files F.Reads files.old) ids.now) + most_looked words.now)) }
@@ -106,6 +111,9 @@ pub fn merge_of<F: Files, P: Report>(
     ensures cause { HasStopCause
         (seen F.Reads F.writing_faults F.names P.Report files.old report.old).counts
         (seen F.Reads F.writing_faults F.names P.Report files.new report.new).counts result }
+
+    // What the inputs of a merge that ended give besides tracks and blocks can be read again.
+    ensures records { Told (F.names files.old) (λ world. EndsWithRecords (sources_of world words.now) result) }
     ensures octets { Told (F.names files.old) (λ world. F.octets_read files.new ≤ F.octets_read files.old + most_read world words.now) }
 {
     if writes_input(words) {

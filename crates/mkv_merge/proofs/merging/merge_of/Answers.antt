@@ -1,7 +1,8 @@
-use Rattle.std.proofs.Common.{◌≡◌, false, [], map, refl, sym, ◌∙◌, ap, subst}
+use Rattle.std.proofs.Common.{◌≡◌, false, List, [], map, Result, refl, sym, ◌∙◌, ap, subst}
 use Rattle.std.specs.Prelude.{unwrap_or}
 use Rattle.mkv_io.specs.Sources.{live_files}
 use Rattle.input_files.specs.Inputs.{file_names}
+use Rattle.merge_plan.specs.Plan.{Source}
 use Rattle.mkv_lines.specs.Seen.{Seen, seen}
 use Rattle.mkv_lines.specs.Verdict.{Reaches, Verdict}
 use Rattle.mkv_lines.proofs.VerdictLemmas.{IsStopped-before}
@@ -9,6 +10,8 @@ use Rattle.mkv_merge.specs.Bound.{files_size}
 use Rattle.mkv_merge.specs.Merge.{merge_verdict, sources_of, sources_settled, verdict_of}
 use Rattle.mkv_merge.specs.Prepared.{AreTold}
 use Rattle.mkv_merge.specs.Read.{writes_input}
+use Rattle.mkv_merge.specs.Records.{EndsWithRecords}
+use Rattle.mkv_merge.specs.declared.refusal.Refusal.{Refusal}
 use Rattle.mkv_merge.proofs.MergingLemmas.{opened-sources, opened-told, reads-few, size-told}
 use Rattle.mkv_merge.proofs.merging.merge_of.Goals as goal
 
@@ -78,3 +81,19 @@ returns-clause-octets g c = λ world told.
     reads-few world words (sources_settled world words contents) (g.F.Reads.octets_read c.args.files.now) (g.F.Reads.octets_read opened) (g.F.Reads.octets_read c.merge_settled-ended.new.files) (g.F.Reads.octets_read c.close_all.new.files) (files_size f ids)
     (opened-sources world words c.as_slice.result.now apart c.as_slice.ensures there) (size-told f (g.met.F.Reads.told_size (g.F.Reads.standing opened)) world words.files ids contents-told)
     c.in-Ok.ensures.same.octets (c.merge_settled-ended.ensures.octets world (c.in-Ok.ensures.same.names ∙ told) contents contents-told) c.close_all.ensures.octets
+
+-- ---- the records
+
+pub returns-clause-records : goal.returns-clause-records
+returns-clause-records g c = λ world told.
+    let words = c.args.words.now in
+    let f = live_files g.F.Reads c.open_all.new.files in
+    let ids = c.as_slice-2.result.now in
+    let contents = map (λ name. unwrap_or (world name) []) (file_names words.files) in
+    let apart : writes_input words ≡ false = sym c.writes_input.ensures ∙ c.if-writes_input.false in
+    let there = c.in-Ok.ensures.missing world told in
+    let contents-told : AreTold f ids contents =
+    opened-told f world words c.as_slice.result.now c.in-Ok.ids ids c.as_slice.ensures c.as_slice-2.ensures there (c.in-Ok.ensures.contents world told) in
+    subst (λ (found : Result (List Source) Refusal). EndsWithRecords found c.merge_settled-ended.result)
+    (sym (opened-sources world words c.as_slice.result.now apart c.as_slice.ensures there))
+    (c.merge_settled-ended.ensures.records world (c.in-Ok.ensures.same.names ∙ told) contents contents-told)

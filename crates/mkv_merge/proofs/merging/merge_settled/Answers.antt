@@ -1,6 +1,7 @@
-use Rattle.std.proofs.Common.{◌≡◌, ℕ, List, [], ◌∷◌, Option, Some, None, refl, sym, ◌∙◌, ap, subst}
+use Rattle.std.proofs.Common.{◌≡◌, List, [], ◌∷◌, Option, Some, None, Result, refl, sym, ◌∙◌, ap, subst}
 use Rattle.mkv_io.specs.Sources.{live_files}
 use Rattle.mkv_io.proofs.WritingLemmas.{KeepsOthers-more, KeepsOthers-then}
+use Rattle.merge_plan.specs.Plan.{Source}
 use Rattle.input_files.specs.Inputs.{file_names}
 use Rattle.input_files.proofs.InputsLemmas.{stand-over}
 use Rattle.mkv_lines.specs.Seen.{Seen, seen}
@@ -10,9 +11,11 @@ use Rattle.mkv_merge.specs.Bound.{files_size, most_looked}
 use Rattle.mkv_merge.specs.Merge.{sources_settled, sources_with, verdict_of}
 use Rattle.mkv_merge.specs.Prepared.{AreTold}
 use Rattle.mkv_merge.specs.Read.{pending_of}
+use Rattle.mkv_merge.specs.Records.{EndsWithRecords}
 use Rattle.mkv_merge.specs.Refused.{and_then, line_of, unless}
 use Rattle.mkv_merge.specs.declared.refusal.Refusal.{Refusal}
 use Rattle.mkv_merge.proofs.MergingLemmas.{contents-kept, reads-settled, sizes-kept}
+use Rattle.mkv_merge.proofs.WritingLemmas.{records-none}
 use Rattle.mkv_merge.proofs.merging.merge_settled.Goals as goal
 
 -- the inputs stand while sidecars are looked into
@@ -96,3 +99,25 @@ returns-in-Ok-None-clause-octets g c = λ world told contents held.
     contents-kept old.live old.content mid.content ids (λ file live. (kept.others file tt).content live) c.requires.inputs.live ∙ held in
     reads-settled world words contents (g.F.Reads.octets_read c.args.files.now) (g.F.Reads.octets_read c.pending_of.new.files) (g.F.Reads.octets_read c.merge_opened.new.files) (files_size old ids) (files_size mid ids) (most_looked words)
     none (sizes-kept old mid ids (λ file. kept.others file tt) c.requires.inputs.live) c.pending_of.ensures.octets (c.merge_opened.ensures.octets contents mid-told)
+
+-- ---- the records
+
+pub returns-in-Ok-None-clause-records : goal.returns-in-Ok-None-clause-records
+returns-in-Ok-None-clause-records g c = λ world told contents held.
+    let words = c.args.words.now in
+    let kept = c.pending_of.ensures.looks.kept in
+    let old = live_files g.F.Reads c.args.files.now in
+    let mid = live_files g.F.Reads c.pending_of.new.files in
+    let none : pending_of world words ≡ None = sym (c.in-Ok-None.ensures.exact world told) ∙ c.in-Ok-None.field-0-is in
+    let settled : sources_settled world words contents ≡ sources_with words contents =
+    ap (λ (why : Option Refusal). and_then (unless why contents) (sources_with words)) none in
+    let mid-told : AreTold mid c.args.ids.now contents =
+    contents-kept old.live old.content mid.content c.args.ids.now (λ file live. (kept.others file tt).content live) c.requires.inputs.live ∙ held in
+    subst (λ (found : Result (List Source) Refusal). EndsWithRecords found c.merge_opened.result) (sym settled) (c.merge_opened.ensures.records contents mid-told)
+
+pub returns-in-Ok-Some-clause-records : goal.returns-in-Ok-Some-clause-records
+returns-in-Ok-Some-clause-records g c = λ world told contents held.
+    let words = c.args.words.now in
+    let why = c.in-Ok-Some.why in
+    let some : pending_of world words ≡ Some why = sym (c.in-Ok-Some.ensures.exact world told) ∙ c.in-Ok-Some.field-0-is in
+    records-none (sources_settled world words contents) why c.refuse.result (ap (λ (found : Option Refusal). and_then (unless found contents) (sources_with words)) some)

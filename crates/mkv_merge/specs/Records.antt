@@ -1,0 +1,30 @@
+-- What the sources of a merge give besides their tracks and blocks, as far as it can be written: RFC 9559, sections 5.1.6 (Attachments Element), 5.1.7 (Chapters Element) and 5.1.8 (Tags Element).
+use Rattle.std.specs.Prelude.{◌≡◌, ℕ, List, IfSome, IfOk, Result}
+use Rattle.std.specs.List.{All}
+use Rattle.mkv_schema.specs.declared.ids.TheConstants.{CHAPTERS, TAGS}
+use Rattle.tree_format.specs.Node.{Node}
+use Rattle.attachment_records.specs.Attached.{with_data}
+use Rattle.output_model.specs.Sound.{IsAttachment, IsRecord}
+use Rattle.merge_plan.specs.Front.{attachments_of, reads_of}
+use Rattle.merge_plan.specs.Plan.{Source}
+use Rattle.merge_plan.specs.Records.{chapters_of, tags_of}
+use Rattle.mkv_lines.specs.declared.status.Status.{Status}
+use Rattle.mkv_lines.specs.declared.status.Stop.{Stop}
+use Rattle.mkv_merge.specs.declared.refusal.Refusal.{Refusal}
+
+-- An AttachedFile that was read, with these octets as its data.
+pub record IsFilled (n : Node) : Type 0 where
+  pub entry : Node
+  pub octets : List ℕ
+  pub is : n ≡ with_data octets entry
+  pub attachment : IsAttachment entry
+
+-- The attached files of sources, and Chapters and Tags where there are any, can be written and read again.
+pub record HaveRecords (sources : List Source) : Type 0 where
+  pub attachments : All IsFilled (attachments_of sources)
+  pub chapters : IfSome (chapters_of (reads_of sources)) (IsRecord CHAPTERS)
+  pub tags : IfSome (tags_of (reads_of sources)) (IsRecord TAGS)
+
+-- So can those of a merge that ended by itself, and that nothing refused.
+abbrev pub EndsWithRecords : Result (List Source) Refusal → Result Status Stop → Type 0
+EndsWithRecords found result = IfOk result (λ _. IfOk found HaveRecords)
