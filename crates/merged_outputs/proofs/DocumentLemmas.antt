@@ -1,18 +1,26 @@
 -- The document of a merge is sound.
-use Rattle.std.proofs.Common.{◌≡◌, ◌<◌, ◌≤◌, ℕ, ◌^◌, List, [], ◌∷◌, ◌++◌, length, length-append, map, Option, Some, None, IfSome, refl, sym, subst, ◌∙◌, arith, unwrap_or}
+use Rattle.std.proofs.Common.{◌≡◌, ◌<◌, ◌≤◌, ℕ, ◌^◌, List, [], ◌∷◌, ◌++◌, length, length-append, map, Option, Some, None, IfSome, refl, sym, ap, subst, ◌∙◌, arith, unwrap_or}
 use Rattle.std.specs.List.{All}
 use Rattle.std.specs.Str.{IsUtf8}
-use Rattle.std.proofs.lemmas.List.Elements.{All-nil, All-head, All-tail, All-append}
+use Rattle.std.proofs.lemmas.List.Elements.{All-nil, All-cons, All-head, All-tail, All-append}
+use Rattle.std.proofs.lemmas.List.Concat.{flat_map-append}
 use Rattle.std.proofs.lemmas.Str.{IsUtf8-nil}
 use lib.Utf8.{encode}
 use Rattle.ebml_format.specs.Number.{id_octets}
-use Rattle.mkv_schema.specs.declared.ids.TheConstants.{INFO, TIMESTAMP_SCALE, TITLE, MUXING_APP, WRITING_APP, SEGMENT}
+use Rattle.mkv_schema.specs.declared.ids.TheConstants.{ATTACHMENTS, INFO, TIMESTAMP_SCALE, TITLE, MUXING_APP, WRITING_APP, SEGMENT, ATTACHED_FILE, FILE_DATA}
 use Rattle.mkv_values.specs.declared.outside.TheConstants.{LONGEST_FILE}
-use Rattle.tree_format.specs.Node.{leaf, nodes_of, depth_all}
+use Rattle.tree_format.specs.Node.{Node, leaf, master, nodes_of, list_of, depth_all}
+use Rattle.tree_format.specs.Changes.{part, with_child}
 use Rattle.tree_format.specs.NormalForm.{content, longest}
-use Rattle.tree_format.specs.Standing.{AllStandIn}
+use Rattle.tree_format.specs.Standing.{AllStandIn, StandsIn}
+use Rattle.tree_format.proofs.ChangeLemmas.{deep-with_child}
+use Rattle.tree_format.proofs.NodeLemmas.{list-nodes, nodes-list}
+use Rattle.tree_format.proofs.PartLemmas.{part-set}
+use Rattle.tree_format.proofs.StandingLemmas.{sound-set}
+use Rattle.attachment_records.specs.Attached.{with_data}
+use Rattle.attachment_reading.proofs.TableFacts.{file_data-valid, file_data-value, no_master-in}
 use Rattle.meta_format.specs.Info.{scale_of}
-use Rattle.element_octets.specs.Element.{Element, header_of, octets_of, joined}
+use Rattle.element_octets.specs.Element.{Element, header_of, octets_of, joined, master_element}
 use Rattle.output_model.specs.declared.TheConstants.{MOST_LANES}
 use Rattle.output_model.specs.OutputBlock.{OutputBlock}
 use Rattle.output_model.specs.SeekHead.{area_elements}
@@ -28,10 +36,12 @@ use Rattle.merge_laws.proofs.ClusterLemmas.{merged-sound}
 use Rattle.cluster_runs.specs.Cued.{is_cue}
 use Rattle.merge_words.specs.declared.output.MergeWords.{MergeWords}
 use Rattle.merge_words.specs.Sound.{IsSoundMerge}
+use Rattle.merge_plan.specs.Front.{reads_of}
 use Rattle.merge_plan.specs.Plan.{Source, lanes_given, limits_of, rules_given}
 use Rattle.merge_plan.specs.Records.{first_title, title_of, title_or, tracks_taken}
 use Rattle.merge_plan.proofs.PlanLemmas.{plan-few}
-use Rattle.mkv_merge.specs.Merge.{document_in, reads_of}
+use Rattle.mkv_merge.specs.Merge.{document_in}
+use Rattle.mkv_merge.specs.Records.{HaveRecords, IsFilled}
 use Rattle.merge_words.specs.Texts.{AreTexts}
 use Rattle.track_format.specs.Entry as tracks
 use Rattle.merged_outputs.specs.Merge.{IsPlain}
@@ -68,6 +78,65 @@ module _ (d : Document) where
       let first : Element = tree_element d.front.info in
       let e : Element = tree_element d.front.tracks in
       omega (arith, behind-short d, length-append (octets_of first) (joined (e ∷ others)), length-append (octets_of e) (joined others), length-append (header_of e) e.body)
+
+-- an AttachedFile is a part of its Attachments
+each-short : (most : ℕ) (ns : List Node) → length (joined (map tree_element ns)) ≤ most → All (λ (n : Node). length (content n) ≤ most) ns
+each-short most [] within = All-nil (λ (n : Node). length (content n) ≤ most)
+each-short most (n ∷ ns) within =
+    let e : Element = tree_element n in
+    let rest : List ℕ = joined (map tree_element ns) in
+    let whole = length-append (octets_of e) rest in
+    let behind = length-append (header_of e) e.body in
+    All-cons (λ (m : Node). length (content m) ≤ most) n ns (omega arith) (each-short most ns (omega arith))
+
+inside-short : (ns : List Node) → length (joined (map tree_element ns)) ≤ length (joined (attachments_elements ns))
+inside-short [] = omega arith
+inside-short (n ∷ ns) =
+    let e : Element = master_element ATTACHMENTS (map tree_element (n ∷ ns)) in
+    omega (arith, length-append (octets_of e) [], length-append (header_of e) e.body)
+
+-- and these of the file
+files-short : (d : Document) → All (λ (n : Node). length (content n) ≤ length (layout d)) d.front.attachments
+files-short d =
+    let first : Element = tree_element d.front.info in
+    let second : Element = tree_element d.front.tracks in
+    let files : List Element = attachments_elements d.front.attachments in
+    let rest : List Element = clusters_elements d.clusters ++ back_elements d in
+    each-short (length (layout d)) d.front.attachments
+    (omega (arith, inside-short d.front.attachments, behind-short d, length-append (octets_of first) (joined (second ∷ files ++ rest)), length-append (octets_of second) (joined (files ++ rest)), ap length (flat_map-append octets_of files rest), length-append (joined files) (joined rest)))
+
+-- ---- an AttachedFile
+
+-- FileData is any octets
+data-stands : (bytes : List ℕ) → StandsIn ATTACHED_FILE (leaf FILE_DATA 0 bytes)
+data-stands bytes = record { id_stands = file_data-valid; no_master = no_master-in FILE_DATA; value = file_data-value bytes }
+
+-- With data it is one too, unless it is too long.
+filled-attachment : (entry : Node) (bytes : List ℕ) → IsAttachment entry → length (content (with_data bytes entry)) ≤ longest → IsAttachment (with_data bytes entry)
+filled-attachment (leaf id at body) bytes is short = let never = is.is.master in absurd (cc)
+filled-attachment (master id at kids) bytes is short =
+    let entry : Node = master id at kids in
+    let child : Node = leaf FILE_DATA 0 bytes in
+    let low = deep-with_child child (list_of kids) in
+    let same : depth_all (nodes_of (list_of kids)) ≡ depth_all kids = ap depth_all (nodes-list kids) in
+    let deep = is.is.limits.deep in
+    record {
+      is = record {
+        id = is.is.id;
+        master = refl;
+        sound = sound-set entry child refl is.is.sound (subst (λ (own : ℕ). StandsIn own child) (sym is.is.id) (data-stands bytes));
+        limits = record { long = short; deep = omega arith };
+      };
+      one = ap (λ (l : List Node). length (part FILE_DATA l)) (list-nodes (with_child child (list_of kids))) ∙ ap (λ (l : List Node). length l) (part-set child (list_of kids));
+    }
+
+files-sound : (most : ℕ) (ns : List Node) → most ≤ longest → All IsFilled ns → All (λ (n : Node). length (content n) ≤ most) ns → All IsAttachment ns
+files-sound most ns fits filled short = λ k d below.
+    let f = filled k d below in
+    let P : Node → Type 0 = IsAttachment in
+    let Q : Node → Type 0 = λ n. length (content n) ≤ most in
+    let long : length (content (with_data f.octets f.entry)) ≤ most = subst Q f.is (short k d below) in
+    subst P (sym f.is) (filled-attachment f.entry f.octets f.attachment (omega arith))
 
 -- ---- Info
 
@@ -123,7 +192,7 @@ module _ (words : MergeWords) (sources : List Source) (sound : IsSoundMerge word
   least = sound.scale.least
 
   tracks-few : length (tracks_taken (reads_of sources)) ≤ MOST_LANES
-  tracks-few = plan-few words.webm (reads_of sources) are.unrefused
+  tracks-few = plan-few words (reads_of sources) are.unrefused
 
   lanes-as_many : lanes_of (document_in words sources) ≡ length (map (lane_blocks words.scale) (lanes_given sources))
   lanes-as_many = taken-lanes (tracks_taken (reads_of sources)) (all-tracks sources are.each) tracks-few ∙ sym (lanes-length words.scale sources)
@@ -137,8 +206,8 @@ module _ (words : MergeWords) (sources : List Source) (sound : IsSoundMerge word
   document-scale = info-scale words.scale (title_of words (reads_of sources)) scale-small
 
   -- The document of a merge is sound.
-  pub document-sound : length (layout (document_in words sources)) ≤ LONGEST_FILE → IsSoundDocument (document_in words sources)
-  document-sound short =
+  pub document-sound : HaveRecords sources → length (layout (document_in words sources)) ≤ LONGEST_FILE → IsSoundDocument (document_in words sources)
+  document-sound have short =
       let d : Document = document_in words sources in
       let lanes : List (List OutputBlock) = map (lane_blocks words.scale) (lanes_given sources) in
       let clusters = merged-sound (limits_of words) lanes (lanes-sound words.scale sources least are.each) in
@@ -147,11 +216,11 @@ module _ (words : MergeWords) (sources : List Source) (sound : IsSoundMerge word
         info = info-record words.scale (title_of words (reads_of sources)) scale-small (title-text words.title (first_title (reads_of sources)) texts.title (first-text sources are.each)) (omega (arith, info-short d));
         scale = omega (arith, document-scale);
         tracks = taken-tracks (tracks_taken (reads_of sources)) (all-tracks sources are.each) tracks-few (omega (arith, tracks-short d));
-        attachments = All-nil IsAttachment;
+        attachments = files-sound (length (layout d)) d.front.attachments (omega arith) have.attachments (files-short d);
         clusters = subst (λ (n : ℕ). All (IsSoundCluster n) d.clusters) (sym lanes-as_many) clusters;
         cued = is_cue (rules_given (reads_of sources));
         cues = refl;
-        chapters = tt;
-        tags = tt;
+        chapters = have.chapters;
+        tags = have.tags;
         short = short;
       }

@@ -19,9 +19,9 @@ use Rattle.merge_laws.proofs.SoundLemmas.{placed-sound}
 use Rattle.merge_inputs.specs.Input.{events_in}
 use Rattle.merge_inputs.specs.Taken.{IsTaken}
 use Rattle.merge_inputs.specs.declared.taken.TakenTrack.{TakenTrack}
+use Rattle.merge_plan.specs.Front.{reads_of}
 use Rattle.merge_plan.specs.Plan.{Source, given_for, lanes_given, lanes_in, placing_for}
 use Rattle.merge_plan.specs.Records.{tracks_taken}
-use Rattle.mkv_merge.specs.Merge.{reads_of}
 use Rattle.merged_outputs.specs.Sources.{IsReadTrack, IsReadSource}
 
 -- ---- how blocks are placed

@@ -1,9 +1,10 @@
 -- What is written of a merge holds it.
-use Rattle.std.proofs.Common.{◌≡◌, ◌≢◌, ◌≤◌, ℕ, false, List, length, Option, Some, Result, Ok, Err, refl, sym, ap, ◌∙◌}
+use Rattle.std.proofs.Common.{◌≡◌, ◌≢◌, ◌≤◌, ℕ, false, List, length, Option, Some, Result, Ok, Err, IfOk, refl, sym, ap, ◌∙◌}
 use Rattle.std.specs.List.{All}
 use Rattle.std.specs.Str.{IsUtf8}
 use Rattle.mkv_values.specs.declared.outside.TheConstants.{LONGEST_FILE}
 use Rattle.mkv_io.specs.Names.{with_content}
+use Rattle.mkv_schema.specs.declared.ids.TheConstants.{CHAPTERS, TAGS}
 use Rattle.mkv_outputs.specs.Drafts.{patched}
 use Rattle.meta_format.specs.Info.{scale_of}
 use Rattle.file_blocks.specs.File.{file_events}
@@ -23,9 +24,13 @@ use Rattle.mkv_args.specs.Words.{command}
 use Rattle.mkv_args.specs.declared.command.Command.TheVariants.{Merge}
 use Rattle.mkv_args.proofs.SoundLemmas.{command-sound}
 use Rattle.mkv_args.proofs.TextLemmas.{asked-texts}
+use Rattle.merge_plan.specs.Front.{reads_of}
 use Rattle.merge_plan.specs.Plan.{Source, lanes_given, limits_of}
+use Rattle.merge_plan.specs.Records.{chapters_of, tags_of}
 use Rattle.mkv_merge.specs.Merge.{document_in, merge_verdict, sources_of, verdict_of}
 use Rattle.mkv_merge.specs.Merge as merge
+use Rattle.mkv_merge.specs.Records.{HaveRecords}
+use Rattle.mkv_merge.proofs.WritingLemmas.{record-id}
 use Rattle.mkv_merge.specs.declared.refusal.Refusal.{Refusal}
 use Rattle.mkv_lines.specs.Seen.{Seen}
 use Rattle.mkv_lines.specs.Verdict.{IsDone}
@@ -39,12 +44,12 @@ use Rattle.merged_outputs.proofs.LaneLemmas.{lanes-free}
 use Rattle.merged_outputs.proofs.SourceLemmas.{sources-read}
 use Rattle.std.proofs.lemmas.List.{length-map}
 
-module _ (words : MergeWords) (sources : List Source) (sound : IsSoundMerge words) (texts : AreTexts words) (are : AreSources words sources) where
+module _ (words : MergeWords) (sources : List Source) (sound : IsSoundMerge words) (texts : AreTexts words) (are : AreSources words sources) (have : HaveRecords sources) where
   -- What is written of it holds the merge.
   pub layout-holds : length (layout (document_in words sources)) ≤ LONGEST_FILE → HoldsMerge words sources (layout (document_in words sources))
   layout-holds short =
       let d : Document = document_in words sources in
-      let is = document-sound words sources sound texts are short in
+      let is = document-sound words sources sound texts are have short in
       let scale = document-scale words sources sound texts are in
       let events = file_events false (layout d) (header_of_segment d) in
       let lanes = lanes_selected words sources in
@@ -59,18 +64,18 @@ module _ (words : MergeWords) (sources : List Source) (sound : IsSoundMerge word
 
   -- its draft becomes it
   pub becomes : patched (opened (document_in words sources)) (draft_of words.output (document_in words sources)).patches ≡ layout (document_in words sources)
-  becomes = draft-layout words.output (document_in words sources) (length-area_of (document_in words sources) (record { info = refl; tracks = refl; chapters = tt; tags = tt }))
+  becomes = draft-layout words.output (document_in words sources) (length-area_of (document_in words sources) (record { info = refl; tracks = refl; chapters = record-id CHAPTERS (chapters_of (reads_of sources)) have.chapters; tags = record-id TAGS (tags_of (reads_of sources)) have.tags }))
 
 -- ---- a verdict that was reached
 
--- A command that has come to what a merge comes to, and wasn't refused, has written it.
+-- A command that has come to what a merge of sound records comes to, and wasn't refused, has written it.
 pub verdict-merged : (world : List ℕ → Option (List ℕ)) (words : MergeWords) (old new : Seen) (s : Status) → old.names ≡ Some world → HoldsOctets world → IsSoundMerge words → AreTexts words
-    → s ≢ status.Refused → s ≡ (merge_verdict world words).status → IsDone old new (merge_verdict world words) → IsMerged world words new.names
-verdict-merged world words old new s told holds sound texts other = split (sources_of world words) refl
+    → IfOk (sources_of world words) HaveRecords → s ≢ status.Refused → s ≡ (merge_verdict world words).status → IsDone old new (merge_verdict world words) → IsMerged world words new.names
+verdict-merged world words old new s told holds sound texts found other = split (sources_of world words) refl found
   where
-    split : (found : Result (List Source) Refusal) → sources_of world words ≡ found → s ≡ (verdict_of words found).status → IsDone old new (verdict_of words found) → IsMerged world words new.names
-    split (Err why) is same done = absurd (other same)
-    split (Ok sources) is same done =
+    split : (found : Result (List Source) Refusal) → sources_of world words ≡ found → IfOk found HaveRecords → s ≡ (verdict_of words found).status → IsDone old new (verdict_of words found) → IsMerged world words new.names
+    split (Err why) is have same done = absurd (other same)
+    split (Ok sources) is have same done =
         let d : Document = document_in words sources in
         let are = sources-read words sources sound texts world holds is in
         record {
@@ -78,11 +83,11 @@ verdict-merged world words old new s told holds sound texts other = split (sourc
           taken = is;
           content = layout d;
           written = done.names ∙ ap (λ names. with_content names words.output (patched (opened d) (draft_of words.output d).patches)) told
-              ∙ ap (with_content (Some world) words.output) (becomes words sources sound texts are);
-          holds = layout-holds words sources sound texts are;
+              ∙ ap (with_content (Some world) words.output) (becomes words sources sound texts are have);
+          holds = layout-holds words sources sound texts are have;
         }
 
 -- So has a run whose words ask for it.
 pub run-merged : (old new : Seen) (words : List (List ℕ)) (asked : MergeWords) (world : List ℕ → Option (List ℕ)) (s : Status) → All IsUtf8 words → old.names ≡ Some world → HoldsOctets world → command words ≡ Ok (Merge asked)
-    → s ≢ status.Refused → s ≡ (merge_verdict world asked).status → IsDone old new (merge_verdict world asked) → IsMerged world asked new.names
+    → IfOk (sources_of world asked) HaveRecords → s ≢ status.Refused → s ≡ (merge_verdict world asked).status → IsDone old new (merge_verdict world asked) → IsMerged world asked new.names
 run-merged old new words asked world s utf8 told holds is = verdict-merged world asked old new s told holds (command-sound words (Merge asked) is) (asked-texts words asked utf8 is)

@@ -1,7 +1,7 @@
 -- What is read of the inputs of a merge can be written.
 use Rattle.std.proofs.Common.{◌≡◌, ◌<◌, ℕ, suc, ◌+◌, ◌^◌, ◌==◌, Bool, true, false, if◌then◌else◌, cond, List, [], ◌∷◌, length, find, map, Option, Some, None, IfSome, Result, Ok, Err, inl, inr, ◌⊎◌, eqb-true, refl, sym, ap, subst, ◌∙◌, arith, unwrap_or}
 use Rattle.std.specs.List.{All, zip}
-use Rattle.std.specs.Option.{option_map, option_map_or, option_or}
+use Rattle.std.specs.Option.{option_map, option_map_or}
 use Rattle.std.specs.Str.{IsUtf8, is_utf8}
 use Rattle.std.proofs.lemmas.List.{length-map}
 use Rattle.std.proofs.lemmas.List.Elements.{All-nil, All-cons, All-head, All-tail, All-append, All-map}
@@ -45,18 +45,19 @@ use Rattle.merge_words.specs.declared.output.MergeWords.{MergeWords}
 use Rattle.merge_words.specs.Sound.{IsSoundFile, IsSoundMerge}
 use Rattle.input_files.specs.Inputs.{file_names, first_missing}
 use Rattle.merge_inputs.specs.Input.{InputRead, found_then, input_of, input_with, refusal_of, unless_refused}
-use Rattle.merge_inputs.specs.Select.{is_taken, not_built}
+use Rattle.merge_inputs.specs.Select.{is_taken}
 use Rattle.merge_inputs.specs.Taken.{first_unusable, taken_from, taken_one, taken_track, value_for}
 use Rattle.merge_inputs.specs.Title.{title_of_info}
 use Rattle.merge_inputs.specs.declared.taken.TakenTrack.{TakenTrack}
 use Rattle.merge_inputs.specs.declared.input.InputRefusal.{InputRefusal}
 use Rattle.merge_inputs.specs.declared.input.InputRefusal.TheVariants.{Damaged}
 use Rattle.merge_inputs.proofs.TakenLemmas.{AreTaken-read, taken-tracks}
+use Rattle.merge_plan.specs.Front.{reads_of}
 use Rattle.merge_plan.specs.Plan.{Source}
 use Rattle.merge_plan.specs.Refusal.{plan_refusal}
 use Rattle.merge_plan.specs.declared.refusal.PlanRefusal.{PlanRefusal}
 use Rattle.mkv_merge.specs.Merge as merge
-use Rattle.mkv_merge.specs.Merge.{reads_of, sources_of, sources_settled, sources_with}
+use Rattle.mkv_merge.specs.Merge.{sources_of, sources_settled, sources_with}
 use Rattle.mkv_merge.specs.Read.{contents_of, inputs_from, inputs_of, numbered, pending_of, unless_missing, writes_input}
 use Rattle.mkv_merge.specs.Refused as refused
 use Rattle.mkv_merge.specs.declared.refusal.Refusal.{Refusal}
@@ -213,9 +214,9 @@ unrefused-ok : (why : Option InputRefusal) (input read : InputRead) → unless_r
 unrefused-ok None input read is = (refl, cc)
 unrefused-ok (Some why) input read is = absurd (cc)
 
-no-unusable : (o : Option Damage) (other : Option InputRefusal) → option_or (option_map Damaged o) other ≡ None → o ≡ None
-no-unusable None other is = refl
-no-unusable (Some d) other is = absurd (cc)
+no-unusable : (o : Option Damage) → option_map Damaged o ≡ None → o ≡ None
+no-unusable None is = refl
+no-unusable (Some d) is = absurd (cc)
 
 input-read : (words : FileWords) (webm : Bool) (held : ℕ) (bytes : List ℕ) (read : InputRead) → AreOctets bytes → IsSoundFile words → HasTexts words → input_of words webm held bytes ≡ Ok read → IsReadSource (bytes, read)
 input-read words webm held bytes read octets sound has is =
@@ -224,9 +225,9 @@ input-read words webm held bytes read octets sound has is =
     let records = found-ok (file_records bytes o.segment) _ read outline.1.1 in
     let r : FileRecords = records.0 in
     let taken : List TakenTrack = taken_from words 0 r.tracks in
-    let made = unrefused-ok (refusal_of words webm o.list taken) (input_with words webm o r) read records.1.1 in
+    let made = unrefused-ok (refusal_of taken) (input_with words webm o r) read records.1.1 in
     let found = records-read bytes o.segment r octets records.1.0 in
-    let usable : first_unusable taken ≡ None = no-unusable (first_unusable taken) (option_map _ (not_built words webm o.list)) made.0 in
+    let usable : first_unusable taken ≡ None = no-unusable (first_unusable taken) made.0 in
     let good = AreTaken-read words r.tracks taken refl found.tracks.read sound usable in
     let uids = taken-tracks (λ (t : Track). t.uid < 2 ^ 64) words r.tracks found.tracks.uids in
     let texts = taken-texts words 0 r.tracks has in

@@ -7,6 +7,7 @@ use Rattle.merge_words.specs.declared.output.MergeWords.{MergeWords}
 use Rattle.merge_words.specs.Sound.{IsSoundMerge}
 use Rattle.merge_plan.specs.Plan.{Source}
 use Rattle.mkv_merge.specs.Merge.{document_in, sources_of}
+use Rattle.mkv_merge.specs.Records.{HaveRecords}
 use Rattle.merged_outputs.specs.Merge.{HoldsMerge, lanes_selected}
 use Rattle.merge_words.specs.Texts.{AreTexts}
 use Rattle.merged_outputs.specs.Sources.{AreSources, HoldsOctets}
@@ -22,14 +23,14 @@ abbrev pub SelectedBlocksAreSound : Type 0
 SelectedBlocksAreSound =
     (words : MergeWords) (sources : List Source) → IsSoundMerge words → AreSources words sources → All (All IsSoundBlock) (lanes_selected words sources)
 
--- The document of a merge can be written, where it has 2^48 octets at most.
+-- The document of a merge can be written, where its records can and it has 2^48 octets at most.
 abbrev pub MergedDocumentsAreSound : Type 0
 MergedDocumentsAreSound =
-    (words : MergeWords) (sources : List Source) → IsSoundMerge words → AreTexts words → AreSources words sources
+    (words : MergeWords) (sources : List Source) → IsSoundMerge words → AreTexts words → AreSources words sources → HaveRecords sources
     → length (layout (document_in words sources)) ≤ LONGEST_FILE → IsSoundDocument (document_in words sources)
 
 -- What is written of it holds the merge.
 abbrev pub LayoutsHoldMerges : Type 0
 LayoutsHoldMerges =
-    (words : MergeWords) (sources : List Source) → IsSoundMerge words → AreTexts words → AreSources words sources
+    (words : MergeWords) (sources : List Source) → IsSoundMerge words → AreTexts words → AreSources words sources → HaveRecords sources
     → length (layout (document_in words sources)) ≤ LONGEST_FILE → HoldsMerge words sources (layout (document_in words sources))

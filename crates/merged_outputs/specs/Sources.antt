@@ -5,9 +5,9 @@ use Rattle.ebml_format.specs.Number.{AreOctets}
 use Rattle.merge_words.specs.declared.output.MergeWords.{MergeWords}
 use Rattle.merge_inputs.specs.Taken.{IsTaken}
 use Rattle.merge_inputs.specs.declared.taken.TakenTrack.{TakenTrack}
+use Rattle.merge_plan.specs.Front.{reads_of}
 use Rattle.merge_plan.specs.Plan.{Source}
 use Rattle.merge_plan.specs.Refusal.{plan_refusal}
-use Rattle.mkv_merge.specs.Merge.{reads_of}
 
 -- what files hold is octets
 abbrev pub HoldsOctets : (List ℕ → Option (List ℕ)) → Type 0
