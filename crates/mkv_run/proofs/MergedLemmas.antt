@@ -1,5 +1,5 @@
 -- A run that ends well has written the merge that was asked for.
-use Rattle.std.proofs.Common.{◌≡◌, ◌≢◌, ◌<◌, ℕ, get_or, List, Bool, true, false, if◌then◌else◌, Option, Some, Result, Ok, refl, ◌∙◌, ap, ap₂, arith}
+use Rattle.std.proofs.Common.{◌≡◌, ◌≢◌, ◌<◌, ℕ, get_or, List, Bool, true, false, if◌then◌else◌, IfOk, Option, Some, Result, Ok, refl, ◌∙◌, ap, ap₂, subst, arith}
 use Rattle.std.specs.List.{All}
 use Rattle.std.specs.Str.{IsUtf8}
 use Rattle.std.specs.String.{string_bytes}
@@ -21,14 +21,15 @@ use Rattle.mkv_lines.specs.Seen.{Seen}
 use Rattle.mkv_lines.specs.Verdict.{IsDone, Verdict, refused}
 use Rattle.mkv_lines.specs.declared.status.Status.{Status}
 use Rattle.mkv_lines.specs.declared.status.Status.TheVariants as status
-use Rattle.mkv_merge.specs.Merge.{merge_verdict}
+use Rattle.mkv_merge.specs.Merge.{merge_verdict, sources_of}
+use Rattle.mkv_merge.specs.Records.{HaveRecords}
 use Rattle.mkv_merge.specs.Takes.{takes}
 use Rattle.merged_outputs.specs.Merge.{HasMerged, IsMerged, MergesWell}
 use Rattle.merged_outputs.specs.Sources.{HoldsOctets}
 use Rattle.merged_outputs.proofs.MergeLemmas.{run-merged}
 use Rattle.mkv_recover.specs.Recover.{DiskWorld}
 use Rattle.mkv_run.specs.Ends.{Ends}
-use Rattle.mkv_run.specs.Run.{verdict_after, verdict_in}
+use Rattle.mkv_run.specs.Run.{MergesRecords, MergesRecordsIn, verdict_after, verdict_in}
 use Rattle.mkv_run.specs.RunSeen.{RunSeen}
 
 -- the words of a command line are texts
@@ -40,25 +41,32 @@ abbrev comes_to : (List ℕ → Option (List ℕ)) → MergeWords → Bool → O
 comes_to world asked built = if built then Some (merge_verdict world asked) else Some (refused not_built_line)
 
 -- what was reached, and is no refusal, has written the merge that was asked for
-has-merged : (old new : Seen) (disk : Option DiskWorld) (words : List (List ℕ)) (s : Status) → s ≢ status.Refused → All IsUtf8 words → Told (verdict_in old.names disk words) (λ v. (s ≡ v.status) × IsDone old new v) → HasMerged old.names words new.names
-has-merged old new disk words s other utf8 reached = λ world told holds asked is. split world asked told holds is (ap₂ (λ (n : Names) (c : Result Command Usage). verdict_after n disk c) told is) (takes asked) refl
+has-merged : (old new : Seen) (disk : Option DiskWorld) (words : List (List ℕ)) (s : Status) → s ≢ status.Refused → All IsUtf8 words → MergesRecordsIn old.names words (Ok s) → Told (verdict_in old.names disk words) (λ v. (s ≡ v.status) × IsDone old new v) → HasMerged old.names words new.names
+has-merged old new disk words s other utf8 records reached = λ world told holds asked is. split world asked told holds is (ap₂ (λ (n : Names) (c : Result Command Usage). verdict_after n disk c) told is) (takes asked) refl
   where
+    -- its records can be read again
+    have : (world : List ℕ → Option (List ℕ)) (asked : MergeWords) → old.names ≡ Some world → command words ≡ Ok (Merge asked) → takes asked ≡ true → IfOk (sources_of world asked) HaveRecords
+    have world asked told is test =
+        let P : Result Command Usage → Type 0 = λ c. IfOk c (λ (each : Command). MergesRecords old.names each (Ok s)) in
+        let merges : MergesRecords old.names (Merge asked) (Ok s) = subst P is records in
+        merges test world told
+
     split : (world : List ℕ → Option (List ℕ)) (asked : MergeWords) → old.names ≡ Some world → HoldsOctets world → command words ≡ Ok (Merge asked) → verdict_in old.names disk words ≡ comes_to world asked (takes asked)
         → (built : Bool) → takes asked ≡ built → IsMerged world asked new.names
     split world asked told holds is comes true test =
         let at = reached (merge_verdict world asked) (comes ∙ ap (comes_to world asked) test) in
-        run-merged old new words asked world s utf8 told holds is other at.0 at.1
+        run-merged old new words asked world s utf8 told holds is (have world asked told is test) other at.0 at.1
     split world asked told holds is comes false test =
         let at = reached (refused not_built_line) (comes ∙ ap (comes_to world asked) test) in
         absurd (other at.0)
 
 -- A run that ends well has written it.
-pub merges-well : (old new : RunSeen) (disk : Option DiskWorld) (words : List (String Global)) (s : Status) → Told (verdict_in old.seen.names disk (texts words)) (Ends old new s) → MergesWell old.seen.names (texts words) new.seen.names s
-merges-well old new disk words status.Done told = has-merged old.seen new.seen disk (texts words) status.Done (λ same. cc) (texts-utf8 words) told
-merges-well old new disk words status.Warned told = has-merged old.seen new.seen disk (texts words) status.Warned (λ same. cc) (texts-utf8 words) told
-merges-well old new disk words status.Refused told = tt
-merges-well old new disk words status.NoMemory told = tt
-merges-well old new disk words status.Outside told = tt
+pub merges-well : (old new : RunSeen) (disk : Option DiskWorld) (words : List (String Global)) (s : Status) → MergesRecordsIn old.seen.names (texts words) (Ok s) → Told (verdict_in old.seen.names disk (texts words)) (Ends old new s) → MergesWell old.seen.names (texts words) new.seen.names s
+merges-well old new disk words status.Done records told = has-merged old.seen new.seen disk (texts words) status.Done (λ same. cc) (texts-utf8 words) records told
+merges-well old new disk words status.Warned records told = has-merged old.seen new.seen disk (texts words) status.Warned (λ same. cc) (texts-utf8 words) records told
+merges-well old new disk words status.Refused records told = tt
+merges-well old new disk words status.NoMemory records told = tt
+merges-well old new disk words status.Outside records told = tt
 
 -- A program whose exit status is 0 or 1 is one that ends well.
 pub code-merged : (old new : Names) (words : List (List ℕ)) (s : Status) (code : ℕ) → code ≡ code_of s → code < 2 → MergesWell old words new s → HasMerged old words new

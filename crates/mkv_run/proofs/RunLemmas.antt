@@ -1,6 +1,6 @@
 -- How runs end, and why.
 use Rattle.std.proofs.Math.Seq.{drop-cons}
-use Rattle.std.proofs.Common.{◌≡◌, ℕ, IsTrue, suc, ◌+◌, ◌<◌, length, drop, get_or, add-one, List, [], ◌∷◌, ◌++◌, IsSome, Result, Ok, Err, inl, inr, Option, Some, None, ◌⊎◌, refl, sym, ◌∙◌, ap, subst}
+use Rattle.std.proofs.Common.{◌≡◌, ℕ, IsTrue, suc, ◌+◌, ◌<◌, length, drop, get_or, add-one, List, [], ◌∷◌, ◌++◌, Result, Ok, Err, inl, inr, Option, Some, None, ◌⊎◌, refl, sym, ◌∙◌, ap, subst}
 use Rattle.mkv_io.specs.Faults.{HasRisen}
 use Rattle.mkv_io.specs.Lines.{with_lines}
 use Rattle.mkv_io.specs.Names.{Names}
@@ -10,7 +10,7 @@ use Rattle.mkv_disk.specs.Pair.{IsPairImage}
 use Rattle.mkv_disk.specs.declared.disk.Disk as disks
 use Rattle.mkv_lines.specs.Faults.{HasStopCause}
 use Rattle.mkv_lines.specs.Said.{HasSayCause, ReportLines, Says, SaysPart, SaysUpTo}
-use Rattle.mkv_lines.specs.Verdict.{Reaches, SaysVerdict, Verdict}
+use Rattle.mkv_lines.specs.Verdict.{Reaches, Verdict}
 use Rattle.mkv_lines.specs.Ordinary.{IsOrdinary}
 use Rattle.sidecar_edit.specs.Recovering.{IsRecovering}
 use Rattle.mkv_recover.specs.Recovery.{HasDiskStop}
@@ -24,11 +24,6 @@ use Rattle.mkv_lines.specs.declared.status.Status.{Status}
 use Rattle.mkv_lines.specs.declared.status.Status.TheVariants as status
 use Rattle.mkv_lines.specs.declared.status.Stop.{Stop}
 use Rattle.mkv_lines.specs.declared.status.Stop.TheVariants as stop
-use Rattle.mkv_io.specs.Names.{AreApart}
-use Rattle.mkv_jobs.specs.declared.job.Job.{Job}
-use Rattle.mkv_jobs.specs.declared.job.Job.TheVariants as jobs
-use Rattle.mkv_args.specs.Sound.{IsSoundJob}
-use Rattle.extract_model.specs.Job.{names_for}
 use Rattle.mkv_lines.proofs.SaidLemmas.{with_lines-both, with_lines-none}
 
 -- the line of the fault stands behind a first part of the lines
@@ -153,13 +148,3 @@ pub texts-next : (old now : ReportLines) (all : List (List ℕ)) (k : ℕ) (text
 texts-next old now all k texts t below is way =
     subst (λ (lines : List (List ℕ)). SaysUpTo old now all lines)
     (drop-cons texts k t below ∙ ap (λ (one : List ℕ). one ∷ drop (suc k) texts) (sym is) ∙ rw add-one refl) way
-
--- ---- an extraction
-
--- no two outputs of a job have one name
-pub outputs-apart : (job : Job) → IsSoundJob job → AreApart (names_for job)
-outputs-apart (jobs.Tracks form list) sound = sound.apart
-outputs-apart (jobs.Timestamps list) sound = sound.apart
-outputs-apart (jobs.Attachments list) sound = sound.apart
-outputs-apart (jobs.Cues list) sound = sound.apart
-outputs-apart (jobs.Chapters name) sound = (tt, tt)

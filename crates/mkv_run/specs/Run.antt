@@ -1,5 +1,5 @@
 -- What the words of a command line come to.
-use Rattle.std.specs.Prelude.{◌≤◌, ⊤, IfOk, ℕ, ◌+◌, Bool, true, false, if◌then◌else◌, List, [], ◌∷◌, Option, Some, option_map, Result, Ok, Err}
+use Rattle.std.specs.Prelude.{◌≤◌, ⊤, IfOk, IsTrue, ℕ, ◌+◌, Bool, true, false, if◌then◌else◌, List, [], ◌∷◌, Option, Some, option_map, Result, Ok, Err}
 use Rattle.mkv_io.specs.Names.{Names}
 use Rattle.mkv_io.specs.Told.{Told}
 use Rattle.word_values.specs.Why.{why_name}
@@ -10,13 +10,16 @@ use Rattle.mkv_args.specs.declared.command.Command.{Command}
 use Rattle.mkv_args.specs.declared.command.Command.TheVariants.{Help, Version, Info, Identify, Recover, Reindex, Generate, Extract, Propedit, Merge}
 use Rattle.mkv_lines.specs.Line.{not_built_line, word_line}
 use Rattle.mkv_lines.specs.Verdict.{Verdict, done, refused}
+use Rattle.mkv_lines.specs.declared.status.Status.{Status}
+use Rattle.mkv_lines.specs.declared.status.Stop.{Stop}
 use Rattle.mkv_info.specs.Info.{info_verdict}
 use Rattle.mkv_info.specs.declared.info.Form.TheVariants.{Lines, Json}
 use Rattle.mkv_recover.specs.Recover.{DiskWorld, verdict_on}
 use Rattle.extract_model.specs.Job.{is_taken}
 use Rattle.mkv_extract.specs.Extract.{extract_verdict}
 use Rattle.mkv_merge.specs.Bound.{most_read}
-use Rattle.mkv_merge.specs.Merge.{merge_verdict}
+use Rattle.mkv_merge.specs.Merge.{merge_verdict, sources_of}
+use Rattle.mkv_merge.specs.Records.{EndsWithRecords}
 use Rattle.mkv_merge.specs.Takes.{takes}
 
 -- the first word that is wrong, and why
@@ -70,3 +73,14 @@ ReadsWithin names _ before now = ⊤
 -- the same of the words of a command line; of words that are no command none is stated
 abbrev pub ReadsWithinIn : Names → List (List ℕ) → ℕ → ℕ → Type 0
 ReadsWithinIn names words before now = IfOk (command words) (λ (c : Command). ReadsWithin names c before now)
+
+-- ---- the records of a merge
+
+-- What a merge that is built, and that ended by itself, gives besides tracks and blocks can be read again, where the names tell.
+abbrev pub MergesRecords : Names → Command → Result Status Stop → Type 0
+MergesRecords names (Merge words) r = IsTrue (takes words) → Told names (λ world. EndsWithRecords (sources_of world words) r)
+MergesRecords names _ r = ⊤
+
+-- the same of the words of a command line
+abbrev pub MergesRecordsIn : Names → List (List ℕ) → Result Status Stop → Type 0
+MergesRecordsIn names words r = IfOk (command words) (λ (c : Command). MergesRecords names c r)

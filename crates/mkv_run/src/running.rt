@@ -19,7 +19,7 @@ ghost use Rattle.mkv_recover.specs.Recover.{disk_world};
 ghost use Rattle.word_values.specs.Place.{texts};
 ghost use Rattle.merged_outputs.specs.Merge.{MergesWell};
 ghost use Rattle.mkv_run.specs.Ends.{Ends};
-ghost use Rattle.mkv_run.specs.Run.{ReadsWithin, ReadsWithinIn, verdict_in, verdict_of};
+ghost use Rattle.mkv_run.specs.Run.{MergesRecords, MergesRecordsIn, ReadsWithin, ReadsWithinIn, verdict_in, verdict_of};
 ghost use Rattle.mkv_run.specs.RunSeen.{HasRunStop, HasStatusCause, run_seen};
 ghost use Rattle.mkv_run.specs.Touched.{Touches, edited_by, edited_in};
 
@@ -106,6 +106,7 @@ fn carry_out<F: Files, D: Disk, R: Report>(
         (run_seen F.Reads F.Files.own D.Reads D.Disk.own R.Report files.old disk.old report.old)
         (run_seen F.Reads F.Files.own D.Reads D.Disk.own R.Report files.new disk.new report.new) result }
     ensures closed { (file : ℕ) → (live_files F.Reads files.new).live file ≡ (live_files F.Reads files.old).live file }
+    ensures records { MergesRecordsIn (F.names files.old) (texts words.now.items) result }
     ensures octets { ReadsWithinIn (F.names files.old) (texts words.now.items) (F.octets_read files.old) (F.octets_read files.new) }
     ensures touches { Touches D.Reads D.Disk.own (edited_in (command (texts words.now.items))) files.old files.new disk.old disk.new (status_of result) }
 {
@@ -134,6 +135,7 @@ fn obey<F: Files, D: Disk, R: Report>(
         (run_seen F.Reads F.Files.own D.Reads D.Disk.own R.Report files.old disk.old report.old)
         (run_seen F.Reads F.Files.own D.Reads D.Disk.own R.Report files.new disk.new report.new) result }
     ensures closed { (file : ℕ) → (live_files F.Reads files.new).live file ≡ (live_files F.Reads files.old).live file }
+    ensures records { MergesRecords (F.names files.old) command.now result }
     ensures octets { ReadsWithin (F.names files.old) command.now (F.octets_read files.old) (F.octets_read files.new) }
     ensures touches { Touches D.Reads D.Disk.own (edited_by command.now) files.old files.new disk.old disk.new (status_of result) }
 {
@@ -189,6 +191,7 @@ fn merge<F: Files, R: Report>(
         (seen F.Reads F.writing_faults F.names R.Report files.old report.old).counts
         (seen F.Reads F.writing_faults F.names R.Report files.new report.new).counts result }
     ensures closed { (file : ℕ) → (live_files F.Reads files.new).live file ≡ (live_files F.Reads files.old).live file }
+    ensures records { MergesRecords (F.names files.old) (Command.Merge words.now) result }
     ensures octets { ReadsWithin (F.names files.old) (Command.Merge words.now) (F.octets_read files.old) (F.octets_read files.new) }
 {
     if !takes(words) {

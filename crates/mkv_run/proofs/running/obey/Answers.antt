@@ -1,4 +1,4 @@
-use Rattle.std.proofs.Common.{◌≡◌, List, ℕ, Option, sym, subst, refl}
+use Rattle.std.proofs.Common.{List, ℕ, Option, sym, subst, refl}
 use Rattle.mkv_io.specs.Told.{Told}
 use Rattle.mkv_disk.specs.Calls.{OfReads}
 use Rattle.mkv_lines.specs.Code.{status_of}
