@@ -1,8 +1,8 @@
 -- What outputs have of blocks, one part after the other.
-use Rattle.std.proofs.Common.{◌≡◌, ℕ, suc, ◌+◌, List, [], ◌∷◌, ◌++◌, length, map, refl, sym, ◌∙◌, ap, arith, append_assoc, append-nil}
+use Rattle.std.proofs.Common.{◌≡◌, ℕ, suc, ◌+◌, List, [], ◌∷◌, ◌++◌, length, refl, sym, ◌∙◌, ap, arith, append_assoc, append-nil}
 use Rattle.std.proofs.lemmas.Grind.{flat_map-append}
 use Rattle.block_format.specs.Block.{Block}
-use Rattle.mkv_outputs.specs.Outputs.{Output, names_of, with_end}
+use Rattle.mkv_outputs.specs.Outputs.{names_of, with_end}
 use Rattle.mkv_outputs.specs.Starts.{AreBegun, IsBegun}
 use Rattle.extract_model.specs.Content.{content_of, counted, entries_from, entries_of, entry_of, head_of, names_in, output_of, outputs_of}
 use Rattle.extract_model.specs.declared.track_output.Format.{Format}

@@ -1,8 +1,9 @@
 -- What a job takes of the tracks of a file: RFC 9559, section 5.1.4 (Tracks Element).
-use Rattle.std.specs.Prelude.{ℕ, Bool, true, false, not, List, [], ◌∷◌, map, codes, Option, Some, None, option_map, slice_get, unwrap_or}
-use Rattle.std.specs.List.{find, flat_map}
+use Rattle.std.specs.Prelude.{◌≡◌, ◌≤◌, ⊤, ℕ, Bool, true, false, not, List, [], ◌∷◌, map, codes, Option, Some, None, option_map, slice_get, unwrap_or}
+use Rattle.std.specs.List.{All, find, flat_map}
 use Rattle.std.specs.Option.{option_map_or}
 use Rattle.std.specs.Str.{bytes_eq}
+use Rattle.mkv_io.specs.Names.{AreApart}
 use Rattle.mkv_jobs.specs.declared.job.Job.{Job}
 use Rattle.mkv_jobs.specs.declared.job.Job.TheVariants as jobs
 use Rattle.mkv_jobs.specs.declared.job.Form.TheVariants as form
@@ -28,11 +29,11 @@ taken_of (jobs.Attachments list) = None
 taken_of (jobs.Cues list) = None
 taken_of (jobs.Chapters name) = None
 
--- what it takes it from, and where it goes
+-- the tracks that a job names, and where what it takes of each goes
 abbrev pub targets_of : Job → List Target
 targets_of (jobs.Tracks form list) = list
 targets_of (jobs.Timestamps list) = list
-targets_of (jobs.Attachments list) = list
+targets_of (jobs.Attachments list) = []
 targets_of (jobs.Cues list) = list
 targets_of (jobs.Chapters name) = []
 
@@ -52,9 +53,23 @@ names_for (jobs.Chapters name) = name ∷ []
 abbrev pub is_taken : Job → Bool
 is_taken (jobs.Tracks form list) = true
 is_taken (jobs.Timestamps list) = true
-is_taken (jobs.Attachments list) = false
+is_taken (jobs.Attachments list) = true
 is_taken (jobs.Cues list) = false
 is_taken (jobs.Chapters name) = true
+
+-- Attached files are counted from 1.
+abbrev pub AreNumbered : Job → Type 0
+AreNumbered (jobs.Tracks form list) = ⊤
+AreNumbered (jobs.Timestamps list) = ⊤
+AreNumbered (jobs.Attachments list) = All (λ (t : Target). 1 ≤ t.id) list
+AreNumbered (jobs.Cues list) = ⊤
+AreNumbered (jobs.Chapters name) = ⊤
+
+-- A job that is built, and whose files have different names.
+pub record CanBeDone (job : Job) : Type 0 where
+  pub taken : is_taken job ≡ true
+  pub apart : AreApart (names_for job)
+  pub numbers : AreNumbered job
 
 -- the CodecPrivate of a track, empty where it has none
 abbrev pub private_of : Node → List ℕ

@@ -43,21 +43,21 @@ pub fn is_taken(job: &Job) -> bool
     ensures { result ≡ is_taken job.now }
 {
     match job {
-        Job::Tracks { .. } | Job::Timestamps { .. } | Job::Chapters { .. } => true,
-        Job::Attachments { .. } | Job::Cues { .. } => false,
+        Job::Tracks { .. }
+        | Job::Timestamps { .. }
+        | Job::Attachments { .. }
+        | Job::Chapters { .. } => true,
+        Job::Cues { .. } => false,
     }
 }
 
-/// The targets of a job.
+/// The targets of a job that name tracks: those of attached files don't.
 pub fn targets_of(job: &Job) -> &[Target]
     ensures { result.now ≡ targets_of job.now }
 {
     match job {
-        Job::Tracks { list, .. }
-        | Job::Timestamps { list }
-        | Job::Attachments { list }
-        | Job::Cues { list } => list.as_slice(),
-        Job::Chapters { .. } => &[],
+        Job::Tracks { list, .. } | Job::Timestamps { list } | Job::Cues { list } => list.as_slice(),
+        Job::Attachments { .. } | Job::Chapters { .. } => &[],
     }
 }
 

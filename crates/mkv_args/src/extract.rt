@@ -44,7 +44,7 @@ static MODES: [Entry<Mode>; 5] = [
     Entry("", "tracks", Mode::Tracks, "[--raw or --fullraw] ID:FILE..", "texts as SubRip, or frames"),
     Entry("", "timestamps_v2", Mode::Timestamps, "ID:FILE..", "times of the frames"),
     Entry("", "cues", Mode::Cues, "ID:FILE..", "cue points (not built)"),
-    Entry("", "attachments", Mode::Attachments, "ID:FILE..", "attached files, from 1 (not built)"),
+    Entry("", "attachments", Mode::Attachments, "ID:FILE..", "attached files, from 1"),
     Entry("", "chapters", Mode::Chapters, "--simple FILE", "chapters as text"),
 ];
 

@@ -1,6 +1,8 @@
 -- How an extraction comes to its verdict.
-use Rattle.std.proofs.Common.{◌≡◌, ◌≢◌, ℕ, List, [], ◌∷◌, ◌++◌, length, Bool, true, false, ◌||◌, map, Option, Some, None, IsSome, Result, Ok, Err, IfOk, refl, sym, ◌∙◌, ap, subst}
+use Rattle.std.proofs.Common.{◌≡◌, ◌≢◌, ◌+◌, ◌<◌, ◌≤◌, ℕ, zero, suc, nat_lt, if◌then◌else◌, slice_get, arith, List, [], ◌∷◌, ◌++◌, length, Bool, true, false, ◌||◌, map, Option, Some, None, IsSome, Result, Ok, Err, IfOk, refl, sym, ◌∙◌, ap, subst}
+use Rattle.std.specs.List.{All}
 use Rattle.std.specs.Str.{bytes_eq}
+use Rattle.std.proofs.lemmas.Bool.{le-ltb, lt-ltb}
 use Rattle.std.proofs.lemmas.List.{length-map}
 use Rattle.std.proofs.lemmas.Slice.Eq.{bytes_eq-Decides}
 use Rattle.mkv_io.specs.Lines.{with_lines}
@@ -10,7 +12,11 @@ use Rattle.mkv_jobs.specs.declared.job.Job.TheVariants as form
 use Rattle.mkv_jobs.specs.declared.job.Form.TheVariants as raw
 use Rattle.mkv_jobs.specs.declared.job.Target.{Target}
 use Rattle.mkv_outputs.specs.Outputs.{Output, names_of, with_outputs}
+use Rattle.mkv_outputs.specs.Starts.{StandsInPart}
 use Rattle.mkv_outputs.proofs.StartsLemmas.{StandsInPart-whole}
+use Rattle.file_records.specs.Attached.{AttachedFile}
+use Rattle.extractors.specs.Attached.{attached_at, attached_output, attached_outputs}
+use Rattle.mkv_values.specs.declared.damage.Damage.{Damage}
 use Rattle.tree_format.specs.Node.{Node}
 use Rattle.track_records.specs.declared.track.Track.{Track}
 use Rattle.block_format.specs.Events.{Event, blocks_of, damages_of}
@@ -27,12 +33,12 @@ use Rattle.mkv_lines.specs.Seen.{Seen}
 use Rattle.mkv_lines.specs.Verdict.{Leaves, Reaches, Verdict, at_once, list_of}
 use Rattle.mkv_lines.specs.declared.status.Status.{Status}
 use Rattle.mkv_lines.specs.declared.status.Stop.{Stop}
-use Rattle.mkv_lines.proofs.SaidLemmas.{SaysPart-before, SaysPart-behind, Says-then}
+use Rattle.mkv_lines.proofs.SaidLemmas.{SaysPart-all, SaysPart-before, SaysPart-behind, Says-then}
 use Rattle.mkv_lines.proofs.VerdictLemmas.{Leaves-same}
-use Rattle.mkv_extract.specs.Extract.{absent, told_lines, fit_verdict, has_absent, is_among, is_input, job_verdict, status_of, taken_verdict}
+use Rattle.mkv_extract.specs.Extract.{absent, told_lines, fit_verdict, has_absent, held_status, is_among, is_input, job_verdict, outline_lines, status_of, taken_verdict, targets_verdict}
 use Rattle.mkv_extract.specs.Read.{FileRead}
 use Rattle.mkv_extract.specs.Told.{written}
-use Rattle.mkv_extract.proofs.ToldLemmas.{written-names}
+use Rattle.mkv_extract.proofs.ToldLemmas.{slice_get-past, slice_get-within, written-names}
 
 -- ---- the names of the outputs
 
@@ -53,30 +59,30 @@ others-input name holder (form.Attachments list) none same = others-named name h
 others-input name holder (form.Cues list) none same = others-named name holder list none same
 others-input name holder (form.Chapters out) none same = (λ one. let yes : bytes_eq out name ≡ true = (bytes_eq-Decides out name).1 (one ∙ same) in let never : true ≡ false = sym yes ∙ none in absurd (cc), tt)
 
--- ---- a job that isn't one of chapters
+-- ---- a job that takes neither chapters nor attached files
 
-pub taken-job : (job : Job) → is_taken job ≡ true → ((out : List ℕ) → job ≡ form.Chapters out → ⊥) → IsSome (taken_of job)
-taken-job (form.Tracks raw.Raw list) takes other = refl
-taken-job (form.Tracks raw.Full list) takes other = refl
-taken-job (form.Tracks raw.SubRip list) takes other = refl
-taken-job (form.Timestamps list) takes other = refl
-taken-job (form.Attachments list) takes other = absurd (cc)
-taken-job (form.Cues list) takes other = absurd (cc)
-taken-job (form.Chapters out) takes other = absurd (other out refl)
+pub taken-job : (job : Job) → is_taken job ≡ true → ((out : List ℕ) → job ≡ form.Chapters out → ⊥) → ((list : List Target) → job ≡ form.Attachments list → ⊥) → IsSome (taken_of job)
+taken-job (form.Tracks raw.Raw list) takes other none = refl
+taken-job (form.Tracks raw.Full list) takes other none = refl
+taken-job (form.Tracks raw.SubRip list) takes other none = refl
+taken-job (form.Timestamps list) takes other none = refl
+taken-job (form.Attachments list) takes other none = absurd (none list refl)
+taken-job (form.Cues list) takes other none = absurd (cc)
+taken-job (form.Chapters out) takes other none = absurd (other out refl)
 
-pub names-job : (job : Job) → ((out : List ℕ) → job ≡ form.Chapters out → ⊥) → names_for job ≡ jobs.names_of (targets_of job)
-names-job (form.Tracks f list) other = refl
-names-job (form.Timestamps list) other = refl
-names-job (form.Attachments list) other = refl
-names-job (form.Cues list) other = refl
-names-job (form.Chapters out) other = absurd (other out refl)
+pub names-job : (job : Job) → IsSome (taken_of job) → names_for job ≡ jobs.names_of (targets_of job)
+names-job (form.Tracks f list) some = refl
+names-job (form.Timestamps list) some = refl
+names-job (form.Attachments list) some = absurd (cc)
+names-job (form.Cues list) some = refl
+names-job (form.Chapters out) some = absurd (cc)
 
-pub verdict-job : (name : List ℕ) (job : Job) (file : FileRead) (events : List Event) → ((out : List ℕ) → job ≡ form.Chapters out → ⊥) → fit_verdict name job file.tracks events ≡ job_verdict name job file events
-verdict-job name (form.Tracks f list) file events other = refl
-verdict-job name (form.Timestamps list) file events other = refl
-verdict-job name (form.Attachments list) file events other = refl
-verdict-job name (form.Cues list) file events other = refl
-verdict-job name (form.Chapters out) file events other = absurd (other out refl)
+pub verdict-job : (name : List ℕ) (job : Job) (bytes : List ℕ) (file : FileRead) (events : List Event) → IsSome (taken_of job) → fit_verdict name job file.tracks events ≡ job_verdict name job bytes file events
+verdict-job name (form.Tracks f list) bytes file events some = refl
+verdict-job name (form.Timestamps list) bytes file events some = refl
+verdict-job name (form.Attachments list) bytes file events some = absurd (cc)
+verdict-job name (form.Cues list) bytes file events some = refl
+verdict-job name (form.Chapters out) bytes file events some = absurd (cc)
 
 -- the outputs of a job have the names of those targets whose tracks the file has
 taken-names : (kind : Option Taken) (targets : List Target) (entries : List Node) → IsSome kind → names_in (outputs_taken kind targets entries) ≡ written (length entries) targets
@@ -138,3 +144,48 @@ taken-told old new mid r name job tracks events targets count damages takes is c
         ∙ ap (λ (n : ℕ). written n (targets_of job)) (counted ∙ sym (length-map tracks entry_in))
         ∙ sym (taken-names (taken_of job) (targets_of job) (map entry_in tracks) takes)
         ∙ sym (names_of-outputs (job_outputs job (map entry_in tracks)) (blocks_of events))
+
+-- ---- attached files
+
+-- those that a file has are told of
+pub attached-names : (bytes : List ℕ) (targets : List Target) (files : List AttachedFile) → All (λ (t : Target). 1 ≤ t.id) targets → names_of (attached_outputs bytes targets files) ≡ written (length files + 1) targets
+attached-names bytes [] files numbers = refl
+attached-names bytes (t ∷ ts) files numbers = step t.id (numbers 0 t (omega arith)) (attached-names bytes ts files (λ k d below. numbers (suc k) d (omega arith)))
+  where
+    each : (k : ℕ) (found : Option AttachedFile) → slice_get files k ≡ found → names_of (attached_outputs bytes ts files) ≡ written (length files + 1) ts → names_of (attached_output bytes t found ++ attached_outputs bytes ts files) ≡ (if nat_lt (suc k) (length files + 1) then t.name ∷ [] else []) ++ written (length files + 1) ts
+    each k None is rest =
+        rest ∙ ap (λ (a : Bool). (if a then t.name ∷ [] else []) ++ written (length files + 1) ts) (sym (le-ltb _ _ (let all = slice_get-past files k is in omega (arith, all))))
+    each k (Some f) is rest =
+        ap (λ (names : List (List ℕ)). t.name ∷ names) rest
+        ∙ ap (λ (a : Bool). (if a then t.name ∷ [] else []) ++ written (length files + 1) ts) (sym (lt-ltb _ _ (let below = slice_get-within files k f is in omega (arith, below))))
+
+    step : (n : ℕ) → 1 ≤ n → names_of (attached_outputs bytes ts files) ≡ written (length files + 1) ts → names_of (attached_output bytes t (attached_at files n) ++ attached_outputs bytes ts files) ≡ (if nat_lt n (length files + 1) then t.name ∷ [] else []) ++ written (length files + 1) ts
+    step zero some rest = absurd (omega arith)
+    step (suc k) some rest = each k (slice_get files k) refl rest
+
+-- ---- what targets name besides frames
+
+-- a warning of what isn't there couldn't be said
+pub targets-begun : (old new : Seen) (why : Stop) (name : List ℕ) (line : ℕ → List ℕ) (most count : ℕ) (targets : List Target) (outputs : List Output) (damage : Option Damage) → count ≡ most → SaysPart old.lines new.lines (map line (absent count targets)) → new.names ≡ old.names → Reaches old new (Err why) (targets_verdict name line most targets outputs damage)
+targets-begun old new why name line most count targets outputs damage is part names =
+    reaches-begun old new why (targets_verdict name line most targets outputs damage) (map line (absent most targets))
+    (map wrote_line (names_of outputs) ++ outline_lines name damage) refl
+    (subst (λ (n : ℕ). SaysPart old.lines new.lines (map line (absent n targets))) is part) names
+
+-- an output wasn't written
+pub targets-stopped : (old new : Seen) (why : Stop) (name : List ℕ) (line : ℕ → List ℕ) (most count : ℕ) (targets : List Target) (outputs : List Output) (damage : Option Damage) → count ≡ most → new.lines ≡ with_lines old.lines (map line (absent count targets)) → StandsInPart old.names new.names outputs → Reaches old new (Err why) (targets_verdict name line most targets outputs damage)
+targets-stopped old new why name line most count targets outputs damage is said part = record {
+  lines = SaysPart-before old.lines new.lines (map line (absent most targets)) (map wrote_line (names_of outputs) ++ outline_lines name damage)
+      (SaysPart-all old.lines new.lines _ (said ∙ ap (λ (n : ℕ). with_lines old.lines (map line (absent n targets))) is));
+  names = part;
+}
+
+-- all that isn't there was warned of, and the outputs stand whole
+pub targets-told : (old new : Seen) (mid : ReportLines) (r : Result Status Stop) (name : List ℕ) (line : ℕ → List ℕ) (most count : ℕ) (targets : List Target) (outputs : List Output) (damage : Option Damage) → names_of outputs ≡ written most targets → count ≡ most → mid ≡ with_lines old.lines (map line (absent count targets)) → Says mid new.lines (map wrote_line (written count targets) ++ outline_lines name damage) r → IfOk r (λ s. s ≡ held_status (has_absent count targets) damage) → new.names ≡ with_outputs old.names outputs → Reaches old new r (targets_verdict name line most targets outputs damage)
+targets-told old new mid r name line most count targets outputs damage named is said says status names =
+    reaches-told old new mid r (targets_verdict name line most targets outputs damage) (map line (absent most targets))
+    (map wrote_line (names_of outputs) ++ outline_lines name damage) outputs refl refl
+    (said ∙ ap (λ (n : ℕ). with_lines old.lines (map line (absent n targets))) is)
+    (subst (λ (told : List (List ℕ)). Says mid new.lines (map wrote_line told ++ outline_lines name damage) r) (ap (λ (n : ℕ). written n targets) is ∙ sym named) says)
+    (subst (λ (n : ℕ). IfOk r (λ s. s ≡ held_status (has_absent n targets) damage)) is status)
+    names

@@ -8,7 +8,7 @@ use Rattle.std.proofs.lemmas.List.Folds.{list_any-append}
 use Rattle.mkv_values.specs.declared.damage.Damage.{Damage}
 use Rattle.mkv_jobs.specs.declared.job.Target.{Target}
 use Rattle.tree_format.specs.Node.{Node}
-use Rattle.mkv_lines.specs.Line.{no_track_line, warning_line, wrote_line}
+use Rattle.mkv_lines.specs.Line.{warning_line, wrote_line}
 use Rattle.mkv_lines.specs.Said.{ReportLines, SaysUpTo}
 use Rattle.extract_model.specs.Content.{names_in}
 use Rattle.extract_model.specs.Job.{output_for, outputs_for}
@@ -115,20 +115,20 @@ unfolding absent_left ids_of
 absent_left-none count seen = refl
 
 -- the next line is said
-pub absent-said : (old now : ReportLines) (all : List (List ℕ)) (name : List ℕ) (count : ℕ) (targets : List Target) (k : ℕ) (t : Target) → k < length targets → t ≡ get_or targets k t → (nat_le count t.id && not (is_named (take k targets) t.id)) ≡ true → SaysUpTo old now all (map (no_track_line name) (absent_left count (take k targets) (drop k targets))) → SaysUpTo old now all (no_track_line name t.id ∷ map (no_track_line name) (absent_left count (take (k + 1) targets) (drop (k + 1) targets)))
-absent-said old now all name count targets k t below is told way =
-    subst (SaysUpTo old now all) (ap (map (no_track_line name)) (absent_left-told count targets k t below is told)) way
+pub absent-said : (old now : ReportLines) (all : List (List ℕ)) (line : ℕ → List ℕ) (count : ℕ) (targets : List Target) (k : ℕ) (t : Target) → k < length targets → t ≡ get_or targets k t → (nat_le count t.id && not (is_named (take k targets) t.id)) ≡ true → SaysUpTo old now all (map (line) (absent_left count (take k targets) (drop k targets))) → SaysUpTo old now all (line t.id ∷ map (line) (absent_left count (take (k + 1) targets) (drop (k + 1) targets)))
+absent-said old now all line count targets k t below is told way =
+    subst (SaysUpTo old now all) (ap (map (line)) (absent_left-told count targets k t below is told)) way
 
 -- or none is
-pub absent-passed : (old now : ReportLines) (all : List (List ℕ)) (name : List ℕ) (count : ℕ) (targets : List Target) (k : ℕ) (t : Target) → k < length targets → t ≡ get_or targets k t → (nat_le count t.id && not (is_named (take k targets) t.id)) ≡ false → SaysUpTo old now all (map (no_track_line name) (absent_left count (take k targets) (drop k targets))) → SaysUpTo old now all (map (no_track_line name) (absent_left count (take (k + 1) targets) (drop (k + 1) targets)))
-absent-passed old now all name count targets k t below is told way =
-    subst (SaysUpTo old now all) (ap (map (no_track_line name)) (absent_left-passed count targets k t below is told)) way
+pub absent-passed : (old now : ReportLines) (all : List (List ℕ)) (line : ℕ → List ℕ) (count : ℕ) (targets : List Target) (k : ℕ) (t : Target) → k < length targets → t ≡ get_or targets k t → (nat_le count t.id && not (is_named (take k targets) t.id)) ≡ false → SaysUpTo old now all (map (line) (absent_left count (take k targets) (drop k targets))) → SaysUpTo old now all (map (line) (absent_left count (take (k + 1) targets) (drop (k + 1) targets)))
+absent-passed old now all line count targets k t below is told way =
+    subst (SaysUpTo old now all) (ap (map (line)) (absent_left-passed count targets k t below is told)) way
 
 -- at last all are said
-pub absent-ends : (count : ℕ) (targets : List Target) (k : ℕ) (name : List ℕ) → length targets ≤ k → map (no_track_line name) (absent_left count (take k targets) (drop k targets)) ≡ []
-absent-ends count targets k name all =
-    ap (λ (rest : List Target). map (no_track_line name) (absent_left count (take k targets) rest)) (drop_all k targets all)
-    ∙ ap (map (no_track_line name)) (absent_left-none count (take k targets))
+pub absent-ends : (count : ℕ) (targets : List Target) (k : ℕ) (line : ℕ → List ℕ) → length targets ≤ k → map (line) (absent_left count (take k targets) (drop k targets)) ≡ []
+absent-ends count targets k line all =
+    ap (λ (rest : List Target). map (line) (absent_left count (take k targets) rest)) (drop_all k targets all)
+    ∙ ap (map (line)) (absent_left-none count (take k targets))
 
 -- ---- the outputs
 
@@ -155,27 +155,31 @@ written-passed old now all count targets k t below is none way =
     (ap (map wrote_line) (written-next count targets k t below is)
     ∙ ap (λ (a : Bool). map wrote_line ((if a then t.name ∷ [] else []) ++ written count (drop (k + 1) targets))) (le-ltb _ _ none)) way
 
+-- ---- what targets name
+
+-- something that isn't there stands behind all
+pub slice_get-past : {A : Type 0} (xs : List A) (k : ℕ) → slice_get xs k ≡ None → length xs ≤ k
+slice_get-past [] k found = omega arith
+slice_get-past (x ∷ xs) zero found = absurd (cc)
+slice_get-past (x ∷ xs) (suc k) found = let rest = slice_get-past xs k found in omega arith
+
+-- and something that is there among them
+pub slice_get-within : {A : Type 0} (xs : List A) (k : ℕ) (x : A) → slice_get xs k ≡ Some x → k < length xs
+slice_get-within [] k x found = absurd (cc)
+slice_get-within (first ∷ xs) zero x found = omega arith
+slice_get-within (first ∷ xs) (suc k) x found = let rest = slice_get-within xs k x found in omega arith
+
 -- the outputs of a job have these names
 pub written-names : (kind : Taken) (targets : List Target) (entries : List Node) → names_in (outputs_for kind targets entries) ≡ written (length entries) targets
 written-names kind [] entries = refl
 written-names kind (t ∷ ts) entries = step (written-names kind ts entries) (slice_get entries t.id) refl
   where
-    past : (es : List Node) (k : ℕ) → slice_get es k ≡ None → length es ≤ k
-    past [] k found = omega arith
-    past (e ∷ es) zero found = absurd (cc)
-    past (e ∷ es) (suc k) found = let rest = past es k found in omega arith
-
-    within : (es : List Node) (k : ℕ) (e : Node) → slice_get es k ≡ Some e → k < length es
-    within [] k e found = absurd (cc)
-    within (first ∷ es) zero e found = omega arith
-    within (first ∷ es) (suc k) e found = let rest = within es k e found in omega arith
-
     step : names_in (outputs_for kind ts entries) ≡ written (length entries) ts → (entry : Option Node) → slice_get entries t.id ≡ entry → names_in (output_for kind t entry ++ outputs_for kind ts entries) ≡ (if nat_lt t.id (length entries) then t.name ∷ [] else []) ++ written (length entries) ts
     step rest None found =
-        rest ∙ ap (λ (a : Bool). (if a then t.name ∷ [] else []) ++ written (length entries) ts) (sym (le-ltb _ _ (past entries t.id found)))
+        rest ∙ ap (λ (a : Bool). (if a then t.name ∷ [] else []) ++ written (length entries) ts) (sym (le-ltb _ _ (slice_get-past entries t.id found)))
     step rest (Some e) found =
         ap (λ (names : List (List ℕ)). t.name ∷ names) rest
-        ∙ ap (λ (a : Bool). (if a then t.name ∷ [] else []) ++ written (length entries) ts) (sym (lt-ltb _ _ (within entries t.id e found)))
+        ∙ ap (λ (a : Bool). (if a then t.name ∷ [] else []) ++ written (length entries) ts) (sym (lt-ltb _ _ (slice_get-within entries t.id e found)))
 
 -- ---- the damages
 

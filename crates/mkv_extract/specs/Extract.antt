@@ -1,5 +1,5 @@
 -- What `extract` comes to.
-use Rattle.std.specs.Prelude.{ℕ, ◌==◌, nat_le, Bool, true, false, not, if◌then◌else◌, List, [], ◌∷◌, ◌++◌, length, map, filter, Option, Some, None, Result, Ok, Err}
+use Rattle.std.specs.Prelude.{ℕ, ◌+◌, ◌==◌, nat_le, Bool, true, false, not, if◌then◌else◌, List, [], ◌∷◌, ◌++◌, length, map, filter, Option, Some, None, Result, Ok, Err}
 use Rattle.std.specs.List.{list_any}
 use Rattle.std.specs.Str.{bytes_eq}
 use Rattle.mkv_values.specs.declared.damage.Damage.{Damage}
@@ -14,8 +14,10 @@ use Rattle.mkv_outputs.specs.Outputs.{Output, names_of}
 use Rattle.extract_model.specs.Chapters.{chapters_output}
 use Rattle.extract_model.specs.Content.{outputs_of}
 use Rattle.extract_model.specs.Job.{job_outputs, job_unfit, targets_of}
+use Rattle.file_records.specs.Attached.{AttachedFile}
+use Rattle.extractors.specs.Attached.{attached_outputs}
 use Rattle.extractors.specs.Source.{entry_in}
-use Rattle.mkv_lines.specs.Line.{damage_lines, missing_line, no_extractor_line, no_track_line, output_is_input_line, refusal_line, warning_line, wrote_line}
+use Rattle.mkv_lines.specs.Line.{damage_lines, missing_line, no_attachment_line, no_extractor_line, no_track_line, output_is_input_line, refusal_line, warning_line, wrote_line}
 use Rattle.mkv_lines.specs.Verdict.{Verdict, at_once, refused, unless_pending}
 use Rattle.mkv_lines.specs.declared.status.Status.{Status}
 use Rattle.mkv_lines.specs.declared.status.Status.TheVariants.{Done, Warned}
@@ -79,27 +81,38 @@ abbrev pub outline_lines : List ℕ → Option Damage → List (List ℕ)
 outline_lines name None = []
 outline_lines name (Some d) = warning_line name d ∷ []
 
--- all is done, or something is warned of
-abbrev pub warned_status : List (List ℕ) → Status
-warned_status [] = Done
-warned_status (line ∷ lines) = Warned
+-- all is done; what isn't there and a damage are warned of
+abbrev pub held_status : Bool → Option Damage → Status
+held_status false None = Done
+held_status false (Some d) = Warned
+held_status true damage = Warned
 
--- what is warned of before the outputs; the outputs, in the order of the words; and what is wrong with level 1
-abbrev pub held_verdict : List ℕ → List (List ℕ) → List Output → Option Damage → Verdict
-held_verdict name absent outputs damage = record {
-  status = warned_status (absent ++ outline_lines name damage);
-  lines = absent ++ (map wrote_line (names_of outputs) ++ outline_lines name damage);
+-- what isn't there, if something isn't; the outputs, in the order of the words; and what is wrong with level 1
+abbrev pub held_verdict : List ℕ → Bool → List (List ℕ) → List Output → Option Damage → Verdict
+held_verdict name is_missing missing outputs damage = record {
+  status = held_status is_missing damage;
+  lines = missing ++ (map wrote_line (names_of outputs) ++ outline_lines name damage);
   outputs = at_once outputs;
 }
 
--- what a job comes to of a file that was read, and that has these blocks and damages
-abbrev pub job_verdict : List ℕ → Job → FileRead → List Event → Verdict
-job_verdict name (jobs.Chapters out) file events = held_verdict name [] (chapters_output out file.chapters ∷ []) file.damage
-job_verdict name job file events = fit_verdict name job file.tracks events
+-- what targets name of things of which the file has the numbers below this one: each number that it hasn't is told in a line
+abbrev pub targets_verdict : List ℕ → (ℕ → List ℕ) → ℕ → List Target → List Output → Option Damage → Verdict
+targets_verdict name line count targets outputs damage = held_verdict name (has_absent count targets) (map line (absent count targets)) outputs damage
+
+-- what targets take of the attached files of a content, which are numbered from 1
+abbrev pub attached_verdict : List ℕ → List Target → List ℕ → List AttachedFile → Option Damage → Verdict
+attached_verdict name targets bytes files damage =
+    targets_verdict name (no_attachment_line name) (length files + 1) targets (attached_outputs bytes targets files) damage
+
+-- what a job comes to of a content that was read so, and that has these blocks and damages
+abbrev pub job_verdict : List ℕ → Job → List ℕ → FileRead → List Event → Verdict
+job_verdict name (jobs.Chapters out) bytes file events = held_verdict name false [] (chapters_output out file.chapters ∷ []) file.damage
+job_verdict name (jobs.Attachments list) bytes file events = attached_verdict name list bytes file.attachments file.damage
+job_verdict name job bytes file events = fit_verdict name job file.tracks events
 
 abbrev pub read_verdict : List ℕ → Job → List ℕ → Result FileRead Damage → Verdict
 read_verdict name job bytes (Err d) = refused (refusal_line name d)
-read_verdict name job bytes (Ok file) = job_verdict name job file (file_events true bytes file.segment)
+read_verdict name job bytes (Ok file) = job_verdict name job bytes file (file_events true bytes file.segment)
 
 -- what is told of a name, which may have no content, and of whose file an edit may be pending
 abbrev pub name_verdict : List ℕ → Job → Bool → Option (List ℕ) → Verdict

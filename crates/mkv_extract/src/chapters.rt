@@ -1,6 +1,6 @@
 //! The chapters of a file are taken out.
 
-ghost use Rattle.std.specs.Prelude.{◌≡◌, ℕ, ◌∷◌, [], IfOk, IfSome};
+ghost use Rattle.std.specs.Prelude.{◌≡◌, ℕ, ◌∷◌, [], false, IfOk, IfSome};
 ghost use Rattle.mkv_io.specs.Sources.{live_files};
 ghost use Rattle.mkv_schema.specs.declared.ids.TheConstants.{CHAPTERS};
 ghost use Rattle.tree_format.specs.Standing.{IsSoundOf};
@@ -11,10 +11,10 @@ ghost use Rattle.mkv_lines.specs.Ordinary.{IsOrdinary};
 ghost use Rattle.mkv_lines.specs.Said.{HasSayCause, Says};
 ghost use Rattle.mkv_lines.specs.Seen.{seen};
 ghost use Rattle.mkv_lines.specs.Verdict.{Reaches};
-ghost use Rattle.mkv_extract.specs.Extract.{held_verdict, outline_lines, warned_status};
+ghost use Rattle.mkv_extract.specs.Extract.{held_status, held_verdict, outline_lines};
 
 use crate::extract::stop_of;
-use crate::telling::warn_of;
+use crate::telling::warn_outline;
 use extractors::{Source, write_chapters};
 use mkv_io::{Files, Report};
 use mkv_lines::{Line, Status, Stop, say};
@@ -34,7 +34,7 @@ pub fn extract_chapters<F: Files, P: Report>(
     ensures verdict { Reaches
         (seen F.Reads F.writing_faults F.names P.Report files.old report.old)
         (seen F.Reads F.writing_faults F.names P.Report files.new report.new)
-        result (held_verdict name.now [] (chapters_output out.now source.now.chapters ∷ []) source.now.outline.damage) }
+        result (held_verdict name.now false [] (chapters_output out.now source.now.chapters ∷ []) source.now.outline.damage) }
     ensures ordinary { IfOk result IsOrdinary }
     ensures live { (file : ℕ) → (live_files F.Reads files.new).live file ≡ (live_files F.Reads files.old).live file }
     ensures cause { HasStopCause
@@ -56,29 +56,10 @@ fn tell_output<P: Report>(
     report: &mut P,
 ) -> Result<Status, Stop>
     ensures said { Says (P.lines report.old) (P.lines report.new) (wrote_line out.now ∷ outline_lines name.now damage) result }
-    ensures status { IfOk result (λ status. status ≡ warned_status (outline_lines name.now damage)) }
+    ensures status { IfOk result (λ status. status ≡ held_status false damage) }
     ensures ordinary { IfOk result IsOrdinary }
     ensures cause { HasSayCause (P.faults report.old) (P.faults report.new) result }
 {
     say(alloc, report, &Line::Wrote { name: out })?;
     warn_outline(alloc, name, damage, report)
-}
-
-/// Warns of the damage of level 1, if there is one.
-fn warn_outline<P: Report>(
-    alloc: Global,
-    name: &str,
-    damage: Option<Damage>,
-    report: &mut P,
-) -> Result<Status, Stop>
-    ensures said { Says (P.lines report.old) (P.lines report.new) (outline_lines name.now damage) result }
-    ensures status { IfOk result (λ status. status ≡ warned_status (outline_lines name.now damage)) }
-    ensures ordinary { IfOk result IsOrdinary }
-    ensures cause { HasSayCause (P.faults report.old) (P.faults report.new) result }
-{
-    let Some(damage) = damage else {
-        return Ok(Status::Done);
-    };
-    warn_of(alloc, name, &damage, report)?;
-    Ok(Status::Warned)
 }

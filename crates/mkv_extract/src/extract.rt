@@ -4,7 +4,7 @@ ghost use Rattle.std.specs.Prelude.{◌≡◌, true, ℕ, IfOk, IsSome};
 ghost use Rattle.mkv_io.specs.Names.{AreApart, AreOthers};
 ghost use Rattle.mkv_io.specs.Sources.{IfTold, IsLive, live_files};
 ghost use Rattle.mkv_io.specs.Told.{Told};
-ghost use Rattle.extract_model.specs.Job.{is_taken, names_for, names_of, taken_of, targets_of};
+ghost use Rattle.extract_model.specs.Job.{CanBeDone, names_for, names_of, taken_of, targets_of};
 ghost use Rattle.extractors.specs.Source.{AreUsable, IsSource, events_in};
 ghost use Rattle.pending_edits.specs.Pending.{is_pending};
 ghost use Rattle.mkv_lines.specs.Faults.{HasStopCause};
@@ -17,9 +17,10 @@ ghost use Rattle.mkv_extract.specs.End.{stop_of};
 ghost use Rattle.mkv_extract.specs.Extract.{extract_verdict, fit_verdict, is_among, is_input, job_verdict, read_verdict, taken_verdict};
 ghost use Rattle.mkv_extract.specs.Read.{read_in, read_of};
 
+use crate::attachments::extract_attachments;
 use crate::chapters::extract_chapters;
 use crate::reading::read_source;
-use crate::telling::{say_absent, tell};
+use crate::telling::{Missing, say_absent, tell};
 use element_reader::OutlineEnd;
 use extractors::{Source, extract, job_unfit, targets_of};
 use mkv_io::{Files, Report};
@@ -38,8 +39,7 @@ pub fn extract_of<F: Files, P: Report>(
     files: &mut F,
     report: &mut P,
 ) -> Result<Status, Stop>
-    requires takes { is_taken job.now ≡ true }
-    requires apart { AreApart (names_for job.now) }
+    requires job { CanBeDone job.now }
     ensures verdict { Told (F.names files.old) (λ world. Reaches
         (seen F.Reads F.writing_faults F.names P.Report files.old report.old)
         (seen F.Reads F.writing_faults F.names P.Report files.new report.new)
@@ -98,8 +98,7 @@ fn extract_settled<F: Files, P: Report>(
     file: FileId,
     report: &mut P,
 ) -> Result<Status, Stop>
-    requires takes { is_taken job.now ≡ true }
-    requires apart { AreApart (names_for job.now) }
+    requires job { CanBeDone job.now }
     requires live { IsLive F.Reads files.old file }
     requires other { AreOthers (F.holder files.old file.n) (names_for job.now) }
     ensures verdict { Told (F.names files.old) (λ world. IfTold F.Reads files.old file (λ bytes. Reaches
@@ -128,8 +127,7 @@ fn extract_file<F: Files, P: Report>(
     file: FileId,
     report: &mut P,
 ) -> Result<Status, Stop>
-    requires takes { is_taken job.now ≡ true }
-    requires apart { AreApart (names_for job.now) }
+    requires job { CanBeDone job.now }
     requires live { IsLive F.Reads files.old file }
     requires other { AreOthers (F.holder files.old file.n) (names_for job.now) }
     ensures verdict { IfTold F.Reads files.old file (λ bytes. Reaches
@@ -174,15 +172,14 @@ fn extract_job<F: Files, P: Report>(
     files: &mut F,
     report: &mut P,
 ) -> Result<Status, Stop>
-    requires takes { is_taken job.now ≡ true }
-    requires apart { AreApart (names_for job.now) }
+    requires job { CanBeDone job.now }
     requires source { IsSource F.Reads files.old source.now }
     requires usable { AreUsable source.now (targets_of job.now) }
     requires other { AreOthers (F.holder files.old source.now.file.n) (names_for job.now) }
     ensures verdict { IfTold F.Reads files.old source.now.file (λ bytes. Reaches
         (seen F.Reads F.writing_faults F.names P.Report files.old report.old)
         (seen F.Reads F.writing_faults F.names P.Report files.new report.new)
-        result (job_verdict name.now job.now (read_in source.now) (events_in source.now bytes))) }
+        result (job_verdict name.now job.now bytes (read_in source.now) (events_in source.now bytes))) }
     ensures ordinary { IfOk result IsOrdinary }
     ensures live { (file : ℕ) → (live_files F.Reads files.new).live file ≡ (live_files F.Reads files.old).live file }
     ensures cause { HasStopCause
@@ -198,6 +195,9 @@ fn extract_job<F: Files, P: Report>(
             files,
             report,
         ),
+        Job::Attachments { list } => {
+            extract_attachments(alloc, name, list.as_slice(), source, files, report)
+        }
         _ => extract_fit(alloc, name, job, source, files, report),
     }
 }
@@ -273,7 +273,7 @@ fn extract_source<F: Files, P: Report>(
 {
     let targets = targets_of(job);
     let count = source.tracks.len() as u64;
-    say_absent(alloc, name, targets, count, report)?;
+    say_absent(alloc, Missing::Track, name, targets, count, report)?;
     let damages = match extract(alloc, files, source, job) {
         Ok(damages) => damages,
         Err(end) => return Err(stop_of(end)),

@@ -1,7 +1,8 @@
 #![tactic(auto)]
 
-//! The command `extract`, which takes frames of tracks, their times, or the chapters out of a file.
+//! The command `extract`, which takes frames of tracks, their times, the chapters or attached files out of a file.
 
+mod attachments;
 mod chapters;
 mod extract;
 mod reading;

@@ -1,14 +1,14 @@
 //! What is told of an extraction.
 
-ghost use Rattle.std.specs.Prelude.{◌≡◌, ◌&&◌, not, nat_le, ◌++◌, ◌∷◌, [], List, map, IfOk};
+ghost use Rattle.std.specs.Prelude.{◌≡◌, false, ◌&&◌, not, nat_le, ◌++◌, ◌∷◌, [], List, map, IfOk};
 ghost use Rattle.mkv_values.specs.declared.damage.Damage.{Damage};
 ghost use Rattle.cluster_reader.specs.ToldDamages.{told_damages};
-ghost use Rattle.mkv_lines.specs.Line.{no_track_line, warning_line, wrote_line};
+ghost use Rattle.mkv_lines.specs.Line.{warning_line, wrote_line};
 ghost use Rattle.mkv_lines.specs.Ordinary.{IsOrdinary};
 ghost use Rattle.mkv_lines.specs.Said.{HasSayCause, Says};
-ghost use Rattle.mkv_extract.specs.Extract.{absent, told_lines, has_absent, status_of};
+ghost use Rattle.mkv_extract.specs.Extract.{absent, has_absent, held_status, outline_lines, status_of, told_lines};
 ghost use Rattle.mkv_extract.specs.Read.{is_named};
-ghost use Rattle.mkv_extract.specs.Told.{written};
+ghost use Rattle.mkv_extract.specs.Told.{line_of, written};
 
 use crate::reading::is_named;
 use cluster_reader::Damages;
@@ -18,15 +18,23 @@ use mkv_lines::{Line, Status, Stop, say};
 use mkv_values::Damage;
 use std::alloc::Global;
 
-/// Warns of the tracks that are named and that a file of so many tracks hasn't, of each once.
+/// What a file may not have of what targets name.
+#[derive(Clone, Copy)]
+pub enum Missing {
+    Track,
+    Attachment,
+}
+
+/// Warns of the numbers from `count` on that targets name, of each once: the file hasn't what they stand for.
 pub fn say_absent<P: Report>(
     alloc: Global,
+    missing: Missing,
     name: &str,
     targets: &[Target],
     count: u64,
     report: &mut P,
 ) -> Result<(), Stop>
-    ensures said { Says (P.lines report.old) (P.lines report.new) (map (no_track_line name.now) (absent count targets.now)) result }
+    ensures said { Says (P.lines report.old) (P.lines report.new) (map (line_of missing name.now) (absent count targets.now)) result }
     ensures cause { HasSayCause (P.faults report.old) (P.faults report.new) result }
 {
     for (k, target) in targets.iter().enumerate() {
@@ -34,12 +42,29 @@ pub fn say_absent<P: Report>(
         if !is_told(&targets[..k], number, count) {
             continue;
         }
-        say(alloc, report, &Line::NoTrack { name, number })?;
+        say_missing(alloc, missing, name, number, report)?;
     }
     Ok(())
 }
 
-/// Whether a number is told that stands behind these targets: the file hasn't its track, and none of them names it.
+/// Warns of a number that the file hasn't.
+fn say_missing<P: Report>(
+    alloc: Global,
+    missing: Missing,
+    name: &str,
+    number: u64,
+    report: &mut P,
+) -> Result<(), Stop>
+    ensures said { Says (P.lines report.old) (P.lines report.new) (line_of missing name.now number ∷ []) result }
+    ensures cause { HasSayCause (P.faults report.old) (P.faults report.new) result }
+{
+    match missing {
+        Missing::Track => say(alloc, report, &Line::NoTrack { name, number }),
+        Missing::Attachment => say(alloc, report, &Line::NoAttachment { name, number }),
+    }
+}
+
+/// Whether a number is told that stands behind these targets: it isn't below `count`, and none of them names it.
 fn is_told(before: &[Target], number: u64, count: u64) -> bool
     ensures { result ≡ (nat_le count number && not (is_named before.now number)) }
 {
@@ -67,8 +92,8 @@ pub fn tell<P: Report>(
     Ok(status_of(targets, count, damages))
 }
 
-/// A line for each output.
-fn say_wrote<P: Report>(
+/// A line for each output: of the targets whose numbers are below `count`.
+pub fn say_wrote<P: Report>(
     alloc: Global,
     targets: &[Target],
     count: u64,
@@ -103,8 +128,51 @@ fn warn<P: Report>(alloc: Global, name: &str, damages: &Damages, report: &mut P)
     Ok(())
 }
 
+/// Tells of the outputs of targets, which stand whole, and warns of the damage of level 1.
+pub fn tell_held<P: Report>(
+    alloc: Global,
+    name: &str,
+    targets: &[Target],
+    count: u64,
+    damage: Option<Damage>,
+    report: &mut P,
+) -> Result<Status, Stop>
+    ensures said { Says (P.lines report.old) (P.lines report.new)
+        (map wrote_line (written count targets.now) ++ outline_lines name.now damage) result }
+    ensures status { IfOk result (λ status. status ≡ held_status (has_absent count targets.now) damage) }
+    ensures ordinary { IfOk result IsOrdinary }
+    ensures cause { HasSayCause (P.faults report.old) (P.faults report.new) result }
+{
+    say_wrote(alloc, targets, count, report)?;
+    let status = warn_outline(alloc, name, damage, report)?;
+    if has_absent(targets, count) {
+        Ok(Status::Warned)
+    } else {
+        Ok(status)
+    }
+}
+
+/// Warns of the damage of level 1, if there is one.
+pub fn warn_outline<P: Report>(
+    alloc: Global,
+    name: &str,
+    damage: Option<Damage>,
+    report: &mut P,
+) -> Result<Status, Stop>
+    ensures said { Says (P.lines report.old) (P.lines report.new) (outline_lines name.now damage) result }
+    ensures status { IfOk result (λ status. status ≡ held_status false damage) }
+    ensures ordinary { IfOk result IsOrdinary }
+    ensures cause { HasSayCause (P.faults report.old) (P.faults report.new) result }
+{
+    let Some(damage) = damage else {
+        return Ok(Status::Done);
+    };
+    warn_of(alloc, name, &damage, report)?;
+    Ok(Status::Warned)
+}
+
 /// Warns of a damage.
-pub(crate) fn warn_of<P: Report>(
+fn warn_of<P: Report>(
     alloc: Global,
     name: &str,
     damage: &Damage,
@@ -132,8 +200,8 @@ fn status_of(targets: &[Target], count: u64, damages: &Damages) -> Status
     }
 }
 
-/// Whether a target names a track that a file of so many tracks hasn't.
-fn has_absent(targets: &[Target], count: u64) -> bool
+/// Whether a target names a number from `count` on.
+pub fn has_absent(targets: &[Target], count: u64) -> bool
     ensures { result ≡ has_absent count targets.now }
 {
     targets.iter().any(|target| target.id >= count)

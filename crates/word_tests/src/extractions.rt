@@ -71,6 +71,15 @@ const CHAPTERS: [u8; 62] = [
     0x8D, 0x85, 0x85, 0x49, 0x6E, 0x74, 0x72, 0x6F, 0x43, 0x7C, 0x83, 0x75, 0x6E, 0x64,
 ];
 
+/// Two tracks, of which the frames of the second can't be used, and two attached files, FONT and Q!.
+const ATTACHED: [u8; 77] = [
+    0x1A, 0x45, 0xDF, 0xA3, 0x8B, 0x42, 0x82, 0x88, 0x6D, 0x61, 0x74, 0x72, 0x6F, 0x73, 0x6B, 0x61,
+    0x18, 0x53, 0x80, 0x67, 0xB8, 0x16, 0x54, 0xAE, 0x6B, 0x9C, 0xAE, 0x89, 0xD7, 0x81, 0x01, 0x83,
+    0x81, 0x02, 0x86, 0x81, 0x41, 0xAE, 0x8F, 0xD7, 0x81, 0x02, 0x83, 0x81, 0x02, 0x86, 0x81, 0x41,
+    0x6D, 0x80, 0x83, 0x62, 0x40, 0x80, 0x19, 0x41, 0xA4, 0x69, 0x92, 0x61, 0xA7, 0x87, 0x46, 0x5C,
+    0x84, 0x46, 0x4F, 0x4E, 0x54, 0x61, 0xA7, 0x85, 0x46, 0x5C, 0x82, 0x51, 0x21,
+];
+
 /// An Info whose TimestampScale is 0, and no Tracks.
 const NO_SCALE: [u8; 31] = [
     0x1A, 0x45, 0xDF, 0xA3, 0x8B, 0x42, 0x82, 0x88, 0x6D, 0x61, 0x74, 0x72, 0x6F, 0x73, 0x6B, 0x61,
@@ -220,6 +229,45 @@ fn frames_and_times_are_taken_out(rt: HostRuntime) -> Result<(), Fail> {
                 &[0xAA, 0xBB],
             )
         },
+    ];
+    for row in &rows {
+        assert!(rt; agrees(rt.alloc(), row)?, "{:?}", row.words);
+    }
+    Ok(())
+}
+
+#[test]
+fn attached_files_are_taken_out_whatever_the_tracks_are(rt: HostRuntime) -> Result<(), Fail> {
+    let first = written(
+        &ATTACHED,
+        &["extract", "a.mkv", "attachments", "1:r", "2:q"],
+        b"FONT",
+    );
+    let rows = [
+        Row {
+            lines: &["wrote r", "wrote q"],
+            q: Some(b"Q!"),
+            ..first
+        },
+        Row {
+            status: Status::Warned,
+            lines: &["warning: a.mkv: no attachment 3", "wrote r"],
+            ..written(
+                &ATTACHED,
+                &["extract", "a.mkv", "attachments", "3:s", "2:r", "3:t"],
+                b"Q!",
+            )
+        },
+        refused(
+            &ATTACHED,
+            &["extract", "a.mkv", "tracks", "--raw", "1:r"],
+            &["error: a.mkv: Encoding, element 6D80, offset 48"],
+        ),
+        refused(
+            &ATTACHED,
+            &["extract", "a.mkv", "attachments", "1:r", "2:a.mkv"],
+            &["error: a.mkv: OutputIsInput"],
+        ),
     ];
     for row in &rows {
         assert!(rt; agrees(rt.alloc(), row)?, "{:?}", row.words);

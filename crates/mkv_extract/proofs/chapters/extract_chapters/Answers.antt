@@ -1,4 +1,4 @@
-use Rattle.std.proofs.Common.{◌≡◌, [], ◌∷◌, Option, IfOk, refl, sym, subst}
+use Rattle.std.proofs.Common.{◌≡◌, [], ◌∷◌, false, Option, IfOk, refl, sym, subst}
 use Rattle.mkv_values.specs.declared.damage.Damage.{Damage}
 use Rattle.mkv_lines.specs.Line.{wrote_line}
 use Rattle.mkv_lines.specs.Said.{Says}
@@ -6,7 +6,7 @@ use Rattle.mkv_lines.specs.Seen.{seen}
 use Rattle.mkv_lines.specs.declared.status.Status.{Status}
 use Rattle.mkv_lines.proofs.SaidLemmas.{with_lines-none}
 use Rattle.extract_model.specs.Chapters.{chapters_output}
-use Rattle.mkv_extract.specs.Extract.{held_verdict, outline_lines, warned_status}
+use Rattle.mkv_extract.specs.Extract.{held_status, held_verdict, outline_lines}
 use Rattle.mkv_extract.proofs.ExtractLemmas.{reaches-told}
 use Rattle.mkv_extract.proofs.chapters.extract_chapters.Goals as goal
 
@@ -20,7 +20,7 @@ returns-clause-verdict g c =
     let damage = c.args.source.now.outline.damage in
     reaches-told (seen g.F.Reads g.F.Files.writing_faults g.F.Files.names g.P.Report c.args.files.now c.args.report.now)
     (seen g.F.Reads g.F.Files.writing_faults g.F.Files.names g.P.Report c.write_chapters.new.files c.tell_output.new.report)
-    lines c.tell_output.result (held_verdict name [] (output ∷ []) damage) [] (wrote_line out ∷ outline_lines name damage) (output ∷ []) refl refl (sym (with_lines-none lines))
+    lines c.tell_output.result (held_verdict name false [] (output ∷ []) damage) [] (wrote_line out ∷ outline_lines name damage) (output ∷ []) refl refl (sym (with_lines-none lines))
     (subst (λ (d : Option Damage). Says lines (g.P.Report.lines c.tell_output.new.report) (wrote_line out ∷ outline_lines name d) c.tell_output.result) c.damage.ensures c.tell_output.ensures.said)
-    (subst (λ (d : Option Damage). IfOk c.tell_output.result (λ (s : Status). s ≡ warned_status (outline_lines name d))) c.damage.ensures c.tell_output.ensures.status)
+    (subst (λ (d : Option Damage). IfOk c.tell_output.result (λ (s : Status). s ≡ held_status false d)) c.damage.ensures c.tell_output.ensures.status)
     c.in_default.ensures.writes

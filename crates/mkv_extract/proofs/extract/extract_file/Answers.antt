@@ -23,8 +23,8 @@ returns-in-Ok-clause-verdict g c = λ bytes told.
     let names : g.F.Files.names mid ≡ g.F.Files.names old = g.met.F.Files.names_stand mid old standing in
     let there : (live_files g.F.Reads mid).content source.file.n ≡ Some bytes =
     ap (λ s. (g.F.Reads.files s).content source.file.n) standing ∙ ap (λ (file : FileId). (live_files g.F.Reads old).content file.n) c.in-Ok.ensures.file ∙ told in
-    let read : job_verdict name job (read_in source) (events_in source bytes) ≡ read_verdict name job bytes _ =
-    ap (job_verdict name job (read_in source)) (c.in-Ok.ensures.events bytes told) ∙ ap (read_verdict name job bytes) (sym (c.in-Ok.ensures.exact bytes told)) in
+    let read : job_verdict name job bytes (read_in source) (events_in source bytes) ≡ read_verdict name job bytes _ =
+    ap (job_verdict name job bytes (read_in source)) (c.in-Ok.ensures.events bytes told) ∙ ap (read_verdict name job bytes) (sym (c.in-Ok.ensures.exact bytes told)) in
     let before : Seen = seen g.F.Reads g.F.Files.writing_faults g.F.Files.names g.P.Report old c.args.report.now in
     let after : Seen = seen g.F.Reads g.F.Files.writing_faults g.F.Files.names g.P.Report c.extract_job.new.files c.extract_job.new.report in
     let same : seen g.F.Reads g.F.Files.writing_faults g.F.Files.names g.P.Report mid c.args.report.now ≡ before =
@@ -34,7 +34,7 @@ returns-in-Ok-clause-verdict g c = λ bytes told.
       names = names i;
     } in
     subst (λ (v : Verdict). Reaches before after c.extract_job.result v) read
-    (subst (λ (s : Seen). Reaches s after c.extract_job.result (job_verdict name job (read_in source) (events_in source bytes))) same (c.extract_job.ensures.verdict bytes there))
+    (subst (λ (s : Seen). Reaches s after c.extract_job.result (job_verdict name job bytes (read_in source) (events_in source bytes))) same (c.extract_job.ensures.verdict bytes there))
 
 pub returns-in-Ok-clause-cause : goal.returns-in-Ok-clause-cause
 returns-in-Ok-clause-cause g c =

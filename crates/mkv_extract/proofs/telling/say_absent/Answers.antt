@@ -1,11 +1,11 @@
 use Rattle.std.proofs.Common.{◌≡◌, ℕ, ◌+◌, ◌-◌, ◌<◌, ◌≤◌, ◌&&◌, not, nat_le, true, false, Bool, List, ◌∷◌, [], length, take, drop, get_or, map, refl, sym, ◌∙◌, ap, subst, rules, arith}
 use Rattle.std.proofs.lemmas.Result.{err_from_is_err_and}
 use Rattle.mkv_jobs.specs.declared.job.Target.{Target}
-use Rattle.mkv_lines.specs.Line.{no_track_line}
 use Rattle.mkv_lines.specs.Said.{SaysUpTo}
 use Rattle.mkv_lines.proofs.SaidLemmas.{SaysUpTo-begins, SaysUpTo-ends, SaysUpTo-more, SaysUpTo-stops}
 use Rattle.mkv_extract.specs.Extract.{absent}
 use Rattle.mkv_extract.specs.Read.{is_named}
+use Rattle.mkv_extract.specs.Told.{line_of}
 use Rattle.mkv_extract.proofs.ToldLemmas.{absent-ends, absent-passed, absent-said, absent_left, absent_left-all}
 use Rattle.mkv_extract.proofs.telling.say_absent.Goals as goal
 
@@ -13,7 +13,7 @@ use Rattle.mkv_extract.proofs.telling.say_absent.Goals as goal
 pub loop-k-init : goal.loop-k-init
 loop-k-init g c = record {
   report = refl;
-  way = subst (SaysUpTo (g.P.Report.lines c.args.report.now) (g.P.Report.lines c.args.report.now) (map (no_track_line c.args.name.now) (absent c.args.count c.args.targets.now))) (ap (map (no_track_line c.args.name.now)) (sym (absent_left-all c.args.count c.args.targets.now))) (SaysUpTo-begins (g.P.Report.lines c.args.report.now) (map (no_track_line c.args.name.now) (absent c.args.count c.args.targets.now)));
+  way = subst (SaysUpTo (g.P.Report.lines c.args.report.now) (g.P.Report.lines c.args.report.now) (map (line_of c.args.missing c.args.name.now) (absent c.args.count c.args.targets.now))) (ap (map (line_of c.args.missing c.args.name.now)) (sym (absent_left-all c.args.count c.args.targets.now))) (SaysUpTo-begins (g.P.Report.lines c.args.report.now) (map (line_of c.args.missing c.args.name.now) (absent c.args.count c.args.targets.now)));
 }
 
 -- a number that isn't told is passed
@@ -21,37 +21,37 @@ pub loop-k-preserved-then-not-is_told : goal.loop-k-preserved-then-not-is_told
 loop-k-preserved-then-not-is_told g c = record {
   report = search rules;
   way =
-      absent-passed (g.P.Report.lines c.args.report.now) (g.P.Report.lines c.loop-k.report) (map (no_track_line c.args.name.now) (absent c.args.count c.args.targets.now)) c.args.name.now c.args.count c.args.targets.now c.loop-k.k c.index-targets-k.result c.loop-k-test.true c.index-targets-k.is
+      absent-passed (g.P.Report.lines c.args.report.now) (g.P.Report.lines c.loop-k.report) (map (line_of c.args.missing c.args.name.now) (absent c.args.count c.args.targets.now)) (line_of c.args.missing c.args.name.now) c.args.count c.args.targets.now c.loop-k.k c.index-targets-k.result c.loop-k-test.true c.index-targets-k.is
       (sym c.is_told.ensures ∙ c.if-not-is_told.true)
       c.loop-k.invariant.way;
 }
 
 -- a line couldn't be said
-pub returns-in_err-say-clause-said : goal.returns-in_err-say-clause-said
-returns-in_err-say-clause-said g c =
+pub returns-in_err-say_missing-clause-said : goal.returns-in_err-say_missing-clause-said
+returns-in_err-say_missing-clause-said g c =
     let p = err_from_is_err_and c.from_residual.result c.from_residual.ensures.1 in
     rw p.1
-    (SaysUpTo-stops (g.P.Report.lines c.args.report.now) (g.P.Report.lines c.loop-k.report) (g.P.Report.lines c.say.new.report) (map (no_track_line c.args.name.now) (absent c.args.count c.args.targets.now)) (no_track_line c.args.name.now c.index-targets-k.result.id ∷ []) (map (no_track_line c.args.name.now) (absent_left c.args.count (take (c.loop-k.k + 1) c.args.targets.now) (drop (c.loop-k.k + 1) c.args.targets.now)))
-    (absent-said (g.P.Report.lines c.args.report.now) (g.P.Report.lines c.loop-k.report) (map (no_track_line c.args.name.now) (absent c.args.count c.args.targets.now)) c.args.name.now c.args.count c.args.targets.now c.loop-k.k c.index-targets-k.result c.loop-k-test.true c.index-targets-k.is
+    (SaysUpTo-stops (g.P.Report.lines c.args.report.now) (g.P.Report.lines c.loop-k.report) (g.P.Report.lines c.say_missing.new.report) (map (line_of c.args.missing c.args.name.now) (absent c.args.count c.args.targets.now)) (line_of c.args.missing c.args.name.now c.index-targets-k.result.id ∷ []) (map (line_of c.args.missing c.args.name.now) (absent_left c.args.count (take (c.loop-k.k + 1) c.args.targets.now) (drop (c.loop-k.k + 1) c.args.targets.now)))
+    (absent-said (g.P.Report.lines c.args.report.now) (g.P.Report.lines c.loop-k.report) (map (line_of c.args.missing c.args.name.now) (absent c.args.count c.args.targets.now)) (line_of c.args.missing c.args.name.now) c.args.count c.args.targets.now c.loop-k.k c.index-targets-k.result c.loop-k-test.true c.index-targets-k.is
     (sym c.is_told.ensures ∙ c.if-not-is_told.false)
     c.loop-k.invariant.way)
-    c.in_err-say.ensures.said)
+    c.in_err-say_missing.ensures.said)
 
 -- another line was said
 pub loop-k-preserved : goal.loop-k-preserved
 loop-k-preserved g c = record {
   report = search rules;
   way =
-      SaysUpTo-more (g.P.Report.lines c.args.report.now) (g.P.Report.lines c.loop-k.report) (g.P.Report.lines c.say.new.report) (map (no_track_line c.args.name.now) (absent c.args.count c.args.targets.now)) (no_track_line c.args.name.now c.index-targets-k.result.id ∷ []) (map (no_track_line c.args.name.now) (absent_left c.args.count (take (c.loop-k.k + 1) c.args.targets.now) (drop (c.loop-k.k + 1) c.args.targets.now)))
-      (absent-said (g.P.Report.lines c.args.report.now) (g.P.Report.lines c.loop-k.report) (map (no_track_line c.args.name.now) (absent c.args.count c.args.targets.now)) c.args.name.now c.args.count c.args.targets.now c.loop-k.k c.index-targets-k.result c.loop-k-test.true c.index-targets-k.is
+      SaysUpTo-more (g.P.Report.lines c.args.report.now) (g.P.Report.lines c.loop-k.report) (g.P.Report.lines c.say_missing.new.report) (map (line_of c.args.missing c.args.name.now) (absent c.args.count c.args.targets.now)) (line_of c.args.missing c.args.name.now c.index-targets-k.result.id ∷ []) (map (line_of c.args.missing c.args.name.now) (absent_left c.args.count (take (c.loop-k.k + 1) c.args.targets.now) (drop (c.loop-k.k + 1) c.args.targets.now)))
+      (absent-said (g.P.Report.lines c.args.report.now) (g.P.Report.lines c.loop-k.report) (map (line_of c.args.missing c.args.name.now) (absent c.args.count c.args.targets.now)) (line_of c.args.missing c.args.name.now) c.args.count c.args.targets.now c.loop-k.k c.index-targets-k.result c.loop-k-test.true c.index-targets-k.is
       (sym c.is_told.ensures ∙ c.if-not-is_told.false)
       c.loop-k.invariant.way)
-      c.in_ok-say.ensures.said;
+      c.in_ok-say_missing.ensures.said;
 }
 
 -- all lines were said
 pub returns-clause-said : goal.returns-clause-said
 returns-clause-said g c =
     let all : length c.args.targets.now ≤ c.loop-k.k = omega (arith, c.loop-k-test.false) in
-    SaysUpTo-ends (g.P.Report.lines c.args.report.now) (g.P.Report.lines c.loop-k.report) (map (no_track_line c.args.name.now) (absent c.args.count c.args.targets.now))
-    (subst (SaysUpTo (g.P.Report.lines c.args.report.now) (g.P.Report.lines c.loop-k.report) (map (no_track_line c.args.name.now) (absent c.args.count c.args.targets.now))) (absent-ends c.args.count c.args.targets.now c.loop-k.k c.args.name.now all) c.loop-k.invariant.way)
+    SaysUpTo-ends (g.P.Report.lines c.args.report.now) (g.P.Report.lines c.loop-k.report) (map (line_of c.args.missing c.args.name.now) (absent c.args.count c.args.targets.now))
+    (subst (SaysUpTo (g.P.Report.lines c.args.report.now) (g.P.Report.lines c.loop-k.report) (map (line_of c.args.missing c.args.name.now) (absent c.args.count c.args.targets.now))) (absent-ends c.args.count c.args.targets.now c.loop-k.k (line_of c.args.missing c.args.name.now) all) c.loop-k.invariant.way)

@@ -1,13 +1,13 @@
 -- The lines of the first targets were said.
 use Rattle.std.proofs.Common.{◌≡◌, drop, map, take}
-use Rattle.mkv_lines.specs.Line.{no_track_line}
 use Rattle.mkv_lines.specs.Said.{SaysUpTo}
 use Rattle.mkv_extract.specs.Extract.{absent}
+use Rattle.mkv_extract.specs.Told.{line_of}
 use Rattle.mkv_extract.proofs.ToldLemmas.{absent_left}
 use Rattle.mkv_extract.proofs.telling.say_absent.Given as goal
 
 abbrev pub invariant-loop-k : goal.invariant-loop-k
 invariant-loop-k g l = record {
   report : g.P.Report.faults l.report ≡ g.P.Report.faults l.initial.report;
-  way : SaysUpTo (g.P.Report.lines l.initial.report) (g.P.Report.lines l.report) (map (no_track_line l.name) (absent l.count l.targets)) (map (no_track_line l.name) (absent_left l.count (take l.k l.targets) (drop l.k l.targets)));
+  way : SaysUpTo (g.P.Report.lines l.initial.report) (g.P.Report.lines l.report) (map (line_of l.missing l.name) (absent l.count l.targets)) (map (line_of l.missing l.name) (absent_left l.count (take l.k l.targets) (drop l.k l.targets)));
 }

@@ -1,0 +1,109 @@
+//! Attached files are written, each into a file of its own.
+
+ghost use Rattle.std.specs.Prelude.{◌≡◌, ◌+◌, ◌*◌, ◌≤◌, ◌∷◌, [], length, map, All, option_map};
+ghost use Rattle.mkv_io.specs.Names.{AreOthers};
+ghost use Rattle.mkv_io.specs.Sources.{IfTold, IsLive, file_size};
+ghost use Rattle.mkv_io.specs.Writing.{KeepsOthers};
+ghost use Rattle.mkv_jobs.specs.Ends.{HasRemuxCause};
+ghost use Rattle.attachment_reading.specs.Walk.{IsAttachedIn};
+ghost use Rattle.file_records.specs.Attached.{in_file};
+ghost use Rattle.extract_model.specs.Job.{names_of};
+ghost use Rattle.whole_files.specs.Whole.{AreWritten};
+ghost use Rattle.extractors.specs.Attached.{attached_at, attached_output, attached_outputs};
+
+use crate::source::Source;
+use attachment_reading::Attachment;
+use mkv_io::Files;
+use mkv_jobs::{RemuxEnd, Target};
+use mkv_values::List;
+use std::alloc::Global;
+use whole_files::copy_file;
+
+/// So many octets of data are copied at once.
+const CHUNK: usize = 65_536;
+
+/// An attached file by its number, from 1.
+fn attached_at(list: &List<Attachment>, number: u64) -> Option<&Attachment>
+    ensures { option_map (λ a. a.now) result ≡ attached_at list.now number }
+{
+    if number == 0 {
+        return None;
+    }
+    list.get((number - 1) as usize)
+}
+
+/// Makes the file of a target, whatever it was, with the data of the attached file that it names, if the source has that.
+fn write_attachment<F: Files>(
+    files: &mut F,
+    source: &Source,
+    target: &Target,
+    buffer: &mut [u8],
+) -> Result<(), RemuxEnd>
+    requires live { IsLive F.Reads files.old source.now.file }
+    requires attached { All (IsAttachedIn source.now.file (file_size F.Reads files.old source.now.file)) source.now.attachments }
+    requires other { AreOthers (F.holder files.old source.now.file.n) (target.now.name ∷ []) }
+    requires buffer { 1 ≤ length buffer.old }
+    ensures writes { IfTold F.Reads files.old source.now.file (λ bytes. AreWritten (F.names files.old) (F.names files.new)
+        (attached_output bytes target.now (attached_at (map in_file source.now.attachments) target.now.id)) result) }
+    ensures kept { KeepsOthers F.Reads F.Files.own (target.now.name ∷ []) files.old files.new }
+    ensures cause { HasRemuxCause F.Reads F.Files.own files.old files.new result }
+    ensures reads { F.octets_read files.new ≤ F.octets_read files.old + file_size F.Reads files.old source.now.file }
+{
+    let Some(attachment) = attached_at(&source.attachments, target.id) else {
+        return Ok(());
+    };
+    copy_file(
+        files,
+        target.name.as_str(),
+        attachment.file,
+        attachment.at,
+        attachment.len,
+        buffer,
+    )
+}
+
+/// Makes the files of targets in their order, as many octets at a time as the buffer holds.
+fn write_each<F: Files>(
+    files: &mut F,
+    source: &Source,
+    targets: &[Target],
+    buffer: &mut [u8],
+) -> Result<(), RemuxEnd>
+    requires live { IsLive F.Reads files.old source.now.file }
+    requires attached { All (IsAttachedIn source.now.file (file_size F.Reads files.old source.now.file)) source.now.attachments }
+    requires other { AreOthers (F.holder files.old source.now.file.n) (names_of targets.now) }
+    requires buffer { 1 ≤ length buffer.old }
+    ensures writes { IfTold F.Reads files.old source.now.file (λ bytes. AreWritten (F.names files.old) (F.names files.new)
+        (attached_outputs bytes targets.now (map in_file source.now.attachments)) result) }
+    ensures kept { KeepsOthers F.Reads F.Files.own (names_of targets.now) files.old files.new }
+    ensures cause { HasRemuxCause F.Reads F.Files.own files.old files.new result }
+    ensures reads { F.octets_read files.new
+        ≤ F.octets_read files.old + length targets.now * file_size F.Reads files.old source.now.file }
+{
+    for target in targets {
+        write_attachment(files, source, target, buffer)?;
+    }
+    Ok(())
+}
+
+/// Makes a file for each target whose attached file the source has, in their order, with its data, of which 64 KiB are in
+/// memory at once. Each is closed before the next is made. After a refusal first files stand, each with a first part.
+pub fn write_attachments<F: Files>(
+    alloc: Global,
+    files: &mut F,
+    source: &Source,
+    targets: &[Target],
+) -> Result<(), RemuxEnd>
+    requires live { IsLive F.Reads files.old source.now.file }
+    requires attached { All (IsAttachedIn source.now.file (file_size F.Reads files.old source.now.file)) source.now.attachments }
+    requires other { AreOthers (F.holder files.old source.now.file.n) (names_of targets.now) }
+    ensures writes { IfTold F.Reads files.old source.now.file (λ bytes. AreWritten (F.names files.old) (F.names files.new)
+        (attached_outputs bytes targets.now (map in_file source.now.attachments)) result) }
+    ensures kept { KeepsOthers F.Reads F.Files.own (names_of targets.now) files.old files.new }
+    ensures cause { HasRemuxCause F.Reads F.Files.own files.old files.new result }
+    ensures reads { F.octets_read files.new
+        ≤ F.octets_read files.old + length targets.now * file_size F.Reads files.old source.now.file }
+{
+    let mut buffer = vec![in alloc; 0u8; CHUNK]?;
+    write_each(files, source, targets, &mut buffer)
+}
