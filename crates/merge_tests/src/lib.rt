@@ -13,6 +13,8 @@ mod large;
 #[cfg(test)]
 mod merges;
 #[cfg(test)]
+mod records;
+#[cfg(test)]
 mod runs;
 #[cfg(test)]
 mod spelled;
