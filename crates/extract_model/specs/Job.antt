@@ -1,5 +1,5 @@
 -- What a job takes of the tracks of a file: RFC 9559, section 5.1.4 (Tracks Element).
-use Rattle.std.specs.Prelude.{◌≡◌, ◌≤◌, ⊤, ℕ, Bool, true, false, not, List, [], ◌∷◌, map, codes, Option, Some, None, option_map, slice_get, unwrap_or}
+use Rattle.std.specs.Prelude.{◌≤◌, ⊤, ℕ, Bool, true, false, not, List, [], ◌∷◌, map, codes, Option, Some, None, option_map, slice_get, unwrap_or}
 use Rattle.std.specs.List.{All, find, flat_map}
 use Rattle.std.specs.Option.{option_map_or}
 use Rattle.std.specs.Str.{bytes_eq}
@@ -49,14 +49,6 @@ names_for (jobs.Attachments list) = names_of list
 names_for (jobs.Cues list) = names_of list
 names_for (jobs.Chapters name) = name ∷ []
 
--- the jobs that are built
-abbrev pub is_taken : Job → Bool
-is_taken (jobs.Tracks form list) = true
-is_taken (jobs.Timestamps list) = true
-is_taken (jobs.Attachments list) = true
-is_taken (jobs.Cues list) = false
-is_taken (jobs.Chapters name) = true
-
 -- Attached files are counted from 1.
 abbrev pub AreNumbered : Job → Type 0
 AreNumbered (jobs.Tracks form list) = ⊤
@@ -65,9 +57,8 @@ AreNumbered (jobs.Attachments list) = All (λ (t : Target). 1 ≤ t.id) list
 AreNumbered (jobs.Cues list) = ⊤
 AreNumbered (jobs.Chapters name) = ⊤
 
--- A job that is built, and whose files have different names.
+-- A job whose files have different names, and whose numbers are such as are counted.
 pub record CanBeDone (job : Job) : Type 0 where
-  pub taken : is_taken job ≡ true
   pub apart : AreApart (names_for job)
   pub numbers : AreNumbered job
 

@@ -1,4 +1,5 @@
 pub mod BlocksLemmas
+pub mod CuesLemmas
 pub mod FramesLemmas
 pub mod JobLemmas
 pub mod MakeLemmas

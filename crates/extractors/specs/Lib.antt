@@ -1,3 +1,4 @@
 pub mod Attached
+pub mod Cues
 pub mod Source
 pub mod Walks

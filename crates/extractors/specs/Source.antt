@@ -3,7 +3,7 @@ use Rattle.std.specs.Prelude.{◌≡◌, ℕ, List, map, None, IfSome, slice_get
 use Rattle.std.specs.List.{All}
 use Rattle.mkv_io.specs.Sources.{IsLive, file_size}
 use Rattle.mkv_io.specs.declared.reads.Reads.{Ghosts}
-use Rattle.mkv_schema.specs.declared.ids.TheConstants.{CHAPTERS}
+use Rattle.mkv_schema.specs.declared.ids.TheConstants.{CHAPTERS, CUES}
 use Rattle.mkv_jobs.specs.declared.job.Job.{Job}
 use Rattle.mkv_jobs.specs.declared.job.Target.{Target}
 use Rattle.matroska_format.specs.Outline.{first_damage}
@@ -45,6 +45,7 @@ pub record IsSource {S : Type 0} (r : Ghosts S) (files : S) (s : Source) : Type 
   pub tracks : AreRead s.tracks
   pub attachments : All (IsAttachedIn s.file s.outline.total) s.attachments
   pub chapters : IfSome s.chapters (IsSoundOf CHAPTERS)
+  pub cues : IfSome s.cues (IsSoundOf CUES)
 
 -- Nothing keeps the frames of a track from being used.
 abbrev pub IsUsable : Node → Type 0

@@ -5,7 +5,7 @@ ghost use Rattle.std.specs.List.{All};
 ghost use Rattle.track_format.specs.Encoding.{prefix_of, usable_prefix};
 ghost use Rattle.track_records.specs.Sound.{IsEntry};
 ghost use Rattle.track_records.specs.Track.{track_of};
-ghost use Rattle.extract_model.specs.Job.{first_unfit, fits, format_of, is_taken, is_unfit, job_unfit, outputs_for, private_of, taken_of, targets_of, track_output};
+ghost use Rattle.extract_model.specs.Job.{first_unfit, fits, format_of, is_unfit, job_unfit, outputs_for, private_of, taken_of, targets_of, track_output};
 ghost use Rattle.file_records.specs.Records.{AreRead};
 ghost use Rattle.extractors.specs.Source.{AreUsableOf, IsUsable, entry_in};
 
@@ -35,19 +35,6 @@ pub fn taken_of(job: &Job) -> Option<Taken>
         } => Some(Taken::SubRip),
         Job::Timestamps { .. } => Some(Taken::Times),
         _ => None,
-    }
-}
-
-/// Whether a job is built.
-pub fn is_taken(job: &Job) -> bool
-    ensures { result ≡ is_taken job.now }
-{
-    match job {
-        Job::Tracks { .. }
-        | Job::Timestamps { .. }
-        | Job::Attachments { .. }
-        | Job::Chapters { .. } => true,
-        Job::Cues { .. } => false,
     }
 }
 

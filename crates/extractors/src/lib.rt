@@ -1,11 +1,12 @@
 #![tactic(auto)]
 
 //! Extractions: frames of tracks, or their times, are written into files of their own, all in one walk over
-//! the blocks of the file; chapters are written as text.
+//! the blocks of the file; chapters and cue points are written as text, attached files as they are.
 
 mod attached;
 mod blocks;
 mod chapters;
+mod cues;
 mod extraction;
 mod frames;
 mod job;
@@ -14,6 +15,7 @@ mod times;
 
 pub use attached::write_attachments;
 pub use chapters::write_chapters;
+pub use cues::write_cues;
 pub use extraction::extract;
-pub use job::{is_taken, job_unfit, taken_of, targets_of};
+pub use job::{job_unfit, taken_of, targets_of};
 pub use source::Source;

@@ -19,4 +19,6 @@ pub struct Source {
     pub attachments: List<Attachment>,
     /// Its first Chapters, if it has one.
     pub chapters: Option<Tree>,
+    /// Its first Cues, if it has one and they are asked for.
+    pub cues: Option<Tree>,
 }

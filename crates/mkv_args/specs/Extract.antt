@@ -84,7 +84,7 @@ unfoldable pub modes : List (Entry Mode)
 modes =
     entry (codes "") (codes "tracks") mode.Tracks (codes "[--raw or --fullraw] ID:FILE..") (codes "texts as SubRip, or frames") ∷
     entry (codes "") (codes "timestamps_v2") mode.Timestamps (codes "ID:FILE..") (codes "times of the frames") ∷
-    entry (codes "") (codes "cues") mode.Cues (codes "ID:FILE..") (codes "cue points (not built)") ∷
+    entry (codes "") (codes "cues") mode.Cues (codes "ID:FILE..") (codes "cue points") ∷
     entry (codes "") (codes "attachments") mode.Attachments (codes "ID:FILE..") (codes "attached files, from 1") ∷
     entry (codes "") (codes "chapters") mode.Chapters (codes "--simple FILE") (codes "chapters as text") ∷ []
 

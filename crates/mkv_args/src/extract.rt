@@ -43,7 +43,7 @@ pub(crate) enum Mode {
 static MODES: [Entry<Mode>; 5] = [
     Entry("", "tracks", Mode::Tracks, "[--raw or --fullraw] ID:FILE..", "texts as SubRip, or frames"),
     Entry("", "timestamps_v2", Mode::Timestamps, "ID:FILE..", "times of the frames"),
-    Entry("", "cues", Mode::Cues, "ID:FILE..", "cue points (not built)"),
+    Entry("", "cues", Mode::Cues, "ID:FILE..", "cue points"),
     Entry("", "attachments", Mode::Attachments, "ID:FILE..", "attached files, from 1"),
     Entry("", "chapters", Mode::Chapters, "--simple FILE", "chapters as text"),
 ];

@@ -16,13 +16,14 @@ use Rattle.mkv_outputs.specs.Starts.{StandsInPart}
 use Rattle.mkv_outputs.proofs.StartsLemmas.{StandsInPart-whole}
 use Rattle.file_records.specs.Attached.{AttachedFile}
 use Rattle.extractors.specs.Attached.{attached_at, attached_output, attached_outputs}
+use Rattle.extractors.specs.Cues.{cues_output, cues_outputs}
 use Rattle.mkv_values.specs.declared.damage.Damage.{Damage}
 use Rattle.tree_format.specs.Node.{Node}
 use Rattle.track_records.specs.declared.track.Track.{Track}
 use Rattle.block_format.specs.Events.{Event, blocks_of, damages_of}
 use Rattle.cluster_reader.specs.ToldDamages.{ToldDamages, told_damages}
 use Rattle.extract_model.specs.Content.{names_in, outputs_of}
-use Rattle.extract_model.specs.Job.{is_taken, job_outputs, names_for, outputs_taken, taken_of, targets_of}
+use Rattle.extract_model.specs.Job.{job_outputs, names_for, outputs_taken, taken_of, targets_of}
 use Rattle.extract_model.specs.Job as jobs
 use Rattle.extract_model.specs.declared.taken.Taken.{Taken}
 use Rattle.extract_model.proofs.ContentLemmas.{names_of-outputs}
@@ -59,29 +60,29 @@ others-input name holder (form.Attachments list) none same = others-named name h
 others-input name holder (form.Cues list) none same = others-named name holder list none same
 others-input name holder (form.Chapters out) none same = (λ one. let yes : bytes_eq out name ≡ true = (bytes_eq-Decides out name).1 (one ∙ same) in let never : true ≡ false = sym yes ∙ none in absurd (cc), tt)
 
--- ---- a job that takes neither chapters nor attached files
+-- ---- a job that takes frames of tracks, or their times
 
-pub taken-job : (job : Job) → is_taken job ≡ true → ((out : List ℕ) → job ≡ form.Chapters out → ⊥) → ((list : List Target) → job ≡ form.Attachments list → ⊥) → IsSome (taken_of job)
-taken-job (form.Tracks raw.Raw list) takes other none = refl
-taken-job (form.Tracks raw.Full list) takes other none = refl
-taken-job (form.Tracks raw.SubRip list) takes other none = refl
-taken-job (form.Timestamps list) takes other none = refl
-taken-job (form.Attachments list) takes other none = absurd (none list refl)
-taken-job (form.Cues list) takes other none = absurd (cc)
-taken-job (form.Chapters out) takes other none = absurd (other out refl)
+pub taken-job : (job : Job) → ((out : List ℕ) → job ≡ form.Chapters out → ⊥) → ((list : List Target) → job ≡ form.Attachments list → ⊥) → ((list : List Target) → job ≡ form.Cues list → ⊥) → IsSome (taken_of job)
+taken-job (form.Tracks raw.Raw list) chapters attached cues = refl
+taken-job (form.Tracks raw.Full list) chapters attached cues = refl
+taken-job (form.Tracks raw.SubRip list) chapters attached cues = refl
+taken-job (form.Timestamps list) chapters attached cues = refl
+taken-job (form.Attachments list) chapters attached cues = absurd (attached list refl)
+taken-job (form.Cues list) chapters attached cues = absurd (cues list refl)
+taken-job (form.Chapters out) chapters attached cues = absurd (chapters out refl)
 
 pub names-job : (job : Job) → IsSome (taken_of job) → names_for job ≡ jobs.names_of (targets_of job)
 names-job (form.Tracks f list) some = refl
 names-job (form.Timestamps list) some = refl
 names-job (form.Attachments list) some = absurd (cc)
-names-job (form.Cues list) some = refl
+names-job (form.Cues list) some = absurd (cc)
 names-job (form.Chapters out) some = absurd (cc)
 
 pub verdict-job : (name : List ℕ) (job : Job) (bytes : List ℕ) (file : FileRead) (events : List Event) → IsSome (taken_of job) → fit_verdict name job file.tracks events ≡ job_verdict name job bytes file events
 verdict-job name (form.Tracks f list) bytes file events some = refl
 verdict-job name (form.Timestamps list) bytes file events some = refl
 verdict-job name (form.Attachments list) bytes file events some = absurd (cc)
-verdict-job name (form.Cues list) bytes file events some = refl
+verdict-job name (form.Cues list) bytes file events some = absurd (cc)
 verdict-job name (form.Chapters out) bytes file events some = absurd (cc)
 
 -- the outputs of a job have the names of those targets whose tracks the file has
@@ -162,6 +163,20 @@ attached-names bytes (t ∷ ts) files numbers = step t.id (numbers 0 t (omega ar
     step : (n : ℕ) → 1 ≤ n → names_of (attached_outputs bytes ts files) ≡ written (length files + 1) ts → names_of (attached_output bytes t (attached_at files n) ++ attached_outputs bytes ts files) ≡ (if nat_lt n (length files + 1) then t.name ∷ [] else []) ++ written (length files + 1) ts
     step zero some rest = absurd (omega arith)
     step (suc k) some rest = each k (slice_get files k) refl rest
+
+-- ---- cue points
+
+-- those of the tracks that a file has are told of
+pub cues-names : (scale : ℕ) (cues : Option Node) (targets : List Target) (entries : List Node) → names_of (cues_outputs scale cues targets entries) ≡ written (length entries) targets
+cues-names scale cues [] entries = refl
+cues-names scale cues (t ∷ ts) entries = each (slice_get entries t.id) refl (cues-names scale cues ts entries)
+  where
+    each : (found : Option Node) → slice_get entries t.id ≡ found → names_of (cues_outputs scale cues ts entries) ≡ written (length entries) ts → names_of (cues_output scale cues t found ++ cues_outputs scale cues ts entries) ≡ (if nat_lt t.id (length entries) then t.name ∷ [] else []) ++ written (length entries) ts
+    each None is rest =
+        rest ∙ ap (λ (a : Bool). (if a then t.name ∷ [] else []) ++ written (length entries) ts) (sym (le-ltb _ _ (slice_get-past entries t.id is)))
+    each (Some e) is rest =
+        ap (λ (names : List (List ℕ)). t.name ∷ names) rest
+        ∙ ap (λ (a : Bool). (if a then t.name ∷ [] else []) ++ written (length entries) ts) (sym (lt-ltb _ _ (slice_get-within entries t.id e is)))
 
 -- ---- what targets name besides frames
 

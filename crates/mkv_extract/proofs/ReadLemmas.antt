@@ -3,23 +3,19 @@ use Rattle.std.proofs.Common.{◌≡◌, ℕ, zero, suc, ◌+◌, ◌<◌, ◌�
 use Rattle.std.proofs.Math.Seq.{drop-cons}
 use Rattle.std.proofs.lemmas.List.{drop_all}
 use Rattle.mkv_values.specs.declared.damage.Damage.{Damage}
-use Rattle.mkv_jobs.specs.declared.job.Job.{Job}
 use Rattle.mkv_jobs.specs.declared.job.Target.{Target}
 use Rattle.matroska_format.specs.declared.element.Header.{Header}
-use Rattle.matroska_format.specs.Outline.{Outlined, and_then, first_damage, unless}
-use Rattle.element_reader.specs.Outline.{FileOutline, outline_in}
-use Rattle.element_reader.proofs.OutlineLemmas.{Outlines-shown, outline_of-refused}
+use Rattle.matroska_format.specs.Outline.{first_damage}
 use Rattle.block_format.specs.Elements.{with_limits}
 use Rattle.block_format.specs.Events.{events_of}
 use Rattle.file_blocks.specs.File.{file_events}
 use Rattle.file_records.specs.Records.{FileRecords, file_records, scale_of_info}
 use Rattle.file_records.proofs.CausesLemmas.{first_damage-behind, first_damage-front, first_damage-some}
 use Rattle.file_records.proofs.RecordsLemmas.{file_records-scale}
-use Rattle.extract_model.specs.Job.{targets_of}
 use Rattle.track_format.specs.Encoding.{usable_causes}
 use Rattle.track_records.specs.declared.track.Track.{Track}
 use Rattle.extractors.specs.Source.{AreUsableOf, IsUsable, entry_in}
-use Rattle.mkv_extract.specs.Read.{FileRead, causes_from, causes_of, first_unusable, is_named, read_of, read_with}
+use Rattle.mkv_extract.specs.Read.{causes_from, causes_of, first_unusable, is_named}
 
 -- ---- in a walk over the tracks
 
@@ -87,42 +83,6 @@ AreUsableOf-read targets tracks none = λ i d below.
     zero_plus n = omega arith
 
 -- ---- what is read
-
--- behind an outline
-abbrev behind : Job → List ℕ → Header → Option Damage → Result FileRead Damage
-behind job bytes segment damage = and_then (file_records bytes segment) (λ (r : FileRecords). unless (first_unusable (targets_of job) r.tracks) (read_with segment damage r))
-
-read_of-behind : (job : Job) (bytes : List ℕ) (v : FileOutline) → outline_in 0 bytes ≡ Ok v → read_of job bytes ≡ behind job bytes v.segment v.damage
-read_of-behind job bytes v outline =
-    let of = Outlines-shown 0 bytes v outline in
-    ap (λ (found : Result Outlined Damage). and_then found (λ (o : Outlined). behind job bytes o.segment o.damage)) of.is
-    ∙ ap (λ (w : FileOutline). behind job bytes w.segment w.damage) (sym of.shows)
-
--- nothing, where the outline refuses the file
-pub read_of-refused : (job : Job) (bytes : List ℕ) (d : Damage) → outline_in 0 bytes ≡ Err d → read_of job bytes ≡ Err d
-read_of-refused job bytes d outline = ap (λ (found : Result Outlined Damage). and_then found (λ (o : Outlined). behind job bytes o.segment o.damage)) (outline_of-refused 0 bytes d outline)
-
--- nor where a record does
-pub read_of-records : (job : Job) (bytes : List ℕ) (v : FileOutline) (d : Damage) → outline_in 0 bytes ≡ Ok v → file_records bytes v.segment ≡ Err d → read_of job bytes ≡ Err d
-read_of-records job bytes v d outline records =
-    read_of-behind job bytes v outline
-    ∙ ap (λ (found : Result FileRecords Damage). and_then found (λ (r : FileRecords). unless (first_unusable (targets_of job) r.tracks) (read_with v.segment v.damage r))) records
-
--- the records, unless a track that is named refuses the file
-read_of-unless : (job : Job) (bytes : List ℕ) (v : FileOutline) (r : FileRecords) → outline_in 0 bytes ≡ Ok v → file_records bytes v.segment ≡ Ok r → read_of job bytes ≡ unless (first_unusable (targets_of job) r.tracks) (read_with v.segment v.damage r)
-read_of-unless job bytes v r outline records =
-    read_of-behind job bytes v outline
-    ∙ ap (λ (found : Result FileRecords Damage). and_then found (λ (each : FileRecords). unless (first_unusable (targets_of job) each.tracks) (read_with v.segment v.damage each))) records
-
-pub read_of-unusable : (job : Job) (bytes : List ℕ) (v : FileOutline) (r : FileRecords) (d : Damage) → outline_in 0 bytes ≡ Ok v → file_records bytes v.segment ≡ Ok r → first_unusable (targets_of job) r.tracks ≡ Some d → read_of job bytes ≡ Err d
-read_of-unusable job bytes v r d outline records bad =
-    read_of-unless job bytes v r outline records
-    ∙ ap (λ (refusal : Option Damage). unless refusal (read_with v.segment v.damage r)) bad
-
-pub read_of-all : (job : Job) (bytes : List ℕ) (v : FileOutline) (r : FileRecords) → outline_in 0 bytes ≡ Ok v → file_records bytes v.segment ≡ Ok r → first_unusable (targets_of job) r.tracks ≡ None → read_of job bytes ≡ Ok (read_with v.segment v.damage r)
-read_of-all job bytes v r outline records good =
-    read_of-unless job bytes v r outline records
-    ∙ ap (λ (refusal : Option Damage). unless refusal (read_with v.segment v.damage r)) good
 
 -- its blocks and damages are the file's own
 pub events-read : (bytes : List ℕ) (segment : Header) (r : FileRecords) → file_records bytes segment ≡ Ok r → events_of (with_limits (scale_of_info r.info)) bytes segment ≡ file_events true bytes segment

@@ -15,7 +15,9 @@ use Rattle.extract_model.specs.Chapters.{chapters_output}
 use Rattle.extract_model.specs.Content.{outputs_of}
 use Rattle.extract_model.specs.Job.{job_outputs, job_unfit, targets_of}
 use Rattle.file_records.specs.Attached.{AttachedFile}
+use Rattle.file_records.specs.Records.{scale_of_info}
 use Rattle.extractors.specs.Attached.{attached_outputs}
+use Rattle.extractors.specs.Cues.{cues_outputs}
 use Rattle.extractors.specs.Source.{entry_in}
 use Rattle.mkv_lines.specs.Line.{damage_lines, missing_line, no_attachment_line, no_extractor_line, no_track_line, output_is_input_line, refusal_line, warning_line, wrote_line}
 use Rattle.mkv_lines.specs.Verdict.{Verdict, at_once, refused, unless_pending}
@@ -104,10 +106,16 @@ abbrev pub attached_verdict : List ℕ → List Target → List ℕ → List Att
 attached_verdict name targets bytes files damage =
     targets_verdict name (no_attachment_line name) (length files + 1) targets (attached_outputs bytes targets files) damage
 
+-- what targets take of the first Cues of a file with these tracks
+abbrev pub cues_verdict : List ℕ → List Target → FileRead → Verdict
+cues_verdict name targets file =
+    targets_verdict name (no_track_line name) (length file.tracks) targets (cues_outputs (scale_of_info file.info) file.cues targets (map entry_in file.tracks)) file.damage
+
 -- what a job comes to of a content that was read so, and that has these blocks and damages
 abbrev pub job_verdict : List ℕ → Job → List ℕ → FileRead → List Event → Verdict
 job_verdict name (jobs.Chapters out) bytes file events = held_verdict name false [] (chapters_output out file.chapters ∷ []) file.damage
 job_verdict name (jobs.Attachments list) bytes file events = attached_verdict name list bytes file.attachments file.damage
+job_verdict name (jobs.Cues list) bytes file events = cues_verdict name list file
 job_verdict name job bytes file events = fit_verdict name job file.tracks events
 
 abbrev pub read_verdict : List ℕ → Job → List ℕ → Result FileRead Damage → Verdict

@@ -1,8 +1,9 @@
--- What is read of a file before its blocks, for a job that takes something of its tracks.
-use Rattle.std.specs.Prelude.{◌≡◌, ⊤, ℕ, ◌+◌, ◌==◌, Bool, if◌then◌else◌, List, [], ◌∷◌, ◌++◌, map, Option, Result, Ok, Err}
+-- What is read of a file before its blocks, for a job that takes something of it.
+use Rattle.std.specs.Prelude.{◌≡◌, ⊤, ℕ, ◌+◌, ◌==◌, Bool, if◌then◌else◌, List, [], ◌∷◌, ◌++◌, map, Option, None, Result, Ok, Err}
 use Rattle.std.specs.List.{list_any}
 use Rattle.mkv_values.specs.declared.damage.Damage.{Damage}
 use Rattle.mkv_jobs.specs.declared.job.Job.{Job}
+use Rattle.mkv_jobs.specs.declared.job.Job.TheVariants as jobs
 use Rattle.mkv_jobs.specs.declared.job.Target.{Target}
 use Rattle.matroska_format.specs.declared.element.Header.{Header}
 use Rattle.matroska_format.specs.Outline.{Outlined, and_then, first_damage, outline_of, unless}
@@ -13,6 +14,7 @@ use Rattle.track_format.specs.Encoding.{usable_causes}
 use Rattle.track_records.specs.declared.track.Track.{Track}
 use Rattle.file_records.specs.Attached.{AttachedFile, in_file}
 use Rattle.file_records.specs.Records.{FileRecords, file_records}
+use Rattle.cue_records.specs.Reading.{first_cues}
 use Rattle.extract_model.specs.Job.{targets_of}
 use Rattle.extractors.specs.declared.source.Source.{Source}
 
@@ -40,6 +42,7 @@ pub record FileRead : Type 0 where
   pub tracks : List Track
   pub attachments : List AttachedFile
   pub chapters : Option Node
+  pub cues : Option Node
 
 -- what is read of a source
 abbrev pub read_in : Source → FileRead
@@ -50,18 +53,27 @@ read_in s = record {
   tracks = s.tracks;
   attachments = map in_file s.attachments;
   chapters = s.chapters;
+  cues = s.cues;
 }
 
--- the same of a file with this Segment, this damage of level 1 and these records
-abbrev pub read_with : Header → Option Damage → FileRecords → FileRead
-read_with segment damage r = record { segment = segment; damage = damage; info = r.info; tracks = r.tracks; attachments = r.attachments; chapters = r.chapters }
+-- the same of a file with this Segment, this damage of level 1, these records and this Cues
+abbrev pub read_with : Header → Option Damage → FileRecords → Option Node → FileRead
+read_with segment damage r cues =
+    record { segment = segment; damage = damage; info = r.info; tracks = r.tracks; attachments = r.attachments; chapters = r.chapters; cues = cues }
 
--- what is read of a content, or the first thing that refuses it: its outline, its records, and then the tracks that are named
+-- the first Cues, for a job that takes it
+abbrev pub cues_for : Job → List ℕ → Header → Result (Option Node) Damage
+cues_for (jobs.Cues list) bytes segment = first_cues bytes segment
+cues_for job bytes segment = Ok None
+
+-- what is read of a content, or the first thing that refuses it: its outline, its records, its Cues, and then the tracks
+-- that are named
 abbrev pub read_of : Job → List ℕ → Result FileRead Damage
 read_of job bytes =
     and_then (outline_of 0 bytes) (λ (o : Outlined).
     and_then (file_records bytes o.segment) (λ (r : FileRecords).
-    unless (first_unusable (targets_of job) r.tracks) (read_with o.segment o.damage r)))
+    and_then (cues_for job bytes o.segment) (λ (cues : Option Node).
+    unless (first_unusable (targets_of job) r.tracks) (read_with o.segment o.damage r cues))))
 
 -- A source was read so, or what refuses the file; a read may fail, and there may be no memory.
 abbrev pub ReadsSource : Result FileRead Damage → Result Source OutlineEnd → Type 0

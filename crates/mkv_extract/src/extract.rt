@@ -19,6 +19,7 @@ ghost use Rattle.mkv_extract.specs.Read.{read_in, read_of};
 
 use crate::attachments::extract_attachments;
 use crate::chapters::extract_chapters;
+use crate::cues::extract_cues;
 use crate::reading::read_source;
 use crate::telling::{Missing, say_absent, tell};
 use element_reader::OutlineEnd;
@@ -30,8 +31,7 @@ use mkv_values::{Damage, FileId, OpenFault};
 use pending_edits::is_pending;
 use std::alloc::Global;
 
-/// Takes what a job asks for out of the file of a name, each target into a file of its own. The job is built, and no two
-/// of its targets have one name.
+/// Takes what a job asks for out of the file of a name, each target into a file of its own. No two of them have one name.
 pub fn extract_of<F: Files, P: Report>(
     alloc: Global,
     name: &str,
@@ -198,6 +198,7 @@ fn extract_job<F: Files, P: Report>(
         Job::Attachments { list } => {
             extract_attachments(alloc, name, list.as_slice(), source, files, report)
         }
+        Job::Cues { list } => extract_cues(alloc, name, list.as_slice(), source, files, report),
         _ => extract_fit(alloc, name, job, source, files, report),
     }
 }

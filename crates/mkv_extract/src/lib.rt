@@ -1,9 +1,11 @@
 #![tactic(auto)]
 
-//! The command `extract`, which takes frames of tracks, their times, the chapters or attached files out of a file.
+//! The command `extract`, which takes frames of tracks, their times, cue points, the chapters or attached files out of a
+//! file.
 
 mod attachments;
 mod chapters;
+mod cues;
 mod extract;
 mod reading;
 mod telling;

@@ -1,17 +1,21 @@
 //! What is read of a file before its blocks.
 
-ghost use Rattle.std.specs.Prelude.{◌≡◌, true, None, IfOk};
+ghost use Rattle.std.specs.Prelude.{◌≡◌, true, None, ℕ, Ok, IfOk, IfSome};
 ghost use Rattle.mkv_io.specs.Faults.{HasCause};
-ghost use Rattle.mkv_io.specs.Sources.{IfTold, IsLive};
-ghost use Rattle.element_reader.specs.Outline.{is_outline_fault};
-ghost use Rattle.file_records.specs.Records.{AreRead};
+ghost use Rattle.mkv_io.specs.Sources.{IfTold, IsLive, file_size};
+ghost use Rattle.mkv_schema.specs.declared.ids.TheConstants.{CUES};
+ghost use Rattle.tree_format.specs.Standing.{IsSoundOf};
+ghost use Rattle.element_reader.specs.Outline.{is_outline_fault, outline_in};
+ghost use Rattle.file_records.specs.Records.{AreRead, ReadsAs};
 ghost use Rattle.file_blocks.specs.File.{file_events};
 ghost use Rattle.extract_model.specs.Job.{targets_of};
 ghost use Rattle.extractors.specs.Source.{AreUsable, IsSource, events_in};
 ghost use Rattle.matroska_format.specs.Outline.{first_damage};
 ghost use Rattle.track_records.specs.Sound.{IsEntry};
-ghost use Rattle.mkv_extract.specs.Read.{ReadsSource, causes_of, first_unusable, is_named, read_of};
+ghost use Rattle.mkv_extract.specs.Read.{ReadsSource, causes_of, cues_for, first_unusable, is_named, read_of};
 
+use cue_records::first_cues;
+use ebml_tree::Tree;
 use element_reader::{Outline, OutlineEnd};
 use extractors::{Source, targets_of};
 use file_records::read_records;
@@ -21,8 +25,8 @@ use mkv_values::{Damage, FileId};
 use std::alloc::Global;
 use track_records::{Track, usable};
 
-/// What is read of a live file before its blocks, or the first thing that refuses it: its outline, its records, and
-/// then the tracks that the job names, in their order.
+/// What is read of a live file before its blocks, or the first thing that refuses it: its outline, its records, for a job
+/// that takes it its first Cues, and then the tracks that the job names, in their order.
 pub fn read_source<R: Reads>(
     alloc: Global,
     job: &Job,
@@ -43,6 +47,7 @@ pub fn read_source<R: Reads>(
 {
     let outline = Outline::read(alloc, src, file)?;
     let records = read_records(alloc, &outline, src, file)?;
+    let cues = cues_for(alloc, job, &outline, src, file)?;
     if let Some(damage) = first_unusable(targets_of(job), records.tracks.as_slice()) {
         return Err(OutlineEnd::Refused(damage));
     }
@@ -53,7 +58,30 @@ pub fn read_source<R: Reads>(
         tracks: records.tracks,
         attachments: records.attachments,
         chapters: records.chapters,
+        cues,
     })
+}
+
+/// The first Cues, for a job that takes it, or what is wrong with it.
+fn cues_for<R: Reads>(
+    alloc: Global,
+    job: &Job,
+    outline: &Outline,
+    src: &mut R,
+    file: FileId,
+) -> Result<Option<Tree>, OutlineEnd>
+    requires live { IsLive R.Reads src.old file }
+    requires whole { outline.now.total ≡ file_size R.Reads src.old file }
+    ensures exact { IfTold R.Reads src.old file (λ bytes. (held : ℕ) → outline_in held bytes ≡ Ok outline.now
+        → ReadsAs (cues_for job.now bytes outline.now.segment) result) }
+    ensures sound { IfOk result (λ tree. IfSome tree (IsSoundOf CUES)) }
+    ensures standing { R.standing src.new ≡ R.standing src.old }
+    ensures cause { HasCause is_outline_fault (R.reading_faults src.old) (R.reading_faults src.new) result }
+{
+    match job {
+        Job::Cues { .. } => first_cues(alloc, outline, src, file),
+        _ => Ok(None),
+    }
 }
 
 /// Whether a target names the track of this number, from 0.

@@ -1,6 +1,6 @@
 -- How runs end, and why.
 use Rattle.std.proofs.Math.Seq.{drop-cons}
-use Rattle.std.proofs.Common.{◌≡◌, ℕ, true, IsTrue, suc, ◌+◌, ◌<◌, length, drop, get_or, add-one, List, [], ◌∷◌, ◌++◌, IsSome, Result, Ok, Err, inl, inr, Option, Some, None, ◌⊎◌, refl, sym, ◌∙◌, ap, subst}
+use Rattle.std.proofs.Common.{◌≡◌, ℕ, IsTrue, suc, ◌+◌, ◌<◌, length, drop, get_or, add-one, List, [], ◌∷◌, ◌++◌, IsSome, Result, Ok, Err, inl, inr, Option, Some, None, ◌⊎◌, refl, sym, ◌∙◌, ap, subst}
 use Rattle.mkv_io.specs.Faults.{HasRisen}
 use Rattle.mkv_io.specs.Lines.{with_lines}
 use Rattle.mkv_io.specs.Names.{Names}
@@ -27,7 +27,7 @@ use Rattle.mkv_lines.specs.declared.status.Stop.TheVariants as stop
 use Rattle.mkv_jobs.specs.declared.job.Job.{Job}
 use Rattle.mkv_jobs.specs.declared.job.Job.TheVariants as jobs
 use Rattle.mkv_args.specs.Sound.{IsSoundJob}
-use Rattle.extract_model.specs.Job.{CanBeDone, is_taken}
+use Rattle.extract_model.specs.Job.{CanBeDone}
 use Rattle.mkv_lines.proofs.SaidLemmas.{with_lines-both, with_lines-none}
 
 -- the line of the fault stands behind a first part of the lines
@@ -155,10 +155,10 @@ texts-next old now all k texts t below is way =
 
 -- ---- an extraction
 
--- a job that is built, and that words asked for, can be done
-pub job-done : (job : Job) → is_taken job ≡ true → IsSoundJob job → CanBeDone job
-job-done (jobs.Tracks form list) taken sound = record { taken = taken; apart = sound.apart; numbers = tt }
-job-done (jobs.Timestamps list) taken sound = record { taken = taken; apart = sound.apart; numbers = tt }
-job-done (jobs.Attachments list) taken sound = record { taken = taken; apart = sound.apart; numbers = sound.from }
-job-done (jobs.Cues list) taken sound = record { taken = taken; apart = sound.apart; numbers = tt }
-job-done (jobs.Chapters name) taken sound = record { taken = taken; apart = (tt, tt); numbers = tt }
+-- a job that words asked for can be done
+pub job-done : (job : Job) → IsSoundJob job → CanBeDone job
+job-done (jobs.Tracks form list) sound = record { apart = sound.apart; numbers = tt }
+job-done (jobs.Timestamps list) sound = record { apart = sound.apart; numbers = tt }
+job-done (jobs.Attachments list) sound = record { apart = sound.apart; numbers = sound.from }
+job-done (jobs.Cues list) sound = record { apart = sound.apart; numbers = tt }
+job-done (jobs.Chapters name) sound = record { apart = (tt, tt); numbers = tt }

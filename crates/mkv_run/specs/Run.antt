@@ -15,7 +15,6 @@ use Rattle.mkv_lines.specs.declared.status.Stop.{Stop}
 use Rattle.mkv_info.specs.Info.{info_verdict}
 use Rattle.mkv_info.specs.declared.info.Form.TheVariants.{Lines, Json}
 use Rattle.mkv_recover.specs.Recover.{DiskWorld, verdict_on}
-use Rattle.extract_model.specs.Job.{is_taken}
 use Rattle.mkv_extract.specs.Extract.{extract_verdict}
 use Rattle.mkv_merge.specs.Bound.{most_read}
 use Rattle.mkv_merge.specs.Merge.{merge_verdict, sources_of}
@@ -35,7 +34,7 @@ is_built (Identify file) = true
 is_built (Recover file) = true
 is_built (Reindex file) = false
 is_built (Generate n prefix) = false
-is_built (Extract file job) = is_taken job
+is_built (Extract file job) = true
 is_built (Propedit file edits) = false
 is_built (Merge words) = takes words
 

@@ -4,7 +4,7 @@ ghost use Rattle.std.specs.Prelude.{◌≡◌, ℕ, None, IfOk};
 ghost use Rattle.mkv_io.specs.Sources.{live_files};
 ghost use Rattle.mkv_io.specs.Told.{Told};
 ghost use Rattle.merge_words.specs.Sound.{IsSoundMerge};
-ghost use Rattle.mkv_args.specs.Sound.{IsSound, IsSoundJob};
+ghost use Rattle.mkv_args.specs.Sound.{IsSound};
 ghost use Rattle.mkv_disk.specs.Calls.{AnyMoment, AtRest};
 ghost use Rattle.sidecar_edit.specs.Recovering.{IsRecovering};
 ghost use Rattle.mkv_args.specs.Words.{command};
@@ -24,18 +24,15 @@ ghost use Rattle.mkv_run.specs.RunSeen.{HasRunStop, HasStatusCause, run_seen};
 ghost use Rattle.mkv_run.specs.Touched.{Touches, edited_by, edited_in};
 
 use crate::help::{help, version};
-use extractors::is_taken;
 use merge_words::MergeWords;
 use mkv_args::{ArgsEnd, Command, read_words};
 use mkv_disk::Disk;
 use mkv_extract::extract_of;
 use mkv_info::{Form, info_of};
 use mkv_io::{Files, Report};
-use mkv_jobs::Job;
 use mkv_lines::{Line, Status, Stop, say, say_disk_fault, say_files_fault};
 use mkv_merge::{merge_of, takes};
 use mkv_recover::recover_of;
-use mkv_values::Text;
 use std::alloc::Global;
 
 /// Does what the words of a command line ask for, and says its lines. Nothing is pending on the disk.
@@ -145,34 +142,10 @@ fn obey<F: Files, D: Disk, R: Report>(
         Command::Info { file } => info_of(alloc, Form::Lines, file.as_str(), files, report),
         Command::Identify { file } => info_of(alloc, Form::Json, file.as_str(), files, report),
         Command::Recover { file } => recover_of(alloc, file.as_str(), disk, report),
-        Command::Extract { file, job } => extract(alloc, file, job, files, report),
+        Command::Extract { file, job } => extract_of(alloc, file.as_str(), job, files, report),
         Command::Merge { words } => merge(alloc, words, files, report),
         _ => refuse(alloc, 0, "NotBuilt", report),
     }
-}
-
-// Takes something out of a file, where that is built.
-fn extract<F: Files, R: Report>(
-    alloc: Global,
-    file: &Text,
-    job: &Job,
-    files: &mut F,
-    report: &mut R,
-) -> Result<Status, Stop>
-    requires { IsSoundJob job.now }
-    ensures verdict { Told (verdict_of (F.names files.old) None (Command.Extract file.now job.now)) (Reaches
-        (seen F.Reads F.writing_faults F.names R.Report files.old report.old)
-        (seen F.Reads F.writing_faults F.names R.Report files.new report.new) result) }
-    ensures ordinary { IfOk result IsOrdinary }
-    ensures cause { HasStopCause
-        (seen F.Reads F.writing_faults F.names R.Report files.old report.old).counts
-        (seen F.Reads F.writing_faults F.names R.Report files.new report.new).counts result }
-    ensures closed { (file : ℕ) → (live_files F.Reads files.new).live file ≡ (live_files F.Reads files.old).live file }
-{
-    if !is_taken(job) {
-        return refuse(alloc, 0, "NotBuilt", report);
-    }
-    extract_of(alloc, file.as_str(), job, files, report)
 }
 
 // Merges files, where that is built.

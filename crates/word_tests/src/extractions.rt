@@ -80,6 +80,15 @@ const ATTACHED: [u8; 77] = [
     0x84, 0x46, 0x4F, 0x4E, 0x54, 0x61, 0xA7, 0x85, 0x46, 0x5C, 0x82, 0x51, 0x21,
 ];
 
+/// A track, and a Cues: at 20 ms two places for it and one for another track, and one more place without a time.
+const CUES: [u8; 75] = [
+    0x1A, 0x45, 0xDF, 0xA3, 0x8B, 0x42, 0x82, 0x88, 0x6D, 0x61, 0x74, 0x72, 0x6F, 0x73, 0x6B, 0x61,
+    0x18, 0x53, 0x80, 0x67, 0xB6, 0x16, 0x54, 0xAE, 0x6B, 0x8B, 0xAE, 0x89, 0xD7, 0x81, 0x01, 0x83,
+    0x81, 0x02, 0x86, 0x81, 0x41, 0x1C, 0x53, 0xBB, 0x6B, 0xA1, 0xBB, 0x98, 0xB3, 0x81, 0x14, 0xB7,
+    0x89, 0xF7, 0x81, 0x01, 0xF1, 0x81, 0x15, 0xF0, 0x81, 0x03, 0xB7, 0x83, 0xF7, 0x81, 0x02, 0xB7,
+    0x83, 0xF7, 0x81, 0x01, 0xBB, 0x85, 0xB7, 0x83, 0xF7, 0x81, 0x01,
+];
+
 /// An Info whose TimestampScale is 0, and no Tracks.
 const NO_SCALE: [u8; 31] = [
     0x1A, 0x45, 0xDF, 0xA3, 0x8B, 0x42, 0x82, 0x88, 0x6D, 0x61, 0x74, 0x72, 0x6F, 0x73, 0x6B, 0x61,
@@ -276,6 +285,46 @@ fn attached_files_are_taken_out_whatever_the_tracks_are(rt: HostRuntime) -> Resu
 }
 
 #[test]
+fn cue_points_are_taken_out_by_track(rt: HostRuntime) -> Result<(), Fail> {
+    let mut cut = CUES;
+    cut[56] = 0x84;
+    let rows = [
+        written(
+            &CUES,
+            &["extract", "a.mkv", "cues", "0:r"],
+            b"timestamp=20000000 cluster_position=21 relative_position=3
+timestamp=20000000 cluster_position=- relative_position=-
+timestamp=- cluster_position=- relative_position=-
+",
+        ),
+        written(&TWO_BLOCKS, &["extract", "a.mkv", "cues", "0:r"], b""),
+        Row {
+            status: Status::Warned,
+            lines: &["warning: a.mkv: no track 1", "wrote r"],
+            ..written(
+                &TWO_BLOCKS,
+                &["extract", "a.mkv", "cues", "1:q", "0:r"],
+                b"",
+            )
+        },
+        refused(
+            &cut,
+            &["extract", "a.mkv", "cues", "0:r"],
+            &["error: a.mkv: TooLong, element F0, offset 55"],
+        ),
+        refused(
+            &ATTACHED,
+            &["extract", "a.mkv", "cues", "1:r"],
+            &["error: a.mkv: Encoding, element 6D80, offset 48"],
+        ),
+    ];
+    for row in &rows {
+        assert!(rt; agrees(rt.alloc(), row)?, "{:?}", row.words);
+    }
+    Ok(())
+}
+
+#[test]
 fn what_is_refused_is_told_and_writes_nothing(rt: HostRuntime) -> Result<(), Fail> {
     let mut zipped = STRIPPED;
     zipped[58] = 0x00;
@@ -345,11 +394,6 @@ fn what_is_refused_is_told_and_writes_nothing(rt: HostRuntime) -> Result<(), Fai
             &CHAPTERS,
             &["extract", "a.mkv", "chapters", "--simple", "a.mkv"],
             &["error: a.mkv: OutputIsInput"],
-        ),
-        refused(
-            &TWO_BLOCKS,
-            &["extract", "a.mkv", "cues", "0:r"],
-            &["error: word 0: NotBuilt"],
         ),
     ];
     for row in &rows {

@@ -10,7 +10,7 @@ use Rattle.mkv_recover.specs.Recover.{disk_world, recover_verdict}
 use Rattle.mkv_recover.proofs.RecoverLemmas.{recover-outputs, verdict-told}
 use Rattle.mkv_run.specs.Run.{verdict_of}
 use Rattle.mkv_run.specs.Touched.{Touches}
-use Rattle.mkv_run.proofs.RunLemmas.{edited-none}
+use Rattle.mkv_run.proofs.RunLemmas.{edited-none, job-done}
 use Rattle.mkv_run.proofs.running.obey.Goals as goal
 
 pub returns-in-Recover-clause-verdict : goal.returns-in-Recover-clause-verdict
@@ -28,3 +28,7 @@ pub returns-in_default-clause-touches : goal.returns-in_default-clause-touches
 returns-in_default-clause-touches g c =
     subst (λ (name : Option (List ℕ)). Touches g.D.Reads g.D.Disk name c.args.files.now c.args.files.now c.args.disk.now c.args.disk.now (status_of c.refuse.result))
     (sym (edited-none c.args.command.now c.in_default.not-Recover)) refl
+
+-- the words asked for a job that can be done
+pub extract_of-requires : goal.extract_of-requires
+extract_of-requires g c = job-done c.in-Extract.job (rw c.in-Extract.is at c.requires.sound)

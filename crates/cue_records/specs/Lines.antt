@@ -1,0 +1,36 @@
+-- The cue points of a track as lines of text: RFC 9559, section 5.1.5 (Cues Element).
+use Rattle.std.specs.Prelude.{ℕ, ◌*◌, ◌==◌, false, if◌then◌else◌, List, [], ◌++◌, codes, flat_map, Option, Some, None}
+use Rattle.std.specs.Fmt.{decimal}
+use Rattle.std.specs.Option.{option_map, option_map_or}
+use Rattle.mkv_schema.specs.declared.ids.TheConstants.{CUE_CLUSTER_POSITION, CUE_POINT, CUE_RELATIVE_POSITION, CUE_TIME, CUE_TRACK, CUE_TRACK_POSITIONS}
+use Rattle.tree_format.specs.Changes.{part}
+use Rattle.tree_format.specs.Node.{Node, children}
+use Rattle.tree_format.specs.Values.{integer_in}
+
+-- a number in decimal, or `-` where there is none
+abbrev pub number_or_dash : Option ℕ → List ℕ
+number_or_dash None = codes "-"
+number_or_dash (Some n) = decimal n
+
+-- the time of a cue point in nanoseconds, where it says one
+abbrev pub point_time : ℕ → Node → Option ℕ
+point_time scale point = option_map (λ ticks. ticks * scale) (integer_in CUE_TIME point)
+
+-- a line of a time and of the positions in a CueTrackPositions, as they stand there
+abbrev pub cue_line : Option ℕ → Node → List ℕ
+cue_line time place =
+    codes "timestamp=" ++ (number_or_dash time
+    ++ (codes " cluster_position=" ++ (number_or_dash (integer_in CUE_CLUSTER_POSITION place)
+    ++ (codes " relative_position=" ++ (number_or_dash (integer_in CUE_RELATIVE_POSITION place) ++ codes "\n")))))
+
+-- the same, if it bears this TrackNumber
+abbrev pub place_lines : Option ℕ → ℕ → Node → List ℕ
+place_lines time track place = if option_map_or (λ own. own == track) (integer_in CUE_TRACK place) false then cue_line time place else []
+
+-- the lines of one cue point
+abbrev pub point_lines : ℕ → ℕ → Node → List ℕ
+point_lines scale track point = flat_map (place_lines (point_time scale point) track) (part CUE_TRACK_POSITIONS (children point))
+
+-- the lines of a Cues, in its order
+abbrev pub cue_lines : ℕ → ℕ → Node → List ℕ
+cue_lines scale track cues = flat_map (point_lines scale track) (part CUE_POINT (children cues))

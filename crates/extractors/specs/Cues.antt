@@ -1,0 +1,23 @@
+-- What an extraction of cue points writes: RFC 9559, section 5.1.5 (Cues Element).
+use Rattle.std.specs.Prelude.{ℕ, List, [], ◌∷◌, Option, Some, None, slice_get}
+use Rattle.std.specs.List.{flat_map}
+use Rattle.mkv_jobs.specs.declared.job.Target.{Target}
+use Rattle.mkv_outputs.specs.Outputs.{Output}
+use Rattle.tree_format.specs.Node.{Node}
+use Rattle.track_format.specs.Entry.{number_of}
+use Rattle.cue_records.specs.Lines.{cue_lines}
+use Rattle.whole_files.specs.Whole.{output}
+
+-- the lines of the first Cues of a file that are of a track; without one there are none
+abbrev pub cues_text : ℕ → ℕ → Option Node → List ℕ
+cues_text scale track None = []
+cues_text scale track (Some cues) = cue_lines scale track cues
+
+-- the output of a target, if the file has the track
+abbrev pub cues_output : ℕ → Option Node → Target → Option Node → List Output
+cues_output scale cues t None = []
+cues_output scale cues t (Some entry) = output t.name (cues_text scale (number_of entry) cues) ∷ []
+
+-- the outputs of targets, in their order, where these are the entries of the tracks
+abbrev pub cues_outputs : ℕ → Option Node → List Target → List Node → List Output
+cues_outputs scale cues targets entries = flat_map (λ (t : Target). cues_output scale cues t (slice_get entries t.id)) targets

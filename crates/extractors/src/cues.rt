@@ -1,0 +1,87 @@
+//! Cue points are written as lines of text, each track's into a file of its own.
+
+ghost use Rattle.std.specs.Prelude.{◌≡◌, ◌≤◌, ◌∷◌, [], slice_get, IfOk, IfSome};
+ghost use Rattle.std.specs.String.{string_bytes};
+ghost use Rattle.mkv_io.specs.Writing.{KeepsOthers};
+ghost use Rattle.mkv_jobs.specs.Ends.{HasRemuxCause};
+ghost use Rattle.mkv_schema.specs.declared.ids.TheConstants.{CUES as CUES_ID};
+ghost use Rattle.tree_format.specs.Standing.{IsSoundOf};
+ghost use Rattle.file_records.specs.Records.{AreRead, IsGoodInfo, scale_of_info};
+ghost use Rattle.extract_model.specs.Job.{names_of};
+ghost use Rattle.whole_files.specs.Whole.{AreWritten};
+ghost use Rattle.extractors.specs.Cues.{cues_output, cues_outputs, cues_text};
+ghost use Rattle.extractors.specs.Source.{entries_in};
+
+use crate::source::Source;
+use cue_records::put_cues;
+use ebml_tree::Tree;
+use file_records::scale_of;
+use mkv_io::Files;
+use mkv_jobs::{RemuxEnd, Target};
+use std::alloc::{AllocError, Global};
+use whole_files::write_file;
+
+/// The lines of a track in a file's first Cues, if it has one.
+fn cues_text(
+    alloc: Global,
+    cues: &Option<Tree>,
+    track: u64,
+    scale: u64,
+) -> Result<String, AllocError>
+    requires { IfSome cues.now (IsSoundOf CUES_ID) }
+    ensures { IfOk result (λ text. string_bytes text ≡ cues_text scale track cues.now) }
+{
+    let mut text = String::new(alloc);
+    if let Some(cues) = cues {
+        put_cues(cues, track, scale, &mut text)?;
+    }
+    Ok(text)
+}
+
+/// Makes the file of a target, whatever it was, with the lines of the track that it names, if the source has that.
+fn write_track_cues<F: Files>(
+    alloc: Global,
+    files: &mut F,
+    source: &Source,
+    target: &Target,
+) -> Result<(), RemuxEnd>
+    requires info { IfSome source.now.info IsGoodInfo }
+    requires tracks { AreRead source.now.tracks }
+    requires cues { IfSome source.now.cues (IsSoundOf CUES_ID) }
+    ensures writes { AreWritten (F.names files.old) (F.names files.new) (cues_output (scale_of_info source.now.info)
+        source.now.cues target.now (slice_get (entries_in source.now) target.now.id)) result }
+    ensures kept { KeepsOthers F.Reads F.Files.own (target.now.name ∷ []) files.old files.new }
+    ensures cause { HasRemuxCause F.Reads F.Files.own files.old files.new result }
+    ensures reads { F.octets_read files.new ≤ F.octets_read files.old }
+{
+    let Some(track) = source.tracks.get(target.id as usize) else {
+        return Ok(());
+    };
+    let scale = scale_of(&source.info);
+    let text = cues_text(alloc, &source.cues, track.number, scale)?;
+    write_file(files, target.name.as_str(), text.as_bytes())
+}
+
+/// Makes a file for each target whose track the source has, in their order, with a line for each place that its Cues has for
+/// the track; without a Cues it is empty. Each is closed before the next is made. After a refusal first files stand, the
+/// last of them with a first part.
+pub fn write_cues<F: Files>(
+    alloc: Global,
+    files: &mut F,
+    source: &Source,
+    targets: &[Target],
+) -> Result<(), RemuxEnd>
+    requires info { IfSome source.now.info IsGoodInfo }
+    requires tracks { AreRead source.now.tracks }
+    requires cues { IfSome source.now.cues (IsSoundOf CUES_ID) }
+    ensures writes { AreWritten (F.names files.old) (F.names files.new) (cues_outputs (scale_of_info source.now.info)
+        source.now.cues targets.now (entries_in source.now)) result }
+    ensures kept { KeepsOthers F.Reads F.Files.own (names_of targets.now) files.old files.new }
+    ensures cause { HasRemuxCause F.Reads F.Files.own files.old files.new result }
+    ensures reads { F.octets_read files.new ≤ F.octets_read files.old }
+{
+    for target in targets {
+        write_track_cues(alloc, files, source, target)?;
+    }
+    Ok(())
+}

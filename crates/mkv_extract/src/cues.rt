@@ -1,0 +1,47 @@
+//! Cue points are taken out of a file.
+
+ghost use Rattle.std.specs.Prelude.{◌≡◌, ℕ, IfOk};
+ghost use Rattle.mkv_io.specs.Sources.{live_files};
+ghost use Rattle.extractors.specs.Source.{IsSource};
+ghost use Rattle.mkv_lines.specs.Faults.{HasStopCause};
+ghost use Rattle.mkv_lines.specs.Ordinary.{IsOrdinary};
+ghost use Rattle.mkv_lines.specs.Seen.{seen};
+ghost use Rattle.mkv_lines.specs.Verdict.{Reaches};
+ghost use Rattle.mkv_extract.specs.Extract.{cues_verdict};
+ghost use Rattle.mkv_extract.specs.Read.{read_in};
+
+use crate::extract::stop_of;
+use crate::telling::{Missing, say_absent, tell_held};
+use extractors::{Source, write_cues};
+use mkv_io::{Files, Report};
+use mkv_jobs::Target;
+use mkv_lines::{Status, Stop};
+use std::alloc::Global;
+
+/// Takes the cue points of tracks out of a source, each track's into a file of its own, and tells of it.
+pub fn extract_cues<F: Files, P: Report>(
+    alloc: Global,
+    name: &str,
+    targets: &[Target],
+    source: &Source,
+    files: &mut F,
+    report: &mut P,
+) -> Result<Status, Stop>
+    requires { IsSource F.Reads files.old source.now }
+    ensures verdict { Reaches
+        (seen F.Reads F.writing_faults F.names P.Report files.old report.old)
+        (seen F.Reads F.writing_faults F.names P.Report files.new report.new)
+        result (cues_verdict name.now targets.now (read_in source.now)) }
+    ensures ordinary { IfOk result IsOrdinary }
+    ensures live { (file : ℕ) → (live_files F.Reads files.new).live file ≡ (live_files F.Reads files.old).live file }
+    ensures cause { HasStopCause
+        (seen F.Reads F.writing_faults F.names P.Report files.old report.old).counts
+        (seen F.Reads F.writing_faults F.names P.Report files.new report.new).counts result }
+{
+    let count = source.tracks.len() as u64;
+    say_absent(alloc, Missing::Track, name, targets, count, report)?;
+    if let Err(end) = write_cues(alloc, files, source, targets) {
+        return Err(stop_of(end));
+    }
+    tell_held(alloc, name, targets, count, source.outline.damage(), report)
+}
