@@ -4,7 +4,6 @@ use Rattle.std.specs.List.{All}
 use Rattle.std.specs.Option.{option_map}
 use Rattle.mkv_jobs.specs.declared.job.Target.{Target}
 use Rattle.tree_format.specs.Node.{Node}
-use Rattle.track_format.specs.Entry.{number_of}
 use Rattle.track_records.specs.Track.{track_of}
 use Rattle.track_records.specs.declared.track.Track.{Track}
 use Rattle.whole_files.specs.Whole.{output}

@@ -1,6 +1,5 @@
 use Rattle.std.proofs.Common.{◌≡◌, ◌≤◌, ◌+◌, ◌*◌, ℕ, List, map, sym, ◌∙◌, subst, arith}
 use Rattle.mkv_io.specs.Names.{AreOthers}
-use Rattle.mkv_io.specs.Sources.{live_files}
 use Rattle.mkv_io.proofs.WritingLemmas.{KeepsOthers-then}
 use Rattle.extract_model.specs.Job.{names_of}
 use Rattle.file_records.specs.Attached.{in_file}

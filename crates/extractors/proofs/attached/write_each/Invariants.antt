@@ -1,5 +1,5 @@
 -- The files of the first targets stand, and no other name was written.
-use Rattle.std.proofs.Common.{◌≡◌, ◌≤◌, ◌+◌, ◌*◌, List, ℕ, map, take}
+use Rattle.std.proofs.Common.{◌≡◌, ◌≤◌, ◌+◌, ◌*◌, map, take}
 use Rattle.mkv_io.specs.Sources.{file_size}
 use Rattle.mkv_io.specs.Told.{Told}
 use Rattle.mkv_io.specs.Writing.{KeepsOthers}

@@ -1,5 +1,5 @@
 -- The first outputs were given the block, and only the outputs were written.
-use Rattle.std.proofs.Common.{◌≡◌, ℕ, List, length}
+use Rattle.std.proofs.Common.{◌≡◌, List, length}
 use Rattle.mkv_io.specs.Names.{Names}
 use Rattle.block_format.specs.Block.{Block}
 use Rattle.block_records.specs.Buffered.{block_of}

@@ -1,4 +1,4 @@
-use Rattle.std.proofs.Common.{◌≤◌, ◌+◌, ℕ, List, length, [], ◌∷◌, ◌++◌, refl, ap, subst, sym, ◌∙◌, arith}
+use Rattle.std.proofs.Common.{◌≤◌, ◌+◌, ℕ, length, [], ◌∷◌, ◌++◌, refl, ap, subst, sym, ◌∙◌, arith}
 use Rattle.std.proofs.lemmas.List.{length-replicate}
 use Rattle.std.proofs.lemmas.Result.{err_from_is_err_and}
 use Rattle.mkv_values.specs.declared.outside.FileId.{FileId}
@@ -14,7 +14,7 @@ use Rattle.mkv_outputs.proofs.StartsLemmas.{StandsInPart-then}
 use Rattle.extract_model.specs.Content.{outputs_of}
 use Rattle.extract_model.proofs.ContentLemmas.{outputs_of-begun}
 use Rattle.extractors.proofs.BlocksLemmas.{GivesBlocks-err}
-use Rattle.extractors.proofs.WalkLemmas.{Given, Given-begun, Given-ends, Given-more, Given-none, Given-part, Given-read, MetUpTo-begins, MetUpTo-begun, MetUpTo-block, MetUpTo-blocks, MetUpTo-damage, WritesAndReads-none, WritesAndReads-read, WritesAndReads-write, input-other, pays-step}
+use Rattle.extractors.proofs.WalkLemmas.{Given-begun, Given-ends, Given-more, Given-none, Given-part, Given-read, MetUpTo-begins, MetUpTo-begun, MetUpTo-block, MetUpTo-blocks, MetUpTo-damage, WritesAndReads-none, WritesAndReads-read, WritesAndReads-write, input-other, pays-step}
 use Rattle.extractors.proofs.blocks.write_blocks.Goals as goal
 
 -- nothing was done yet

@@ -1,4 +1,4 @@
-use Rattle.std.proofs.Common.{◌≤◌, ℕ, slice_get, ◌∙◌, arith}
+use Rattle.std.proofs.Common.{slice_get, ◌∙◌, arith}
 use Rattle.mkv_io.proofs.WritingLemmas.{KeepsOthers-then}
 use Rattle.mkv_jobs.specs.declared.job.Target.{Target}
 use Rattle.extract_model.specs.Job.{names_of}
