@@ -1,4 +1,4 @@
-use Rattle.std.proofs.Common.{◌≡◌, List, ℕ, sym, ap, subst}
+use Rattle.std.proofs.Common.{subst}
 use Rattle.mkv_io.specs.Names.{AreApart, AreOthers}
 use Rattle.mkv_lines.specs.Seen.{seen}
 use Rattle.mkv_lines.specs.Verdict.{Reaches, Verdict}

@@ -1,4 +1,4 @@
-use Rattle.std.proofs.Common.{◌≡◌, sym, ◌∙◌}
+use Rattle.std.proofs.Common.{sym, ◌∙◌}
 use Rattle.mkv_extract.proofs.ReadLemmas.{causes-bad}
 use Rattle.mkv_extract.proofs.reading.first_unusable.Goals as goal
 

@@ -1,10 +1,8 @@
-use Rattle.std.proofs.Common.{◌≡◌, ℕ, ◌+◌, ◌-◌, ◌<◌, ◌≤◌, ◌&&◌, not, nat_le, true, false, Bool, List, ◌∷◌, [], length, take, drop, get_or, map, refl, sym, ◌∙◌, ap, subst, rules, arith}
+use Rattle.std.proofs.Common.{◌+◌, ◌≤◌, ◌∷◌, [], length, take, drop, map, refl, sym, ◌∙◌, ap, subst, rules, arith}
 use Rattle.std.proofs.lemmas.Result.{err_from_is_err_and}
-use Rattle.mkv_jobs.specs.declared.job.Target.{Target}
 use Rattle.mkv_lines.specs.Said.{SaysUpTo}
 use Rattle.mkv_lines.proofs.SaidLemmas.{SaysUpTo-begins, SaysUpTo-ends, SaysUpTo-more, SaysUpTo-stops}
 use Rattle.mkv_extract.specs.Extract.{absent}
-use Rattle.mkv_extract.specs.Read.{is_named}
 use Rattle.mkv_extract.specs.Told.{line_of}
 use Rattle.mkv_extract.proofs.ToldLemmas.{absent-ends, absent-passed, absent-said, absent_left, absent_left-all}
 use Rattle.mkv_extract.proofs.telling.say_absent.Goals as goal

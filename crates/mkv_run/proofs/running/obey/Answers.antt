@@ -5,6 +5,7 @@ use Rattle.mkv_lines.specs.Code.{status_of}
 use Rattle.mkv_lines.specs.Seen.{seen}
 use Rattle.mkv_lines.specs.Verdict.{Reaches, SaysVerdict}
 use Rattle.mkv_lines.proofs.VerdictLemmas.{Reaches-lines}
+use Rattle.mkv_args.specs.Sound.{IsSound}
 use Rattle.mkv_args.specs.declared.command.Command.{Command}
 use Rattle.mkv_recover.specs.Recover.{disk_world, recover_verdict}
 use Rattle.mkv_recover.proofs.RecoverLemmas.{recover-outputs, verdict-told}
@@ -31,4 +32,4 @@ returns-in_default-clause-touches g c =
 
 -- the words asked for a job that can be done
 pub extract_of-requires : goal.extract_of-requires
-extract_of-requires g c = job-done c.in-Extract.job (rw c.in-Extract.is at c.requires.sound)
+extract_of-requires g c = job-done c.in-Extract.job (subst IsSound c.in-Extract.is c.requires.sound)
