@@ -32,4 +32,4 @@ returns-in_default-clause-touches g c =
 
 -- the words asked for a job that can be done
 pub extract_of-requires : goal.extract_of-requires
-extract_of-requires g c = job-done c.in-Extract.job (subst IsSound c.in-Extract.is c.requires.sound)
+extract_of-requires g c = record { job = job-done c.in-Extract.job (subst IsSound c.in-Extract.is c.requires.sound) }
