@@ -9,4 +9,5 @@ mod select;
 mod trees;
 mod value;
 
+pub use change::is_info;
 pub use trees::{EditsEnd, edited};

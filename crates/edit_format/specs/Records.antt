@@ -1,4 +1,4 @@
--- A file whose properties can be edited: RFC 9559, sections 5.1.2 (Info Element), 5.1.4 (Tracks Element), 5.1.7 (Chapters Element) and 5.1.8 (Tags Element). What refuses it, and the order, are this project's.
+-- A file whose properties can be edited: RFC 9559, sections 5.1.2 (Info Element), 5.1.4 (Tracks Element), 5.1.6 (Attachments Element), 5.1.7 (Chapters Element) and 5.1.8 (Tags Element). What refuses it, and the order, are this project's.
 use Rattle.std.specs.Prelude.{ℕ, List, Option, Some, None, Result, Ok, Err}
 use Rattle.mkv_schema.specs.declared.ids.TheConstants.{INFO, TRACKS, CHAPTERS, TAGS}
 use Rattle.mkv_values.specs.declared.damage.Damage.{Damage}
@@ -9,6 +9,7 @@ use Rattle.matroska_format.specs.Outline.{and_then, unless}
 use Rattle.element_reader.specs.Outline.{FileOutline, outline_in}
 use Rattle.tree_format.specs.Node.{Node, children}
 use Rattle.track_format.specs.Refusal.{refusal_of}
+use Rattle.file_records.specs.Attached.{first_attached}
 use Rattle.file_records.specs.Records.{first_tree, good_info}
 use Rattle.edit_format.specs.declared.trees.Trees.{Trees}
 
@@ -17,15 +18,16 @@ abbrev pub good_tracks : Header → Option Node → Result Node Damage
 good_tracks segment None = Err (damage NoTracks 0 segment.offset)
 good_tracks segment (Some n) = unless (refusal_of n) n
 
--- What can be edited in a file with this Segment, or what refuses the file: Info and Tracks, and then Chapters and
--- Tags, which only have to be sound, each the first of its ID.
+-- What can be edited in a file with this Segment, or what refuses the file: Info and Tracks, and then Attachments,
+-- Chapters and Tags, which only have to be sound, each the first of its ID.
 abbrev pub trees_of : List ℕ → Header → Result Trees Damage
 trees_of bytes segment =
     and_then (and_then (first_tree INFO bytes segment) good_info) (λ info.
     and_then (and_then (first_tree TRACKS bytes segment) (good_tracks segment)) (λ tracks.
+    and_then (first_attached bytes segment) (λ attachments.
     and_then (first_tree CHAPTERS bytes segment) (λ chapters.
     and_then (first_tree TAGS bytes segment) (λ tags.
-    Ok (record { info = info; tracks = children tracks })))))
+    Ok (record { info = info; tracks = children tracks }))))))
 
 -- A file that can be edited: its outline, and what in it can be.
 pub record EditableFile : Type 0 where

@@ -13,13 +13,12 @@ use std::alloc::{AllocError, Global};
 /// The header of a Void of so many octets in all: a size of one octet, where that is enough, else one of eight.
 #[tactic(auto, unfolding(ebml_format::specs::Number::is_id), using(crate::proofs::SpanLemmas::voids))]
 pub fn void_header(alloc: Global, total: u64) -> Result<Vec<u8>, AllocError>
-    requires least { 2 ≤ total }
-    requires most { total ≤ 2 ^ 48 }
+    requires { total ≤ 2 ^ 48 }
     ensures { IfOk result (λ octets. octets.items ≡ spec.void_header total) }
 {
     let mut out = put_id(VOID).as_slice().to_vec(alloc)?;
     if total <= 128 {
-        out.extend_from_slice(put_size(total - 2, 1).as_slice())?;
+        out.extend_from_slice(put_size(total.saturating_sub(2), 1).as_slice())?;
     } else {
         out.extend_from_slice(put_size(total - 9, 8).as_slice())?;
     }
@@ -54,13 +53,22 @@ fn width_of(len: u64) -> u8
 
 /// How many octets an Element takes at least.
 #[tactic(auto, using(crate::proofs::SpanLemmas::lengths))]
-fn shortest(id: u32, len: u64) -> u64
+pub fn shortest(id: u32, len: u64) -> u64
     requires id { IsTrue (is_id id) }
     requires short { len ≤ 2 ^ 48 }
     ensures exact { (body : List ℕ) → length body ≡ len → length (octets_of (element id body)) ≡ result }
     ensures most { result ≤ len + 16 }
 {
     u64::from(put_id(id).len) + u64::from(width_of(len)) + len
+}
+
+/// An Element with this body, in as few octets as it takes.
+pub fn whole(alloc: Global, id: u32, body: &[u8]) -> Result<Vec<u8>, AllocError>
+    requires id { IsTrue (is_id id) }
+    requires short { length body.now ≤ 2 ^ 48 }
+    ensures { IfOk result (λ octets. octets.items ≡ octets_of (element id body.now)) }
+{
+    element(alloc, id, body, width_of(body.len() as u64))
 }
 
 /// What is written into a span of so many octets of an Element with this body; none where it is longer.
@@ -93,7 +101,6 @@ pub fn fit(alloc: Global, id: u32, body: &[u8], room: u64) -> Result<Option<Vec<
 pub fn in_place(alloc: Global, id: u32, body: &[u8], room: u64) -> Result<Vec<u8>, AllocError>
     requires id { IsTrue (is_id id) }
     requires short { length body.now ≤ 2 ^ 48 }
-    requires least { 2 ≤ room }
     requires most { room ≤ 2 ^ 48 }
     ensures { IfOk result (λ octets. octets.items ≡ unwrap_or (spec.fitted (element id body.now) room) (spec.void_header room)) }
 {

@@ -9,7 +9,7 @@ mod seek_head;
 mod seeking;
 mod span;
 
-pub use fitting::{fit, in_place, void_header};
+pub use fitting::{fit, in_place, shortest, void_header, whole};
 pub use refusals::{lacks, size_refusal, size_width, tail_refusal, twin_refusal};
 pub use seek_head::seek_head_body;
 pub use seeking::seeks;

@@ -1,0 +1,16 @@
+pub mod TreesLemmas
+pub mod LevelLemmas
+pub mod VoidLemmas
+pub mod OrderLemmas
+pub mod FitLemmas
+pub mod SitsLemmas
+pub mod PlanLemmas
+pub mod PartLemmas
+pub mod AscendingLemmas
+pub mod TwinLemmas
+pub mod SeekLemmas
+pub mod HeadLemmas
+pub mod SizeLemmas
+pub mod MovedLemmas
+pub mod EndsLemmas
+pub mod StepLemmas

@@ -1,0 +1,43 @@
+-- The first Element of an ID, written anew.
+use Rattle.std.proofs.Common.{◌≡◌, ℕ, ◌==◌, Bool, true, false, if◌then◌else◌, List, [], ◌∷◌, Option, Some, None, refl, sym, ◌∙◌, ap, arith}
+use Rattle.std.specs.Option.{option_map_or}
+use Rattle.std.proofs.lemmas.Bool.Decides.{nat_tests}
+use Rattle.ebml_format.specs.Number.{is_id}
+use Rattle.mkv_schema.specs.declared.ids.TheConstants.{CLUSTER}
+use Rattle.matroska_format.specs.declared.element.Header.{Header}
+use Rattle.matroska_format.specs.Value.{first_of}
+use Rattle.element_reader.specs.Outline.{FileOutline, first_in}
+use Rattle.tree_format.specs.Node.{Node}
+use Rattle.edit_format.specs.Plan.{part, part_of}
+
+-- the first of an ID has it
+pub first-own : (id : ℕ) (list : List Header) (h : Header) → first_of id list ≡ Some h → h.id ≡ id
+first-own id [] h found = absurd (cc)
+first-own id (k ∷ ks) h found = here (first-own id ks h) (k.id == id) refl found
+  where
+    here : (first_of id ks ≡ Some h → h.id ≡ id) → (test : Bool) → (k.id == id) ≡ test → (if test then Some k else first_of id ks) ≡ Some h → h.id ≡ id
+    here later true is some =
+        let same : k ≡ h = cc in
+        let named : k.id ≡ id = grind (arith, nat_tests) in
+        ap (λ (x : Header). x.id) (sym same) ∙ named
+    here later false is some = later some
+
+-- the one that an outline shows is the first of its list
+pub first-in : (id : ℕ) (o : FileOutline) (h : Option Header) → (id == CLUSTER) ≡ false → first_in id o ≡ h → first_of id o.others ≡ h
+first-in id o h other is = of (id == CLUSTER) other is
+  where
+    of : (cluster : Bool) → cluster ≡ false → (if cluster then o.cluster else first_of id o.others) ≡ h → first_of id o.others ≡ h
+    of true other is = absurd (cc)
+    of false other is = is
+
+-- it has a valid ID
+pub first-valid : (id : ℕ) (o : FileOutline) (h : Header) → (id == CLUSTER) ≡ false → is_id id ≡ true → first_in id o ≡ Some h → is_id h.id ≡ true
+first-valid id o h other valid is = ap is_id (first-own id o.others h (first-in id o (Some h) other is)) ∙ valid
+
+pub part-none : (id : ℕ) (o : FileOutline) (nodes : List Node) → (id == CLUSTER) ≡ false → first_in id o ≡ None → part_of true id o.others nodes ≡ []
+part-none id o nodes other is = ap (λ first. option_map_or (λ h. part o.others nodes h ∷ []) first []) (first-in id o None other is)
+
+pub part-some : (id : ℕ) (o : FileOutline) (nodes : List Node) (h : Header) → (id == CLUSTER) ≡ false → first_in id o ≡ Some h → part_of true id o.others nodes ≡ part o.others nodes h ∷ []
+part-some id o nodes h other is = ap (λ first. option_map_or (λ h. part o.others nodes h ∷ []) first []) (first-in id o (Some h) other is)
+
+pub ruleset firsts = (first-valid, part-none, part-some)

@@ -1,0 +1,366 @@
+-- What edits write is the plan of an edit.
+use Rattle.std.proofs.Common.{◌≡◌, ℕ, ◌+◌, ◌-◌, ◌<◌, ◌≤◌, nat_lt, Bool, true, false, ◌||◌, if◌then◌else◌, List, [], ◌∷◌, ◌++◌, length, map, flat_map, Option, Some, None, Result, Ok, Err, refl, sym, ◌∙◌, ap, subst, arith}
+use Rattle.std.specs.List.{list_any}
+use Rattle.std.specs.Option.{option_and_then, unwrap_or}
+use Rattle.std.proofs.lemmas.List.{length-append, length-map, length-take, map-append}
+use Rattle.std.proofs.lemmas.List.Sums.{sum_by-append}
+use Rattle.std.proofs.lemmas.Bool.Decides.{nat_tests}
+use Rattle.ebml_format.specs.Number.{id_octets, is_id, size_octets}
+use Rattle.ebml_format.proofs.NumberLemmas.{length-size_octets, is_id-bounds}
+use Rattle.ebml_format.proofs.WidthLemmas.{least_size_width-IsLeast}
+use Rattle.mkv_schema.specs.declared.ids.TheConstants.{INFO, TRACKS, SEEK_HEAD, SEGMENT}
+use Rattle.mkv_values.specs.declared.damage.Damage.{Damage}
+use Rattle.mkv_values.specs.declared.outside.TheConstants.{LONGEST_FILE}
+use Rattle.mkv_jobs.specs.declared.edit.Edit.{Edit}
+use Rattle.matroska_format.specs.declared.element.Header.{Header}
+use Rattle.matroska_format.specs.Element.{end_in, is_unknown, known, stated_end}
+use Rattle.matroska_format.specs.Outline.{segment_bound, unless as unless_damaged}
+use Rattle.matroska_format.proofs.OutlineLemmas.{and_then-ok, unless-ok}
+use Rattle.matroska_format.specs.Value.{body_of, first_of}
+use Rattle.element_reader.specs.Collected.{others_of}
+use Rattle.element_reader.specs.Outline.{FileOutline, outline_in}
+use Rattle.element_reader.proofs.OutlineLemmas.{Outlines-shown}
+use Rattle.tree_format.specs.Node.{Node, children}
+use Rattle.tree_format.specs.Reading.{tree_of}
+use Rattle.element_octets.specs.Element.{Element, octets_of}
+use Rattle.sidecar_format.specs.declared.place.TheConstants.{KEPT, MOST_OCTETS, MOST_WRITES}
+use Rattle.sidecar_format.specs.Fields.{AreInOrder, IsPlan}
+use Rattle.sidecar_format.specs.Writes.{Write}
+use Rattle.edit_format.specs.declared.refusal.Refusal.{Refusal}
+use Rattle.edit_format.specs.declared.refusal.Refusal.TheVariants as refusal
+use Rattle.edit_format.specs.declared.refusal.Room.{Room}
+use Rattle.edit_format.specs.declared.refusal.Room.TheVariants as room
+use Rattle.edit_format.specs.declared.refusal.TheConstants.{MOST_WRITTEN}
+use Rattle.edit_format.specs.declared.trees.Trees.{Trees}
+use Rattle.edit_format.specs.Change.{are_of_info, are_of_tracks, edited_trees, and_then as edits_then}
+use Rattle.edit_format.specs.Records.{EditableFile, editable, trees_of}
+use Rattle.edit_format.specs.SeekHead.{SeekHeadAt, before_clusters, if_read, if_sound, seek_head_of}
+use Rattle.edit_format.specs.Span.{fitted, span_of}
+use Rattle.edit_format.specs.Plan.{if_editable, plan_of, Part, part_of, part_writes, parts, in_place, info_nodes, place, write, recorded, ascending, moves, moving, appended, elements_moving, length_in_place, length_moving, most_nodes, too_large, unless, first_refusal, lacks, size_refusal, size_need, size_width, size_writes, new_end, tail_refusal, twin_refusal, moving_refusals, moving_writes, writes_moving, writes_in_place, writes_of_parts, seek_head}
+use Rattle.edit_plan.proofs.LevelLemmas.{Stand, Stand-later, level-stands}
+use Rattle.edit_plan.proofs.VoidLemmas.{first-room}
+use Rattle.edit_plan.proofs.OrderLemmas.{AreApart, Between, between-append, between-last, between-order, order-extent, ascending-between, ascending-bytes, ascending-length, bytes_in, bytes_in-cons, places-bytes}
+use Rattle.edit_plan.proofs.FitLemmas.{fills-fitted, fitted-same}
+use Rattle.edit_plan.proofs.SitsLemmas.{MaySit, SitsAt, element-some, part-few, part-sits, parts-bytes, three-apart, two-apart}
+
+-- ---- level 1 of an outline
+
+Stand-wider : (p e f : ℕ) (hs : List Header) → e ≤ f → Stand p e hs → Stand p f hs
+Stand-wider p e f [] wider stand = tt
+Stand-wider p e f (h ∷ hs) wider stand = (stand.0, stand.1, omega (arith, stand.2), Stand-wider (stated_end h) e f hs wider stand.3)
+
+-- The Elements of level 1 besides Clusters stand one behind the other, up to the end of the file.
+pub record IsLevel (o : FileOutline) : Type 0 where
+  pub stand : Stand o.segment.body o.total o.others
+
+pub bound-most : (bytes : List ℕ) (segment : Header) → segment_bound bytes segment ≤ length bytes
+bound-most bytes segment = of (is_unknown segment.size)
+  where
+    of : (unknown : Bool) → (if unknown then length bytes else end_in (length bytes) segment) ≤ length bytes
+    of true = omega arith
+    of false = omega arith
+
+pub IsLevel-shown : (held : ℕ) (bytes : List ℕ) (o : FileOutline) → outline_in held bytes ≡ Ok o → IsLevel o
+IsLevel-shown held bytes o is =
+    let of = Outlines-shown held bytes o is in
+    let segment : Header = of.outlined.segment in
+    let stand = level-stands bytes segment.size segment.body (segment_bound bytes segment) in
+    let wide = Stand-wider segment.body (segment_bound bytes segment) (length bytes) _ (bound-most bytes segment) stand in
+    let listed : Stand segment.body (length bytes) (others_of of.outlined.list) = subst (λ l. Stand segment.body (length bytes) (others_of l)) (sym of.list) wide in
+    let P : FileOutline → Type 0 = λ v. Stand v.segment.body v.total v.others in
+    record { stand = subst P (sym of.shows) listed }
+
+-- ---- what isn't refused
+
+unless-none : {A : Type 0} (r : Option Refusal) (x y : A) → unless r x ≡ Ok y → (r ≡ None) × (x ≡ y)
+unless-none None x y is = (refl, cc)
+unless-none (Some d) x y is = absurd (cc)
+
+first-none : (r : Option Refusal) (rs : List (Option Refusal)) → first_refusal (r ∷ rs) ≡ None → (r ≡ None) × (first_refusal rs ≡ None)
+first-none None rs is = (refl, is)
+first-none (Some d) rs is = absurd (cc)
+
+lacks-none : (why : Room) (need have : ℕ) → lacks why need have ≡ None → need ≤ have
+lacks-none why need have is = of (nat_lt have need) refl is
+  where
+    of : (less : Bool) → nat_lt have need ≡ less → (if less then Some (refusal.NoRoom why need have) else None) ≡ None → need ≤ have
+    of true test is = absurd (cc)
+    of false test is = grind (arith, nat_tests)
+
+large-none : (len : ℕ) (ps : List Part) → too_large len ps ≡ None → len ≤ MOST_WRITTEN
+large-none len ps is = of (nat_lt 65536 (most_nodes ps)) (nat_lt MOST_WRITTEN len) refl is
+  where
+    of : (many long : Bool) → nat_lt MOST_WRITTEN len ≡ long → (if many || long then Some (refusal.EditTooLarge len (most_nodes ps)) else None) ≡ None → len ≤ MOST_WRITTEN
+    of true long test is = absurd (cc)
+    of false true test is = absurd (cc)
+    of false false test is = grind (arith, nat_tests)
+
+pub size-none : (segment : Header) (end : ℕ) → is_unknown segment.size ≡ false → size_refusal segment end ≡ None → size_need segment end ≤ size_width segment
+size-none segment end known is = of (is_unknown segment.size) known is
+  where
+    of : (unknown : Bool) → unknown ≡ false → (if unknown then None else lacks room.SegmentSize (size_need segment end) (size_width segment)) ≡ None → size_need segment end ≤ size_width segment
+    of true known is = absurd (cc)
+    of false known is = lacks-none _ _ _ is
+
+-- ---- what moves
+
+flat_map-next : {X : Type 0} (f : X → List ℕ) (x : X) (xs : List X) → flat_map f (x ∷ xs) ≡ f x ++ flat_map f xs
+flat_map-next f x xs = refl
+
+-- where something moves there is something to append
+appended-cons : (p : Part) (ps : List Part) → appended (p ∷ ps) ≡ (if moves p then octets_of p.element ++ appended ps else appended ps)
+appended-cons p ps = of (moves p)
+  where
+    of : (b : Bool) → flat_map octets_of (map (λ (q : Part). q.element) (if b then p ∷ moving ps else moving ps)) ≡ (if b then octets_of p.element ++ appended ps else appended ps)
+    of true = flat_map-next octets_of p.element (elements_moving ps)
+    of false = refl
+
+appended-some : (ps : List Part) → list_any moves ps ≡ true → 1 ≤ length (appended ps)
+appended-some [] any = absurd (cc)
+appended-some (p ∷ ps) any = rw (appended-cons p ps) (of (appended-some ps) (moves p) refl any)
+  where
+    of : (list_any moves ps ≡ true → 1 ≤ length (appended ps)) → (b : Bool) → moves p ≡ b → (b || list_any moves ps) ≡ true → 1 ≤ length (if b then octets_of p.element ++ appended ps else appended ps)
+    of later true is any =
+        let long : p.room < length (octets_of p.element) = grind (arith, nat_tests) in
+        let both = length-append (octets_of p.element) (appended ps) in
+        omega arith
+    of later false is any = later any
+
+-- ---- the SeekHead that is there
+
+head-first : (bytes : List ℕ) (o : FileOutline) (s : SeekHeadAt) → seek_head_of bytes o ≡ Some s → first_of SEEK_HEAD o.others ≡ Some s.header
+head-first bytes o s is = of (first_of SEEK_HEAD o.others) is
+  where
+    read : (h : Header) (tree : Result Node Damage) → if_read h tree ≡ Some s → h ≡ s.header
+    read h (Ok n) is = let same : record { header = h; seeks = children n } ≡ s = cc in ap (λ (x : SeekHeadAt). x.header) same
+    read h (Err d) is = absurd (cc)
+
+    sound : (h : Header) (large : Bool) → (if large then None else if_read h (tree_of h.id h.offset (body_of bytes h) h.body 65536)) ≡ Some s → h ≡ s.header
+    sound h true is = absurd (cc)
+    sound h false is = read h _ is
+
+    before : (h : Header) (front : Bool) → option_and_then (if_sound bytes) (if front then Some h else None) ≡ Some s → h ≡ s.header
+    before h true is = sound h _ is
+    before h false is = absurd (cc)
+
+    of : (first : Option Header) → option_and_then (if_sound bytes) (option_and_then (before_clusters o.cluster) first) ≡ Some s → first ≡ Some s.header
+    of None is = absurd (cc)
+    of (Some h) is = ap (λ x. Some x) (before h _ is)
+
+-- ---- the law
+
+info-valid : is_id INFO ≡ true
+unfolding is_id
+info-valid = refl
+
+tracks-valid : is_id TRACKS ≡ true
+unfolding is_id
+tracks-valid = refl
+
+pub seek_head-valid : is_id SEEK_HEAD ≡ true
+unfolding is_id
+seek_head-valid = refl
+
+bytes_in-append : (xs ys : List Write) → bytes_in (xs ++ ys) ≡ bytes_in xs + bytes_in ys
+bytes_in-append xs ys = sum_by-append (λ (w : Write). length w.bytes) xs ys
+
+-- few writes in order, of few octets, are the plan of an edit
+planned : (bytes : List ℕ) (ws : List Write) → length bytes ≤ LONGEST_FILE → length ws ≤ MOST_WRITES → bytes_in ws ≤ MOST_OCTETS → AreInOrder (length bytes) 0 (map place ws) → IsPlan (recorded bytes ws)
+planned bytes ws short few small order = record {
+  sound = record {
+    few = omega (arith, length-map ws place);
+    order = order;
+    small = omega (arith, places-bytes ws);
+    short = short;
+    new_len = order-extent (length bytes) (length bytes) 0 ws (omega arith) order;
+    first = length-take KEPT bytes;
+  };
+  full = payload ws ∙ sym (places-bytes ws);
+}
+  where
+    payload : (vs : List Write) → length (flat_map (λ (w : Write). w.bytes) vs) ≡ bytes_in vs
+    payload [] = refl
+    payload (v ∷ vs) =
+        ap length (flat_map-next (λ (w : Write). w.bytes) v vs) ∙ length-append v.bytes (flat_map (λ (w : Write). w.bytes) vs)
+        ∙ ap (λ n. length v.bytes + n) (payload vs) ∙ sym (bytes_in-cons v vs)
+
+module _ (bytes : List ℕ) (o : FileOutline) (edits : List Edit) (t : Trees) (level : IsLevel o) (total : o.total ≡ length bytes) (short : length bytes ≤ LONGEST_FILE) where
+  abbrev info : List Part
+  info = part_of (are_of_info edits) INFO o.others (info_nodes t.info)
+
+  abbrev tracks : List Part
+  tracks = part_of (are_of_tracks edits) TRACKS o.others t.tracks
+
+  abbrev all : List Part
+  all = info ++ tracks
+
+  info-sits : (q : ℕ) → Stand q o.total o.others → MaySit o.others INFO (part_writes info)
+  info-sits q stand = part-sits q o.total o.others stand (are_of_info edits) INFO (info_nodes t.info) (is_id-bounds INFO info-valid).0
+
+  tracks-sits : (q : ℕ) → Stand q o.total o.others → MaySit o.others TRACKS (part_writes tracks)
+  tracks-sits q stand = part-sits q o.total o.others stand (are_of_tracks edits) TRACKS t.tracks (is_id-bounds TRACKS tracks-valid).0
+
+  all-writes : part_writes all ≡ part_writes info ++ part_writes tracks
+  all-writes = map-append _ info tracks
+
+  all-few : length (part_writes all) ≤ 2
+  all-few =
+      let one = part-few (are_of_info edits) INFO o.others (info_nodes t.info) in
+      let two = part-few (are_of_tracks edits) TRACKS o.others t.tracks in
+      let both = length-append info tracks in
+      omega (arith, length-map all (λ (p : Part). write p.place (in_place p)))
+
+  head-some : (head : Option SeekHeadAt) → 1 ≤ length (octets_of (seek_head o all head))
+  head-some head = element-some SEEK_HEAD _ (is_id-bounds SEEK_HEAD seek_head-valid).0
+
+  -- what stays where it is
+  in-place-planned : (ws : List Write) → writes_in_place all ≡ Ok ws → IsPlan (recorded bytes ws)
+  in-place-planned ws is =
+      let split = unless-none (too_large (length_in_place all) all) (ascending (part_writes all)) ws is in
+      let small = large-none (length_in_place all) all split.0 in
+      let stand = Stand-later 0 o.segment.body o.total o.others (omega arith) level.stand in
+      let apart : AreApart 0 o.total (part_writes all) =
+      subst (AreApart 0 o.total) (sym all-writes) (two-apart 0 o.total o.others stand (part_writes info) (part_writes tracks) (omega arith) (info-sits 0 stand) (tracks-sits 0 stand)) in
+      let between = ascending-between 0 o.total (part_writes all) apart in
+      let order = between-order o.total 0 (ascending (part_writes all)) between in
+      subst (λ vs. IsPlan (recorded bytes vs)) split.1
+      (planned bytes (ascending (part_writes all)) short
+      (omega (arith, ascending-length (part_writes all), all-few))
+      (omega (arith, ascending-bytes (part_writes all), parts-bytes all, small))
+      (subst (λ n. AreInOrder n 0 (map place (ascending (part_writes all)))) total order))
+
+  module _ (any : list_any moves all ≡ true) (s : SeekHeadAt) (first : first_of SEEK_HEAD o.others ≡ Some s.header) (seeks : Element) (some : 1 ≤ length (octets_of seeks)) where
+    abbrev space : ℕ
+    space = span_of s.header o.others
+
+    abbrev middle : List Write
+    middle = write s.header.offset (unwrap_or (fitted seeks space) []) ∷ part_writes all
+
+    begins : o.segment.body ≤ o.total
+    begins =
+        let is = first-room SEEK_HEAD o.segment.body o.total o.others s.header level.stand first in
+        let from = is.from in let inside = is.inside in
+        omega arith
+
+    middle-between : length (octets_of seeks) ≤ space → Between o.segment.body o.total (ascending middle)
+    middle-between reaches =
+        let fills = fills-fitted seeks space reaches some in
+        let sits : SitsAt o.others SEEK_HEAD (write s.header.offset (unwrap_or (fitted seeks space) [])) =
+        record { header = s.header; first = first; at = refl; some = fills.some; most = fills.most } in
+        let apart = three-apart o.segment.body o.total o.others level.stand _ (part_writes info) (part_writes tracks) begins sits
+        (info-sits o.segment.body level.stand) (tracks-sits o.segment.body level.stand) in
+        ascending-between o.segment.body o.total middle
+        (subst (λ vs. AreApart o.segment.body o.total (write s.header.offset (unwrap_or (fitted seeks space) []) ∷ vs)) (sym all-writes) apart)
+
+    -- the Segment's size, in front of its body
+    size-between : (unknown : Bool) (end : ℕ) → (unknown ≡ false → 1 ≤ size_width o.segment)
+        → Between 0 o.segment.body (if unknown then [] else write (o.segment.offset + length (id_octets SEGMENT)) (size_octets (end - o.segment.body) (size_width o.segment)) ∷ [])
+    size-between true end wide = omega arith
+    size-between false end has =
+        let wide = has refl in
+        let long = length-size_octets (end - o.segment.body) (size_width o.segment) in
+        (omega arith, omega arith, omega arith)
+
+    size-few : (unknown : Bool) (end : ℕ)
+        → length (if unknown then [] else write (o.segment.offset + length (id_octets SEGMENT)) (size_octets (end - o.segment.body) (size_width o.segment)) ∷ []) ≤ 1
+    size-few true end = omega arith
+    size-few false end = omega arith
+
+    size-bytes : (unknown : Bool) (end : ℕ)
+        → bytes_in (if unknown then [] else write (o.segment.offset + length (id_octets SEGMENT)) (size_octets (end - o.segment.body) (size_width o.segment)) ∷ []) ≡ (if unknown then 0 else size_width o.segment)
+    size-bytes true end = refl
+    size-bytes false end =
+        bytes_in-cons (write (o.segment.offset + length (id_octets SEGMENT)) (size_octets (end - o.segment.body) (size_width o.segment))) []
+        ∙ (let long = length-size_octets (end - o.segment.body) (size_width o.segment) in omega arith)
+
+    -- its size has space for one octet
+    size-wide : too_large (length_moving o all seeks space) all ≡ None → size_refusal o.segment (new_end o all) ≡ None → is_unknown o.segment.size ≡ false → 1 ≤ size_width o.segment
+    size-wide large fits known =
+        let small = large-none (length_moving o all seeks space) all large in
+        let need = size-none o.segment (new_end o all) known fits in
+        let least = (least_size_width-IsLeast (new_end o all - o.segment.body) (omega (arith, total))).some in
+        omega arith
+
+    -- what moves
+    moving-planned : (ws : List Write) → unless (first_refusal (moving_refusals o all seeks space)) (moving_writes o all seeks s.header.offset space) ≡ Ok ws → IsPlan (recorded bytes ws)
+    moving-planned ws is =
+        let split = unless-none (first_refusal (moving_refusals o all seeks space)) (moving_writes o all seeks s.header.offset space) ws is in
+        let large = first-none (too_large (length_moving o all seeks space) all) _ split.0 in
+        let tail = first-none (tail_refusal o) _ large.1 in
+        let twin = first-none (twin_refusal o.others (moving all)) _ tail.1 in
+        let head = first-none (lacks room.SeekHead (length (octets_of seeks)) space) _ twin.1 in
+        let size = first-none (size_refusal o.segment (new_end o all)) [] head.1 in
+        let reaches = lacks-none _ _ _ head.0 in
+        let small = large-none (length_moving o all seeks space) all large.0 in
+        let front : List Write = size_writes o.segment (new_end o all) in
+        let sized = size-between (is_unknown o.segment.size) (new_end o all) (size-wide large.0 size.0) in
+        let before = between-append 0 o.segment.body o.total front (ascending middle) sized (middle-between reaches) in
+        let order = between-last o.total 0 (front ++ ascending middle) (appended all) before (appended-some all any) in
+        let same = ap length (fitted-same seeks space [] (octets_of seeks) reaches some) in
+        let bytes_front = size-bytes (is_unknown o.segment.size) (new_end o all) in
+        subst (λ vs. IsPlan (recorded bytes vs)) split.1
+        (planned bytes (front ++ ascending middle ++ write o.total (appended all) ∷ []) short
+        (omega (arith, length-append (front ++ ascending middle) (write o.total (appended all) ∷ []), length-append front (ascending middle), ascending-length middle, size-few (is_unknown o.segment.size) (new_end o all), all-few))
+        (omega (
+          arith,
+          bytes_in-append (front ++ ascending middle) (write o.total (appended all) ∷ []),
+          bytes_in-append front (ascending middle),
+          ascending-bytes middle,
+          bytes_in-cons (write s.header.offset (unwrap_or (fitted seeks space) [])) (part_writes all),
+          bytes_in-cons (write o.total (appended all)) [],
+          parts-bytes all,
+          same,
+          bytes_front,
+          small,
+        ))
+        (subst (λ n. AreInOrder n 0 (map place (front ++ ascending middle ++ write o.total (appended all) ∷ []))) total order))
+
+  moving-found : (ws : List Write) → list_any moves all ≡ true → (head : Option SeekHeadAt) → seek_head_of bytes o ≡ head → writes_moving o all head ≡ Ok ws → IsPlan (recorded bytes ws)
+  moving-found ws any None is made =
+      let split = unless-none (first_refusal (moving_refusals o all (seek_head o all None) 0)) _ ws made in
+      let large = first-none (too_large (length_moving o all (seek_head o all None) 0) all) _ split.0 in
+      let tail = first-none (tail_refusal o) _ large.1 in
+      let twin = first-none (twin_refusal o.others (moving all)) _ tail.1 in
+      let head = first-none (lacks room.SeekHead (length (octets_of (seek_head o all None))) 0) _ twin.1 in
+      let reaches = lacks-none _ _ _ head.0 in
+      let some = head-some None in
+      absurd (omega arith)
+  moving-found ws any (Some s) is made = moving-planned any s (head-first bytes o s is) (seek_head o all (Some s)) (head-some (Some s)) ws made
+
+  -- What edits write is the plan of an edit.
+  pub parts-planned : (ws : List Write) → writes_of_parts bytes o (parts o.others edits t) ≡ Ok ws → IsPlan (recorded bytes ws)
+  parts-planned ws made = of (list_any moves all) refl made
+    where
+      of : (any : Bool) → list_any moves all ≡ any → (if any then writes_moving o all (seek_head_of bytes o) else writes_in_place all) ≡ Ok ws → IsPlan (recorded bytes ws)
+      of true any is = moving-found ws any (seek_head_of bytes o) refl is
+      of false any is = in-place-planned ws is
+
+-- the outline of a file that can be edited is the file's
+editable-outline : (bytes : List ℕ) (f : EditableFile) → editable bytes ≡ Ok f → outline_in 0 bytes ≡ Ok f.outline
+editable-outline bytes f is =
+    let first = and_then-ok (outline_in 0 bytes) _ f is in
+    let second = and_then-ok (unless_damaged first.0.damage first.0) _ f first.1.1 in
+    let third = and_then-ok (trees_of bytes second.0.segment) _ f second.1.1 in
+    let same : first.0 ≡ second.0 = (unless-ok first.0.damage first.0 second.0 second.1.0).1 in
+    let made : record { outline = second.0; trees = third.0 } ≡ f = cc (third.1.1) in
+    first.1.0 ∙ ap (λ (o : FileOutline). Ok o) (same ∙ ap (λ (x : EditableFile). x.outline) made)
+
+pub plan_of-planned : (bytes : List ℕ) (edits : List Edit) (ws : List Write) → length bytes ≤ LONGEST_FILE → plan_of bytes edits ≡ Ok ws → IsPlan (recorded bytes ws)
+unfolding plan_of
+plan_of-planned bytes edits ws short is = of (editable bytes) refl is
+  where
+    total-of : (o : FileOutline) → outline_in 0 bytes ≡ Ok o → o.total ≡ length bytes
+    total-of o is = let shows = (Outlines-shown 0 bytes o is).shows in ap (λ (v : FileOutline). v.total) shows
+
+    trees : (f : EditableFile) → editable bytes ≡ Ok f → (t : Result Trees Refusal)
+        → edits_then t (λ x. writes_of_parts bytes f.outline (parts f.outline.others edits x)) ≡ Ok ws → IsPlan (recorded bytes ws)
+    trees f found (Ok t) is =
+        let outline = editable-outline bytes f found in
+        parts-planned bytes f.outline edits t (IsLevel-shown 0 bytes f.outline outline) (total-of f.outline outline) short ws is
+    trees f found (Err r) is = absurd (cc)
+
+    of : (found : Result EditableFile Damage) → editable bytes ≡ found
+        → edits_then (if_editable found) (λ f. edits_then (edited_trees edits f.trees) (λ t. writes_of_parts bytes f.outline (parts f.outline.others edits t))) ≡ Ok ws
+        → IsPlan (recorded bytes ws)
+    of (Ok f) found is = trees f found (edited_trees edits f.trees) is
+    of (Err d) found is = absurd (cc)

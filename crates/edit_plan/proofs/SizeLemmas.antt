@@ -1,0 +1,29 @@
+-- The Segment's new size has room in the old one's place.
+use Rattle.std.proofs.Common.{◌≡◌, ℕ, ◌+◌, ◌-◌, ◌*◌, ◌^◌, ◌<◌, ◌≤◌, nat_lt, min, Bool, true, false, if◌then◌else◌, List, length, Option, Some, None, refl, sym, ◌∙◌, ap, arith, pow_mono}
+use Rattle.std.proofs.lemmas.Bool.Decides.{nat_tests}
+use Rattle.ebml_format.specs.declared.number.Size.TheVariants.{Known}
+use Rattle.ebml_format.specs.Number.{all_ones, id_octets, least_size_width}
+use Rattle.ebml_format.proofs.WidthLemmas.{least_size_width-IsLeast}
+use Rattle.mkv_schema.specs.declared.ids.TheConstants.{SEGMENT}
+use Rattle.matroska_format.specs.declared.element.Header.{Header}
+use Rattle.matroska_format.specs.Element.{is_unknown}
+use Rattle.edit_format.specs.Plan.{size_need, size_refusal, size_width}
+use Rattle.edit_plan.proofs.PlanLemmas.{size-none}
+
+-- what is known of a size that is written anew
+pub record HasSize (segment : Header) (end : ℕ) : Type 0 where
+  pub some : 1 ≤ min (size_width segment) 8
+  pub fits : end - segment.body < all_ones (min (size_width segment) 8)
+  pub behind : segment.offset + length (id_octets SEGMENT) ≤ segment.body
+
+pub has-size : (segment : Header) (end n : ℕ) → segment.size ≡ Known n → end ≤ 2 ^ 50 → size_refusal segment end ≡ None → HasSize segment end
+has-size segment end n is short fits =
+    let known : is_unknown segment.size ≡ false = ap is_unknown is in
+    let need = size-none segment end known fits in
+    let least = least_size_width-IsLeast (end - segment.body) (omega arith) in
+    let some = least.some in
+    let most = least.most in
+    let more : 2 ^ (7 * least_size_width (end - segment.body)) ≤ 2 ^ (7 * min (size_width segment) 8) = pow_mono {j = 7 * min (size_width segment) 8} (omega arith) in
+    record { some = omega arith; fits = omega (arith, least.fits); behind = omega arith }
+
+pub ruleset sizes = has-size

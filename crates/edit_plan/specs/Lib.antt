@@ -1,0 +1,6 @@
+pub mod Shown
+pub mod Found
+pub mod Laws
+pub mod Moving
+pub mod Answer
+pub mod Opening

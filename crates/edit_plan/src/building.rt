@@ -1,0 +1,144 @@
+//! What is written anew.
+
+ghost use Rattle.std.specs.Prelude.{◌≡◌, ◌≤◌, ◌<◌, ◌^◌, ◌++◌, true, false, ◌==◌, IfOk, OnOk, IsTrue, length, map, flat_map};
+ghost use Rattle.ebml_format.specs.Number.{is_id};
+ghost use Rattle.mkv_schema.specs.declared.ids.TheConstants.{CLUSTER};
+ghost use Rattle.tree_format.specs.NormalForm.{octets};
+ghost use Rattle.element_octets.specs.Element.{element, octets_of};
+ghost use Rattle.element_reader.specs.Collected.{IsInFile};
+ghost use Rattle.edit_format.specs.Change as change;
+ghost use Rattle.edit_format.specs.Plan as spec;
+ghost use Rattle.edit_plan.specs.Shown.{shown};
+
+use crate::counting::{kept_all, sum};
+use crate::part::Part;
+use ebml_tree::Tree;
+use edit_changes::is_info;
+use edit_format::Trees;
+use edit_room::{shortest, span_of};
+use element_reader::{Header, Outline};
+use mkv_jobs::Edit;
+use mkv_schema::ids::{INFO, TRACKS};
+use mkv_values::{Bytes, List};
+use std::alloc::{AllocError, Global};
+
+// The most octets of a file.
+pub(crate) const LONGEST: usize = 1 << 48;
+
+/// What is written of these Elements, one behind the other. More than a file can have can't be held.
+fn body_of(alloc: Global, nodes: &[Tree]) -> Result<Bytes, AllocError>
+    ensures exact { IfOk result (λ body. body ≡ flat_map octets nodes.now) }
+    ensures short { IfOk result (λ body. length body ≤ 2 ^ 48) }
+{
+    let mut body = Bytes::new(alloc);
+    for node in nodes {
+        node.put(&mut body)?;
+    }
+    if body.len() > LONGEST {
+        return Err(AllocError);
+    }
+    Ok(body)
+}
+
+/// An Element of level 1 with new children.
+fn part(
+    alloc: Global,
+    outline: &Outline,
+    header: &Header,
+    nodes: &[Tree],
+) -> Result<Part, AllocError>
+    requires id { IsTrue (is_id header.now.id) }
+    requires inside { IsInFile outline.now.total header.now }
+    requires short { outline.now.total ≤ 2 ^ 48 }
+    ensures { IfOk result (λ part. shown part ≡ spec.part outline.now.others nodes.now header.now) }
+{
+    let body = body_of(alloc, nodes)?;
+    let nodes = sum(kept_all(nodes)?, 1)?;
+    Ok(Part {
+        id: header.id,
+        place: header.offset,
+        room: span_of(outline, header),
+        nodes,
+        body,
+    })
+}
+
+/// Adds the first Element of an ID with new children, if there is one.
+#[tactic(auto, using(crate::proofs::PartLemmas::firsts))]
+fn add_part(
+    alloc: Global,
+    parts: &mut Vec<Part>,
+    outline: &Outline,
+    id: u32,
+    nodes: &[Tree],
+) -> Result<(), AllocError>
+    requires id { IsTrue (is_id id) }
+    requires other { (id == CLUSTER) ≡ false }
+    requires short { outline.now.total ≤ 2 ^ 48 }
+    ensures { OnOk result (map shown parts.new.items
+        ≡ map shown parts.old.items ++ spec.part_of true id outline.now.others nodes.now) }
+{
+    if let Some(header) = outline.first(id) {
+        parts.push(part(alloc, outline, &header, nodes)?)?;
+    }
+    Ok(())
+}
+
+/// What stands in the Info.
+fn info_nodes(trees: &Trees) -> &[Tree]
+    ensures { result.now ≡ spec.info_nodes trees.now.info }
+{
+    match &trees.info {
+        Some(info) => info.children(),
+        None => &[],
+    }
+}
+
+/// An edit is about Info.
+fn are_of_info(edits: &List<Edit>) -> bool
+    ensures { result ≡ change.are_of_info edits.now }
+{
+    edits.as_slice().iter().any(|edit| is_info(edit.place))
+}
+
+/// An edit is about Tracks.
+fn are_of_tracks(edits: &List<Edit>) -> bool
+    ensures { result ≡ change.are_of_tracks edits.now }
+{
+    edits.as_slice().iter().any(|edit| !is_info(edit.place))
+}
+
+/// The Info and the Tracks that edits are about, with what the edits make of them.
+#[tactic(auto, unfolding(ebml_format::specs::Number::is_id))]
+pub fn parts(
+    alloc: Global,
+    outline: &Outline,
+    edits: &List<Edit>,
+    trees: &Trees,
+) -> Result<Vec<Part>, AllocError>
+    requires { outline.now.total ≤ 2 ^ 48 }
+    ensures { IfOk result (λ parts. map shown parts.items ≡ spec.parts outline.now.others edits.now trees.now) }
+{
+    let mut parts = Vec::new(alloc);
+    if are_of_info(edits) {
+        add_part(alloc, &mut parts, outline, INFO, info_nodes(trees))?;
+    }
+    if are_of_tracks(edits) {
+        add_part(alloc, &mut parts, outline, TRACKS, trees.tracks.as_slice())?;
+    }
+    Ok(parts)
+}
+
+/// How many octets it has.
+pub fn part_len(part: &Part) -> u64
+    ensures { result ≡ length (octets_of (element part.now.id part.now.body)) }
+{
+    shortest(part.id, part.body.len() as u64)
+}
+
+/// It is longer than its room, so it goes to the end of the file.
+pub fn moves(part: &Part) -> bool
+    ensures { result ≡ spec.moves (shown part.now) }
+{
+    part.room < part_len(part)
+}

@@ -1,0 +1,41 @@
+//! How many Elements are written.
+
+ghost use Rattle.std.specs.Prelude.{◌≡◌, ◌+◌, IfOk};
+ghost use Rattle.tree_format.specs.Node.{nodes_of};
+ghost use Rattle.tree_format.specs.Standing.{kept, kept_all};
+
+use ebml_tree::Tree;
+use std::alloc::AllocError;
+
+/// A sum, where 64 bits can tell it: more can't be held in memory.
+pub(crate) fn sum(a: u64, b: u64) -> Result<u64, AllocError>
+    ensures { IfOk result (λ n. n ≡ a + b) }
+{
+    a.checked_add(b).ok_or(AllocError)
+}
+
+/// How many Elements are written of a tree, itself counted. What isn't written, as Void, has no octets.
+fn kept(tree: &Tree) -> Result<u64, AllocError>
+    ensures { IfOk result (λ n. n ≡ kept tree.now) }
+{
+    let mut count = 1;
+    for child in tree.children() {
+        if child.written_len() > 0 {
+            count = sum(count, kept(child)?)?;
+        }
+    }
+    Ok(count)
+}
+
+/// How many Elements are written of some that stand in one master.
+pub(crate) fn kept_all(trees: &[Tree]) -> Result<u64, AllocError>
+    ensures { IfOk result (λ n. n ≡ kept_all (nodes_of trees.now)) }
+{
+    let mut count = 0;
+    for tree in trees {
+        if tree.written_len() > 0 {
+            count = sum(count, kept(tree)?)?;
+        }
+    }
+    Ok(count)
+}

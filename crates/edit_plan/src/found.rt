@@ -1,0 +1,12 @@
+//! A SeekHead that was read.
+
+use ebml_tree::Tree;
+use element_reader::Header;
+use mkv_values::List;
+
+/// A SeekHead, RFC 9559, section 5.1.1 (SeekHead Element): its header, and what stands in it.
+#[derive(Drop)]
+pub struct SeekHead {
+    pub header: Header,
+    pub seeks: List<Tree>,
+}

@@ -1,0 +1,26 @@
+//! Why there is no plan.
+
+ghost use Rattle.std.specs.Prelude.{◌≡◌};
+ghost use Rattle.edit_plan.specs.declared.plan_end.PlanEnd.TheVariants as end;
+
+use edit_format::Refusal;
+use std::alloc::AllocError;
+
+/// Why edits have no plan.
+#[derive(Clone, Copy, Debug, PartialEq, Eq)]
+pub enum PlanEnd {
+    /// They are refused.
+    Refused(Refusal),
+    /// A read failed.
+    ReadFault,
+    /// There is no memory.
+    Memory,
+}
+
+impl From<AllocError> for PlanEnd {
+    ghost from_gives = { λ _ e. e ≡ end.Memory };
+
+    fn from(_error: AllocError) -> PlanEnd {
+        PlanEnd::Memory
+    }
+}

@@ -1,0 +1,109 @@
+//! What edits write to a file.
+
+ghost use Rattle.std.specs.Prelude.{◌≡◌, ◌≤◌, ◌+◌, ◌*◌, ◌^◌, Ok, false, IfErr, IfOk};
+ghost use Rattle.mkv_io.specs.Faults.{HasCause};
+ghost use Rattle.mkv_io.specs.Sources.{IfTold, IsLive, file_size};
+ghost use Rattle.element_reader.specs.Outline.{outline_in};
+ghost use Rattle.edit_format.specs.Change as change;
+ghost use Rattle.edit_format.specs.Plan.{if_editable, plan_of};
+ghost use Rattle.edit_format.specs.Records.{trees_of};
+ghost use Rattle.edit_changes.specs.Trees.{AreSound};
+ghost use Rattle.edit_plan.specs.Answer.{Answers, Gives, is_plan_fault};
+ghost use Rattle.edit_plan.specs.Opening.{opening};
+
+use crate::building::parts;
+use crate::plan_end::PlanEnd;
+use crate::reading::read_trees;
+use crate::write::Write;
+use crate::writing::parts_writes;
+use edit_changes::{EditsEnd, edited};
+use edit_format::{Refusal, Trees};
+use element_reader::{Outline, OutlineEnd};
+use mkv_io::Reads;
+use mkv_jobs::Edit;
+use mkv_values::{FileId, List};
+use std::alloc::Global;
+
+/// The outline of a file without damage at level 1.
+#[tactic(auto, using(crate::proofs::StepLemmas::opens))]
+fn open_outline<R: Reads>(alloc: Global, src: &mut R, file: FileId) -> Result<Outline, PlanEnd>
+    requires { IsLive R.Reads src.old file }
+    ensures exact { IfTold R.Reads src.old file (λ bytes. Gives (if_editable (opening bytes)) result) }
+    ensures total { IfOk result (λ outline. outline.total ≡ file_size R.Reads src.old file) }
+    ensures standing { R.standing src.new ≡ R.standing src.old }
+    ensures cause { HasCause is_plan_fault (R.reading_faults src.old) (R.reading_faults src.new) result }
+    ensures octets { R.octets_read src.new ≤ R.octets_read src.old + 4 * file_size R.Reads src.old file }
+{
+    let outline = match Outline::read(alloc, src, file) {
+        Ok(outline) => outline,
+        Err(OutlineEnd::Refused(damage)) => {
+            return Err(PlanEnd::Refused(Refusal::Damaged(damage)));
+        }
+        Err(OutlineEnd::ReadFault) => return Err(PlanEnd::ReadFault),
+        Err(OutlineEnd::Memory) => return Err(PlanEnd::Memory),
+    };
+    if let Some(damage) = outline.damage() {
+        return Err(PlanEnd::Refused(Refusal::Damaged(damage)));
+    }
+    Ok(outline)
+}
+
+/// What can be edited in a file with this outline.
+#[tactic(auto, using(crate::proofs::StepLemmas::opens))]
+fn open_trees<R: Reads>(
+    alloc: Global,
+    outline: &Outline,
+    src: &mut R,
+    file: FileId,
+) -> Result<Trees, PlanEnd>
+    requires live { IsLive R.Reads src.old file }
+    requires whole { outline.now.total ≡ file_size R.Reads src.old file }
+    ensures exact { IfTold R.Reads src.old file (λ bytes. outline_in 0 bytes ≡ Ok outline.now
+        → Gives (if_editable (trees_of bytes outline.now.segment)) result) }
+    ensures sound { IfOk result AreSound }
+    ensures standing { R.standing src.new ≡ R.standing src.old }
+    ensures cause { HasCause is_plan_fault (R.reading_faults src.old) (R.reading_faults src.new) result }
+    ensures octets { R.octets_read src.new ≤ R.octets_read src.old + 20 * file_size R.Reads src.old file }
+{
+    match read_trees(alloc, outline, src, file) {
+        Ok(trees) => Ok(trees),
+        Err(OutlineEnd::Refused(damage)) => Err(PlanEnd::Refused(Refusal::Damaged(damage))),
+        Err(OutlineEnd::ReadFault) => Err(PlanEnd::ReadFault),
+        Err(OutlineEnd::Memory) => Err(PlanEnd::Memory),
+    }
+}
+
+/// What the edits leave of it.
+fn edit_trees(alloc: Global, trees: Trees, edits: &List<Edit>) -> Result<Trees, PlanEnd>
+    requires { AreSound trees }
+    ensures exact { Gives (change.edited_trees edits.now trees) result }
+    ensures cause { IfErr result (λ end. is_plan_fault end ≡ false) }
+{
+    match edited(alloc, trees, edits) {
+        Ok(trees) => Ok(trees),
+        Err(EditsEnd::Refused { edit, why }) => Err(PlanEnd::Refused(Refusal::Edit { edit, why })),
+        Err(EditsEnd::Memory) => Err(PlanEnd::Memory),
+    }
+}
+
+/// What edits write to a file, by ascending places, or the first thing that refuses them: of the file, of each edit on
+/// what the ones before it leave, or of what is written. Nothing is written.
+pub fn edit_writes<R: Reads>(
+    alloc: Global,
+    src: &mut R,
+    file: FileId,
+    edits: &List<Edit>,
+) -> Result<Vec<Write>, PlanEnd>
+    requires { IsLive R.Reads src.old file }
+    ensures exact { IfTold R.Reads src.old file (λ bytes. Answers (plan_of bytes edits.now) result) }
+    ensures standing { R.standing src.new ≡ R.standing src.old }
+    ensures cause { HasCause is_plan_fault (R.reading_faults src.old) (R.reading_faults src.new) result }
+    ensures octets { R.octets_read src.new ≤ R.octets_read src.old + 25 * file_size R.Reads src.old file }
+{
+    let _total = src.size(file);
+    let outline = open_outline(alloc, src, file)?;
+    let trees = open_trees(alloc, &outline, src, file)?;
+    let trees = edit_trees(alloc, trees, edits)?;
+    let parts = parts(alloc, &outline, edits, &trees)?;
+    parts_writes(alloc, &outline, parts.as_slice(), src, file)
+}

@@ -1,0 +1,79 @@
+//! What can be edited in a file.
+
+ghost use Rattle.std.specs.Prelude.{◌≡◌, ◌+◌, ◌*◌, ◌≤◌, false, List, ℕ, Ok, IfErr, IfOk, IfSome};
+ghost use Rattle.mkv_schema.specs.declared.ids.TheConstants.{TRACKS as TRACKS_ID};
+ghost use Rattle.mkv_io.specs.Faults.{HasCause};
+ghost use Rattle.mkv_io.specs.Sources.{IfTold, IsLive, file_size};
+ghost use Rattle.attachment_reading.specs.declared.limits.TheConstants.{MOST_OF_ATTACHMENTS};
+ghost use Rattle.element_reader.specs.Outline.{is_outline_fault, outline_in};
+ghost use Rattle.tree_building.specs.Building.{IsRead};
+ghost use Rattle.file_records.specs.Records.{ReadsAs};
+ghost use Rattle.edit_format.specs.Records as spec;
+ghost use Rattle.edit_changes.specs.Trees.{AreSound};
+
+use ebml_tree::{Tree, TreeEnd};
+use edit_format::Trees;
+use element_reader::{Header, Outline, OutlineEnd};
+use file_records::{first_attachments, first_tree, good_info};
+use mkv_io::Reads;
+use mkv_schema::ids::{CHAPTERS, INFO, TAGS, TRACKS};
+use mkv_values::{Damage, FileId, Kind, List};
+use std::alloc::Global;
+use track_records::read_tracks;
+
+/// A Tracks, unless something refuses it. Without one the file is refused.
+fn good_tracks(alloc: Global, segment: &Header, tracks: Option<Tree>) -> Result<Tree, OutlineEnd>
+    requires { IfSome tracks (IsRead TRACKS_ID) }
+    ensures exact { ReadsAs (spec.good_tracks segment.now tracks) result }
+    ensures read { IfOk result (IsRead TRACKS_ID) }
+    ensures cause { IfErr result (λ end. is_outline_fault end ≡ false) }
+{
+    let Some(tracks) = tracks else {
+        return Err(OutlineEnd::Refused(Damage {
+            kind: Kind::NoTracks,
+            id: 0,
+            offset: segment.offset,
+        }));
+    };
+    match read_tracks(alloc, &tracks) {
+        Ok(_) => Ok(tracks),
+        Err(TreeEnd::Damage(damage)) => Err(OutlineEnd::Refused(damage)),
+        Err(TreeEnd::Memory) => Err(OutlineEnd::Memory),
+    }
+}
+
+/// What can be edited in a file with this outline, or the first thing that refuses the file: of Info and then of
+/// Tracks, first what is wrong inside, and then a value that is refused; and what is wrong inside Attachments, Chapters
+/// and Tags.
+#[tactic(auto, using(crate::proofs::TreesLemmas::reads))]
+pub fn read_trees<R: Reads>(
+    alloc: Global,
+    outline: &Outline,
+    src: &mut R,
+    file: FileId,
+) -> Result<Trees, OutlineEnd>
+    requires live { IsLive R.Reads src.old file }
+    requires whole { outline.now.total ≡ file_size R.Reads src.old file }
+    ensures exact { IfTold R.Reads src.old file (λ bytes. (held : ℕ) → outline_in held bytes ≡ Ok outline.now
+        → ReadsAs (spec.trees_of bytes outline.now.segment) result) }
+    ensures sound { IfOk result AreSound }
+    ensures standing { R.standing src.new ≡ R.standing src.old }
+    ensures cause { HasCause is_outline_fault (R.reading_faults src.old) (R.reading_faults src.new) result }
+
+    // Info, Tracks, Chapters and Tags are each read once, and of Attachments no data.
+    ensures octets { R.octets_read src.new ≤ R.octets_read src.old + 20 * file_size R.Reads src.old file }
+    ensures few { R.octets_read src.new
+        ≤ R.octets_read src.old + (4 * file_size R.Reads src.old file + 2 * MOST_OF_ATTACHMENTS) }
+{
+    let info = first_tree(alloc, outline, src, file, INFO)?;
+    let info = good_info(info)?;
+    let tracks = first_tree(alloc, outline, src, file, TRACKS)?;
+    let tracks = good_tracks(alloc, &outline.segment(), tracks)?;
+    first_attachments(alloc, outline, src, file)?;
+    first_tree(alloc, outline, src, file, CHAPTERS)?;
+    first_tree(alloc, outline, src, file, TAGS)?;
+    Ok(Trees {
+        info,
+        tracks: List::from_vec(tracks.into_children()),
+    })
+}

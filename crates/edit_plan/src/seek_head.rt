@@ -1,0 +1,73 @@
+//! The SeekHead of a file.
+
+ghost use Rattle.std.specs.Prelude.{◌≡◌, ◌+◌, ◌≤◌, IfOk, IfSome, option_map};
+ghost use Rattle.std.specs.Option.{option_and_then};
+ghost use Rattle.mkv_schema.specs.declared.ids.TheConstants.{SEEK_HEAD as SEEK_HEAD_ID};
+ghost use Rattle.matroska_format.specs.Value.{first_of};
+ghost use Rattle.mkv_io.specs.Faults.{HasCause, is_read_fault};
+ghost use Rattle.mkv_io.specs.Sources.{IfTold, IsLive, file_size};
+ghost use Rattle.element_reader.specs.Collected.{IsInFile};
+ghost use Rattle.edit_format.specs.SeekHead as spec;
+ghost use Rattle.edit_plan.specs.Found.{found};
+
+use crate::found::SeekHead;
+use ebml_tree::{MOST_NODES, Tree, TreeEnd};
+use element_reader::{Header, LoadEnd, Outline, load};
+use mkv_io::Reads;
+use mkv_schema::ids::SEEK_HEAD;
+use mkv_values::{FileId, List, ReadEnd};
+use std::alloc::Global;
+
+/// The first SeekHead of level 1, where it stands in front of the first Cluster.
+fn seek_head_in(outline: &Outline) -> Option<Header>
+    ensures exact { result ≡ option_and_then (spec.before_clusters outline.now.cluster) (first_of SEEK_HEAD_ID outline.now.others) }
+    ensures inside { IfSome result (IsInFile outline.now.total) }
+{
+    let header = outline.first(SEEK_HEAD)?;
+    match outline.first_cluster() {
+        Some(cluster) if cluster <= header.offset => None,
+        _ => Some(header),
+    }
+}
+
+/// The first SeekHead, in front of the first Cluster. Where it is longer than 16 MiB or damaged, there is none.
+pub fn first_seek_head<R: Reads>(
+    alloc: Global,
+    outline: &Outline,
+    src: &mut R,
+    file: FileId,
+) -> Result<Option<SeekHead>, ReadEnd>
+    requires live { IsLive R.Reads src.old file }
+    requires whole { outline.now.total ≡ file_size R.Reads src.old file }
+    ensures exact { IfTold R.Reads src.old file (λ bytes.
+        IfOk result (λ head. option_map found head ≡ spec.seek_head_of bytes outline.now)) }
+    ensures inside { IfOk result (λ head. IfSome head (λ s. IsInFile outline.now.total s.header)) }
+    ensures standing { R.standing src.new ≡ R.standing src.old }
+    ensures cause { HasCause is_read_fault (R.reading_faults src.old) (R.reading_faults src.new) result }
+    ensures octets { R.octets_read src.new ≤ R.octets_read src.old + file_size R.Reads src.old file }
+{
+    let Some(header) = seek_head_in(outline) else {
+        return Ok(None);
+    };
+    let body = match load(alloc, src, file, &header) {
+        Ok(body) => body,
+        Err(LoadEnd::TooLarge(_)) => return Ok(None),
+        Err(LoadEnd::ReadFault) => return Err(ReadEnd::ReadFault),
+        Err(LoadEnd::Memory) => return Err(ReadEnd::Memory),
+    };
+    match Tree::parse(
+        alloc,
+        SEEK_HEAD,
+        header.offset,
+        body.as_slice(),
+        header.body,
+        MOST_NODES,
+    ) {
+        Ok(tree) => Ok(Some(SeekHead {
+            header,
+            seeks: List::from_vec(tree.into_children()),
+        })),
+        Err(TreeEnd::Damage(_)) => Ok(None),
+        Err(TreeEnd::Memory) => Err(ReadEnd::Memory),
+    }
+}
