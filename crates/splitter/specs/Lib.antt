@@ -1,0 +1,7 @@
+pub mod Split
+pub mod Steps
+pub mod Set
+pub mod Sections
+pub mod Laws
+pub mod Names
+pub mod Words
