@@ -10,7 +10,7 @@ ghost use Rattle.merge_inputs.specs.Input.{IsInput, ReadsInput, events_in, input
 
 use crate::input::{Input, InputEnd, InputRefusal};
 use crate::kept::{kept_files, kept_tree};
-use crate::select::{keep_of, keeps_attachments, keeps_chapters, keeps_tags};
+use crate::select::{keep_of, keeps_attachments, keeps_chapters, keeps_tags, unmoved};
 use crate::taken::{first_unusable, taken_of};
 use crate::title::title_of;
 use element_reader::Outline;
@@ -69,5 +69,6 @@ pub fn read_input<R: Reads>(
         chapters: kept_tree(keeps_chapters(words, webm), chapters),
         tags: kept_tree(keeps_tags(words), tags),
         keep: keep_of(words),
+        shift: unmoved(words),
     })
 }
