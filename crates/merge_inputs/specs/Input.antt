@@ -3,6 +3,7 @@ use Rattle.std.specs.Prelude.{◌≡◌, ◌≤◌, ⊤, true, ℕ, Bool, List, 
 use Rattle.std.specs.List.{All}
 use Rattle.mkv_schema.specs.declared.ids.TheConstants.{CHAPTERS, TAGS}
 use Rattle.mkv_values.specs.declared.damage.Damage.{Damage}
+use Rattle.mkv_values.specs.declared.outside.FileId.{FileId}
 use Rattle.mkv_io.specs.LiveFiles.{LiveFiles}
 use Rattle.matroska_format.specs.declared.element.Header.{Header}
 use Rattle.matroska_format.specs.Outline.{Outlined, described, outline_of}
@@ -109,6 +110,11 @@ ReadsInput found (Ok i) = found ≡ Ok (read_in i)
 ReadsInput found (Err (input_end.Refused why)) = found ≡ Err why
 ReadsInput found (Err input_end.ReadFault) = ⊤
 ReadsInput found (Err input_end.Memory) = ⊤
+
+-- It was read of this file, and isn't later yet where the words append it.
+pub record IsReadOf (id : FileId) (words : FileWords) (i : Input) : Type 0 where
+  pub file : i.file ≡ id
+  pub unmoved : i.shift ≡ unmoved words
 
 -- The file is live and has the length of its outline, a tick has some length, and the tracks are such as can be taken; the
 -- data of its attached files stand in it, and its Chapters and Tags can be read again.
