@@ -54,6 +54,7 @@ use Rattle.merge_inputs.specs.declared.input.InputRefusal.{InputRefusal}
 use Rattle.merge_inputs.specs.declared.input.InputRefusal.TheVariants.{Damaged}
 use Rattle.merge_inputs.proofs.TakenLemmas.{AreTaken-read, taken-tracks}
 use Rattle.merge_plan.specs.Front.{reads_of}
+use Rattle.merge_plan.specs.Appending.{append_refusal}
 use Rattle.merge_plan.specs.Plan.{Source}
 use Rattle.merge_plan.specs.Refusal.{plan_refusal}
 use Rattle.merge_plan.specs.declared.refusal.PlanRefusal.{PlanRefusal}
@@ -62,7 +63,7 @@ use Rattle.mkv_merge.specs.Merge.{sources_of, sources_settled, sources_with}
 use Rattle.mkv_merge.specs.Read.{contents_of, inputs_from, inputs_of, numbered, pending_of, unless_missing, writes_input}
 use Rattle.mkv_merge.specs.Refused as refused
 use Rattle.mkv_merge.specs.declared.refusal.Refusal.{Refusal}
-use Rattle.mkv_merge.specs.declared.refusal.Refusal.TheVariants.{OutputIsInput}
+use Rattle.mkv_merge.specs.declared.refusal.Refusal.TheVariants.{Differs, OutputIsInput}
 use Rattle.merge_words.specs.Texts.{HasTexts, AreTexts}
 use Rattle.merged_outputs.specs.Sources.{HoldsOctets, IsReadSource, AreSources}
 use Rattle.merged_outputs.proofs.TreeLemmas.{HasChildrenRead, tree_of-children, entries-octets, uid-small, IsOfOctets}
@@ -289,6 +290,10 @@ there-ok : (missing : Option ℕ) (contents all : List (List ℕ)) → unless_mi
 there-ok None contents all is = cc
 there-ok (Some input) contents all is = absurd (cc)
 
+alike-ok : (why : Option Refusal) (reads alike : List InputRead) → refused.unless why reads ≡ Ok alike → reads ≡ alike
+alike-ok None reads alike is = cc
+alike-ok (Some why) reads alike is = absurd (cc)
+
 planned-ok : (why : Option PlanRefusal) (reads taken : List InputRead) → merge.unless_refused why reads ≡ Ok taken → (why ≡ None) × (reads ≡ taken)
 planned-ok None reads taken is = (refl, cc)
 planned-ok (Some why) reads taken is = absurd (cc)
@@ -297,10 +302,12 @@ module _ (words : MergeWords) (sources : List Source) (sound : IsSoundMerge word
   with-contents : (contents : List (List ℕ)) → length contents ≡ length words.files → All AreOctets contents → sources_with words contents ≡ Ok sources → AreSources words sources
   with-contents contents same octets is =
       let inputs = then-ok (inputs_of words contents) _ sources is in
-      let reads : List InputRead = inputs.0 in
-      let plan = then-ok (merge.unless_refused (plan_refusal words reads) reads) _ sources inputs.1.1 in
+      let alike = then-ok (merge.unless_different inputs.0) _ sources inputs.1.1 in
+      let reads : List InputRead = alike.0 in
+      let found : inputs_of words contents ≡ Ok reads = inputs.1.0 ∙ ap Ok (alike-ok (option_map Differs (append_refusal inputs.0)) inputs.0 reads alike.1.0) in
+      let plan = then-ok (merge.unless_refused (plan_refusal words reads) reads) _ sources alike.1.1 in
       let good = planned-ok (plan_refusal words reads) reads plan.0 plan.1.0 in
-      let read = inputs-read words.webm 0 0 words.files contents reads same octets sound.each texts.files inputs.1.0 in
+      let read = inputs-read words.webm 0 0 words.files contents reads same octets sound.each texts.files found in
       let made : zip contents reads ≡ sources = ap (zip contents) good.1 ∙ (let last = plan.1.1 in cc) in
       subst (AreSources words) made (record { each = read.each; unrefused = ap (plan_refusal words) read.all ∙ good.0 })
 

@@ -1,7 +1,7 @@
 -- What is read of inputs one after the other.
 use Rattle.std.proofs.Common.{◌≡◌, ℕ, zero, suc, ◌+◌, ◌*◌, ◌<◌, ◌≤◌, Bool, true, false, if◌then◌else◌, List, [], ◌∷◌, ◌++◌, length, take, drop, get_or, map, Option, Some, None, Result, Ok, Err, refl, sym, ◌∙◌, ap, arith, append_assoc}
 use Rattle.std.specs.List.{zip}
-use Rattle.std.specs.Option.{unwrap_or}
+use Rattle.std.specs.Option.{option_map, unwrap_or}
 use Rattle.std.proofs.Math.Seq.{take-suc}
 use Rattle.std.proofs.lemmas.List.{append-nil, length-map, map-append}
 use Rattle.std.proofs.lemmas.List.Sums.{sum_by-take-le, sum_by_more}
@@ -14,15 +14,21 @@ use Rattle.merge_words.specs.declared.files.FileWords.{FileWords}
 use Rattle.merge_words.specs.declared.output.MergeWords.{MergeWords}
 use Rattle.merge_inputs.specs.Input.{InputRead, IsReadOf, input_of, read_in}
 use Rattle.merge_inputs.specs.declared.input.Input.{Input}
-use Rattle.merge_plan.specs.Plan.{later_by}
+use Rattle.merge_plan.specs.Appending.{append_refusal}
+use Rattle.merge_plan.specs.Plan.{Source, later_by}
+use Rattle.merge_plan.specs.Refusal.{plan_refusal}
+use Rattle.merge_plan.specs.declared.appending.AppendDiffers.{AppendDiffers}
+use Rattle.merge_plan.specs.declared.refusal.PlanRefusal.{PlanRefusal}
 use Rattle.merge_plan.specs.Spots.{HasPlace}
 use Rattle.mkv_merge.specs.Bound.{files_size}
 use Rattle.mkv_merge.specs.Prepared.{AreTold, ReadsAs, reads_in}
 use Rattle.mkv_merge.specs.Read.{inputs_from, inputs_of, numbered}
-use Rattle.mkv_merge.specs.Refused.{and_then}
+use Rattle.mkv_merge.specs.Merge.{sources_with, unless_different, unless_refused}
+use Rattle.mkv_merge.specs.Refused.{and_then, unless}
 use Rattle.mkv_merge.specs.declared.refusal.MergeEnd.{MergeEnd}
 use Rattle.mkv_merge.specs.declared.refusal.MergeEnd.TheVariants.{Refused, Stopped}
 use Rattle.mkv_merge.specs.declared.refusal.Refusal.{Refusal}
+use Rattle.mkv_merge.specs.declared.refusal.Refusal.TheVariants.{Differs}
 
 -- ---- a file and its content
 
@@ -133,3 +139,21 @@ pays-more f list k file start mid now size below is before more =
 -- the first files are no longer than all
 pub pays-all : (f : LiveFiles) (list : List FileId) (k start now : ℕ) → now ≤ start + 24 * files_size f (take k list) → now ≤ start + 24 * files_size f list
 pays-all f list k start now paid = omega (arith, sum_by-take-le (λ (each : FileId). f.size each.n) list k)
+
+-- ---- what the inputs come to
+
+-- what is planned of inputs that were read
+abbrev planned : MergeWords → List (List ℕ) → List InputRead → Result (List Source) Refusal
+planned words contents alike = and_then (unless_refused (plan_refusal words alike) alike) (λ taken. Ok (zip contents taken))
+
+pub inputs-differ : (words : MergeWords) (contents : List (List ℕ)) (reads : List InputRead) (o : Option AppendDiffers) → inputs_of words contents ≡ Ok reads → append_refusal reads ≡ o
+    → sources_with words contents ≡ and_then (unless (option_map Differs o) reads) (planned words contents)
+inputs-differ words contents reads o read is =
+    ap (λ (r : Result (List InputRead) Refusal). and_then r (λ rs. and_then (unless_different rs) (planned words contents))) read
+    ∙ ap (λ (d : Option AppendDiffers). and_then (unless (option_map Differs d) reads) (planned words contents)) is
+
+pub inputs-planned : (words : MergeWords) (contents : List (List ℕ)) (reads : List InputRead) (why : Option PlanRefusal) → inputs_of words contents ≡ Ok reads → append_refusal reads ≡ None → plan_refusal words reads ≡ why
+    → sources_with words contents ≡ and_then (unless_refused why reads) (λ taken. Ok (zip contents taken))
+inputs-planned words contents reads why read alike is =
+    inputs-differ words contents reads None read alike
+    ∙ ap (λ (o : Option PlanRefusal). and_then (unless_refused o reads) (λ (taken : List InputRead). Ok (zip contents taken))) is

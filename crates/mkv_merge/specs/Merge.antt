@@ -1,7 +1,7 @@
 -- What `merge` comes to.
 use Rattle.std.specs.Prelude.{ℕ, ◌==◌, nat_le, Bool, true, false, ◌||◌, if◌then◌else◌, List, [], ◌∷◌, ◌++◌, length, map, filter, flat_map, Option, Some, None, Result, Ok, Err}
 use Rattle.std.specs.List.{enumerate_from, find, list_any, range_with_len, zip}
-use Rattle.std.specs.Option.{option_map_or}
+use Rattle.std.specs.Option.{option_map, option_map_or}
 use Rattle.mkv_values.specs.declared.damage.Damage.{Damage}
 use Rattle.mkv_io.specs.Faults.{counted}
 use Rattle.cluster_reader.specs.ToldDamages.{ToldDamages, told_damages}
@@ -16,6 +16,7 @@ use Rattle.merge_words.specs.declared.files.FileWords.{FileWords}
 use Rattle.merge_words.specs.declared.output.MergeWords.{MergeWords}
 use Rattle.merge_inputs.specs.Input.{InputRead}
 use Rattle.merge_plan.specs.declared.refusal.PlanRefusal.{PlanRefusal}
+use Rattle.merge_plan.specs.Appending.{append_refusal}
 use Rattle.merge_plan.specs.Plan.{Source, inputs_given, lanes_given, limits_of, rules_given}
 use Rattle.merge_plan.specs.Front.{front_of, reads_of}
 use Rattle.merge_plan.specs.Records.{chapters_of, tags_of}
@@ -27,7 +28,7 @@ use Rattle.mkv_lines.specs.declared.status.Status.TheVariants.{Done, Warned}
 use Rattle.mkv_merge.specs.Read.{contents_of, inputs_of, pending_of, writes_input}
 use Rattle.mkv_merge.specs.Refused.{and_then, line_of, unless}
 use Rattle.mkv_merge.specs.declared.refusal.Refusal.{Refusal}
-use Rattle.mkv_merge.specs.declared.refusal.Refusal.TheVariants.{OutputIsInput, Plan}
+use Rattle.mkv_merge.specs.declared.refusal.Refusal.TheVariants.{Differs, OutputIsInput, Plan}
 
 -- ---- the sources
 
@@ -35,12 +36,18 @@ abbrev pub unless_refused : Option PlanRefusal → List InputRead → Result (Li
 unless_refused None reads = Ok reads
 unless_refused (Some why) reads = Err (Plan why)
 
--- the sources of a merge whose inputs have these contents, or what refuses them: what is read of each, and what they come to
+-- inputs of which each that is appended can go on in the lanes of the one before it
+abbrev pub unless_different : List InputRead → Result (List InputRead) Refusal
+unless_different reads = unless (option_map Differs (append_refusal reads)) reads
+
+-- the sources of a merge whose inputs have these contents, or what refuses them: what is read of each, whether appended ones can
+-- go on, and what they come to
 abbrev pub sources_with : MergeWords → List (List ℕ) → Result (List Source) Refusal
 sources_with words contents =
     and_then (inputs_of words contents) (λ reads.
-    and_then (unless_refused (plan_refusal words reads) reads) (λ taken.
-    Ok (zip contents taken)))
+    and_then (unless_different reads) (λ alike.
+    and_then (unless_refused (plan_refusal words alike) alike) (λ taken.
+    Ok (zip contents taken))))
 
 -- the same, unless an edit of one of the files is pending
 abbrev pub sources_settled : (List ℕ → Option (List ℕ)) → MergeWords → List (List ℕ) → Result (List Source) Refusal

@@ -14,7 +14,7 @@ ghost use Rattle.mkv_merge.specs.Read.{inputs_of, numbered};
 
 use crate::refusal::{MergeEnd, Refusal};
 use merge_inputs::{Input, InputEnd, read_input};
-use merge_plan::{PlanEnd, plan_of};
+use merge_plan::{PlanEnd, append_refusal, plan_of};
 use merge_words::{FileWords, MergeWords};
 use mkv_io::Reads;
 use mkv_values::{FileId, List, ReadEnd};
@@ -101,6 +101,9 @@ pub fn prepare<R: Reads>(
     ensures octets { R.octets_read src.new ≤ R.octets_read src.old + 24 * files_size (live_files R.Reads src.old) files.now }
 {
     let inputs = read_inputs(alloc, words, src, files)?;
+    if let Some(differs) = append_refusal(inputs.as_slice()) {
+        return Err(MergeEnd::Refused(Refusal::Differs(differs)));
+    }
     match plan_of(alloc, words, inputs.as_slice()) {
         Ok(plan) => Ok(Prepared { inputs, plan }),
         Err(PlanEnd::Refused(why)) => Err(MergeEnd::Refused(Refusal::Plan(why))),
