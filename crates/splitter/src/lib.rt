@@ -1,0 +1,12 @@
+#![tactic(auto)]
+
+//! Where a merged list is cut, and which blocks each part of the output has.
+
+mod cuts;
+mod driving;
+mod spec;
+
+pub use cuts::{Cuts, Place};
+pub use driving::is_driver;
+pub use spec::SplitSpec;
+pub use word_values::SpanWords;

@@ -1,0 +1,92 @@
+//! Where an output is split.
+
+ghost use Rattle.std.specs.Prelude.{◌≡◌, ◌≤◌, ◌*◌, ◌-◌, ◌^◌, ℕ, ◌||◌};
+ghost use Rattle.std.specs.List.{list_any};
+ghost use Rattle.splitter.specs.Split.{has_come, holds, is_over, is_within, keeps, passes};
+
+use mkv_values::List;
+use word_values::SpanWords;
+
+/// Where an output is split: mkvmerge's `--split`. Times are in nanoseconds from the start of the output.
+#[derive(Debug, Drop)]
+pub enum SplitSpec {
+    /// Nowhere.
+    Whole,
+    /// So much time behind the start of each section.
+    Duration { by: u64 },
+    /// At these times, of which 0 is none.
+    Times { at: List<u64> },
+    /// At the bounds of these stretches; what starts in one of them is written, and nothing else.
+    Parts { spans: List<SpanWords> },
+}
+
+// The sooner of an end and a bound, which counts where it lies behind the start.
+fn sooner(end: Option<u128>, bound: u64, start: u128) -> Option<u128>
+    ensures { (time : ℕ) → has_come result time ≡ (has_come end time || is_within start time bound) }
+{
+    let bound = u128::from(bound);
+    if bound <= start {
+        return end;
+    }
+    match end {
+        Some(end) if end <= bound => Some(end),
+        _ => Some(bound),
+    }
+}
+
+// The first of these times behind the start.
+fn first_time(at: &[u64], start: u128) -> Option<u128>
+    ensures { (time : ℕ) → has_come result time ≡ list_any (is_within start time) at.now }
+{
+    let mut end = None;
+    for bound in at {
+        end = sooner(end, *bound, start);
+    }
+    end
+}
+
+// The first of the bounds of these stretches behind the start.
+fn first_bound(spans: &[SpanWords], start: u128) -> Option<u128>
+    ensures { (time : ℕ) → has_come result time ≡ list_any (passes start time) spans.now }
+{
+    let mut end = None;
+    for span in spans {
+        end = sooner(end, span.start, start);
+        if let Some(bound) = span.end {
+            end = sooner(end, bound, start);
+        }
+    }
+    end
+}
+
+// Whether a time lies in a stretch.
+fn holds(span: &SpanWords, time: u128) -> bool
+    ensures { result ≡ holds time span.now }
+{
+    u128::from(span.start) <= time && span.end.is_none_or(|end| time < u128::from(end))
+}
+
+impl SplitSpec {
+    /// The time at which a section ends that starts at this one, if it ends.
+    pub(crate) fn end_behind(&self, start: u128) -> Option<u128>
+        requires { start ≤ (2 ^ 64 - 1) * (2 ^ 64 - 1) }
+        ensures { (time : ℕ) → has_come result time ≡ is_over self.now start time }
+    {
+        match self {
+            SplitSpec::Whole => None,
+            SplitSpec::Duration { by } => Some(start + u128::from(*by)),
+            SplitSpec::Times { at } => first_time(at.as_slice(), start),
+            SplitSpec::Parts { spans } => first_bound(spans.as_slice(), start),
+        }
+    }
+
+    /// Whether a section is written that starts at this time.
+    pub(crate) fn keeps(&self, start: u128) -> bool
+        ensures { result ≡ keeps self.now start }
+    {
+        match self {
+            SplitSpec::Parts { spans } => spans.as_slice().iter().any(|span| holds(span, start)),
+            _ => true,
+        }
+    }
+}
