@@ -1,3 +1,5 @@
 pub mod Split
 pub mod Steps
 pub mod Set
+pub mod Sections
+pub mod Laws

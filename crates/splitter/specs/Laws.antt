@@ -1,0 +1,64 @@
+-- What holds of every split.
+use Rattle.std.specs.Prelude.{◌≡◌, ⊤, ℕ, ◌<◌, true, false, List, [], ◌∷◌, ◌++◌, filter, flat_map, take, Some, None}
+use Rattle.std.specs.List.{slice_get}
+use Rattle.output_model.specs.OutputBlock.{OutputBlock}
+use Rattle.splitter.specs.declared.cuts.Place.{Place}
+use Rattle.splitter.specs.declared.cuts.Place.TheVariants.{Same, Next, Out}
+use Rattle.splitter.specs.declared.spec.SplitSpec.TheVariants.{Whole}
+use Rattle.splitter.specs.Sections.{Section, Split, begun, cuts, is_written, may_cut, parts, sections, with_block}
+use Rattle.splitter.specs.Steps.{CutsSeen, new_cuts, place_of, stepped}
+
+-- ---- step by step
+
+-- with a further block in the last section
+abbrev pub with_last : List Section → OutputBlock → List Section
+with_last [] b = []
+with_last (x ∷ []) b = with_block x b ∷ []
+with_last (x ∷ (y ∷ ys)) b = x ∷ with_last (y ∷ ys) b
+
+-- sections that are written, and a block at its place: it begins one, is in the last one, or is in none
+abbrev pub placed : List Section → Place → OutputBlock → List Section
+placed xs (Next start) b = xs ++ begun start b ∷ []
+placed xs Same b = with_last xs b
+placed xs Out b = xs
+
+-- the same of blocks, each at the place that a step says
+abbrev pub all_placed : Split → CutsSeen → List Section → List OutputBlock → List Section
+all_placed s c xs [] = xs
+all_placed s c xs (b ∷ bs) = all_placed s (stepped c (may_cut s b) b.tick) (placed xs (place_of c (may_cut s b) b.tick) b) bs
+
+-- The places of all blocks, step by step, are those in the sections that are written.
+abbrev pub StepsJoin : Type 0
+StepsJoin = (s : Split) (b : OutputBlock) (bs : List OutputBlock) → all_placed s (new_cuts s.spec s.scale) [] (b ∷ bs) ≡ filter (is_written s) (sections s (b ∷ bs))
+
+-- ---- over the whole list
+
+-- No cut stands before a block of a section, but for its first.
+abbrev pub IsUncut : Split → Section → Type 0
+IsUncut s x = (k : ℕ) (b : OutputBlock) → 0 < k → slice_get x.blocks k ≡ Some b → cuts s (record { start = x.start; blocks = take k x.blocks }) b ≡ false
+
+-- A section begins with a block, at whose tick it starts, and a cut stands before that behind the other section.
+pub record IsCutOff (s : Split) (x y : Section) : Type 0 where
+  pub first : OutputBlock
+  pub rest : List OutputBlock
+  pub blocks : y.blocks ≡ first ∷ rest
+  pub start : y.start ≡ first.tick
+  pub cut : cuts s x first ≡ true
+
+-- Cuts stand between sections, and nowhere else.
+abbrev pub AreCutApart : Split → List Section → Type 0
+AreCutApart s [] = ⊤
+AreCutApart s (x ∷ []) = IsUncut s x
+AreCutApart s (x ∷ (y ∷ ys)) = IsUncut s x × IsCutOff s x y × AreCutApart s (y ∷ ys)
+
+-- The sections of a merged list, one behind the other, are that list, and cuts stand between them.
+pub record AreSections (s : Split) (blocks : List OutputBlock) (xs : List Section) : Type 0 where
+  pub whole : flat_map (λ (x : Section). x.blocks) xs ≡ blocks
+  pub cut : AreCutApart s xs
+
+abbrev pub SectionsAreCut : Type 0
+SectionsAreCut = (s : Split) (blocks : List OutputBlock) → AreSections s blocks (sections s blocks)
+
+-- What isn't split is one part, which has all blocks as they are.
+abbrev pub WholeIsOnePart : Type 0
+WholeIsOnePart = (s : Split) (blocks : List OutputBlock) → s.spec ≡ Whole → parts s blocks ≡ record { start = 0; end = None; blocks = blocks } ∷ []

@@ -1,0 +1,86 @@
+-- A merged list that is cut into sections, and the parts that are written of these: all of it is this project's.
+use Rattle.std.specs.Prelude.{ℕ, ◌-◌, ◌*◌, Bool, ◌&&◌, if◌then◌else◌, List, [], ◌∷◌, ◌++◌, map, Option, Some, None}
+use Rattle.output_model.specs.OutputBlock.{OutputBlock, in_output}
+use Rattle.splitter.specs.declared.spec.SplitSpec.{SplitSpec}
+use Rattle.splitter.specs.Split.{is_over, keeps}
+
+-- How an output is split: where, how many nanoseconds a tick has, and which lanes drive, counted from 1.
+pub record Split : Type 0 where
+  pub spec : SplitSpec
+  pub scale : ℕ
+  pub drives : ℕ → Bool
+
+-- ---- sections
+
+-- A section of a merged list: the tick at which it starts, and its blocks.
+pub record Section : Type 0 where
+  pub start : ℕ
+  pub blocks : List OutputBlock
+
+-- the section from the beginning on, without a block
+abbrev pub from_nought : Section
+from_nought = record { start = 0; blocks = [] }
+
+-- a section that starts at this tick, and has one block
+abbrev pub begun : ℕ → OutputBlock → Section
+begun start b = record { start = start; blocks = b ∷ [] }
+
+-- with a further block
+abbrev pub with_block : Section → OutputBlock → Section
+with_block x b = record { start = x.start; blocks = x.blocks ++ b ∷ [] }
+
+-- a block before which a cut may stand: a key block of a lane that drives
+abbrev pub may_cut : Split → OutputBlock → Bool
+may_cut s b = b.key && s.drives b.lane
+
+-- A cut stands before such a block where the section, as far as it has come, is over at its time.
+abbrev pub cuts : Split → Section → OutputBlock → Bool
+cuts s x b = may_cut s b && is_over s.spec (x.start * s.scale) (b.tick * s.scale)
+
+-- A section that begins with a cut starts at the tick of the block behind it.
+abbrev pub start_with : Split → Section → OutputBlock → ℕ
+start_with s x b = if cuts s x b then b.tick else x.start
+
+-- a section, as far as it has come, and then blocks: they are cut off it at the first cut
+abbrev pub cut_from : Split → Section → List OutputBlock → List Section
+cut_from s x [] = x ∷ []
+cut_from s x (b ∷ bs) = if cuts s x b then x ∷ cut_from s (begun b.tick b) bs else cut_from s (with_block x b) bs
+
+-- All sections of a merged list. A cut before the first block leaves none in front of it.
+abbrev pub sections : Split → List OutputBlock → List Section
+sections s [] = from_nought ∷ []
+sections s (b ∷ bs) = cut_from s (begun (start_with s from_nought b) b) bs
+
+-- ---- parts
+
+-- A part of an output: the ticks at which it starts and at which what follows it starts, if anything does; and its
+-- blocks, whose ticks count from its start.
+pub record Part : Type 0 where
+  pub start : ℕ
+  pub end : Option ℕ
+  pub blocks : List OutputBlock
+
+-- a block in a part that starts at this tick; what stands before it stands at 0
+abbrev pub in_part : ℕ → OutputBlock → OutputBlock
+in_part start b = in_output b.lane (b.tick - start) b
+
+-- where the first of these sections starts
+abbrev pub next_start : List Section → Option ℕ
+next_start [] = None
+next_start (x ∷ xs) = Some x.start
+
+abbrev pub part_of : Section → Option ℕ → Part
+part_of x end = record { start = x.start; end = end; blocks = map (in_part x.start) x.blocks }
+
+-- a section is written
+abbrev pub is_written : Split → Section → Bool
+is_written s x = keeps s.spec (x.start * s.scale)
+
+-- a section is a part where it is written
+abbrev pub parts_in : Split → List Section → List Part
+parts_in s [] = []
+parts_in s (x ∷ xs) = if is_written s x then part_of x (next_start xs) ∷ parts_in s xs else parts_in s xs
+
+-- The parts of a merged list.
+abbrev pub parts : Split → List OutputBlock → List Part
+parts s blocks = parts_in s (sections s blocks)

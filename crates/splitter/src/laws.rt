@@ -1,0 +1,18 @@
+//! What holds of every split.
+
+ghost use Rattle.splitter.specs.Laws.{SectionsAreCut, StepsJoin, WholeIsOnePart};
+
+/// The places that the steps say of the blocks of a merged list are those in its sections that are written.
+pub fn steps_join()
+    ensures { StepsJoin }
+{}
+
+/// Each block of a merged list stands in one section, and cuts stand between sections and nowhere else.
+pub fn sections_are_cut()
+    ensures { SectionsAreCut }
+{}
+
+/// What isn't split is one part.
+pub fn whole_is_one_part()
+    ensures { WholeIsOnePart }
+{}
