@@ -1,1 +1,2 @@
 pub mod SectionLemmas
+pub mod NameLemmas

@@ -3,3 +3,4 @@ pub mod Steps
 pub mod Set
 pub mod Sections
 pub mod Laws
+pub mod Names

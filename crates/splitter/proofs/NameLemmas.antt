@@ -1,0 +1,134 @@
+-- Names of parts.
+use Rattle.std.proofs.Common.{◌≡◌, ◌≢◌, ℕ, zero, suc, ◌-◌, ◌<◌, ◌^◌, Bool, true, false, not, ◌&&◌, ◌||◌, eqb, get_or, List, [], ◌∷◌, ◌++◌, length, take, drop, refl, sym, ◌∙◌, ap, ap₂, append-nil, arith, String, Global}
+use Rattle.std.specs.Prelude.{if◌then◌else◌}
+use Rattle.std.specs.List.{list_all, list_any}
+use Rattle.std.proofs.Math.Nat.{sub-zero}
+use Rattle.std.proofs.Math.Seq.{take-length, drop-length}
+use Rattle.std.proofs.lemmas.List.{length-drop}
+use Rattle.std.specs.Fmt.{char_count, decimal, format_spec, padded_integral}
+use Rattle.std.specs.String.{string_bytes}
+use Rattle.std.proofs.lemmas.Bool.{ne_eqb, eq-eqb}
+use Rattle.splitter.specs.Names.{extension, is_plain, part_name, stem, stem_len, three_digits}
+
+-- ---- where the extension begins
+
+-- Behind an octet, no point stands.
+abbrev pub NoPoint : List ℕ → Type 0
+NoPoint bs = (i : ℕ) → i < length bs → get_or bs i 0 ≢ 46
+
+abbrev pub has_slash : List ℕ → Bool
+has_slash bs = list_any (λ b. eqb b 47) bs
+
+no-point-more : (b : ℕ) (bs : List ℕ) → NoPoint (b ∷ bs) → NoPoint bs
+no-point-more b bs none i inside = none (suc i) (omega arith)
+
+no-point-here : (b : ℕ) (bs : List ℕ) → NoPoint (b ∷ bs) → eqb b 46 ≡ false
+no-point-here b bs none = ne_eqb b 46 (none 0 (omega arith))
+
+or-none : (a b : Bool) → (a || b) ≡ false → (a ≡ false) × (b ≡ false)
+or-none true b none = absurd (cc)
+or-none false b none = (refl, none)
+
+plain-by : (a b rest : Bool) → a ≡ false → b ≡ false → rest ≡ true → (not (a || b) && rest) ≡ true
+plain-by a b rest p q r = rw p (rw q r)
+
+plain : (bs : List ℕ) → NoPoint bs → has_slash bs ≡ false → list_all is_plain bs ≡ true
+plain [] none slash = refl
+plain (b ∷ bs) none slash =
+    let parts = or-none (eqb b 47) (has_slash bs) slash in
+    plain-by (eqb b 46) (eqb b 47) (list_all is_plain bs) (no-point-here b bs none) parts.0 (plain bs (no-point-more b bs none) parts.1)
+
+and-false : (a : Bool) → (a && false) ≡ false
+and-false true = refl
+and-false false = refl
+
+point-isnt-plain : (bs : List ℕ) (k : ℕ) → k < length bs → get_or bs k 0 ≡ 46 → list_all is_plain bs ≡ false
+point-isnt-plain [] k inside here = absurd (omega arith)
+point-isnt-plain (b ∷ bs) zero inside here = ap (λ (q : Bool). not (q || eqb b 47) && list_all is_plain bs) (eq-eqb b 46 here)
+point-isnt-plain (b ∷ bs) (suc k) inside here = ap (λ q. is_plain b && q) (point-isnt-plain bs k (omega arith) here) ∙ and-false (is_plain b)
+
+slash-by : (a b slash rest : Bool) → (b || slash) ≡ true → (slash ≡ true → rest ≡ false) → (not (a || b) && rest) ≡ false
+slash-by true b slash rest some more = refl
+slash-by false true slash rest some more = refl
+slash-by false false slash rest some more = more some
+
+slash-isnt-plain : (bs : List ℕ) → has_slash bs ≡ true → list_all is_plain bs ≡ false
+slash-isnt-plain [] slash = absurd (cc)
+slash-isnt-plain (b ∷ bs) slash = slash-by (eqb b 46) (eqb b 47) (has_slash bs) (list_all is_plain bs) slash (slash-isnt-plain bs)
+
+slash-behind : (bs : List ℕ) (k : ℕ) → has_slash (drop k bs) ≡ true → has_slash bs ≡ true
+slash-behind [] k slash = slash-none k slash
+  where
+    slash-none : (k : ℕ) → has_slash (drop k []) ≡ true → false ≡ true
+    slash-none zero slash = slash
+    slash-none (suc k) slash = slash
+slash-behind (b ∷ bs) zero slash = slash
+slash-behind (b ∷ bs) (suc k) slash = or-second (eqb b 47) (has_slash bs) (slash-behind bs k slash)
+  where
+    or-second : (a c : Bool) → c ≡ true → (a || c) ≡ true
+    or-second true c is = refl
+    or-second false c is = is
+
+-- an octet behind which all isn't plain begins no extension
+no-begin : (b : ℕ) (bs : List ℕ) → list_all is_plain bs ≡ false → stem_len (b ∷ bs) ≡ suc (stem_len bs)
+no-begin b bs isnt = ap (λ q. if q then 0 else suc (stem_len bs)) (ap (λ q. eqb b 46 && q) isnt ∙ and-false (eqb b 46))
+
+no-point-begins : (b : ℕ) (bs : List ℕ) → eqb b 46 ≡ false → stem_len (b ∷ bs) ≡ suc (stem_len bs)
+no-point-begins b bs isnt = ap (λ (q : Bool). if q && list_all is_plain bs then 0 else suc (stem_len bs)) isnt
+
+-- the last point, with no `/` behind it
+pub stem-at : (bs : List ℕ) (k : ℕ) → k < length bs → get_or bs k 0 ≡ 46 → ((i : ℕ) → k < i → i < length bs → get_or bs i 0 ≢ 46) → has_slash (drop k bs) ≡ false → stem_len bs ≡ k
+stem-at [] k inside here last slash = absurd (omega arith)
+stem-at (b ∷ bs) zero inside here last slash =
+    let none : NoPoint bs = λ i within. last (suc i) (omega arith) (omega arith) in
+    let parts = or-none (eqb b 47) (has_slash bs) slash in
+    ap₂ (λ (p q : Bool). if p && q then 0 else suc (stem_len bs)) (eq-eqb b 46 here) (plain bs none parts.1)
+stem-at (b ∷ bs) (suc k) inside here last slash =
+    no-begin b bs (point-isnt-plain bs k (omega arith) here)
+    ∙ ap suc (stem-at bs k (omega arith) here (λ i behind within. last (suc i) (omega arith) (omega arith)) slash)
+
+-- no point
+pub stem-none : (bs : List ℕ) → NoPoint bs → stem_len bs ≡ length bs
+stem-none [] none = refl
+stem-none (b ∷ bs) none = no-point-begins b bs (no-point-here b bs none) ∙ ap suc (stem-none bs (no-point-more b bs none))
+
+-- the last point, with a `/` behind it
+pub stem-slash : (bs : List ℕ) (k : ℕ) → k < length bs → get_or bs k 0 ≡ 46 → ((i : ℕ) → k < i → i < length bs → get_or bs i 0 ≢ 46) → has_slash (drop k bs) ≡ true → stem_len bs ≡ length bs
+stem-slash [] k inside here last slash = absurd (omega arith)
+stem-slash (b ∷ bs) zero inside here last slash =
+    let none : NoPoint bs = λ i within. last (suc i) (omega arith) (omega arith) in
+    no-begin b bs (slash-isnt-plain bs (past b here slash)) ∙ ap suc (stem-none bs none)
+  where
+    past : (b : ℕ) → b ≡ 46 → has_slash (b ∷ bs) ≡ true → has_slash bs ≡ true
+    past b here slash = rw here at slash
+stem-slash (b ∷ bs) (suc k) inside here last slash =
+    no-begin b bs (slash-isnt-plain bs (slash-behind bs k slash))
+    ∙ ap suc (stem-slash bs k (omega arith) here (λ i behind within. last (suc i) (omega arith) (omega arith)) slash)
+
+-- a `/` behind a place, as it was looked for in what stands there
+pub slash-told : (name bs : List ℕ) (k : ℕ) (told : Bool) → bs ≡ name → told ≡ list_any (λ b. eqb b 47) (take (length bs - k) (drop k bs)) → has_slash (drop k name) ≡ told
+slash-told name bs k told same is =
+    let long : length (drop k bs) ≡ length bs - k = length-drop k bs in
+    sym (is ∙ ap has_slash (ap (λ n. take n (drop k bs)) (sym long) ∙ take-length (drop k bs)) ∙ ap (λ xs. has_slash (drop k xs)) same)
+
+-- a name without an extension is cut at its end
+pub whole-stem : (name : List ℕ) → stem_len name ≡ length name → name ≡ stem name
+whole-stem name is = sym (ap (λ k. take k name) is ∙ take-length name)
+
+pub whole-extension : (name : List ℕ) → stem_len name ≡ length name → [] ≡ extension name
+whole-extension name is = sym (ap (λ k. drop k name) is ∙ drop-length name)
+
+-- ---- digits
+
+pub padded-three : (n : ℕ) → padded_integral (format_spec 32 0 4 3 (2 ^ 64 - 1)) false [] (decimal n) ≡ three_digits n
+unfolding padded_integral char_count
+padded-three n = simp (sub-zero, append-nil) refl
+
+-- the name as it was written
+pub written-name : (output stem' extension' digits : List ℕ) (text : String Global) (number : ℕ) (name : List ℕ)
+    → digits ≡ padded_integral (format_spec 32 0 4 3 (2 ^ 64 - 1)) false [] (decimal number) → stem' ≡ stem output → extension' ≡ extension output
+    → string_bytes text ≡ stem' ++ (45 ∷ (digits ++ extension')) → name ≡ string_bytes text → name ≡ part_name output number
+written-name output stem' extension' digits text number name three first last is same =
+    same ∙ (is
+    ∙ (ap (λ ds. stem' ++ (45 ∷ (ds ++ extension'))) (three ∙ padded-three number)
+    ∙ ap₂ (λ (s e : List ℕ). s ++ (45 ∷ (three_digits number ++ e))) first last))

@@ -1,0 +1,50 @@
+-- The names of the parts of an output, which are this project's.
+use Rattle.std.specs.Prelude.{ℕ, suc, ◌-◌, ◌==◌, nat_eq, nat_le, Bool, false, not, ◌&&◌, ◌||◌, if◌then◌else◌, List, [], ◌∷◌, ◌++◌, length, take, drop, replicate, codes, Option, Some, None}
+use Rattle.std.specs.List.{list_all, starts_with, ends_with}
+use Rattle.std.specs.Option.{option_and_then, option_map_or}
+use Rattle.std.specs.Char.{is_ascii_digit}
+use Rattle.std.specs.Fmt.{decimal}
+
+-- no point and no `/`
+abbrev pub is_plain : ℕ → Bool
+is_plain b = not (b == 46 || b == 47)
+
+-- How many octets stand before the extension of a name: that begins at a point behind which there is no other, and no
+-- `/`. Where there is none, it is empty.
+abbrev pub stem_len : List ℕ → ℕ
+stem_len [] = 0
+stem_len (b ∷ bs) = if b == 46 && list_all is_plain bs then 0 else suc (stem_len bs)
+
+abbrev pub stem : List ℕ → List ℕ
+stem name = take (stem_len name) name
+
+abbrev pub extension : List ℕ → List ℕ
+extension name = drop (stem_len name) name
+
+-- a number in decimal, with zeros in front up to three digits
+abbrev pub three_digits : ℕ → List ℕ
+three_digits n = replicate (3 - length (decimal n)) 48 ++ decimal n
+
+-- The name of the part of this number of an output, from 1 on.
+abbrev pub part_name : List ℕ → ℕ → List ℕ
+part_name output number = stem output ++ (codes "-" ++ (three_digits number ++ extension output))
+
+-- three digits or more
+abbrev pub are_digits : List ℕ → Bool
+are_digits bs = nat_le 3 (length bs) && list_all is_ascii_digit bs
+
+-- what stands behind these octets, where they are the first
+abbrev pub behind : List ℕ → List ℕ → Option (List ℕ)
+behind front bs = if starts_with nat_eq bs front then Some (drop (length front) bs) else None
+
+-- what stands before these octets, where they are the last
+abbrev pub before : List ℕ → List ℕ → Option (List ℕ)
+before end bs = if ends_with nat_eq bs end then Some (take (length bs - length end) bs) else None
+
+-- what stands between the stem of an output with a `-` and its extension
+abbrev pub number_in : List ℕ → List ℕ → Option (List ℕ)
+number_in output name = option_and_then (before (extension output)) (option_and_then (behind (codes "-")) (behind (stem output) name))
+
+-- A name has the form of those of the parts of an output, whatever its number.
+abbrev pub is_part_name : List ℕ → List ℕ → Bool
+is_part_name output name = option_map_or are_digits (number_in output name) false

@@ -1,0 +1,70 @@
+//! The names of parts.
+
+ghost use Rattle.std.specs.Prelude.{◌≡◌, take, drop, IfOk};
+ghost use Rattle.std.specs.Option.{option_copied};
+ghost use Rattle.splitter.specs.Names.{are_digits, before, behind, extension, is_part_name, number_in, part_name, stem};
+
+use mkv_values::Text;
+use std::alloc::{AllocError, Global};
+
+// A name, cut in front of its extension.
+fn cut(name: &str) -> (&str, &str)
+    ensures stem { result.0.now ≡ stem name.now }
+    ensures extension { result.1.now ≡ extension name.now }
+{
+    match name.rfind('.') {
+        Some(at) if !name.as_bytes()[at..].contains(&b'/') => name.split_at(at),
+        _ => (name, ""),
+    }
+}
+
+/// The name of the part of this number of an output, from 1 on: the number, with three digits or more, stands behind a
+/// `-` in front of the extension. That begins at the last point behind the last `/`, if there is one.
+pub fn part_name(alloc: Global, output: &str, number: u64) -> Result<Text, AllocError>
+    ensures { IfOk result (λ name. name ≡ part_name output.now number) }
+{
+    let (stem, extension) = cut(output);
+    let name = format!(in alloc; "{stem}-{number:03}{extension}")?;
+    Ok(Text::from_string(name))
+}
+
+// Three digits or more.
+fn are_digits(octets: &[u8]) -> bool
+    ensures { result ≡ are_digits octets.now }
+{
+    octets.len() >= 3 && octets.iter().all(|octet| octet.is_ascii_digit())
+}
+
+// What stands behind these octets, where they are the first.
+fn behind<'a>(front: &[u8], octets: &'a [u8]) -> Option<&'a [u8]>
+    ensures { option_copied result ≡ behind front.now octets.now }
+{
+    octets.strip_prefix(front)
+}
+
+// What stands before these octets, where they are the last.
+fn before<'a>(end: &[u8], octets: &'a [u8]) -> Option<&'a [u8]>
+    ensures { option_copied result ≡ before end.now octets.now }
+{
+    octets.strip_suffix(end)
+}
+
+// What stands between the stem of an output with a `-` and its extension.
+fn number_in<'a>(output: &str, name: &'a str) -> Option<&'a [u8]>
+    ensures { option_copied result ≡ number_in output.now name.now }
+{
+    let (stem, extension) = cut(output);
+    let rest = behind(stem.as_bytes(), name.as_bytes())?;
+    let rest = behind(b"-", rest)?;
+    before(extension.as_bytes(), rest)
+}
+
+/// Whether a name has the form of those of the parts of an output, whatever its number.
+pub fn is_part_name(output: &str, name: &str) -> bool
+    ensures { result ≡ is_part_name output.now name.now }
+{
+    match number_in(output, name) {
+        Some(number) => are_digits(number),
+        None => false,
+    }
+}
