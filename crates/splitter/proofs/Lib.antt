@@ -1,2 +1,3 @@
 pub mod SectionLemmas
 pub mod NameLemmas
+pub mod StandardFacts

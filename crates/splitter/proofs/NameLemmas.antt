@@ -1,14 +1,20 @@
 -- Names of parts.
-use Rattle.std.proofs.Common.{◌≡◌, ◌≢◌, ℕ, zero, suc, ◌-◌, ◌<◌, ◌^◌, Bool, true, false, not, ◌&&◌, ◌||◌, eqb, get_or, List, [], ◌∷◌, ◌++◌, length, take, drop, refl, sym, ◌∙◌, ap, ap₂, append-nil, arith, String, Global}
-use Rattle.std.specs.Prelude.{if◌then◌else◌}
+use Rattle.std.proofs.Common.{◌≡◌, ◌≢◌, ℕ, zero, suc, ◌+◌, ◌-◌, ◌%◌, ◌<◌, ◌≤◌, ◌^◌, Bool, true, false, not, ◌&&◌, ◌||◌, eqb, get_or, List, [], ◌∷◌, ◌++◌, length, take, drop, refl, sym, ◌∙◌, ap, ap₂, append-nil, arith, String, Global}
+use Rattle.std.specs.Prelude.{if◌then◌else◌, replicate, nat_eq, codes, Some, None}
 use Rattle.std.specs.List.{list_all, list_any}
+use Rattle.std.specs.Cmp.Lexicographic.{pointwise}
 use Rattle.std.proofs.Math.Nat.{sub-zero}
-use Rattle.std.proofs.Math.Seq.{take-length, drop-length}
-use Rattle.std.proofs.lemmas.List.{length-drop}
+use Rattle.std.proofs.Math.Seq.{take-length, drop-length, take-append_seam, drop-append_seam}
+use Rattle.std.proofs.lemmas.List.{length-drop, length-append, length-replicate}
+use Rattle.std.proofs.lemmas.List.Folds.{list_all-append}
+use Rattle.std.proofs.lemmas.Fmt.{decimal_by_steps}
 use Rattle.std.specs.Fmt.{char_count, decimal, format_spec, padded_integral}
+use Rattle.std.specs.Char.{is_ascii_digit}
+use Rattle.std.specs.Option.{option_and_then, option_map_or}
 use Rattle.std.specs.String.{string_bytes}
-use Rattle.std.proofs.lemmas.Bool.{ne_eqb, eq-eqb}
-use Rattle.splitter.specs.Names.{extension, is_plain, part_name, stem, stem_len, three_digits}
+use Rattle.std.proofs.lemmas.Bool.{ne_eqb, eq-eqb, le-leb}
+use Rattle.splitter.specs.Laws.{PartNamesAre}
+use Rattle.splitter.specs.Names.{are_digits, before, behind, extension, is_plain, part_name, stem, stem_len, three_digits}
 
 -- ---- where the extension begins
 
@@ -132,3 +138,47 @@ written-name output stem' extension' digits text number name three first last is
     same ∙ (is
     ∙ (ap (λ ds. stem' ++ (45 ∷ (ds ++ extension'))) (three ∙ padded-three number)
     ∙ ap₂ (λ (s e : List ℕ). s ++ (45 ∷ (three_digits number ++ e))) first last))
+
+-- ---- the form of names
+
+same-octets : (xs : List ℕ) → pointwise nat_eq xs xs ≡ true
+same-octets [] = refl
+same-octets (x ∷ xs) = ap₂ (λ (p q : Bool). p && q) (eq-eqb x x refl) (same-octets xs)
+
+behind-first : (front rest : List ℕ) → behind front (front ++ rest) ≡ Some rest
+behind-first front rest =
+    ap₂ (λ (q : Bool) (xs : List ℕ). if q then Some xs else None) (ap (pointwise nat_eq front) (take-append_seam front rest) ∙ same-octets front) (drop-append_seam front rest)
+
+before-last : (xs end : List ℕ) → before end (xs ++ end) ≡ Some xs
+before-last xs end =
+    let long : length (xs ++ end) - length end ≡ length xs = omega (arith, length-append xs end) in
+    ap₂ (λ (q : Bool) (ys : List ℕ). if q then Some ys else None)
+    (ap (λ k. pointwise nat_eq end (drop k (xs ++ end))) long ∙ (ap (pointwise nat_eq end) (drop-append_seam xs end) ∙ same-octets end))
+    (ap (λ k. take k (xs ++ end)) long ∙ take-append_seam xs end)
+
+zeros-are-digits : (k : ℕ) → list_all is_ascii_digit (replicate k 48) ≡ true
+zeros-are-digits zero = refl
+zeros-are-digits (suc k) = zeros-are-digits k
+
+decimal-is-digits : (n : ℕ) → n < 2 ^ 64 → list_all is_ascii_digit (decimal n) ≡ true
+decimal-is-digits n small =
+    decimal_by_steps (λ m ds. list_all is_ascii_digit ds ≡ true) (λ m low. rw (digit m low))
+    (λ m ds high front. list_all-append is_ascii_digit ds ((48 + m % 10) ∷ []) ∙ ap₂ (λ (p q : Bool). p && q) front (rw (digit (m % 10) (omega arith)))) n small
+  where
+    digit : (d : ℕ) → d < 10 → is_ascii_digit (48 + d) ≡ true
+    digit d low = grind arith
+
+three-are-digits : (n : ℕ) → n < 2 ^ 64 → are_digits (three_digits n) ≡ true
+three-are-digits n small =
+    ap₂ (λ (p q : Bool). p && q) (le-leb 3 (length (three_digits n)) (long (length (decimal n)) (decimal n) refl))
+    (list_all-append is_ascii_digit (replicate (3 - length (decimal n)) 48) (decimal n) ∙ ap₂ (λ (p q : Bool). p && q) (zeros-are-digits (3 - length (decimal n))) (decimal-is-digits n small))
+  where
+    long : (l : ℕ) (ds : List ℕ) → length ds ≡ l → 3 ≤ length (replicate (3 - l) 48 ++ ds)
+    long l ds is = omega (arith, length-append (replicate (3 - l) 48) ds, length-replicate {A = ℕ} (3 - l) 48)
+
+pub part-names : PartNamesAre
+part-names output n small =
+    ap (λ o. option_map_or are_digits (option_and_then (before (extension output)) (option_and_then (behind (codes "-")) o)) false) (behind-first (stem output) (codes "-" ++ (three_digits n ++ extension output)))
+    ∙ (ap (λ o. option_map_or are_digits (option_and_then (before (extension output)) o) false) (behind-first (codes "-") (three_digits n ++ extension output))
+    ∙ (ap (λ o. option_map_or are_digits o false) (before-last (three_digits n) (extension output))
+    ∙ three-are-digits n small))

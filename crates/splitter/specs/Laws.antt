@@ -1,10 +1,11 @@
 -- What holds of every split.
-use Rattle.std.specs.Prelude.{◌≡◌, ⊤, ℕ, ◌<◌, true, false, List, [], ◌∷◌, ◌++◌, filter, flat_map, take, Some, None}
+use Rattle.std.specs.Prelude.{◌≡◌, ⊤, ℕ, ◌<◌, ◌^◌, true, false, List, [], ◌∷◌, ◌++◌, filter, flat_map, take, Some, None}
 use Rattle.std.specs.List.{slice_get}
 use Rattle.output_model.specs.OutputBlock.{OutputBlock}
 use Rattle.splitter.specs.declared.cuts.Place.{Place}
 use Rattle.splitter.specs.declared.cuts.Place.TheVariants.{Same, Next, Out}
 use Rattle.splitter.specs.declared.spec.SplitSpec.TheVariants.{Whole}
+use Rattle.splitter.specs.Names.{is_part_name, part_name}
 use Rattle.splitter.specs.Sections.{Section, Split, begun, cuts, is_written, may_cut, parts, sections, with_block}
 use Rattle.splitter.specs.Steps.{CutsSeen, new_cuts, place_of, stepped}
 
@@ -62,3 +63,9 @@ SectionsAreCut = (s : Split) (blocks : List OutputBlock) → AreSections s block
 -- What isn't split is one part, which has all blocks as they are.
 abbrev pub WholeIsOnePart : Type 0
 WholeIsOnePart = (s : Split) (blocks : List OutputBlock) → s.spec ≡ Whole → parts s blocks ≡ record { start = 0; end = None; blocks = blocks } ∷ []
+
+-- ---- names
+
+-- The name of each part has the form of part names.
+abbrev pub PartNamesAre : Type 0
+PartNamesAre = (output : List ℕ) (number : ℕ) → number < 2 ^ 64 → is_part_name output (part_name output number) ≡ true

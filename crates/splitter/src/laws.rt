@@ -1,6 +1,6 @@
 //! What holds of every split.
 
-ghost use Rattle.splitter.specs.Laws.{SectionsAreCut, StepsJoin, WholeIsOnePart};
+ghost use Rattle.splitter.specs.Laws.{PartNamesAre, SectionsAreCut, StepsJoin, WholeIsOnePart};
 
 /// The places that the steps say of the blocks of a merged list are those in its sections that are written.
 pub fn steps_join()
@@ -15,4 +15,9 @@ pub fn sections_are_cut()
 /// What isn't split is one part.
 pub fn whole_is_one_part()
     ensures { WholeIsOnePart }
+{}
+
+/// The name of each part has the form of part names.
+pub fn part_names_are()
+    ensures { PartNamesAre }
 {}

@@ -10,7 +10,7 @@ mod spec;
 
 pub use cuts::{Cuts, Place};
 pub use driving::is_driver;
-pub use laws::{sections_are_cut, steps_join, whole_is_one_part};
+pub use laws::{part_names_are, sections_are_cut, steps_join, whole_is_one_part};
 pub use names::{is_part_name, part_name};
 pub use spec::SplitSpec;
 pub use word_values::SpanWords;
