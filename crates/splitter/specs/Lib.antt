@@ -4,3 +4,4 @@ pub mod Set
 pub mod Sections
 pub mod Laws
 pub mod Names
+pub mod Words

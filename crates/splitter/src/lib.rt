@@ -7,6 +7,7 @@ mod driving;
 mod laws;
 mod names;
 mod spec;
+mod words;
 
 pub use cuts::{Cuts, Place};
 pub use driving::is_driver;
@@ -14,3 +15,4 @@ pub use laws::{part_names_are, sections_are_cut, steps_join, whole_is_one_part};
 pub use names::{is_part_name, part_name};
 pub use spec::SplitSpec;
 pub use word_values::SpanWords;
+pub use words::split_spec;

@@ -1,0 +1,61 @@
+//! What the words of a split come to.
+
+ghost use Rattle.std.specs.Prelude.{◌≡◌, true, filter_map, IfOk};
+ghost use Rattle.splitter.specs.declared.spec.SplitSpec.TheVariants as spec;
+ghost use Rattle.splitter.specs.Words.{is_by_time, spec_of, start_at};
+
+use crate::spec::SplitSpec;
+use mkv_values::List;
+use std::alloc::{AllocError, Global};
+use word_values::SplitWords;
+
+// Where the chapter of this number starts, from 1 on, if there is one.
+fn start_at(starts: &[u64], number: u64) -> Option<u64>
+    ensures { result ≡ start_at starts.now number }
+{
+    let k = number.checked_sub(1)?;
+    starts.get(k as usize).copied()
+}
+
+// Where the chapters of these numbers start.
+fn starts_at(alloc: Global, starts: &[u64], numbers: &[u64]) -> Result<List<u64>, AllocError>
+    ensures { IfOk result (λ at. at ≡ filter_map (start_at starts.now) numbers.now) }
+{
+    let at = numbers
+        .iter()
+        .filter_map(|number| start_at(starts, *number));
+    Ok(List::from_vec(at.collect(alloc)?))
+}
+
+fn times(alloc: Global, at: &[u64]) -> Result<SplitSpec, AllocError>
+    ensures { IfOk result (λ s. s ≡ spec.Times at.now) }
+{
+    Ok(SplitSpec::Times {
+        at: List::from_vec(Vec::from_slice(alloc, at)?),
+    })
+}
+
+/// Where an output is split, by its words; its chapters start at these times, of which those count that the words name.
+/// Without words it isn't split.
+pub fn split_spec(
+    alloc: Global,
+    words: &Option<SplitWords>,
+    starts: &[u64],
+) -> Result<SplitSpec, AllocError>
+    requires { is_by_time words.now ≡ true }
+    ensures { IfOk result (λ spec. spec ≡ spec_of words.now starts.now) }
+{
+    match words {
+        None => Ok(SplitSpec::Whole),
+        Some(SplitWords::Duration { by }) => Ok(SplitSpec::Duration { by: *by }),
+        Some(SplitWords::Times { at }) => times(alloc, at.as_slice()),
+        Some(SplitWords::Parts { spans }) => Ok(SplitSpec::Parts {
+            spans: List::from_vec(Vec::from_slice(alloc, spans.as_slice())?),
+        }),
+        Some(SplitWords::AllChapters) => times(alloc, starts),
+        Some(SplitWords::Chapters { numbers }) => Ok(SplitSpec::Times {
+            at: starts_at(alloc, starts, numbers.as_slice())?,
+        }),
+        Some(SplitWords::Size { limit: _ }) => unreachable!(),
+    }
+}
