@@ -6,9 +6,9 @@ use Rattle.std.proofs.Math.Nat.{sub-zero}
 use Rattle.output_model.specs.OutputBlock.{OutputBlock, in_output}
 use Rattle.splitter.specs.declared.spec.SplitSpec.TheVariants.{Whole}
 use Rattle.splitter.specs.Split.{is_over, keeps}
-use Rattle.splitter.specs.Sections.{Section, Split, begun, cut_from, cuts, from_nought, in_part, is_written, may_cut, part_of, parts_in, sections, start_with, with_block}
+use Rattle.splitter.specs.Sections.{Section, Split, begun, beyond, cut_from, cuts, from_nought, in_part, is_written, may_cut, part_of, parts_in, sections, sections_at, start_with, with_block, within}
 use Rattle.splitter.specs.Steps.{CutsSeen, place_at}
-use Rattle.splitter.specs.Laws.{AreCutApart, IsUncut, SectionsAreCut, StepsJoin, WholeIsOnePart, all_placed, placed, with_last}
+use Rattle.splitter.specs.Laws.{AreCutApart, IsUncut, SectionsAreCut, SectionsGoOn, StepsJoin, WholeIsOnePart, all_placed, placed, with_last}
 
 -- ---- step by step
 
@@ -145,6 +145,21 @@ sections-cut s (b ∷ bs) =
     let start : ℕ = start_with s from_nought b in
     let all = cut s bs (begun start b) (uncut-first s start b) in
     record { whole = whole s bs (begun start b); cut = subst (AreCutApart s) (sym all.is) all.cut }
+
+-- ---- up to the next cut
+
+goes-on-next : (s : Split) (b : OutputBlock) (bs : List OutputBlock) (x : Section)
+    → ((y : Section) → cut_from s y bs ≡ record { start = y.start; blocks = y.blocks ++ within s y bs } ∷ sections_at s (beyond s y bs)) → (q : Bool)
+    → (if q then x ∷ cut_from s (begun b.tick b) bs else cut_from s (with_block x b) bs)
+    ≡ record { start = x.start; blocks = x.blocks ++ (if q then [] else b ∷ within s (with_block x b) bs) } ∷ sections_at s (if q then b ∷ bs else beyond s (with_block x b) bs)
+goes-on-next s b bs x others true = ap (λ blocks. record { start = x.start; blocks = blocks } ∷ cut_from s (begun b.tick b) bs) (sym (append-nil x.blocks))
+goes-on-next s b bs x others false =
+    others (with_block x b)
+    ∙ ap (λ blocks. record { start = x.start; blocks = blocks } ∷ sections_at s (beyond s (with_block x b) bs)) (append_assoc x.blocks (b ∷ []) (within s (with_block x b) bs))
+
+pub goes-on : SectionsGoOn
+goes-on s x [] = ap (λ blocks. record { start = x.start; blocks = blocks } ∷ []) (sym (append-nil x.blocks))
+goes-on s x (b ∷ bs) = goes-on-next s b bs x (λ y. goes-on s y bs) (cuts s x b)
 
 -- ---- not split
 

@@ -6,7 +6,7 @@ use Rattle.splitter.specs.declared.cuts.Place.{Place}
 use Rattle.splitter.specs.declared.cuts.Place.TheVariants.{Same, Next, Out}
 use Rattle.splitter.specs.declared.spec.SplitSpec.TheVariants.{Whole}
 use Rattle.splitter.specs.Names.{is_part_name, part_name}
-use Rattle.splitter.specs.Sections.{Section, Split, begun, cuts, is_written, may_cut, parts, sections, with_block}
+use Rattle.splitter.specs.Sections.{Section, Split, begun, beyond, cut_from, cuts, is_written, may_cut, parts, sections, sections_at, with_block, within}
 use Rattle.splitter.specs.Steps.{CutsSeen, new_cuts, place_of, stepped}
 
 -- ---- step by step
@@ -59,6 +59,10 @@ pub record AreSections (s : Split) (blocks : List OutputBlock) (xs : List Sectio
 
 abbrev pub SectionsAreCut : Type 0
 SectionsAreCut = (s : Split) (blocks : List OutputBlock) → AreSections s blocks (sections s blocks)
+
+-- A section has what stands before the next cut, and behind it are those of the blocks from there on.
+abbrev pub SectionsGoOn : Type 0
+SectionsGoOn = (s : Split) (x : Section) (bs : List OutputBlock) → cut_from s x bs ≡ record { start = x.start; blocks = x.blocks ++ within s x bs } ∷ sections_at s (beyond s x bs)
 
 -- What isn't split is one part, which has all blocks as they are.
 abbrev pub WholeIsOnePart : Type 0

@@ -46,6 +46,21 @@ abbrev pub cut_from : Split → Section → List OutputBlock → List Section
 cut_from s x [] = x ∷ []
 cut_from s x (b ∷ bs) = if cuts s x b then x ∷ cut_from s (begun b.tick b) bs else cut_from s (with_block x b) bs
 
+-- the blocks that stand in a section behind what it has, up to the next cut
+abbrev pub within : Split → Section → List OutputBlock → List OutputBlock
+within s x [] = []
+within s x (b ∷ bs) = if cuts s x b then [] else b ∷ within s (with_block x b) bs
+
+-- the blocks from the next cut on
+abbrev pub beyond : Split → Section → List OutputBlock → List OutputBlock
+beyond s x [] = []
+beyond s x (b ∷ bs) = if cuts s x b then b ∷ bs else beyond s (with_block x b) bs
+
+-- the sections of blocks before which a cut stands
+abbrev pub sections_at : Split → List OutputBlock → List Section
+sections_at s [] = []
+sections_at s (b ∷ bs) = cut_from s (begun b.tick b) bs
+
 -- All sections of a merged list. A cut before the first block leaves none in front of it.
 abbrev pub sections : Split → List OutputBlock → List Section
 sections s [] = from_nought ∷ []

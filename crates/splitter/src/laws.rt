@@ -1,6 +1,6 @@
 //! What holds of every split.
 
-ghost use Rattle.splitter.specs.Laws.{PartNamesAre, SectionsAreCut, StepsJoin, WholeIsOnePart};
+ghost use Rattle.splitter.specs.Laws.{PartNamesAre, SectionsAreCut, SectionsGoOn, StepsJoin, WholeIsOnePart};
 
 /// The places that the steps say of the blocks of a merged list are those in its sections that are written.
 pub fn steps_join()
@@ -10,6 +10,11 @@ pub fn steps_join()
 /// Each block of a merged list stands in one section, and cuts stand between sections and nowhere else.
 pub fn sections_are_cut()
     ensures { SectionsAreCut }
+{}
+
+/// A section ends at the next cut, and the others begin there.
+pub fn sections_go_on()
+    ensures { SectionsGoOn }
 {}
 
 /// What isn't split is one part.
