@@ -7,14 +7,15 @@ use Rattle.std.proofs.Math.Nat.{sub-zero}
 use Rattle.std.proofs.Math.Seq.{take-length, drop-length, take-append_seam, drop-append_seam}
 use Rattle.std.proofs.lemmas.List.{length-drop, length-append, length-replicate}
 use Rattle.std.proofs.lemmas.List.Folds.{list_all-append}
-use Rattle.std.proofs.lemmas.Fmt.{decimal_by_steps}
+use Rattle.std.proofs.lemmas.Fmt.{decimal_by_steps, decimal_is_IsNumeral}
+use Rattle.std.specs.Str.Parse.{digits_value}
 use Rattle.std.specs.Fmt.{char_count, decimal, format_spec, padded_integral}
 use Rattle.std.specs.Char.{is_ascii_digit}
 use Rattle.std.specs.Option.{option_and_then, option_map_or}
 use Rattle.std.specs.String.{string_bytes}
 use Rattle.std.proofs.lemmas.Bool.{ne_eqb, eq-eqb, le-leb}
-use Rattle.splitter.specs.Laws.{PartNamesAre}
-use Rattle.splitter.specs.Names.{are_digits, before, behind, extension, is_plain, part_name, stem, stem_len, three_digits}
+use Rattle.splitter.specs.Laws.{PartNamesAre, PartNamesDiffer}
+use Rattle.splitter.specs.Names.{are_digits, before, behind, extension, is_plain, number_in, part_name, stem, stem_len, three_digits}
 
 -- ---- where the extension begins
 
@@ -176,9 +177,25 @@ three-are-digits n small =
     long : (l : ℕ) (ds : List ℕ) → length ds ≡ l → 3 ≤ length (replicate (3 - l) 48 ++ ds)
     long l ds is = omega (arith, length-append (replicate (3 - l) 48) ds, length-replicate {A = ℕ} (3 - l) 48)
 
+-- the number is found in the name
+number-in-name : (output : List ℕ) (n : ℕ) → number_in output (part_name output n) ≡ Some (three_digits n)
+number-in-name output n =
+    ap (λ o. option_and_then (before (extension output)) (option_and_then (behind (codes "-")) o)) (behind-first (stem output) (codes "-" ++ (three_digits n ++ extension output)))
+    ∙ (ap (λ o. option_and_then (before (extension output)) o) (behind-first (codes "-") (three_digits n ++ extension output)) ∙ before-last (three_digits n) (extension output))
+
 pub part-names : PartNamesAre
-part-names output n small =
-    ap (λ o. option_map_or are_digits (option_and_then (before (extension output)) (option_and_then (behind (codes "-")) o)) false) (behind-first (stem output) (codes "-" ++ (three_digits n ++ extension output)))
-    ∙ (ap (λ o. option_map_or are_digits (option_and_then (before (extension output)) o) false) (behind-first (codes "-") (three_digits n ++ extension output))
-    ∙ (ap (λ o. option_map_or are_digits o false) (before-last (three_digits n) (extension output))
-    ∙ three-are-digits n small))
+part-names output n small = ap (λ o. option_map_or are_digits o false) (number-in-name output n) ∙ three-are-digits n small
+
+-- zeros in front of digits count nothing
+value-behind-zeros : (k : ℕ) (ds : List ℕ) → digits_value 10 (replicate k 48 ++ ds) ≡ digits_value 10 ds
+value-behind-zeros zero ds = refl
+value-behind-zeros (suc k) ds = value-behind-zeros k ds
+
+three-value : (n : ℕ) → n < 2 ^ 64 → digits_value 10 (three_digits n) ≡ n
+three-value n small = value-behind-zeros (3 - length (decimal n)) (decimal n) ∙ (decimal_is_IsNumeral n small).1
+
+pub part-names-differ : PartNamesDiffer
+part-names-differ output m n small_m small_n same =
+    let found : Some (three_digits m) ≡ Some (three_digits n) = sym (number-in-name output m) ∙ (ap (number_in output) same ∙ number-in-name output n) in
+    let digits : three_digits m ≡ three_digits n = cc in
+    sym (three-value m small_m) ∙ (ap (digits_value 10) digits ∙ three-value n small_n)

@@ -73,3 +73,7 @@ WholeIsOnePart = (s : Split) (blocks : List OutputBlock) → s.spec ≡ Whole �
 -- The name of each part has the form of part names.
 abbrev pub PartNamesAre : Type 0
 PartNamesAre = (output : List ℕ) (number : ℕ) → number < 2 ^ 64 → is_part_name output (part_name output number) ≡ true
+
+-- Parts of different numbers have different names.
+abbrev pub PartNamesDiffer : Type 0
+PartNamesDiffer = (output : List ℕ) (m n : ℕ) → m < 2 ^ 64 → n < 2 ^ 64 → part_name output m ≡ part_name output n → m ≡ n

@@ -1,6 +1,6 @@
 //! What holds of every split.
 
-ghost use Rattle.splitter.specs.Laws.{PartNamesAre, SectionsAreCut, SectionsGoOn, StepsJoin, WholeIsOnePart};
+ghost use Rattle.splitter.specs.Laws.{PartNamesAre, PartNamesDiffer, SectionsAreCut, SectionsGoOn, StepsJoin, WholeIsOnePart};
 
 /// The places that the steps say of the blocks of a merged list are those in its sections that are written.
 pub fn steps_join()
@@ -25,4 +25,9 @@ pub fn whole_is_one_part()
 /// The name of each part has the form of part names.
 pub fn part_names_are()
     ensures { PartNamesAre }
+{}
+
+/// Parts of different numbers have different names.
+pub fn part_names_differ()
+    ensures { PartNamesDiffer }
 {}

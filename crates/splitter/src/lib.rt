@@ -11,7 +11,7 @@ mod words;
 
 pub use cuts::{Cuts, Place};
 pub use driving::is_driver;
-pub use laws::{part_names_are, sections_are_cut, sections_go_on, steps_join, whole_is_one_part};
+pub use laws::{part_names_are, part_names_differ, sections_are_cut, sections_go_on, steps_join, whole_is_one_part};
 pub use names::{is_part_name, part_name};
 pub use spec::SplitSpec;
 pub use word_values::SpanWords;
