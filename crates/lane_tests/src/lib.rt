@@ -11,6 +11,8 @@ mod merged;
 #[cfg(test)]
 mod one_lane;
 #[cfg(test)]
+mod parts;
+#[cfg(test)]
 mod runs;
 #[cfg(test)]
 mod spelled;
