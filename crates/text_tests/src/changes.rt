@@ -4,9 +4,7 @@ ghost use Rattle.std.specs.Prelude.{IfOk};
 ghost use Rattle.mkv_schema.specs.declared.ids.TheConstants.{CHAPTERS as CHAPTERS_ID};
 ghost use Rattle.tree_building.specs.Building.{IsRead};
 
-use chapter_changes::{
-    cut, push_chapter_uids, push_edition_uids, shift, top_starts, with_identifiers,
-};
+use chapter_changes::{cut, push_chapter_uids, push_edition_uids, shift, with_identifiers};
 use ebml_tree::{Tree, TreeEnd};
 use mkv_schema::ids::CHAPTERS;
 use mkv_schema::is_master;
@@ -166,16 +164,5 @@ fn chapters_are_cut(rt: HostRuntime) -> Result<(), Fail> {
         }
         assert_eq!(rt; out.as_slice(), wanted);
     }
-    Ok(())
-}
-
-#[test]
-fn chapters_of_the_first_edition_have_starts(rt: HostRuntime) -> Result<(), Fail> {
-    let two = top_starts(rt.alloc(), &chapters_of(rt.alloc(), ENDED)?)?;
-    assert_eq!(rt; two.as_slice(), [0, 2_500_000_000].as_slice());
-
-    // one without a start, around another
-    let one = top_starts(rt.alloc(), &chapters_of(rt.alloc(), &MIXED)?)?;
-    assert_eq!(rt; one.as_slice(), [0].as_slice());
     Ok(())
 }
