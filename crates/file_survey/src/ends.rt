@@ -8,6 +8,7 @@ ghost use Rattle.merge_model.specs.Links.{entry_block};
 ghost use Rattle.merge_model.specs.Ends.{block_end};
 ghost use Rattle.lane_blocks.specs.Links.{CanMove, IsSmallEntry, text_with};
 ghost use Rattle.file_survey.specs.Ends.{IsTimed, IsTimedTrack, ends_of, lasting_for, link_end, text_end, texts_end, track_end};
+ghost use Rattle.file_survey.specs.declared.found.TheConstants.{MOST_END};
 
 use cluster_reader::Cursor;
 use lane_blocks::{Entry, Link, TextLink, TrackLink, delayed};
@@ -32,7 +33,8 @@ fn lasting(duration: Option<u64>, default_duration: Option<u64>, frames: usize) 
 /// Where the block that a cursor gave ends in a track, before its shift; 0 where it isn't the track's or is dropped.
 fn track_end(track: &TrackLink, cursor: &Cursor) -> u64
     requires { IsTimedTrack track.now }
-    ensures { result ≡ track_end track.now (block_of cursor.now.block) }
+    ensures exact { result ≡ track_end track.now (block_of cursor.now.block) }
+    ensures small { result ≤ MOST_END }
 {
     let block = cursor.head();
     if block.track != track.number {
@@ -47,7 +49,8 @@ fn track_end(track: &TrackLink, cursor: &Cursor) -> u64
 /// The same of a link; a text has no block of a file.
 fn link_end(link: &Link, cursor: &Cursor) -> u64
     requires { IsTimed link.now }
-    ensures { result ≡ link_end (block_of cursor.now.block) link.now }
+    ensures exact { result ≡ link_end (block_of cursor.now.block) link.now }
+    ensures small { result ≤ MOST_END }
 {
     match link {
         Link::Track(track) => track_end(track, cursor),
@@ -57,8 +60,10 @@ fn link_end(link: &Link, cursor: &Cursor) -> u64
 
 /// The greatest of `end` and the ends of the block that a cursor gave.
 pub fn greatest_end(links: &[Link], cursor: &Cursor, end: u64) -> u64
-    requires { All IsTimed links.now }
-    ensures { result ≡ max end (ends_of (block_of cursor.now.block) links.now) }
+    requires links { All IsTimed links.now }
+    requires end { end ≤ MOST_END }
+    ensures exact { result ≡ max end (ends_of (block_of cursor.now.block) links.now) }
+    ensures small { result ≤ MOST_END }
 {
     let mut end = end;
     for link in links {
@@ -71,7 +76,8 @@ pub fn greatest_end(links: &[Link], cursor: &Cursor, end: u64) -> u64
 fn entry_end(text: &TextLink, entry: &Entry) -> u64
     requires moves { CanMove text.now.delay text.now.shift }
     requires small { IsSmallEntry entry.now }
-    ensures { result ≡ block_end (text_with text.now []).placing (entry_block entry.now) }
+    ensures exact { result ≡ block_end (text_with text.now []).placing (entry_block entry.now) }
+    ensures small { result ≤ MOST_END }
 {
     match delayed(entry.start as i64, text.delay) {
         Some(t) => t + entry.duration,
@@ -83,7 +89,9 @@ fn entry_end(text: &TextLink, entry: &Entry) -> u64
 fn text_end(text: &TextLink, end: u64) -> u64
     requires moves { CanMove text.now.delay text.now.shift }
     requires small { All IsSmallEntry text.now.entries }
-    ensures { result ≡ max end (text_end text.now) }
+    requires end { end ≤ MOST_END }
+    ensures exact { result ≡ max end (text_end text.now) }
+    ensures small { result ≤ MOST_END }
 {
     let mut end = end;
     for entry in text.entries.as_slice() {
@@ -95,7 +103,8 @@ fn text_end(text: &TextLink, end: u64) -> u64
 /// The greatest of 0 and the ends of all texts.
 pub fn texts_end(links: &[Link]) -> u64
     requires { All IsTimed links.now }
-    ensures { result ≡ texts_end links.now }
+    ensures exact { result ≡ texts_end links.now }
+    ensures small { result ≤ MOST_END }
 {
     let mut end = 0;
     for link in links {

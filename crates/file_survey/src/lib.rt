@@ -7,5 +7,5 @@ mod ends;
 mod found;
 mod walking;
 
-pub use found::Survey;
+pub use found::{MOST_END, Survey};
 pub use walking::survey;

@@ -10,6 +10,7 @@ ghost use Rattle.lane_blocks.specs.Links.{IsOpenLink, IsToldLink, given_in};
 ghost use Rattle.file_survey.specs.Ends.{IsTimed};
 ghost use Rattle.file_survey.specs.Survey.{AreOfOneFile, IsSurvey, first_track, surveyed_length};
 ghost use Rattle.file_survey.specs.Walked.{IsWalked};
+ghost use Rattle.file_survey.specs.declared.found.TheConstants.{MOST_END};
 
 use crate::ends::{greatest_end, texts_end};
 use crate::found::Survey;
@@ -24,6 +25,7 @@ fn walk<R: Reads>(cursor: &mut Cursor, links: &[Link], src: &mut R) -> Result<Su
     requires ready { CanRead (live_files R.Reads src.old) cursor.old }
     requires timed { All IsTimed links.now }
     ensures value { IfTold R.Reads src.old cursor.old.file (λ bytes. IfOk result (IsWalked (left_of bytes cursor.old) links.now)) }
+    ensures small { IfOk result (λ survey. survey.end ≤ MOST_END) }
     ensures standing { R.standing src.new ≡ R.standing src.old }
     ensures cause { HasCause is_read_fault (R.reading_faults src.old) (R.reading_faults src.new) result }
     ensures octets { R.octets_read src.new ≤ R.octets_read src.old + 6 * file_size R.Reads src.old cursor.old.file }
@@ -60,6 +62,7 @@ pub fn survey<R: Reads>(alloc: Global, src: &mut R, links: &List<Link>) -> Resul
     requires timed { All IsTimed links.now }
     requires one { AreOfOneFile links.now }
     ensures value { All (IsToldLink (live_files R.Reads src.old)) links.now → IfOk result (IsSurvey (map (given_in (live_files R.Reads src.old)) links.now)) }
+    ensures small { IfOk result (λ survey. survey.end ≤ MOST_END) }
     ensures standing { R.standing src.new ≡ R.standing src.old }
     ensures cause { HasCause is_read_fault (R.reading_faults src.old) (R.reading_faults src.new) result }
 

@@ -13,7 +13,7 @@ use Rattle.file_records.specs.Records.{FileRecords, file_records, scale_of_info}
 use Rattle.merge_words.specs.declared.files.FileWords.{FileWords}
 use Rattle.merge_inputs.specs.Input.{InputRead, found_then, input_of, input_with, refusal_of, unless_refused}
 use Rattle.merge_inputs.specs.Laws.{InputsStay}
-use Rattle.merge_inputs.specs.Select.{keep_of, keeps_attachments, keeps_chapters, keeps_tags, kept_list, kept_one}
+use Rattle.merge_inputs.specs.Select.{keep_of, keeps_attachments, keeps_chapters, keeps_tags, kept_list, kept_one, unmoved}
 use Rattle.merge_inputs.specs.Taken.{taken_from}
 use Rattle.merge_inputs.specs.Title.{title_of_info}
 use Rattle.merge_inputs.specs.declared.taken.TakenTrack.{TakenTrack}
@@ -23,8 +23,8 @@ use Rattle.merge_inputs.specs.declared.input.InputRefusal.TheVariants.{Damaged}
 -- ---- what is read
 
 -- what is read of a file with this outline
-abbrev pub read_with : FileOutline → ℕ → List ℕ → ℕ → List TakenTrack → List AttachedFile → Option Node → Option Node → TagKeep → InputRead
-read_with v scale title count taken attachments chapters tags keep = record {
+abbrev pub read_with : FileOutline → ℕ → List ℕ → ℕ → List TakenTrack → List AttachedFile → Option Node → Option Node → TagKeep → Option ℕ → InputRead
+read_with v scale title count taken attachments chapters tags keep shift = record {
   segment = v.segment;
   scale = scale;
   title = title;
@@ -35,13 +35,14 @@ read_with v scale title count taken attachments chapters tags keep = record {
   chapters = chapters;
   tags = tags;
   keep = keep;
+  shift = shift;
 }
 
 -- the same of one with these records
 abbrev pub read_as : FileWords → Bool → FileOutline → FileRecords → InputRead
 read_as words webm v r =
     read_with v (scale_of_info r.info) (title_of_info r.info) (length r.tracks) (taken_from words 0 r.tracks)
-    (kept_list (keeps_attachments words webm) r.attachments) (kept_one (keeps_chapters words webm) r.chapters) (kept_one (keeps_tags words) r.tags) (keep_of words)
+    (kept_list (keeps_attachments words webm) r.attachments) (kept_one (keeps_chapters words webm) r.chapters) (kept_one (keeps_tags words) r.tags) (keep_of words) (unmoved words)
 
 -- what refuses it
 abbrev pub refusal_as : FileWords → FileRecords → Option InputRefusal
@@ -88,11 +89,11 @@ input_of-all words webm held bytes v r input outline records good is =
     ∙ ap Ok (sym is)
 
 -- two that agree in each part
-pub read-same : (v w : FileOutline) {scale scale' : ℕ} {title title' : List ℕ} {count count' : ℕ} {taken taken' : List TakenTrack} {attachments attachments' : List AttachedFile} {chapters chapters' tags tags' : Option Node} {keep keep' : TagKeep}
-    → v ≡ w → scale ≡ scale' → title ≡ title' → count ≡ count' → taken ≡ taken' → attachments ≡ attachments' → chapters ≡ chapters' → tags ≡ tags' → keep ≡ keep'
-    → read_with v scale title count taken attachments chapters tags keep ≡ read_with w scale' title' count' taken' attachments' chapters' tags' keep'
-read-same v w outline scale_is title_is count_is taken_is attachments_is chapters_is tags_is keep_is =
-    λ i. read_with (outline i) (scale_is i) (title_is i) (count_is i) (taken_is i) (attachments_is i) (chapters_is i) (tags_is i) (keep_is i)
+pub read-same : (v w : FileOutline) {scale scale' : ℕ} {title title' : List ℕ} {count count' : ℕ} {taken taken' : List TakenTrack} {attachments attachments' : List AttachedFile} {chapters chapters' tags tags' : Option Node} {keep keep' : TagKeep} {shift shift' : Option ℕ}
+    → v ≡ w → scale ≡ scale' → title ≡ title' → count ≡ count' → taken ≡ taken' → attachments ≡ attachments' → chapters ≡ chapters' → tags ≡ tags' → keep ≡ keep' → shift ≡ shift'
+    → read_with v scale title count taken attachments chapters tags keep shift ≡ read_with w scale' title' count' taken' attachments' chapters' tags' keep' shift'
+read-same v w outline scale_is title_is count_is taken_is attachments_is chapters_is tags_is keep_is shift_is =
+    λ i. read_with (outline i) (scale_is i) (title_is i) (count_is i) (taken_is i) (attachments_is i) (chapters_is i) (tags_is i) (keep_is i) (shift_is i)
 
 -- ---- what is kept
 

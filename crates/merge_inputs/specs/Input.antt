@@ -3,6 +3,7 @@ use Rattle.std.specs.Prelude.{◌≡◌, ◌≤◌, ⊤, true, ℕ, Bool, List, 
 use Rattle.std.specs.List.{All}
 use Rattle.mkv_schema.specs.declared.ids.TheConstants.{CHAPTERS, TAGS}
 use Rattle.mkv_values.specs.declared.damage.Damage.{Damage}
+use Rattle.mkv_values.specs.declared.outside.FileId.{FileId}
 use Rattle.mkv_io.specs.LiveFiles.{LiveFiles}
 use Rattle.matroska_format.specs.declared.element.Header.{Header}
 use Rattle.matroska_format.specs.Outline.{Outlined, described, outline_of}
@@ -15,7 +16,7 @@ use Rattle.tag_records.specs.declared.uid_map.TagKeep.{TagKeep}
 use Rattle.file_records.specs.Attached.{AttachedFile, in_file}
 use Rattle.file_records.specs.Records.{FileRecords, file_records, scale_of_info}
 use Rattle.merge_words.specs.declared.files.FileWords.{FileWords}
-use Rattle.merge_inputs.specs.Select.{keep_of, keeps_attachments, keeps_chapters, keeps_tags, kept_list, kept_one}
+use Rattle.merge_inputs.specs.Select.{keep_of, keeps_attachments, keeps_chapters, keeps_tags, kept_list, kept_one, unmoved}
 use Rattle.merge_inputs.specs.Taken.{IsTaken, first_unusable, taken_from}
 use Rattle.merge_inputs.specs.Title.{title_of_info}
 use Rattle.merge_inputs.specs.declared.taken.TakenTrack.{TakenTrack}
@@ -26,7 +27,8 @@ use Rattle.merge_inputs.specs.declared.input.InputRefusal.{InputRefusal}
 use Rattle.merge_inputs.specs.declared.input.InputRefusal.TheVariants.{Damaged}
 
 -- The Segment of a file, nanoseconds a tick, its title; the octets of every Info, Tracks, Chapters and Tags; how many
--- tracks it has, and those that are taken; what is kept of its attached files, Chapters and Tags; and which of the Tags are.
+-- tracks it has, and those that are taken; what is kept of its attached files, Chapters and Tags; which of the Tags are; and by how
+-- many nanoseconds it is later, where it is appended to another.
 pub record InputRead : Type 0 where
   pub segment : Header
   pub scale : ℕ
@@ -38,6 +40,7 @@ pub record InputRead : Type 0 where
   pub chapters : Option Node
   pub tags : Option Node
   pub keep : TagKeep
+  pub shift : Option ℕ
 
 -- ---- what is read of a content
 
@@ -68,6 +71,7 @@ input_with words webm o r = record {
   chapters = kept_one (keeps_chapters words webm) r.chapters;
   tags = kept_one (keeps_tags words) r.tags;
   keep = keep_of words;
+  shift = unmoved words;
 }
 
 -- what is read of a content, or the first thing that refuses it: its outline, where earlier inputs have held so many octets;
@@ -93,6 +97,7 @@ read_in i = record {
   chapters = i.chapters;
   tags = i.tags;
   keep = i.keep;
+  shift = i.shift;
 }
 
 -- the blocks and damages of an input whose file has this content
@@ -105,6 +110,11 @@ ReadsInput found (Ok i) = found ≡ Ok (read_in i)
 ReadsInput found (Err (input_end.Refused why)) = found ≡ Err why
 ReadsInput found (Err input_end.ReadFault) = ⊤
 ReadsInput found (Err input_end.Memory) = ⊤
+
+-- It was read of this file, and isn't later yet where the words append it.
+pub record IsReadOf (id : FileId) (words : FileWords) (i : Input) : Type 0 where
+  pub file : i.file ≡ id
+  pub unmoved : i.shift ≡ unmoved words
 
 -- The file is live and has the length of its outline, a tick has some length, and the tracks are such as can be taken; the
 -- data of its attached files stand in it, and its Chapters and Tags can be read again.

@@ -1,5 +1,5 @@
 -- Which tracks of a file the words of a merge take (RFC 9559, section 5.1.4, Tracks Element), and what they keep besides.
-use Rattle.std.specs.Prelude.{ℕ, ◌==◌, Bool, true, false, not, ◌&&◌, ◌||◌, if◌then◌else◌, List, [], Option, None}
+use Rattle.std.specs.Prelude.{ℕ, ◌==◌, Bool, true, false, not, ◌&&◌, ◌||◌, if◌then◌else◌, List, [], Option, Some, None}
 use Rattle.std.specs.List.{list_any}
 use Rattle.tag_records.specs.declared.uid_map.TagKeep.{TagKeep}
 use Rattle.word_values.specs.declared.lists.Select.{Select}
@@ -43,6 +43,10 @@ keeps_tags words = words.track_tags || words.global_tags
 
 abbrev pub keep_of : FileWords → TagKeep
 keep_of words = record { tracks = words.track_tags; global = words.global_tags }
+
+-- by how much a file is later, where it is appended: the ends of those in front of it aren't known yet
+abbrev pub unmoved : FileWords → Option ℕ
+unmoved words = if words.appended then Some 0 else None
 
 -- a list that is kept or left out, and an Element
 abbrev pub kept_list : {T : Type 0} → Bool → List T → List T

@@ -33,6 +33,9 @@ pub struct Input {
     pub tags: Option<Tree>,
     /// Which of the Tags are taken.
     pub keep: TagKeep,
+    /// By how many nanoseconds it is later, where it goes on where the input before it ends: 0 as it is read, since that
+    /// end isn't known yet.
+    pub shift: Option<u64>,
 }
 
 /// What refuses an input.

@@ -6,11 +6,11 @@ ghost use Rattle.mkv_io.specs.Sources.{IfTold, IsLive, file_size, live_files};
 ghost use Rattle.file_blocks.specs.File.{file_events};
 ghost use Rattle.merge_words.specs.Sound.{IsSoundFile};
 ghost use Rattle.merge_inputs.specs.End.{is_input_fault};
-ghost use Rattle.merge_inputs.specs.Input.{IsInput, ReadsInput, events_in, input_of, read_in};
+ghost use Rattle.merge_inputs.specs.Input.{IsInput, IsReadOf, ReadsInput, events_in, input_of, read_in};
 
 use crate::input::{Input, InputEnd, InputRefusal};
 use crate::kept::{kept_files, kept_tree};
-use crate::select::{keep_of, keeps_attachments, keeps_chapters, keeps_tags};
+use crate::select::{keep_of, keeps_attachments, keeps_chapters, keeps_tags, unmoved};
 use crate::taken::{first_unusable, taken_of};
 use crate::title::title_of;
 use element_reader::Outline;
@@ -36,7 +36,7 @@ pub fn read_input<R: Reads>(
     requires delays { IsSoundFile words.now }
     ensures exact { IfTold R.Reads src.old file (λ bytes. ReadsInput (input_of words.now webm held bytes) result) }
     ensures input { IfOk result (IsInput (live_files R.Reads src.new)) }
-    ensures file { IfOk result (λ input. input.file ≡ file) }
+    ensures file { IfOk result (IsReadOf file words.now) }
 
     // A tick has as many nanoseconds as in the file's own blocks and damages.
     ensures events { IfOk result (λ input. IfTold R.Reads src.old file (λ bytes.
@@ -69,5 +69,6 @@ pub fn read_input<R: Reads>(
         chapters: kept_tree(keeps_chapters(words, webm), chapters),
         tags: kept_tree(keeps_tags(words), tags),
         keep: keep_of(words),
+        shift: unmoved(words),
     })
 }

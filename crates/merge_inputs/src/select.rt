@@ -1,7 +1,7 @@
 //! Which tracks of a file the words take, and what they keep besides.
 
 ghost use Rattle.std.specs.Prelude.{◌≡◌};
-ghost use Rattle.merge_inputs.specs.Select.{is_taken, keep_of, keeps_attachments, keeps_chapters, keeps_tags, takes};
+ghost use Rattle.merge_inputs.specs.Select.{is_taken, keep_of, keeps_attachments, keeps_chapters, keeps_tags, takes, unmoved};
 
 use crate::track_type::{AUDIO_TRACK, SUBTITLE_TRACK, VIDEO_TRACK};
 use merge_words::FileWords;
@@ -61,4 +61,11 @@ pub fn keep_of(words: &FileWords) -> TagKeep
         tracks: words.track_tags,
         global: words.global_tags,
     }
+}
+
+/// By how many nanoseconds a file is later, where it is appended, before the ends of those in front of it are known.
+pub fn unmoved(words: &FileWords) -> Option<u64>
+    ensures { result ≡ unmoved words.now }
+{
+    if words.appended { Some(0) } else { None }
 }

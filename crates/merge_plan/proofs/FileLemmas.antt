@@ -1,5 +1,5 @@
 -- The attached files of an output, and what inputs give besides their tracks and blocks.
-use Rattle.std.proofs.Common.{◌≡◌, ◌≤◌, ◌<◌, ℕ, zero, suc, ◌+◌, ◌==◌, List, [], ◌∷◌, ◌++◌, length, take, drop, map, flat_map, get_or, Option, Some, None, if◌then◌else◌, refl, sym, ap, ap₂, subst, ◌∙◌, arith, append-nil, append_assoc}
+use Rattle.std.proofs.Common.{◌≡◌, ◌<◌, ℕ, zero, suc, ◌+◌, ◌==◌, List, [], ◌∷◌, ◌++◌, length, drop, map, flat_map, get_or, Option, Some, None, if◌then◌else◌, refl, sym, ap, ap₂, subst, ◌∙◌, arith, append-nil, append_assoc}
 use Rattle.std.specs.List.{All, sum_by}
 use Rattle.std.specs.Option.{option_map}
 use Rattle.std.proofs.lemmas.List.{length-map, map-append}
@@ -27,40 +27,46 @@ use Rattle.lane_blocks.specs.Links.{octets_in}
 use Rattle.merge_inputs.specs.Input.{InputRead, read_in}
 use Rattle.merge_inputs.specs.declared.input.Input.{Input}
 use Rattle.merge_plan.specs.Front.{attached_from, attachments_of, attached_length, files_in, reads_of}
-use Rattle.merge_plan.specs.Plan.{Source}
 use Rattle.merge_plan.specs.Planned.{IsFileOf, IsToldInput, source_in}
-use Rattle.merge_plan.specs.Records as plan
-use Rattle.merge_plan.specs.Records.{Kept, anywhere, chapters_of, kept_anywhere, kept_in, records_from, records_in, tags_of, tracks_taken}
+use Rattle.merge_plan.specs.Records.{anywhere, kept_anywhere, kept_in, records_from, records_in, uids_at, uids_behind}
 use Rattle.merge_plan.specs.Spots.{HasRecords}
 
 -- what inputs give, in their files
-abbrev pub records_at : List ℕ → List Input → List InputRecords
-records_at numbers inputs = records_from numbers (map kept_in inputs)
+abbrev pub records_at : List ℕ → List ℕ → List Input → List InputRecords
+records_at before left inputs = records_from before left (map kept_in inputs)
 
 -- the same, whichever file has the data
-abbrev anywhere_at : List ℕ → List Input → List InputRecords
-anywhere_at numbers inputs = records_from numbers (map kept_anywhere (map read_in inputs))
+abbrev anywhere_at : List ℕ → List ℕ → List Input → List InputRecords
+anywhere_at before left inputs = records_from before left (map kept_anywhere (map read_in inputs))
+
+-- the TrackUIDs of an input's lanes, and those that are left behind it
+abbrev own_uids : List ℕ → List ℕ → Input → List ℕ
+own_uids before left i = uids_at before left (read_in i)
+
+abbrev left_uids : List ℕ → Input → List ℕ
+left_uids left i = uids_behind left (read_in i)
 
 abbrev files_in_all : List Input → List Attachment
 files_in_all inputs = flat_map (λ (i : Input). i.attachments) inputs
 
 -- ---- FileUIDs
 
-files-at : (numbers : List ℕ) (inputs : List Input) → files_of (records_at numbers inputs) ≡ files_in_all inputs
-files-at numbers [] = refl
-files-at numbers (i ∷ is) = ap (λ l. i.attachments ++ l) (files-at (drop (length i.taken) numbers) is)
+files-at : (before left : List ℕ) (inputs : List Input) → files_of (records_at before left inputs) ≡ files_in_all inputs
+files-at before left [] = refl
+files-at before left (i ∷ is) = ap (λ l. i.attachments ++ l) (files-at (own_uids before left i) (left_uids left i) is)
 
 uids-anywhere : (files : List Attachment) → merged.file_uids (map anywhere (map in_file files)) ≡ merged.file_uids files
 uids-anywhere [] = refl
 uids-anywhere (a ∷ files) = ap (λ l. a.uid ∷ l) (uids-anywhere files)
 
-all-uids-anywhere : (numbers : List ℕ) (inputs : List Input) → merged.file_uids (files_of (anywhere_at numbers inputs)) ≡ merged.file_uids (files_of (records_at numbers inputs))
-all-uids-anywhere numbers [] = refl
-all-uids-anywhere numbers (i ∷ is) =
-    let rest : List ℕ = drop (length i.taken) numbers in
-    map-append (λ (a : Attachment). a.uid) (map anywhere (map in_file i.attachments)) (files_of (anywhere_at rest is))
-    ∙ ap₂ (λ a b. a ++ b) (uids-anywhere i.attachments) (all-uids-anywhere rest is)
-    ∙ sym (map-append (λ (a : Attachment). a.uid) i.attachments (files_of (records_at rest is)))
+all-uids-anywhere : (before left : List ℕ) (inputs : List Input) → merged.file_uids (files_of (anywhere_at before left inputs)) ≡ merged.file_uids (files_of (records_at before left inputs))
+all-uids-anywhere before left [] = refl
+all-uids-anywhere before left (i ∷ is) =
+    let own : List ℕ = own_uids before left i in
+    let rest : List ℕ = left_uids left i in
+    map-append (λ (a : Attachment). a.uid) (map anywhere (map in_file i.attachments)) (files_of (anywhere_at own rest is))
+    ∙ ap₂ (λ a b. a ++ b) (uids-anywhere i.attachments) (all-uids-anywhere own rest is)
+    ∙ sym (map-append (λ (a : Attachment). a.uid) i.attachments (files_of (records_at own rest is)))
 
 -- those of what was read
 uids-shown : (files : List Attachment) → map (λ (a : AttachedFile). a.uid) (map in_file files) ≡ merged.file_uids files
@@ -101,9 +107,9 @@ data-all f (i ∷ is) told has =
     ∙ ap₂ (λ a b. a ++ b) (data-one f i (told 0 i (omega arith)) i.attachments (has 0 i (omega arith)).attachments) (data-all f is (λ k d inside. told (suc k) d (omega arith)) (λ k d inside. has (suc k) d (omega arith)))
 
 -- the attached files of an output are those of its sources
-pub attached-all : (f : LiveFiles) (numbers : List ℕ) (inputs : List Input) → All (IsToldInput f) inputs → All HasRecords inputs → map (attached_file f) (merged_attachments (records_at numbers inputs)) ≡ attachments_of (map (source_in f) inputs)
-attached-all f numbers inputs told has =
-    ap (λ files. map (attached_file f) (with_uids (renumbered (merged.file_uids files)) files)) (files-at numbers inputs)
+pub attached-all : (f : LiveFiles) (before left : List ℕ) (inputs : List Input) → All (IsToldInput f) inputs → All HasRecords inputs → map (attached_file f) (merged_attachments (records_at before left inputs)) ≡ attachments_of (map (source_in f) inputs)
+attached-all f before left inputs told has =
+    ap (λ files. map (attached_file f) (with_uids (renumbered (merged.file_uids files)) files)) (files-at before left inputs)
     ∙ with-data f (renumbered (merged.file_uids (files_in_all inputs))) (files_in_all inputs)
     ∙ ap₂ (λ uids files. attached_from (renumbered uids) files) (sym (all-uids-read f inputs)) (data-all f inputs told has)
 
@@ -128,11 +134,11 @@ octets-read (i ∷ is) =
     ∙ ap₂ (λ m n. m + n) (octets-shown i.attachments) (octets-read is)
     ∙ sym (sum_by-cons (λ (j : InputRead). sum_by (λ (a : AttachedFile). a.len) j.attachments) (read_in i) (map read_in is))
 
-pub octets-all : (numbers : List ℕ) (inputs : List Input) → sum_by (λ (a : Attachment). a.len) (merged_attachments (records_at numbers inputs)) ≡ attached_length (map read_in inputs)
-octets-all numbers inputs =
+pub octets-all : (before left : List ℕ) (inputs : List Input) → sum_by (λ (a : Attachment). a.len) (merged_attachments (records_at before left inputs)) ≡ attached_length (map read_in inputs)
+octets-all before left inputs =
     let files : List Attachment = files_in_all inputs in
     let uids : List ℕ = merged.file_uids files in
-    ap (λ list. sum_by (λ (a : Attachment). a.len) (with_uids (renumbered (merged.file_uids list)) list)) (files-at numbers inputs)
+    ap (λ list. sum_by (λ (a : Attachment). a.len) (with_uids (renumbered (merged.file_uids list)) list)) (files-at before left inputs)
     ∙ octets-uids (renumbered uids) files (length-from uids [] uids ∙ length-map files (λ (a : Attachment). a.uid))
     ∙ octets-read inputs
 
@@ -162,25 +168,25 @@ files-each inputs has = flat-each (λ (i : Input). i.attachments) (IsFileOf inpu
     of k i inside is holds = λ j d below. record { number = k; input = i; inside = inside; is = is; same = (holds.attachments j d below).same; within = (holds.attachments j d below).inside }
 
 -- each stands in the file of one of them
-pub files-are : (numbers : List ℕ) (inputs : List Input) → All HasRecords inputs → All (IsFileOf inputs) (merged_attachments (records_at numbers inputs))
-files-are numbers inputs has =
+pub files-are : (before left : List ℕ) (inputs : List Input) → All HasRecords inputs → All (IsFileOf inputs) (merged_attachments (records_at before left inputs))
+files-are before left inputs has =
     let files : List Attachment = files_in_all inputs in
-    subst (λ (l : List Attachment). All (IsFileOf inputs) (with_uids (renumbered (merged.file_uids l)) l)) (sym (files-at numbers inputs))
+    subst (λ (l : List Attachment). All (IsFileOf inputs) (with_uids (renumbered (merged.file_uids l)) l)) (sym (files-at before left inputs))
     (each-uid (IsFileOf inputs) (λ uid a is. record { number = is.number; input = is.input; inside = is.inside; is = is.is; same = is.same; within = is.within }) (renumbered (merged.file_uids files)) files (files-each inputs has))
 
 -- ---- Chapters
 
-chapters-same : (numbers : List ℕ) (inputs : List Input) → flat_map chapters_in (records_at numbers inputs) ≡ flat_map chapters_in (anywhere_at numbers inputs)
-chapters-same numbers [] = refl
-chapters-same numbers (i ∷ is) = ap (λ l. chapters_in (records_in (take (length i.taken) numbers) (kept_in i)) ++ l) (chapters-same (drop (length i.taken) numbers) is)
+chapters-same : (before left : List ℕ) (inputs : List Input) → flat_map chapters_in (records_at before left inputs) ≡ flat_map chapters_in (anywhere_at before left inputs)
+chapters-same before left [] = refl
+chapters-same before left (i ∷ is) = ap (λ l. chapters_in (records_in (own_uids before left i) (kept_in i)) ++ l) (chapters-same (own_uids before left i) (left_uids left i) is)
 
 -- the identifiers, and what becomes of editions one behind the other
 abbrev joined : List Node → Node
 joined editions = master CHAPTERS 0 (nodes_of editions)
 
-pub chapters-anywhere : (numbers : List ℕ) (inputs : List Input) → merged_chapters (records_at numbers inputs) ≡ merged_chapters (anywhere_at numbers inputs)
-chapters-anywhere numbers inputs =
-    ap (λ es. with_some (with_identifiers (renumbered (edition_uids (joined es))) (renumbered (chapter_uids (joined es))) (joined es))) (chapters-same numbers inputs)
+pub chapters-anywhere : (before left : List ℕ) (inputs : List Input) → merged_chapters (records_at before left inputs) ≡ merged_chapters (anywhere_at before left inputs)
+chapters-anywhere before left inputs =
+    ap (λ es. with_some (with_identifiers (renumbered (edition_uids (joined es))) (renumbered (chapter_uids (joined es))) (joined es))) (chapters-same before left inputs)
 
 -- ---- Tags
 
@@ -198,41 +204,41 @@ tags_with files i others editions chapters attachments =
     children_in (option_map (written_tags i.keep (numbers_with files i editions chapters attachments)) i.tags)
     ++ tags_from (behind (all_uids (uids_in edition_uids i.chapters) (uids_in chapter_uids i.chapters) files) (all_uids editions chapters attachments)) others
 
-tags-same : (numbers : List ℕ) (inputs : List Input) (editions chapters attachments : List ℕ) → tags_from (all_uids editions chapters attachments) (records_at numbers inputs) ≡ tags_from (all_uids editions chapters attachments) (anywhere_at numbers inputs)
-tags-same numbers [] editions chapters attachments = refl
-tags-same numbers (i ∷ is) editions chapters attachments =
-    let own : InputRecords = records_in (take (length i.taken) numbers) (kept_in i) in
-    let rest : List ℕ = drop (length i.taken) numbers in
+tags-same : (before left : List ℕ) (inputs : List Input) (editions chapters attachments : List ℕ) → tags_from (all_uids editions chapters attachments) (records_at before left inputs) ≡ tags_from (all_uids editions chapters attachments) (anywhere_at before left inputs)
+tags-same before left [] editions chapters attachments = refl
+tags-same before left (i ∷ is) editions chapters attachments =
+    let uids : List ℕ = own_uids before left i in
+    let own : InputRecords = records_in uids (kept_in i) in
+    let rest : List ℕ = left_uids left i in
     ap (λ l. tags_in own (all_uids editions chapters attachments) ++ l)
-    (tags-same rest is (drop (length (uids_in edition_uids i.chapters)) editions) (drop (length (uids_in chapter_uids i.chapters)) chapters) (drop (length (merged.file_uids i.attachments)) attachments))
-    ∙ ap (λ files. tags_with files own (anywhere_at rest is) editions chapters attachments) (sym (uids-anywhere i.attachments))
+    (tags-same uids rest is (drop (length (uids_in edition_uids i.chapters)) editions) (drop (length (uids_in chapter_uids i.chapters)) chapters) (drop (length (merged.file_uids i.attachments)) attachments))
+    ∙ ap (λ files. tags_with files own (anywhere_at uids rest is) editions chapters attachments) (sym (uids-anywhere i.attachments))
 
-numbers-same : (numbers : List ℕ) (inputs : List Input) → numbers_of (records_at numbers inputs) ≡ numbers_of (anywhere_at numbers inputs)
-numbers-same numbers inputs =
-    ap₂ (λ es files. all_uids (renumbered (edition_uids (joined es))) (renumbered (chapter_uids (joined es))) (renumbered files)) (chapters-same numbers inputs) (sym (all-uids-anywhere numbers inputs))
+numbers-same : (before left : List ℕ) (inputs : List Input) → numbers_of (records_at before left inputs) ≡ numbers_of (anywhere_at before left inputs)
+numbers-same before left inputs =
+    ap₂ (λ es files. all_uids (renumbered (edition_uids (joined es))) (renumbered (chapter_uids (joined es))) (renumbered files)) (chapters-same before left inputs) (sym (all-uids-anywhere before left inputs))
 
-pub tags-anywhere : (numbers : List ℕ) (inputs : List Input) → merged_tags (records_at numbers inputs) ≡ merged_tags (anywhere_at numbers inputs)
-tags-anywhere numbers inputs =
+pub tags-anywhere : (before left : List ℕ) (inputs : List Input) → merged_tags (records_at before left inputs) ≡ merged_tags (anywhere_at before left inputs)
+tags-anywhere before left inputs =
     ap (λ list. with_some (master TAGS 0 (nodes_of list)))
-    (tags-same numbers inputs (edition_numbers (records_at numbers inputs)) (chapter_numbers (records_at numbers inputs)) (merged.file_numbers (records_at numbers inputs)))
-    ∙ ap (λ given. with_some (joined_tags given (anywhere_at numbers inputs))) (numbers-same numbers inputs)
+    (tags-same before left inputs (edition_numbers (records_at before left inputs)) (chapter_numbers (records_at before left inputs)) (merged.file_numbers (records_at before left inputs)))
+    ∙ ap (λ given. with_some (joined_tags given (anywhere_at before left inputs))) (numbers-same before left inputs)
 
 -- ---- one input more
 
-module _ (left own after : List ℕ) (count : ℕ) (i : Input) (as_many : count ≡ length i.taken) (first : own ≡ take count left) (behind_it : after ≡ drop count left) where
+module _ (before left own after : List ℕ) (i : Input) (here : own ≡ uids_at before left (read_in i)) (behind_it : after ≡ uids_behind left (read_in i)) where
   pub records-next : (inputs rest : List Input) (records new all : List InputRecords) (one : InputRecords) → inputs ≡ i ∷ rest → one ≡ records_in own (kept_in i) → new ≡ records ++ one ∷ []
-      → records ++ records_at left inputs ≡ all → new ++ records_at after rest ≡ all
+      → records ++ records_at before left inputs ≡ all → new ++ records_at own after rest ≡ all
   records-next inputs rest records new all one next made put so_far =
-      let own_is : own ≡ take (length i.taken) left = first ∙ ap (λ n. take n left) as_many in
-      let after_is : after ≡ drop (length i.taken) left = behind_it ∙ ap (λ n. drop n left) as_many in
-      ap₂ (λ l n. l ++ records_at n rest) put after_is
-      ∙ append_assoc records (one ∷ []) (records_at (drop (length i.taken) left) rest)
-      ∙ ap (λ r. records ++ r ∷ records_at (drop (length i.taken) left) rest) (made ∙ ap (λ n. records_in n (kept_in i)) own_is)
-      ∙ ap (λ is. records ++ records_at left is) (sym next)
+      ap₂ (λ l n. l ++ records_at own n rest) put behind_it
+      ∙ ap (λ u. (records ++ one ∷ []) ++ records_at u (left_uids left i) rest) here
+      ∙ append_assoc records (one ∷ []) (records_at (own_uids before left i) (left_uids left i) rest)
+      ∙ ap (λ r. records ++ r ∷ records_at (own_uids before left i) (left_uids left i) rest) (made ∙ ap (λ n. records_in n (kept_in i)) here)
+      ∙ ap (λ is. records ++ records_at before left is) (sym next)
       ∙ so_far
 
-pub records-none : (left : List ℕ) (records all : List InputRecords) (inputs : List Input) → inputs ≡ [] → records ++ records_at left inputs ≡ all → records ≡ all
-records-none left records all inputs none so_far = sym (append-nil records) ∙ ap (λ is. records ++ records_at left is) (sym none) ∙ so_far
+pub records-none : (before left : List ℕ) (records all : List InputRecords) (inputs : List Input) → inputs ≡ [] → records ++ records_at before left inputs ≡ all → records ≡ all
+records-none before left records all inputs none so_far = sym (append-nil records) ∙ ap (λ is. records ++ records_at before left is) (sym none) ∙ so_far
 
 -- ---- what was read
 

@@ -1,58 +1,164 @@
 -- Lanes of tracks that are taken.
-use Rattle.std.proofs.Common.{◌≡◌, ◌≤◌, ◌<◌, ℕ, suc, ◌+◌, List, [], ◌∷◌, ◌++◌, length, take, map, get_or, sym, ap, subst, ◌∙◌, arith, add-zero, append-nil, append_assoc}
-use Rattle.std.specs.List.{All, AllZip}
-use Rattle.std.proofs.lemmas.List.{map_push, take_all}
-use Rattle.std.proofs.Math.ListN.{length-take}
+use Rattle.std.proofs.Common.{◌≡◌, ◌≤◌, ◌<◌, ℕ, zero, suc, ◌+◌, Bool, true, false, if◌then◌else◌, List, [], ◌∷◌, ◌++◌, length, take, drop, map, get_or, Option, Some, None, sym, ap, ap₂, subst, ◌∙◌, refl, arith, append-nil, append_assoc}
+use Rattle.std.specs.List.{All, AllZip, enumerate_from, slice_get, take_while}
+use Rattle.std.specs.Option.{option_map, option_to_list}
+use Rattle.std.proofs.lemmas.Grind.{flat_map-append}
+use Rattle.std.proofs.lemmas.List.{drop_all, get_or-map, length-map, map-append, map_push}
+use Rattle.std.proofs.lemmas.List.Elements.{All-drop, All-take}
+use Rattle.std.proofs.Math.ListN.{length-drop, length-take}
+use Rattle.lane_blocks.specs.declared.link.Link.{Link}
+use Rattle.lane_blocks.specs.declared.link.Link.TheVariants.{Track}
+use Rattle.lane_blocks.specs.declared.link.TrackLink.{TrackLink}
+use Rattle.merge_inputs.specs.Input.{read_in}
 use Rattle.merge_inputs.specs.Taken.{IsTaken}
 use Rattle.merge_inputs.specs.declared.input.Input.{Input}
 use Rattle.merge_inputs.specs.declared.taken.TakenTrack.{TakenTrack}
 use Rattle.remux_plan.specs.declared.plan.PlannedLane.{PlannedLane}
-use Rattle.merge_plan.specs.Spots.{Spot, HasTaken, IsLaneOf, spot, spots_in, spots_from}
-use Rattle.merge_plan.proofs.ListLemmas.{take-next}
+use Rattle.merge_plan.specs.Chains.{at_place, columns_from}
+use Rattle.merge_plan.specs.Plan.{rule_of}
+use Rattle.merge_plan.specs.Records.{tracks_begun}
+use Rattle.merge_plan.specs.Spots.{GoesOn, HasTaken, IsLaneOf, IsLinkAt, IsLinkOf, Spot, goes_on, spot, spots_at, spots_behind, spots_from, spots_in}
+use Rattle.merge_plan.proofs.ChainLemmas.{enumerate-push, while-enumerate}
+use Rattle.merge_plan.proofs.RecordLemmas.{begun-taken}
+use Rattle.merge_plan.proofs.ListLemmas.{drop-next, take-next}
 
-zip-push : {A B : Type 0} (R : A → B → Type 0) (xs : List A) (ys : List B) (x : A) (y : B) → AllZip R xs ys → R x y → AllZip R (xs ++ x ∷ []) (ys ++ y ∷ [])
-zip-push R [] [] x y all one = (one, tt)
-zip-push R [] (z ∷ ys) x y all one = absurd all
-zip-push R (z ∷ xs) [] x y all one = absurd all
-zip-push R (w ∷ xs) (z ∷ ys) x y all one = (all.0, zip-push R xs ys x y all.1 one)
+zip-append : {A B : Type 0} (R : A → B → Type 0) (xs : List A) (ys : List B) (ws : List A) (zs : List B) → AllZip R xs ys → AllZip R ws zs → AllZip R (xs ++ ws) (ys ++ zs)
+zip-append R [] [] ws zs all more = more
+zip-append R [] (y ∷ ys) ws zs all more = absurd all
+zip-append R (x ∷ xs) [] ws zs all more = absurd all
+zip-append R (x ∷ xs) (y ∷ ys) ws zs all more = (all.0, zip-append R xs ys ws zs all.1 more)
 
--- ---- one lane more
+-- ---- one lane
 
-spots-push : (n : ℕ) (is : List Input) (i : Input) → spots_from n (is ++ i ∷ []) ≡ spots_from n is ++ spots_in (n + length is) i
-spots-push n [] i = append-nil (spots_in n i) ∙ ap (λ m. spots_in m i) (sym (add-zero n))
-spots-push n (j ∷ is) i =
-    let same : n + 1 + length is ≡ n + suc (length is) = omega arith in
-    ap (λ l. spots_in n j ++ l) (spots-push (n + 1) is i ∙ ap (λ m. spots_from (n + 1) is ++ spots_in m i) same) ∙ sym (append_assoc (spots_in n j) (spots_from (n + 1) is) (spots_in (n + suc (length is)) i))
+-- a lane of one track
+pub lane-begun : (s : Spot) (link : TrackLink) (links : List Link) (numbers : List ℕ) (lane : PlannedLane) → IsLinkOf s.input s.track link → links ≡ Track link ∷ [] → numbers ≡ s.number ∷ []
+    → lane.spec.links ≡ links → lane.inputs ≡ numbers → lane.cues ≡ rule_of s.track → IsLaneOf (s ∷ []) lane
+lane-begun s link links numbers lane is one number links_are inputs_are rule =
+    record {
+      links = subst (AllZip IsLinkAt (s ∷ [])) (sym (links_are ∙ one)) (is, tt);
+      inputs = inputs_are ∙ number;
+      rule = rule;
+    }
 
-module _ (inputs : List Input) (number : ℕ) (i : Input) (lanes : List PlannedLane) where
-  abbrev before : List Spot
-  before = spots_from 0 (take number inputs)
+-- it goes on
+pub lane-more : (first : Spot) (spots more : List Spot) (old new : PlannedLane) → IsLaneOf (first ∷ spots) old → GoesOn more old new → IsLaneOf (first ∷ (spots ++ more)) new
+lane-more first spots more old new is goes =
+    record {
+      links = subst (AllZip IsLinkAt (first ∷ (spots ++ more))) (sym goes.links) (zip-append IsLinkAt (first ∷ spots) old.spec.links more goes.more is.links goes.are);
+      inputs = goes.inputs ∙ ap (λ l. l ++ map (λ (s : Spot). s.number) more) is.inputs ∙ sym (map-append (λ (s : Spot). s.number) (first ∷ spots) more);
+      rule = goes.rule ∙ is.rule;
+    }
 
-  pub lane-next : (taken : List TakenTrack) (k : ℕ) (t : TakenTrack) (lane : PlannedLane) (new : List PlannedLane) → k < length taken → t ≡ get_or taken k t → AllZip IsLaneOf (before ++ map (spot number i) (take k taken)) lanes
-      → IsLaneOf (spot number i t) lane → new ≡ lanes ++ lane ∷ [] → AllZip IsLaneOf (before ++ map (spot number i) (take (k + 1) taken)) new
-  lane-next taken k t lane new inside is so_far one put =
-      let grown : before ++ map (spot number i) (take (k + 1) taken) ≡ (before ++ map (spot number i) (take k taken)) ++ spot number i t ∷ [] =
-      ap (λ l. before ++ l) (ap (map (spot number i)) (take-next taken k t inside is) ∙ map_push (spot number i) (take k taken) t) ∙ sym (append_assoc before (map (spot number i) (take k taken)) (spot number i t ∷ [])) in
-      let P : List Spot → Type 0 = λ ss. AllZip IsLaneOf ss new in
-      let Q : List PlannedLane → Type 0 = λ ls. AllZip IsLaneOf ((before ++ map (spot number i) (take k taken)) ++ spot number i t ∷ []) ls in
-      subst P (sym grown) (subst Q (sym put) (zip-push IsLaneOf (before ++ map (spot number i) (take k taken)) lanes (spot number i t) lane so_far one))
+-- what an input has at a place
+pub spots-one : (place number : ℕ) (i : Input) (o : Option TakenTrack) → slice_get i.taken place ≡ o → spots_at place (number, i) ≡ option_to_list (option_map (spot number i) o)
+spots-one place number i o is = ap option_to_list (of place i.taken ∙ ap (option_map (spot number i)) is)
+  where
+    of : (place : ℕ) (ts : List TakenTrack) → slice_get (map (spot number i) ts) place ≡ option_map (spot number i) (slice_get ts place)
+    of place [] = refl
+    of zero (t ∷ ts) = refl
+    of (suc place) (t ∷ ts) = of place ts
 
-  pub lanes-next : (taken : List TakenTrack) (k : ℕ) → number < length inputs → i ≡ get_or inputs number i → length taken ≤ k → taken ≡ i.taken → AllZip IsLaneOf (before ++ map (spot number i) (take k taken)) lanes
-      → AllZip IsLaneOf (spots_from 0 (take (number + 1) inputs)) lanes
-  lanes-next taken k inside is past are so_far =
-      let as_many : 0 + length (take number inputs) ≡ number = simp length-take (omega arith) in
-      let grown : spots_from 0 (take (number + 1) inputs) ≡ before ++ map (spot number i) (take k taken) =
-      ap (spots_from 0) (take-next inputs number i inside is) ∙ spots-push 0 (take number inputs) i ∙ ap (λ m. before ++ spots_in m i) as_many
-      ∙ ap (λ ts. before ++ map (spot number i) ts) (sym (take_all k taken past ∙ are)) in
-      let P : List Spot → Type 0 = λ ss. AllZip IsLaneOf ss lanes in
-      subst P (sym grown) so_far
+-- an input that has nothing there
+pub stays : (place number : ℕ) (i : Input) (old new : PlannedLane) → slice_get i.taken place ≡ None → new ≡ old → GoesOn (spots_at place (number, i)) old new
+stays place number i old new none same =
+    subst (λ (spots : List Spot). GoesOn spots old new) (sym (spots-one place number i None none))
+    (record {
+      more = [];
+      links = ap (λ (l : PlannedLane). l.spec.links) same ∙ sym (append-nil old.spec.links);
+      are = tt;
+      inputs = ap (λ (l : PlannedLane). l.inputs) same ∙ sym (append-nil old.inputs);
+      rule = ap (λ (l : PlannedLane). l.cues) same;
+    })
 
-pub lanes-all : (inputs : List Input) (lanes : List PlannedLane) (k : ℕ) → length inputs ≤ k → AllZip IsLaneOf (spots_from 0 (take k inputs)) lanes → AllZip IsLaneOf (spots_from 0 inputs) lanes
-lanes-all inputs lanes k past so_far = let P : List Input → Type 0 = λ is. AllZip IsLaneOf (spots_from 0 is) lanes in subst P (take_all k inputs past) so_far
+-- and one that has a track
+pub goes : (place number : ℕ) (i : Input) (t : TakenTrack) (link : TrackLink) (old new : PlannedLane) → slice_get i.taken place ≡ Some t → IsLinkOf i t link
+    → new.spec.links ≡ old.spec.links ++ Track link ∷ [] → new.inputs ≡ old.inputs ++ number ∷ [] → new.cues ≡ old.cues → GoesOn (spots_at place (number, i)) old new
+goes place number i t link old new some is links inputs rule =
+    subst (λ (spots : List Spot). GoesOn spots old new) (sym (spots-one place number i (Some t) some))
+    (record { more = Track link ∷ []; links = links; are = (is, tt); inputs = inputs; rule = rule })
 
--- what an input's tracks are
-pub item-taken : (inputs : List Input) (number : ℕ) (i : Input) (taken : List TakenTrack) (k : ℕ) (t : TakenTrack) → All HasTaken inputs → number < length inputs → i ≡ get_or inputs number i → taken ≡ i.taken → k < length taken → t ≡ get_or taken k t → IsTaken t
+-- what goes on in it, of one input more
+pub behind-more : (place number : ℕ) (inputs : List Input) (k : ℕ) (i : Input) → k < length inputs → i ≡ get_or inputs k i
+    → spots_behind place number (take (k + 1) inputs) ≡ spots_behind place number (take k inputs) ++ spots_at place (number + k, i)
+behind-more place number inputs k i inside is =
+    let as_many : number + length (take k inputs) ≡ number + k = simp length-take (omega arith) in
+    ap (λ l. at_place place (map spots_in l))
+    (ap (enumerate_from number) (take-next inputs k i inside is) ∙ enumerate-push number (take k inputs) i ∙ ap (λ m. enumerate_from number (take k inputs) ++ (m, i) ∷ []) as_many)
+    ∙ ap (at_place place) (map_push spots_in (enumerate_from number (take k inputs)) (number + k, i))
+    ∙ flat_map-append (λ (row : List Spot). option_to_list (slice_get row place)) (map spots_in (enumerate_from number (take k inputs))) (spots_in (number + k, i) ∷ [])
+    ∙ ap (λ l. spots_behind place number (take k inputs) ++ l) (append-nil (spots_at place (number + k, i)))
+
+-- ---- lanes one behind the other
+
+-- Lanes with which those of these spots, behind them, are all.
+abbrev pub GoOn : List (List Spot) → List PlannedLane → List (List Spot) → Type 0
+GoOn left lanes all = (rest : List PlannedLane) → AllZip IsLaneOf left rest → AllZip IsLaneOf all (lanes ++ rest)
+
+pub lane-next : (spots : List Spot) (left all : List (List Spot)) (lanes new : List PlannedLane) (lane : PlannedLane) → GoOn (spots ∷ left) lanes all → IsLaneOf spots lane → new ≡ lanes ++ lane ∷ [] → GoOn left new all
+lane-next spots left all lanes new lane so_far one put = λ rest are.
+    subst (λ (l : List PlannedLane). AllZip IsLaneOf all l) (sym (ap (λ l. l ++ rest) put ∙ append_assoc lanes (lane ∷ []) rest)) (so_far (lane ∷ rest) (one, are))
+
+pub lanes-done : (all : List (List Spot)) (lanes : List PlannedLane) → GoOn [] lanes all → AllZip IsLaneOf all lanes
+lanes-done all lanes so_far = subst (AllZip IsLaneOf all) (append-nil lanes) (so_far [] tt)
+
+pub left-same : (left other all : List (List Spot)) (lanes : List PlannedLane) → left ≡ other → GoOn left lanes all → GoOn other lanes all
+left-same left other all lanes same so_far = subst (λ (l : List (List Spot)). GoOn l lanes all) same so_far
+
+-- ---- the lanes of an input
+
+-- those that it begins from a place on, and those of the inputs behind it
+abbrev pub left_at : List Input → ℕ → Input → List TakenTrack → List Input → ℕ → List (List Spot)
+left_at inputs number i taken behind place =
+    columns_from place (drop place (map (spot number i) taken)) (map spots_in (enumerate_from (number + 1) behind)) ++ spots_from (number + 1) (drop (number + 1) inputs)
+
+-- the first of them
+pub place-next : (inputs : List Input) (number : ℕ) (i : Input) (taken : List TakenTrack) (behind : List Input) (place : ℕ) (t : TakenTrack) → place < length taken → t ≡ get_or taken place t
+    → left_at inputs number i taken behind place ≡ (spot number i t ∷ spots_behind place (number + 1) behind) ∷ left_at inputs number i taken behind (place + 1)
+place-next inputs number i taken behind place t inside is =
+    let long : length (map (spot number i) taken) ≡ length taken = length-map taken (spot number i) in
+    let at : spot number i t ≡ get_or (map (spot number i) taken) place (spot number i t) = ap (spot number i) is ∙ sym (get_or-map (spot number i) taken place t (spot number i t) inside) in
+    ap (λ row. columns_from place row (map spots_in (enumerate_from (number + 1) behind)) ++ spots_from (number + 1) (drop (number + 1) inputs))
+    (drop-next (map (spot number i) taken) place (spot number i t) (omega arith) at)
+
+-- at its end
+pub place-past : (inputs : List Input) (number : ℕ) (i : Input) (taken : List TakenTrack) (behind : List Input) (place : ℕ) → length taken ≤ place
+    → left_at inputs number i taken behind place ≡ spots_from (number + 1) (drop (number + 1) inputs)
+place-past inputs number i taken behind place past =
+    let long : length (map (spot number i) taken) ≡ length taken = length-map taken (spot number i) in
+    ap (λ row. columns_from place row (map spots_in (enumerate_from (number + 1) behind)) ++ spots_from (number + 1) (drop (number + 1) inputs))
+    (drop_all place (map (spot number i) taken) (omega arith))
+
+-- an input begins lanes, of which it gives to the first
+pub input-next : (inputs : List Input) (number : ℕ) (i : Input) (taken : List TakenTrack) (behind : List Input) → number < length inputs → i ≡ get_or inputs number i → taken ≡ tracks_begun (read_in i)
+    → behind ≡ take_while goes_on (drop (number + 1) inputs) → spots_from number (drop number inputs) ≡ left_at inputs number i taken behind 0
+input-next inputs number i taken behind inside is begun are =
+    ap (spots_from number) (drop-next inputs number i inside is)
+    ∙ ap (λ l. l ++ spots_from (number + 1) rest) (of (goes_on i))
+    ∙ ap₂ (λ ts bs. columns_from 0 (map (spot number i) ts) (map spots_in (enumerate_from (number + 1) bs)) ++ spots_from (number + 1) rest) (sym begun) (sym are)
+  where
+    rest : List Input
+    rest = drop (number + 1) inputs
+
+    of : (b : Bool) → (if b then [] else columns_from 0 (spots_in (number, i)) (map spots_in (take_while (λ (each : ℕ × Input). goes_on each.1) (enumerate_from (number + 1) rest))))
+        ≡ columns_from 0 (map (spot number i) (if b then [] else i.taken)) (map spots_in (enumerate_from (number + 1) (take_while goes_on rest)))
+    of true = refl
+    of false = ap (λ l. columns_from 0 (spots_in (number, i)) (map spots_in l)) (while-enumerate goes_on (number + 1) rest)
+
+-- ---- what an input's tracks are
+
+pub item-taken : (inputs : List Input) (number : ℕ) (i : Input) (taken : List TakenTrack) (k : ℕ) (t : TakenTrack) → All HasTaken inputs → number < length inputs → i ≡ get_or inputs number i → taken ≡ tracks_begun (read_in i) → k < length taken → t ≡ get_or taken k t → IsTaken t
 item-taken inputs number i taken k t all inside is are within at =
     let one : HasTaken i = subst HasTaken (sym is) (all number i inside) in
-    let each : All IsTaken taken = subst (All IsTaken) (sym are) one in
+    let each : All IsTaken taken = subst (All IsTaken) (sym are) (begun-taken i one) in
     subst IsTaken (sym at) (each k t within)
+
+-- those of the inputs behind it
+pub behind-taken : (inputs behind : List Input) (n : ℕ) → All HasTaken inputs → behind ≡ take_while goes_on (drop n inputs) → All HasTaken behind
+behind-taken inputs behind n all are = subst (All HasTaken) (sym are) (All-take HasTaken _ (drop n inputs) (All-drop HasTaken n inputs all))
+
+pub behind-few : (inputs behind : List Input) (n : ℕ) → behind ≡ take_while goes_on (drop n inputs) → n ≤ length inputs → n + length behind ≤ length inputs
+behind-few inputs behind n are inside =
+    let few : length (take_while goes_on (drop n inputs)) ≤ length (drop n inputs) = simp length-take (omega arith) in
+    let left : length (drop n inputs) + n ≡ length inputs = simp length-drop (omega arith) in
+    let many : length behind ≡ length (take_while goes_on (drop n inputs)) = ap length are in
+    omega arith

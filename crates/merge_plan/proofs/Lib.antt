@@ -1,3 +1,5 @@
+pub mod AppendLemmas
+pub mod ChainLemmas
 pub mod ListLemmas
 pub mod RecordLemmas
 pub mod LaneLemmas

@@ -1,9 +1,11 @@
 -- What a plan's lanes are.
-use Rattle.std.proofs.Common.{◌≡◌, ◌≤◌, ◌<◌, ℕ, zero, suc, ◌+◌, List, [], ◌∷◌, ◌++◌, length, map, get_or, Option, Some, None, nat_abs, refl, sym, ap, ap₂, subst, ◌∙◌, arith}
-use Rattle.std.specs.List.{All, AllZip}
+use Rattle.std.proofs.Common.{◌≡◌, ◌≤◌, ◌<◌, ℕ, zero, suc, ◌+◌, Bool, true, false, if◌then◌else◌, List, [], ◌∷◌, ◌++◌, length, map, flat_map, get_or, Option, Some, None, nat_abs, refl, sym, ap, ap₂, subst, ◌∙◌, arith}
+use Rattle.std.specs.List.{All, AllZip, enumerate_from, sum_by}
 use Rattle.std.specs.Option.{option_or}
 use Rattle.std.proofs.lemmas.List.{map-append, length-map}
-use Rattle.std.proofs.lemmas.List.Elements.{All-append, All-map}
+use Rattle.std.proofs.lemmas.List.Elements.{All-map}
+use Rattle.std.proofs.lemmas.List.Sums.{sum_by-cons}
+use Rattle.std.proofs.lemmas.List.FromFn.{length-enumerate_from}
 use Rattle.mkv_values.specs.declared.outside.FileId.{FileId}
 use Rattle.mkv_io.specs.LiveFiles.{LiveFiles}
 use Rattle.mkv_io.specs.Names.{AreOthers}
@@ -13,8 +15,9 @@ use Rattle.block_format.specs.Events.{events_of}
 use Rattle.merge_model.specs.Links.{Given, Placing, track_given}
 use Rattle.lane_blocks.specs.Links.{octets_in, placing_of, given_in, IsOpenLink, IsToldLink, IsSmallLink}
 use Rattle.lane_blocks.specs.declared.link.Link.{Link}
-use Rattle.lane_blocks.specs.declared.link.Link.TheVariants.{Track}
+use Rattle.lane_blocks.specs.declared.link.Link.TheVariants.{Track, Entries}
 use Rattle.lane_blocks.specs.declared.link.TrackLink.{TrackLink}
+use Rattle.lanes.specs.Walks.{file_length, files_length}
 use Rattle.time_merge.specs.Laws.{IsApartLink}
 use Rattle.remux_plan.specs.Plan.{links_of, rules_of}
 use Rattle.remux_plan.specs.declared.plan.PlannedLane.{PlannedLane}
@@ -24,13 +27,14 @@ use Rattle.merge_inputs.specs.Input.{InputRead, IsInput, events_in, read_in}
 use Rattle.merge_inputs.specs.Taken.{IsTaken}
 use Rattle.merge_inputs.specs.declared.input.Input.{Input}
 use Rattle.merge_inputs.specs.declared.taken.TakenTrack.{TakenTrack}
-use Rattle.merge_plan.specs.Plan.{given_for, inputs_given, lanes_given, placing_for, rule_of, rules_given}
-use Rattle.merge_plan.specs.Planned.{source_in}
-use Rattle.merge_plan.specs.Records.{tracks_taken}
+use Rattle.merge_plan.specs.Chains.{lanes_by}
+use Rattle.merge_plan.specs.Plan.{Source, given_for, given_of, inputs_given, lanes_given, later_by, numbers_of, placing_for, rule_of, rules_given}
+use Rattle.merge_plan.specs.Planned.{IsLinked, source_in}
+use Rattle.merge_plan.specs.Records.{is_appended, tracks_begun, tracks_taken}
 use Rattle.merge_plan.specs.Refusal.{lanes_refusal, plan_refusal, records_refusal}
 use Rattle.merge_plan.specs.declared.refusal.PlanRefusal.{PlanRefusal}
-use Rattle.merge_plan.specs.Spots.{Spot, HasTaken, IsLaneOf, IsLinkOf, spot, spots_in, spots_from}
-use Rattle.merge_plan.proofs.RecordLemmas.{taken_in, taken-read}
+use Rattle.merge_plan.specs.Spots.{Spot, HasPlace, HasTaken, IsLaneOf, IsLinkAt, IsLinkOf, goes_on, rule_at, spot, spots_in, spots_from}
+use Rattle.merge_plan.proofs.ChainLemmas.{begins, enumerate-all, enumerate-map, enumerate-sum, lanes-all, lanes-few, lanes-first, lanes-light, lanes-map, unnumbered}
 use Rattle.merge_plan.proofs.RefusalLemmas.{unrefused-few}
 
 -- ---- lists of pairs that stand in a relation
@@ -62,54 +66,67 @@ zip-all R Q P so (x ∷ xs) (y ∷ ys) each all = all-cons P y ys (so x y (each 
 
 -- ---- the tracks that are taken, each with its input
 
-spots-tracks : (n : ℕ) (inputs : List Input) → map (λ (s : Spot). s.track) (spots_from n inputs) ≡ taken_in inputs
-spots-tracks n [] = refl
-spots-tracks n (i ∷ is) = map-append (λ (s : Spot). s.track) (spots_in n i) (spots_from (n + 1) is) ∙ ap₂ (λ a b. a ++ b) (of i.taken) (spots-tracks (n + 1) is)
-  where
-    of : (ts : List TakenTrack) → map (λ (s : Spot). s.track) (map (spot n i) ts) ≡ ts
-    of [] = refl
-    of (t ∷ ts) = ap (λ l. t ∷ l) (of ts)
+-- an input that isn't appended, by its number
+abbrev own_place : ℕ × Input → Bool
+own_place each = goes_on each.1
 
-spots-rules : (n : ℕ) (inputs : List Input) → map (λ (s : Spot). rule_of s.track) (spots_from n inputs) ≡ map rule_of (taken_in inputs)
-spots-rules n inputs = of (spots_from n inputs) ∙ ap (map rule_of) (spots-tracks n inputs)
+spots-rules : (n : ℕ) (inputs : List Input) → map rule_at (spots_from n inputs) ≡ map rule_of (tracks_taken (map read_in inputs))
+spots-rules n inputs =
+    lanes-first own_place spots_in rule_at (λ (s : Spot). rule_of s.track) (λ s spots. refl) (enumerate_from n inputs)
+    ∙ of n inputs
   where
-    of : (ss : List Spot) → map (λ (s : Spot). rule_of s.track) ss ≡ map rule_of (map (λ (s : Spot). s.track) ss)
-    of [] = refl
-    of (s ∷ ss) = ap (λ l. rule_of s.track ∷ l) (of ss)
+    one : (n : ℕ) (i : Input) (b : Bool) → map (λ (s : Spot). rule_of s.track) (if b then [] else spots_in (n, i)) ≡ map rule_of (if b then [] else i.taken)
+    one n i true = refl
+    one n i false = each i.taken
+      where
+        each : (ts : List TakenTrack) → map (λ (s : Spot). rule_of s.track) (map (spot n i) ts) ≡ map rule_of ts
+        each [] = refl
+        each (t ∷ ts) = ap (λ l. rule_of t ∷ l) (each ts)
 
-spots-numbers : (n : ℕ) (inputs : List Input) → map (λ (s : Spot). s.number ∷ []) (spots_from n inputs) ≡ inputs_given n (map read_in inputs)
-spots-numbers n [] = refl
-spots-numbers n (i ∷ is) = map-append (λ (s : Spot). s.number ∷ []) (spots_in n i) (spots_from (n + 1) is) ∙ ap₂ (λ a b. a ++ b) (of i.taken) (spots-numbers (n + 1) is)
+    of : (n : ℕ) (inputs : List Input) → map (λ (s : Spot). rule_of s.track) (flat_map (begins own_place spots_in) (enumerate_from n inputs)) ≡ map rule_of (tracks_taken (map read_in inputs))
+    of n [] = refl
+    of n (i ∷ is) =
+        map-append (λ (s : Spot). rule_of s.track) (begins own_place spots_in (n, i)) (flat_map (begins own_place spots_in) (enumerate_from (n + 1) is))
+        ∙ ap₂ (λ a b. a ++ b) (one n i (goes_on i)) (of (n + 1) is)
+        ∙ sym (map-append rule_of (tracks_begun (read_in i)) (tracks_taken (map read_in is)))
+
+-- what a track gives, among these files
+abbrev pub given_at : LiveFiles → Spot → Given
+given_at f s = given_for (later_by (read_in s.input)) (events_in (read_in s.input) (octets_in f s.input.file.n)) s.track
+
+spots-given : (f : LiveFiles) (n : ℕ) (inputs : List Input) → map (map (given_at f)) (spots_from n inputs) ≡ lanes_given (map (source_in f) inputs)
+spots-given f n inputs =
+    sym (lanes-map (λ (s : Source). is_appended s.1) given_of (λ (each : ℕ × Input). source_in f each.1) spots_in (given_at f) (λ each. of each.0 each.1 each.1.taken) (enumerate_from n inputs))
+    ∙ ap lanes_given (unnumbered (source_in f) n inputs)
   where
-    of : (ts : List TakenTrack) → map (λ (s : Spot). s.number ∷ []) (map (spot n i) ts) ≡ map (λ (t : TakenTrack). n ∷ []) ts
-    of [] = refl
-    of (t ∷ ts) = ap (λ l. (n ∷ []) ∷ l) (of ts)
+    of : (n : ℕ) (i : Input) (ts : List TakenTrack) → map (given_for (later_by (read_in i)) (events_in (read_in i) (octets_in f i.file.n))) ts ≡ map (given_at f) (map (spot n i) ts)
+    of n i [] = refl
+    of n i (t ∷ ts) = ap (λ l. given_at f (spot n i t) ∷ l) (of n i ts)
 
--- what a track of an input gives, among these files
-abbrev given_at : LiveFiles → Spot → List Given
-given_at f s = given_for (events_in (read_in s.input) (octets_in f s.input.file.n)) s.track ∷ []
-
-spots-given : (f : LiveFiles) (n : ℕ) (inputs : List Input) → map (given_at f) (spots_from n inputs) ≡ lanes_given (map (source_in f) inputs)
-spots-given f n [] = refl
-spots-given f n (i ∷ is) = map-append (given_at f) (spots_in n i) (spots_from (n + 1) is) ∙ ap₂ (λ a b. a ++ b) (of i.taken) (spots-given f (n + 1) is)
+spots-numbers : (n : ℕ) (inputs : List Input) → map (map (λ (s : Spot). s.number)) (spots_from n inputs) ≡ inputs_given n (map read_in inputs)
+spots-numbers n inputs =
+    sym (lanes-map (λ (each : ℕ × InputRead). is_appended each.1) numbers_of (λ (each : ℕ × Input). (each.0, read_in each.1)) spots_in (λ (s : Spot). s.number) (λ each. of each.0 each.1 each.1.taken) (enumerate_from n inputs))
+    ∙ ap (lanes_by (λ (each : ℕ × InputRead). is_appended each.1) numbers_of) (sym (enumerate-map read_in n inputs))
   where
-    of : (ts : List TakenTrack) → map (given_at f) (map (spot n i) ts) ≡ map (λ t. given_for (events_in (read_in i) (octets_in f i.file.n)) t ∷ []) ts
-    of [] = refl
-    of (t ∷ ts) = ap (λ l. given_at f (spot n i t) ∷ l) (of ts)
+    of : (n : ℕ) (i : Input) (ts : List TakenTrack) → map (λ (t : TakenTrack). n) ts ≡ map (λ (s : Spot). s.number) (map (spot n i) ts)
+    of n i [] = refl
+    of n i (t ∷ ts) = ap (λ l. n ∷ l) (of n i ts)
 
 -- a fact of inputs, and of the tracks that are taken of them
 record Holds (P : Input → Type 0) (s : Spot) : Type 0 where
   pub input : P s.input
   pub taken : IsTaken s.track
 
-spots-hold : (P : Input → Type 0) (n : ℕ) (inputs : List Input) → All P inputs → All HasTaken inputs → All (Holds P) (spots_from n inputs)
-spots-hold P n [] each all = λ k d inside. absurd (omega arith)
-spots-hold P n (i ∷ is) each all =
-    All-append (Holds P) (spots_in n i) (spots_from (n + 1) is) (of i.taken (all 0 i (omega arith))) (spots-hold P (n + 1) is (λ k d inside. each (suc k) d (omega arith)) (λ k d inside. all (suc k) d (omega arith)))
-  where
-    of : (ts : List TakenTrack) → All IsTaken ts → All (Holds P) (map (spot n i) ts)
-    of [] taken = λ k d inside. absurd (omega arith)
-    of (t ∷ ts) taken = all-cons (Holds P) (spot n i t) (map (spot n i) ts) (record { input = each 0 i (omega arith); taken = taken 0 t (omega arith) }) (of ts (λ k d inside. taken (suc k) d (omega arith)))
+-- an input of which it holds
+record HoldsIn (P : Input → Type 0) (i : Input) : Type 0 where
+  pub input : P i
+  pub taken : HasTaken i
+
+spots-hold : (P : Input → Type 0) (n : ℕ) (inputs : List Input) → All P inputs → All HasTaken inputs → All (All (Holds P)) (spots_from n inputs)
+spots-hold P n inputs each all =
+    lanes-all (Holds P) own_place spots_in (λ (each : ℕ × Input). HoldsIn P each.1)
+    (λ each holds. All-map (Holds P) (spot each.0 each.1) each.1.taken (λ k d inside. record { input = holds.input; taken = holds.taken k d inside }))
+    (enumerate_from n inputs) (enumerate-all (HoldsIn P) n inputs (λ k d inside. record { input = each k d inside; taken = all k d inside }))
 
 -- ---- a link
 
@@ -118,23 +135,23 @@ made : LiveFiles → Placing → ℕ → ℕ → ℕ → FileOutline → Given
 made f p number scale file outline = track_given p number (events_of (with_limits scale) (octets_in f file) outline.segment)
 
 module _ (i : Input) (t : TakenTrack) (link : TrackLink) (is : IsLinkOf i t link) where
-  placing-is : placing_of link ≡ placing_for t
+  placing-is : placing_of link ≡ placing_for (later_by (read_in i)) t
   placing-is = λ j. record { delay = is.delay j; shift = is.shift j; default_duration = is.default_duration j; prefix = is.prefix j }
 
-  made-same : (f : LiveFiles) → made f (placing_of link) link.number link.scale link.file.n link.outline.value ≡ made f (placing_for t) t.track.number i.scale i.file.n i.outline.value
+  made-same : (f : LiveFiles) → made f (placing_of link) link.number link.scale link.file.n link.outline.value ≡ made f (placing_for (later_by (read_in i)) t) t.track.number i.scale i.file.n i.outline.value
   made-same f =
       ap (λ p. made f p link.number link.scale link.file.n link.outline.value) placing-is
-      ∙ ap (λ n. made f (placing_for t) n link.scale link.file.n link.outline.value) is.number
-      ∙ ap (λ s. made f (placing_for t) t.track.number s link.file.n link.outline.value) is.scale
-      ∙ ap (λ (file : FileId). made f (placing_for t) t.track.number i.scale file.n link.outline.value) is.file
-      ∙ ap (made f (placing_for t) t.track.number i.scale i.file.n) is.outline
+      ∙ ap (λ n. made f (placing_for (later_by (read_in i)) t) n link.scale link.file.n link.outline.value) is.number
+      ∙ ap (λ s. made f (placing_for (later_by (read_in i)) t) t.track.number s link.file.n link.outline.value) is.scale
+      ∙ ap (λ (file : FileId). made f (placing_for (later_by (read_in i)) t) t.track.number i.scale file.n link.outline.value) is.file
+      ∙ ap (made f (placing_for (later_by (read_in i)) t) t.track.number i.scale i.file.n) is.outline
 
-  link-given : (f : LiveFiles) → given_in f (Track link) ≡ given_for (events_in (read_in i) (octets_in f i.file.n)) t
+  link-given : (f : LiveFiles) → given_in f (Track link) ≡ given_for (later_by (read_in i)) (events_in (read_in i) (octets_in f i.file.n)) t
   unfolding made
   link-given f = made-same f
 
-  link-small : IsTaken t → IsSmallLink (Track link)
-  link-small taken =
+  link-small : IsTaken t → HasPlace i → IsSmallLink (Track link)
+  link-small taken place =
       let near = taken.near in
       record {
         moves = record { near = omega (arith, ap nat_abs is.delay); within = omega (arith, is.shift) };
@@ -158,50 +175,88 @@ module _ (i : Input) (t : TakenTrack) (link : TrackLink) (is : IsLinkOf i t link
 
 -- ---- the lanes
 
--- a fact of its one link is one of a lane's links
-lane-links : (P : Link → Type 0) (s : Spot) (l : PlannedLane) → IsLaneOf s l → ((link : TrackLink) → IsLinkOf s.input s.track link → P (Track link)) → All P l.spec.links
-lane-links P s l is so = subst (All P) (sym is.links.one) (all-cons P (Track is.links.link) [] (so is.links.link is.links.is) (λ k d inside. absurd (omega arith)))
+-- a fact of tracks is one of a lane's links
+lane-links : (Q : Spot → Type 0) (P : Link → Type 0) → ((s : Spot) (link : TrackLink) → Q s → IsLinkOf s.input s.track link → P (Track link)) → (spots : List Spot) (l : PlannedLane) → All Q spots → IsLaneOf spots l → All P l.spec.links
+lane-links Q P so spots l each is = zip-all IsLinkAt Q P one spots l.spec.links each is.links
+  where
+    one : (s : Spot) (link : Link) → Q s → IsLinkAt s link → P link
+    one s (Track link) holds at = so s link holds at
+    one s (Entries text) holds at = absurd at
 
-lane-given : (f : LiveFiles) (s : Spot) (l : PlannedLane) → IsLaneOf s l → map (given_in f) l.spec.links ≡ given_at f s
-lane-given f s l is = ap (map (given_in f)) is.links.one ∙ ap (λ g. g ∷ []) (link-given s.input s.track is.links.link is.links.is f)
+lane-given : (f : LiveFiles) (spots : List Spot) (l : PlannedLane) → IsLaneOf spots l → map (given_in f) l.spec.links ≡ map (given_at f) spots
+lane-given f spots l is = zip-map IsLinkAt (given_in f) (given_at f) one spots l.spec.links is.links
+  where
+    one : (s : Spot) (link : Link) → IsLinkAt s link → given_in f link ≡ given_at f s
+    one s (Track link) at = link-given s.input s.track link at f
+    one s (Entries text) at = absurd at
+
+lane-linked : (inputs : List Input) (spots : List Spot) (l : PlannedLane) → length spots ≤ length inputs → IsLaneOf spots l → IsLinked inputs l
+lane-linked inputs spots l few is =
+    let links = zip-length IsLinkAt spots l.spec.links is.links in
+    let numbers : length l.inputs ≡ length spots = ap length is.inputs ∙ length-map spots (λ (s : Spot). s.number) in
+    record { few = omega arith; numbered = omega arith }
+
+-- how long the file of a track is
+abbrev spot_length : LiveFiles → Spot → ℕ
+spot_length f s = f.size s.input.file.n
+
+lane-length : (f : LiveFiles) (spots : List Spot) (links : List Link) → AllZip IsLinkAt spots links → files_length f links ≡ sum_by (spot_length f) spots
+lane-length f [] [] all = refl
+lane-length f [] (link ∷ links) all = absurd all
+lane-length f (s ∷ spots) [] all = absurd all
+lane-length f (s ∷ spots) (link ∷ links) all = ap₂ (λ m n. m + n) (one link all.0) (lane-length f spots links all.1) ∙ sym (sum_by-cons (spot_length f) s spots)
+  where
+    one : (link : Link) → IsLinkAt s link → file_length f link ≡ spot_length f s
+    one (Track link) at = ap (λ (file : FileId). f.size file.n) at.file
+    one (Entries text) at = absurd at
 
 module _ (inputs : List Input) (lanes : List PlannedLane) (are : AllZip IsLaneOf (spots_from 0 inputs) lanes) where
-  -- as many lanes as tracks
+  -- as many lanes as tracks that begin one
   pub lanes-length : length lanes ≡ length (tracks_taken (map read_in inputs))
-  lanes-length = zip-length IsLaneOf (spots_from 0 inputs) lanes are ∙ sym (length-map (spots_from 0 inputs) (λ (s : Spot). s.track)) ∙ ap length (spots-tracks 0 inputs ∙ taken-read inputs)
+  lanes-length =
+      let spots : List (List Spot) = spots_from 0 inputs in
+      zip-length IsLaneOf spots lanes are ∙ sym (length-map spots rule_at) ∙ ap length (spots-rules 0 inputs) ∙ length-map (tracks_taken (map read_in inputs)) rule_of
 
   pub lanes-given : (f : LiveFiles) → map (map (given_in f)) (links_of lanes) ≡ lanes_given (map (source_in f) inputs)
-  lanes-given f = maps lanes ∙ zip-map IsLaneOf (λ (l : PlannedLane). map (given_in f) l.spec.links) (given_at f) (lane-given f) (spots_from 0 inputs) lanes are ∙ spots-given f 0 inputs
+  lanes-given f = maps lanes ∙ zip-map IsLaneOf (λ (l : PlannedLane). map (given_in f) l.spec.links) (map (given_at f)) (lane-given f) (spots_from 0 inputs) lanes are ∙ spots-given f 0 inputs
     where
       maps : (ls : List PlannedLane) → map (map (given_in f)) (links_of ls) ≡ map (λ (l : PlannedLane). map (given_in f) l.spec.links) ls
       maps [] = refl
       maps (l ∷ ls) = ap (λ rest. map (given_in f) l.spec.links ∷ rest) (maps ls)
 
   pub lanes-numbers : map (λ (l : PlannedLane). l.inputs) lanes ≡ inputs_given 0 (map read_in inputs)
-  lanes-numbers = zip-map IsLaneOf (λ (l : PlannedLane). l.inputs) (λ (s : Spot). s.number ∷ []) (λ s l is. is.inputs) (spots_from 0 inputs) lanes are ∙ spots-numbers 0 inputs
+  lanes-numbers = zip-map IsLaneOf (λ (l : PlannedLane). l.inputs) (map (λ (s : Spot). s.number)) (λ spots l is. is.inputs) (spots_from 0 inputs) lanes are ∙ spots-numbers 0 inputs
 
   pub lanes-rules : rules_of lanes ≡ rules_given (map read_in inputs)
-  lanes-rules = zip-map IsLaneOf (λ (l : PlannedLane). l.cues) (λ (s : Spot). rule_of s.track) (λ s l is. is.rule) (spots_from 0 inputs) lanes are ∙ spots-rules 0 inputs ∙ ap (map rule_of) (taken-read inputs)
+  lanes-rules = zip-map IsLaneOf (λ (l : PlannedLane). l.cues) rule_at (λ spots l is. is.rule) (spots_from 0 inputs) lanes are ∙ spots-rules 0 inputs
 
-  -- each has one link, and one input's number
-  pub lanes-one : All (λ (l : PlannedLane). (length l.spec.links ≡ 1) × (length l.inputs ≡ 1)) lanes
-  lanes-one = each (spots_from 0 inputs) lanes are
-    where
-      each : (ss : List Spot) (ls : List PlannedLane) → AllZip IsLaneOf ss ls → All (λ (l : PlannedLane). (length l.spec.links ≡ 1) × (length l.inputs ≡ 1)) ls
-      each [] [] all = λ k d inside. absurd (omega arith)
-      each [] (l ∷ ls) all = absurd all
-      each (s ∷ ss) [] all = absurd all
-      each (s ∷ ss) (l ∷ ls) all = all-cons (λ (l : PlannedLane). (length l.spec.links ≡ 1) × (length l.inputs ≡ 1)) l ls (ap length all.0.links.one, ap length all.0.inputs) (each ss ls all.1)
+  -- each has few links, and of each the input's number
+  pub lanes-linked : All (IsLinked inputs) lanes
+  lanes-linked =
+      let few : All (λ (spots : List Spot). length spots ≤ length inputs) (spots_from 0 inputs) =
+      subst (λ (n : ℕ). All (λ (spots : List Spot). length spots ≤ n) (spots_from 0 inputs)) (length-enumerate_from 0 inputs) (lanes-few own_place spots_in (enumerate_from 0 inputs)) in
+      zip-all IsLaneOf (λ (spots : List Spot). length spots ≤ length inputs) (IsLinked inputs) (λ spots l is_few is. lane-linked inputs spots l is_few is) (spots_from 0 inputs) lanes few are
+
+  -- and no more of each file than that
+  pub lanes-once : (f : LiveFiles) → All (λ (l : PlannedLane). files_length f l.spec.links ≤ sum_by (λ (i : Input). f.size i.file.n) inputs) lanes
+  lanes-once f =
+      let whole : ℕ = sum_by (λ (i : Input). f.size i.file.n) inputs in
+      let each : All (λ (spots : List Spot). sum_by (spot_length f) spots ≤ whole) (spots_from 0 inputs) =
+      subst (λ (n : ℕ). All (λ (spots : List Spot). sum_by (spot_length f) spots ≤ n) (spots_from 0 inputs)) (enumerate-sum (λ (i : Input). f.size i.file.n) 0 inputs)
+      (lanes-light own_place spots_in (spot_length f) (λ (each : ℕ × Input). f.size each.1.file.n)
+      (λ each. All-map (λ (s : Spot). spot_length f s ≤ f.size each.1.file.n) (spot each.0 each.1) each.1.taken (λ k d inside. omega arith)) (enumerate_from 0 inputs)) in
+      zip-all IsLaneOf (λ (spots : List Spot). sum_by (spot_length f) spots ≤ whole) (λ (l : PlannedLane). files_length f l.spec.links ≤ whole)
+      (λ spots l fits is. omega (arith, lane-length f spots l.spec.links is.links)) (spots_from 0 inputs) lanes each are
 
   -- a fact of each link, where it follows from one of each input
   pub lanes-links : (C : Input → Type 0) (P : Link → Type 0) → ((i : Input) (t : TakenTrack) (link : TrackLink) → C i → IsTaken t → IsLinkOf i t link → P (Track link)) → All C inputs → All HasTaken inputs → All (All P) (links_of lanes)
   lanes-links C P so each taken =
       All-map (All P) (λ (l : PlannedLane). l.spec.links) lanes
-      (zip-all IsLaneOf (Holds C) (λ (l : PlannedLane). All P l.spec.links) (λ s l holds is. lane-links P s l is (λ link is_link. so s.input s.track link holds.input holds.taken is_link)) (spots_from 0 inputs) lanes (spots-hold C 0 inputs each taken) are)
+      (zip-all IsLaneOf (All (Holds C)) (λ (l : PlannedLane). All P l.spec.links) (λ spots l holds is. lane-links (Holds C) P (λ s link one at. so s.input s.track link one.input one.taken at) spots l holds is) (spots_from 0 inputs) lanes (spots-hold C 0 inputs each taken) are)
 
   module _ (taken : All HasTaken inputs) where
-    pub links-small : All (All IsSmallLink) (links_of lanes)
-    links-small = lanes-links HasTaken IsSmallLink (λ i t link each one is. link-small i t link is one) taken taken
+    pub links-small : All HasPlace inputs → All (All IsSmallLink) (links_of lanes)
+    links-small places = lanes-links HasPlace IsSmallLink (λ i t link place one is. link-small i t link is one place) places taken
 
     pub links-open : (f : LiveFiles) → All (IsInput f) inputs → All (All (IsOpenLink f)) (links_of lanes)
     links-open f good = lanes-links (IsInput f) (IsOpenLink f) (λ i t link one each is. link-open i t link is f one) good taken

@@ -1,5 +1,5 @@
 -- The titles of inputs, the tracks that are taken, and their entries.
-use Rattle.std.proofs.Common.{◌≡◌, ◌≤◌, ◌<◌, ℕ, zero, suc, ◌+◌, List, [], ◌∷◌, ◌++◌, length, take, drop, map, flat_map, get_or, refl, sym, ap, ap₂, ◌∙◌, arith, append-nil, append_assoc}
+use Rattle.std.proofs.Common.{◌≡◌, ◌≤◌, ◌<◌, ℕ, zero, suc, ◌+◌, Bool, true, false, if◌then◌else◌, List, [], ◌∷◌, ◌++◌, length, take, drop, map, flat_map, get_or, refl, sym, ap, ap₂, ◌∙◌, arith, append-nil, append_assoc}
 use Rattle.std.specs.List.{All}
 use Rattle.std.proofs.lemmas.Grind.{flat_map-append}
 use Rattle.std.proofs.lemmas.List.{length-map, take_all, drop_all}
@@ -12,7 +12,7 @@ use Rattle.merge_inputs.specs.Taken.{IsTaken}
 use Rattle.merge_inputs.specs.declared.input.Input.{Input}
 use Rattle.merge_inputs.specs.declared.taken.TakenTrack.{TakenTrack}
 use Rattle.merge_plan.specs.Lent.{lent}
-use Rattle.merge_plan.specs.Records.{entries_from, entry_of, first_title, title_or, tracks_taken, uids_of}
+use Rattle.merge_plan.specs.Records.{entries_from, entry_of, first_title, is_appended, title_or, tracks_begun, tracks_taken, uids_of}
 use Rattle.merge_plan.specs.Spots.{HasTaken}
 use Rattle.merge_plan.proofs.ListLemmas.{take-next, drop-next, lent-next}
 
@@ -37,24 +37,35 @@ title-none inputs k past = ap (λ l. first_title (map read_in l)) (drop_all k in
 
 -- ---- the tracks that are taken
 
+-- those of an input that begin lanes
+abbrev pub begun_in : Input → List TakenTrack
+begun_in i = tracks_begun (read_in i)
+
 abbrev pub taken_in : List Input → List TakenTrack
-taken_in inputs = flat_map (λ (i : Input). i.taken) inputs
+taken_in inputs = flat_map begun_in inputs
 
 pub taken-read : (inputs : List Input) → taken_in inputs ≡ tracks_taken (map read_in inputs)
 taken-read [] = refl
-taken-read (i ∷ is) = ap (λ l. i.taken ++ l) (taken-read is)
+taken-read (i ∷ is) = ap (λ l. begun_in i ++ l) (taken-read is)
 
-pub taken-next : (inputs : List Input) (k : ℕ) (i : Input) → k < length inputs → i ≡ get_or inputs k i → taken_in (take (k + 1) inputs) ≡ taken_in (take k inputs) ++ i.taken
+pub taken-next : (inputs : List Input) (k : ℕ) (i : Input) → k < length inputs → i ≡ get_or inputs k i → taken_in (take (k + 1) inputs) ≡ taken_in (take k inputs) ++ begun_in i
 taken-next inputs k i inside is =
-    ap taken_in (take-next inputs k i inside is) ∙ flat_map-append (λ (i : Input). i.taken) (take k inputs) (i ∷ []) ∙ ap (λ l. taken_in (take k inputs) ++ l) (append-nil i.taken)
+    ap taken_in (take-next inputs k i inside is) ∙ flat_map-append begun_in (take k inputs) (i ∷ []) ∙ ap (λ l. taken_in (take k inputs) ++ l) (append-nil (begun_in i))
 
 pub taken-all : (inputs : List Input) (k : ℕ) → length inputs ≤ k → taken_in (take k inputs) ≡ tracks_taken (map read_in inputs)
 taken-all inputs k past = ap taken_in (take_all k inputs past) ∙ taken-read inputs
 
 -- each is taken so
+pub begun-taken : (i : Input) → HasTaken i → All IsTaken (begun_in i)
+begun-taken i all = of (is_appended (read_in i))
+  where
+    of : (b : Bool) → All IsTaken (if b then [] else i.taken)
+    of true = λ k d inside. absurd (omega arith)
+    of false = all
+
 pub each-taken : (inputs : List Input) → All HasTaken inputs → All IsTaken (taken_in inputs)
 each-taken [] all = λ k d inside. absurd (omega arith)
-each-taken (i ∷ is) all = All-append IsTaken i.taken (taken_in is) (all 0 i (omega arith)) (each-taken is (λ k d inside. all (suc k) d (omega arith)))
+each-taken (i ∷ is) all = All-append IsTaken (begun_in i) (taken_in is) (begun-taken i (all 0 i (omega arith))) (each-taken is (λ k d inside. all (suc k) d (omega arith)))
 
 -- ---- their entries
 

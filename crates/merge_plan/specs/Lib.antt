@@ -1,4 +1,6 @@
 pub mod Lent
+pub mod Chains
+pub mod Appending
 pub mod Records
 pub mod Plan
 pub mod Front

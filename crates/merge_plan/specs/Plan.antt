@@ -1,5 +1,6 @@
 -- What the lanes of a merge are made of.
-use Rattle.std.specs.Prelude.{ℕ, ◌+◌, ◌==◌, ◌||◌, if◌then◌else◌, List, [], ◌∷◌, ◌++◌, map, flat_map, Option, Some, None}
+use Rattle.std.specs.Prelude.{ℕ, ◌==◌, ◌||◌, if◌then◌else◌, List, map, Option, Some, None, unwrap_or}
+use Rattle.std.specs.List.{enumerate_from}
 use Rattle.block_format.specs.Events.{Event}
 use Rattle.track_format.specs.Encoding.{prefix_of}
 use Rattle.output_model.specs.declared.heads.ClusterLimits.{ClusterLimits}
@@ -12,33 +13,44 @@ use Rattle.merge_words.specs.declared.output.MergeWords.{MergeWords}
 use Rattle.merge_inputs.specs.declared.track_type.TheConstants.{VIDEO_TRACK, SUBTITLE_TRACK}
 use Rattle.merge_inputs.specs.Input.{InputRead, events_in}
 use Rattle.merge_inputs.specs.declared.taken.TakenTrack.{TakenTrack}
-use Rattle.merge_plan.specs.Records.{tracks_taken}
+use Rattle.merge_plan.specs.Chains.{lanes_by}
+use Rattle.merge_plan.specs.Records.{is_appended, tracks_taken}
 
--- ---- one lane for each track that is taken
+-- ---- the lanes, one for each track that begins one
 
 -- an input's content, and what is read of it before its blocks
 abbrev pub Source : Type 0
 Source = List ℕ × InputRead
 
--- how the blocks of a track are placed: with the word's delay, and with what header stripping took from the front of each frame
-abbrev pub placing_for : TakenTrack → Placing
-placing_for t = record { delay = t.delay; shift = 0; default_duration = t.track.default_duration; prefix = prefix_of t.track.entry }
+-- by how many nanoseconds an input is later; one that isn't appended is at its own time
+abbrev pub later_by : InputRead → ℕ
+later_by i = unwrap_or i.shift 0
+
+-- how the blocks of a track are placed: with the word's delay, later by so much, and with what header stripping took from the
+-- front of each frame
+abbrev pub placing_for : ℕ → TakenTrack → Placing
+placing_for shift t = record { delay = t.delay; shift = shift; default_duration = t.track.default_duration; prefix = prefix_of t.track.entry }
 
 -- what a track gives of a file with these blocks and damages
-abbrev pub given_for : List Event → TakenTrack → Given
-given_for events t = track_given (placing_for t) t.track.number events
+abbrev pub given_for : ℕ → List Event → TakenTrack → Given
+given_for shift events t = track_given (placing_for shift t) t.track.number events
 
--- the lanes that the tracks of a source make, each of one link
-abbrev pub lanes_in : Source → List (List Given)
-lanes_in s = map (λ t. given_for (events_in s.1 s.0) t ∷ []) s.1.taken
+-- what the tracks of a source give to its lanes
+abbrev pub given_of : Source → List Given
+given_of s = map (given_for (later_by s.1) (events_in s.1 s.0)) s.1.taken
 
+-- Each lane, by what its links give: a track of a source that isn't appended begins one, and the tracks at its place of those that are
+-- appended to that source go on in it.
 abbrev pub lanes_given : List Source → List (List Given)
-lanes_given sources = flat_map lanes_in sources
+lanes_given sources = lanes_by (λ (s : Source). is_appended s.1) given_of sources
 
--- the number of each lane's input, where the first of these inputs has this number
+-- the number of an input, for each of its tracks
+abbrev pub numbers_of : ℕ × InputRead → List ℕ
+numbers_of each = map (λ _. each.0) each.1.taken
+
+-- of each lane the numbers of its links' inputs, where the first of these inputs has this number
 abbrev pub inputs_given : ℕ → List InputRead → List (List ℕ)
-inputs_given input [] = []
-inputs_given input (i ∷ is) = map (λ _. input ∷ []) i.taken ++ inputs_given (input + 1) is
+inputs_given input reads = lanes_by (λ (each : ℕ × InputRead). is_appended each.1) numbers_of (enumerate_from input reads)
 
 -- ---- Clusters and cue points
 

@@ -12,6 +12,7 @@ use Rattle.merged_records.specs.Inputs.{IsAttached}
 use Rattle.segment_octets.specs.Front.{front_with}
 use Rattle.lane_blocks.specs.Links.{octets_in, given_in, IsOpenLink, IsToldLink, IsSmallLink}
 use Rattle.lane_blocks.specs.declared.link.Link.{Link}
+use Rattle.lanes.specs.Walks.{files_length}
 use Rattle.time_merge.specs.Laws.{IsApartLink}
 use Rattle.remux_plan.specs.Plan.{links_of, rules_of}
 use Rattle.remux_plan.specs.declared.plan.MergePlan.{MergePlan}
@@ -97,11 +98,17 @@ Plans words inputs (Err Memory) = ⊤
 abbrev pub AllLinks : (Link → Type 0) → MergePlan → Type 0
 AllLinks P p = All (All P) (links_of p.lanes)
 
--- A plan of these inputs can be carried out: its lanes are few, each with one link and its input's number; the links are
--- small, and tracks of the inputs; its records are read again, and its attached files stand in those of the inputs.
+-- A lane has at most one link for each input, and of each the number of its input.
+pub record IsLinked (inputs : List Input) (l : PlannedLane) : Type 0 where
+  pub few : length l.spec.links ≤ length inputs
+  pub numbered : length l.inputs ≡ length l.spec.links
+
+-- A plan of these inputs can be carried out: its lanes are few, each with links for some of the inputs, of each one at most; the links
+-- are small, and tracks of the inputs; its records are read again, and its attached files stand in those of the inputs.
 pub record CanBeWritten (inputs : List Input) (p : MergePlan) : Type 0 where
   pub few : length p.lanes ≤ MOST_LANES
-  pub one : All (λ (l : PlannedLane). (length l.spec.links ≡ 1) × (length l.inputs ≡ 1)) p.lanes
+  pub linked : All (IsLinked inputs) p.lanes
+  pub once : (f : LiveFiles) → All (λ (l : PlannedLane). files_length f l.spec.links ≤ sum_by (λ (i : Input). f.size i.file.n) inputs) p.lanes
   pub small : AllLinks IsSmallLink p
   pub is_open : (f : LiveFiles) → All (IsInput f) inputs → AllLinks (IsOpenLink f) p
   pub told : (f : LiveFiles) → All (IsToldInput f) inputs → AllLinks (IsToldLink f) p

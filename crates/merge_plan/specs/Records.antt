@@ -1,5 +1,5 @@
 -- The records of a merge: RFC 9559, sections 5.1.2 (Info Element), 5.1.4 (Tracks Element), 5.1.6 (Attachments Element), 5.1.7 (Chapters Element) and 5.1.8 (Tags Element). Which titles and identifiers an output gets is this project's.
-use Rattle.std.specs.Prelude.{ℕ, ◌+◌, List, [], ◌∷◌, length, take, drop, map, flat_map, Option, None, unwrap_or}
+use Rattle.std.specs.Prelude.{ℕ, ◌+◌, Bool, if◌then◌else◌, List, [], ◌∷◌, length, take, drop, map, flat_map, Option, is_some, unwrap_or}
 use Rattle.tree_format.specs.Node.{Node}
 use Rattle.attachment_records.specs.declared.attachment.Attachment.{Attachment}
 use Rattle.file_records.specs.Attached.{AttachedFile}
@@ -16,9 +16,17 @@ use Rattle.merged_records.specs.declared.inputs.InputRecords.{InputRecords}
 use Rattle.output_records.specs.Info.{output_info}
 use Rattle.output_records.specs.Tracks.{output_tracks}
 
--- the tracks that are taken, input after input; each is a lane of the output, and the first has the number 1
+-- an input goes on where the one before it ends
+abbrev pub is_appended : InputRead → Bool
+is_appended i = is_some i.shift
+
+-- the tracks of an input that begin lanes: those of one that is appended go on in the lanes of the one before it
+abbrev pub tracks_begun : InputRead → List TakenTrack
+tracks_begun i = if is_appended i then [] else i.taken
+
+-- the tracks that begin lanes, input after input; the first lane of the output has the number 1
 abbrev pub tracks_taken : List InputRead → List TakenTrack
-tracks_taken reads = flat_map (λ (i : InputRead). i.taken) reads
+tracks_taken reads = flat_map tracks_begun reads
 
 -- ---- Tracks
 
@@ -77,22 +85,30 @@ info_of words reads = output_info words.scale (title_of words reads)
 abbrev pub Kept : Type 0
 Kept = List Attachment × InputRead
 
--- what an input gives besides its tracks and blocks, where its tracks have these TrackUIDs in the output
+-- what an input gives besides its tracks and blocks, where its lanes have these TrackUIDs
 abbrev pub records_in : List ℕ → Kept → InputRecords
 records_in numbers k = record {
   track_uids = map (λ (t : TakenTrack). t.track.uid) k.1.taken;
   track_numbers = numbers;
   attachments = k.0;
   chapters = k.1.chapters;
-  shift = None;
+  shift = k.1.shift;
   tags = k.1.tags;
   keep = k.1.keep;
 }
 
--- the same of inputs, one behind the other
-abbrev pub records_from : List ℕ → List Kept → List InputRecords
-records_from numbers [] = []
-records_from numbers (k ∷ ks) = records_in (take (length k.1.taken) numbers) k ∷ records_from (drop (length k.1.taken) numbers) ks
+-- The TrackUIDs of an input's lanes: those of the input before it, where it is appended, else the first of those that
+-- are left; and what is left then.
+abbrev pub uids_at : List ℕ → List ℕ → InputRead → List ℕ
+uids_at before left i = if is_appended i then before else take (length i.taken) left
+
+abbrev pub uids_behind : List ℕ → InputRead → List ℕ
+uids_behind left i = if is_appended i then left else drop (length i.taken) left
+
+-- what inputs give, one behind the other, where the lanes of the input before them have these TrackUIDs, and those are left
+abbrev pub records_from : List ℕ → List ℕ → List Kept → List InputRecords
+records_from before left [] = []
+records_from before left (k ∷ ks) = records_in (uids_at before left k.1) k ∷ records_from (uids_at before left k.1) (uids_behind left k.1) ks
 
 -- those that inputs hold, in their files
 abbrev pub kept_in : Input → Kept
@@ -105,9 +121,9 @@ anywhere a = record { uid = a.uid; file = record { n = 0 }; at = a.at; len = a.l
 abbrev pub kept_anywhere : InputRead → Kept
 kept_anywhere i = (map anywhere i.attachments, i)
 
--- what all inputs give, whose tracks get the TrackUIDs of the output
+-- what all inputs give, whose lanes get the TrackUIDs of the output
 abbrev pub records_of : List InputRead → List InputRecords
-records_of reads = records_from (uids_of (tracks_taken reads)) (map kept_anywhere reads)
+records_of reads = records_from [] (uids_of (tracks_taken reads)) (map kept_anywhere reads)
 
 abbrev pub chapters_of : List InputRead → Option Node
 chapters_of reads = merged_chapters (records_of reads)

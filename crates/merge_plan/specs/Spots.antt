@@ -1,19 +1,26 @@
 -- Where the blocks of a lane come from, and the attached files of an output.
-use Rattle.std.specs.Prelude.{◌≡◌, ◌≤◌, ℕ, ◌+◌, List, [], ◌∷◌, ◌++◌, length, map, IfSome}
-use Rattle.std.specs.List.{All, AllZip}
+use Rattle.std.specs.Prelude.{◌≡◌, ◌≤◌, ℕ, Bool, List, [], ◌∷◌, ◌++◌, length, map, slice_get, IfSome}
+use Rattle.std.specs.List.{All, AllZip, enumerate_from}
+use Rattle.std.specs.Option.{option_to_list}
 use Rattle.mkv_schema.specs.declared.ids.TheConstants.{CHAPTERS, TAGS}
 use Rattle.tree_building.specs.Building.{IsRead}
 use Rattle.track_format.specs.Encoding.{prefix_of}
 use Rattle.attachment_reading.specs.Walk.{IsAttachedIn}
 use Rattle.output_model.specs.declared.TheConstants.{MOST_OF_PREFIX}
+use Rattle.merge_model.specs.declared.limits.TheConstants.{MOST_SHIFT}
+use Rattle.cluster_runs.specs.declared.rule.CueRule.{CueRule}
+use Rattle.cluster_runs.specs.declared.rule.CueRule.TheVariants.{Never}
 use Rattle.lane_blocks.specs.declared.link.Link.{Link}
-use Rattle.lane_blocks.specs.declared.link.Link.TheVariants.{Track}
+use Rattle.lane_blocks.specs.declared.link.Link.TheVariants.{Track, Entries}
 use Rattle.lane_blocks.specs.declared.link.TrackLink.{TrackLink}
 use Rattle.remux_plan.specs.declared.plan.PlannedLane.{PlannedLane}
 use Rattle.merge_inputs.specs.Taken.{IsTaken}
 use Rattle.merge_inputs.specs.declared.input.Input.{Input}
 use Rattle.merge_inputs.specs.declared.taken.TakenTrack.{TakenTrack}
-use Rattle.merge_plan.specs.Plan.{rule_of}
+use Rattle.merge_inputs.specs.Input.{read_in}
+use Rattle.merge_plan.specs.Chains.{at_place, lanes_by}
+use Rattle.merge_plan.specs.Plan.{later_by, rule_of}
+use Rattle.merge_plan.specs.Records.{is_appended}
 
 -- a track that is taken, its input, and the input's number
 pub record Spot : Type 0 where
@@ -24,13 +31,25 @@ pub record Spot : Type 0 where
 abbrev pub spot : ℕ → Input → TakenTrack → Spot
 spot number i t = record { number = number; input = i; track = t }
 
-abbrev pub spots_in : ℕ → Input → List Spot
-spots_in number i = map (spot number i) i.taken
+-- those of an input, by its number
+abbrev pub spots_in : ℕ × Input → List Spot
+spots_in each = map (spot each.0 each.1) each.1.taken
 
--- those of inputs, the first of which has this number
-abbrev pub spots_from : ℕ → List Input → List Spot
-spots_from number [] = []
-spots_from number (i ∷ is) = spots_in number i ++ spots_from (number + 1) is
+-- an input goes on where the one before it ends
+abbrev pub goes_on : Input → Bool
+goes_on i = is_appended (read_in i)
+
+-- the spots of each lane of inputs, the first of which has this number
+abbrev pub spots_from : ℕ → List Input → List (List Spot)
+spots_from number inputs = lanes_by (λ (each : ℕ × Input). goes_on each.1) spots_in (enumerate_from number inputs)
+
+-- what an input has at a place, by its number
+abbrev pub spots_at : ℕ → ℕ × Input → List Spot
+spots_at place each = option_to_list (slice_get (spots_in each) place)
+
+-- the same of the inputs that are appended to one, of which the first has this number
+abbrev pub spots_behind : ℕ → ℕ → List Input → List Spot
+spots_behind place number others = at_place place (map spots_in (enumerate_from number others))
 
 -- A link is this track of an input, with no more in front of each frame than a lane puts back.
 pub record IsLinkOf (i : Input) (t : TakenTrack) (link : TrackLink) : Type 0 where
@@ -40,27 +59,42 @@ pub record IsLinkOf (i : Input) (t : TakenTrack) (link : TrackLink) : Type 0 whe
   pub scale : link.scale ≡ i.scale
   pub default_duration : link.default_duration ≡ t.track.default_duration
   pub delay : link.delay ≡ t.delay
-  pub shift : link.shift ≡ 0
+  pub shift : link.shift ≡ later_by (read_in i)
   pub prefix : link.prefix ≡ prefix_of t.track.entry
   pub short : length link.prefix ≤ MOST_OF_PREFIX
 
--- One link alone, which is this track.
-pub record IsOneLink (i : Input) (t : TakenTrack) (links : List Link) : Type 0 where
-  pub link : TrackLink
-  pub one : links ≡ Track link ∷ []
-  pub is : IsLinkOf i t link
+abbrev pub IsLinkAt : Spot → Link → Type 0
+IsLinkAt s (Track link) = IsLinkOf s.input s.track link
+IsLinkAt s (Entries text) = ⊥
 
--- A lane has this track alone.
-pub record IsLaneOf (s : Spot) (l : PlannedLane) : Type 0 where
-  pub links : IsOneLink s.input s.track l.spec.links
-  pub inputs : l.inputs ≡ s.number ∷ []
-  pub rule : l.cues ≡ rule_of s.track
+-- blocks get a cue point by the rule of the track that begins the lane
+abbrev pub rule_at : List Spot → CueRule
+rule_at [] = Never
+rule_at (s ∷ spots) = rule_of s.track
+
+-- A lane goes on in these tracks.
+pub record GoesOn (spots : List Spot) (old new : PlannedLane) : Type 0 where
+  pub more : List Link
+  pub links : new.spec.links ≡ old.spec.links ++ more
+  pub are : AllZip IsLinkAt spots more
+  pub inputs : new.inputs ≡ old.inputs ++ map (λ (s : Spot). s.number) spots
+  pub rule : new.cues ≡ old.cues
+
+-- A lane has these tracks, one behind the other.
+pub record IsLaneOf (spots : List Spot) (l : PlannedLane) : Type 0 where
+  pub links : AllZip IsLinkAt spots l.spec.links
+  pub inputs : l.inputs ≡ map (λ (s : Spot). s.number) spots
+  pub rule : l.cues ≡ rule_at spots
 
 abbrev pub AreLanesOf : List Input → List PlannedLane → Type 0
 AreLanesOf inputs lanes = AllZip IsLaneOf (spots_from 0 inputs) lanes
 
 abbrev pub HasTaken : Input → Type 0
 HasTaken i = All IsTaken i.taken
+
+-- An input isn't later than a lane's link may be.
+abbrev pub HasPlace : Input → Type 0
+HasPlace i = later_by (read_in i) ≤ MOST_SHIFT
 
 -- The data of the attached files of an input stand in its file, and its Chapters and Tags were read.
 pub record HasRecords (i : Input) : Type 0 where

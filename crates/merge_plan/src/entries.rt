@@ -5,7 +5,7 @@ ghost use Rattle.std.specs.List.{All};
 ghost use Rattle.record_changes.specs.Entry.{IsWholeEntry};
 ghost use Rattle.merge_inputs.specs.Input.{read_in};
 ghost use Rattle.merge_inputs.specs.Taken.{IsTaken};
-ghost use Rattle.merge_plan.specs.Records.{entries_of, entry_of, tracks_taken, uids_of};
+ghost use Rattle.merge_plan.specs.Records.{entries_of, entry_of, tracks_begun, tracks_taken, uids_of};
 ghost use Rattle.merge_plan.specs.Lent.{lent};
 
 use ebml_tree::Tree;
@@ -15,13 +15,24 @@ use mkv_values::List;
 use std::alloc::{AllocError, Global};
 use track_changes::{TrackChange, written};
 
-/// The tracks that are taken, input after input.
+/// The tracks of an input that begin lanes: none where it is appended to another.
+pub(crate) fn tracks_begun(input: &Input) -> &[TakenTrack]
+    ensures { result.now ≡ tracks_begun (read_in input.now) }
+{
+    if input.shift.is_some() {
+        &[]
+    } else {
+        input.taken.as_slice()
+    }
+}
+
+/// The tracks that begin lanes, input after input.
 pub(crate) fn tracks_taken(alloc: Global, inputs: &[Input]) -> Result<Vec<&TakenTrack>, AllocError>
     ensures { IfOk result (λ taken. lent taken.items ≡ tracks_taken (map read_in inputs.now)) }
 {
     let mut taken = Vec::new(alloc);
     for input in inputs {
-        for track in input.taken.as_slice() {
+        for track in tracks_begun(input) {
             taken.push(track)?;
         }
     }

@@ -6,7 +6,7 @@ ghost use Rattle.std.specs.Option.{option_copied};
 ghost use Rattle.merge_plan.specs.Lent.{lent};
 ghost use Rattle.merge_plan.specs.Planned.{AreSound, CanBeWritten, GivesRecords, Plans};
 ghost use Rattle.merge_plan.specs.Refusal.{lanes_refusal, other_codec};
-ghost use Rattle.merge_plan.specs.Spots.{HasRecords, HasTaken};
+ghost use Rattle.merge_plan.specs.Spots.{HasPlace, HasRecords, HasTaken};
 
 use crate::entries::tracks_taken;
 use crate::outputs::{OutputRecords, output_of};
@@ -83,6 +83,7 @@ fn records_for(
 pub fn plan_of(alloc: Global, words: &MergeWords, inputs: &[Input]) -> Result<MergePlan, PlanEnd>
     requires tracks { All HasTaken inputs.now }
     requires records { All HasRecords inputs.now }
+    requires places { All HasPlace inputs.now }
     ensures exact { Plans words.now inputs.now result }
     ensures written { IfOk result (CanBeWritten inputs.now) }
 {

@@ -1,13 +1,14 @@
-//! The lanes of a plan: one for each track that is taken.
+//! The lanes of a plan: one for each track that is taken of an input that isn't appended to another.
 
-ghost use Rattle.std.specs.Prelude.{◌≡◌, ◌≤◌, length, IfOk};
-ghost use Rattle.std.specs.List.{All};
+ghost use Rattle.std.specs.Prelude.{◌≡◌, ◌≤◌, ◌<◌, ◌+◌, ◌^◌, ◌∷◌, length, IfOk, OnOk};
+ghost use Rattle.std.specs.List.{All, take_while};
 ghost use Rattle.track_format.specs.Encoding.{prefix_of};
 ghost use Rattle.output_model.specs.declared.TheConstants.{MOST_OF_PREFIX};
 ghost use Rattle.merge_inputs.specs.Taken.{IsTaken};
 ghost use Rattle.merge_plan.specs.Plan.{rule_of, usual_rule};
-ghost use Rattle.merge_plan.specs.Spots.{AreLanesOf, HasTaken, IsLaneOf, IsLinkOf, spot};
+ghost use Rattle.merge_plan.specs.Spots.{AreLanesOf, GoesOn, HasTaken, IsLaneOf, IsLinkOf, goes_on, spot, spots_at, spots_behind};
 
+use crate::entries::tracks_begun;
 use cluster_runs::CueRule;
 use lane_blocks::{LaneSpec, Link, TrackLink};
 use merge_inputs::track_type::{SUBTITLE_TRACK, VIDEO_TRACK};
@@ -66,41 +67,82 @@ fn link_of(alloc: Global, input: &Input, taken: &TakenTrack) -> Result<TrackLink
         scale: input.scale,
         default_duration: taken.track.default_duration,
         delay: taken.delay,
-        shift: 0,
+        shift: input.shift.unwrap_or(0),
         prefix: prefix_of(alloc, taken)?,
     })
 }
 
-/// The lane of a track, of an input with this number, from 0.
+/// The inputs at the front of these that are appended to the one before them.
+fn appended(inputs: &[Input]) -> &[Input]
+    ensures { result.now ≡ take_while goes_on inputs.now }
+{
+    for (k, input) in inputs.iter().enumerate() {
+        if input.shift.is_none() {
+            return &inputs[..k];
+        }
+    }
+    inputs
+}
+
+/// Adds the track at this place of an input with this number to a lane, if it has one there.
+fn go_on(
+    alloc: Global,
+    place: usize,
+    number: usize,
+    input: &Input,
+    lane: &mut PlannedLane,
+) -> Result<(), AllocError>
+    requires { HasTaken input.now }
+    ensures { OnOk result (GoesOn (spots_at place (number, input.now)) lane.old lane.new) }
+{
+    if let Some(taken) = input.taken.get(place) {
+        let link = link_of(alloc, input, taken)?;
+        lane.spec.links.push(Link::Track(link))?;
+        lane.inputs.push(number)?;
+    }
+    Ok(())
+}
+
+/// The lane that a track begins of an input with this number, from 0: at this place it goes on in the inputs that are
+/// appended to that one.
 fn lane_of(
     alloc: Global,
     number: usize,
     input: &Input,
+    place: usize,
     taken: &TakenTrack,
+    behind: &[Input],
 ) -> Result<PlannedLane, AllocError>
-    requires { IsTaken taken.now }
-    ensures { IfOk result (IsLaneOf (spot number input.now taken.now)) }
+    requires taken { IsTaken taken.now }
+    requires behind { All HasTaken behind.now }
+    requires room { number + length behind.now + 1 < 2 ^ 64 }
+    ensures { IfOk result (IsLaneOf (spot number input.now taken.now ∷ spots_behind place (number + 1) behind.now)) }
 {
     let mut links = List::new(alloc);
     links.push(Link::Track(link_of(alloc, input, taken)?))?;
     let mut inputs = List::new(alloc);
     inputs.push(number)?;
-    Ok(PlannedLane {
+    let mut lane = PlannedLane {
         spec: LaneSpec { links },
         inputs,
         cues: rule_of(taken),
-    })
+    };
+    for (k, other) in behind.iter().enumerate() {
+        go_on(alloc, place, number + 1 + k, other, &mut lane)?;
+    }
+    Ok(lane)
 }
 
-/// The lanes of the tracks that are taken, input after input.
+/// The lanes of inputs, one behind the other.
 pub(crate) fn lanes_of(alloc: Global, inputs: &[Input]) -> Result<List<PlannedLane>, AllocError>
     requires { All HasTaken inputs.now }
     ensures { IfOk result (AreLanesOf inputs.now) }
 {
     let mut lanes = List::new(alloc);
     for (number, input) in inputs.iter().enumerate() {
-        for taken in input.taken.as_slice() {
-            lanes.push(lane_of(alloc, number, input, taken)?)?;
+        let behind = appended(&inputs[number + 1..]);
+        for (place, taken) in tracks_begun(input).iter().enumerate() {
+            lanes.push(lane_of(alloc, number, input, place, taken, behind)?)?;
         }
     }
     Ok(lanes)

@@ -1,9 +1,10 @@
 //! What the inputs give besides their tracks and blocks.
 
-ghost use Rattle.std.specs.Prelude.{◌≡◌, drop, map, take, IfOk};
+ghost use Rattle.std.specs.Prelude.{◌≡◌, [], drop, map, take, IfOk};
 ghost use Rattle.std.specs.List.{All};
 ghost use Rattle.merged_records.specs.Inputs.{IsInput};
-ghost use Rattle.merge_plan.specs.Records.{kept_in, records_from, records_in};
+ghost use Rattle.merge_inputs.specs.Input.{read_in};
+ghost use Rattle.merge_plan.specs.Records.{kept_in, records_from, records_in, uids_at, uids_behind};
 ghost use Rattle.merge_plan.specs.Spots.{HasRecords};
 
 use attachment_records::Attachment;
@@ -40,7 +41,7 @@ fn copy_of(alloc: Global, tree: &Option<Tree>) -> Result<Option<Tree>, AllocErro
     }
 }
 
-/// What an input gives besides its tracks and blocks, where its tracks have these TrackUIDs in the output.
+/// What an input gives besides its tracks and blocks, where its lanes have these TrackUIDs.
 fn records_in(alloc: Global, numbers: &[u64], input: &Input) -> Result<InputRecords, AllocError>
     requires { HasRecords input.now }
     ensures exact { IfOk result (λ records. records ≡ records_in numbers.now (kept_in input.now)) }
@@ -57,7 +58,7 @@ fn records_in(alloc: Global, numbers: &[u64], input: &Input) -> Result<InputReco
         track_numbers: List::from_vec(numbers.to_vec(alloc)?),
         attachments: copies(alloc, input.attachments.as_slice())?,
         chapters: copy_of(alloc, &input.chapters)?,
-        shift: None,
+        shift: input.shift,
         tags: copy_of(alloc, &input.tags)?,
         keep: input.keep,
     })
@@ -77,22 +78,45 @@ fn behind(numbers: &[u64], count: usize) -> &[u64]
     &numbers[count.min(numbers.len())..]
 }
 
-/// What inputs give besides their tracks and blocks, where the tracks have these TrackUIDs in the output.
+// The TrackUIDs of an input's lanes: those of the input before it, where it is appended, else the first that are left.
+fn uids_at<'a>(before: &'a [u64], left: &'a [u64], input: &Input) -> &'a [u64]
+    ensures { result.now ≡ uids_at before.now left.now (read_in input.now) }
+{
+    if input.shift.is_some() {
+        before
+    } else {
+        first(left, input.taken.len())
+    }
+}
+
+// What is left then.
+fn uids_behind<'a>(left: &'a [u64], input: &Input) -> &'a [u64]
+    ensures { result.now ≡ uids_behind left.now (read_in input.now) }
+{
+    if input.shift.is_some() {
+        left
+    } else {
+        behind(left, input.taken.len())
+    }
+}
+
+/// What inputs give besides their tracks and blocks, where the lanes of the output have these TrackUIDs.
 pub(crate) fn records_of(
     alloc: Global,
     numbers: &[u64],
     inputs: &[Input],
 ) -> Result<List<InputRecords>, AllocError>
     requires { All HasRecords inputs.now }
-    ensures exact { IfOk result (λ records. records ≡ records_from numbers.now (map kept_in inputs.now)) }
+    ensures exact { IfOk result (λ records. records ≡ records_from [] numbers.now (map kept_in inputs.now)) }
     ensures read { IfOk result (All IsInput) }
 {
     let mut records = List::new(alloc);
+    let mut own: &[u64] = &[];
     let mut left = numbers;
     for input in inputs {
-        let count = input.taken.len();
-        records.push(records_in(alloc, first(left, count), input)?)?;
-        left = behind(left, count);
+        own = uids_at(own, left, input);
+        left = uids_behind(left, input);
+        records.push(records_in(alloc, own, input)?)?;
     }
     Ok(records)
 }

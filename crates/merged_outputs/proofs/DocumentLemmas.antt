@@ -1,5 +1,5 @@
 -- The document of a merge is sound.
-use Rattle.std.proofs.Common.{◌≡◌, ◌<◌, ◌≤◌, ℕ, ◌^◌, List, [], ◌∷◌, ◌++◌, length, length-append, map, Option, Some, None, IfSome, refl, sym, ap, subst, ◌∙◌, arith, unwrap_or}
+use Rattle.std.proofs.Common.{◌≡◌, ◌<◌, ◌≤◌, ℕ, ◌^◌, Bool, true, false, if◌then◌else◌, List, [], ◌∷◌, ◌++◌, length, length-append, map, Option, Some, None, IfSome, refl, sym, ap, subst, ◌∙◌, arith, unwrap_or}
 use Rattle.std.specs.List.{All}
 use Rattle.std.specs.Str.{IsUtf8}
 use Rattle.std.proofs.lemmas.List.Elements.{All-nil, All-cons, All-head, All-tail, All-append}
@@ -38,7 +38,7 @@ use Rattle.merge_words.specs.declared.output.MergeWords.{MergeWords}
 use Rattle.merge_words.specs.Sound.{IsSoundMerge}
 use Rattle.merge_plan.specs.Front.{reads_of}
 use Rattle.merge_plan.specs.Plan.{Source, lanes_given, limits_of, rules_given}
-use Rattle.merge_plan.specs.Records.{first_title, title_of, title_or, tracks_taken}
+use Rattle.merge_plan.specs.Records.{first_title, is_appended, title_of, title_or, tracks_begun, tracks_taken}
 use Rattle.merge_plan.proofs.PlanLemmas.{plan-few}
 use Rattle.mkv_merge.specs.Merge.{document_in}
 use Rattle.mkv_merge.specs.Records.{HaveRecords, IsFilled}
@@ -180,7 +180,11 @@ title-text (Some title) other text rest = text
 all-tracks : (sources : List Source) → All IsReadSource sources → All IsReadTrack (tracks_taken (reads_of sources))
 all-tracks [] each = All-nil IsReadTrack
 all-tracks (s ∷ ss) each =
-    All-append IsReadTrack s.1.taken (tracks_taken (reads_of ss)) (All-head IsReadSource s ss each).tracks (all-tracks ss (All-tail IsReadSource s ss each))
+    All-append IsReadTrack (tracks_begun s.1) (tracks_taken (reads_of ss)) (of (is_appended s.1) (All-head IsReadSource s ss each).tracks) (all-tracks ss (All-tail IsReadSource s ss each))
+  where
+    of : (b : Bool) → All IsReadTrack s.1.taken → All IsReadTrack (if b then [] else s.1.taken)
+    of true tracks = All-nil IsReadTrack
+    of false tracks = tracks
 
 -- ---- the document
 

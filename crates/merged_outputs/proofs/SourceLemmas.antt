@@ -1,5 +1,5 @@
 -- What is read of the inputs of a merge can be written.
-use Rattle.std.proofs.Common.{◌≡◌, ◌<◌, ℕ, suc, ◌+◌, ◌^◌, ◌==◌, Bool, true, false, if◌then◌else◌, cond, List, [], ◌∷◌, length, find, map, Option, Some, None, IfSome, Result, Ok, Err, inl, inr, ◌⊎◌, eqb-true, refl, sym, ap, subst, ◌∙◌, arith, unwrap_or}
+use Rattle.std.proofs.Common.{◌≡◌, ◌<◌, ◌≤◌, ℕ, suc, ◌+◌, ◌^◌, ◌==◌, Bool, true, false, if◌then◌else◌, cond, List, [], ◌∷◌, length, find, map, Option, Some, None, IfSome, Result, Ok, Err, inl, inr, ◌⊎◌, eqb-true, refl, sym, ap, subst, ◌∙◌, arith, unwrap_or}
 use Rattle.std.specs.List.{All, zip}
 use Rattle.std.specs.Option.{option_map, option_map_or}
 use Rattle.std.specs.Str.{IsUtf8, is_utf8}
@@ -40,6 +40,7 @@ use Rattle.file_records.proofs.RecordsLemmas.{AreRead-made}
 use Rattle.record_changes.specs.Entry.{IsWholeEntry}
 use Rattle.record_laws.proofs.WholeLemmas.{read-entries-whole}
 use Rattle.output_records.proofs.RecordLemmas.{title-in}
+use Rattle.merge_model.specs.declared.limits.TheConstants.{MOST_SHIFT}
 use Rattle.merge_words.specs.declared.files.FileWords.{FileWords}
 use Rattle.merge_words.specs.declared.output.MergeWords.{MergeWords}
 use Rattle.merge_words.specs.Sound.{IsSoundFile, IsSoundMerge}
@@ -235,7 +236,12 @@ input-read words webm held bytes read octets sound has is =
       octets = octets;
       title = found.title;
       tracks = λ k d below. record { taken = good k d below; uid = uids k d below; name = (texts k d below).name; language = (texts k d below).language };
+      place = of words.appended;
     })
+  where
+    of : (b : Bool) → unwrap_or (if b then Some 0 else None) 0 ≤ MOST_SHIFT
+    of true = omega arith
+    of false = omega arith
 
 -- ---- all inputs
 

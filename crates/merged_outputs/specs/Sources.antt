@@ -1,12 +1,13 @@
 -- What a merge is made of, as far as it can be written: RFC 9559, section 5.1.4 (Tracks Element).
-use Rattle.std.specs.Prelude.{◌≡◌, ◌<◌, ◌^◌, ℕ, List, Option, None, Some, All, IfSome}
+use Rattle.std.specs.Prelude.{◌≡◌, ◌<◌, ◌≤◌, ◌^◌, ℕ, List, Option, None, Some, All, IfSome}
 use Rattle.std.specs.Str.{IsUtf8}
 use Rattle.ebml_format.specs.Number.{AreOctets}
+use Rattle.merge_model.specs.declared.limits.TheConstants.{MOST_SHIFT}
 use Rattle.merge_words.specs.declared.output.MergeWords.{MergeWords}
 use Rattle.merge_inputs.specs.Taken.{IsTaken}
 use Rattle.merge_inputs.specs.declared.taken.TakenTrack.{TakenTrack}
 use Rattle.merge_plan.specs.Front.{reads_of}
-use Rattle.merge_plan.specs.Plan.{Source}
+use Rattle.merge_plan.specs.Plan.{Source, later_by}
 use Rattle.merge_plan.specs.Refusal.{plan_refusal}
 
 -- what files hold is octets
@@ -22,11 +23,12 @@ pub record IsReadTrack (t : TakenTrack) : Type 0 where
   pub name : IfSome t.name IsUtf8
   pub language : IfSome t.language IsUtf8
 
--- A source of octets, whose title is a text and whose tracks can be written.
+-- A source of octets, whose title is a text and whose tracks can be written, and which isn't later than a lane's link may be.
 pub record IsReadSource (s : Source) : Type 0 where
   pub octets : AreOctets s.0
   pub title : IsUtf8 s.1.title
   pub tracks : All IsReadTrack s.1.taken
+  pub place : later_by s.1 ≤ MOST_SHIFT
 
 -- So is each source of a merge, and nothing refuses them together.
 pub record AreSources (words : MergeWords) (sources : List Source) : Type 0 where

@@ -1,6 +1,7 @@
 -- What is read of inputs one after the other.
-use Rattle.std.proofs.Common.{◌≡◌, ℕ, zero, suc, ◌+◌, ◌*◌, ◌<◌, ◌≤◌, Bool, List, [], ◌∷◌, ◌++◌, length, take, drop, get_or, map, Option, Some, Result, Ok, Err, refl, sym, ◌∙◌, ap, arith, append_assoc}
+use Rattle.std.proofs.Common.{◌≡◌, ℕ, zero, suc, ◌+◌, ◌*◌, ◌<◌, ◌≤◌, Bool, true, false, if◌then◌else◌, List, [], ◌∷◌, ◌++◌, length, take, drop, get_or, map, Option, Some, None, Result, Ok, Err, refl, sym, ◌∙◌, ap, arith, append_assoc}
 use Rattle.std.specs.List.{zip}
+use Rattle.std.specs.Option.{unwrap_or}
 use Rattle.std.proofs.Math.Seq.{take-suc}
 use Rattle.std.proofs.lemmas.List.{append-nil, length-map, map-append}
 use Rattle.std.proofs.lemmas.List.Sums.{sum_by-take-le, sum_by_more}
@@ -11,8 +12,10 @@ use Rattle.mkv_io.specs.Told.{Told}
 use Rattle.input_files.specs.Inputs as files
 use Rattle.merge_words.specs.declared.files.FileWords.{FileWords}
 use Rattle.merge_words.specs.declared.output.MergeWords.{MergeWords}
-use Rattle.merge_inputs.specs.Input.{InputRead, input_of, read_in}
+use Rattle.merge_inputs.specs.Input.{InputRead, IsReadOf, input_of, read_in}
 use Rattle.merge_inputs.specs.declared.input.Input.{Input}
+use Rattle.merge_plan.specs.Plan.{later_by}
+use Rattle.merge_plan.specs.Spots.{HasPlace}
 use Rattle.mkv_merge.specs.Bound.{files_size}
 use Rattle.mkv_merge.specs.Prepared.{AreTold, ReadsAs, reads_in}
 use Rattle.mkv_merge.specs.Read.{inputs_from, inputs_of, numbered}
@@ -111,6 +114,14 @@ files-more inputs input list k file below is of =
   where
     one_more : (n : ℕ) → n + 1 ≡ suc n
     one_more n = omega arith
+
+-- none is later than a lane's link may be
+pub read-place : (file : FileId) (w : FileWords) (i : Input) → IsReadOf file w i → HasPlace i
+read-place file w i is = let none : later_by (read_in i) ≡ 0 = ap (λ (o : Option ℕ). unwrap_or o 0) is.unmoved ∙ of w.appended in omega arith
+  where
+    of : (b : Bool) → ◌≡◌ {A = ℕ} (unwrap_or (if b then Some 0 else None) 0) 0
+    of true = refl
+    of false = refl
 
 -- ---- how much is read
 

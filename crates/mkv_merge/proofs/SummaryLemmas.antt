@@ -1,14 +1,13 @@
 -- What is told of a summary is what a merge of its sources comes to.
-use Rattle.std.proofs.Common.{◌≡◌, ◌≢◌, ℕ, zero, suc, ◌+◌, ◌<◌, ◌≤◌, ◌==◌, max, Bool, true, false, ◌||◌, if◌then◌else◌, List, [], ◌∷◌, ◌++◌, length, map, filter, flat_map, Option, Some, None, refl, sym, ◌∙◌, ap, subst, arith, append-nil}
-use Rattle.std.specs.List.{find, range_with_len, zip}
+use Rattle.std.proofs.Common.{◌≡◌, ◌≢◌, ℕ, zero, suc, ◌+◌, ◌<◌, ◌≤◌, ◌==◌, nat_lt, max, Bool, true, false, ◌||◌, if◌then◌else◌, List, [], ◌∷◌, ◌++◌, length, map, filter, flat_map, Option, Some, None, refl, sym, ◌∙◌, ap, subst, arith, append-nil}
+use Rattle.std.specs.List.{All, enumerate_from, find, list_any, range_with_len, zip}
 use Rattle.std.specs.Option.{option_map_or, option_or}
 use Rattle.std.proofs.lemmas.Bool.Decides.{nat_tests}
-use Rattle.std.proofs.lemmas.List.Elements.{filter-append}
+use Rattle.std.proofs.lemmas.List.{length-map}
+use Rattle.std.proofs.lemmas.List.Elements.{All-head, All-map, All-tail, filter-append}
 use Rattle.std.proofs.lemmas.List.Folds.{find-append}
 use Rattle.mkv_values.specs.declared.damage.Damage.{Damage}
 use Rattle.mkv_io.specs.LiveFiles.{LiveFiles}
-use Rattle.block_format.specs.Events.{Event}
-use Rattle.block_format.specs.Events as events
 use Rattle.cluster_reader.specs.ToldDamages.{ToldDamages, told_damages}
 use Rattle.merge_model.specs.Lanes.{lane_damages}
 use Rattle.merge_model.specs.Links.{Given}
@@ -20,12 +19,14 @@ use Rattle.remux_plan.specs.declared.summary.InputDamage.{InputDamage}
 use Rattle.remux_plan.specs.declared.summary.MoreDamage.{MoreDamage}
 use Rattle.remux_plan.specs.declared.summary.Summary.{Summary}
 use Rattle.merge_words.specs.declared.files.FileWords.{FileWords}
-use Rattle.merge_inputs.specs.Input.{events_in}
+use Rattle.merge_inputs.specs.Input.{InputRead}
 use Rattle.merge_inputs.specs.declared.taken.TakenTrack.{TakenTrack}
 use Rattle.merge_plan.specs.Front.{reads_of}
-use Rattle.merge_plan.specs.Plan.{Source, given_for, inputs_given, lanes_given}
+use Rattle.merge_plan.specs.Plan.{Source, inputs_given, lanes_given, numbers_of}
+use Rattle.merge_plan.specs.Records.{is_appended}
+use Rattle.merge_plan.proofs.ChainLemmas.{numbers-below}
 use Rattle.mkv_lines.specs.Line.{more_damages_line, warning_line}
-use Rattle.mkv_merge.specs.Merge.{damages_in, has_damage, is_some_of, told_lines, warnings}
+use Rattle.mkv_merge.specs.Merge.{damages_met, has_damage, is_some_of, links_met, told_lines, warnings}
 use Rattle.mkv_merge.specs.Told.{damages_at, input_warnings, more_at, warnings_from}
 
 -- ---- tests of numbers
@@ -49,76 +50,12 @@ abbrev Tagged : Type 0
 Tagged = List (ℕ × List Damage)
 
 -- those of an input, by the first of its links
-of_input : Tagged → ℕ → List Damage
-of_input links k = option_map_or (λ (link : ℕ × List Damage). link.1) (find (λ (link : ℕ × List Damage). link.0 == k) links) []
+abbrev first_met : ℕ → Tagged → List Damage
+first_met k links = option_map_or (λ (link : ℕ × List Damage). link.1) (find (λ (link : ℕ × List Damage). link.0 == k) links) []
 
--- lanes by the numbers of their inputs and what their links give
-lane_links : List (List ℕ) → List (List Given) → Tagged
-lane_links [] given = []
-lane_links (ns ∷ numbers) [] = []
-lane_links (ns ∷ numbers) (gs ∷ given) = zip ns (lane_damages gs) ++ lane_links numbers given
-
-links-are : (f : LiveFiles) (lanes : List PlannedLane) → flat_map (link_damages f) lanes ≡ lane_links (map (λ (l : PlannedLane). l.inputs) lanes) (map (map (given_in f)) (links_of lanes))
-unfolding lane_links
+links-are : (f : LiveFiles) (lanes : List PlannedLane) → flat_map (link_damages f) lanes ≡ links_met (map (λ (l : PlannedLane). l.inputs) lanes) (map (map (given_in f)) (links_of lanes))
 links-are f [] = refl
 links-are f (l ∷ lanes) = ap (λ (rest : Tagged). zip l.inputs (lane_damages (map (given_in f) l.spec.links)) ++ rest) (links-are f lanes)
-
--- the links of sources, the first of which has this number: one for each track that is taken
-source_links : ℕ → List Source → Tagged
-source_links n [] = []
-source_links n (s ∷ sources) = map (λ (t : TakenTrack). (n, events.damages_of (events_in s.1 s.0))) s.1.taken ++ source_links (n + 1) sources
-
--- lanes of one link each
-taken-links : (n : ℕ) (found : List Event) (taken : List TakenTrack) (numbers : List (List ℕ)) (given : List (List Given)) → lane_links (map (λ (t : TakenTrack). n ∷ []) taken ++ numbers) (map (λ (t : TakenTrack). given_for found t ∷ []) taken ++ given) ≡ map (λ (t : TakenTrack). (n, events.damages_of found)) taken ++ lane_links numbers given
-unfolding lane_links
-taken-links n found [] numbers given = refl
-taken-links n found (t ∷ taken) numbers given = ap (λ (rest : Tagged). (n, events.damages_of found) ∷ rest) (taken-links n found taken numbers given)
-
-source-links : (n : ℕ) (sources : List Source) → lane_links (inputs_given n (reads_of sources)) (lanes_given sources) ≡ source_links n sources
-unfolding lane_links source_links
-source-links n [] = refl
-source-links n (s ∷ sources) =
-    taken-links n (events_in s.1 s.0) s.1.taken (inputs_given (n + 1) (reads_of sources)) (lanes_given sources)
-    ∙ ap (λ (rest : Tagged). map (λ (t : TakenTrack). (n, events.damages_of (events_in s.1 s.0))) s.1.taken ++ rest) (source-links (n + 1) sources)
-
--- the damages of the k-th source, where the first has this number
-pub source_damages : ℕ → List Source → ℕ → List Damage
-source_damages n [] k = []
-source_damages n (s ∷ sources) k = if n == k then damages_in s else source_damages (n + 1) sources k
-
--- a link of another input, in front of the others
-past-links : (n k : ℕ) (found : List Damage) (taken : List TakenTrack) (rest : Tagged) → (n == k) ≡ false → of_input (map (λ (t : TakenTrack). (n, found)) taken ++ rest) k ≡ of_input rest k
-unfolding of_input
-past-links n k found [] rest other = refl
-past-links n k found (t ∷ taken) rest other =
-    ap (λ (is : Bool). option_map_or (λ (link : ℕ × List Damage). link.1) (if is then Some (n, found) else find (λ (link : ℕ × List Damage). link.0 == k) (map (λ (t : TakenTrack). (n, found)) taken ++ rest)) []) other
-    ∙ past-links n k found taken rest other
-
--- no link has a number below that of the first source
-before-links : (n k : ℕ) (sources : List Source) → k < n → of_input (source_links n sources) k ≡ []
-unfolding of_input source_links
-before-links n k [] below = refl
-before-links n k (s ∷ sources) below =
-    past-links n k (events.damages_of (events_in s.1 s.0)) s.1.taken (source_links (n + 1) sources) (other-is n k (omega arith))
-    ∙ before-links (n + 1) k sources (omega arith)
-
-links-damages : (n k : ℕ) (sources : List Source) → of_input (source_links n sources) k ≡ source_damages n sources k
-unfolding of_input source_links source_damages
-links-damages n k [] = refl
-links-damages n k (s ∷ sources) = step (links-damages (n + 1) k sources) (n == k) refl
-  where
-    found : List Damage
-    found = events.damages_of (events_in s.1 s.0)
-
-    here : (taken : List TakenTrack) → n ≡ k → of_input (map (λ (t : TakenTrack). (n, found)) taken ++ source_links (n + 1) sources) k ≡ (if is_some_of taken then found else [])
-    here [] same = before-links (n + 1) k sources (omega arith)
-    here (t ∷ taken) same = ap (λ (is : Bool). option_map_or (λ (link : ℕ × List Damage). link.1) (if is then Some (n, found) else find (λ (link : ℕ × List Damage). link.0 == k) (map (λ (t : TakenTrack). (n, found)) taken ++ source_links (n + 1) sources)) []) (ap (λ (m : ℕ). n == m) (sym same) ∙ same-is n)
-
-    step : of_input (source_links (n + 1) sources) k ≡ source_damages (n + 1) sources k → (is : Bool) → (n == k) ≡ is → of_input (map (λ (t : TakenTrack). (n, found)) s.1.taken ++ source_links (n + 1) sources) k ≡ (if n == k then damages_in s else source_damages (n + 1) sources k)
-    step behind true is = here s.1.taken (is-same n k is) ∙ sym (ap (λ (b : Bool). if b then damages_in s else source_damages (n + 1) sources k) is)
-    step behind false is =
-        past-links n k found s.1.taken (source_links (n + 1) sources) is ∙ behind
-        ∙ sym (ap (λ (b : Bool). if b then damages_in s else source_damages (n + 1) sources k) is)
 
 -- What is known of the lanes of a merge of these sources.
 pub record AreLanesFor (f : LiveFiles) (sources : List Source) (lanes : List PlannedLane) : Type 0 where
@@ -126,14 +63,35 @@ pub record AreLanesFor (f : LiveFiles) (sources : List Source) (lanes : List Pla
   pub given : map (map (given_in f)) (links_of lanes) ≡ lanes_given sources
 
 -- the damages of an input are those of its source
-pub damages-are : (f : LiveFiles) (sources : List Source) (lanes : List PlannedLane) (k : ℕ) → AreLanesFor f sources lanes → damages_of f lanes k ≡ source_damages 0 sources k
-unfolding of_input
+pub damages-are : (f : LiveFiles) (sources : List Source) (lanes : List PlannedLane) (k : ℕ) → AreLanesFor f sources lanes → damages_of f lanes k ≡ damages_met sources k
 damages-are f sources lanes k are =
-    ap (λ (links : Tagged). of_input links k) (links-are f lanes)
-    ∙ ap (λ (numbers : List (List ℕ)). of_input (lane_links numbers (map (map (given_in f)) (links_of lanes))) k) are.numbers
-    ∙ ap (λ (given : List (List Given)). of_input (lane_links (inputs_given 0 (reads_of sources)) given) k) are.given
-    ∙ ap (λ (links : Tagged). of_input links k) (source-links 0 sources)
-    ∙ links-damages 0 k sources
+    ap (first_met k) (links-are f lanes)
+    ∙ ap (λ (numbers : List (List ℕ)). first_met k (links_met numbers (map (map (given_in f)) (links_of lanes)))) are.numbers
+    ∙ ap (λ (given : List (List Given)). first_met k (links_met (inputs_given 0 (reads_of sources)) given)) are.given
+
+-- no link has the number of a source that isn't there
+zip-none : (ns : List ℕ) (found : List (List Damage)) (k : ℕ) → All (λ m. m < k) ns → find (λ (link : ℕ × List Damage). link.0 == k) (zip ns found) ≡ None
+zip-none [] found k below = refl
+zip-none (n ∷ ns) [] k below = refl
+zip-none (n ∷ ns) (d ∷ found) k below =
+    let first = All-head (λ m. m < k) n ns below in
+    ap (λ (is : Bool). if is then Some (n, d) else find (λ (link : ℕ × List Damage). link.0 == k) (zip ns found)) (other-is n k (omega arith))
+    ∙ zip-none ns found k (All-tail (λ m. m < k) n ns below)
+
+met-none : (numbers : List (List ℕ)) (given : List (List Given)) (k : ℕ) → All (All (λ m. m < k)) numbers → find (λ (link : ℕ × List Damage). link.0 == k) (links_met numbers given) ≡ None
+met-none [] given k below = refl
+met-none (ns ∷ numbers) [] k below = refl
+met-none (ns ∷ numbers) (gs ∷ given) k below =
+    find-append (λ (link : ℕ × List Damage). link.0 == k) (zip ns (lane_damages gs)) (links_met numbers given)
+    ∙ ap (λ (o : Option (ℕ × List Damage)). option_or o (find (λ (link : ℕ × List Damage). link.0 == k) (links_met numbers given))) (zip-none ns (lane_damages gs) k (All-head (All (λ m. m < k)) ns numbers below))
+    ∙ met-none numbers given k (All-tail (All (λ m. m < k)) ns numbers below)
+
+-- so it has no damages
+past-source : (sources : List Source) (k : ℕ) → length sources ≤ k → damages_met sources k ≡ []
+past-source sources k past =
+    let many : length (reads_of sources) ≡ length sources = length-map sources (λ (s : Source). s.1) in
+    let below : All (All (λ m. m < k)) (inputs_given 0 (reads_of sources)) = numbers-below (λ (each : ℕ × InputRead). is_appended each.1) numbers_of (λ each. All-map (λ m. m ≡ each.0) (λ (t : TakenTrack). each.0) each.1.taken (λ n d inside. refl)) 0 k (reads_of sources) (omega arith) in
+    ap (λ (o : Option (ℕ × List Damage)). option_map_or (λ (link : ℕ × List Damage). link.1) o []) (met-none (inputs_given 0 (reads_of sources)) (lanes_given sources) k below)
 
 -- ---- no lane has a link of an input of a higher number
 
@@ -281,28 +239,16 @@ input-told found count s tells k name =
 one_more : (n : ℕ) → n + 1 ≡ suc n
 one_more n = omega arith
 
--- the damages of the first source, and of those behind it
-first-source : (n : ℕ) (s : Source) (sources : List Source) → source_damages n (s ∷ sources) n ≡ damages_in s
-unfolding source_damages
-first-source n s sources = ap (λ (is : Bool). if is then damages_in s else source_damages (n + 1) sources n) (same-is n)
+all-warnings : (s : Summary) (found : ℕ → List Damage) (sources : List Source) → ((k : ℕ) (name : List ℕ) → input_warnings s k name ≡ told_lines name (told_damages (found k)))
+    → ((k : ℕ) → found k ≡ damages_met sources k) → (n : ℕ) (files : List FileWords) → warnings_from s n files ≡ flat_map (warnings sources) (enumerate_from n files)
+all-warnings s found sources told are n [] = refl
+all-warnings s found sources told are n (file ∷ files) =
+    ap (λ (lines : List (List ℕ)). lines ++ warnings_from s (suc n) files) (told n file.name ∙ ap (λ (list : List Damage). told_lines file.name (told_damages list)) (are n))
+    ∙ ap (λ (lines : List (List ℕ)). told_lines file.name (told_damages (damages_met sources n)) ++ lines)
+    (ap (λ (m : ℕ). warnings_from s m files) (sym (one_more n)) ∙ all-warnings s found sources told are (n + 1) files)
 
-next-source : (n k : ℕ) (s : Source) (sources : List Source) → suc n ≤ k → source_damages n (s ∷ sources) k ≡ source_damages (suc n) sources k
-unfolding source_damages
-next-source n k s sources above =
-    let apart : n ≢ k = omega arith in
-    ap (λ (is : Bool). if is then damages_in s else source_damages (n + 1) sources k) (other-is n k apart)
-    ∙ ap (λ (m : ℕ). source_damages m sources k) (one_more n)
-
-all-warnings : (s : Summary) (found : ℕ → List Damage) → ((k : ℕ) (name : List ℕ) → input_warnings s k name ≡ told_lines name (told_damages (found k)))
-    → (n : ℕ) (files : List FileWords) (sources : List Source) → ((k : ℕ) → n ≤ k → found k ≡ source_damages n sources k) → length files ≡ length sources → warnings_from s n files ≡ flat_map warnings (zip files sources)
-all-warnings s found told n [] sources are many = refl
-all-warnings s found told n (file ∷ files) [] are many = absurd (omega arith)
-all-warnings s found told n (file ∷ files) (source ∷ sources) are many =
-    ap (λ (lines : List (List ℕ)). lines ++ warnings_from s (suc n) files) (told n file.name ∙ ap (λ (list : List Damage). told_lines file.name (told_damages list)) (are n (omega arith) ∙ first-source n source sources))
-    ∙ ap (λ (lines : List (List ℕ)). told_lines file.name (told_damages (damages_in source)) ++ lines) (all-warnings s found told (suc n) files sources (λ k above. are k (omega arith) ∙ next-source n k source sources above) (omega arith))
-
-pub warnings-told : (found : ℕ → List Damage) (count : ℕ) (s : Summary) (files : List FileWords) (sources : List Source) → Tells found count s → ((k : ℕ) → found k ≡ source_damages 0 sources k) → length files ≡ length sources → warnings_from s 0 files ≡ flat_map warnings (zip files sources)
-warnings-told found count s files sources tells are many = all-warnings s found (input-told found count s tells) 0 files sources (λ k above. are k) many
+pub warnings-told : (found : ℕ → List Damage) (count : ℕ) (s : Summary) (files : List FileWords) (sources : List Source) → Tells found count s → ((k : ℕ) → found k ≡ damages_met sources k) → warnings_from s 0 files ≡ flat_map (warnings sources) (enumerate_from 0 files)
+warnings-told found count s files sources tells are = all-warnings s found sources (input-told found count s tells) are 0 files
 
 -- ---- whether there are any
 
@@ -319,22 +265,28 @@ neither true b none = absurd (cc)
 neither false b none = (refl, none)
 
 -- no source has one
-none-found : (n : ℕ) (sources : List Source) → ((k : ℕ) → n ≤ k → source_damages n sources k ≡ []) → has_damage sources ≡ false
-none-found n [] none = refl
-none-found n (s ∷ sources) none =
-    ap (λ (found : List Damage). is_some_of found || has_damage sources) (sym (first-source n s sources) ∙ none n (omega arith))
-    ∙ none-found (suc n) sources (λ k above. sym (next-source n k s sources above) ∙ none k (omega arith))
+none-any : (sources : List Source) → ((k : ℕ) → damages_met sources k ≡ []) → (n count : ℕ) → list_any (λ k. is_some_of (damages_met sources k)) (range_with_len n count) ≡ false
+none-any sources none n zero = refl
+none-any sources none n (suc count) =
+    ap (λ (found : List Damage). is_some_of found || list_any (λ k. is_some_of (damages_met sources k)) (range_with_len (n + 1) count)) (none n)
+    ∙ none-any sources none (n + 1) count
 
-found-none : (n k : ℕ) (sources : List Source) → has_damage sources ≡ false → source_damages n sources k ≡ []
-unfolding source_damages
-found-none n k [] none = refl
-found-none n k (s ∷ sources) none =
-    let both = neither (is_some_of (damages_in s)) (has_damage sources) none in
-    step (n == k) (none-is (damages_in s) both.0) (found-none (n + 1) k sources both.1)
+any-none : (sources : List Source) (k n count : ℕ) → n ≤ k → k < n + count → list_any (λ j. is_some_of (damages_met sources j)) (range_with_len n count) ≡ false → damages_met sources k ≡ []
+any-none sources k n zero from past none = absurd (omega arith)
+any-none sources k n (suc count) from past none =
+    let both = neither (is_some_of (damages_met sources n)) (list_any (λ j. is_some_of (damages_met sources j)) (range_with_len (n + 1) count)) none in
+    step (none-is (damages_met sources n) both.0) (λ above. any-none sources k (n + 1) count above (omega arith) both.1) (n == k) refl
   where
-    step : (is : Bool) → damages_in s ≡ [] → source_damages (n + 1) sources k ≡ [] → (if is then damages_in s else source_damages (n + 1) sources k) ≡ []
-    step true here behind = here
-    step false here behind = behind
+    step : damages_met sources n ≡ [] → (n + 1 ≤ k → damages_met sources k ≡ []) → (is : Bool) → (n == k) ≡ is → damages_met sources k ≡ []
+    step here behind true is = ap (damages_met sources) (sym (is-same n k is)) ∙ here
+    step here behind false is = let apart = is-other n k is in behind (omega arith)
+
+found-none : (k : ℕ) (sources : List Source) → has_damage sources ≡ false → damages_met sources k ≡ []
+found-none k sources none = step (nat_lt k (length sources)) refl
+  where
+    step : (is : Bool) → nat_lt k (length sources) ≡ is → damages_met sources k ≡ []
+    step true is = any-none sources k 0 (length sources) (omega arith) (grind (arith, nat_tests)) none
+    step false is = past-source sources k (grind (arith, nat_tests))
 
 none-told : (found : ℕ → List Damage) → ((k : ℕ) → found k ≡ []) → (n count : ℕ) → flat_map (λ input. first_damages input (told_damages (found input))) (range_with_len n count) ≡ []
 none-told found none n zero = refl
@@ -342,15 +294,15 @@ none-told found none n (suc count) =
     ap (λ (list : List Damage). first_damages n (told_damages list) ++ flat_map (λ input. first_damages input (told_damages (found input))) (range_with_len (n + 1) count)) (none n)
     ∙ none-told found none (n + 1) count
 
-pub some-told : (found : ℕ → List Damage) (count : ℕ) (s : Summary) (sources : List Source) → Tells found count s → ((k : ℕ) → found k ≡ source_damages 0 sources k) → is_some_of s.damages ≡ has_damage sources
+pub some-told : (found : ℕ → List Damage) (count : ℕ) (s : Summary) (sources : List Source) → Tells found count s → ((k : ℕ) → found k ≡ damages_met sources k) → is_some_of s.damages ≡ has_damage sources
 some-told found count s sources tells are = step (is_some_of s.damages) (has_damage sources) refl refl
   where
     step : (a b : Bool) → is_some_of s.damages ≡ a → has_damage sources ≡ b → is_some_of s.damages ≡ has_damage sources
     step true true is there = is ∙ sym there
     step false false is there = is ∙ sym there
     step true false is there =
-        let none : s.damages ≡ [] = tells.damages ∙ none-told found (λ k. are k ∙ found-none 0 k sources there) 0 count in
+        let none : s.damages ≡ [] = tells.damages ∙ none-told found (λ k. are k ∙ found-none k sources there) 0 count in
         ap is_some_of none ∙ sym there
     step false true is there =
         let none : s.damages ≡ [] = none-is s.damages is in
-        is ∙ sym (none-found 0 sources (λ k above. sym (are k) ∙ first-none k (found k) (sym (damages-told found count s tells k) ∙ ap (damages_at k) none)))
+        is ∙ sym (none-any sources (λ k. sym (are k) ∙ first-none k (found k) (sym (damages-told found count s tells k) ∙ ap (damages_at k) none)) 0 (length sources))

@@ -1,12 +1,12 @@
 -- A merge that was prepared can be written, and comes to its verdict.
 use Rattle.std.proofs.Common.{◌≡◌, ◌≢◌, ℕ, zero, suc, ◌+◌, ◌*◌, ◌<◌, ◌≤◌, nat_le, Bool, true, false, ◌||◌, List, [], ◌∷◌, ◌++◌, length, map, get_or, Option, Some, None, Result, Ok, Err, IfOk, IfSome, refl, sym, ◌∙◌, ap, subst, arith}
-use Rattle.std.specs.List.{All, AllByRecursion, flat_map, zip}
+use Rattle.std.specs.List.{All, AllByRecursion, flat_map, sum_by, zip}
 use Rattle.std.specs.Option.{unwrap_or}
 use Rattle.std.proofs.Math.ListN.{get_or-map}
 use Rattle.std.proofs.lemmas.List.{length-map}
 use Rattle.std.proofs.lemmas.Bool.Decides.{nat_tests}
 use Rattle.std.proofs.lemmas.List.Elements.{All-append, All-from_recursion, All-map, All-weaker}
-use Rattle.std.proofs.lemmas.List.Sums.{get_or-le-sum_by, sum_by-le}
+use Rattle.std.proofs.lemmas.List.Sums.{sum_by-cons, sum_by-le}
 use Rattle.mkv_values.specs.declared.outside.FileId.{FileId}
 use Rattle.mkv_io.specs.Faults.{counted}
 use Rattle.mkv_io.specs.Lines.{with_lines}
@@ -57,10 +57,11 @@ use Rattle.input_files.specs.Inputs as files
 use Rattle.merge_inputs.specs.Input.{InputRead, IsInput, read_in}
 use Rattle.merge_inputs.specs.declared.input.Input.{Input}
 use Rattle.merge_inputs.specs.declared.taken.TakenTrack.{TakenTrack}
-use Rattle.merge_plan.specs.Plan.{Source, inputs_given, lanes_given, limits_of, rules_given}
+use Rattle.merge_plan.specs.Plan.{Source, inputs_given, lanes_given, limits_of, numbers_of, rules_given}
 use Rattle.merge_plan.specs.Planned.{AllLinks, CanBeWritten, IsFileOf, IsPlanOf, IsToldInput, source_in}
 use Rattle.merge_plan.specs.Front.{attached_length, attachments_of, front_of, reads_of}
-use Rattle.merge_plan.specs.Records.{chapters_of, tags_of}
+use Rattle.merge_plan.specs.Records.{chapters_of, is_appended, tags_of}
+use Rattle.merge_plan.proofs.ChainLemmas.{numbers-below}
 use Rattle.merge_plan.proofs.FileLemmas.{reads-in}
 use Rattle.mkv_lines.specs.Line.{wrote_blocks_line}
 use Rattle.mkv_lines.specs.Said.{ReportLines, Says, SaysPart}
@@ -95,16 +96,9 @@ many-inputs r f files words ids inputs opened of =
     ∙ length-map words.files (λ (w : FileWords). w.name)
 
 -- the numbers of the inputs are small
-numbers-small : (n : ℕ) (reads : List InputRead) → n + length reads ≤ MOST_INPUTS → All (All (λ (i : ℕ). i < MOST_INPUTS)) (inputs_given n reads)
-numbers-small n [] few = λ k d below. absurd (omega arith)
-numbers-small n (i ∷ is) few =
-    All-append (All (λ (i : ℕ). i < MOST_INPUTS)) (map (λ (t : TakenTrack). n ∷ []) i.taken) (inputs_given (n + 1) is)
-    (All-map (All (λ (i : ℕ). i < MOST_INPUTS)) (λ (t : TakenTrack). n ∷ []) i.taken (λ k d below. one n (omega arith)))
-    (numbers-small (n + 1) is (omega arith))
-  where
-    one : (n : ℕ) → n < MOST_INPUTS → All (λ (i : ℕ). i < MOST_INPUTS) (n ∷ [])
-    one n small zero d below = small
-    one n small (suc k) d below = absurd (omega arith)
+numbers-small : (reads : List InputRead) → length reads ≤ MOST_INPUTS → All (All (λ (i : ℕ). i < MOST_INPUTS)) (inputs_given 0 reads)
+numbers-small reads few =
+    numbers-below (λ (each : ℕ × InputRead). is_appended each.1) numbers_of (λ each. All-map (λ m. m ≡ each.0) (λ (t : TakenTrack). each.0) each.1.taken (λ k d below. refl)) 0 MOST_INPUTS reads (omega arith)
 
 -- a record has its ID, where it is there
 pub record-id : (own : ℕ) (n : Option Node) → IfSome n (IsRecord own) → IfSome n (λ (m : Node). id_of m ≡ own)
@@ -141,12 +135,12 @@ plan-good {S = S} r f files words ids p sound opened apart prepared =
       scale = subst (λ (l : ClusterLimits). 1 ≤ l.scale) (sym plan.limits) (omega (arith, sound.scale.least));
       few = written.few;
       lanes = λ k d below. record {
-        few = omega (arith, (written.one k d below).0);
+        few = omega (arith, (written.linked k d below).few, many, sound.files.most);
         small = All-unmap (All IsSmallLink) (λ (l : PlannedLane). l.spec.links) lanes written.small k d below;
         live = All-unmap (All (IsOpenLink (live_files r files))) (λ (l : PlannedLane). l.spec.links) lanes (written.is_open (live_files r files) prepared.inputs.good) k d below;
         apart = All-unmap (All (IsApartLink (f.holder files) (p.plan.output ∷ []))) (λ (l : PlannedLane). l.spec.links) lanes (written.apart (f.holder files) (p.plan.output ∷ []) others) k d below;
-        numbered = (written.one k d below).1 ∙ sym (written.one k d below).0;
-        inputs = All-unmap (All (λ (i : ℕ). i < MOST_INPUTS)) (λ (l : PlannedLane). l.inputs) lanes (subst (All (All (λ (i : ℕ). i < MOST_INPUTS))) (sym plan.numbers) (numbers-small 0 (map read_in p.inputs) (omega (arith, length-map p.inputs read_in, many, sound.files.most)))) k d below;
+        numbered = (written.linked k d below).numbered;
+        inputs = All-unmap (All (λ (i : ℕ). i < MOST_INPUTS)) (λ (l : PlannedLane). l.inputs) lanes (subst (All (All (λ (i : ℕ). i < MOST_INPUTS))) (sym plan.numbers) (numbers-small (map read_in p.inputs) (omega (arith, length-map p.inputs read_in, many, sound.files.most)))) k d below;
       };
       records = record {
         info = written.info.id;
@@ -279,59 +273,19 @@ records-none found why r is = subst (λ (o : Result (List Source) Refusal). Ends
 
 -- ---- how much is read
 
--- an empty content, where it is told
-abbrev told_by : Bool → Option (List ℕ)
-told_by true = Some []
-told_by false = None
+-- the inputs together are as long as their files
+inputs-size : (f : LiveFiles) (inputs : List Input) → sum_by (λ (i : Input). f.size i.file.n) inputs ≡ files_size f (map (λ (i : Input). i.file) inputs)
+inputs-size f [] = refl
+inputs-size f (i ∷ is) =
+    sum_by-cons (λ (each : Input). f.size each.file.n) i is ∙ ap (λ (n : ℕ). f.size i.file.n + n) (inputs-size f is)
+    ∙ sym (sum_by-cons (λ (file : FileId). f.size file.n) i.file (map (λ (each : Input). each.file) is))
 
--- Files of which those are told that are no longer than so much.
-abbrev told_up_to : LiveFiles → ℕ → LiveFiles
-told_up_to f most = record { live = f.live; size = f.size; content = λ file. told_by (nat_le (f.size file) most) }
-
--- no input's file is longer than all together
-inputs-within : (f : LiveFiles) (inputs : List Input) → All (λ (i : Input). f.size i.file.n ≤ files_size f (map (λ (i : Input). i.file) inputs)) inputs
-inputs-within f inputs =
-    All-unmap (λ (file : FileId). f.size file.n ≤ files_size f (map (λ (i : Input). i.file) inputs)) (λ (i : Input). i.file) inputs
-    (λ k d below. get_or-le-sum_by (λ (file : FileId). f.size file.n) (map (λ (i : Input). i.file) inputs) k d below)
-
--- so no link's file is: the links tell no more than the inputs
-links-within : (f : LiveFiles) (words : MergeWords) (ids : List FileId) (p : Prepared) → IsPrepared f words ids p → AllLinks (λ (link : Link). walks.file_length f link ≤ files_size f ids) p.plan
-links-within f words ids p prepared =
-    subst (λ (list : List FileId). AllLinks (λ (link : Link). walks.file_length f link ≤ files_size f list) p.plan) prepared.inputs.of
-    (All-weaker (All (IsToldLink (told_up_to f all))) (All (λ (link : Link). walks.file_length f link ≤ all))
-    (All-weaker (IsToldLink (told_up_to f all)) (λ (link : Link). walks.file_length f link ≤ all) told-within) (links_of p.plan.lanes)
-    (prepared.written.told (told_up_to f all) (λ n i below. within-told (f.size (get_or p.inputs n i).file.n) (inputs-within f p.inputs n i below))))
-  where
-    all : ℕ
-    all = files_size f (map (λ (i : Input). i.file) p.inputs)
-
-    within-told : (size : ℕ) → size ≤ all → told_by (nat_le size all) ≡ Some (unwrap_or (told_by (nat_le size all)) [])
-    within-told size below = step (nat_le size all) (grind (arith, nat_tests))
-      where
-        step : (is : Bool) → is ≡ true → told_by is ≡ Some (unwrap_or (told_by is) [])
-        step true is = refl
-        step false is = absurd (cc)
-
-    told-within : (link : Link) → IsToldLink (told_up_to f all) link → walks.file_length f link ≤ all
-    told-within (Track t) told = step (nat_le (f.size t.file.n) all) refl told
-      where
-        step : (is : Bool) → nat_le (f.size t.file.n) all ≡ is → told_by is ≡ Some (unwrap_or (told_by is) []) → f.size t.file.n ≤ all
-        step true is told = grind (arith, nat_tests)
-        step false is told = absurd (cc)
-    told-within (Entries e) told = omega arith
-
--- one link is no longer than all inputs
-one-within : (f : LiveFiles) (most : ℕ) (links : List Link) → length links ≡ 1 → All (λ (link : Link). walks.file_length f link ≤ most) links → walks.files_length f links ≤ most
-one-within f most [] one within = absurd (omega arith)
-one-within f most (link ∷ []) one within = omega (arith, within 0 link (omega arith))
-one-within f most (link ∷ (other ∷ links)) one within = absurd (omega arith)
-
--- a lane reads the file of one input
+-- a lane reads the file of each input at most once
 pub lengths-within : (f : LiveFiles) (words : MergeWords) (ids : List FileId) (p : Prepared) → IsPrepared f words ids p → inputs_length f p.plan ≤ length p.plan.lanes * files_size f ids
 lengths-within f words ids p prepared =
+    let size : sum_by (λ (i : Input). f.size i.file.n) p.inputs ≡ files_size f ids = inputs-size f p.inputs ∙ ap (files_size f) prepared.inputs.of in
     sum_by-le (λ (l : PlannedLane). walks.files_length f l.spec.links) (files_size f ids) p.plan.lanes
-    (λ k l below. one-within f (files_size f ids) (get_or p.plan.lanes k l).spec.links (prepared.written.one k l below).0
-    (All-unmap (All (λ (link : Link). walks.file_length f link ≤ files_size f ids)) (λ (each : PlannedLane). each.spec.links) p.plan.lanes (links-within f words ids p prepared) k l below))
+    (subst (λ (n : ℕ). All (λ (l : PlannedLane). walks.files_length f l.spec.links ≤ n) p.plan.lanes) size (prepared.written.once f))
 
 -- what a merge of this plan may read
 pub plan-reads : (f : LiveFiles) (words : MergeWords) (ids : List FileId) (p : Prepared) (old new : ℕ) → IsPrepared f words ids p → new ≤ old + 6 * inputs_length f p.plan + data_length p.plan → new ≤ old + (6 * (length p.plan.lanes * files_size f ids) + data_length p.plan)
@@ -364,10 +318,7 @@ behind-told f words inputs p sources s is sums =
     ∙ ap (λ (name : List ℕ). wrote_blocks_line name (counted 0 (length (planned.blocks_of f p))) ∷ warnings_from s 0 words.files) is.plan.output
     ∙ ap (λ (bs : List OutputBlock). wrote_blocks_line words.output (counted 0 (length bs)) ∷ warnings_from s 0 words.files) (blocks-are f words inputs p sources is)
     ∙ ap (λ (lines : List (List ℕ)). wrote_blocks_line words.output (counted 0 (length (blocks_of words sources))) ∷ lines)
-    (warnings-told (damages_of f p.lanes) _ s words.files sources (tells-is f p s sums) (λ k. damages-are f sources p.lanes k (lanes-for f words inputs p sources is)) many)
-  where
-    many : length words.files ≡ length sources
-    many = is.many ∙ sym (length-map inputs (source_in f)) ∙ ap length is.from
+    (warnings-told (damages_of f p.lanes) _ s words.files sources (tells-is f p s sums) (λ k. damages-are f sources p.lanes k (lanes-for f words inputs p sources is)))
 
 warned-told : (f : LiveFiles) (words : MergeWords) (inputs : List Input) (p : MergePlan) (sources : List Source) (s : Summary) → IsMergeOf f words inputs p sources → IsSummary f p s → (absent : Bool) → is_warned absent s ≡ (absent || has_damage sources)
 warned-told f words inputs p sources s is sums absent =

@@ -1,21 +1,22 @@
 -- What `merge` comes to.
-use Rattle.std.specs.Prelude.{ℕ, nat_le, Bool, true, false, ◌||◌, if◌then◌else◌, List, [], ◌∷◌, ◌++◌, length, map, filter, flat_map, Option, Some, None, Result, Ok, Err}
-use Rattle.std.specs.List.{list_any, zip}
+use Rattle.std.specs.Prelude.{ℕ, ◌==◌, nat_le, Bool, true, false, ◌||◌, if◌then◌else◌, List, [], ◌∷◌, ◌++◌, length, map, filter, flat_map, Option, Some, None, Result, Ok, Err}
+use Rattle.std.specs.List.{enumerate_from, find, list_any, range_with_len, zip}
+use Rattle.std.specs.Option.{option_map_or}
 use Rattle.mkv_values.specs.declared.damage.Damage.{Damage}
 use Rattle.mkv_io.specs.Faults.{counted}
-use Rattle.block_format.specs.Events.{damages_of}
 use Rattle.cluster_reader.specs.ToldDamages.{ToldDamages, told_damages}
 use Rattle.output_model.specs.OutputBlock.{OutputBlock}
 use Rattle.output_model.specs.Document.{Document}
-use Rattle.merge_model.specs.Lanes.{lane_blocks}
+use Rattle.merge_model.specs.Lanes.{lane_blocks, lane_damages}
+use Rattle.merge_model.specs.Links.{Given}
 use Rattle.merge_model.specs.Merged.{merged}
 use Rattle.cluster_runs.specs.Cued.{document_of}
 use Rattle.cues_seekhead.specs.Draft.{draft_of}
 use Rattle.merge_words.specs.declared.files.FileWords.{FileWords}
 use Rattle.merge_words.specs.declared.output.MergeWords.{MergeWords}
-use Rattle.merge_inputs.specs.Input.{InputRead, events_in}
+use Rattle.merge_inputs.specs.Input.{InputRead}
 use Rattle.merge_plan.specs.declared.refusal.PlanRefusal.{PlanRefusal}
-use Rattle.merge_plan.specs.Plan.{Source, lanes_given, limits_of, rules_given}
+use Rattle.merge_plan.specs.Plan.{Source, inputs_given, lanes_given, limits_of, rules_given}
 use Rattle.merge_plan.specs.Front.{front_of, reads_of}
 use Rattle.merge_plan.specs.Records.{chapters_of, tags_of}
 use Rattle.merge_plan.specs.Refusal.{plan_refusal}
@@ -77,16 +78,23 @@ absent f = absent_of f.0 f.1.count
 abbrev pub absent_lines : FileWords × InputRead → List (List ℕ)
 absent_lines f = map (no_track_line f.0.name) (absent f)
 
--- the damages of a source of which a track is taken
-abbrev pub damages_in : Source → List Damage
-damages_in s = if is_some_of s.1.taken then damages_of (events_in s.1 s.0) else []
+-- the links of lanes: of each the number of its source, and the damages that are met in it
+abbrev pub links_met : List (List ℕ) → List (List Given) → List (ℕ × List Damage)
+links_met [] given = []
+links_met (ns ∷ numbers) [] = []
+links_met (ns ∷ numbers) (gs ∷ given) = zip ns (lane_damages gs) ++ links_met numbers given
+
+-- the damages of the source of this number: those that are met in the first of its links, of which no lane may have one
+abbrev pub damages_met : List Source → ℕ → List Damage
+damages_met sources k = option_map_or (λ (link : ℕ × List Damage). link.1) (find (λ (link : ℕ × List Damage). link.0 == k) (links_met (inputs_given 0 (reads_of sources)) (lanes_given sources))) []
 
 -- a warning for each of those that are told one by one, and the number of the others
 abbrev pub told_lines : List ℕ → ToldDamages → List (List ℕ)
 told_lines name told = damage_lines name told.first told.more
 
-abbrev pub warnings : FileWords × Source → List (List ℕ)
-warnings f = told_lines f.0.name (told_damages (damages_in f.1))
+-- what is warned of a source, by its number
+abbrev pub warnings : List Source → ℕ × FileWords → List (List ℕ)
+warnings sources each = told_lines each.1.name (told_damages (damages_met sources each.0))
 
 -- a track isn't there
 abbrev pub has_absent : MergeWords → List InputRead → Bool
@@ -94,7 +102,7 @@ has_absent words reads = list_any (λ f. is_some_of (absent f)) (zip words.files
 
 -- something is wrong with a source
 abbrev pub has_damage : List Source → Bool
-has_damage sources = list_any (λ s. is_some_of (damages_in s)) sources
+has_damage sources = list_any (λ k. is_some_of (damages_met sources k)) (range_with_len 0 (length sources))
 
 -- ---- the verdict
 
@@ -108,7 +116,7 @@ lines_before words reads = flat_map absent_lines (zip words.files reads)
 
 abbrev pub lines_behind : MergeWords → List Source → List (List ℕ)
 lines_behind words sources =
-    wrote_blocks_line words.output (counted 0 (length (blocks_of words sources))) ∷ flat_map warnings (zip words.files sources)
+    wrote_blocks_line words.output (counted 0 (length (blocks_of words sources))) ∷ flat_map (warnings sources) (enumerate_from 0 words.files)
 
 -- the tracks that aren't there, the output, and what is wrong with the inputs
 abbrev pub merged_verdict : MergeWords → List Source → Verdict

@@ -8,6 +8,7 @@ use Rattle.merge_words.specs.declared.output.MergeWords.{MergeWords}
 use Rattle.merge_inputs.specs.Input.{InputRead, IsInput, read_in}
 use Rattle.merge_inputs.specs.declared.input.Input.{Input}
 use Rattle.merge_plan.specs.Planned.{CanBeWritten, IsPlanOf}
+use Rattle.merge_plan.specs.Spots.{HasPlace}
 use Rattle.mkv_merge.specs.Merge.{sources_with}
 use Rattle.mkv_merge.specs.declared.preparing.Prepared.{Prepared}
 use Rattle.mkv_merge.specs.declared.refusal.MergeEnd.{MergeEnd}
@@ -27,10 +28,11 @@ ReadsAs shown found (Err (Stopped stop)) = ⊤
 abbrev pub reads_in : List Input → List InputRead
 reads_in inputs = map read_in inputs
 
--- The inputs are those of these files.
+-- The inputs are those of these files, none later than a lane's link may be.
 pub record AreInputsOf (f : LiveFiles) (list : List FileId) (inputs : List Input) : Type 0 where
   pub good : All (IsInput f) inputs
   pub of : map (λ (i : Input). i.file) inputs ≡ list
+  pub places : All HasPlace inputs
 
 -- The inputs are those of these files, and the plan is theirs.
 pub record IsPrepared (f : LiveFiles) (words : MergeWords) (list : List FileId) (p : Prepared) : Type 0 where

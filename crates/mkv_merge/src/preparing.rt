@@ -6,7 +6,7 @@ ghost use Rattle.mkv_io.specs.Faults.{HasCause};
 ghost use Rattle.mkv_io.specs.Sources.{IfTold, IsLive, file_size, live_files};
 ghost use Rattle.mkv_outputs.specs.Sinks.{AreLive};
 ghost use Rattle.merge_words.specs.Sound.{IsSoundFile, IsSoundMerge};
-ghost use Rattle.merge_inputs.specs.Input.{IsInput, input_of, read_in};
+ghost use Rattle.merge_inputs.specs.Input.{IsInput, IsReadOf, input_of, read_in};
 ghost use Rattle.mkv_merge.specs.Bound.{files_size};
 ghost use Rattle.mkv_merge.specs.Ends.{is_files_fault};
 ghost use Rattle.mkv_merge.specs.Prepared.{AreInputsOf, AreTold, IsPrepared, Prepares, ReadsAs, reads_in};
@@ -43,7 +43,7 @@ fn read_one<R: Reads>(
     requires delays { IsSoundFile words.now }
     ensures exact { IfTold R.Reads src.old file (λ bytes. ReadsAs read_in (numbered input (input_of words.now webm held bytes)) result) }
     ensures input { IfOk result (IsInput (live_files R.Reads src.new)) }
-    ensures file { IfOk result (λ read. read.file ≡ file) }
+    ensures file { IfOk result (IsReadOf file words.now) }
     ensures standing { R.standing src.new ≡ R.standing src.old }
     ensures cause { HasCause is_files_fault (R.reading_faults src.old) (R.reading_faults src.new) result }
     ensures octets { R.octets_read src.new ≤ R.octets_read src.old + 24 * file_size R.Reads src.old file }

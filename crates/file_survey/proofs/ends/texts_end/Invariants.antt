@@ -1,6 +1,10 @@
-use Rattle.std.proofs.Common.{◌≡◌, max, drop}
+use Rattle.std.proofs.Common.{◌≡◌, ◌≤◌, max, drop}
 use Rattle.file_survey.specs.Ends.{texts_end}
+use Rattle.file_survey.specs.declared.found.TheConstants.{MOST_END}
 use Rattle.file_survey.proofs.ends.texts_end.Given as goal
 
 abbrev pub invariant-loop-link : goal.invariant-loop-link
-invariant-loop-link l = max l.end (texts_end (drop l.link-index l.links)) ≡ texts_end l.links
+invariant-loop-link l = record {
+  exact : max l.end (texts_end (drop l.link-index l.links)) ≡ texts_end l.links;
+  small : l.end ≤ MOST_END;
+}

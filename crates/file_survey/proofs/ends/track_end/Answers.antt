@@ -7,8 +7,8 @@ use Rattle.file_survey.specs.Ends.{lasting_for}
 use Rattle.file_survey.proofs.EndLemmas.{end-taken}
 use Rattle.file_survey.proofs.ends.track_end.Goals as goal
 
-pub returns : goal.returns
-returns c =
+pub returns-clause-exact : goal.returns-clause-exact
+returns-clause-exact c =
     let t = c.args.track.now in
     let b = c.args.cursor.now.block in
     let time = c.head-block.result.now.time in

@@ -19,7 +19,7 @@ pub returns-in_default-clause-value : goal.returns-in_default-clause-value
 returns-in_default-clause-value g c = λ told.
     survey-texts (live_files g.R.Reads c.args.src.now) c.args.links.now c.texts_end.result
     (ap first_track (sym c.as_slice-links.ensures) ∙ sym c.in_default.ensures)
-    (c.texts_end.ensures ∙ ap texts_end c.as_slice-links.ensures)
+    (c.texts_end.ensures.exact ∙ ap texts_end c.as_slice-links.ensures)
 
 -- ---- the file of the first
 

@@ -15,8 +15,9 @@ steps-init g c = record {
   ready = c.requires.ready;
   file = refl;
   pays = omega arith;
-  texts = omega (arith, c.texts_end.ensures);
-  end = λ bytes told. ap (λ (n : ℕ). max n (end_of (left_of bytes c.args.cursor.now) c.args.links.now)) c.texts_end.ensures ∙ end-start (left_of bytes c.args.cursor.now) c.args.links.now;
+  texts = omega (arith, c.texts_end.ensures.exact);
+  small = c.texts_end.ensures.small;
+  end = λ bytes told. ap (λ (n : ℕ). max n (end_of (left_of bytes c.args.cursor.now) c.args.links.now)) c.texts_end.ensures.exact ∙ end-start (left_of bytes c.args.cursor.now) c.args.links.now;
   stopped = λ bytes told. refl;
 }
 
@@ -42,11 +43,12 @@ steps-preserved-in-Block g c =
       ready = c.in_ok-advance.ensures.stands;
       file = c.in_ok-advance.ensures.moves.same.file ∙ c.steps.invariant.file;
       pays = omega (arith, c.steps.invariant.pays, pays);
-      texts = omega (arith, c.steps.invariant.texts, c.greatest_end.ensures);
+      texts = omega (arith, c.steps.invariant.texts, c.greatest_end.ensures.exact);
+      small = c.greatest_end.ensures.small;
       end = λ bytes told.
           let here = ap (λ s. (g.R.Reads.files s).content c.steps.cursor.file.n) c.steps.invariant.standing
           ∙ ap (λ (f : FileId). (live_files g.R.Reads c.args.src.now).content f.n) c.steps.invariant.file ∙ told in
-          end-block c.steps.survey.end c.greatest_end.result (block_of c.advance.new.self.block) (left_of bytes c.steps.cursor) (left_of bytes c.advance.new.self) (left_of bytes c.args.cursor.now) c.args.links.now (c.steps.invariant.end bytes told) (rw c.in-Block.is at (c.in_ok-advance.ensures.gives bytes here)) c.greatest_end.ensures;
+          end-block c.steps.survey.end c.greatest_end.result (block_of c.advance.new.self.block) (left_of bytes c.steps.cursor) (left_of bytes c.advance.new.self) (left_of bytes c.args.cursor.now) c.args.links.now (c.steps.invariant.end bytes told) (rw c.in-Block.is at (c.in_ok-advance.ensures.gives bytes here)) c.greatest_end.ensures.exact;
       stopped = λ bytes told.
           let here = ap (λ s. (g.R.Reads.files s).content c.steps.cursor.file.n) c.steps.invariant.standing
           ∙ ap (λ (f : FileId). (live_files g.R.Reads c.args.src.now).content f.n) c.steps.invariant.file ∙ told in
@@ -66,6 +68,7 @@ steps-preserved-then-stopped g c =
       file = c.in_ok-advance.ensures.moves.same.file ∙ c.steps.invariant.file;
       pays = omega (arith, c.steps.invariant.pays, pays);
       texts = c.steps.invariant.texts;
+      small = c.steps.invariant.small;
       end = λ bytes told.
           let here = ap (λ s. (g.R.Reads.files s).content c.steps.cursor.file.n) c.steps.invariant.standing
           ∙ ap (λ (f : FileId). (live_files g.R.Reads c.args.src.now).content f.n) c.steps.invariant.file ∙ told in
@@ -89,6 +92,7 @@ steps-preserved g c =
       file = c.in_ok-advance.ensures.moves.same.file ∙ c.steps.invariant.file;
       pays = omega (arith, c.steps.invariant.pays, pays);
       texts = c.steps.invariant.texts;
+      small = c.steps.invariant.small;
       end = λ bytes told.
           let here = ap (λ s. (g.R.Reads.files s).content c.steps.cursor.file.n) c.steps.invariant.standing
           ∙ ap (λ (f : FileId). (live_files g.R.Reads c.args.src.now).content f.n) c.steps.invariant.file ∙ told in

@@ -1,4 +1,4 @@
-use Rattle.std.proofs.Common.{ℕ, Bool, true, List, map, Option, IfSome, option_map, sym, ◌∙◌, ap, subst}
+use Rattle.std.proofs.Common.{ℕ, Bool, true, map, Option, IfSome, option_map, sym, ◌∙◌, ap, subst}
 use Rattle.std.specs.List.{All}
 use Rattle.element_reader.specs.Outline.{FileOutline}
 use Rattle.block_format.specs.Elements.{with_limits}
@@ -50,7 +50,7 @@ returns-clause-exact g c = λ bytes told.
     ∙ ap (λ (is_kept : Bool). kept_list is_kept (map in_file c.in_ok-info.field-0.attachments)) c.keeps_attachments.ensures)
     (c.kept_tree.ensures ∙ ap (λ (is_kept : Bool). kept_one is_kept c.in_ok-info.field-0.chapters) c.keeps_chapters.ensures)
     (c.kept_tree-2.ensures ∙ ap (λ (is_kept : Bool). kept_one is_kept c.in_ok-info.field-0.tags) c.keeps_tags.ensures)
-    c.keep_of.ensures)
+    c.keep_of.ensures c.unmoved.ensures)
 
 -- the file is live as before, and the tracks can be used
 pub returns-clause-input : goal.returns-clause-input

@@ -1,11 +1,11 @@
 -- Each track's entry has its number and its identifier.
-use Rattle.std.proofs.Common.{◌++◌, ◌+◌, length, get_or, sym, ap, subst, ◌∙◌, arith}
+use Rattle.std.proofs.Common.{◌++◌, length, sym, ap, subst, ◌∙◌, arith}
 use Rattle.std.specs.List.{All}
 use Rattle.std.proofs.lemmas.List.Elements.{All-push}
 use Rattle.record_changes.specs.Entry.{IsWholeEntry}
 use Rattle.merge_inputs.specs.Taken.{IsTaken}
 use Rattle.merge_plan.specs.Lent.{lent}
-use Rattle.merge_plan.specs.Records.{entries_from, entry_of}
+use Rattle.merge_plan.specs.Records.{entries_from}
 use Rattle.merge_plan.proofs.ListLemmas.{length-lent, lent-each}
 use Rattle.merge_plan.proofs.RecordLemmas.{length-uids, entries-next, entries-all}
 use Rattle.merge_plan.proofs.entries.entries_of.Goals as goal

@@ -1,5 +1,5 @@
 -- Each track is taken so, and the records are those of the inputs.
-use Rattle.std.proofs.Common.{◌≡◌, List, ℕ, map, sym, ap, subst, ◌∙◌}
+use Rattle.std.proofs.Common.{◌≡◌, List, [], ℕ, map, sym, ap, subst, ◌∙◌}
 use Rattle.std.specs.List.{All, sum_by}
 use Rattle.attachment_records.specs.Attached.{attached_file}
 use Rattle.attachment_records.specs.declared.attachment.Attachment.{Attachment}
@@ -10,7 +10,6 @@ use Rattle.merged_records.specs.Tags.{merged_tags}
 use Rattle.output_records.specs.Tracks.{output_tracks}
 use Rattle.merge_inputs.specs.Input.{read_in}
 use Rattle.merge_inputs.specs.Taken.{IsTaken}
-use Rattle.merge_plan.specs.Lent.{lent}
 use Rattle.merge_plan.specs.Planned.{IsFileOf}
 use Rattle.merge_plan.specs.Records.{entries_of, tracks_taken, uids_of}
 use Rattle.merge_plan.proofs.FileLemmas.{attached-all, chapters-anywhere, files-are, octets-all, records_at, tags-anywhere}
@@ -31,25 +30,25 @@ returns-clause-exact c =
     let inputs = c.args.inputs.now in
     let numbers : List ℕ = uids_of (tracks_taken (map read_in inputs)) in
     let uids : c.in_ok-uids.uids ≡ numbers = c.in_ok-uids.ensures ∙ ap uids_of c.requires.taken in
-    let kept : c.as_slice-3.result.now ≡ records_at numbers inputs = c.as_slice-3.ensures ∙ c.in_ok-kept.ensures.exact ∙ ap (λ n. records_at n inputs) (c.as_slice-2.ensures ∙ uids) in
+    let kept : c.as_slice-3.result.now ≡ records_at [] numbers inputs = c.as_slice-3.ensures ∙ c.in_ok-kept.ensures.exact ∙ ap (λ n. records_at [] n inputs) (c.as_slice-2.ensures ∙ uids) in
     let made = c.in_ok-attachments.ensures in
     record {
       tracks = c.in_ok-tracks.ensures.exact ∙ ap output_tracks c.in_ok-entries_of.ensures.exact ∙ ap (λ ts. output_tracks (entries_of ts)) c.requires.taken;
-      attachments = λ f told. ap (map (attached_file f)) (made.attachments ∙ ap merged_attachments kept) ∙ attached-all f numbers inputs told c.requires.records;
-      octets = ap (sum_by (λ (a : Attachment). a.len)) (made.attachments ∙ ap merged_attachments kept) ∙ octets-all numbers inputs;
-      chapters = made.chapters ∙ ap merged_chapters kept ∙ chapters-anywhere numbers inputs;
-      tags = made.tags ∙ ap merged_tags kept ∙ tags-anywhere numbers inputs;
+      attachments = λ f told. ap (map (attached_file f)) (made.attachments ∙ ap merged_attachments kept) ∙ attached-all f [] numbers inputs told c.requires.records;
+      octets = ap (sum_by (λ (a : Attachment). a.len)) (made.attachments ∙ ap merged_attachments kept) ∙ octets-all [] numbers inputs;
+      chapters = made.chapters ∙ ap merged_chapters kept ∙ chapters-anywhere [] numbers inputs;
+      tags = made.tags ∙ ap merged_tags kept ∙ tags-anywhere [] numbers inputs;
     }
 
 pub returns-clause-sound : goal.returns-clause-sound
 returns-clause-sound c =
     let inputs = c.args.inputs.now in
-    let kept : c.as_slice-3.result.now ≡ records_at c.as_slice-2.result.now inputs = c.as_slice-3.ensures ∙ c.in_ok-kept.ensures.exact in
+    let kept : c.as_slice-3.result.now ≡ records_at [] c.as_slice-2.result.now inputs = c.as_slice-3.ensures ∙ c.in_ok-kept.ensures.exact in
     let made = c.in_ok-attachments.ensures in
     record {
       tracks = c.in_ok-tracks.ensures.sound;
       attachments = made.attached;
-      files = subst (λ (l : List Attachment). All (IsFileOf inputs) l) (sym (made.attachments ∙ ap merged_attachments kept)) (files-are c.as_slice-2.result.now inputs c.requires.records);
+      files = subst (λ (l : List Attachment). All (IsFileOf inputs) l) (sym (made.attachments ∙ ap merged_attachments kept)) (files-are [] c.as_slice-2.result.now inputs c.requires.records);
       chapters = made.chaptered;
       tags = made.tagged;
     }

@@ -2,10 +2,9 @@
 use Rattle.std.proofs.Common.{◌≡◌, map, refl, sym, ap, ◌∙◌, arith, rules}
 use Rattle.output_records.specs.Info.{output_info}
 use Rattle.merge_inputs.specs.Input.{read_in}
-use Rattle.merge_plan.specs.Planned.{source_in}
 use Rattle.merge_plan.specs.Records.{info_of, tracks_of}
 use Rattle.merge_plan.proofs.FileLemmas.{reads-in}
-use Rattle.merge_plan.proofs.PlanLemmas.{lanes-length, lanes-given, lanes-numbers, lanes-rules, lanes-one, links-small, links-open, links-told, links-apart, plan-few}
+use Rattle.merge_plan.proofs.PlanLemmas.{lanes-length, lanes-given, lanes-numbers, lanes-rules, lanes-linked, lanes-once, links-small, links-open, links-told, links-apart, plan-few}
 use Rattle.merge_plan.proofs.plan.plan_of.Goals as goal
 
 pub returns-clause-exact : goal.returns-clause-exact
@@ -43,8 +42,9 @@ returns-clause-written c =
     let records = c.in_ok-tracks.ensures.sound in
     record {
       few = omega arith;
-      one = lanes-one inputs lanes are;
-      small = links-small inputs lanes are c.requires.tracks;
+      linked = lanes-linked inputs lanes are;
+      once = lanes-once inputs lanes are;
+      small = links-small inputs lanes are c.requires.tracks c.requires.places;
       is_open = links-open inputs lanes are c.requires.tracks;
       told = links-told inputs lanes are c.requires.tracks;
       apart = links-apart inputs lanes are c.requires.tracks;

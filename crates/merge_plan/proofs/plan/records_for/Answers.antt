@@ -1,5 +1,5 @@
 -- The tracks that were collected are those of the inputs.
-use Rattle.std.proofs.Common.{◌≡◌, ap, sym, ◌∙◌}
+use Rattle.std.proofs.Common.{ap, ◌∙◌}
 use Rattle.merge_plan.specs.Lent.{lent}
 use Rattle.merge_plan.proofs.plan.records_for.Goals as goal
 

@@ -1,11 +1,11 @@
--- The lanes so far are those of the inputs so far.
-use Rattle.std.proofs.Common.{◌++◌, take, map}
-use Rattle.std.specs.List.{AllZip}
-use Rattle.merge_plan.specs.Spots.{IsLaneOf, spot, spots_from}
+-- The lanes so far are the first of all.
+use Rattle.std.proofs.Common.{drop}
+use Rattle.merge_plan.specs.Spots.{spots_from}
+use Rattle.merge_plan.proofs.LaneLemmas.{GoOn, left_at}
 use Rattle.merge_plan.proofs.planned_lanes.lanes_of.Given as goal
 
 abbrev pub invariant-loop-number : goal.invariant-loop-number
-invariant-loop-number l = AllZip IsLaneOf (spots_from 0 (take l.number l.inputs)) l.lanes
+invariant-loop-number l = GoOn (spots_from l.number (drop l.number l.inputs)) l.lanes (spots_from 0 l.inputs)
 
-abbrev pub invariant-loop-taken : goal.invariant-loop-taken
-invariant-loop-taken l = AllZip IsLaneOf (spots_from 0 (take l.number l.inputs) ++ map (spot l.number l.input) (take l.taken-index l.taken-items)) l.lanes
+abbrev pub invariant-loop-place : goal.invariant-loop-place
+invariant-loop-place l = GoOn (left_at l.inputs l.number l.input l.taken-items l.behind l.place) l.lanes (spots_from 0 l.inputs)

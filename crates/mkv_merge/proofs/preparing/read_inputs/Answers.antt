@@ -9,8 +9,9 @@ use Rattle.merge_words.specs.declared.files.FileWords.{FileWords}
 use Rattle.merge_words.specs.Sound.{IsSoundFile}
 use Rattle.merge_inputs.specs.Input.{IsInput, read_in}
 use Rattle.merge_inputs.specs.declared.input.Input.{Input}
+use Rattle.merge_plan.specs.Spots.{HasPlace}
 use Rattle.mkv_merge.specs.Prepared.{reads_in}
-use Rattle.mkv_merge.proofs.PreparingLemmas.{GoesOn, files-more, pays-all, pays-more, read-at, read-end, refused-at}
+use Rattle.mkv_merge.proofs.PreparingLemmas.{GoesOn, files-more, pays-all, pays-more, read-at, read-end, read-place, refused-at}
 use Rattle.mkv_merge.proofs.preparing.read_inputs.Goals as goal
 
 -- the words of the file are sound
@@ -62,7 +63,8 @@ loop-input-preserved g c = record {
       (All-push (IsInput (live_files g.R.Reads c.args.src.now)) c.loop-input.inputs c.in_ok-read.read c.loop-input.invariant.good
       (subst (λ standing. IsInput (g.R.Reads.files standing) c.in_ok-read.read) (c.read_one.ensures.standing ∙ c.loop-input.invariant.standing) c.in_ok-read.ensures.input));
   of = ap (map (λ (i : Input). i.file)) c.in_ok-push.ensures.ok
-      ∙ files-more c.loop-input.inputs c.in_ok-read.read c.args.files.now c.loop-input.input (record { n = 0 }) c.loop-input-test.true c.in_ok-read.ensures.file c.loop-input.invariant.of;
+      ∙ files-more c.loop-input.inputs c.in_ok-read.read c.args.files.now c.loop-input.input (record { n = 0 }) c.loop-input-test.true c.in_ok-read.ensures.file.file c.loop-input.invariant.of;
+  places = subst (All HasPlace) (sym c.in_ok-push.ensures.ok) (All-push HasPlace c.loop-input.inputs c.in_ok-read.read c.loop-input.invariant.places (read-place _ _ c.in_ok-read.read c.in_ok-read.ensures.file));
   goes_on = λ contents told.
       let w = c.index-as_slice-input.result in
       let read = c.in_ok-read.read in
