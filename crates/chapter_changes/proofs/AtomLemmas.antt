@@ -58,6 +58,12 @@ edition-own x own = ap (λ i. cond (i == EDITION_ENTRY) (x ∷ []) []) own
 pub edition-other : (x : Node) → (id_of x ≡ EDITION_ENTRY → ⊥) → part EDITION_ENTRY (x ∷ []) ≡ []
 edition-other x other = ap (λ (b : Bool). cond b (x ∷ []) []) (other-id (id_of x) EDITION_ENTRY other)
 
+pub atom-own : (x : Node) → id_of x ≡ CHAPTER_ATOM → part CHAPTER_ATOM (x ∷ []) ≡ x ∷ []
+atom-own x own = ap (λ i. cond (i == CHAPTER_ATOM) (x ∷ []) []) own
+
+pub atom-other : (x : Node) → (id_of x ≡ CHAPTER_ATOM → ⊥) → part CHAPTER_ATOM (x ∷ []) ≡ []
+atom-other x other = ap (λ (b : Bool). cond b (x ∷ []) []) (other-id (id_of x) CHAPTER_ATOM other)
+
 -- what isn't an edition is passed over
 pub part-passed : (xs : List Node) (i : ℕ) (x : Node) → i < length xs → x ≡ get_or xs i x → (id_of x ≡ EDITION_ENTRY → ⊥) → part EDITION_ENTRY (take (i + 1) xs) ≡ part EDITION_ENTRY (take i xs)
 part-passed xs i x inside is other =

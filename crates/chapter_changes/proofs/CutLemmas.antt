@@ -38,17 +38,20 @@ atom-holds n read = record {
 }
 
 -- its atoms were read
-pub all-read : (n : Node) (ns : List Node) → HoldsAtoms n → ns ≡ children n → All (IsReadIf CHAPTER_ATOM) ns
-all-read n ns holds are = λ i d inside. read-if (id_of n) CHAPTER_ATOM n (get_or ns i d) ns i holds.atoms holds.read are inside (get_or_default ns i d (get_or ns i d) inside)
+pub all-read-if : (parent own : ℕ) (n : Node) (ns : List Node) → is_master_in parent own ≡ true → IsRead parent n → ns ≡ children n → All (IsReadIf own) ns
+all-read-if parent own n ns has read are = λ i d inside. read-if parent own n (get_or ns i d) ns i has read are inside (get_or_default ns i d (get_or ns i d) inside)
 
-pub find-read : (ns : List Node) (n : Node) → All (IsReadIf CHAPTER_ATOM) ns → find (λ m. id_of m == CHAPTER_ATOM) ns ≡ Some n → IsRead CHAPTER_ATOM n
-find-read [] n all found = absurd (cc)
-find-read (m ∷ ms) n all found = split (id_of m == CHAPTER_ATOM) refl (find-read ms n (All-tail (IsReadIf CHAPTER_ATOM) m ms all)) found
+pub all-read : (n : Node) (ns : List Node) → HoldsAtoms n → ns ≡ children n → All (IsReadIf CHAPTER_ATOM) ns
+all-read n ns holds are = all-read-if (id_of n) CHAPTER_ATOM n ns holds.atoms holds.read are
+
+pub find-read : (own : ℕ) (ns : List Node) (n : Node) → All (IsReadIf own) ns → find (λ m. id_of m == own) ns ≡ Some n → IsRead own n
+find-read own [] n all found = absurd (cc)
+find-read own (m ∷ ms) n all found = split (id_of m == own) refl (find-read own ms n (All-tail (IsReadIf own) m ms all)) found
   where
-    split : (b : Bool) → (id_of m == CHAPTER_ATOM) ≡ b → (find (λ k. id_of k == CHAPTER_ATOM) ms ≡ Some n → IsRead CHAPTER_ATOM n) → cond b (Some m) (find (λ k. id_of k == CHAPTER_ATOM) ms) ≡ Some n → IsRead CHAPTER_ATOM n
+    split : (b : Bool) → (id_of m == own) ≡ b → (find (λ k. id_of k == own) ms ≡ Some n → IsRead own n) → cond b (Some m) (find (λ k. id_of k == own) ms) ≡ Some n → IsRead own n
     split true is rest found =
         let same : m ≡ n = cc in
-        subst (IsRead CHAPTER_ATOM) same (All-head (IsReadIf CHAPTER_ATOM) m ms all (eqb-true (id_of m) CHAPTER_ATOM is))
+        subst (IsRead own) same (All-head (IsReadIf own) m ms all (eqb-true (id_of m) own is))
     split false is rest found = rest found
 
 -- ---- a time is set

@@ -4,3 +4,4 @@ pub mod Shift
 pub mod Before
 pub mod Cut
 pub mod Standing
+pub mod Starts

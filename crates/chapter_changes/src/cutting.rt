@@ -22,7 +22,7 @@ use std::alloc::{AllocError, Global};
 use tree_building::{empty, uint_leaf};
 
 // Where an atom starts.
-fn start_of(atom: &Tree) -> u64
+pub(crate) fn start_of(atom: &Tree) -> u64
     requires { IsRead ids.CHAPTER_ATOM atom.now }
     ensures { result ≡ start_of atom.now }
 {

@@ -6,11 +6,13 @@
 mod cutting;
 mod numbering;
 mod shifting;
+mod starts;
 mod stretch;
 mod uids;
 
 pub use cutting::cut;
 pub use numbering::with_identifiers;
 pub use shifting::shift;
+pub use starts::top_starts;
 pub use stretch::Stretch;
 pub use uids::{push_chapter_uids, push_edition_uids};
