@@ -1,7 +1,6 @@
 -- The Seeks of the new SeekHead are of valid IDs.
-use Rattle.std.proofs.Common.{◌≡◌, ◌==◌, ℕ, zero, suc, ◌+◌, ◌<◌, true, List, [], ◌∷◌, ◌++◌, Option, Some, None, refl, sym, ◌∙◌, ap, arith}
-use Rattle.std.specs.List.{All}
-use Rattle.std.proofs.lemmas.List.Elements.{All-append, All-cons, All-nil}
+use Rattle.std.proofs.Common.{◌≡◌, ℕ, zero, suc, true, List, [], ◌∷◌, ◌++◌, Option, Some, None, refl, ◌∙◌, ap, arith}
+use Rattle.std.proofs.lemmas.List.Elements.{All-append}
 use Rattle.ebml_format.specs.Number.{is_id}
 use Rattle.mkv_schema.specs.declared.ids.TheConstants.{INFO, TRACKS}
 use Rattle.matroska_format.specs.declared.element.Header.{Header}

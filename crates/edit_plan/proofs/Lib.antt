@@ -14,3 +14,4 @@ pub mod SizeLemmas
 pub mod MovedLemmas
 pub mod EndsLemmas
 pub mod StepLemmas
+pub mod RecordLemmas

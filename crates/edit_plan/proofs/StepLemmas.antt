@@ -9,7 +9,7 @@ use Rattle.edit_format.specs.declared.refusal.Refusal.{Refusal}
 use Rattle.edit_format.specs.declared.refusal.Refusal.TheVariants.{Damaged}
 use Rattle.edit_format.specs.declared.trees.Trees.{Trees}
 use Rattle.edit_format.specs.Change.{edited_trees, and_then as edits_then}
-use Rattle.edit_format.specs.Records.{EditableFile, editable, trees_of}
+use Rattle.edit_format.specs.Records.{EditableFile, trees_of}
 use Rattle.edit_format.specs.Plan.{if_editable, parts, plan_of, writes_of_parts}
 use Rattle.edit_plan.specs.Answer.{Answers, Gives}
 use Rattle.edit_plan.specs.Opening.{opening}

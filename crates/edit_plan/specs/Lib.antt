@@ -4,3 +4,4 @@ pub mod Laws
 pub mod Moving
 pub mod Answer
 pub mod Opening
+pub mod Record

@@ -19,11 +19,8 @@ use edit_room::{shortest, span_of};
 use element_reader::{Header, Outline};
 use mkv_jobs::Edit;
 use mkv_schema::ids::{INFO, TRACKS};
-use mkv_values::{Bytes, List};
+use mkv_values::{Bytes, LONGEST_FILE, List};
 use std::alloc::{AllocError, Global};
-
-// The most octets of a file.
-pub(crate) const LONGEST: usize = 1 << 48;
 
 /// What is written of these Elements, one behind the other. More than a file can have can't be held.
 fn body_of(alloc: Global, nodes: &[Tree]) -> Result<Bytes, AllocError>
@@ -34,7 +31,7 @@ fn body_of(alloc: Global, nodes: &[Tree]) -> Result<Bytes, AllocError>
     for node in nodes {
         node.put(&mut body)?;
     }
-    if body.len() > LONGEST {
+    if body.len() as u64 > LONGEST_FILE {
         return Err(AllocError);
     }
     Ok(body)

@@ -12,7 +12,6 @@ ghost use Rattle.edit_format.specs.Span as span;
 ghost use Rattle.edit_plan.specs.Found.{found};
 ghost use Rattle.edit_plan.specs.Shown.{shown, written};
 
-use crate::building::LONGEST;
 use crate::found::SeekHead;
 use crate::moving::moving_seeks;
 use crate::part::Part;
@@ -23,7 +22,7 @@ use ebml_tree::Tree;
 use edit_room::{fit, seek_head_body, seeks, size_width, span_of, whole};
 use element_reader::{Header, Outline};
 use mkv_schema::ids::SEGMENT;
-use mkv_values::Bytes;
+use mkv_values::{Bytes, LONGEST_FILE};
 use std::alloc::{AllocError, Global};
 
 /// What stands in the old one.
@@ -52,7 +51,7 @@ pub fn new_seek_head(
     let moved = moving_seeks(alloc, from, parts)?;
     let seeks = seeks(alloc, outline, moved.as_slice())?;
     let body = seek_head_body(alloc, seeks.as_slice(), old_seeks(head))?;
-    if body.len() > LONGEST {
+    if body.len() as u64 > LONGEST_FILE {
         return Err(AllocError);
     }
     Ok(body)

@@ -4,6 +4,7 @@ ghost use Rattle.std.specs.Prelude.{◌≡◌};
 ghost use Rattle.edit_plan.specs.declared.plan_end.PlanEnd.TheVariants as end;
 
 use edit_format::Refusal;
+use mkv_values::Failed;
 use std::alloc::AllocError;
 
 /// Why edits have no plan.
@@ -22,5 +23,13 @@ impl From<AllocError> for PlanEnd {
 
     fn from(_error: AllocError) -> PlanEnd {
         PlanEnd::Memory
+    }
+}
+
+impl From<Failed> for PlanEnd {
+    ghost from_gives = { λ _ e. e ≡ end.ReadFault };
+
+    fn from(_failed: Failed) -> PlanEnd {
+        PlanEnd::ReadFault
     }
 }

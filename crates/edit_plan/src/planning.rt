@@ -100,7 +100,6 @@ pub fn edit_writes<R: Reads>(
     ensures cause { HasCause is_plan_fault (R.reading_faults src.old) (R.reading_faults src.new) result }
     ensures octets { R.octets_read src.new ≤ R.octets_read src.old + 25 * file_size R.Reads src.old file }
 {
-    let _total = src.size(file);
     let outline = open_outline(alloc, src, file)?;
     let trees = open_trees(alloc, &outline, src, file)?;
     let trees = edit_trees(alloc, trees, edits)?;

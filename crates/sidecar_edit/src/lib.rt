@@ -11,5 +11,5 @@ mod recovery;
 
 pub use edit::{DiskFault, commit};
 pub use gate::settle;
-pub use reading::state;
+pub use reading::{read_first, state};
 pub use recovery::recover;

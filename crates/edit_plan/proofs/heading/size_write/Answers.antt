@@ -1,5 +1,5 @@
 -- The old size's place has room for the new one.
-use Rattle.std.proofs.Common.{◌≡◌, ℕ, ◌<◌, ◌≤◌, min, sym, ◌∙◌, ap, subst}
+use Rattle.std.proofs.Common.{ℕ, ◌<◌, ◌≤◌, min, sym, ◌∙◌, ap, subst}
 use Rattle.ebml_format.specs.Number.{all_ones}
 use Rattle.edit_format.specs.Plan.{size_width}
 use Rattle.edit_plan.proofs.SizeLemmas.{has-size}

@@ -1,5 +1,5 @@
 -- One step after the other.
-use Rattle.std.proofs.Common.{◌≡◌, ◌≤◌, ℕ, Result, List, length, map, sym, ◌∙◌, ap, subst, arith}
+use Rattle.std.proofs.Common.{◌≤◌, Result, List, length, map, sym, ◌∙◌, ap, subst, arith}
 use Rattle.std.proofs.lemmas.Result.{err_from_is_err_and}
 use Rattle.mkv_values.specs.declared.outside.TheConstants.{LONGEST_FILE}
 use Rattle.sidecar_format.specs.Writes as disk
@@ -43,7 +43,8 @@ returns-clause-exact g c = λ bytes told.
     let trees = c.in_ok-trees.ensures.exact bytes same outline in
     let plan = plan-edits bytes c.args.edits.now o c.in_ok-trees.trees c.in_ok-trees-2.trees whole trees c.in_ok-trees-2.ensures.exact in
     let size = g.met.R.Reads.told_size (g.R.Reads.standing c.args.src.now) c.args.file.n bytes told in
-    let short : length bytes ≤ LONGEST_FILE = omega (arith, size, c.size-total.ensures.exact, c.size-total.ensures.most) in
+    let most = g.met.R.Reads.short c.args.src.now c.args.file.n c.requires in
+    let short : length bytes ≤ LONGEST_FILE = omega (arith, size, most) in
     let can = CanMove-shown 0 bytes o outline short in
     let parts = ap (map shown) c.as_slice.ensures.value ∙ c.in_ok-parts.ensures in
     let P : Result (List disk.Write) Refusal → Type 0 = λ found. Answers found c.parts_writes.result in

@@ -1,0 +1,17 @@
+-- The record of what edits write.
+use Rattle.std.specs.Prelude.{ℕ, List, map, flat_map, Result, Ok}
+use Rattle.mkv_jobs.specs.declared.edit.Edit.{Edit}
+use Rattle.sidecar_format.specs.Fields.{Planned}
+use Rattle.sidecar_format.specs.Plan.{planned}
+use Rattle.sidecar_format.specs.Writes.{Write, extent}
+use Rattle.edit_format.specs.declared.refusal.Refusal.{Refusal}
+use Rattle.edit_format.specs.Change.{and_then}
+use Rattle.edit_format.specs.Plan.{place, plan_of, recorded}
+
+-- of some writes over a file of so many octets that begins with these
+abbrev pub record_over : ℕ → List ℕ → List Write → Planned
+record_over old_len first ws = planned old_len (extent old_len ws) first (map place ws) (flat_map (λ (w : Write). w.bytes) ws)
+
+-- of what edits write to a file of this content, or the first that refuses them
+abbrev pub record_of : List ℕ → List Edit → Result Planned Refusal
+record_of bytes edits = and_then (plan_of bytes edits) (λ ws. Ok (recorded bytes ws))
