@@ -6,7 +6,7 @@ use Rattle.matroska_format.specs.declared.element.Header.{Header}
 use Rattle.sidecar_format.specs.declared.recovery.Mark.{Mark}
 use Rattle.mkv_lines.specs.Shown.{damage_text, element_text, level_0_name, level_1_name, mark_text, place_text, shown_text, track_text}
 use Rattle.mkv_lines.specs.declared.line.Line.{Line}
-use Rattle.mkv_lines.specs.declared.line.Line.TheVariants.{Level0, Level1, Track, Refused, Warned, MoreDamages, NoTrack, NoAttachment, NoExtractor, Missing, PendingEdit, OutputIsInput, AppendDiffers, NoLane, TooManyLanes, NotWebm, TooLarge, Wrote, WroteBlocks, Recovered, NothingToRecover, BadSidecar, Foreign, Word, FilesFault}
+use Rattle.mkv_lines.specs.declared.line.Line.TheVariants.{Level0, Level1, Track, Refused, Warned, MoreDamages, NoTrack, NoAttachment, NoExtractor, Missing, PendingEdit, OutputIsInput, AppendDiffers, NoLane, TooManyLanes, NotWebm, TooLarge, Wrote, WroteBlocks, Edited, EditRefused, NoRoom, EditTooLarge, Recovered, NothingToRecover, BadSidecar, Foreign, Word, FilesFault}
 
 -- an Element at the top of a file
 abbrev pub level_0_line : Header → List ℕ
@@ -87,6 +87,26 @@ wrote_line name = codes "wrote " ++ shown_text name
 abbrev pub wrote_blocks_line : List ℕ → ℕ → List ℕ
 wrote_blocks_line name blocks = wrote_line name ++ (codes ": " ++ (decimal blocks ++ codes " blocks"))
 
+-- a file whose properties are edited
+abbrev pub edited_line : List ℕ → List ℕ
+edited_line name = codes "edited " ++ shown_text name
+
+-- a file of which one edit, counted from 1, is refused
+abbrev pub edit_refused_line : List ℕ → List ℕ → ℕ → List ℕ
+edit_refused_line name why edit = codes "error: " ++ (shown_text name ++ (codes ": " ++ (why ++ (codes ", edit " ++ decimal edit))))
+
+-- a file whose edits have no room of a kind
+abbrev pub no_room_line : List ℕ → List ℕ → ℕ → ℕ → List ℕ
+no_room_line name why need have =
+    codes "error: "
+    ++ (shown_text name ++ (codes ": NoRoom, " ++ (why ++ (codes ", need " ++ (decimal need ++ (codes ", have " ++ decimal have))))))
+
+-- a file whose edits would write too much
+abbrev pub edit_too_large_line : List ℕ → ℕ → ℕ → List ℕ
+edit_too_large_line name length nodes =
+    codes "error: "
+    ++ (shown_text name ++ (codes ": EditTooLarge, length " ++ (decimal length ++ (codes ", nodes " ++ decimal nodes))))
+
 -- a file whose edit is made whole
 abbrev pub recovered_line : List ℕ → List ℕ
 recovered_line name = codes "recovered " ++ shown_text name
@@ -142,6 +162,10 @@ text_of (NotWebm codec) = not_webm_line codec.now
 text_of (TooLarge name id) = too_large_line name.now id
 text_of (Wrote name) = wrote_line name.now
 text_of (WroteBlocks name blocks) = wrote_blocks_line name.now blocks
+text_of (Edited name) = edited_line name.now
+text_of (EditRefused name why edit) = edit_refused_line name.now why.now edit
+text_of (NoRoom name why need have) = no_room_line name.now why.now need have
+text_of (EditTooLarge name length nodes) = edit_too_large_line name.now length nodes
 text_of (Recovered name) = recovered_line name.now
 text_of (NothingToRecover name) = nothing_line name.now
 text_of (BadSidecar name offset) = bad_sidecar_line name.now offset

@@ -87,6 +87,29 @@ pub enum Line<'a> {
         name: &'a str,
         blocks: u64,
     },
+    /// A file's properties are edited.
+    Edited {
+        name: &'a str,
+    },
+    /// One of the edits of a file, counted from 1, is refused.
+    EditRefused {
+        name: &'a str,
+        why: &'a str,
+        edit: u64,
+    },
+    /// Edits of a file have no room of a kind: so much is needed, and so much is there.
+    NoRoom {
+        name: &'a str,
+        why: &'a str,
+        need: u64,
+        have: u64,
+    },
+    /// Edits of a file write more octets, or more Elements into one, than they may.
+    EditTooLarge {
+        name: &'a str,
+        length: u64,
+        nodes: u64,
+    },
     /// An edit of a file that was stopped is made whole.
     Recovered {
         name: &'a str,
@@ -190,6 +213,34 @@ impl fmt::Display for Line<'_> {
             Line::WroteBlocks { name, blocks } => {
                 let name = ShownText(name);
                 write!(f, "wrote {name}: {blocks} blocks")
+            }
+            Line::Edited { name } => {
+                let name = ShownText(name);
+                write!(f, "edited {name}")
+            }
+            Line::EditRefused { name, why, edit } => {
+                let name = ShownText(name);
+                write!(f, "error: {name}: {why}, edit {edit}")
+            }
+            Line::NoRoom {
+                name,
+                why,
+                need,
+                have,
+            } => {
+                let name = ShownText(name);
+                write!(f, "error: {name}: NoRoom, {why}, need {need}, have {have}")
+            }
+            Line::EditTooLarge {
+                name,
+                length,
+                nodes,
+            } => {
+                let name = ShownText(name);
+                write!(
+                    f,
+                    "error: {name}: EditTooLarge, length {length}, nodes {nodes}"
+                )
             }
             Line::Recovered { name } => {
                 let name = ShownText(name);

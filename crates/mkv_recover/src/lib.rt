@@ -6,3 +6,4 @@ mod recovering;
 mod telling;
 
 pub use recovering::recover_of;
+pub use telling::refuse;

@@ -26,3 +26,11 @@ returns-in-NoExtractor-clause-writes g c = λ plain ok.
 pub returns-in-Missing-clause-writes : goal.returns-in-Missing-clause-writes
 returns-in-Missing-clause-writes g c = λ plain ok.
     has_written_of_eq _ _ _ _ _ (ap text_of (sym c.in-Missing.is)) (c.write-in-Missing.ensures.writes plain ok)
+
+pub returns-in-NoRoom-clause-writes : goal.returns-in-NoRoom-clause-writes
+returns-in-NoRoom-clause-writes g c = λ plain ok.
+    has_written_of_eq _ _ _ _ _ (ap text_of (sym c.in-NoRoom.is)) (c.write-in-NoRoom.ensures.writes plain ok)
+
+pub returns-in-EditTooLarge-clause-writes : goal.returns-in-EditTooLarge-clause-writes
+returns-in-EditTooLarge-clause-writes g c = λ plain ok.
+    has_written_of_eq _ _ _ _ _ (ap text_of (sym c.in-EditTooLarge.is)) (c.write-in-EditTooLarge.ensures.writes plain ok)
