@@ -72,22 +72,22 @@ IsLevel-shown held bytes o is =
 
 -- ---- what isn't refused
 
-unless-none : {A : Type 0} (r : Option Refusal) (x y : A) → unless r x ≡ Ok y → (r ≡ None) × (x ≡ y)
+pub unless-none : {A : Type 0} (r : Option Refusal) (x y : A) → unless r x ≡ Ok y → (r ≡ None) × (x ≡ y)
 unless-none None x y is = (refl, cc)
 unless-none (Some d) x y is = absurd (cc)
 
-first-none : (r : Option Refusal) (rs : List (Option Refusal)) → first_refusal (r ∷ rs) ≡ None → (r ≡ None) × (first_refusal rs ≡ None)
+pub first-none : (r : Option Refusal) (rs : List (Option Refusal)) → first_refusal (r ∷ rs) ≡ None → (r ≡ None) × (first_refusal rs ≡ None)
 first-none None rs is = (refl, is)
 first-none (Some d) rs is = absurd (cc)
 
-lacks-none : (why : Room) (need have : ℕ) → lacks why need have ≡ None → need ≤ have
+pub lacks-none : (why : Room) (need have : ℕ) → lacks why need have ≡ None → need ≤ have
 lacks-none why need have is = of (nat_lt have need) refl is
   where
     of : (less : Bool) → nat_lt have need ≡ less → (if less then Some (refusal.NoRoom why need have) else None) ≡ None → need ≤ have
     of true test is = absurd (cc)
     of false test is = grind (arith, nat_tests)
 
-large-none : (len : ℕ) (ps : List Part) → too_large len ps ≡ None → len ≤ MOST_WRITTEN
+pub large-none : (len : ℕ) (ps : List Part) → too_large len ps ≡ None → len ≤ MOST_WRITTEN
 large-none len ps is = of (nat_lt 65536 (most_nodes ps)) (nat_lt MOST_WRITTEN len) refl is
   where
     of : (many long : Bool) → nat_lt MOST_WRITTEN len ≡ long → (if many || long then Some (refusal.EditTooLarge len (most_nodes ps)) else None) ≡ None → len ≤ MOST_WRITTEN
@@ -108,14 +108,14 @@ flat_map-next : {X : Type 0} (f : X → List ℕ) (x : X) (xs : List X) → flat
 flat_map-next f x xs = refl
 
 -- where something moves there is something to append
-appended-cons : (p : Part) (ps : List Part) → appended (p ∷ ps) ≡ (if moves p then octets_of p.element ++ appended ps else appended ps)
+pub appended-cons : (p : Part) (ps : List Part) → appended (p ∷ ps) ≡ (if moves p then octets_of p.element ++ appended ps else appended ps)
 appended-cons p ps = of (moves p)
   where
     of : (b : Bool) → flat_map octets_of (map (λ (q : Part). q.element) (if b then p ∷ moving ps else moving ps)) ≡ (if b then octets_of p.element ++ appended ps else appended ps)
     of true = flat_map-next octets_of p.element (elements_moving ps)
     of false = refl
 
-appended-some : (ps : List Part) → list_any moves ps ≡ true → 1 ≤ length (appended ps)
+pub appended-some : (ps : List Part) → list_any moves ps ≡ true → 1 ≤ length (appended ps)
 appended-some [] any = absurd (cc)
 appended-some (p ∷ ps) any = rw (appended-cons p ps) (of (appended-some ps) (moves p) refl any)
   where
@@ -128,7 +128,7 @@ appended-some (p ∷ ps) any = rw (appended-cons p ps) (of (appended-some ps) (m
 
 -- ---- the SeekHead that is there
 
-head-first : (bytes : List ℕ) (o : FileOutline) (s : SeekHeadAt) → seek_head_of bytes o ≡ Some s → first_of SEEK_HEAD o.others ≡ Some s.header
+pub head-first : (bytes : List ℕ) (o : FileOutline) (s : SeekHeadAt) → seek_head_of bytes o ≡ Some s → first_of SEEK_HEAD o.others ≡ Some s.header
 head-first bytes o s is = of (first_of SEEK_HEAD o.others) is
   where
     read : (h : Header) (tree : Result Node Damage) → if_read h tree ≡ Some s → h ≡ s.header
@@ -149,11 +149,11 @@ head-first bytes o s is = of (first_of SEEK_HEAD o.others) is
 
 -- ---- the law
 
-info-valid : is_id INFO ≡ true
+pub info-valid : is_id INFO ≡ true
 unfolding is_id
 info-valid = refl
 
-tracks-valid : is_id TRACKS ≡ true
+pub tracks-valid : is_id TRACKS ≡ true
 unfolding is_id
 tracks-valid = refl
 
@@ -336,7 +336,7 @@ module _ (bytes : List ℕ) (o : FileOutline) (edits : List Edit) (t : Trees) (l
       of false any is = in-place-planned ws is
 
 -- the outline of a file that can be edited is the file's
-editable-outline : (bytes : List ℕ) (f : EditableFile) → editable bytes ≡ Ok f → outline_in 0 bytes ≡ Ok f.outline
+pub editable-outline : (bytes : List ℕ) (f : EditableFile) → editable bytes ≡ Ok f → outline_in 0 bytes ≡ Ok f.outline
 editable-outline bytes f is =
     let first = and_then-ok (outline_in 0 bytes) _ f is in
     let second = and_then-ok (unless_damaged first.0.damage first.0) _ f first.1.1 in

@@ -1,0 +1,50 @@
+-- What is written of Info and Tracks is read again, in its normal form.
+use Rattle.std.proofs.Common.{◌≡◌, ◌<◌, ◌≤◌, ℕ, ◌+◌, List, length, flat_map, Option, Some, Result, Ok, refl, sym, ◌∙◌, ap, arith}
+use Rattle.std.specs.Option.{option_map}
+use Rattle.mkv_values.specs.declared.damage.Damage.{Damage}
+use Rattle.matroska_format.specs.declared.element.Header.{Header}
+use Rattle.matroska_format.specs.Outline.{and_then}
+use Rattle.matroska_format.specs.Value.{body_of}
+use Rattle.tree_format.specs.declared.limits.TheConstants.{MOST_NODES}
+use Rattle.tree_format.specs.Node.{Node, master, nodes_of, depth_all, deepest}
+use Rattle.tree_format.specs.NormalForm.{kept_octets, octets, octets_all, longest}
+use Rattle.tree_format.specs.Reading.{tree_of}
+use Rattle.tree_format.specs.Standing.{AllStandIn, IsReadAgain, kept_all, placed_all}
+use Rattle.tree_format.proofs.AgainLemmas.{sound-again}
+use Rattle.tree_format.proofs.NodeLemmas.{octets_all-flat}
+use Rattle.tree_format.proofs.PlacedLemmas.{octets_all-placed}
+use Rattle.element_octets.specs.Element.{Element, HoldsAt, octets_of, header_in_place}
+use Rattle.element_octets.proofs.ReadLemmas.{body_of-read}
+use Rattle.file_records.specs.Records.{tree_at}
+
+-- A master whose children can be written and read again.
+pub record CanBeRead (id : ℕ) (nodes : List Node) : Type 0 where
+  pub stand : AllStandIn id (nodes_of nodes)
+  pub shallow : depth_all (nodes_of nodes) < deepest
+  pub short : length (flat_map octets nodes) ≤ longest
+  pub few : kept_all (nodes_of nodes) + 1 ≤ MOST_NODES
+
+pub again : (id : ℕ) (nodes : List Node) (new : List ℕ) (p : ℕ) (d : Element) → CanBeRead id nodes → d.id ≡ id → d.body ≡ flat_map octets nodes → HoldsAt new p (octets_of d)
+    → and_then (tree_at new (Some (header_in_place p d))) (λ (n : Option Node). Ok (option_map octets n)) ≡ Ok (Some (octets (master id 0 (nodes_of nodes))))
+again id nodes new p d can own body held =
+    ap (λ (r : Result Node Damage). and_then (and_then r (λ tree. Ok (Some tree))) (λ (n : Option Node). Ok (option_map octets n))) tree_is
+    ∙ ap (λ (o : List ℕ). Ok (Some (kept_octets id o))) (octets_all-placed (nodes_of nodes) g.body)
+  where
+    g : Header
+    g = header_in_place p d
+
+    tree : Node
+    tree = master id 0 (nodes_of nodes)
+
+    content_is : octets_all (nodes_of nodes) ≡ flat_map octets nodes
+    content_is = octets_all-flat nodes
+
+    read : IsReadAgain MOST_NODES tree
+    read = sound-again tree MOST_NODES refl can.stand
+        (record { long = (let short = can.short in let len : length (octets_all (nodes_of nodes)) ≡ length (flat_map octets nodes) = ap (λ (l : List ℕ). length l) content_is in omega arith); deep = (let deep = can.shallow in omega arith) }) can.few
+
+    tree_is : tree_of g.id g.offset (body_of new g) g.body MOST_NODES ≡ Ok (master id p (placed_all g.body (nodes_of nodes)))
+    tree_is =
+        ap (λ (o : List ℕ). tree_of d.id p o g.body MOST_NODES) (body_of-read new p d held ∙ body ∙ sym content_is)
+        ∙ ap (λ (i : ℕ). tree_of i p (octets_all (nodes_of nodes)) g.body MOST_NODES) own
+        ∙ read.read p g.body

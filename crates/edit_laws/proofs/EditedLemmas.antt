@@ -1,0 +1,130 @@
+-- Whatever edits write, the file holds what they make of it.
+use Rattle.std.proofs.Common.{◌≡◌, ◌≤◌, ◌+◌, ℕ, Bool, true, false, if◌then◌else◌, List, [], ◌∷◌, length, map, flat_map, All, Option, Some, None, Result, Ok, Err, refl, sym, ◌∙◌, ap, subst, arith}
+use Rattle.std.specs.List.{list_any}
+use Rattle.ebml_format.specs.Number.{AreOctets}
+use Rattle.mkv_schema.specs.declared.ids.TheConstants.{SEEK_HEAD}
+use Rattle.mkv_values.specs.declared.damage.Damage.{Damage}
+use Rattle.mkv_values.specs.declared.outside.TheConstants.{LONGEST_FILE}
+use Rattle.mkv_jobs.specs.declared.edit.Edit.{Edit}
+use Rattle.matroska_format.specs.declared.element.Header.{Header}
+use Rattle.matroska_format.specs.Outline.{segment_run, unless as unless_damaged}
+use Rattle.matroska_format.specs.Value.{first_of}
+use Rattle.matroska_format.proofs.OutlineLemmas.{and_then-ok, unless-ok}
+use Rattle.element_reader.specs.Outline.{FileOutline, outline_in}
+use Rattle.element_reader.specs.Collected.{others_of}
+use Rattle.element_octets.specs.Element.{Element, octets_of}
+use Rattle.sidecar_format.specs.Fields.{AreInOrder}
+use Rattle.sidecar_format.specs.Writes.{Write, applied}
+use Rattle.edit_format.specs.declared.refusal.Refusal.{Refusal}
+use Rattle.edit_format.specs.declared.refusal.Room.TheVariants as room
+use Rattle.edit_format.specs.declared.trees.Trees.{Trees}
+use Rattle.edit_format.specs.Change.{and_then, edited_trees}
+use Rattle.edit_format.specs.Records.{EditableFile, editable, trees_of}
+use Rattle.edit_format.specs.SeekHead.{SeekHeadAt, seek_head_of}
+use Rattle.edit_format.specs.Span.{span_of}
+use Rattle.edit_format.specs.Plan.{Part, appended, ascending, elements_moving, if_editable, lacks, length_in_place, length_moving, moves, moving, moving_refusals, moving_writes, new_end, part_writes, parts, place, plan_of, seek_head, size_refusal, tail_refusal, too_large, twin_refusal, unless, writes_in_place, writes_moving, writes_of_parts, first_refusal}
+use Rattle.edit_plan.proofs.PlanLemmas.{appended-some, editable-outline, first-none, head-first, lacks-none, plan_of-planned, unless-none}
+use Rattle.edit_plan.proofs.SitsLemmas.{element-some}
+use Rattle.ebml_format.proofs.NumberLemmas.{is_id-bounds}
+use Rattle.edit_plan.proofs.PlanLemmas.{seek_head-valid}
+use Rattle.edit_laws.proofs.SameLemmas.{InOrder}
+use Rattle.edit_laws.specs.Laws.{EditsChangeNothingElse, HoldsEdited, IsOutside}
+use Rattle.edit_laws.proofs.EndLemmas.{can-grow}
+use Rattle.edit_laws.proofs.OpenedLemmas.{IsOpened, opened}
+use Rattle.edit_laws.proofs.SectionLemmas.{AreFirst, trees-first}
+use Rattle.edit_laws.proofs.OutcomeLemmas.{moved-away, stayed}
+
+-- the places of a record are those of the writes
+in-order : (old from : ℕ) (ws : List Write) → AreInOrder old from (map place ws) → InOrder old from ws
+in-order old from [] order = tt
+in-order old from (w ∷ ws) order = (order.0, order.1, order.2, in-order old (w.at + length w.bytes) ws order.3)
+
+-- the trees of a file that can be edited
+editable-trees : (bytes : List ℕ) (f : EditableFile) → editable bytes ≡ Ok f → (f.outline.damage ≡ None) × (trees_of bytes f.outline.segment ≡ Ok f.trees)
+editable-trees bytes f is =
+    let first = and_then-ok (outline_in 0 bytes) _ f is in
+    let second = and_then-ok (unless_damaged first.0.damage first.0) _ f first.1.1 in
+    let third = and_then-ok (trees_of bytes second.0.segment) _ f second.1.1 in
+    let whole = unless-ok first.0.damage first.0 second.0 second.1.0 in
+    let made : record { outline = second.0; trees = third.0 } ≡ f = cc (third.1.1) in
+    let P : EditableFile → Type 0 = λ g. (g.outline.damage ≡ None) × (trees_of bytes g.outline.segment ≡ Ok g.trees) in
+    subst P made (ap (λ (o : FileOutline). o.damage) (sym whole.1) ∙ whole.0, third.1.0)
+
+module _ (bytes : List ℕ) (are_octets : AreOctets bytes) (short : length bytes ≤ LONGEST_FILE) (edits : List Edit) (f : EditableFile) (t : Trees) (ws : List Write)
+    (op : IsOpened bytes f.outline) (undamaged : f.outline.damage ≡ None) (first : AreFirst bytes f.outline.segment f.trees) (made : edited_trees edits f.trees ≡ Ok t)
+    (order : InOrder (length bytes) 0 ws) (outside_all : All IsOutside (segment_run bytes f.outline.segment).list) where
+  abbrev others : List Header
+  others = others_of (segment_run bytes f.outline.segment).list
+
+  abbrev ps : List Part
+  ps = parts others edits t
+
+  stays : list_any moves ps ≡ false → writes_in_place ps ≡ Ok ws → HoldsEdited bytes (applied bytes ws) f t
+  stays still is =
+      let split = unless-none (too_large (length_in_place ps) ps) (ascending (part_writes ps)) ws is in
+      stayed bytes are_octets short edits f t ws op undamaged first made order outside_all still split.0 split.1
+
+  moved : (s : SeekHeadAt) → first_of SEEK_HEAD others ≡ Some s.header → list_any moves ps ≡ true
+      → unless (first_refusal (moving_refusals f.outline ps (seek_head f.outline ps (Some s)) (span_of s.header others))) (moving_writes f.outline ps (seek_head f.outline ps (Some s)) s.header.offset (span_of s.header others)) ≡ Ok ws
+      → HoldsEdited bytes (applied bytes ws) f t
+  moved s head any is = of (elements_moving ps) refl
+    where
+      of : (es : List Element) → elements_moving ps ≡ es → HoldsEdited bytes (applied bytes ws) f t
+      of [] none =
+          let some = appended-some ps any in
+          let nothing : length (appended ps) ≡ 0 = ap (λ (l : List Element). length (flat_map octets_of l)) none in
+          absurd (omega arith)
+      of (d ∷ ds) are =
+          let split = unless-none (first_refusal (moving_refusals f.outline ps (seek_head f.outline ps (Some s)) (span_of s.header others))) (moving_writes f.outline ps (seek_head f.outline ps (Some s)) s.header.offset (span_of s.header others)) ws is in
+          let large = first-none (too_large (length_moving f.outline ps (seek_head f.outline ps (Some s)) (span_of s.header others)) ps) _ split.0 in
+          let tail = first-none (tail_refusal f.outline) _ large.1 in
+          let twin = first-none (twin_refusal f.outline.others (moving ps)) _ tail.1 in
+          let space = first-none (lacks room.SeekHead (length (octets_of (seek_head f.outline ps (Some s)))) (span_of s.header others)) _ twin.1 in
+          let size = first-none (size_refusal f.outline.segment (new_end f.outline ps)) [] space.1 in
+          moved-away bytes are_octets short edits f t ws op undamaged first made order outside_all s head (can-grow f.outline tail.0) large.0
+          (ap (λ (l : List Header). twin_refusal l (moving ps)) (sym op.others) ∙ twin.0) (lacks-none _ _ _ space.0) size.0 split.1 d ds are
+
+  moves-away : (head : Option SeekHeadAt) → seek_head_of bytes f.outline ≡ head → list_any moves ps ≡ true → writes_moving f.outline ps head ≡ Ok ws → HoldsEdited bytes (applied bytes ws) f t
+  moves-away None is any made =
+      let split = unless-none (first_refusal (moving_refusals f.outline ps (seek_head f.outline ps None) 0)) _ ws made in
+      let large = first-none (too_large (length_moving f.outline ps (seek_head f.outline ps None) 0) ps) _ split.0 in
+      let tail = first-none (tail_refusal f.outline) _ large.1 in
+      let twin = first-none (twin_refusal f.outline.others (moving ps)) _ tail.1 in
+      let space = first-none (lacks room.SeekHead (length (octets_of (seek_head f.outline ps None))) 0) _ twin.1 in
+      let reaches : length (octets_of (seek_head f.outline ps None)) ≤ 0 = lacks-none room.SeekHead (length (octets_of (seek_head f.outline ps None))) 0 space.0 in
+      let some : 1 ≤ length (octets_of (seek_head f.outline ps None)) = element-some SEEK_HEAD (seek_head f.outline ps None).body (is_id-bounds SEEK_HEAD seek_head-valid).0 in
+      absurd (omega arith)
+  moves-away (Some s) is any made =
+      let head = head-first bytes f.outline s is in
+      moved s (ap (first_of SEEK_HEAD) (sym op.others) ∙ head) any
+      (ap (λ n. unless (first_refusal (moving_refusals f.outline ps (seek_head f.outline ps (Some s)) n)) (moving_writes f.outline ps (seek_head f.outline ps (Some s)) s.header.offset n)) (ap (span_of s.header) (sym op.others)) ∙ made)
+
+  pub written : writes_of_parts bytes f.outline ps ≡ Ok ws → HoldsEdited bytes (applied bytes ws) f t
+  written is = of (list_any moves ps) refl is
+    where
+      of : (any : Bool) → list_any moves ps ≡ any → (if any then writes_moving f.outline ps (seek_head_of bytes f.outline) else writes_in_place ps) ≡ Ok ws → HoldsEdited bytes (applied bytes ws) f t
+      of true any is = moves-away (seek_head_of bytes f.outline) refl any is
+      of false still is = stays still is
+
+-- what edits write
+planned-writes : (bytes : List ℕ) (edits : List Edit) (f : EditableFile) (t : Trees) (ws : List Write) → editable bytes ≡ Ok f → edited_trees edits f.trees ≡ Ok t → plan_of bytes edits ≡ Ok ws → writes_of_parts bytes f.outline (parts f.outline.others edits t) ≡ Ok ws
+unfolding plan_of
+planned-writes bytes edits f t ws found made is =
+    sym (ap (λ (x : Result EditableFile Damage). and_then (if_editable x) (λ f. and_then (edited_trees edits f.trees) (λ t. writes_of_parts bytes f.outline (parts f.outline.others edits t)))) found
+    ∙ ap (λ (x : Result Trees Refusal). and_then x (λ t. writes_of_parts bytes f.outline (parts f.outline.others edits t))) made) ∙ is
+
+-- An edited file holds what the old one held, but for what the edits change.
+pub nothing-else : EditsChangeNothingElse
+nothing-else old new edits f t are_octets short outside_all found made is = of (plan_of old edits) refl is
+  where
+    with-writes : (ws : List Write) → plan_of old edits ≡ Ok ws → HoldsEdited old (applied old ws) f t
+    with-writes ws planned =
+        let op = opened old f.outline (editable-outline old f found) in
+        let trees = editable-trees old f found in
+        let record_is = plan_of-planned old edits ws short planned in
+        written old are_octets short edits f t ws op trees.0 (trees-first old f.outline.segment f.trees trees.1) made (in-order (length old) 0 ws record_is.sound.order) outside_all
+        (ap (λ (l : List Header). writes_of_parts old f.outline (parts l edits t)) (sym op.others) ∙ planned-writes old edits f t ws found made planned)
+
+    of : (plan : Result (List Write) Refusal) → plan_of old edits ≡ plan → and_then plan (λ ws. Ok (applied old ws)) ≡ Ok new → HoldsEdited old new f t
+    of (Ok ws) planned is = let same : applied old ws ≡ new = cc in subst (λ n. HoldsEdited old n f t) same (with-writes ws planned)
+    of (Err r) planned is = absurd (cc)

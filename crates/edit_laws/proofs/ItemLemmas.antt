@@ -1,0 +1,335 @@
+-- What is written anew at level 1, as the two contents have it.
+use Rattle.std.proofs.Common.{inl, inr, ◌≡◌, ◌⊎◌, ◌<◌, ◌≤◌, ℕ, ◌+◌, ◌==◌, true, false, List, [], ◌∷◌, length, get_or, All, Some, None, refl, sym, ◌∙◌, ap, subst, arith}
+use Rattle.std.specs.Bool.{⊤}
+use Rattle.std.specs.Option.{unwrap_or}
+use Rattle.std.proofs.lemmas.Bool.Decides.{nat_tests}
+use Rattle.std.proofs.lemmas.List.Elements.{All-head, All-tail, All-nil, All-cons, All-weaker}
+use Rattle.ebml_format.specs.declared.number.Size.{Size}
+use Rattle.ebml_format.specs.declared.number.Size.TheVariants.{Known, Unknown}
+use Rattle.mkv_schema.specs.Schema.{entry_of, is_level0}
+use Rattle.mkv_schema.specs.Table.{table}
+use Rattle.mkv_schema.specs.declared.ids.TheConstants.{CLUSTER, VOID}
+use Rattle.mkv_values.specs.declared.outside.TheConstants.{LONGEST_FILE}
+use Rattle.matroska_format.specs.declared.element.Header.{Header}
+use Rattle.matroska_format.specs.Element.{in_segment, is_unknown, stated_end, end_in, body_damage}
+use Rattle.matroska_format.specs.Elements.{ends_segment, ends_cluster, ends_at}
+use Rattle.matroska_format.specs.Value.{first_of}
+use Rattle.matroska_format.proofs.ElementLemmas.{element_at-placed}
+use Rattle.element_reader.specs.Collected.{others_of}
+use Rattle.element_reader.proofs.OutlineLemmas.{first_in-others}
+use Rattle.element_octets.specs.Element.{Element, octets_of}
+use Rattle.block_format.specs.Events.{is_closed}
+use Rattle.sidecar_format.specs.Writes.{Write, applied, extent, Touches}
+use Rattle.sidecar_format.proofs.RedoLemmas.{length-applied, extent_grows}
+use Rattle.edit_format.specs.Span.{behind_voids, fitted, span_of, void_header}
+use Rattle.edit_format.specs.Plan.{write}
+use Rattle.edit_plan.proofs.LevelLemmas.{Stand}
+use Rattle.edit_plan.proofs.PartLemmas.{first-own}
+use Rattle.edit_plan.proofs.VoidLemmas.{first-room, span-end, voids-least}
+use Rattle.edit_laws.proofs.SameLemmas.{AreSame, same-clear, InOrder, order-fits, IsOneOf, order-held, order-end}
+use Rattle.edit_laws.proofs.ClusterLemmas.{HasNoBlock}
+use Rattle.edit_laws.proofs.TileLemmas.{level, run_of, advances-level, Stands, Tiles, whole, tiled, stands-placed, IsAhead, ahead-later}
+use Rattle.edit_laws.proofs.LevelLemmas.{Spot, end_of, Edit, new_level, old_inner, new_inner, IsSpot, IsIn, IsOld, IsClear, IsEdit, IsListed, whole-known, level-becomes}
+use Rattle.edit_laws.proofs.FillLemmas.{IsFilled, CanWiden, filled}
+use Rattle.edit_laws.proofs.RoomLemmas.{tiles-stand, room-voids, first-there, ahead-behind}
+
+-- an Element that is written anew: its header, and what is written of it
+pub record Item : Type 0 where
+  pub header : Header
+  pub element : Element
+
+-- what can be written anew at level 1
+pub record IsName (id : ℕ) : Type 0 where
+  pub cluster : (id == CLUSTER) ≡ false
+  pub void : (id == VOID) ≡ false
+  pub level : ends_cluster id ≡ true
+  pub inner : is_level0 id ≡ false
+
+-- in its room, or a Void there
+abbrev pub write_of : List Header → Item → Write
+write_of others i = write i.header.offset (unwrap_or (fitted i.element (span_of i.header others)) (void_header (span_of i.header others)))
+
+pub record IsItem (others : List Header) (i : Item) : Type 0 where
+  pub first : first_of i.element.id others ≡ Some i.header
+  pub name : IsName i.element.id
+  pub widen : CanWiden i.element
+
+-- one of some items
+abbrev pub IsItemIn : List Item → Item → Type 0
+IsItemIn [] i = ⊥
+IsItemIn (j ∷ js) i = (j ≡ i) ⊎ IsItemIn js i
+
+-- no two of them have one ID
+abbrev pub AreDistinct : List Item → Type 0
+AreDistinct [] = ⊤
+AreDistinct (i ∷ is) = All (λ (j : Item). (j.element.id == i.element.id) ≡ false) is × AreDistinct is
+
+-- an octet is in the room of one of them
+abbrev pub IsInside : List Header → List Item → ℕ → Type 0
+IsInside others [] k = ⊥
+IsInside others (i ∷ is) k = ((i.header.offset ≤ k) × (k < i.header.offset + span_of i.header others)) ⊎ IsInside others is k
+
+void-level : is_level0 VOID ≡ false
+unfolding entry_of table
+void-level = refl
+
+pub goes-on : (size : Size) (id : ℕ) → is_level0 id ≡ false → ends_segment size id ≡ false
+goes-on (Known n) id is = refl
+goes-on Unknown id is = is
+
+-- each of some Elements that stand one behind the other
+tiles-all : (bytes : List ℕ) (size : Size) (e p q : ℕ) (hs : List Header) (P : Header → Type 0) → Tiles (level bytes size e) p hs q
+    → ((h : Header) (m : ℕ) → Stands (level bytes size e) h.offset h m → IsAhead hs h → P h) → All P hs
+tiles-all bytes size e p q [] P tiles each = All-nil P
+tiles-all bytes size e p q (h ∷ hs) P (m, stands, rest) each =
+    let at = (stands-placed (level bytes size e) p m h (advances-level bytes size e) stands).0 in
+    All-cons P h hs (each h m (subst (λ k. Stands (level bytes size e) k h m) (sym at) stands) (inl refl))
+    (tiles-all bytes size e m q hs P rest (λ g k there ahead. each g k there (inr ahead)))
+
+-- An Element can stand in the other content too.
+pub record CanKeep (a b : List ℕ) (e e' : ℕ) (h : Header) : Type 0 where
+  pub sound : body_damage in_segment (length b) e' h ≡ None
+  pub ends : is_unknown h.size ≡ false → end_in e' h ≡ end_in e h
+  pub closed : is_closed (length b) h ≡ is_closed (length a) h
+
+module _ (bytes : List ℕ) (size now_size : Size) (start e now_end last : ℕ) (list : List Header) (items : List Item) (ws : List Write) (behind : List Header) (Moves : Type 0)
+    (short : length bytes ≤ LONGEST_FILE) (within : e ≤ length bytes) (longer : e ≤ now_end) (reaches : last ≤ e)
+    (run : run_of (level bytes size e) start ≡ whole list last)
+    (order : InOrder (length bytes) 0 ws) (are : All (IsItem (others_of list)) items) (one : All (λ (i : Item). IsOneOf ws (write_of (others_of list) i)) items)
+    (touch : (k : ℕ) → Touches ws k → (k < start) ⊎ ((length bytes ≤ k) ⊎ IsInside (others_of list) items k))
+    (moves : All (λ (i : Item). span_of i.header (others_of list) < length (octets_of i.element) → Moves) items) where
+  abbrev pub new : List ℕ
+  new = applied bytes ws
+
+  abbrev pub others : List Header
+  others = others_of list
+
+  tiles : Tiles (level bytes size e) start list last
+  tiles = (tiled (level bytes size e) start last list (advances-level bytes size e) run).tiles
+
+  stand : Stand start last others
+  stand = tiles-stand bytes size e start last list tiles
+
+  len : length new ≡ extent (length bytes) ws
+  len = length-applied bytes ws (order-fits (length bytes) 0 (length bytes) ws (omega arith) (omega arith) order)
+
+  grows : length bytes ≤ length new
+  grows = omega (arith, len, extent_grows (length bytes) ws)
+
+  -- ---- one of them
+
+  abbrev pub Filled : Item → Type 0
+  Filled i = IsFilled new i.header.offset (span_of i.header others) i.element
+
+  pub fill : (i : Item) → IsItem others i → IsOneOf ws (write_of others i) → Filled i
+  fill i is in_them =
+      let room = first-room i.element.id start last others i.header stand is.first in
+      let least = room.least in let inside = room.inside in let more = grows in
+      let end = order-end (length bytes) 0 (length bytes) ws (write_of others i) order in_them in
+      filled new i.header.offset (span_of i.header others) i.element is.widen least (omega arith) (omega arith)
+      (order-held (length bytes) ws bytes (write_of others i) refl order in_them (omega (arith, len)))
+
+  abbrev pub spot : (i : Item) → Filled i → Spot
+  spot i f = record { header = i.header; now = f.now; voids = f.voids }
+
+  end-is : (i : Item) (is : IsItem others i) (f : Filled i) → end_of (spot i f) ≡ behind_voids (stated_end i.header) others
+  end-is i is f =
+      let end = span-end i.element.id start last others i.header stand is.first in
+      let all = f.len in
+      omega arith
+
+  abbrev pub spots : (is : List Item) → All (IsItem others) is → All (λ (i : Item). IsOneOf ws (write_of others i)) is → List Spot
+  spots [] are one = []
+  spots (i ∷ is) are one =
+      spot i (fill i (All-head (IsItem others) i is are) (All-head (λ (i : Item). IsOneOf ws (write_of others i)) i is one))
+      ∷ spots is (All-tail (IsItem others) i is are) (All-tail (λ (i : Item). IsOneOf ws (write_of others i)) i is one)
+
+  abbrev pub edit : Edit
+  edit = record { old = bytes; new = new; size = size; now_size = now_size; start = start; end = e; now_end = now_end; list = list; spots = spots items are one; behind = behind; last = last }
+
+  pub spot-is : (i : Item) (is : IsItem others i) (f : Filled i) → (span_of i.header others < length (octets_of i.element) → Moves) → IsSpot edit Moves (spot i f)
+  spot-is i is f can_move =
+      let name = is.name in
+      let first : first_of i.element.id list ≡ Some i.header = sym (first_in-others i.element.id list name.cluster) ∙ is.first in
+      let there = first-there bytes size e i.element.id start last list i.header tiles first in
+      let stands = there.stands in
+      let own = there.own in
+      let other : (i.header.id == CLUSTER) ≡ false = ap (λ n. n == CLUSTER) own ∙ name.cluster in
+      let known = whole-known bytes size i.header.offset e there.next i.header stands other in
+      let room = first-room i.element.id start last others i.header stand is.first in
+      let inside = room.inside in
+      let end = end-is i is f in
+      let all = f.len in
+      let least = voids-least (stated_end i.header) start last others stand in
+      record {
+        inside = stands.inside;
+        found = stands.found;
+        known = known.0;
+        ends = known.1;
+        cluster = other;
+        void = ap (λ n. n == VOID) own ∙ name.void;
+        room = omega arith;
+        last = omega arith;
+        elements = f.elements;
+        held = f.held;
+        within = omega arith;
+        goes = All-cons (λ (d : Element). ends_segment now_size d.id ≡ false) f.now f.voids (now-goes name f.is)
+        (All-weaker (λ (d : Element). d.id ≡ VOID) (λ (d : Element). ends_segment now_size d.id ≡ false) (λ d is. ap (ends_segment now_size) is ∙ goes-on now_size VOID void-level) f.voids f.are);
+        voids = f.are;
+        stays = of own name f.is;
+      }
+    where
+      now-goes : IsName i.element.id → ((f.now.id ≡ i.element.id) × (f.now.body ≡ i.element.body) × (length (octets_of i.element) ≤ span_of i.header others)) ⊎ ((f.now.id ≡ VOID) × (f.voids ≡ []) × (span_of i.header others < length (octets_of i.element))) → ends_segment now_size f.now.id ≡ false
+      now-goes name (inl (same, body, fits)) = ap (ends_segment now_size) same ∙ goes-on now_size i.element.id name.inner
+      now-goes name (inr (void, alone, long)) = ap (ends_segment now_size) void ∙ goes-on now_size VOID void-level
+
+      of : i.header.id ≡ i.element.id → IsName i.element.id → ((f.now.id ≡ i.element.id) × (f.now.body ≡ i.element.body) × (length (octets_of i.element) ≤ span_of i.header others)) ⊎ ((f.now.id ≡ VOID) × (f.voids ≡ []) × (span_of i.header others < length (octets_of i.element)))
+          → ((f.now.id ≡ i.header.id) × (ends_cluster i.header.id ≡ true)) ⊎ ((f.now.id ≡ VOID) × (f.voids ≡ []) × Moves)
+      of own name (inl (same, body, fits)) = inl (same ∙ sym own, ap ends_cluster own ∙ name.level)
+      of own name (inr (void, alone, long)) = inr (void, alone, can_move long)
+
+  -- ---- all of them
+
+  spots-are : (is : List Item) (are : All (IsItem others) is) (one : All (λ (i : Item). IsOneOf ws (write_of others i)) is) → All (λ (i : Item). span_of i.header others < length (octets_of i.element) → Moves) is → All (IsSpot edit Moves) (spots is are one)
+  spots-are [] are one move = All-nil (IsSpot edit Moves)
+  spots-are (i ∷ is) are one move =
+      All-cons (IsSpot edit Moves) _ _ (spot-is i (All-head (IsItem others) i is are) (fill i (All-head (IsItem others) i is are) (All-head (λ (i : Item). IsOneOf ws (write_of others i)) i is one)) (All-head (λ (i : Item). span_of i.header others < length (octets_of i.element) → Moves) i is move))
+      (spots-are is (All-tail (IsItem others) i is are) (All-tail (λ (i : Item). IsOneOf ws (write_of others i)) i is one) (All-tail (λ (i : Item). span_of i.header others < length (octets_of i.element) → Moves) i is move))
+
+  -- they end where their rooms do
+  ends-are : (is : List Item) (are : All (IsItem others) is) (one : All (λ (i : Item). IsOneOf ws (write_of others i)) is) → All (λ (s : Spot). end_of s ≡ behind_voids (stated_end s.header) others) (spots is are one)
+  ends-are [] are one = All-nil (λ (s : Spot). end_of s ≡ behind_voids (stated_end s.header) others)
+  ends-are (i ∷ is) are one =
+      All-cons (λ (s : Spot). end_of s ≡ behind_voids (stated_end s.header) others) _ _ (end-is i (All-head (IsItem others) i is are) (fill i (All-head (IsItem others) i is are) (All-head (λ (i : Item). IsOneOf ws (write_of others i)) i is one)))
+      (ends-are is (All-tail (IsItem others) i is are) (All-tail (λ (i : Item). IsOneOf ws (write_of others i)) i is one))
+
+  ahead-are : (is : List Item) (are : All (IsItem others) is) (one : All (λ (i : Item). IsOneOf ws (write_of others i)) is) → All (λ (s : Spot). IsAhead list s.header) (spots is are one)
+  ahead-are [] are one = All-nil (λ (s : Spot). IsAhead list s.header)
+  ahead-are (i ∷ is) are one =
+      let own = All-head (IsItem others) i is are in
+      let name = own.name in
+      let first : first_of i.element.id list ≡ Some i.header = sym (first_in-others i.element.id list name.cluster) ∙ own.first in
+      All-cons (λ (s : Spot). IsAhead list s.header) _ _ (first-there bytes size e i.element.id start last list i.header tiles first).ahead
+      (ahead-are is (All-tail (IsItem others) i is are) (All-tail (λ (i : Item). IsOneOf ws (write_of others i)) i is one))
+
+  all-in : (P : Spot → Type 0) (xs : List Spot) (s : Spot) → All P xs → IsIn xs s → P s
+  all-in P [] s all member = absurd member
+  all-in P (x ∷ xs) s all (inl same) = subst P same (All-head P x xs all)
+  all-in P (x ∷ xs) s all (inr later) = all-in P xs s (All-tail P x xs all) later
+
+  -- each has its own
+  pub spot-in : (is : List Item) (are : All (IsItem others) is) (one : All (λ (i : Item). IsOneOf ws (write_of others i)) is) (i : Item) → IsItemIn is i → (f : Filled i) × IsIn (spots is are one) (spot i f)
+  spot-in [] are one i member = absurd member
+  spot-in (j ∷ js) are one i (inl same) =
+      let P : Item → Type 0 = λ (k : Item). (f : Filled k) × IsIn (spots (j ∷ js) are one) (spot k f) in
+      subst P same (fill j (All-head (IsItem others) j js are) (All-head (λ (i : Item). IsOneOf ws (write_of others i)) j js one), inl refl)
+  spot-in (j ∷ js) are one i (inr later) =
+      let rest = spot-in js (All-tail (IsItem others) j js are) (All-tail (λ (i : Item). IsOneOf ws (write_of others i)) j js one) i later in
+      (rest.0, inr rest.1)
+
+  header-id : (i : Item) → IsItem others i → i.header.id ≡ i.element.id
+  header-id i is = first-own i.element.id others i.header is.first
+
+  -- what their IDs have
+  pub ids-are : (P : ℕ → Type 0) (is : List Item) (are : All (IsItem others) is) (one : All (λ (i : Item). IsOneOf ws (write_of others i)) is) → All (λ (i : Item). P i.element.id) is → All (λ (s : Spot). P s.header.id) (spots is are one)
+  ids-are P [] are one all = All-nil (λ (s : Spot). P s.header.id)
+  ids-are P (i ∷ is) are one all =
+      All-cons (λ (s : Spot). P s.header.id) _ _ (subst P (sym (header-id i (All-head (IsItem others) i is are))) (All-head (λ (i : Item). P i.element.id) i is all))
+      (ids-are P is (All-tail (IsItem others) i is are) (All-tail (λ (i : Item). IsOneOf ws (write_of others i)) i is one) (All-tail (λ (i : Item). P i.element.id) i is all))
+
+  -- no two have one header
+  pub single-in : (is : List Item) (are : All (IsItem others) is) (one : All (λ (i : Item). IsOneOf ws (write_of others i)) is) → AreDistinct is → (s : Spot) → IsIn (spots is are one) s → All (λ (o : Spot). o.header ≡ s.header → o ≡ s) (spots is are one)
+  single-in [] are one distinct s member = absurd member
+  single-in (i ∷ is) are one distinct s (inl same) =
+      let rest_ids = ids-are (λ n. (n == i.element.id) ≡ false) is (All-tail (IsItem others) i is are) (All-tail (λ (i : Item). IsOneOf ws (write_of others i)) i is one) distinct.0 in
+      let own = header-id i (All-head (IsItem others) i is are) in
+      All-cons (λ (o : Spot). o.header ≡ s.header → o ≡ s) _ _ (λ header. same)
+      (λ k d below header.
+          let differs = rest_ids k d below in
+          let ids : (get_or (spots is (All-tail (IsItem others) i is are) (All-tail (λ (i : Item). IsOneOf ws (write_of others i)) i is one)) k d).header.id ≡ i.element.id =
+          ap (λ (g : Header). g.id) header ∙ ap (λ (x : Spot). x.header.id) (sym same) ∙ own in
+          absurd (let here : ((get_or (spots is (All-tail (IsItem others) i is are) (All-tail (λ (i : Item). IsOneOf ws (write_of others i)) i is one)) k d).header.id == i.element.id) ≡ true = grind (arith, nat_tests) in cc))
+  single-in (i ∷ is) are one distinct s (inr later) =
+      let rest_ids = ids-are (λ n. (n == i.element.id) ≡ false) is (All-tail (IsItem others) i is are) (All-tail (λ (i : Item). IsOneOf ws (write_of others i)) i is one) distinct.0 in
+      let own = header-id i (All-head (IsItem others) i is are) in
+      let differs = all-in (λ (s : Spot). (s.header.id == i.element.id) ≡ false) (spots is (All-tail (IsItem others) i is are) (All-tail (λ (i : Item). IsOneOf ws (write_of others i)) i is one)) s rest_ids later in
+      All-cons (λ (o : Spot). o.header ≡ s.header → o ≡ s) _ _
+      (λ header. let ids : s.header.id ≡ i.element.id = sym (ap (λ (g : Header). g.id) header) ∙ own in absurd (let here : (s.header.id == i.element.id) ≡ true = grind (arith, nat_tests) in cc))
+      (single-in is (All-tail (IsItem others) i is are) (All-tail (λ (i : Item). IsOneOf ws (write_of others i)) i is one) distinct.1 s later)
+
+  -- where none of them reaches, no octet is written
+  none-inside : (p q k : ℕ) (is : List Item) (are : All (IsItem others) is) (one : All (λ (i : Item). IsOneOf ws (write_of others i)) is)
+      → All (λ (s : Spot). (q ≤ s.header.offset) ⊎ (end_of s ≤ p)) (spots is are one) → p ≤ k → k < q → IsInside others is k → ⊥
+  none-inside p q k [] are one clear from to inside = inside
+  none-inside p q k (i ∷ is) are one clear from to (inr later) =
+      none-inside p q k is (All-tail (IsItem others) i is are) (All-tail (λ (i : Item). IsOneOf ws (write_of others i)) i is one) (All-tail (λ (s : Spot). (q ≤ s.header.offset) ⊎ (end_of s ≤ p)) _ _ clear) from to later
+  none-inside p q k (i ∷ is) are one clear from to (inl (begins, ends)) =
+      let f : Filled i = fill i (All-head (IsItem others) i is are) (All-head (λ (i : Item). IsOneOf ws (write_of others i)) i is one) in
+      let all = f.len in
+      elim (All-head (λ (s : Spot). (q ≤ s.header.offset) ⊎ (end_of s ≤ p)) _ _ clear) [
+        | inl before ↦ omega arith
+        | inr past ↦ omega arith
+      ]
+
+  same-is : (p q : ℕ) → start ≤ p → p ≤ q → q ≤ e → IsClear edit p q → AreSame bytes new p q
+  same-is p q from between to clear =
+      same-clear ws bytes p q (order-fits (length bytes) 0 (length bytes) ws (omega arith) (omega arith) order) (omega arith)
+      (λ k begins ends touched. elim (touch k touched) [
+        | inl before ↦ (let wrong : ⊥ = omega arith in wrong)
+        | inr rest ↦ elim rest [
+            | inl past ↦ (let wrong : ⊥ = omega arith in wrong)
+            | inr inside ↦ none-inside p q k items are one clear begins ends inside
+          ]
+      ])
+
+  -- The new content is the old one, but for what is written anew and what stands behind it.
+  module _ (now_within : now_end ≤ length new) (stops : (id : ℕ) → ends_segment now_size id ≡ ends_segment size id)
+      (keep : (h : Header) (m : ℕ) → Stands (level bytes size e) h.offset h m → IsAhead list h → CanKeep bytes new e now_end h)
+      (blocks : (h : Header) → IsAhead list h → ends_cluster h.id ≡ false → HasNoBlock h)
+      (tail : run_of (new_level edit) last ≡ whole behind (run_of (new_level edit) last).end)
+      (closes : (run_of (old_inner edit) last ≡ ends_at last) ⊎ Moves → run_of (new_inner edit) last ≡ ends_at last) where
+    old-is : (h : Header) (m : ℕ) → Stands (level bytes size e) h.offset h m → IsAhead list h → IsOld edit Moves h
+    old-is h m stands ahead =
+        let k = keep h m stands ahead in
+        record {
+          sound = k.sound;
+          ends = k.ends;
+          closed = k.closed;
+          block = blocks h ahead;
+          room = λ s member after before.
+              let end = all-in (λ (s : Spot). end_of s ≡ behind_voids (stated_end s.header) others) (spots items are one) s (ends-are items are one) member in
+              let there = all-in (λ (s : Spot). IsAhead list s.header) (spots items are one) s (ahead-are items are one) member in
+              let own = all-in (IsSpot edit Moves) (spots items are one) s (spots-are items are one moves) member in
+              in-room h m stands ahead s own end there after before;
+        }
+      where
+        in-room : (h : Header) (m : ℕ) → Stands (level bytes size e) h.offset h m → IsAhead list h → (s : Spot) → IsSpot edit Moves s → end_of s ≡ behind_voids (stated_end s.header) others → IsAhead list s.header
+            → s.header.offset < h.offset → h.offset < end_of s → (h.id ≡ VOID) × (stated_end h ≤ end_of s)
+        in-room h m stands ahead s own end there after before =
+            let behind_it = ahead-behind bytes size e start last list s.header h tiles there ahead own.cluster after in
+            let from = ahead-later (level bytes size e) start last list s.header (advances-level bytes size e) tiles there in
+            let header = element_at-placed in_segment bytes s.header.offset e s.header (let inside = own.inside in omega arith) own.found in
+            let later = header.later in
+            let void = room-voids bytes size e (stated_end s.header) start last list h (omega arith) tiles ahead behind_it (omega arith) in
+            (void.0, (let ends = void.1 in omega arith))
+
+    pub is-edit : IsEdit edit Moves
+    is-edit = record {
+      same = same-is;
+      longer = longer;
+      within = within;
+      now_within = now_within;
+      stops = stops;
+      spots = spots-are items are one moves;
+      single = λ k d below j c under same.
+          let one_end = ends-are items are one k d below in
+          let other_end = ends-are items are one j c under in
+          one_end ∙ ap (λ (g : Header). behind_voids (stated_end g) others) same ∙ sym other_end;
+      stay = tiles-all bytes size e start last list (IsOld edit Moves) tiles old-is;
+      behind = tail;
+      closes = closes;
+    }
+
+    -- The old Elements of level 1 become the new ones.
+    pub listed : IsListed edit Moves list start
+    listed = level-becomes edit Moves is-edit reaches run (ahead-are items are one)

@@ -1,0 +1,197 @@
+-- Info and Tracks of a file, before and behind edits.
+use Rattle.std.proofs.Common.{◌≡◌, ◌<◌, ◌≤◌, ℕ, ◌+◌, ◌==◌, Bool, true, false, if◌then◌else◌, List, [], ◌∷◌, All, Option, Some, None, IfSome, Ok, slice_get, slice_set, refl, sym, ◌∙◌, ap, subst, arith}
+use Rattle.std.specs.Bool.{⊤}
+use Rattle.std.proofs.lemmas.Bool.Decides.{nat_tests}
+use Rattle.std.proofs.lemmas.List.Elements.{All-nil, All-cons, All-head, All-tail}
+use Rattle.ebml_format.specs.Number.{AreOctets}
+use Rattle.ebml_format.proofs.SpelledLemmas.{AreOctets-take, AreOctets-drop}
+use Rattle.mkv_schema.specs.declared.ids.TheConstants.{CHAPTERS, INFO, TAGS, TRACKS}
+use Rattle.mkv_jobs.specs.declared.edit.Edit.{Edit}
+use Rattle.matroska_format.specs.declared.element.Header.{Header}
+use Rattle.matroska_format.specs.Element.{stated_end}
+use Rattle.matroska_format.specs.Outline.{and_then, segment_run}
+use Rattle.matroska_format.specs.Value.{body_of, first_of}
+use Rattle.matroska_format.proofs.OutlineLemmas.{and_then-ok, unless-ok}
+use Rattle.tree_format.specs.declared.limits.TheConstants.{MOST_NODES}
+use Rattle.tree_format.specs.Node.{Node, Nodes, leaf, master, none, node, nodes_of, list_of, children, depth, depth_all, deepest}
+use Rattle.tree_format.specs.NormalForm.{octets}
+use Rattle.tree_format.specs.Reading.{tree_of}
+use Rattle.tree_format.specs.Standing.{AllStandIn, StandsIn}
+use Rattle.tree_format.proofs.FoundLemmas.{tree_of-sound}
+use Rattle.tree_format.proofs.NodeLemmas.{nodes-list}
+use Rattle.track_format.specs.Refusal.{refusal_of}
+use Rattle.file_records.specs.Attached.{AttachedFile, first_attached}
+use Rattle.file_records.specs.Records.{first_tree, good_info, tree_at}
+use Rattle.meta_format.specs.Info.{info_refusal}
+use Rattle.edit_format.specs.declared.trees.Trees.{Trees}
+use Rattle.edit_format.specs.Property.{is_info}
+use Rattle.edit_format.specs.Change.{edited_from, edited_node, edited_once, in_entry, in_info, in_tracks, numbered, place_of}
+use Rattle.edit_format.specs.Records.{good_tracks, trees_of}
+use Rattle.edit_laws.proofs.DepthLemmas.{tree_of-deep}
+use Rattle.edit_laws.proofs.TreeLemmas.{AreFit, IsFit, numbered-ok, then-ok}
+
+-- ---- what was read
+
+-- What the trees of a file were read from.
+pub record AreFirst (bytes : List ℕ) (segment : Header) (t : Trees) : Type 0 where
+  pub info : first_tree INFO bytes segment ≡ Ok t.info
+  pub whole : Node
+  pub tracks : first_tree TRACKS bytes segment ≡ Ok (Some whole)
+  pub children : t.tracks ≡ children whole
+  pub files : List AttachedFile
+  pub attached : first_attached bytes segment ≡ Ok files
+
+good-same : (n m : Option Node) → good_info n ≡ Ok m → n ≡ m
+good-same None m is = cc
+good-same (Some n) m is = (unless-ok (info_refusal n) (Some n) m is).1
+
+tracks-same : (segment : Header) (n : Option Node) (m : Node) → good_tracks segment n ≡ Ok m → n ≡ Some m
+tracks-same segment None m is = absurd (cc)
+tracks-same segment (Some n) m is = ap (λ x. Some x) (unless-ok (refusal_of n) n m is).1
+
+pub trees-first : (bytes : List ℕ) (segment : Header) (t : Trees) → trees_of bytes segment ≡ Ok t → AreFirst bytes segment t
+trees-first bytes segment t is =
+    let info = and_then-ok (and_then (first_tree INFO bytes segment) good_info) _ t is in
+    let first = and_then-ok (first_tree INFO bytes segment) good_info info.0 info.1.0 in
+    let tracks = and_then-ok (and_then (first_tree TRACKS bytes segment) (good_tracks segment)) _ t info.1.1 in
+    let second = and_then-ok (first_tree TRACKS bytes segment) (good_tracks segment) tracks.0 tracks.1.0 in
+    let files = and_then-ok (first_attached bytes segment) _ t tracks.1.1 in
+    let chapters = and_then-ok (first_tree CHAPTERS bytes segment) _ t files.1.1 in
+    let tags = and_then-ok (first_tree TAGS bytes segment) _ t chapters.1.1 in
+    let same : record { info = info.0; tracks = children tracks.0 } ≡ t = (let last = tags.1.1 in cc) in
+    subst (AreFirst bytes segment) same (record {
+      info = first.1.0 ∙ ap (λ n. Ok n) (good-same first.0 info.0 first.1.1);
+      whole = tracks.0;
+      tracks = second.1.0 ∙ ap (λ n. Ok n) (tracks-same segment second.0 tracks.0 second.1.1);
+      children = refl;
+      files = files.0;
+      attached = files.1.0;
+    })
+
+-- a tree that was read is one of its ID
+read-fit : (id : ℕ) (bytes : List ℕ) (h : Header) (n : Node) → AreOctets bytes → h.id ≡ id → tree_of h.id h.offset (body_of bytes h) h.body MOST_NODES ≡ Ok n → IsFit id deepest n
+read-fit id bytes h n are own is =
+    let of = tree_of-deep h.id h.offset h.body MOST_NODES (body_of bytes h) n is in
+    record {
+      own = of.own ∙ own;
+      master = of.master;
+      sound = tree_of-sound h.id h.offset h.body MOST_NODES (body_of bytes h) n (AreOctets-drop h.body _ (AreOctets-take (stated_end h) bytes are)) is;
+      deep = of.deep;
+    }
+
+first-id : (id : ℕ) (list : List Header) (h : Header) → first_of id list ≡ Some h → h.id ≡ id
+first-id id [] h found = absurd (cc)
+first-id id (g ∷ gs) h found = of (first-id id gs h) (g.id == id) refl found
+  where
+    of : (first_of id gs ≡ Some h → h.id ≡ id) → (test : Bool) → (g.id == id) ≡ test → (if test then Some g else first_of id gs) ≡ Some h → h.id ≡ id
+    of further true same is = let it : g ≡ h = cc in let own : g.id ≡ id = grind (arith, nat_tests) in sym (ap (λ (x : Header). x.id) it) ∙ own
+    of further false same is = further is
+
+pub first-fit : (id : ℕ) (bytes : List ℕ) (segment : Header) (n : Option Node) → AreOctets bytes → first_tree id bytes segment ≡ Ok n → IfSome n (IsFit id deepest)
+first-fit id bytes segment n are is = of (first_of id (segment_run bytes segment).list) refl is
+  where
+    of : (first : Option Header) → first_of id (segment_run bytes segment).list ≡ first → tree_at bytes first ≡ Ok n → IfSome n (IsFit id deepest)
+    of None nothing is = let same : None ≡ n = cc in subst (λ (x : Option Node). IfSome x (IsFit id deepest)) same tt
+    of (Some h) some is =
+        let read = and_then-ok (tree_of h.id h.offset (body_of bytes h) h.body MOST_NODES) (λ tree. Ok (Some tree)) n is in
+        let same : Some read.0 ≡ n = (let last = read.1.1 in cc) in
+        subst (λ (x : Option Node). IfSome x (IsFit id deepest)) same (read-fit id bytes h read.0 are (first-id id (segment_run bytes segment).list h some) read.1.0)
+
+-- children that stand in a master
+all-stand : (parent : ℕ) (ns : Nodes) (most : ℕ) → AllStandIn parent ns → depth_all ns < most → All (λ (n : Node). StandsIn parent n × (depth n < most)) (list_of ns)
+all-stand parent none most stand deep = All-nil (λ (n : Node). StandsIn parent n × (depth n < most))
+all-stand parent (node n ns) most stand deep = All-cons (λ (n : Node). StandsIn parent n × (depth n < most)) n (list_of ns) (stand.0, omega arith) (all-stand parent ns most stand.1 (omega arith))
+
+stand-all : (parent : ℕ) (ns : List Node) (most : ℕ) → All (λ (n : Node). StandsIn parent n × (depth n < most)) ns → 1 ≤ most → AllStandIn parent (nodes_of ns) × (depth_all (nodes_of ns) < most)
+stand-all parent [] most all some = (tt, omega arith)
+stand-all parent (n ∷ ns) most all some =
+    let own = All-head (λ (n : Node). StandsIn parent n × (depth n < most)) n ns all in
+    let rest = stand-all parent ns most (All-tail (λ (n : Node). StandsIn parent n × (depth n < most)) n ns all) some in
+    let one = own.1 in let two = rest.1 in
+    ((own.0, rest.0), omega arith)
+
+pub trees-fit : (bytes : List ℕ) (segment : Header) (t : Trees) → AreOctets bytes → AreFirst bytes segment t → AreFit t
+trees-fit bytes segment t are first = record {
+  info = first-fit INFO bytes segment t.info are first.info;
+  tracks = of first.whole (first-fit TRACKS bytes segment (Some first.whole) are first.tracks) first.children;
+}
+  where
+    of : (n : Node) → IsFit TRACKS deepest n → t.tracks ≡ children n → All (λ (n : Node). StandsIn TRACKS n × (depth n < deepest)) t.tracks
+    of (leaf id at body) fit is = let never = fit.master in absurd (cc)
+    of (master id at kids) fit is =
+        let sound : AllStandIn TRACKS kids = subst (λ k. AllStandIn k kids) fit.own fit.sound in
+        let deep = fit.deep in
+        subst (All (λ (n : Node). StandsIn TRACKS n × (depth n < deepest))) (sym is) (all-stand TRACKS kids deepest sound (omega arith))
+
+-- ---- what is to be written
+
+pub info-stands : (n : Node) → IsFit INFO deepest n → AllStandIn INFO (nodes_of (children n)) × (depth_all (nodes_of (children n)) < deepest)
+info-stands (leaf id at body) fit = let never = fit.master in absurd (cc)
+info-stands (master id at kids) fit =
+    let same : nodes_of (list_of kids) ≡ kids = nodes-list kids in
+    let sound : AllStandIn INFO kids = subst (λ k. AllStandIn k kids) fit.own fit.sound in
+    let deep = fit.deep in
+    let len : depth_all (nodes_of (list_of kids)) ≡ depth_all kids = ap depth_all same in
+    (subst (AllStandIn INFO) (sym same) sound, omega arith)
+
+pub info-octets : (n : Node) → IsFit INFO deepest n → octets (master INFO 0 (nodes_of (children n))) ≡ octets n
+info-octets (leaf id at body) fit = let never = fit.master in absurd (cc)
+info-octets (master id at kids) fit = ap (λ (ks : Nodes). octets (master INFO 0 ks)) (nodes-list kids) ∙ ap (λ (i : ℕ). octets (master i 0 kids)) (sym fit.own)
+
+pub tracks-octets : (n : Node) → IsFit TRACKS deepest n → octets n ≡ octets (master TRACKS 0 (nodes_of (children n)))
+tracks-octets (leaf id at body) fit = let never = fit.master in absurd (cc)
+tracks-octets (master id at kids) fit = sym (ap (λ (ks : Nodes). octets (master TRACKS 0 ks)) (nodes-list kids) ∙ ap (λ (i : ℕ). octets (master i 0 kids)) (sym fit.own))
+
+pub tracks-stand : (t : Trees) → AreFit t → AllStandIn TRACKS (nodes_of t.tracks) × (depth_all (nodes_of t.tracks) < deepest)
+tracks-stand t fit = stand-all TRACKS t.tracks deepest fit.tracks (omega arith)
+
+-- ---- where there is an Info, or none
+
+abbrev pub SameInfo : Option Node → Option Node → Type 0
+SameInfo None None = ⊤
+SameInfo None (Some m) = ⊥
+SameInfo (Some n) None = ⊥
+SameInfo (Some n) (Some m) = ⊤
+
+same-self : (n : Option Node) → SameInfo n n
+same-self None = tt
+same-self (Some n) = tt
+
+pub same-then : (n m k : Option Node) → SameInfo n m → SameInfo m k → SameInfo n k
+same-then None None None one two = tt
+same-then None None (Some k) one two = absurd two
+same-then None (Some m) k one two = absurd one
+same-then (Some n) None k one two = absurd one
+same-then (Some n) (Some m) None one two = absurd two
+same-then (Some n) (Some m) (Some k) one two = tt
+
+info-once : (e : Edit) (t u : Trees) → edited_once e t ≡ Ok u → SameInfo t.info u.info
+info-once e t u is = of (is_info e.place) is
+  where
+    in-it : (n : Option Node) → in_info e t n ≡ Ok u → SameInfo n u.info
+    in-it None is = absurd (cc)
+    in-it (Some n) is =
+        let made = then-ok (edited_node e n) (λ m. Ok (record { info = Some m; tracks = t.tracks })) u is in
+        let same : record { info = Some made.0; tracks = t.tracks } ≡ u = (let last = made.1.1 in cc) in
+        subst (λ (x : Trees). SameInfo (Some n) x.info) same tt
+
+    entry : (j : ℕ) (n : Option Node) → in_entry e t j n ≡ Ok u → SameInfo t.info u.info
+    entry j None is = absurd (cc)
+    entry j (Some n) is =
+        let made = then-ok (edited_node e n) (λ m. Ok (record { info = t.info; tracks = slice_set t.tracks j m })) u is in
+        let same : record { info = t.info; tracks = slice_set t.tracks j made.0 } ≡ u = (let last = made.1.1 in cc) in
+        subst (λ (x : Trees). SameInfo t.info x.info) same (same-self t.info)
+
+    place : (j : Option ℕ) → in_tracks e t j ≡ Ok u → SameInfo t.info u.info
+    place None is = absurd (cc)
+    place (Some j) is = entry j (slice_get t.tracks j) is
+
+    of : (info : Bool) → (if info then in_info e t t.info else in_tracks e t (place_of e.place t.tracks)) ≡ Ok u → SameInfo t.info u.info
+    of true is = in-it t.info is
+    of false is = place (place_of e.place t.tracks) is
+
+pub info-there : (k : ℕ) (es : List Edit) (t u : Trees) → edited_from k es t ≡ Ok u → SameInfo t.info u.info
+info-there k [] t u is = let same : t ≡ u = cc in subst (λ (x : Trees). SameInfo t.info x.info) same (same-self t.info)
+info-there k (e ∷ es) t u is =
+    let made = then-ok (numbered (k + 1) (edited_once e t)) (edited_from (k + 1) es) u is in
+    same-then t.info made.0.info u.info (info-once e t made.0 (numbered-ok (k + 1) (edited_once e t) made.0 made.1.0)) (info-there (k + 1) es made.0 u made.1.1)

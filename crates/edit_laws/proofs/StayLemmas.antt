@@ -1,0 +1,126 @@
+-- Edits of which nothing moves: the new content is as long as the old one, and its Segment ends where it did.
+use Rattle.std.proofs.Common.{inl, inr, ◌≡◌, ◌⊎◌, ◌<◌, ◌≤◌, ℕ, Bool, false, List, [], ◌∷◌, length, All, refl, sym, ◌∙◌, ap, ap₂, arith}
+use Rattle.std.proofs.lemmas.List.Elements.{All-head, All-tail}
+use Rattle.ebml_format.specs.declared.number.Size.{Size}
+use Rattle.mkv_values.specs.declared.outside.TheConstants.{LONGEST_FILE}
+use Rattle.matroska_format.specs.declared.element.Header.{Header}
+use Rattle.matroska_format.specs.Element.{in_segment, body_damage, element_in, element_at}
+use Rattle.matroska_format.specs.Elements.{Run, ends_cluster, ends_at}
+use Rattle.element_reader.specs.Collected.{others_of}
+use Rattle.element_octets.specs.Element.{octets_of}
+use Rattle.block_format.specs.Events.{is_closed}
+use Rattle.sidecar_format.specs.Writes.{Write, applied, Touches}
+use Rattle.sidecar_format.proofs.RedoLemmas.{length-applied}
+use Rattle.edit_format.specs.Span.{span_of}
+use Rattle.edit_plan.proofs.LevelLemmas.{Stand}
+use Rattle.edit_plan.proofs.VoidLemmas.{first-room}
+use Rattle.edit_laws.proofs.SameLemmas.{AreSame, same-clear, InOrder, order-fits, IsOneOf}
+use Rattle.edit_laws.proofs.HeaderLemmas.{outside, found-sound}
+use Rattle.edit_laws.proofs.ClusterLemmas.{HasNoBlock}
+use Rattle.edit_laws.proofs.TileLemmas.{level, inner, run_of, advances-level, advances-inner, Stands, Tiles, whole, tiled, end-same, IsAhead}
+use Rattle.edit_laws.proofs.LevelLemmas.{Edit, Spot, IsEdit, IsIn, IsListed, level-within}
+use Rattle.edit_laws.proofs.RoomLemmas.{tiles-stand}
+use Rattle.edit_laws.proofs.FillLemmas.{IsFilled}
+use Rattle.edit_laws.proofs.ItemLemmas.{AreDistinct, Item, IsItem, IsItemIn, IsInside, CanKeep, write_of, edit, ids-are, is-edit, listed, single-in, spot-in}
+use Rattle.edit_laws.proofs.WriteLemmas.{extent-within}
+
+module _ (bytes : List ℕ) (size : Size) (start e last : ℕ) (list : List Header) (items : List Item) (ws : List Write)
+    (short : length bytes ≤ LONGEST_FILE) (within : e ≤ length bytes) (begins : start ≤ e)
+    (run : run_of (level bytes size e) start ≡ whole list last)
+    (order : InOrder (length bytes) 0 ws) (are : All (IsItem (others_of list)) items) (one : All (λ (i : Item). IsOneOf ws (write_of (others_of list) i)) items)
+    (touch : (k : ℕ) → Touches ws k → IsInside (others_of list) items k)
+    (still : All (λ (i : Item). span_of i.header (others_of list) < length (octets_of i.element) → ⊥) items)
+    (blocks : (h : Header) → IsAhead list h → ends_cluster h.id ≡ false → HasNoBlock h) where
+  abbrev new : List ℕ
+  new = applied bytes ws
+
+  tiles : Tiles (level bytes size e) start list last
+  tiles = (tiled (level bytes size e) start last list (advances-level bytes size e) run).tiles
+
+  stand : Stand start last (others_of list)
+  stand = tiles-stand bytes size e start last list tiles
+
+  pub reaches : last ≤ e
+  reaches = level-within bytes size e start last list tiles begins
+
+  -- an octet of a room stands in front of the end of the list
+  inside-last : (is : List Item) (k : ℕ) → All (IsItem (others_of list)) is → IsInside (others_of list) is k → (start ≤ k) × (k < last)
+  inside-last [] k are inside = absurd inside
+  inside-last (i ∷ is) k are (inr later) = inside-last is k (λ j d below. (All-tail (IsItem (others_of list)) i is are) j d below) later
+  inside-last (i ∷ is) k are (inl here) =
+      let own = All-head (IsItem (others_of list)) i is are in
+      let room = first-room i.element.id start last (others_of list) i.header stand own.first in
+      let from = room.from in let inside = room.inside in let left = here.0 in let right = here.1 in
+      (omega arith, omega arith)
+
+  touched-inside : (k : ℕ) → Touches ws k → (start ≤ k) × (k < last)
+  touched-inside k touched = inside-last items k are (touch k touched)
+
+  pub same-length : length new ≡ length bytes
+  same-length =
+      length-applied bytes ws (order-fits (length bytes) 0 (length bytes) ws (omega arith) (omega arith) order)
+      ∙ extent-within (length bytes) 0 (length bytes) ws order (λ k touched. let is = touched-inside k touched in let before = is.1 in let most = reaches in omega arith)
+
+  -- where no room is, all is as it was
+  pub same-outside : (p q : ℕ) → q ≤ length bytes → (q ≤ start) ⊎ (last ≤ p) → AreSame bytes new p q
+  same-outside p q inside out =
+      same-clear ws bytes p q (order-fits (length bytes) 0 (length bytes) ws (omega arith) (omega arith) order) inside
+      (λ k from to touched. let is = touched-inside k touched in let left = is.0 in let right = is.1 in
+      elim out [
+        | inl before ↦ (let wrong : ⊥ = omega arith in wrong)
+        | inr behind ↦ (let wrong : ⊥ = omega arith in wrong)
+      ])
+
+  keep : (h : Header) (m : ℕ) → Stands (level bytes size e) h.offset h m → IsAhead list h → CanKeep bytes new e e h
+  keep h m stands ahead = record {
+    sound = ap (λ n. body_damage in_segment n e h) same-length ∙ found-sound ((in_segment).may_open) bytes h.offset e h stands.found;
+    ends = λ known. refl;
+    closed = ap (λ n. is_closed n h) same-length;
+  }
+
+  -- what stands behind the list is as it was
+  behind-same : (may_open : ℕ → Bool) → element_at (outside may_open) new last e ≡ element_at (outside may_open) bytes last e
+  behind-same may_open = ap₂ (λ o n. element_in (outside may_open) o n last e) (same-outside last e within (inr (omega arith))) same-length
+
+  ended : run_of (level bytes size e) last ≡ ends_at last
+  ended = (tiled (level bytes size e) start last list (advances-level bytes size e) run).ends
+
+  tail : run_of (level new size e) last ≡ ends_at last
+  tail = end-same (level bytes size e) (level new size e) last (advances-level bytes size e) (advances-level new size e) refl (behind-same ((in_segment).may_open)) (λ id. refl) ended
+
+  closes : (run_of (inner bytes e) last ≡ ends_at last) ⊎ ⊥ → run_of (inner new e) last ≡ ends_at last
+  closes (inl over) = end-same (inner bytes e) (inner new e) last (advances-inner bytes e) (advances-inner new e) refl (behind-same (λ id. false)) (λ id. refl) over
+  closes (inr none) = absurd none
+
+  pub touch-all : (k : ℕ) → Touches ws k → (k < start) ⊎ ((length bytes ≤ k) ⊎ IsInside (others_of list) items k)
+  touch-all k touched = inr (inr (touch k touched))
+
+  pub no-longer : e ≤ e
+  no-longer = omega arith
+
+  now-within : e ≤ length new
+  now-within = omega (arith, same-length)
+
+  abbrev pub stays : Edit
+  stays = edit bytes size size start e e last list items ws [] ⊥ short within no-longer reaches run order are one touch-all still
+
+  pub stays-edit : IsEdit stays ⊥
+  stays-edit =
+      is-edit bytes size size start e e last list items ws [] ⊥ short within no-longer reaches run order are one touch-all still
+      now-within (λ id. refl) keep blocks (tail ∙ sym (ap (λ n. whole [] n) (ap (λ (r : Run). r.end) tail))) closes
+
+  pub stays-listed : IsListed stays ⊥ list start
+  stays-listed =
+      listed bytes size size start e e last list items ws [] ⊥ short within no-longer reaches run order are one touch-all still
+      now-within (λ id. refl) keep blocks (tail ∙ sym (ap (λ n. whole [] n) (ap (λ (r : Run). r.end) tail))) closes
+
+  -- ---- its spots
+
+  pub stays-ids : (P : ℕ → Type 0) → All (λ (i : Item). P i.element.id) items → All (λ (s : Spot). P s.header.id) stays.spots
+  stays-ids P all = ids-are bytes size size start e e last list items ws [] ⊥ short within no-longer reaches run order are one touch-all still P items are one all
+
+  pub stays-in : (i : Item) → IsItemIn items i → (f : IsFilled new i.header.offset (span_of i.header (others_of list)) i.element) × IsIn stays.spots (record { header = i.header; now = f.now; voids = f.voids })
+  stays-in i member = spot-in bytes size size start e e last list items ws [] ⊥ short within no-longer reaches run order are one touch-all still items are one i member
+
+  pub stays-single : AreDistinct items → (s : Spot) → IsIn stays.spots s → All (λ (o : Spot). o.header ≡ s.header → o ≡ s) stays.spots
+  stays-single distinct s member = single-in bytes size size start e e last list items ws [] ⊥ short within no-longer reaches run order are one touch-all still items are one distinct s member

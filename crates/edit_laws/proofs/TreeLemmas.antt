@@ -1,0 +1,283 @@
+-- What edits make of trees stands where they stand, and is no deeper.
+use Rattle.std.proofs.Common.{◌≡◌, ◌<◌, ◌≤◌, ℕ, zero, suc, ◌+◌, ◌-◌, ◌==◌, ◌^◌, not, Bool, true, false, ◌&&◌, ◌||◌, if◌then◌else◌, List, [], ◌∷◌, ◌++◌, length, Option, Some, None, IfSome, Result, Ok, Err, slice_get, slice_set, slice_index, slice_index_or, refl, sym, ◌∙◌, ap, subst, arith}
+use Rattle.std.specs.List.{All, list_all}
+use Rattle.std.specs.Str.{is_utf8, IsUtf8, IsAscii}
+use Rattle.std.proofs.lemmas.Str.{IsUtf8-from_is_utf8, IsUtf8-from_ascii}
+use Rattle.ebml_format.specs.Number.{uint_octets}
+use Rattle.std.proofs.lemmas.Bool.Decides.{nat_tests}
+use Rattle.std.proofs.lemmas.Option.{slice_get_within}
+use Rattle.std.proofs.lemmas.List.Elements.{All-set}
+use Rattle.mkv_schema.specs.declared.ids.TheConstants.{INFO, TRACKS, TRACK_ENTRY}
+use Rattle.mkv_jobs.specs.declared.edit.Edit.{Edit}
+use Rattle.mkv_jobs.specs.declared.edit.Change.{Change}
+use Rattle.mkv_jobs.specs.declared.edit.Change.TheVariants.{Set, Add, Delete}
+use Rattle.word_values.specs.Numbers.{number}
+use Rattle.tree_format.specs.Node.{Node, leaf, master, nodes_of, list_of, id_of, children, with_children, depth, depth_all, deepest, IsMaster}
+use Rattle.tree_format.specs.Changes.{with_child, without}
+use Rattle.tree_format.specs.Standing.{IsSound, StandsIn}
+use Rattle.tree_format.proofs.ChangeLemmas.{deep-with_child, deep-without, deep-push}
+use Rattle.tree_format.proofs.NodeLemmas.{nodes-list}
+use Rattle.tree_format.proofs.StandingLemmas.{sound-set, sound-push, sound-remove}
+use Rattle.tree_building.specs.Leaves.{IsTextIn, IsUintIn}
+use Rattle.tree_building.proofs.LeafLemmas.{text-stands, uint-stands}
+use Rattle.edit_format.specs.declared.property.Property.{Property}
+use Rattle.edit_format.specs.declared.property.ValueKind.{ValueKind}
+use Rattle.edit_format.specs.declared.property.ValueKind.TheVariants.{Words, Language, LanguageTag, Codec, Duration, Flag}
+use Rattle.edit_format.specs.declared.refusal.Why.{Why}
+use Rattle.edit_format.specs.declared.refusal.Why.TheVariants as why
+use Rattle.edit_format.specs.declared.trees.Trees.{Trees}
+use Rattle.edit_format.specs.Property.{is_between, is_info, is_in_tag, is_language, is_lower, is_not_zero, is_printable, is_short, is_words, property_of, value_of, where_text, where_number}
+use Rattle.edit_format.specs.Change.{and_then, are_of_info, are_of_tracks, added, added_to, changed, edited_from, edited_node, edited_once, has, in_entry, in_info, in_tracks, named, numbered, place_of, set}
+use Rattle.edit_changes.specs.Properties.{IsOfKind, IsPropertyOf, section_of}
+use Rattle.edit_changes.specs.Trees.{IsEntryAt}
+use Rattle.edit_changes.proofs.PropertyLemmas.{property-stands}
+use Rattle.edit_changes.proofs.SelectLemmas.{entry-sound, entry-master, entry-stands, place-entry}
+
+-- ---- what a value is
+
+list-ascii : (passes : ℕ → Bool) (bs : List ℕ) → ((c : ℕ) → passes c ≡ true → c < 128) → list_all passes bs ≡ true → IsAscii bs
+list-ascii passes [] small all i = omega arith
+list-ascii passes (b ∷ bs) small all i = of (passes b) refl all i (list-ascii passes bs small)
+  where
+    of : (test : Bool) → passes b ≡ test → (test && list_all passes bs) ≡ true → (k : ℕ) → (list_all passes bs ≡ true → IsAscii bs) → slice_index (b ∷ bs) k < 128
+    of true is rest zero further = small b is
+    of true is rest (suc k) further = further rest k
+    of false is rest k further = absurd (cc)
+
+lower-small : (c : ℕ) → is_lower c ≡ true → c < 128
+lower-small c is = grind (arith, nat_tests)
+
+tag-small : (c : ℕ) → is_in_tag c ≡ true → c < 128
+tag-small c is = grind (arith, nat_tests)
+
+print-small : (c : ℕ) → is_printable c ≡ true → c < 128
+print-small c is = grind (arith, nat_tests)
+
+where-is : (test : Bool) (value octets : List ℕ) → where_text test value ≡ Some octets → (test ≡ true) × (value ≡ octets)
+where-is true value octets is = (refl, cc)
+where-is false value octets is = absurd (cc)
+
+number-is : (least most : ℕ) (n : Option ℕ) (octets : List ℕ) → where_number least most n ≡ Some octets → (k : ℕ) × (k ≤ most) × (uint_octets k ≡ octets)
+number-is least most None octets is = absurd (cc)
+number-is least most (Some n) octets is = of (is_between least most n) refl is
+  where
+    of : (test : Bool) → is_between least most n ≡ test → (if test then Some (uint_octets n) else None) ≡ Some octets → (k : ℕ) × (k ≤ most) × (uint_octets k ≡ octets)
+    of true inside same = (n, grind (arith, nat_tests), cc)
+    of false inside same = absurd (cc)
+
+both-true : (a b : Bool) → (a && b) ≡ true → (a ≡ true) × (b ≡ true)
+both-true true true is = (refl, refl)
+both-true true false is = absurd (cc)
+both-true false b is = absurd (cc)
+
+text-leaf : (parent id : ℕ) (value octets : List ℕ) (test : Bool) → IsTextIn parent id → where_text test value ≡ Some octets → (test ≡ true → IsUtf8 value) → StandsIn parent (leaf id 0 octets)
+text-leaf parent id value octets test stands is utf8 =
+    let w = where-is test value octets is in
+    subst (λ o. StandsIn parent (leaf id 0 o)) w.1 (text-stands parent id value stands (utf8 w.0))
+
+uint-leaf : (parent id least most : ℕ) (n : Option ℕ) (octets : List ℕ) → most < 2 ^ 64 → IsUintIn parent id → where_number least most n ≡ Some octets → StandsIn parent (leaf id 0 octets)
+uint-leaf parent id least most n octets small stands is =
+    let w = number-is least most n octets is in
+    let most_is = w.1 in
+    subst (λ o. StandsIn parent (leaf id 0 o)) w.2 (uint-stands parent id w.0 stands (omega arith))
+
+-- the octets of a value are a leaf's of its property
+leaf-stands : (parent id : ℕ) (kind : ValueKind) (value octets : List ℕ) → IsOfKind parent id kind → value_of kind value ≡ Some octets → StandsIn parent (leaf id 0 octets)
+leaf-stands parent id Words value octets stands is =
+    text-leaf parent id value octets (is_words value) stands is (λ words. IsUtf8-from_is_utf8 value (both-true (is_utf8 value) (list_all is_not_zero value) words).0)
+leaf-stands parent id Language value octets stands is =
+    text-leaf parent id value octets (is_language value) stands is (λ three. IsUtf8-from_ascii value (list-ascii is_lower value lower-small (both-true (length value == 3) (list_all is_lower value) three).1))
+leaf-stands parent id LanguageTag value octets stands is =
+    text-leaf parent id value octets (is_short is_in_tag value) stands is (λ few. IsUtf8-from_ascii value (list-ascii is_in_tag value tag-small (both-true (is_between 1 63 (length value)) (list_all is_in_tag value) few).1))
+leaf-stands parent id Codec value octets stands is =
+    text-leaf parent id value octets (is_short is_printable value) stands is (λ few. IsUtf8-from_ascii value (list-ascii is_printable value print-small (both-true (is_between 1 63 (length value)) (list_all is_printable value) few).1))
+leaf-stands parent id Duration value octets stands is = uint-leaf parent id 1 (2 ^ 48 - 1) (number value) octets (omega arith) stands is
+leaf-stands parent id Flag value octets stands is = uint-leaf parent id 0 1 (number value) octets (omega arith) stands is
+
+-- ---- one Info or TrackEntry
+
+-- A master that was read, or made of one: it isn't too deep.
+pub record IsFit (id most : ℕ) (n : Node) : Type 0 where
+  pub own : id_of n ≡ id
+  pub master : IsMaster n
+  pub sound : IsSound n
+  pub deep : depth n ≤ most
+
+with-id : (n : Node) (ns : List Node) → id_of (with_children n ns) ≡ id_of n
+with-id (leaf id at body) ns = refl
+with-id (master id at kids) ns = refl
+
+with-master : (n : Node) (ns : List Node) → IsMaster n → IsMaster (with_children n ns)
+with-master (leaf id at body) ns is = is
+with-master (master id at kids) ns is = refl
+
+with-deep : (n : Node) (ns : List Node) (most : ℕ) → IsMaster n → depth n ≤ most → depth_all (nodes_of ns) ≤ depth_all (nodes_of (children n)) → depth (with_children n ns) ≤ most
+with-deep (leaf id at body) ns most is deep less = deep
+with-deep (master id at kids) ns most is deep less =
+    let same : depth_all (nodes_of (list_of kids)) ≡ depth_all kids = ap depth_all (nodes-list kids) in
+    omega arith
+
+fit-with : (id most : ℕ) (n : Node) (ns : List Node) → IsFit id most n → IsSound (with_children n ns) → depth_all (nodes_of ns) ≤ depth_all (nodes_of (children n)) → IsFit id most (with_children n ns)
+fit-with id most n ns fit sound less = record {
+  own = with-id n ns ∙ fit.own;
+  master = with-master n ns fit.master;
+  sound = sound;
+  deep = with-deep n ns most fit.master fit.deep less;
+}
+
+fit-changed : (id most : ℕ) (change : Change) (value : List ℕ) (n m : Node) (p : Property) → IsPropertyOf id p → IsFit id most n → changed change value n p ≡ Ok m → IsFit id most m
+fit-changed id most Set value n m p stands fit is = of (value_of p.kind value) refl is
+  where
+    of : (octets : Option (List ℕ)) → value_of p.kind value ≡ octets → set p.id n octets ≡ Ok m → IsFit id most m
+    of None none is = absurd (cc)
+    of (Some octets) some is =
+        let same : with_children n (with_child (leaf p.id 0 octets) (children n)) ≡ m = cc in
+        let leaf_is : StandsIn (id_of n) (leaf p.id 0 octets) = subst (λ k. StandsIn k (leaf p.id 0 octets)) (sym fit.own) (leaf-stands id p.id p.kind value octets stands.kind some) in
+        let deep = deep-with_child (leaf p.id 0 octets) (children n) in
+        subst (IsFit id most) same (fit-with id most n _ fit (sound-set n (leaf p.id 0 octets) fit.master fit.sound leaf_is) (omega arith))
+fit-changed id most Add value n m p stands fit is = of (value_of p.kind value) refl is
+  where
+    put : (octets : List ℕ) → value_of p.kind value ≡ Some octets → (there : Bool) → (if there then Err why.AlreadyThere else Ok (added_to p.id octets n)) ≡ Ok m → IsFit id most m
+    put octets some true is = absurd (cc)
+    put octets some false is =
+        let same : with_children n (children n ++ leaf p.id 0 octets ∷ []) ≡ m = cc in
+        let leaf_is : StandsIn (id_of n) (leaf p.id 0 octets) = subst (λ k. StandsIn k (leaf p.id 0 octets)) (sym fit.own) (leaf-stands id p.id p.kind value octets stands.kind some) in
+        let deep = deep-push (leaf p.id 0 octets) (children n) in
+        subst (IsFit id most) same (fit-with id most n _ fit (sound-push n (leaf p.id 0 octets) fit.master fit.sound leaf_is) (omega arith))
+
+    of : (octets : Option (List ℕ)) → value_of p.kind value ≡ octets → added p.id n octets ≡ Ok m → IsFit id most m
+    of None none is = absurd (cc)
+    of (Some octets) some is = put octets some (has p.id n) is
+fit-changed id most Delete value n m p stands fit is = of p.deletable is
+  where
+    of : (may : Bool) → (if may then Ok (with_children n (without p.id (children n))) else Err why.Mandatory) ≡ Ok m → IsFit id most m
+    of true is =
+        let same : with_children n (without p.id (children n)) ≡ m = cc in
+        subst (IsFit id most) same (fit-with id most n _ fit (sound-remove n p.id fit.master fit.sound) (deep-without p.id (children n)))
+    of false is = absurd (cc)
+
+fit-edited : (e : Edit) (most : ℕ) (n m : Node) → IsFit (section_of (is_info e.place)) most n → edited_node e n ≡ Ok m → IsFit (section_of (is_info e.place)) most m
+fit-edited e most n m fit is = of (property_of (is_info e.place) e.name) (property-stands (is_info e.place) e.name) is
+  where
+    of : (p : Option Property) → IfSome p (IsPropertyOf (section_of (is_info e.place))) → named e.change e.value n p ≡ Ok m → IsFit (section_of (is_info e.place)) most m
+    of None stands is = absurd (cc)
+    of (Some p) stands is = fit-changed (section_of (is_info e.place)) most e.change e.value n m p stands fit is
+
+-- ---- all trees
+
+-- An Info is one, and what stands in Tracks may stand there and has room.
+pub record AreFit (t : Trees) : Type 0 where
+  pub info : IfSome t.info (IsFit INFO deepest)
+  pub tracks : All (λ (n : Node). StandsIn TRACKS n × (depth n < deepest)) t.tracks
+
+pub then-ok : {A B E : Type 0} (r : Result A E) (more : A → Result B E) (y : B) → and_then r more ≡ Ok y → (x : A) × ((r ≡ Ok x) × (more x ≡ Ok y))
+then-ok (Ok x) more y is = (x, (refl, is))
+then-ok (Err e) more y is = absurd (cc)
+
+get-all : (P : Node → Type 0) (ns : List Node) (k : ℕ) (n : Node) → All P ns → slice_get ns k ≡ Some n → P n
+get-all P ns k n all at = subst P (own-get ns k n at) (all k n (slice_get_within ns k n at))
+  where
+    own-get : (ns : List Node) (k : ℕ) (n : Node) → slice_get ns k ≡ Some n → slice_index_or ns k n ≡ n
+    own-get [] k n at = absurd (cc at)
+    own-get (m ∷ ns) zero n at = cc at
+    own-get (m ∷ ns) (suc k) n at = own-get ns k n at
+
+fit-info : (e : Edit) (t u : Trees) → is_info e.place ≡ true → AreFit t → in_info e t t.info ≡ Ok u → AreFit u
+fit-info e t u info fit is = of t.info fit.info is
+  where
+    of : (n : Option Node) → IfSome n (IsFit INFO deepest) → in_info e t n ≡ Ok u → AreFit u
+    of None fits is = absurd (cc)
+    of (Some n) fits is =
+        let made = then-ok (edited_node e n) (λ m. Ok (record { info = Some m; tracks = t.tracks })) u is in
+        let own : INFO ≡ section_of (is_info e.place) = sym (ap section_of info) in
+        let after = fit-edited e deepest n made.0 (subst (λ k. IsFit k deepest n) own fits) made.1.0 in
+        let same : record { info = Some made.0; tracks = t.tracks } ≡ u = (let last = made.1.1 in cc) in
+        subst AreFit same (record { info = subst (λ k. IsFit k deepest made.0) (sym own) after; tracks = fit.tracks })
+
+fit-tracks : (e : Edit) (t u : Trees) → is_info e.place ≡ false → AreFit t → in_tracks e t (place_of e.place t.tracks) ≡ Ok u → AreFit u
+fit-tracks e t u info fit is = of (place_of e.place t.tracks) refl is
+  where
+    entry : (k : ℕ) → IsEntryAt t.tracks k → (n : Option Node) → slice_get t.tracks k ≡ n → in_entry e t k n ≡ Ok u → AreFit u
+    entry k here None none is = absurd (cc)
+    entry k here (Some n) some is =
+        let made = then-ok (edited_node e n) (λ m. Ok (record { info = t.info; tracks = slice_set t.tracks k m })) u is in
+        let own : TRACK_ENTRY ≡ section_of (is_info e.place) = sym (ap section_of info) in
+        let same_n : here.entry ≡ n = (let at = here.at in cc) in
+        let id : id_of n ≡ TRACK_ENTRY = ap id_of (sym same_n) ∙ here.id in
+        let both = get-all (λ (n : Node). StandsIn TRACKS n × (depth n < deepest)) t.tracks k n fit.tracks some in
+        let room = both.1 in
+        let before : IsFit TRACK_ENTRY (deepest - 1) n = record { own = id; master = entry-master n both.0 id; sound = (entry-sound n both.0 id).sound; deep = omega arith } in
+        let after = fit-edited e (deepest - 1) n made.0 (subst (λ k. IsFit k (deepest - 1) n) own before) made.1.0 in
+        let own_after : id_of made.0 ≡ TRACK_ENTRY = after.own ∙ sym own in
+        let deep = after.deep in
+        let same : record { info = t.info; tracks = slice_set t.tracks k made.0 } ≡ u = (let last = made.1.1 in cc) in
+        subst AreFit same (record {
+          info = fit.info;
+          tracks = All-set (λ (n : Node). StandsIn TRACKS n × (depth n < deepest)) t.tracks k made.0 (entry-stands made.0 after.master own_after after.sound, omega arith) fit.tracks;
+        })
+
+    of : (k : Option ℕ) → place_of e.place t.tracks ≡ k → in_tracks e t k ≡ Ok u → AreFit u
+    of None none is = absurd (cc)
+    of (Some k) some is = entry k (place-entry e.place t.tracks k some) (slice_get t.tracks k) refl is
+
+fit-once : (e : Edit) (t u : Trees) → AreFit t → edited_once e t ≡ Ok u → AreFit u
+fit-once e t u fit is = of (is_info e.place) refl is
+  where
+    of : (info : Bool) → is_info e.place ≡ info → (if info then in_info e t t.info else in_tracks e t (place_of e.place t.tracks)) ≡ Ok u → AreFit u
+    of true info is = fit-info e t u info fit is
+    of false info is = fit-tracks e t u info fit is
+
+pub numbered-ok : {A : Type 0} (k : ℕ) (r : Result A Why) (x : A) → numbered k r ≡ Ok x → r ≡ Ok x
+numbered-ok k (Ok y) x is = let same : y ≡ x = cc in ap (λ z. Ok z) same
+numbered-ok k (Err w) x is = absurd (cc)
+
+-- What edits make of trees is fit where they are.
+pub fit-all : (k : ℕ) (es : List Edit) (t u : Trees) → AreFit t → edited_from k es t ≡ Ok u → AreFit u
+fit-all k [] t u fit is = subst AreFit (cc) fit
+fit-all k (e ∷ es) t u fit is =
+    let made = then-ok (numbered (k + 1) (edited_once e t)) (edited_from (k + 1) es) u is in
+    fit-all (k + 1) es made.0 u (fit-once e t made.0 fit (numbered-ok (k + 1) (edited_once e t) made.0 made.1.0)) made.1.1
+
+-- ---- what edits aren't about
+
+-- without an edit of Info it stays
+pub info-stays : (k : ℕ) (es : List Edit) (t u : Trees) → are_of_info es ≡ false → edited_from k es t ≡ Ok u → u.info ≡ t.info
+info-stays k [] t u none is = let same : t ≡ u = cc in ap (λ (x : Trees). x.info) (sym same)
+info-stays k (e ∷ es) t u none is =
+    let made = then-ok (numbered (k + 1) (edited_once e t)) (edited_from (k + 1) es) u is in
+    let own = neither (is_info e.place) (are_of_info es) none in
+    info-stays (k + 1) es made.0 u own.1 made.1.1 ∙ once made.0 (numbered-ok (k + 1) (edited_once e t) made.0 made.1.0) (is_info e.place) own.0
+  where
+    neither : (a b : Bool) → (a || b) ≡ false → (a ≡ false) × (b ≡ false)
+    neither true b is = absurd (cc)
+    neither false b is = (refl, is)
+
+    entry : (x : Trees) (j : ℕ) (n : Option Node) → in_entry e t j n ≡ Ok x → x.info ≡ t.info
+    entry x j None is = absurd (cc)
+    entry x j (Some n) is = let made = then-ok (edited_node e n) (λ m. Ok (record { info = t.info; tracks = slice_set t.tracks j m })) x is in let last = made.1.1 in let same : record { info = t.info; tracks = slice_set t.tracks j made.0 } ≡ x = cc in sym (ap (λ (y : Trees). y.info) same)
+
+    place : (x : Trees) (j : Option ℕ) → in_tracks e t j ≡ Ok x → x.info ≡ t.info
+    place x None is = absurd (cc)
+    place x (Some j) is = entry x j (slice_get t.tracks j) is
+
+    once : (x : Trees) → edited_once e t ≡ Ok x → (info : Bool) → is_info e.place ≡ false → x.info ≡ t.info
+    once x is info other = place x (place_of e.place t.tracks) (sym (ap (λ (b : Bool). if b then in_info e t t.info else in_tracks e t (place_of e.place t.tracks)) other) ∙ is)
+
+-- and without an edit of Tracks that does
+pub tracks-stay : (k : ℕ) (es : List Edit) (t u : Trees) → are_of_tracks es ≡ false → edited_from k es t ≡ Ok u → u.tracks ≡ t.tracks
+tracks-stay k [] t u none is = let same : t ≡ u = cc in ap (λ (x : Trees). x.tracks) (sym same)
+tracks-stay k (e ∷ es) t u none is =
+    let made = then-ok (numbered (k + 1) (edited_once e t)) (edited_from (k + 1) es) u is in
+    let own = neither (is_info e.place) (are_of_tracks es) none in
+    tracks-stay (k + 1) es made.0 u own.1 made.1.1 ∙ once made.0 (numbered-ok (k + 1) (edited_once e t) made.0 made.1.0) own.0
+  where
+    neither : (a b : Bool) → (not a || b) ≡ false → (a ≡ true) × (b ≡ false)
+    neither true b is = (refl, is)
+    neither false b is = absurd (cc)
+
+    in-it : (x : Trees) (n : Option Node) → in_info e t n ≡ Ok x → x.tracks ≡ t.tracks
+    in-it x None is = absurd (cc)
+    in-it x (Some n) is = let made = then-ok (edited_node e n) (λ m. Ok (record { info = Some m; tracks = t.tracks })) x is in let last = made.1.1 in let same : record { info = Some made.0; tracks = t.tracks } ≡ x = cc in sym (ap (λ (y : Trees). y.tracks) same)
+
+    once : (x : Trees) → edited_once e t ≡ Ok x → is_info e.place ≡ true → x.tracks ≡ t.tracks
+    once x is own = in-it x t.info (sym (ap (λ (b : Bool). if b then in_info e t t.info else in_tracks e t (place_of e.place t.tracks)) own) ∙ is)

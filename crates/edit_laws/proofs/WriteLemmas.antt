@@ -1,0 +1,244 @@
+-- What edits write, by the Elements that are written anew.
+use Rattle.std.proofs.Common.{inl, inr, ◌≡◌, ◌⊎◌, ◌<◌, ◌≤◌, ℕ, ◌+◌, ◌-◌, ◌^◌, ◌==◌, ◌||◌, nat_lt, nat_le, max, Bool, true, false, if◌then◌else◌, List, [], ◌∷◌, ◌++◌, length, map, flat_map, All, Option, Some, None, refl, sym, ◌∙◌, ap, ap₂, subst, arith}
+use Rattle.std.specs.Bool.{⊤}
+use Rattle.std.specs.List.{list_any}
+use Rattle.std.specs.Option.{option_map_or, unwrap_or}
+use Rattle.std.proofs.lemmas.List.{length-append}
+use Rattle.std.proofs.lemmas.List.Elements.{All-head, All-tail, All-nil, All-cons, All-weaker}
+use Rattle.std.proofs.lemmas.List.Sums.{sum_by-cons}
+use Rattle.std.proofs.lemmas.Bool.Decides.{nat_tests}
+use Rattle.ebml_format.specs.Number.{is_id}
+use Rattle.ebml_format.proofs.NumberLemmas.{is_id-bounds}
+use Rattle.matroska_format.specs.declared.element.Header.{Header}
+use Rattle.matroska_format.specs.Value.{first_of}
+use Rattle.tree_format.specs.Node.{Node}
+use Rattle.tree_format.specs.NormalForm.{octets}
+use Rattle.element_octets.specs.Element.{Element, octets_of, element}
+use Rattle.element_octets.proofs.ReadLemmas.{length-octets_of, length-header_of}
+use Rattle.sidecar_format.specs.Writes.{Write, end_of, extent, Touches}
+use Rattle.edit_format.specs.Span.{fitted, span_of, void_header, wider}
+use Rattle.edit_format.specs.Plan.{Part, appended, ascending, in_place, inserted, length_in_place, moves, moving, part, part_of, part_writes, write}
+use Rattle.edit_plan.proofs.LevelLemmas.{Stand}
+use Rattle.edit_plan.proofs.VoidLemmas.{first-room}
+use Rattle.edit_plan.proofs.PartLemmas.{first-own}
+use Rattle.edit_plan.proofs.FitLemmas.{fills-place, wider-length}
+use Rattle.edit_laws.proofs.SameLemmas.{InOrder, IsOneOf}
+use Rattle.edit_laws.proofs.FillLemmas.{small-widen}
+use Rattle.edit_laws.proofs.ItemLemmas.{Item, IsName, IsItem, IsInside, write_of}
+
+-- ---- by their places
+
+touches-inserted : (w : Write) (vs : List Write) (k : ℕ) → Touches (inserted w vs) k → Touches (w ∷ vs) k
+touches-inserted w [] k touched = touched
+touches-inserted w (v ∷ vs) k touched = of (touches-inserted w vs k) (nat_le w.at v.at) touched
+  where
+    of : (Touches (inserted w vs) k → Touches (w ∷ vs) k) → (first : Bool) → Touches (if first then w ∷ v ∷ vs else v ∷ inserted w vs) k → Touches (w ∷ v ∷ vs) k
+    of further true touched = touched
+    of further false (inl here) = inr (inl here)
+    of further false (inr later) = elim (further later) [
+      | inl own ↦ inl own
+      | inr rest ↦ inr (inr rest)
+    ]
+
+pub touches-ascending : (ws : List Write) (k : ℕ) → Touches (ascending ws) k → Touches ws k
+touches-ascending [] k touched = touched
+touches-ascending (w ∷ ws) k touched = elim (touches-inserted w (ascending ws) k touched) [
+  | inl here ↦ inl here
+  | inr later ↦ inr (touches-ascending ws k later)
+]
+
+pub touches-append : (xs ys : List Write) (k : ℕ) → Touches (xs ++ ys) k → Touches xs k ⊎ Touches ys k
+touches-append [] ys k touched = inr touched
+touches-append (x ∷ xs) ys k (inl here) = inl (inl here)
+touches-append (x ∷ xs) ys k (inr later) = elim (touches-append xs ys k later) [
+  | inl left ↦ inl (inr left)
+  | inr right ↦ inr right
+]
+
+one-inserted : (w v : Write) (vs : List Write) → IsOneOf (v ∷ vs) w → IsOneOf (inserted v vs) w
+one-inserted w v [] one = one
+one-inserted w v (u ∷ us) one = of (one-inserted w v us) (nat_le v.at u.at) one
+  where
+    of : (IsOneOf (v ∷ us) w → IsOneOf (inserted v us) w) → (first : Bool) → IsOneOf (v ∷ u ∷ us) w → IsOneOf (if first then v ∷ u ∷ us else u ∷ inserted v us) w
+    of further true one = one
+    of further false (inl own) = inr (further (inl own))
+    of further false (inr (inl here)) = inl here
+    of further false (inr (inr later)) = inr (further (inr later))
+
+pub one-ascending : (ws : List Write) (w : Write) → IsOneOf ws w → IsOneOf (ascending ws) w
+one-ascending [] w one = one
+one-ascending (v ∷ vs) w (inl own) = one-inserted w v (ascending vs) (inl own)
+one-ascending (v ∷ vs) w (inr later) = one-inserted w v (ascending vs) (inr (one-ascending vs w later))
+
+pub one-left : (xs ys : List Write) (w : Write) → IsOneOf xs w → IsOneOf (xs ++ ys) w
+one-left [] ys w one = absurd one
+one-left (x ∷ xs) ys w (inl own) = inl own
+one-left (x ∷ xs) ys w (inr later) = inr (one-left xs ys w later)
+
+pub one-right : (xs ys : List Write) (w : Write) → IsOneOf ys w → IsOneOf (xs ++ ys) w
+one-right [] ys w one = one
+one-right (x ∷ xs) ys w one = inr (one-right xs ys w one)
+
+-- where writes stay in front of an end, the file grows no longer
+pub extent-within : (old from n : ℕ) (ws : List Write) → InOrder old from ws → ((k : ℕ) → Touches ws k → k < n) → extent n ws ≡ n
+extent-within old from n [] order inside = refl
+extent-within old from n (w ∷ ws) order inside =
+    let some = order.0 in
+    let last = inside (end_of w - 1) (inl (omega arith, omega arith)) in
+    let same : max n (end_of w) ≡ n = omega arith in
+    ap (λ k. extent k ws) same ∙ extent-within old (end_of w) n ws order.3 (λ k touched. inside k (inr touched))
+
+-- ---- what is written of items
+
+abbrev pub writes_of : List Header → List Item → List Write
+writes_of list is = map (write_of list) is
+
+module _ (q e : ℕ) (list : List Header) (stand : Stand q e list) where
+  pub item-some : (i : Item) → IsItem list i → 1 ≤ length (octets_of i.element)
+  item-some i is =
+      let own = is.widen.own in
+      let wide = (is_id-bounds i.element.id own.id_stands).0 in
+      let all = length-octets_of i.element in let head = length-header_of i.element in omega arith
+
+  -- it is no longer than the room
+  item-most : (i : Item) → IsItem list i → length (write_of list i).bytes ≤ span_of i.header list
+  item-most i is =
+      let room = first-room i.element.id q e list i.header stand is.first in
+      (fills-place i.element (span_of i.header list) room.least (item-some i is)).most
+
+  pub touches-items : (is : List Item) (k : ℕ) → All (IsItem list) is → Touches (writes_of list is) k → IsInside list is k
+  touches-items [] k are touched = touched
+  touches-items (i ∷ is) k are (inl (begins, ends)) = let most = item-most i (All-head (IsItem list) i is are) in inl (begins, omega arith)
+  touches-items (i ∷ is) k are (inr later) = inr (touches-items is k (All-tail (IsItem list) i is are) later)
+
+pub one-items : (list : List Header) (is : List Item) → All (λ (i : Item). IsOneOf (writes_of list is) (write_of list i)) is
+one-items list [] = All-nil (λ (i : Item). IsOneOf [] (write_of list i))
+one-items list (i ∷ is) =
+    All-cons (λ (j : Item). IsOneOf (writes_of list (i ∷ is)) (write_of list j)) i is (inl refl)
+    (All-weaker (λ (j : Item). IsOneOf (writes_of list is) (write_of list j)) (λ (j : Item). IsOneOf (writes_of list (i ∷ is)) (write_of list j)) (λ j one. inr one) is (one-items list is))
+
+-- ---- the Info and the Tracks that are written anew, as items
+
+-- an Element of level 1 with new children
+abbrev pub item_at : List Node → Header → Item
+item_at nodes h = record { header = h; element = element h.id (flat_map octets nodes) }
+
+abbrev pub items_of : Bool → ℕ → List Header → List Node → List Item
+items_of written id list nodes = if written then option_map_or (λ h. item_at nodes h ∷ []) (first_of id list) [] else []
+
+-- parts are those of items
+abbrev pub AreOf : List Header → List Part → List Item → Type 0
+AreOf list [] [] = ⊤
+AreOf list [] (i ∷ is) = ⊥
+AreOf list (p ∷ ps) [] = ⊥
+AreOf list (p ∷ ps) (i ∷ is) = (p.place ≡ i.header.offset) × (p.room ≡ span_of i.header list) × (p.element ≡ i.element) × AreOf list ps is
+
+pub of-append : (list : List Header) (ps qs : List Part) (is js : List Item) → AreOf list ps is → AreOf list qs js → AreOf list (ps ++ qs) (is ++ js)
+of-append list [] qs [] js one two = two
+of-append list [] qs (i ∷ is) js one two = absurd one
+of-append list (p ∷ ps) qs [] js one two = absurd one
+of-append list (p ∷ ps) qs (i ∷ is) js one two = (one.0, one.1, one.2, of-append list ps qs is js one.3 two)
+
+pub of-part : (written : Bool) (id : ℕ) (list : List Header) (nodes : List Node) → AreOf list (part_of written id list nodes) (items_of written id list nodes)
+of-part false id list nodes = tt
+of-part true id list nodes = of (first_of id list)
+  where
+    of : (first : Option Header) → AreOf list (option_map_or (λ h. part list nodes h ∷ []) first []) (option_map_or (λ h. item_at nodes h ∷ []) first [])
+    of None = tt
+    of (Some h) = (refl, refl, refl, tt)
+
+pub of-writes : (list : List Header) (ps : List Part) (is : List Item) → AreOf list ps is → part_writes ps ≡ writes_of list is
+of-writes list [] [] are = refl
+of-writes list [] (i ∷ is) are = absurd are
+of-writes list (p ∷ ps) [] are = absurd are
+of-writes list (p ∷ ps) (i ∷ is) are =
+    ap₂ (λ w ws. w ∷ ws)
+    (ap (λ n. write n (in_place p)) are.0 ∙ ap (λ n. write i.header.offset (unwrap_or (fitted p.element n) (void_header n))) are.1 ∙ ap (λ (x : Element). write i.header.offset (unwrap_or (fitted x (span_of i.header list)) (void_header (span_of i.header list)))) are.2)
+    (of-writes list ps is are.3)
+
+-- one that doesn't move has room
+pub of-still : (list : List Header) (ps : List Part) (is : List Item) → AreOf list ps is → list_any moves ps ≡ false → All (λ (i : Item). span_of i.header list < length (octets_of i.element) → ⊥) is
+of-still list [] [] are none = All-nil (λ (i : Item). span_of i.header list < length (octets_of i.element) → ⊥)
+of-still list [] (i ∷ is) are none = absurd are
+of-still list (p ∷ ps) [] are none = absurd are
+of-still list (p ∷ ps) (i ∷ is) are none = of (of-still list ps is are.3) (moves p) refl none
+  where
+    len : length (octets_of p.element) ≡ length (octets_of i.element)
+    len = ap (λ (x : Element). length (octets_of x)) are.2
+
+    of : (list_any moves ps ≡ false → All (λ (i : Item). span_of i.header list < length (octets_of i.element) → ⊥) is) → (b : Bool) → moves p ≡ b → (b || list_any moves ps) ≡ false → All (λ (i : Item). span_of i.header list < length (octets_of i.element) → ⊥) (i ∷ is)
+    of further true is none = absurd (cc)
+    of further false still rest =
+        let room = are.1 in
+        let fits : length (octets_of p.element) ≤ p.room = grind (arith, nat_tests) in
+        All-cons (λ (i : Item). span_of i.header list < length (octets_of i.element) → ⊥) i is (λ long. omega (arith, len)) (further rest)
+
+-- ---- they have few octets
+
+pub fitted-long : (e : Element) (room : ℕ) (other : List ℕ) → length (octets_of e) ≤ room → length (octets_of e) ≤ length (unwrap_or (fitted e room) other)
+fitted-long e room other fits = of (nat_lt room (length (octets_of e))) (room == length (octets_of e)) (room == length (octets_of e) + 1) refl
+  where
+    of : (long just more : Bool) → nat_lt room (length (octets_of e)) ≡ long
+        → length (octets_of e) ≤ length (unwrap_or (if long then None else if just then Some (octets_of e) else if more then Some (octets_of (wider e)) else Some (octets_of e ++ void_header (room - length (octets_of e)))) other)
+    of true just more is = (let wrong : room < length (octets_of e) = grind (arith, nat_tests) in absurd (omega arith))
+    of false true more is = omega arith
+    of false false true is = let all = wider-length e in omega arith
+    of false false false is = let all = length-append (octets_of e) (void_header (room - length (octets_of e))) in omega arith
+
+parts-few : (ps : List Part) → All (λ (p : Part). length (octets_of p.element) ≤ length_in_place ps + length (appended ps)) ps
+parts-few [] = All-nil (λ (p : Part). length (octets_of p.element) ≤ 0)
+parts-few (p ∷ ps) =
+    All-cons (λ (x : Part). length (octets_of x.element) ≤ length_in_place (p ∷ ps) + length (appended (p ∷ ps))) p ps own
+    (All-weaker (λ (x : Part). length (octets_of x.element) ≤ length_in_place ps + length (appended ps)) (λ (x : Part). length (octets_of x.element) ≤ length_in_place (p ∷ ps) + length (appended (p ∷ ps))) (λ x few. more x few) ps (parts-few ps))
+  where
+    sum : length_in_place (p ∷ ps) ≡ length (in_place p) + length_in_place ps
+    sum = sum_by-cons (λ (q : Part). length (in_place q)) p ps
+
+    moved : (b : Bool) → moves p ≡ b → (length (octets_of p.element) ≤ length (in_place p) + length (appended (p ∷ ps))) × (length (appended ps) ≤ length (appended (p ∷ ps)))
+    moved true is =
+        let all : appended (p ∷ ps) ≡ octets_of p.element ++ appended ps = ap (λ (b : Bool). flat_map octets_of (map (λ (q : Part). q.element) (if b then p ∷ moving ps else moving ps))) is in
+        let len : length (appended (p ∷ ps)) ≡ length (octets_of p.element) + length (appended ps) = ap (λ (l : List ℕ). length l) all ∙ length-append (octets_of p.element) (appended ps) in
+        (omega arith, omega arith)
+    moved false is =
+        let all : appended (p ∷ ps) ≡ appended ps = ap (λ (b : Bool). flat_map octets_of (map (λ (q : Part). q.element) (if b then p ∷ moving ps else moving ps))) is in
+        let len : length (appended (p ∷ ps)) ≡ length (appended ps) = ap (λ (l : List ℕ). length l) all in
+        let fits : length (octets_of p.element) ≤ p.room = grind (arith, nat_tests) in
+        let long = fitted-long p.element p.room (void_header p.room) fits in
+        (omega arith, omega arith)
+
+    own : length (octets_of p.element) ≤ length_in_place (p ∷ ps) + length (appended (p ∷ ps))
+    own = (let both = moved (moves p) refl in let one = both.0 in omega (arith, sum))
+
+    more : (x : Part) → length (octets_of x.element) ≤ length_in_place ps + length (appended ps) → length (octets_of x.element) ≤ length_in_place (p ∷ ps) + length (appended (p ∷ ps))
+    more x few = (let both = moved (moves p) refl in let two = both.1 in omega (arith, sum))
+
+pub of-few : (list : List Header) (ps : List Part) (is : List Item) (most : ℕ) → AreOf list ps is → All (λ (p : Part). length (octets_of p.element) ≤ most) ps → All (λ (i : Item). length (octets_of i.element) ≤ most) is
+of-few list [] [] most are few = All-nil (λ (i : Item). length (octets_of i.element) ≤ most)
+of-few list [] (i ∷ is) most are few = absurd are
+of-few list (p ∷ ps) [] most are few = absurd are
+of-few list (p ∷ ps) (i ∷ is) most are few =
+    All-cons (λ (i : Item). length (octets_of i.element) ≤ most) i is
+    (let own = All-head (λ (p : Part). length (octets_of p.element) ≤ most) p ps few in let len : length (octets_of p.element) ≡ length (octets_of i.element) = ap (λ (x : Element). length (octets_of x)) are.2 in omega arith)
+    (of-few list ps is most are.3 (All-tail (λ (p : Part). length (octets_of p.element) ≤ most) p ps few))
+
+pub few-parts : (list : List Header) (ps : List Part) (is : List Item) → AreOf list ps is → All (λ (i : Item). length (octets_of i.element) ≤ length_in_place ps + length (appended ps)) is
+few-parts list ps is are = of-few list ps is (length_in_place ps + length (appended ps)) are (parts-few ps)
+
+-- items of Info or Tracks can be written anew
+pub items-are : (written : Bool) (id : ℕ) (list : List Header) (nodes : List Node) → IsName id → is_id id ≡ true → All (λ (i : Item). length (octets_of i.element) ≤ 2 ^ 24) (items_of written id list nodes) → All (IsItem list) (items_of written id list nodes)
+items-are false id list nodes name valid few = All-nil (IsItem list)
+items-are true id list nodes name valid few = of (first_of id list) refl few
+  where
+    of : (first : Option Header) → first_of id list ≡ first
+        → All (λ (i : Item). length (octets_of i.element) ≤ 2 ^ 24) (option_map_or (λ h. item_at nodes h ∷ []) first [])
+        → All (IsItem list) (option_map_or (λ h. item_at nodes h ∷ []) first [])
+    of None is few = All-nil (IsItem list)
+    of (Some h) is few =
+        let own = first-own id list h is in
+        let small = All-head (λ (i : Item). length (octets_of i.element) ≤ 2 ^ 24) (item_at nodes h) [] few in
+        let len = length-octets_of (element h.id (flat_map octets nodes)) in
+        All-cons (IsItem list) (item_at nodes h) [] (record {
+          first = ap (λ n. first_of n list) own ∙ is;
+          name = subst IsName (sym own) name;
+          widen = small-widen h.id (flat_map octets nodes) (ap is_id own ∙ valid) (omega arith);
+        }) (All-nil (IsItem list))

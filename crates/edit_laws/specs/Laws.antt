@@ -1,0 +1,56 @@
+-- What edits leave of a file: RFC 9559, section 5.1 (Segment Element).
+use Rattle.std.specs.Prelude.{◌≡◌, ◌≤◌, ℕ, ◌==◌, false, List, length, Option, Some, None, Result, Ok}
+use Rattle.std.specs.List.{All}
+use Rattle.std.specs.Option.{option_map}
+use Rattle.ebml_format.specs.Number.{AreOctets}
+use Rattle.mkv_schema.specs.declared.ids.TheConstants.{INFO, TRACKS, CHAPTERS, TAGS, TIMESTAMP, SIMPLE_BLOCK, BLOCK_GROUP}
+use Rattle.mkv_values.specs.declared.damage.Damage.{Damage}
+use Rattle.mkv_values.specs.declared.outside.TheConstants.{LONGEST_FILE}
+use Rattle.mkv_jobs.specs.declared.edit.Edit.{Edit}
+use Rattle.matroska_format.specs.declared.element.Header.{Header}
+use Rattle.matroska_format.specs.Outline.{and_then, ebml_header, segment_of, segment_run}
+use Rattle.tree_format.specs.Node.{Node, master, nodes_of}
+use Rattle.tree_format.specs.NormalForm.{octets}
+use Rattle.block_format.specs.Elements.{Rules}
+use Rattle.block_format.specs.Events.{blocks_of, events_of}
+use Rattle.file_records.specs.Attached.{first_attached}
+use Rattle.file_records.specs.Records.{first_tree}
+use Rattle.edit_format.specs.declared.trees.Trees.{Trees}
+use Rattle.edit_format.specs.Change.{edited_trees}
+use Rattle.edit_format.specs.Records.{EditableFile, editable}
+use Rattle.edit_format.specs.Plan.{edited}
+
+-- the first Element of level 1 of an ID, in its normal form, or the damage inside it
+abbrev pub normal_form : ℕ → List ℕ → Header → Result (Option (List ℕ)) Damage
+normal_form id bytes segment = and_then (first_tree id bytes segment) (λ n. Ok (option_map octets n))
+
+-- the normal form of a Tracks with these children
+abbrev pub tracks_octets : List Node → List ℕ
+tracks_octets tracks = octets (master TRACKS 0 (nodes_of tracks))
+
+-- An Element of level 1 is neither a Timestamp nor a block, which stand in Clusters alone.
+pub record IsOutside (h : Header) : Type 0 where
+  pub timestamp : (h.id == TIMESTAMP) ≡ false
+  pub simple : (h.id == SIMPLE_BLOCK) ≡ false
+  pub group : (h.id == BLOCK_GROUP) ≡ false
+
+-- What an edited file holds, where the old one was this and its trees became these: the Info and the Tracks are the edited
+-- ones, the attached files, Chapters and Tags are the old ones, at their places, and so are the blocks, whatever a tick is.
+pub record HoldsEdited (old new : List ℕ) (f : EditableFile) (t : Trees) : Type 0 where
+  pub segment : Header
+  pub ebml : ebml_header new ≡ Ok f.outline.ebml
+  pub found : segment_of new f.outline.ebml ≡ Ok segment
+  pub whole : (segment_run new segment).damage ≡ None
+  pub info : normal_form INFO new segment ≡ Ok (option_map octets t.info)
+  pub tracks : normal_form TRACKS new segment ≡ Ok (Some (tracks_octets t.tracks))
+  pub attachments : first_attached new segment ≡ first_attached old f.outline.segment
+  pub chapters : first_tree CHAPTERS new segment ≡ first_tree CHAPTERS old f.outline.segment
+  pub tags : first_tree TAGS new segment ≡ first_tree TAGS old f.outline.segment
+  pub blocks : (r : Rules) → blocks_of (events_of r new segment) ≡ blocks_of (events_of r old f.outline.segment)
+
+-- An edited file holds what the old one held, but for what the edits change.
+abbrev pub EditsChangeNothingElse : Type 0
+EditsChangeNothingElse =
+    (old new : List ℕ) (edits : List Edit) (f : EditableFile) (t : Trees) → AreOctets old → length old ≤ LONGEST_FILE
+    → All IsOutside (segment_run old f.outline.segment).list
+    → editable old ≡ Ok f → edited_trees edits f.trees ≡ Ok t → edited old edits ≡ Ok new → HoldsEdited old new f t
