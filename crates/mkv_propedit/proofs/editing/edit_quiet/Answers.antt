@@ -1,0 +1,122 @@
+use Rattle.std.proofs.Common.{◌≡◌, ◌∙◌, IsTrue, Result, Ok, Err, List, ℕ, inr, sym, subst}
+use Rattle.mkv_disk.specs.Moments.{LeavesOnly}
+use Rattle.mkv_disk.specs.Pair.{IsPairImage, Pair}
+use Rattle.mkv_disk.proofs.MomentsLemmas.{weaker}
+use Rattle.mkv_disk.proofs.WritingLemmas.{IsLeft, left-ready}
+use Rattle.mkv_lines.specs.Code.{status_of}
+use Rattle.mkv_lines.specs.Verdict.{SaysVerdict, refused}
+use Rattle.mkv_lines.specs.declared.status.Status.TheVariants as status
+use Rattle.mkv_recover.proofs.RecoverLemmas.{said-stop, stop-then}
+use Rattle.sidecar_format.specs.declared.gate.Gate.TheVariants.{Quiet}
+use Rattle.sidecar_format.specs.Gate.{state}
+use Rattle.edit_format.specs.declared.refusal.Refusal.{Refusal}
+use Rattle.edit_plan.specs.Record.{record_of}
+use Rattle.mkv_propedit.specs.Left.{IsPlannedFor, IsPropediting}
+use Rattle.mkv_propedit.specs.Propedit.{told}
+use Rattle.mkv_propedit.proofs.PropeditLemmas.{edit-none, edit-then, leaves-planned, quiet-state, reads-moment, record-edited, record-made, record-refused, refused-left, underway}
+use Rattle.mkv_propedit.proofs.editing.edit_quiet.Given.{Over}
+use Rattle.mkv_propedit.proofs.editing.edit_quiet.Goals as goal
+
+-- what reading leaves
+stands : (g : Over) (old new : g.row.D.Denot) → g.D.Reads.standing new ≡ g.D.Reads.standing old → IsLeft g.D.Reads g.D.Disk old new
+stands g old new same = record {
+  standing = same;
+  pair = g.met.D.Disk.pair_stands new old same;
+  moment = g.met.D.Disk.moment_stands new old same;
+  back = λ t m s. g.met.D.Disk.left_stands new old t m s same;
+  forth = λ t m s. g.met.D.Disk.left_stands old new t m s (sym same);
+  opened = g.met.D.Disk.opened_stands new old same;
+  writing = g.met.D.Disk.writing_stands new old same;
+}
+
+-- and a crash behind it leaves what is read
+reads : (g : Over) (old new : g.row.D.Denot) → g.D.Reads.standing new ≡ g.D.Reads.standing old → IsTrue g.D.Disk.told → LeavesOnly g.D.Disk.moment g.D.Disk.left_since old new (IsPairImage (g.D.Disk.pair old))
+reads g old new same told = reads-moment g.D.Reads g.D.Disk old new (stands g old new same) (λ m s left. g.met.D.Disk.only_now old m s told left)
+
+-- ---- the edits are planned
+
+pub edit_planned-requires-clause-ready : goal.edit_planned-requires-clause-ready
+edit_planned-requires-clause-ready g c =
+    let a = c.args.disk.now in let b = c.plan.new.disk in
+    left-ready g.D.Reads g.D.Disk a b (stands g a b c.plan.ensures.standing) c.requires.ready
+
+pub edit_planned-requires-clause-planned : goal.edit_planned-requires-clause-planned
+edit_planned-requires-clause-planned g c = λ tells.
+    let a = c.args.disk.now in let b = c.plan.new.disk in let left = stands g a b c.plan.ensures.standing in
+    let M = (g.D.Disk.pair a).media.reads in let S = (g.D.Disk.pair a).sidecar.reads in let plan = c.in-Ok.plan in
+    subst (λ (p : Pair). IsPlannedFor plan p.media.reads p.sidecar.reads) (sym left.pair) (record {
+      sound = c.in-Ok.ensures.sound;
+      made = record-made M c.args.edits.now plan (c.in-Ok.ensures.exact tells);
+      quiet = quiet-state S (c.requires.quiet tells);
+    })
+
+pub returns-in-Ok-clause-verdict : goal.returns-in-Ok-clause-verdict
+returns-in-Ok-clause-verdict g c = λ tells.
+    let M = (g.D.Disk.pair c.args.disk.now).media.reads in let edits = c.args.edits.now in
+    let was = g.R.Report.lines c.args.report.now in let now = g.R.Report.lines c.edit_planned.new.report in
+    subst (λ (r : Result (List ℕ) Refusal). SaysVerdict was now c.edit_planned.result (told c.args.name.now r)) (sym (record-edited M edits c.in-Ok.plan (c.in-Ok.ensures.exact tells))) c.edit_planned.ensures.verdict
+
+pub returns-in-Ok-clause-edit : goal.returns-in-Ok-clause-edit
+returns-in-Ok-clause-edit g c =
+    let d = g.D.Disk in let a = c.args.disk.now in let b = c.plan.new.disk in let new = c.edit_planned.new.disk in
+    let edits = c.args.edits.now in let plan = c.in-Ok.plan in let same = c.plan.ensures.standing in let left = stands g a b same in
+    let M = (d.pair b).media.reads in let S = (d.pair b).sidecar.reads in
+    let quiet = λ (tells : IsTrue d.told). subst (λ (p : Pair). state p.sidecar.reads ≡ Quiet) (sym left.pair) (c.requires.quiet tells) in
+    let is = λ (tells : IsTrue d.told). subst (λ (p : Pair). record_of p.media.reads edits ≡ Ok plan) (sym left.pair) (c.in-Ok.ensures.exact tells) in
+    edit-then d edits a b new (status_of c.edit_planned.result) c.requires.ready.at_rest (λ tells. left.pair) (reads g a b same) (record {
+      pair = λ tells. leaves-planned M edits S plan (status_of c.edit_planned.result) (d.pair new) (quiet tells) (is tells) (c.edit_planned.ensures.pair tells);
+      any_moment = λ tells.
+          weaker d.moment d.left_since b new _ (IsPropediting edits M S) (λ m s editing. inr (underway M edits S m s plan (quiet tells) (is tells) editing)) (c.edit_planned.ensures.any_moment tells);
+    })
+
+pub returns-in-Ok-clause-opened : goal.returns-in-Ok-clause-opened
+returns-in-Ok-clause-opened g c = c.edit_planned.ensures.opened ∙ (stands g c.args.disk.now c.plan.new.disk c.plan.ensures.standing).opened
+
+pub returns-in-Ok-clause-cause : goal.returns-in-Ok-clause-cause
+returns-in-Ok-clause-cause g c =
+    let a = c.args.disk.now in let b = c.plan.new.disk in
+    stop-then g.D.Reads g.D.Disk a b c.edit_planned.new.disk (g.R.Report.faults c.args.report.now) (g.R.Report.faults c.edit_planned.new.report) c.edit_planned.result
+    (record { reading = c.in-Ok.ensures.cause; writing = (stands g a b c.plan.ensures.standing).writing }) c.edit_planned.ensures.cause
+
+-- ---- they are refused
+
+pub returns-in-Err-Refused-clause-verdict : goal.returns-in-Err-Refused-clause-verdict
+returns-in-Err-Refused-clause-verdict g c = λ tells.
+    let M = (g.D.Disk.pair c.args.disk.now).media.reads in let edits = c.args.edits.now in
+    let was = g.R.Report.lines c.args.report.now in let now = g.R.Report.lines c.refuse.new.report in
+    let why = c.in-Err-Refused.why in
+    let gives : record_of M edits ≡ Err why = rw c.in-Err-Refused.field-0-is at (c.in-Err-Refused.ensures.exact tells) in
+    let says = subst (λ (line : List ℕ). SaysVerdict was now c.refuse.result (refused line)) c.refusal_line.ensures c.refuse.ensures.verdict in
+    subst (λ (r : Result (List ℕ) Refusal). SaysVerdict was now c.refuse.result (told c.args.name.now r)) (sym (record-refused M edits why gives)) says
+
+pub returns-in-Err-Refused-clause-edit : goal.returns-in-Err-Refused-clause-edit
+returns-in-Err-Refused-clause-edit g c =
+    let a = c.args.disk.now in let b = c.plan.new.disk in let same = c.plan.ensures.standing in let edits = c.args.edits.now in
+    edit-none g.D.Disk edits a b (status_of c.refuse.result) c.requires.ready.at_rest (refused-left g.D.Disk edits _ (g.R.Report.lines c.args.report.now) (g.R.Report.lines c.refuse.new.report) c.refuse.result c.refuse.ensures.verdict) (λ tells. (stands g a b same).pair) (reads g a b same)
+
+pub returns-in-Err-Refused-clause-cause : goal.returns-in-Err-Refused-clause-cause
+returns-in-Err-Refused-clause-cause g c =
+    let a = c.args.disk.now in let b = c.plan.new.disk in
+    said-stop g.D.Reads g.D.Disk a b (g.R.Report.faults c.args.report.now) (g.R.Report.faults c.refuse.new.report) c.refuse.result
+    (record { reading = rw c.in-Err-Refused.field-0-is at c.in-Err-Refused.ensures.cause; writing = (stands g a b c.plan.ensures.standing).writing }) c.refuse.ensures.cause
+
+-- ---- there is no plan
+
+pub returns-in-Err-ReadFault-clause-edit : goal.returns-in-Err-ReadFault-clause-edit
+returns-in-Err-ReadFault-clause-edit g c =
+    let a = c.args.disk.now in let b = c.plan.new.disk in let same = c.plan.ensures.standing in
+    edit-none g.D.Disk c.args.edits.now a b status.Outside c.requires.ready.at_rest (λ M S p is. tt) (λ tells. (stands g a b same).pair) (reads g a b same)
+
+pub returns-in-Err-Memory-clause-edit : goal.returns-in-Err-Memory-clause-edit
+returns-in-Err-Memory-clause-edit g c =
+    let a = c.args.disk.now in let b = c.plan.new.disk in let same = c.plan.ensures.standing in
+    edit-none g.D.Disk c.args.edits.now a b status.NoMemory c.requires.ready.at_rest (λ M S p is. is) (λ tells. (stands g a b same).pair) (reads g a b same)
+
+pub returns-in-Err-ReadFault-clause-opened : goal.returns-in-Err-ReadFault-clause-opened
+returns-in-Err-ReadFault-clause-opened g c = (stands g c.args.disk.now c.plan.new.disk c.plan.ensures.standing).opened
+
+pub returns-in-Err-Memory-clause-opened : goal.returns-in-Err-Memory-clause-opened
+returns-in-Err-Memory-clause-opened g c = (stands g c.args.disk.now c.plan.new.disk c.plan.ensures.standing).opened
+
+pub returns-in-Err-Refused-clause-opened : goal.returns-in-Err-Refused-clause-opened
+returns-in-Err-Refused-clause-opened g c = (stands g c.args.disk.now c.plan.new.disk c.plan.ensures.standing).opened

@@ -1,0 +1,2 @@
+pub mod Propedit
+pub mod Left

@@ -1,0 +1,60 @@
+-- What `propedit` comes to: its status and its lines.
+use Rattle.std.specs.Prelude.{ℕ, Bool, if◌then◌else◌, List, [], ◌∷◌, codes, Result, Ok, Err}
+use Rattle.mkv_jobs.specs.declared.edit.Edit.{Edit}
+use Rattle.mkv_lines.specs.Line.{bad_sidecar_line, edit_refused_line, edit_too_large_line, edited_line, missing_line, no_room_line, pending_edit_line, refusal_line}
+use Rattle.mkv_lines.specs.Verdict.{Verdict, done, refused}
+use Rattle.mkv_recover.specs.Recover.{DiskWorld}
+use Rattle.sidecar_format.specs.declared.gate.Gate.{Gate}
+use Rattle.sidecar_format.specs.declared.gate.Gate.TheVariants.{Bad, Live, Quiet}
+use Rattle.sidecar_format.specs.Gate.{state}
+use Rattle.edit_format.specs.declared.refusal.Refusal.{Refusal}
+use Rattle.edit_format.specs.declared.refusal.Refusal.TheVariants as refusal
+use Rattle.edit_format.specs.declared.refusal.Room.{Room}
+use Rattle.edit_format.specs.declared.refusal.Room.TheVariants.{SeekHead, SegmentSize, Tail, Twin}
+use Rattle.edit_format.specs.declared.refusal.Why.{Why}
+use Rattle.edit_format.specs.declared.refusal.Why.TheVariants.{AlreadyThere, BadPropertyValue, Mandatory, NoInfo, NoSuchProperty, NoSuchTrack}
+use Rattle.edit_format.specs.Plan.{edited}
+
+-- ---- what refuses edits, as a line says it
+
+abbrev pub why_name : Why → List ℕ
+why_name NoInfo = codes "NoInfo"
+why_name NoSuchTrack = codes "NoSuchTrack"
+why_name NoSuchProperty = codes "NoSuchProperty"
+why_name BadPropertyValue = codes "BadPropertyValue"
+why_name AlreadyThere = codes "AlreadyThere"
+why_name Mandatory = codes "Mandatory"
+
+abbrev pub room_name : Room → List ℕ
+room_name Tail = codes "Tail"
+room_name Twin = codes "Twin"
+room_name SeekHead = codes "SeekHead"
+room_name SegmentSize = codes "SegmentSize"
+
+abbrev pub refusal_text : List ℕ → Refusal → List ℕ
+refusal_text name (refusal.Damaged damage) = refusal_line name damage
+refusal_text name (refusal.Edit edit why) = edit_refused_line name (why_name why) edit
+refusal_text name (refusal.EditTooLarge length nodes) = edit_too_large_line name length nodes
+refusal_text name (refusal.NoRoom why need have) = no_room_line name (room_name why) need have
+
+-- ---- what it comes to
+
+-- what is told of a file, by what its edits come to
+abbrev pub told : List ℕ → Result (List ℕ) Refusal → Verdict
+told name (Ok file) = done (edited_line name ∷ [])
+told name (Err why) = refused (refusal_text name why)
+
+-- a file is refused of which an edit is pending, or whose sidecar is wrong
+abbrev pub unless_begun : List ℕ → Gate → Verdict → Verdict
+unless_begun name Quiet v = v
+unless_begun name Live v = refused (pending_edit_line name)
+unless_begun name (Bad offset) v = refused (bad_sidecar_line name offset)
+
+-- what `propedit` comes to: by whether there is a medium of the name, and by what it and its sidecar read
+abbrev pub propedit_verdict : Bool → List ℕ → List Edit → List ℕ → List ℕ → Verdict
+propedit_verdict is_there name edits media sidecar =
+    if is_there then unless_begun name (state sidecar) (told name (edited media edits)) else refused (missing_line name)
+
+-- what it comes to over a disk that tells all
+abbrev pub propedit_on : DiskWorld → List ℕ → List Edit → Verdict
+propedit_on world name edits = propedit_verdict (world.is_there name) name edits world.media world.sidecar

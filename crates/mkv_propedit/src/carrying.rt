@@ -1,0 +1,63 @@
+//! Edits that are planned are carried out.
+
+ghost use Rattle.std.specs.Prelude.{◌≡◌, ◌≤◌, true, [], ◌∷◌, length, IfOk};
+ghost use Rattle.mkv_io.specs.Faults.{HasCause};
+ghost use Rattle.mkv_disk.specs.Pair.{both};
+ghost use Rattle.mkv_disk.specs.Calls.{AnyMoment, IsReady, Makes, OfReads};
+ghost use Rattle.mkv_disk.specs.Writing.{OnlyWrites};
+ghost use Rattle.mkv_lines.specs.Code.{status_of};
+ghost use Rattle.mkv_lines.specs.Line.{edited_line};
+ghost use Rattle.mkv_lines.specs.Ordinary.{IsOrdinary};
+ghost use Rattle.mkv_lines.specs.Verdict.{SaysVerdict, done};
+ghost use Rattle.mkv_recover.specs.Recovery.{HasDiskStop};
+ghost use Rattle.sidecar_format.specs.Fields.{writes_of};
+ghost use Rattle.sidecar_format.specs.Writes.{applied};
+ghost use Rattle.sidecar_edit.specs.Leaves.{IsEditing};
+ghost use Rattle.mkv_propedit.specs.Left.{IsPlannedFor, LeavesPlanned};
+
+use crate::telling::{edited_text, tell};
+use mkv_disk::Disk;
+use mkv_io::Report;
+use mkv_lines::{Status, Stop};
+use sidecar_edit::{DiskFault, commit, settle};
+use sidecar_format::Plan;
+use std::alloc::Global;
+
+/// Makes the edits of a plan beside a quiet sidecar, and says so. All memory is taken before anything is written.
+pub fn edit_planned<D: Disk, R: Report>(
+    alloc: Global,
+    name: &str,
+    plan: &Plan,
+    disk: &mut D,
+    report: &mut R,
+) -> Result<Status, Stop>
+    requires ready { IsReady D.Reads D.Disk.own disk.old }
+    requires some { 1 ≤ length plan.now.head.places }
+    requires planned { OfReads D.Disk.own disk.old (IsPlannedFor plan.now) }
+    ensures verdict { SaysVerdict (R.lines report.old) (R.lines report.new) result (done (edited_line name.now ∷ [])) }
+    ensures ordinary { IfOk result IsOrdinary }
+    ensures pair { OfReads D.Disk.own disk.old (λ M S. LeavesPlanned (status_of result) plan.now M S (D.pair disk.new)) }
+    ensures any_moment { AnyMoment D.Disk.own disk.old disk.new (λ M S m s. IsEditing plan.now M m s) }
+    ensures opened { D.opened disk.new ≡ D.opened disk.old }
+    ensures cause { HasDiskStop D.Reads D.Disk.own disk.old disk.new (R.faults report.old) (R.faults report.new) result }
+{
+    let Ok(edited) = edited_text(alloc, name) else {
+        return Err(Stop::Memory);
+    };
+    let made = carry_out(plan, disk);
+    tell(&edited, made, report)
+}
+
+/// Closes the gate of a quiet sidecar, and makes the edits of a plan beside it.
+fn carry_out<D: Disk>(plan: &Plan, disk: &mut D) -> Result<(), DiskFault>
+    requires ready { IsReady D.Reads D.Disk.own disk.old }
+    requires some { 1 ≤ length plan.now.head.places }
+    requires planned { OfReads D.Disk.own disk.old (IsPlannedFor plan.now) }
+    ensures ok { Makes D.Disk.own disk.old disk.new result (λ M S. both (applied M (writes_of plan.now)) (0 ∷ [])) }
+    ensures any_moment { AnyMoment D.Disk.own disk.old disk.new (λ M S m s. IsEditing plan.now M m s) }
+    ensures only { OnlyWrites D.Reads D.Disk.own disk.old disk.new }
+    ensures cause { HasCause (λ _. true) (D.writing_faults disk.old) (D.writing_faults disk.new) result }
+{
+    settle(disk)?;
+    commit(plan, disk)
+}

@@ -1,0 +1,98 @@
+//! A file and its sidecar are opened, and properties of the file edited.
+
+ghost use Rattle.std.specs.Prelude.{◌≡◌, IfOk};
+ghost use Rattle.mkv_disk.specs.Calls.{AtRest, IsReady, OfReads};
+ghost use Rattle.mkv_lines.specs.Code.{status_of};
+ghost use Rattle.mkv_lines.specs.Ordinary.{IsOrdinary};
+ghost use Rattle.mkv_lines.specs.Verdict.{SaysVerdict};
+ghost use Rattle.mkv_recover.specs.Recovery.{HasDiskStop};
+ghost use Rattle.sidecar_format.specs.Gate.{state};
+ghost use Rattle.edit_format.specs.Plan.{edited};
+ghost use Rattle.mkv_propedit.specs.Left.{IsEdit, IsEditOf};
+ghost use Rattle.mkv_propedit.specs.Propedit.{propedit_verdict, told, unless_begun};
+
+use crate::carrying::edit_planned;
+use crate::telling::refusal_line;
+use edit_plan::{PlanEnd, plan};
+use mkv_disk::{Disk, SIDECAR};
+use mkv_io::Report;
+use mkv_jobs::Edit;
+use mkv_lines::{Line, Status, Stop};
+use mkv_recover::refuse;
+use mkv_values::{Failed, List, OpenFault};
+use sidecar_edit::state;
+use sidecar_format::Gate;
+use std::alloc::Global;
+
+/// Makes edits of the file of a name, all of them or none, and says what came of it. A stop at any moment leaves a file
+/// and a sidecar that can be recovered.
+pub fn propedit_of<D: Disk, R: Report>(
+    alloc: Global,
+    name: &str,
+    edits: &List<Edit>,
+    disk: &mut D,
+    report: &mut R,
+) -> Result<Status, Stop>
+    requires { AtRest D.Disk.own disk.old }
+    ensures verdict { OfReads D.Disk.own disk.old (λ M S. SaysVerdict (R.lines report.old) (R.lines report.new) result
+        (propedit_verdict (D.is_there disk.old name.now) name.now edits.now M S)) }
+    ensures ordinary { IfOk result IsOrdinary }
+    ensures edit { IsEditOf D.Reads D.Disk.own name.now edits.now disk.old disk.new (status_of result) }
+    ensures cause { HasDiskStop D.Reads D.Disk.own disk.old disk.new (R.faults report.old) (R.faults report.new) result }
+{
+    match disk.open_pair(name) {
+        Ok(()) => edit_open(alloc, name, edits, disk, report),
+        Err(OpenFault::Missing) => refuse(alloc, &Line::Missing { name }, report),
+        Err(OpenFault::Failed) => Err(Stop::Disk),
+        Err(OpenFault::Memory) => Err(Stop::Memory),
+    }
+}
+
+/// Edits a pair that is open, unless an edit of it is pending, or its sidecar is wrong.
+fn edit_open<D: Disk, R: Report>(
+    alloc: Global,
+    name: &str,
+    edits: &List<Edit>,
+    disk: &mut D,
+    report: &mut R,
+) -> Result<Status, Stop>
+    requires { IsReady D.Reads D.Disk.own disk.old }
+    ensures verdict { OfReads D.Disk.own disk.old (λ M S. SaysVerdict (R.lines report.old) (R.lines report.new) result
+        (unless_begun name.now (state S) (told name.now (edited M edits.now)))) }
+    ensures ordinary { IfOk result IsOrdinary }
+    ensures edit { IsEdit D.Disk.own edits.now disk.old disk.new (status_of result) }
+    ensures opened { D.opened disk.new ≡ D.opened disk.old }
+    ensures cause { HasDiskStop D.Reads D.Disk.own disk.old disk.new (R.faults report.old) (R.faults report.new) result }
+{
+    match state(disk, SIDECAR) {
+        Ok(Gate::Quiet) => edit_quiet(alloc, name, edits, disk, report),
+        Ok(Gate::Live) => refuse(alloc, &Line::PendingEdit { name }, report),
+        Ok(Gate::Bad { offset }) => refuse(alloc, &Line::BadSidecar { name, offset }, report),
+        Err(Failed) => Err(Stop::Disk),
+    }
+}
+
+/// Edits a pair that is open, and of which no edit is pending.
+fn edit_quiet<D: Disk, R: Report>(
+    alloc: Global,
+    name: &str,
+    edits: &List<Edit>,
+    disk: &mut D,
+    report: &mut R,
+) -> Result<Status, Stop>
+    requires ready { IsReady D.Reads D.Disk.own disk.old }
+    requires quiet { OfReads D.Disk.own disk.old (λ M S. state S ≡ Gate.Quiet) }
+    ensures verdict { OfReads D.Disk.own disk.old (λ M S. SaysVerdict (R.lines report.old) (R.lines report.new) result
+        (told name.now (edited M edits.now))) }
+    ensures ordinary { IfOk result IsOrdinary }
+    ensures edit { IsEdit D.Disk.own edits.now disk.old disk.new (status_of result) }
+    ensures opened { D.opened disk.new ≡ D.opened disk.old }
+    ensures cause { HasDiskStop D.Reads D.Disk.own disk.old disk.new (R.faults report.old) (R.faults report.new) result }
+{
+    match plan(alloc, disk, edits) {
+        Ok(plan) => edit_planned(alloc, name, &plan, disk, report),
+        Err(PlanEnd::Refused(why)) => refuse(alloc, &refusal_line(name, why), report),
+        Err(PlanEnd::ReadFault) => Err(Stop::Disk),
+        Err(PlanEnd::Memory) => Err(Stop::Memory),
+    }
+}

@@ -1,0 +1,91 @@
+//! What edits come to is told.
+
+ghost use Rattle.std.specs.Prelude.{◌≡◌, [], ◌∷◌, IfOk};
+ghost use Rattle.std.specs.String.{string_bytes};
+ghost use Rattle.mkv_lines.specs.Line.{edited_line, text_of};
+ghost use Rattle.mkv_lines.specs.Ordinary.{IsOrdinary};
+ghost use Rattle.mkv_lines.specs.Verdict.{SaysVerdict, done};
+ghost use Rattle.mkv_propedit.specs.Left.{HasMadeCause};
+ghost use Rattle.mkv_propedit.specs.Propedit as spec;
+
+use edit_format::{Refusal, Room, Why};
+use mkv_io::Report;
+use mkv_lines::{Line, Status, Stop, say_text};
+use sidecar_edit::DiskFault;
+use std::alloc::{AllocError, Global};
+
+/// The line of edits that are made.
+pub fn edited_text(alloc: Global, name: &str) -> Result<String, AllocError>
+    ensures { IfOk result (λ text. string_bytes text ≡ edited_line name.now) }
+{
+    let line = Line::Edited { name };
+    format!(in alloc; "{line}")
+}
+
+/// Says the line of edits that are made, unless the disk failed. It takes no memory.
+pub fn tell<R: Report>(
+    edited: &str,
+    made: Result<(), DiskFault>,
+    report: &mut R,
+) -> Result<Status, Stop>
+    ensures verdict { SaysVerdict (R.lines report.old) (R.lines report.new) result (done (edited.now ∷ [])) }
+    ensures ordinary { IfOk result IsOrdinary }
+    ensures cause { HasMadeCause made (R.faults report.old) (R.faults report.new) result }
+{
+    match made {
+        Ok(()) => {
+            say_text(report, edited)?;
+            Ok(Status::Done)
+        }
+        Err(DiskFault) => Err(Stop::Disk),
+    }
+}
+
+/// The line of what refuses edits.
+pub fn refusal_line(name: &str, refusal: Refusal) -> Line<'_>
+    ensures { text_of result ≡ spec.refusal_text name.now refusal }
+{
+    match refusal {
+        Refusal::Damaged(damage) => Line::Refused { name, damage },
+        Refusal::Edit { edit, why } => Line::EditRefused {
+            name,
+            why: why_name(why),
+            edit,
+        },
+        Refusal::EditTooLarge { length, nodes } => Line::EditTooLarge {
+            name,
+            length,
+            nodes,
+        },
+        Refusal::NoRoom { why, need, have } => Line::NoRoom {
+            name,
+            why: room_name(why),
+            need,
+            have,
+        },
+    }
+}
+
+fn why_name(why: Why) -> &'static str
+    ensures { result.now ≡ spec.why_name why }
+{
+    match why {
+        Why::NoInfo => "NoInfo",
+        Why::NoSuchTrack => "NoSuchTrack",
+        Why::NoSuchProperty => "NoSuchProperty",
+        Why::BadPropertyValue => "BadPropertyValue",
+        Why::AlreadyThere => "AlreadyThere",
+        Why::Mandatory => "Mandatory",
+    }
+}
+
+fn room_name(room: Room) -> &'static str
+    ensures { result.now ≡ spec.room_name room }
+{
+    match room {
+        Room::Tail => "Tail",
+        Room::Twin => "Twin",
+        Room::SeekHead => "SeekHead",
+        Room::SegmentSize => "SegmentSize",
+    }
+}
