@@ -3,6 +3,8 @@
 //! Merges of small files in memory, and what `merge -J` tells of them: what is written and told, and what a failure leaves. Tests alone.
 
 #[cfg(test)]
+mod appended;
+#[cfg(test)]
 mod damage;
 #[cfg(test)]
 mod failing;

@@ -2,21 +2,13 @@
 
 use crate::runs::{LINE, TWO_BLOCKS, check, check_one, done, refused, warned};
 use crate::spelled::{
-    CL, CUT, E, H, INFO, LIVE, S1, SEEKS, TR, VOID_2, merged, octets_of, with_cues, written,
+    CL, CUT, E, H, INFO, KEY_FIRST, LIVE, S1, SEEKS, TR, V1, VIDEO, VOID_2, merged, octets_of,
+    with_cues, written,
 };
 use std::test::Fail;
 
 /// The line of an output of one block.
 const ONE_BLOCK: &str = "wrote out.mkv: 1 blocks\n";
-
-/// Tracks with a video track: V_VP8, number 1, UID 7.
-const VIDEO: &str = "1654AE6B 93 AE91 D78101 73C58107 838101 8685 565F565038";
-
-/// A Cluster with a key frame at 0 ms, and another frame at 20 ms.
-const KEY_FIRST: &str = "1F43B675 91 E78100 A38581000080AA A38581001400BB";
-
-/// A file with both.
-const V1: [&str; 4] = [E, "18538067 AE", VIDEO, KEY_FIRST];
 
 #[test]
 fn one_file_is_written_anew(rt: HostRuntime) -> Result<(), Fail> {

@@ -21,7 +21,7 @@ pub const CUT: &str = "1F43B675 91 E78100 A38581000080AA A385810014";
 /// A file of 68 octets.
 pub const S1: [&str; 4] = [E, "18538067 AF", TR, CL];
 
-/// The same in a Segment and a Cluster of unknown size, with empty Cues behind them.
+/// The small file in a Segment and a Cluster of unknown size, with empty Cues behind them.
 pub const LIVE: [&str; 5] = [
     E,
     "18538067 01FFFFFFFFFFFFFF",
@@ -29,6 +29,15 @@ pub const LIVE: [&str; 5] = [
     "1F43B675 01FFFFFFFFFFFFFF E78100 A38581000080AA A38581001480BB",
     "1C53BB6B 80",
 ];
+
+/// Tracks with a video track: V_VP8, number 1, UID 7.
+pub const VIDEO: &str = "1654AE6B 93 AE91 D78101 73C58107 838101 8685 565F565038";
+
+/// A Cluster with a key frame at 0 ms, and another frame at 20 ms.
+pub const KEY_FIRST: &str = "1F43B675 91 E78100 A38581000080AA A38581001400BB";
+
+/// A file of 67 octets with both.
+pub const V1: [&str; 4] = [E, "18538067 AE", VIDEO, KEY_FIRST];
 
 /// An EBML header of an output.
 pub const H: &str = "1A45DFA3 A3 42868101 42F78101 42F28104 42F38108 \

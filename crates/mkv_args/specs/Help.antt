@@ -74,7 +74,7 @@ scope_lines s = scope_text s ∷ flat_map (option_lines s) table
 
 -- the word `+` of `merge`
 unfoldable pub joins : List (Entry (Unit {0}))
-joins = entry (codes "") (codes "+") (tt {0}) (codes "") (codes "append the next file to this one (not built)") ∷ []
+joins = entry (codes "") (codes "+") (tt {0}) (codes "") (codes "append the next file to this one") ∷ []
 
 -- what the placeholders of `merge` stand for
 unfoldable pub merge_values : List (Entry (Unit {0}))

@@ -21,7 +21,7 @@ const COLUMN: usize = 32;
 /// The word `+` of `merge`.
 #[rattlefmt::skip]
 static JOINS: [Entry<()>; 1] = [
-    Entry("", "+", (), "", "append the next file to this one (not built)"),
+    Entry("", "+", (), "", "append the next file to this one"),
 ];
 
 /// What the placeholders stand for.
