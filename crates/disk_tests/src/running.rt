@@ -65,6 +65,24 @@ pub fn stopped_copy(alloc: Global, disk: &MemDisk, stop: u64) -> Result<MemDisk,
     Ok(copy)
 }
 
+/// Runs a command line on a disk.
+fn run_on<D: Disk>(
+    alloc: Global,
+    line: &[&str],
+    disk: &mut D,
+) -> Result<(Status, MemReport), AllocError>
+    requires { AtRest D.Disk.own disk.old }
+{
+    let mut words = Vec::new(alloc);
+    for word in line {
+        words.push(word.to_string(alloc)?)?;
+    }
+    let mut files = MemFiles::new(alloc)?;
+    let mut report = MemReport::new(alloc, 10, 1000)?;
+    let status = run(alloc, &words, &mut files, disk, &mut report);
+    Ok((status, report))
+}
+
 /// Runs `recover` of a name on a disk.
 pub fn recover_on<D: Disk>(
     alloc: Global,
@@ -73,13 +91,19 @@ pub fn recover_on<D: Disk>(
 ) -> Result<(Status, MemReport), AllocError>
     requires { AtRest D.Disk.own disk.old }
 {
-    let mut words = Vec::new(alloc);
-    words.push("recover".to_string(alloc)?)?;
-    words.push(name.to_string(alloc)?)?;
-    let mut files = MemFiles::new(alloc)?;
-    let mut report = MemReport::new(alloc, 10, 1000)?;
-    let status = run(alloc, &words, &mut files, disk, &mut report);
-    Ok((status, report))
+    run_on(alloc, &["recover", name], disk)
+}
+
+/// Runs an edit of a name on a disk, which names its first audio track.
+pub fn edit_on<D: Disk>(
+    alloc: Global,
+    name: &str,
+    disk: &mut D,
+) -> Result<(Status, MemReport), AllocError>
+    requires { AtRest D.Disk.own disk.old }
+{
+    let line = ["propedit", name, "--edit", "track:a1", "--set", "name=Hi"];
+    run_on(alloc, &line, disk)
 }
 
 /// What is read of a file of a disk.

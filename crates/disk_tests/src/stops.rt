@@ -1,63 +1,23 @@
-//! An edit is stopped at each call of the disk, recovered with a stop at each call, and recovered again.
+//! An edit by `propedit` is stopped at each call of the disk, recovered with a stop at each call, and recovered again.
 
-ghost use Rattle.std.specs.Prelude.{◌≡◌, ◌≤◌, ◌+◌, length, IfOk, IsTrue};
+ghost use Rattle.std.specs.Prelude.{◌≡◌, ◌≤◌, ◌+◌, length, IfOk};
 ghost use Rattle.mkv_values.specs.declared.outside.TheConstants.{LONGEST_FILE};
-ghost use Rattle.mkv_disk.specs.Calls.{AtRest, OfReads};
-ghost use Rattle.sidecar_format.specs.Fields.{IsMadeFor};
-ghost use Rattle.sidecar_format.specs.Recovery.{IsQuiet};
-ghost use Rattle.disk_tests.specs.declared.data.TheConstants.{FILE};
 
-use crate::data::{EDITED, FILE, PAYLOAD, PLACES};
-use crate::running::{copied, failing, octets_of, recover_on, stopped, stopped_copy};
+use crate::data::{EDITED, FILE};
+use crate::running::{copied, edit_on, failing, octets_of, recover_on, stopped, stopped_copy};
 use memory_disk::MemDisk;
-use mkv_disk::{Disk, MEDIA};
+use mkv_disk::MEDIA;
 use mkv_lines::Status;
-use sidecar_edit::{DiskFault, commit, settle};
-use sidecar_format::{OPEN, Plan};
 use std::alloc::{AllocError, Global};
 use std::test::Fail;
-
-/// The plan of the edit.
-fn plan(alloc: Global) -> Result<Plan, AllocError>
-    ensures made { IfOk result (λ plan. IsMadeFor plan.head FILE) }
-    ensures some { IfOk result (λ plan. 1 ≤ length plan.head.places) }
-{
-    let places = PLACES.as_slice().to_vec(alloc)?;
-    Plan::new(alloc, 393, 423, &FILE[..64], places, &PAYLOAD)
-}
-
-/// Opens the pair and makes the edit of a plan.
-fn edit<D: Disk>(plan: &Plan, disk: &mut D) -> Result<(), DiskFault>
-    requires at_rest { AtRest D.Disk.own disk.old }
-    requires quiet { OfReads D.Disk.own disk.old (λ M S. IsQuiet S) }
-    requires some { 1 ≤ length plan.now.head.places }
-    requires made { OfReads D.Disk.own disk.old (λ M S. IsMadeFor plan.now.head M) }
-{
-    let Ok(()) = disk.open_pair("out.mkv") else {
-        return Err(DiskFault);
-    };
-    settle(disk)?;
-    commit(plan, disk)
-}
-
-/// Whether no edit is begun in a sidecar.
-fn is_quiet(sidecar: &[u8]) -> bool
-    ensures { IsTrue result → IsQuiet sidecar.now }
-{
-    sidecar.len() <= 1 || sidecar[0] != OPEN
-}
 
 /// The edit on a disk with this sidecar, stopped at a call of the disk; and whether it came to its end.
 fn edited(alloc: Global, sidecar: &[u8], stop: u64) -> Result<(MemDisk, bool), Fail>
     requires { length sidecar.now ≤ LONGEST_FILE }
 {
-    if !is_quiet(sidecar) {
-        return Err("an edit is begun".into());
-    }
-    let plan = plan(alloc)?;
     let mut disk = stopped(alloc, &FILE, sidecar, stop)?;
-    let whole = edit(&plan, &mut disk).is_ok();
-    Ok((disk, whole))
+    let (status, _) = edit_on(alloc, "out.mkv", &mut disk)?;
+    Ok((disk, status == Status::Done))
 }
 
 /// The file that `recover` makes of what a crash left.
@@ -132,15 +92,17 @@ fn comes_to_either(alloc: Global, disk: &MemDisk) -> Result<bool, Fail> {
 
 #[test]
 fn an_edit_of_which_a_call_fails_tells_it_and_is_recovered(rt: HostRuntime) -> Result<(), Fail> {
-    let plan = plan(rt.alloc())?;
     for call in 0..100 {
         let mut disk = failing(rt.alloc(), &FILE, &[], call)?;
-        let whole = edit(&plan, &mut disk).is_ok();
+        let (status, report) = edit_on(rt.alloc(), "out.mkv", &mut disk)?;
         assert!(rt; comes_to_either(rt.alloc(), &disk)?);
-        if whole {
-            assert!(rt; call > 10);
+        if status == Status::Done {
+            assert!(rt; call > 20);
+            assert_eq!(rt; report.line(0), Some("edited out.mkv"));
             return Ok(());
         }
+        assert_eq!(rt; status, Status::Outside);
+        assert_eq!(rt; report.line(0), Some("fault: disk"));
     }
     Err("no edit comes to its end".into())
 }

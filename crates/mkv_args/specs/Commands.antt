@@ -9,7 +9,7 @@ commands =
     entry (codes "") (codes "info") verb.Info (codes "FILE") (codes "show the Elements and tracks of a file") ∷
     entry (codes "") (codes "merge") verb.Merge (codes "OPTIONS FILES | -J FILE") (codes "join and split files, or identify one") ∷
     entry (codes "") (codes "extract") verb.Extract (codes "FILE MODE") (codes "take tracks or other parts out of a file") ∷
-    entry (codes "") (codes "propedit") verb.Propedit (codes "FILE SECTIONS") (codes "change properties in place (not built)") ∷
+    entry (codes "") (codes "propedit") verb.Propedit (codes "FILE SECTIONS") (codes "change properties in place") ∷
     entry (codes "") (codes "recover") verb.Recover (codes "FILE") (codes "finish an edit that was stopped") ∷
     entry (codes "") (codes "reindex") verb.Reindex (codes "FILE") (codes "write the Cues and the SeekHead anew (not built)") ∷
     entry (codes "") (codes "generate") verb.Generate (codes "N PREFIX") (codes "make two files for trials (not built)") ∷

@@ -25,7 +25,7 @@ static COMMANDS: [Entry<Verb>; 9] = [
     Entry("", "info", Verb::Info, "FILE", "show the Elements and tracks of a file"),
     Entry("", "merge", Verb::Merge, "OPTIONS FILES | -J FILE", "join and split files, or identify one"),
     Entry("", "extract", Verb::Extract, "FILE MODE", "take tracks or other parts out of a file"),
-    Entry("", "propedit", Verb::Propedit, "FILE SECTIONS", "change properties in place (not built)"),
+    Entry("", "propedit", Verb::Propedit, "FILE SECTIONS", "change properties in place"),
     Entry("", "recover", Verb::Recover, "FILE", "finish an edit that was stopped"),
     Entry("", "reindex", Verb::Reindex, "FILE", "write the Cues and the SeekHead anew (not built)"),
     Entry("", "generate", Verb::Generate, "N PREFIX", "make two files for trials (not built)"),

@@ -6,18 +6,22 @@ use Rattle.mkv_io.specs.Lines.{with_lines}
 use Rattle.mkv_io.specs.Names.{Names}
 use Rattle.mkv_io.specs.declared.reads.Reads as reads
 use Rattle.mkv_disk.specs.Calls.{AnyMoment, AtRest}
+use Rattle.mkv_disk.specs.Moments.{LeavesOnly}
 use Rattle.mkv_disk.specs.Pair.{IsPairImage}
+use Rattle.mkv_disk.proofs.MomentsLemmas.{stays}
 use Rattle.mkv_disk.specs.declared.disk.Disk as disks
 use Rattle.mkv_lines.specs.Faults.{HasStopCause}
 use Rattle.mkv_lines.specs.Said.{HasSayCause, ReportLines, Says, SaysPart, SaysUpTo}
 use Rattle.mkv_lines.specs.Verdict.{Reaches, Verdict}
 use Rattle.mkv_lines.specs.Ordinary.{IsOrdinary}
-use Rattle.sidecar_edit.specs.Recovering.{IsRecovering}
+use Rattle.sidecar_edit.proofs.GateLemmas.{both_image}
+use Rattle.mkv_jobs.specs.declared.edit.Edit.{Edit}
 use Rattle.mkv_recover.specs.Recovery.{HasDiskStop}
-use Rattle.mkv_recover.proofs.RecoverLemmas.{recovery-still, untouched}
+use Rattle.mkv_recover.proofs.RecoverLemmas.{recovery-still}
+use Rattle.mkv_propedit.proofs.PropeditLemmas.{edit-still}
 use Rattle.mkv_run.specs.Ends.{Ends, SaysFault}
 use Rattle.mkv_run.specs.RunSeen.{HasRunStop, RunSeen}
-use Rattle.mkv_run.specs.Touched.{Touches, edited_by}
+use Rattle.mkv_run.specs.Touched.{InPlace, LeftOnTheWay, Touches, edited, edited_by, recovered}
 use Rattle.mkv_args.specs.declared.command.Command.{Command}
 use Rattle.mkv_args.specs.declared.command.Command.TheVariants as command
 use Rattle.mkv_lines.specs.declared.status.Status.{Status}
@@ -113,37 +117,50 @@ module _ {D : Type 0} (r : reads.Ghosts D) (d : disks.Ghosts D) (a b : D) (readi
 
 -- ---- what a crash leaves
 
--- an edit leaves what comes to the same, and whatever else a run does leaves the disk
-pub touches-moment : {F D : Type 0} (r : reads.Ghosts D) (d : disks.Ghosts D) (name : Option (List ℕ)) (files files_now : F) (old new : D) (s : Status)
-    → AtRest d old → ((m s : List ℕ) → IsTrue d.told → d.left_since old (d.moment old) m s → IsPairImage (d.pair old) m s) → Touches r d name files files_now old new s → AnyMoment d old new IsRecovering
-touches-moment r d (Some name) files files_now was now s rest only touches = touches.1.leaves.any_moment
-touches-moment r d None files files_now was now s rest only touches = λ told.
-    untouched d was now (rest told) (λ m s. only m s told) touches
+-- a disk that isn't touched is left as it was
+untouched : {D : Type 0} (d : disks.Ghosts D) (old new : D) → AtRest d old → ((m s : List ℕ) → IsTrue d.told → d.left_since old (d.moment old) m s → IsPairImage (d.pair old) m s) → new ≡ old → AnyMoment d old new (LeftOnTheWay None)
+untouched d old new rest only same = λ told.
+    subst (λ x. LeavesOnly d.moment d.left_since old x (LeftOnTheWay None (d.pair old).media.reads (d.pair old).sidecar.reads)) (sym same)
+    (stays d.moment d.left_since old (LeftOnTheWay None (d.pair old).media.reads (d.pair old).sidecar.reads) (λ m s left. both_image (d.pair old) m s (rest told) (only m s told left)))
+
+-- a crash leaves what it may on the way of what is done
+pub touches-moment : {F D : Type 0} (r : reads.Ghosts D) (d : disks.Ghosts D) (asked : Option InPlace) (files files_now : F) (old new : D) (s : Status)
+    → AtRest d old → ((m s : List ℕ) → IsTrue d.told → d.left_since old (d.moment old) m s → IsPairImage (d.pair old) m s) → Touches r d asked files files_now old new s → AnyMoment d old new (LeftOnTheWay asked)
+touches-moment r d (Some (recovered name)) files files_now was now s rest only touches = touches.1.leaves.any_moment
+touches-moment r d (Some (edited name edits)) files files_now was now s rest only touches = touches.1.leaves.any_moment
+touches-moment r d None files files_now was now s rest only touches = untouched d was now rest only touches
 
 -- without memory nothing was touched, whatever was asked for
-pub touches-nothing : {F D : Type 0} (r : reads.Ghosts D) (d : disks.Ghosts D) (name : Option (List ℕ)) (files : F) (disk : D)
-    → AtRest d disk → ((m s : List ℕ) → IsTrue d.told → d.left_since disk (d.moment disk) m s → IsPairImage (d.pair disk) m s) → Touches r d name files files disk disk status.NoMemory
-touches-nothing r d (Some name) files disk rest only = (
+pub touches-nothing : {F D : Type 0} (r : reads.Ghosts D) (d : disks.Ghosts D) (asked : Option InPlace) (files : F) (disk : D)
+    → AtRest d disk → ((m s : List ℕ) → IsTrue d.told → d.left_since disk (d.moment disk) m s → IsPairImage (d.pair disk) m s) → Touches r d asked files files disk disk status.NoMemory
+touches-nothing r d (Some (recovered name)) files disk rest only = (
   refl,
   record {
     leaves = recovery-still d disk status.NoMemory rest (λ M S p same. same) only;
     opened = inr record { standing = refl; not_done = λ is. absurd (cc); missing = λ is told. absurd (cc) };
   },
 )
+touches-nothing r d (Some (edited name edits)) files disk rest only = (
+  refl,
+  record {
+    leaves = edit-still d edits disk status.NoMemory rest (λ M S p same. same) only;
+    opened = inr record { standing = refl; not_done = λ is. absurd (cc); missing = λ is told. absurd (cc) };
+  },
+)
 touches-nothing r d None files disk rest only = refl
 
--- a command that isn't recovering edits no file in place
-pub edited-none : (c : Command) → ((file : List ℕ) → c ≡ command.Recover file → ⊥) → edited_by c ≡ None
-edited-none (command.Help about) isnt = refl
-edited-none command.Version isnt = refl
-edited-none (command.Info file) isnt = refl
-edited-none (command.Identify file) isnt = refl
-edited-none (command.Recover file) isnt = absurd (isnt file refl)
-edited-none (command.Reindex file) isnt = refl
-edited-none (command.Generate n prefix) isnt = refl
-edited-none (command.Extract file job) isnt = refl
-edited-none (command.Propedit file edits) isnt = refl
-edited-none (command.Merge words) isnt = refl
+-- any other command edits no file in place
+pub edited-none : (c : Command) → ((file : List ℕ) → c ≡ command.Recover file → ⊥) → ((file : List ℕ) (edits : List Edit) → c ≡ command.Propedit file edits → ⊥) → edited_by c ≡ None
+edited-none (command.Help about) isnt other = refl
+edited-none command.Version isnt other = refl
+edited-none (command.Info file) isnt other = refl
+edited-none (command.Identify file) isnt other = refl
+edited-none (command.Recover file) isnt other = absurd (isnt file refl)
+edited-none (command.Reindex file) isnt other = refl
+edited-none (command.Generate n prefix) isnt other = refl
+edited-none (command.Extract file job) isnt other = refl
+edited-none (command.Propedit file edits) isnt other = absurd (other file edits refl)
+edited-none (command.Merge words) isnt other = refl
 
 -- ---- texts that are said one after the other
 

@@ -15,6 +15,7 @@ use Rattle.mkv_lines.specs.declared.status.Stop.{Stop}
 use Rattle.mkv_info.specs.Info.{info_verdict}
 use Rattle.mkv_info.specs.declared.info.Form.TheVariants.{Lines, Json}
 use Rattle.mkv_recover.specs.Recover.{DiskWorld, verdict_on}
+use Rattle.mkv_propedit.specs.Propedit.{propedit_on}
 use Rattle.mkv_extract.specs.Extract.{extract_verdict}
 use Rattle.mkv_merge.specs.Bound.{most_read}
 use Rattle.mkv_merge.specs.Merge.{merge_verdict, sources_of}
@@ -35,7 +36,7 @@ is_built (Recover file) = true
 is_built (Reindex file) = false
 is_built (Generate n prefix) = false
 is_built (Extract file job) = true
-is_built (Propedit file edits) = false
+is_built (Propedit file edits) = true
 is_built (Merge words) = takes words
 
 -- What a command that is built comes to, where the names tell, or for an edit in place the disk: its verdict is a function
@@ -46,6 +47,7 @@ built_verdict names disk Version = Some (done (version_line ∷ []))
 built_verdict names disk (Info file) = option_map (λ world. info_verdict Lines world file) names
 built_verdict names disk (Identify file) = option_map (λ world. info_verdict Json world file) names
 built_verdict names disk (Recover file) = option_map (λ world. verdict_on world file) disk
+built_verdict names disk (Propedit file edits) = option_map (λ world. propedit_on world file edits) disk
 built_verdict names disk (Extract file job) = option_map (λ world. extract_verdict world file job) names
 built_verdict names disk (Merge words) = option_map (λ world. merge_verdict world words) names
 built_verdict names disk _ = Some (refused not_built_line)

@@ -1,19 +1,18 @@
 //! The program: its words, and the exit status with which it ends.
 
-ghost use Rattle.std.specs.Prelude.{◌≡◌, ◌<◌, ◌⊎◌, ℕ, IfOk, IfErr, OnErr};
+ghost use Rattle.std.specs.Prelude.{◌≡◌, ◌<◌, ◌⊎◌, ℕ, IfOk, IfErr, MatchResult, OnErr};
 ghost use Rattle.std.specs.Process.{exit_status};
 ghost use Rattle.mkv_io.specs.Sources.{live_files};
 ghost use Rattle.mkv_disk.specs.Calls.{AnyMoment, AtRest};
 ghost use Rattle.mkv_args.specs.Words.{command};
 ghost use Rattle.mkv_lines.specs.Code.{code_of};
-ghost use Rattle.sidecar_edit.specs.Recovering.{IsRecovering};
 ghost use Rattle.word_values.specs.Place.{texts};
 ghost use Rattle.mkv_recover.specs.Recover.{disk_world};
 ghost use Rattle.merged_outputs.specs.Merge.{HasMerged};
 ghost use Rattle.mkv_run.specs.Exit.{HasExited};
 ghost use Rattle.mkv_run.specs.Run.{ReadsWithinIn, verdict_in};
 ghost use Rattle.mkv_run.specs.RunSeen.{run_seen};
-ghost use Rattle.mkv_run.specs.Touched.{Touches, edited_in};
+ghost use Rattle.mkv_run.specs.Touched.{LeftOnTheWay, Touches, edited_in};
 
 use crate::running::run;
 use mkv_disk::Disk;
@@ -60,7 +59,8 @@ pub fn program<F: Files, D: Disk, R: Report>(
     ensures unread { IfErr words.now (λ status. exit_status result ≡ code_of status) }
     ensures idle { OnErr words.now (run_seen F.Reads F.Files.own D.Reads D.Disk.own R.Report files.new disk.new report.new
         ≡ run_seen F.Reads F.Files.own D.Reads D.Disk.own R.Report files.old disk.old report.old) }
-    ensures any_moment { AnyMoment D.Disk.own disk.old disk.new IsRecovering }
+    ensures any_moment { MatchResult words.now (λ words. AnyMoment D.Disk.own disk.old disk.new
+        (LeftOnTheWay (edited_in (command (texts words.items))))) (λ _. disk.new ≡ disk.old) }
     ensures closed { (file : ℕ) → (live_files F.Reads files.new).live file ≡ (live_files F.Reads files.old).live file }
     ensures octets { IfOk words.now (λ words.
         ReadsWithinIn (F.names files.old) (texts words.items) (F.octets_read files.old) (F.octets_read files.new)) }

@@ -6,7 +6,6 @@ ghost use Rattle.mkv_io.specs.Told.{Told};
 ghost use Rattle.merge_words.specs.Sound.{IsSoundMerge};
 ghost use Rattle.mkv_args.specs.Sound.{IsSound};
 ghost use Rattle.mkv_disk.specs.Calls.{AnyMoment, AtRest};
-ghost use Rattle.sidecar_edit.specs.Recovering.{IsRecovering};
 ghost use Rattle.mkv_args.specs.Words.{command};
 ghost use Rattle.mkv_lines.specs.Code.{status_of};
 ghost use Rattle.mkv_lines.specs.Faults.{HasStopCause};
@@ -21,7 +20,7 @@ ghost use Rattle.merged_outputs.specs.Merge.{MergesWell};
 ghost use Rattle.mkv_run.specs.Ends.{Ends};
 ghost use Rattle.mkv_run.specs.Run.{MergesRecords, MergesRecordsIn, ReadsWithin, ReadsWithinIn, verdict_in, verdict_of};
 ghost use Rattle.mkv_run.specs.RunSeen.{HasRunStop, HasStatusCause, run_seen};
-ghost use Rattle.mkv_run.specs.Touched.{Touches, edited_by, edited_in};
+ghost use Rattle.mkv_run.specs.Touched.{LeftOnTheWay, Touches, edited_by, edited_in};
 
 use crate::help::{help, version};
 use merge_words::MergeWords;
@@ -32,6 +31,7 @@ use mkv_info::{Form, info_of};
 use mkv_io::{Files, Report};
 use mkv_lines::{Line, Status, Stop, say, say_disk_fault, say_files_fault};
 use mkv_merge::{merge_of, takes};
+use mkv_propedit::propedit_of;
 use mkv_recover::recover_of;
 use std::alloc::Global;
 
@@ -68,8 +68,9 @@ pub fn run<F: Files, D: Disk, R: Report>(
     // An edit in place leaves the files as they are, and all else the disk.
     ensures touches { Touches D.Reads D.Disk.own (edited_in (command (texts words.now.items))) files.old files.new disk.old disk.new result }
 
-    // What a crash at any moment leaves of the two files of the disk comes to what they come to.
-    ensures any_moment { AnyMoment D.Disk.own disk.old disk.new IsRecovering }
+    // What a crash at any moment leaves of the two files of the disk: after an edit they come to the file as it was or as
+    // it is to be, and where one is recovered to what they came to.
+    ensures any_moment { AnyMoment D.Disk.own disk.old disk.new (LeftOnTheWay (edited_in (command (texts words.now.items)))) }
 {
     match carry_out(alloc, words, files, disk, report) {
         Ok(status) => status,
@@ -142,6 +143,9 @@ fn obey<F: Files, D: Disk, R: Report>(
         Command::Info { file } => info_of(alloc, Form::Lines, file.as_str(), files, report),
         Command::Identify { file } => info_of(alloc, Form::Json, file.as_str(), files, report),
         Command::Recover { file } => recover_of(alloc, file.as_str(), disk, report),
+        Command::Propedit { file, edits } => {
+            propedit_of(alloc, file.as_str(), edits, disk, report)
+        }
         Command::Extract { file, job } => extract_of(alloc, file.as_str(), job, files, report),
         Command::Merge { words } => merge(alloc, words, files, report),
         _ => refuse(alloc, 0, "NotBuilt", report),

@@ -1,13 +1,7 @@
-use Rattle.std.proofs.Common.{refl, ◌∙◌}
+use Rattle.std.proofs.Common.{◌∙◌}
 use Rattle.std.specs.Process.{exit_status}
-use Rattle.mkv_recover.proofs.RecoverLemmas.{untouched}
 use Rattle.mkv_run.proofs.MergedLemmas.{code-merged}
 use Rattle.mkv_run.proofs.exit.program.Goals as goal
-
--- nothing was done
-pub returns-in-Err-clause-any_moment : goal.returns-in-Err-clause-any_moment
-returns-in-Err-clause-any_moment g c = λ told.
-    untouched g.D.Disk c.args.disk.now c.args.disk.now (c.requires told) (λ m s. g.met.D.Disk.only_now c.args.disk.now m s told) refl
 
 -- the exit status is that of the run, which has written its merge
 pub returns-in-Ok-clause-merged : goal.returns-in-Ok-clause-merged

@@ -1,0 +1,8 @@
+#![tactic(auto)]
+
+//! What is planned before anything is written, edits in place and parts of outputs: tests alone.
+
+#[cfg(test)]
+mod edits;
+#[cfg(test)]
+mod parts;
