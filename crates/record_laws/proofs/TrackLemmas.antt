@@ -40,7 +40,7 @@ find-filter p (n ∷ ns) = split (p n) (find-filter p ns)
 
 -- ---- the integer of an ID that is written is the same where it stands
 
-placed-integer : (id : ℕ) (ns : Nodes) (p : ℕ) → is_filler id ≡ false
+pub placed-integer : (id : ℕ) (ns : Nodes) (p : ℕ) → is_filler id ≡ false
     → option_map integer_of (find (λ n. id_of n == id) (list_of (placed_all p ns))) ≡ option_map integer_of (find (λ n. id_of n == id) (list_of ns))
 placed-integer id none p kept = refl
 placed-integer id (node n ns) p kept = split (is_filler (id_of n)) refl (λ q. placed-integer id ns q kept)

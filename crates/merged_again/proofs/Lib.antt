@@ -1,0 +1,7 @@
+mod AtomLemmas
+mod NumberLemmas
+mod StayLemmas
+mod EditionLemmas
+mod SettledLemmas
+mod FileLemmas
+mod TagLemmas
