@@ -3,11 +3,13 @@
 //! What a merge is to write, and what is known of it when it stands, as plain values. The output that a plan comes to,
 //! which the crates above cite, is defined in `specs/`.
 
+mod laws;
 mod plan;
 mod summary;
 
 pub use cluster_runs::CueRule;
 pub use lane_blocks::LaneSpec;
+pub use laws::whole_is_one_output;
 pub use output_model::ClusterLimits;
 pub use plan::{MergePlan, PlannedLane};
 pub use segment_octets::Front;
