@@ -1,3 +1,3 @@
 pub mod Plan
-pub mod Summary
 pub mod Parts
+pub mod Summary
