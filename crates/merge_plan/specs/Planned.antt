@@ -14,6 +14,7 @@ use Rattle.lane_blocks.specs.Links.{octets_in, given_in, IsOpenLink, IsToldLink,
 use Rattle.lane_blocks.specs.declared.link.Link.{Link}
 use Rattle.lanes.specs.Walks.{files_length}
 use Rattle.time_merge.specs.Laws.{IsApartLink}
+use Rattle.splitter.specs.declared.spec.SplitSpec.TheVariants.{Whole}
 use Rattle.remux_plan.specs.Plan.{links_of, rules_of}
 use Rattle.remux_plan.specs.declared.plan.MergePlan.{MergePlan}
 use Rattle.remux_plan.specs.declared.plan.PlannedLane.{PlannedLane}
@@ -71,11 +72,12 @@ GivesRecords words inputs (Err Memory) = ⊤
 
 -- ---- the plan
 
--- The plan that words and inputs come to: its name, where its Clusters end, what stands in front of them and what behind,
+-- The plan that words and inputs come to: its name, whole; where its Clusters end, what stands in front of them and what behind,
 -- with how many octets of attached files' data;
 -- and of each lane what its links give, by the contents of their files, their inputs, and which blocks get a cue point.
 pub record IsPlanOf (words : MergeWords) (inputs : List Input) (p : MergePlan) : Type 0 where
   pub output : p.output ≡ words.output
+  pub whole : p.split ≡ Whole
   pub limits : p.limits ≡ limits_of words
   pub front : (f : LiveFiles) → All (IsToldInput f) inputs → front_with f p.front ≡ front_of words (map (source_in f) inputs)
   pub octets : sum_by (λ (a : Attachment). a.len) p.front.attachments ≡ attached_length (map read_in inputs)

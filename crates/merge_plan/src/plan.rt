@@ -20,7 +20,7 @@ use merged_records::first_too_large;
 use mkv_values::Text;
 use output_model::{ClusterLimits, MOST_LANES};
 use output_records::info_of;
-use remux_plan::MergePlan;
+use remux_plan::{MergePlan, SplitSpec};
 use segment_octets::Front;
 use std::alloc::{AllocError, Global};
 
@@ -96,6 +96,7 @@ pub fn plan_of(alloc: Global, words: &MergeWords, inputs: &[Input]) -> Result<Me
     let info = info_of(alloc, words.scale, title_of(words, inputs))?;
     Ok(MergePlan {
         output: words.output.clone()?,
+        split: SplitSpec::Whole,
         limits: ClusterLimits {
             blocks: words.blocks,
             span: words.span,

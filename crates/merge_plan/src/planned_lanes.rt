@@ -126,6 +126,7 @@ fn lane_of(
         spec: LaneSpec { links },
         inputs,
         cues: rule_of(taken),
+        drives: true,
     };
     for (k, other) in behind.iter().enumerate() {
         go_on(alloc, place, number + 1 + k, other, &mut lane)?;

@@ -19,6 +19,7 @@ returns-clause-exact c =
       c.in_ok-tracks.ensures.exact.0,
       record {
         output = output;
+        whole = refl;
         limits = refl;
         front = λ f told.
             let reads = sym (reads-in f inputs) in
