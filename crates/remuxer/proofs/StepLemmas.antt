@@ -2,7 +2,7 @@
 use Rattle.std.proofs.Common.{◌≡◌, ◌≢◌, ◌≤◌, ◌<◌, ℕ, ◌+◌, ◌-◌, ◌*◌, ◌/◌, ◌^◌, Bool, true, false, ◌&&◌, ◌||◌, List, [], ◌∷◌, ◌++◌, All, length, map, get_or, Option, Some, None, is_none, refl, sym, ◌∙◌, ap, ap₂, subst, arith}
 use Rattle.std.specs.Prelude.{if◌then◌else◌}
 use Rattle.std.specs.List.{slice_get}
-use Rattle.std.specs.Option.{option_map, option_map_or, unwrap_or}
+use Rattle.std.specs.Option.{IfSome, option_map, option_map_or, unwrap_or}
 use Rattle.std.proofs.lemmas.List.Elements.{All-cons, All-head, All-map, All-nil, All-tail}
 use Rattle.std.proofs.lemmas.Option.{get_or_from_slice_get, slice_get_within}
 use Rattle.mkv_io.specs.LiveFiles.{LiveFiles}
@@ -31,20 +31,21 @@ use Rattle.placed_merge.specs.Placed.{PlacesOne, drives_at}
 use Rattle.placed_merge.specs.declared.placing.Ahead.{Ahead}
 use Rattle.remux_plan.specs.Parts.{drives_by}
 use Rattle.remux_plan.specs.declared.TheConstants.{MOST_SCALE}
-use Rattle.remuxer.specs.Places.{CanGive, IsAhead, IsIn, LendsAt, block_lent, in_part_from, is_same, lent_at, start_in, parts_ahead, parts_behind, parts_from, since, split_in}
+use Rattle.remuxer.specs.Taking.{IsOver}
+use Rattle.remuxer.specs.Places.{CanGive, IsAhead, IsEnd, IsIn, LendsAt, block_lent, first_tick, in_part_from, is_same, lent_at, start_in, parts_ahead, parts_behind, parts_from, since, split_in}
 use Rattle.remuxer.specs.declared.placed.PlacedBlocks.{PlacedBlocks}
-use Rattle.remuxer.proofs.PartLemmas.{behind-cut, passed-next, within-cut, within-next}
+use Rattle.remuxer.proofs.PartLemmas.{behind-cut, cut-later, passed-next, within-cut, within-next}
 
 -- ---- a lane's block
 
 -- what is lent says of itself what was placed
+head-by_track : (p : Placed) (t : TrackLink) (c : Option Reading) → (lent_by_track p t c).head ≡ p.head
+head-by_track p t None = refl
+head-by_track p t (Some c) = refl
+
 lent-head : (w : Walk) (o : Option Link) → (lent_by w o).head ≡ w.placed.head
 lent-head w None = refl
-lent-head w (Some (Track t)) = by_track w.placed t w.cursor
-  where
-    by_track : (p : Placed) (t : TrackLink) (c : Option Reading) → (lent_by_track p t c).head ≡ p.head
-    by_track p t None = refl
-    by_track p t (Some c) = refl
+lent-head w (Some (Track t)) = head-by_track w.placed t w.cursor
 lent-head w (Some (Entries e)) = refl
 
 -- a fact of all lanes holds of one
@@ -252,6 +253,20 @@ module _ (f : LiveFiles) (b : PlacedBlocks) (m' : MergeSeen) (c' : CutsSeen) (a 
 
     pub other-start : is_kept b.cuts ≡ true → (a.place ≡ Same → ⊥) → start_of c' ≡ (block_lent a.lane steps.queue.lane).tick
     other-start kept other = ap start_of (then-at true (step-other kept other))
+
+    -- what is ahead stands behind the part
+    pub over-found : is_kept b.cuts ≡ true → (a.place ≡ Same → ⊥) → IsOver start b (on_to b m' c') (Some a)
+    over-found kept other =
+        let x = block_lent a.lane steps.queue.lane in
+        let cut = step-other kept other in
+        let end : IsEnd c'.scale start x.tick = record {
+          behind = subst (λ (n : ℕ). start * n ≤ x.tick * n) (sym step-scale) (cut-later (split_in b) start x cut);
+          early = step-lends.early;
+        } in
+        record {
+          stands = record { stands = other-ahead kept other; end = subst (λ (bs : List OutputBlock). IfSome (first_tick bs) (IsEnd c'.scale start)) (sym step-one) end };
+          on = let less = steps.on in omega (arith, less);
+        }
 
     pub out-ahead : is_kept b.cuts ≡ false → IsAhead (on_to b m' c') a
     out-ahead kept =
