@@ -17,7 +17,7 @@ use Rattle.remux_plan.specs.declared.plan.PlannedLane.{PlannedLane}
 use Rattle.merge_plan.specs.Chains.{at_place, columns_from}
 use Rattle.merge_plan.specs.Plan.{rule_of}
 use Rattle.merge_plan.specs.Records.{tracks_begun}
-use Rattle.merge_plan.specs.Spots.{GoesOn, HasTaken, IsLaneOf, IsLinkAt, IsLinkOf, Spot, goes_on, spot, spots_at, spots_behind, spots_from, spots_in}
+use Rattle.merge_plan.specs.Spots.{GoesOn, HasTaken, IsLaneOf, IsLink, IsLinkAt, IsLinkOf, Spot, goes_on, spot, spots_at, spots_behind, spots_from, spots_in}
 use Rattle.merge_plan.proofs.ChainLemmas.{enumerate-push, while-enumerate}
 use Rattle.merge_plan.proofs.RecordLemmas.{begun-taken}
 use Rattle.merge_plan.proofs.ListLemmas.{drop-next, take-next}
@@ -27,6 +27,14 @@ zip-append R [] [] ws zs all more = more
 zip-append R [] (y ∷ ys) ws zs all more = absurd all
 zip-append R (x ∷ xs) [] ws zs all more = absurd all
 zip-append R (x ∷ xs) (y ∷ ys) ws zs all more = (all.0, zip-append R xs ys ws zs all.1 more)
+
+-- ---- links
+
+-- one more track of an input is a link
+pub link-more : (i : Input) (taken : List TakenTrack) (k : ℕ) (t : TakenTrack) (link : TrackLink) (old new : List Link) → k < length taken → t ≡ get_or taken k t → AllZip (IsLink i) (take k taken) old → IsLinkOf i t link → new ≡ old ++ Track link ∷ [] → AllZip (IsLink i) (take (k + 1) taken) new
+link-more i taken k t link old new inside at are is put =
+    let more : AllZip (IsLink i) (take k taken ++ t ∷ []) (old ++ Track link ∷ []) = zip-append (IsLink i) (take k taken) old (t ∷ []) (Track link ∷ []) are (is, tt) in
+    subst (AllZip (IsLink i) (take (k + 1) taken)) (sym put) (subst (λ (ts : List TakenTrack). AllZip (IsLink i) ts (old ++ Track link ∷ [])) (sym (take-next taken k t inside at)) more)
 
 -- ---- one lane
 

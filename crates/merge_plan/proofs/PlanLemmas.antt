@@ -39,7 +39,7 @@ use Rattle.merge_plan.proofs.RefusalLemmas.{unrefused-few}
 
 -- ---- lists of pairs that stand in a relation
 
-zip-map : {A B C : Type 0} (R : A → B → Type 0) (f : B → C) (g : A → C) → ((x : A) (y : B) → R x y → f y ≡ g x) → (xs : List A) (ys : List B) → AllZip R xs ys → map f ys ≡ map g xs
+pub zip-map : {A B C : Type 0} (R : A → B → Type 0) (f : B → C) (g : A → C) → ((x : A) (y : B) → R x y → f y ≡ g x) → (xs : List A) (ys : List B) → AllZip R xs ys → map f ys ≡ map g xs
 zip-map R f g same [] [] all = refl
 zip-map R f g same [] (y ∷ ys) all = absurd all
 zip-map R f g same (x ∷ xs) [] all = absurd all
@@ -58,7 +58,7 @@ all-cons P x xs one rest = of
     of zero d inside = one
     of (suc k) d inside = rest k d (omega arith)
 
-zip-all : {A B : Type 0} (R : A → B → Type 0) (Q : A → Type 0) (P : B → Type 0) → ((x : A) (y : B) → Q x → R x y → P y) → (xs : List A) (ys : List B) → All Q xs → AllZip R xs ys → All P ys
+pub zip-all : {A B : Type 0} (R : A → B → Type 0) (Q : A → Type 0) (P : B → Type 0) → ((x : A) (y : B) → Q x → R x y → P y) → (xs : List A) (ys : List B) → All Q xs → AllZip R xs ys → All P ys
 zip-all R Q P so [] [] each all = λ k d inside. absurd (omega arith)
 zip-all R Q P so [] (y ∷ ys) each all = absurd all
 zip-all R Q P so (x ∷ xs) [] each all = absurd all
@@ -146,7 +146,7 @@ module _ (i : Input) (t : TakenTrack) (link : TrackLink) (is : IsLinkOf i t link
       ∙ ap (λ (file : FileId). made f (placing_for (later_by (read_in i)) t) t.track.number i.scale file.n link.outline.value) is.file
       ∙ ap (made f (placing_for (later_by (read_in i)) t) t.track.number i.scale i.file.n) is.outline
 
-  link-given : (f : LiveFiles) → given_in f (Track link) ≡ given_for (later_by (read_in i)) (events_in (read_in i) (octets_in f i.file.n)) t
+  pub link-given : (f : LiveFiles) → given_in f (Track link) ≡ given_for (later_by (read_in i)) (events_in (read_in i) (octets_in f i.file.n)) t
   unfolding made
   link-given f = made-same f
 
@@ -158,7 +158,7 @@ module _ (i : Input) (t : TakenTrack) (link : TrackLink) (is : IsLinkOf i t link
         prefix = is.short;
       }
 
-  link-open : (f : LiveFiles) → IsInput f i → IsOpenLink f (Track link)
+  pub link-open : (f : LiveFiles) → IsInput f i → IsOpenLink f (Track link)
   link-open f good =
       let some = good.scale in
       record {
@@ -167,7 +167,7 @@ module _ (i : Input) (t : TakenTrack) (link : TrackLink) (is : IsLinkOf i t link
         scale = omega (arith, is.scale);
       }
 
-  link-told : (f : LiveFiles) → f.content i.file.n ≡ Some (octets_in f i.file.n) → IsToldLink f (Track link)
+  pub link-told : (f : LiveFiles) → f.content i.file.n ≡ Some (octets_in f i.file.n) → IsToldLink f (Track link)
   link-told f told = ap (λ (file : FileId). f.content file.n) is.file ∙ told ∙ ap (λ (file : FileId). Some (octets_in f file.n)) (sym is.file)
 
   link-apart : (holder : ℕ → List ℕ) (names : List (List ℕ)) → AreOthers (holder i.file.n) names → IsApartLink holder names (Track link)

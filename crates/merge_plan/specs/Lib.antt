@@ -4,6 +4,7 @@ pub mod Appending
 pub mod Records
 pub mod Plan
 pub mod Front
+pub mod Places
 pub mod Spots
 pub mod Webm
 pub mod Refusal

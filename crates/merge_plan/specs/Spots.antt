@@ -63,9 +63,16 @@ pub record IsLinkOf (i : Input) (t : TakenTrack) (link : TrackLink) : Type 0 whe
   pub prefix : link.prefix ≡ prefix_of t.track.entry
   pub short : length link.prefix ≤ MOST_OF_PREFIX
 
+abbrev pub IsLink : Input → TakenTrack → Link → Type 0
+IsLink i t (Track link) = IsLinkOf i t link
+IsLink i t (Entries text) = ⊥
+
 abbrev pub IsLinkAt : Spot → Link → Type 0
-IsLinkAt s (Track link) = IsLinkOf s.input s.track link
-IsLinkAt s (Entries text) = ⊥
+IsLinkAt s link = IsLink s.input s.track link
+
+-- These links are the tracks that are taken of an input.
+abbrev pub AreLinksOf : Input → List Link → Type 0
+AreLinksOf i links = AllZip (IsLink i) i.taken links
 
 -- blocks get a cue point by the rule of the track that begins the lane
 abbrev pub rule_at : List Spot → CueRule

@@ -15,5 +15,6 @@ mod webm;
 
 pub use appending::{AppendDiffers, append_refusal};
 pub use plan::plan_of;
+pub use planned_lanes::links_of;
 pub use refusal::{PlanEnd, PlanRefusal};
 pub use webm::is_webm_codec;

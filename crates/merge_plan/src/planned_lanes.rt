@@ -6,7 +6,7 @@ ghost use Rattle.track_format.specs.Encoding.{prefix_of};
 ghost use Rattle.output_model.specs.declared.TheConstants.{MOST_OF_PREFIX};
 ghost use Rattle.merge_inputs.specs.Taken.{IsTaken};
 ghost use Rattle.merge_plan.specs.Plan.{rule_of, usual_rule};
-ghost use Rattle.merge_plan.specs.Spots.{AreLanesOf, GoesOn, HasTaken, IsLaneOf, IsLinkOf, goes_on, spot, spots_at, spots_behind};
+ghost use Rattle.merge_plan.specs.Spots.{AreLanesOf, AreLinksOf, GoesOn, HasTaken, IsLaneOf, IsLinkOf, goes_on, spot, spots_at, spots_behind};
 
 use crate::entries::tracks_begun;
 use cluster_runs::CueRule;
@@ -70,6 +70,18 @@ fn link_of(alloc: Global, input: &Input, taken: &TakenTrack) -> Result<TrackLink
         shift: input.shift.unwrap_or(0),
         prefix: prefix_of(alloc, taken)?,
     })
+}
+
+/// The tracks that are taken of an input as links.
+pub fn links_of(alloc: Global, input: &Input) -> Result<List<Link>, AllocError>
+    requires { HasTaken input.now }
+    ensures { IfOk result (AreLinksOf input.now) }
+{
+    let mut links = List::new(alloc);
+    for taken in input.taken.as_slice() {
+        links.push(Link::Track(link_of(alloc, input, taken)?))?;
+    }
+    Ok(links)
 }
 
 /// The inputs at the front of these that are appended to the one before them.
