@@ -1,0 +1,140 @@
+-- Inputs are set in place, one after the other.
+use Rattle.std.proofs.Common.{◌≡◌, ◌≤◌, ◌<◌, ℕ, zero, suc, ◌+◌, ◌*◌, ◌-◌, List, [], ◌∷◌, ◌++◌, length, map, Option, Some, None, refl, sym, ap, ap₂, subst, ◌∙◌, arith, append_assoc, append-nil, length-append}
+use Rattle.std.specs.Prelude.{slice_get}
+use Rattle.std.specs.List.{All, sum_by}
+use Rattle.std.specs.Option.{option_map, option_map_or, unwrap_or}
+use Rattle.std.proofs.lemmas.List.{map-append}
+use Rattle.std.proofs.lemmas.List.Elements.{All-head, All-nil, All-push, All-tail}
+use Rattle.std.proofs.lemmas.List.Sums.{sum_by-append, sum_by-cons}
+use Rattle.mkv_values.specs.declared.outside.FileId.{FileId}
+use Rattle.mkv_io.specs.LiveFiles.{LiveFiles}
+use Rattle.lane_blocks.specs.Links.{octets_in}
+use Rattle.merge_model.specs.declared.limits.TheConstants.{MOST_LINKS, MOST_SHIFT}
+use Rattle.file_survey.specs.declared.found.TheConstants.{MOST_END}
+use Rattle.merge_inputs.specs.Input.{IsInput, read_in}
+use Rattle.merge_inputs.specs.declared.input.Input.{Input}
+use Rattle.merge_plan.specs.Places.{begun_at, end_of, in_place, in_place_from}
+use Rattle.merge_plan.specs.Plan.{Source, later_by}
+use Rattle.merge_plan.specs.Planned.{IsToldInput, source_in}
+use Rattle.merge_plan.specs.Spots.{HasPlace}
+use Rattle.appended_inputs.specs.Behind.{end_behind, last_in, most_behind, size_behind}
+use Rattle.appended_inputs.specs.Placed.{ArePlaced, StandInPlace, inputs_length}
+
+-- ---- the last of some inputs
+
+last-push : (inputs : List Input) (i : Input) → last_in (inputs ++ i ∷ []) ≡ Some i
+last-push inputs i = ap (λ (n : ℕ). slice_get (inputs ++ i ∷ []) (n - 1)) (length-append inputs (i ∷ [])) ∙ ap (slice_get (inputs ++ i ∷ [])) (plus (length inputs)) ∙ at inputs
+  where
+    plus : (n : ℕ) → n + 1 - 1 ≡ n
+    plus n = omega arith
+
+    at : (xs : List Input) → slice_get (xs ++ i ∷ []) (length xs) ≡ Some i
+    at [] = refl
+    at (x ∷ xs) = at xs
+
+-- what it says of one behind it
+behind-push : (of : Input → ℕ) (inputs : List Input) (i : Input) → option_map_or of (last_in (inputs ++ i ∷ [])) 0 ≡ of i
+behind-push of inputs i = ap (λ (o : Option Input). option_map_or of o 0) (last-push inputs i)
+
+-- ---- one input
+
+-- an input that is later by so much
+abbrev pub moved : Option ℕ → Input → Input
+moved shift i = record i { shift = shift }
+
+moved-good : (f : LiveFiles) (shift : Option ℕ) (i : Input) → IsInput f i → IsInput f (moved shift i)
+moved-good f shift i is = record {
+  live = is.live;
+  size = is.size;
+  scale = is.scale;
+  taken = is.taken;
+  attachments = is.attachments;
+  chapters = is.chapters;
+  tags = is.tags;
+}
+
+-- ---- input after input
+
+-- These were set in place, and those are left of all.
+pub record GoesOn (f : LiveFiles) (inputs placed left : List Input) : Type 0 where
+  pub good : All (IsInput f) placed
+  pub rest : All (IsInput f) left
+  pub files : map (λ (i : Input). i.file) placed ++ map (λ (i : Input). i.file) left ≡ map (λ (i : Input). i.file) inputs
+  pub many : length placed + length left ≡ length inputs
+  pub places : All HasPlace placed
+  pub near : most_behind placed ≤ length placed * MOST_END
+  pub long : inputs_length f placed + inputs_length f left ≡ inputs_length f inputs
+  pub told : All (IsToldInput f) inputs → All (IsToldInput f) placed × All (IsToldInput f) left
+  pub exact : All (IsToldInput f) inputs → map (source_in f) placed ++ in_place_from (end_behind f placed) (map (source_in f) left) ≡ in_place (map (source_in f) inputs)
+
+pub goes-begin : (f : LiveFiles) (inputs : List Input) → All (IsInput f) inputs → GoesOn f inputs [] inputs
+goes-begin f inputs good = record {
+  good = All-nil (IsInput f);
+  rest = good;
+  files = refl;
+  many = omega arith;
+  places = All-nil HasPlace;
+  near = omega arith;
+  long = omega arith;
+  told = λ told. (All-nil (IsToldInput f), told);
+  exact = λ told. refl;
+}
+
+module _ (f : LiveFiles) (inputs placed new left rest : List Input) (i : Input) (shift : Option ℕ) (goes : GoesOn f inputs placed left) (next : left ≡ i ∷ rest)
+    (near : unwrap_or shift 0 ≤ most_behind placed) (behind : All (IsToldInput f) placed → shift ≡ option_map (λ _. end_behind f placed) i.shift) (put : new ≡ placed ++ moved shift i ∷ []) where
+  one : Input
+  one = moved shift i
+
+  pub goes-more : length inputs ≤ MOST_LINKS → GoesOn f inputs new rest
+  goes-more few = subst (λ (ps : List Input). GoesOn f inputs ps rest) (sym put) (record {
+    good = All-push (IsInput f) placed (moved shift i) goes.good (moved-good f shift i (All-head (IsInput f) i rest (subst (All (IsInput f)) next goes.rest)));
+    rest = All-tail (IsInput f) i rest (subst (All (IsInput f)) next goes.rest);
+    files =
+        ap (λ (l : List FileId). l ++ map (λ (each : Input). each.file) rest) (map-append (λ (each : Input). each.file) placed (moved shift i ∷ []))
+        ∙ append_assoc (map (λ (each : Input). each.file) placed) (i.file ∷ []) (map (λ (each : Input). each.file) rest)
+        ∙ ap (λ (l : List Input). map (λ (each : Input). each.file) placed ++ map (λ (each : Input). each.file) l) (sym next)
+        ∙ goes.files;
+    many = omega (arith, length-append placed (moved shift i ∷ []), ap length next, goes.many);
+    places = All-push HasPlace placed (moved shift i) goes.places place;
+    near = omega (arith, length-append placed (moved shift i ∷ []), behind-push (λ (each : Input). later_by (read_in each) + MOST_END) placed (moved shift i), near, goes.near);
+    long = omega (arith, sum_by-append (λ (each : Input). f.size each.file.n) placed (moved shift i ∷ []), sum_by-cons (λ (each : Input). f.size each.file.n) i rest, ap (inputs_length f) next, goes.long);
+    told = λ told.
+        let before = goes.told told in
+        let after = subst (All (IsToldInput f)) next before.1 in
+        (All-push (IsToldInput f) placed (moved shift i) before.0 (All-head (IsToldInput f) i rest after), All-tail (IsToldInput f) i rest after);
+    exact = λ told.
+        let before = goes.told told in
+        let is : source_in f (moved shift i) ≡ begun_at (end_behind f placed) (source_in f i) = ap (λ (o : Option ℕ). source_in f (moved o i)) (behind before.0) in
+        ap₂ (λ (l : List Source) (n : ℕ). l ++ in_place_from n (map (source_in f) rest)) (map-append (source_in f) placed (moved shift i ∷ [])) (behind-push (λ (each : Input). end_of (source_in f each)) placed (moved shift i))
+        ∙ append_assoc (map (source_in f) placed) (source_in f (moved shift i) ∷ []) (in_place_from (end_of (source_in f (moved shift i))) (map (source_in f) rest))
+        ∙ ap (λ (s : Source). map (source_in f) placed ++ (s ∷ in_place_from (end_of s) (map (source_in f) rest))) is
+        ∙ ap (λ (l : List Input). map (source_in f) placed ++ in_place_from (end_behind f placed) (map (source_in f) l)) (sym next)
+        ∙ goes.exact told;
+  })
+    where
+      place : HasPlace (moved shift i)
+      place = omega (arith, near, goes.near, goes.many, ap length next)
+
+  -- what is read of the last but one is paid by the lengths
+  pub goes-paid : (start mid now : ℕ) → mid + 6 * size_behind f placed ≤ start + 6 * inputs_length f placed → now ≤ mid + 6 * size_behind f placed → now + 6 * size_behind f new ≤ start + 6 * inputs_length f new
+  goes-paid start mid now before more =
+      subst (λ (ps : List Input). now + 6 * size_behind f ps ≤ start + 6 * inputs_length f ps) (sym put)
+      (omega (arith, behind-push (λ (each : Input). f.size each.file.n) placed (moved shift i), sum_by-append (λ (each : Input). f.size each.file.n) placed (moved shift i ∷ []), sum_by-cons (λ (each : Input). f.size each.file.n) (moved shift i) []))
+
+-- at the end all are set
+pub goes-end : (f : LiveFiles) (inputs placed left : List Input) → GoesOn f inputs placed left → left ≡ [] → ArePlaced f inputs placed
+goes-end f inputs placed left goes none = record {
+  good = goes.good;
+  files = sym (append-nil (map (λ (i : Input). i.file) placed)) ∙ ap (λ (l : List Input). map (λ (i : Input). i.file) placed ++ map (λ (i : Input). i.file) l) (sym none) ∙ goes.files;
+  places = goes.places;
+}
+
+pub goes-exact : (f : LiveFiles) (inputs placed left : List Input) → GoesOn f inputs placed left → left ≡ [] → StandInPlace f inputs placed
+goes-exact f inputs placed left goes none told =
+    sym (append-nil (map (source_in f) placed))
+    ∙ ap (λ (l : List Input). map (source_in f) placed ++ in_place_from (end_behind f placed) (map (source_in f) l)) (sym none)
+    ∙ goes.exact told
+
+-- what was read so far is within what may be read of all
+pub goes-within : (f : LiveFiles) (inputs placed left : List Input) (start mid now : ℕ) → GoesOn f inputs placed left → mid + 6 * size_behind f placed ≤ start + 6 * inputs_length f placed → now ≤ mid + 6 * size_behind f placed → now ≤ start + 6 * inputs_length f inputs
+goes-within f inputs placed left start mid now goes before more = omega (arith, goes.long)

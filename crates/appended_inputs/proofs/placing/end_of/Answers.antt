@@ -1,0 +1,34 @@
+-- The links of an input are walked over.
+use Rattle.std.proofs.Common.{ℕ, ◌+◌, ◌∙◌, ap, arith}
+use Rattle.mkv_io.specs.Sources.{live_files}
+use Rattle.merge_model.specs.Ends.{file_end}
+use Rattle.merge_inputs.specs.Input.{read_in}
+use Rattle.merge_plan.specs.Plan.{later_by}
+use Rattle.appended_inputs.proofs.LinkLemmas.{links-given, links-length, links-one, links-open, links-timed, links-told}
+use Rattle.appended_inputs.proofs.placing.end_of.Goals as goal
+
+pub survey-requires-clause-open : goal.survey-requires-clause-open
+survey-requires-clause-open g c = links-open c.args.input.now c.in_ok-links.links c.in_ok-links.ensures (live_files g.R.Reads c.args.src.now) c.requires.input
+
+pub survey-requires-clause-timed : goal.survey-requires-clause-timed
+survey-requires-clause-timed g c = links-timed c.args.input.now c.in_ok-links.links c.in_ok-links.ensures c.requires.input.taken c.requires.place
+
+pub survey-requires-clause-one : goal.survey-requires-clause-one
+survey-requires-clause-one g c = links-one c.args.input.now c.in_ok-links.links c.in_ok-links.ensures c.requires.input.taken
+
+pub returns-clause-exact : goal.returns-clause-exact
+returns-clause-exact g c = λ told.
+    let f = live_files g.R.Reads c.args.src.now in
+    let i = c.args.input.now in
+    let links = c.in_ok-links.links in
+    let are = c.in_ok-links.ensures in
+    ap (λ (n : ℕ). n + c.in_ok-found.found.end) c.unwrap_or.ensures
+    ∙ ap (λ (n : ℕ). later_by (read_in i) + n) ((c.in_ok-found.ensures.value (links-told i links are f c.requires.input.taken told)).end ∙ ap file_end (links-given i links are f))
+
+pub returns-clause-octets : goal.returns-clause-octets
+returns-clause-octets g c =
+    omega (arith, c.survey.ensures.octets, links-length c.args.input.now c.in_ok-links.links c.in_ok-links.ensures (live_files g.R.Reads c.args.src.now) c.requires.input.taken)
+
+pub returns-in_err-found-clause-octets : goal.returns-in_err-found-clause-octets
+returns-in_err-found-clause-octets g c =
+    omega (arith, c.survey.ensures.octets, links-length c.args.input.now c.in_ok-links.links c.in_ok-links.ensures (live_files g.R.Reads c.args.src.now) c.requires.input.taken)

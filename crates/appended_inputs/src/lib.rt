@@ -1,0 +1,7 @@
+#![tactic(auto)]
+
+//! Where the appended inputs of a merge begin: each where the one before it ends, which a walk over that one's file finds.
+
+mod placing;
+
+pub use placing::set_in_place;
