@@ -6,7 +6,7 @@ use Rattle.matroska_format.specs.declared.element.Header.{Header}
 use Rattle.sidecar_format.specs.declared.recovery.Mark.{Mark}
 use Rattle.mkv_lines.specs.Shown.{damage_text, element_text, level_0_name, level_1_name, mark_text, place_text, shown_text, track_text}
 use Rattle.mkv_lines.specs.declared.line.Line.{Line}
-use Rattle.mkv_lines.specs.declared.line.Line.TheVariants.{Level0, Level1, Track, Refused, Warned, MoreDamages, NoTrack, NoAttachment, NoExtractor, Missing, PendingEdit, OutputIsInput, NoLane, TooManyLanes, NotWebm, TooLarge, Wrote, WroteBlocks, Recovered, NothingToRecover, BadSidecar, Foreign, Word, FilesFault}
+use Rattle.mkv_lines.specs.declared.line.Line.TheVariants.{Level0, Level1, Track, Refused, Warned, MoreDamages, NoTrack, NoAttachment, NoExtractor, Missing, PendingEdit, OutputIsInput, AppendDiffers, NoLane, TooManyLanes, NotWebm, TooLarge, Wrote, WroteBlocks, Recovered, NothingToRecover, BadSidecar, Foreign, Word, FilesFault}
 
 -- an Element at the top of a file
 abbrev pub level_0_line : Header → List ℕ
@@ -59,6 +59,10 @@ pending_edit_line name = codes "error: " ++ (shown_text name ++ codes ": Pending
 -- an output that has the name of the file that it would be made of
 abbrev pub output_is_input_line : List ℕ → List ℕ
 output_is_input_line name = codes "error: " ++ (shown_text name ++ codes ": OutputIsInput")
+
+-- an appended input whose tracks differ from those of the input before it
+abbrev pub append_differs_line : List ℕ → ℕ → List ℕ
+append_differs_line name id = codes "error: " ++ (shown_text name ++ (codes ": " ++ (codes "AppendDiffers" ++ element_text id)))
 
 -- an output that would have no lane, or too many
 abbrev pub no_lane_line : List ℕ
@@ -131,6 +135,7 @@ text_of (NoExtractor name number) = no_extractor_line name.now number
 text_of (Missing name) = missing_line name.now
 text_of (PendingEdit name) = pending_edit_line name.now
 text_of (OutputIsInput name) = output_is_input_line name.now
+text_of (AppendDiffers name id) = append_differs_line name.now id
 text_of NoLane = no_lane_line
 text_of TooManyLanes = too_many_lanes_line
 text_of (NotWebm codec) = not_webm_line codec.now

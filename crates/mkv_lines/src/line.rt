@@ -60,6 +60,11 @@ pub enum Line<'a> {
     OutputIsInput {
         name: &'a str,
     },
+    /// The tracks of an appended input differ in the Element of this ID from those of the input before it.
+    AppendDiffers {
+        name: &'a str,
+        id: u32,
+    },
     /// No track is taken.
     NoLane,
     /// More tracks are taken than an output may have.
@@ -163,6 +168,10 @@ impl fmt::Display for Line<'_> {
             Line::OutputIsInput { name } => {
                 let name = ShownText(name);
                 write!(f, "error: {name}: OutputIsInput")
+            }
+            Line::AppendDiffers { name, id } => {
+                let (name, why, element) = (ShownText(name), "AppendDiffers", ShownElement(id));
+                write!(f, "error: {name}: {why}{element}")
             }
             Line::NoLane => f.write_str("error: NoLane"),
             Line::TooManyLanes => f.write_str("error: TooManyLanes"),

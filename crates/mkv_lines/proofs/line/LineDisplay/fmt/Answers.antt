@@ -3,6 +3,10 @@ use Rattle.std.proofs.Output.{has_written_of_eq}
 use Rattle.mkv_lines.specs.Line.{text_of}
 use Rattle.mkv_lines.proofs.line.LineDisplay.fmt.Goals as goal
 
+pub returns-in-AppendDiffers-clause-writes : goal.returns-in-AppendDiffers-clause-writes
+returns-in-AppendDiffers-clause-writes g c = λ plain ok.
+    has_written_of_eq _ _ _ _ _ (ap text_of (sym c.in-AppendDiffers.is)) (c.write-in-AppendDiffers.ensures.writes plain ok)
+
 pub returns-in-TooLarge-clause-writes : goal.returns-in-TooLarge-clause-writes
 returns-in-TooLarge-clause-writes g c = λ plain ok.
     has_written_of_eq _ _ _ _ _ (ap text_of (sym c.in-TooLarge.is)) (c.write-in-TooLarge.ensures.writes plain ok)
