@@ -1,28 +1,41 @@
--- What is read of inputs one after the other.
+-- What is read of inputs one after the other, and what they come to.
 use Rattle.std.proofs.Common.{◌≡◌, ℕ, zero, suc, ◌+◌, ◌*◌, ◌<◌, ◌≤◌, Bool, true, false, if◌then◌else◌, List, [], ◌∷◌, ◌++◌, length, take, drop, get_or, map, Option, Some, None, Result, Ok, Err, refl, sym, ◌∙◌, ap, arith, append_assoc}
-use Rattle.std.specs.List.{zip}
-use Rattle.std.specs.Option.{unwrap_or}
+use Rattle.std.specs.List.{All, AllByRecursion, sum_by, zip}
+use Rattle.std.specs.Option.{option_map, unwrap_or}
 use Rattle.std.proofs.Math.Seq.{take-suc}
 use Rattle.std.proofs.lemmas.List.{append-nil, length-map, map-append}
-use Rattle.std.proofs.lemmas.List.Sums.{sum_by-take-le, sum_by_more}
+use Rattle.std.proofs.lemmas.List.Elements.{All-from_recursion}
+use Rattle.std.proofs.lemmas.List.Sums.{sum_by-cons, sum_by-take-le, sum_by_more}
 use Rattle.mkv_values.specs.declared.outside.FileId.{FileId}
 use Rattle.mkv_io.specs.Faults.{counted}
 use Rattle.mkv_io.specs.LiveFiles.{LiveFiles}
 use Rattle.mkv_io.specs.Told.{Told}
 use Rattle.input_files.specs.Inputs as files
+use Rattle.lane_blocks.specs.Links.{octets_in}
 use Rattle.merge_words.specs.declared.files.FileWords.{FileWords}
 use Rattle.merge_words.specs.declared.output.MergeWords.{MergeWords}
 use Rattle.merge_inputs.specs.Input.{InputRead, IsReadOf, input_of, read_in}
 use Rattle.merge_inputs.specs.declared.input.Input.{Input}
-use Rattle.merge_plan.specs.Plan.{later_by}
+use Rattle.merge_plan.specs.Appending.{append_refusal}
+use Rattle.merge_plan.specs.Front.{reads_of}
+use Rattle.merge_plan.specs.Places.{in_place}
+use Rattle.merge_plan.specs.Plan.{Source, later_by}
+use Rattle.merge_plan.specs.Planned.{source_in}
+use Rattle.merge_plan.specs.Refusal.{plan_refusal}
 use Rattle.merge_plan.specs.Spots.{HasPlace}
+use Rattle.merge_plan.specs.declared.appending.AppendDiffers.{AppendDiffers}
+use Rattle.merge_plan.specs.declared.refusal.PlanRefusal.{PlanRefusal}
+use Rattle.merge_plan.proofs.FileLemmas.{reads-in}
+use Rattle.appended_inputs.specs.Placed.{StandInPlace, inputs_length}
 use Rattle.mkv_merge.specs.Bound.{files_size}
-use Rattle.mkv_merge.specs.Prepared.{AreTold, ReadsAs, reads_in}
+use Rattle.mkv_merge.specs.Merge.{sources_read, sources_with, unless_refused}
+use Rattle.mkv_merge.specs.Prepared.{AreTold, ReadsAs, reads_in, sources_from}
 use Rattle.mkv_merge.specs.Read.{inputs_from, inputs_of, numbered}
-use Rattle.mkv_merge.specs.Refused.{and_then}
+use Rattle.mkv_merge.specs.Refused.{and_then, unless}
 use Rattle.mkv_merge.specs.declared.refusal.MergeEnd.{MergeEnd}
 use Rattle.mkv_merge.specs.declared.refusal.MergeEnd.TheVariants.{Refused, Stopped}
 use Rattle.mkv_merge.specs.declared.refusal.Refusal.{Refusal}
+use Rattle.mkv_merge.specs.declared.refusal.Refusal.TheVariants.{Differs, Plan}
 
 -- ---- a file and its content
 
@@ -133,3 +146,82 @@ pays-more f list k file start mid now size below is before more =
 -- the first files are no longer than all
 pub pays-all : (f : LiveFiles) (list : List FileId) (k start now : ℕ) → now ≤ start + 24 * files_size f (take k list) → now ≤ start + 24 * files_size f list
 pays-all f list k start now paid = omega (arith, sum_by-take-le (λ (each : FileId). f.size each.n) list k)
+
+-- ---- inputs whose files are told
+
+-- the contents of the files of inputs
+contents-are : (f : LiveFiles) (inputs : List Input) → files.contents_of f.content (map (λ (i : Input). i.file) inputs) ≡ map (λ (i : Input). f.content i.file.n) inputs
+contents-are f [] = refl
+contents-are f (i ∷ is) = ap (λ (rest : List (Option (List ℕ))). f.content i.file.n ∷ rest) (contents-are f is)
+
+pub sources-told : (f : LiveFiles) (inputs : List Input) (contents : List (List ℕ)) → map (λ (i : Input). f.content i.file.n) inputs ≡ map Some contents → map (source_in f) inputs ≡ zip contents (reads_in inputs)
+sources-told f [] [] told = refl
+sources-told f [] (bytes ∷ contents) told = absurd (cc)
+sources-told f (i ∷ is) [] told = absurd (cc)
+sources-told f (i ∷ is) (bytes ∷ contents) told =
+    let here : f.content i.file.n ≡ Some bytes = cc in
+    let behind : map (λ (i : Input). f.content i.file.n) is ≡ map Some contents = cc in
+    ap (λ (o : Option (List ℕ)). (unwrap_or o [], read_in i) ∷ map (source_in f) is) here
+    ∙ ap (λ (rest : List Source). (bytes, read_in i) ∷ rest) (sources-told f is contents behind)
+
+pub each-told : (f : LiveFiles) (inputs : List Input) (contents : List (List ℕ)) → map (λ (i : Input). f.content i.file.n) inputs ≡ map Some contents → All (λ (i : Input). f.content i.file.n ≡ Some (octets_in f i.file.n)) inputs
+each-told f inputs contents told = All-from_recursion (λ (i : Input). f.content i.file.n ≡ Some (octets_in f i.file.n)) inputs (each inputs contents told)
+  where
+    each : (inputs : List Input) (contents : List (List ℕ)) → map (λ (i : Input). f.content i.file.n) inputs ≡ map Some contents → AllByRecursion (λ (i : Input). f.content i.file.n ≡ Some (octets_in f i.file.n)) inputs
+    each [] contents told = tt
+    each (i ∷ is) [] told = absurd (cc)
+    each (i ∷ is) (bytes ∷ contents) told =
+        let here : f.content i.file.n ≡ Some bytes = cc in
+        let behind : map (λ (i : Input). f.content i.file.n) is ≡ map Some contents = cc in
+        (here ∙ sym (ap (λ (o : Option (List ℕ)). Some (unwrap_or o [])) here), each is contents behind)
+
+pub told-contents : (f : LiveFiles) (ids : List FileId) (contents : List (List ℕ)) (inputs : List Input) → map (λ (i : Input). i.file) inputs ≡ ids → AreTold f ids contents → map (λ (i : Input). f.content i.file.n) inputs ≡ map Some contents
+told-contents f ids contents inputs of told = sym (contents-are f inputs) ∙ ap (files.contents_of f.content) of ∙ told
+
+-- the inputs together are as long as their files
+pub inputs-size : (f : LiveFiles) (inputs : List Input) → sum_by (λ (i : Input). f.size i.file.n) inputs ≡ files_size f (map (λ (i : Input). i.file) inputs)
+inputs-size f [] = refl
+inputs-size f (i ∷ is) =
+    sum_by-cons (λ (each : Input). f.size each.file.n) i is ∙ ap (λ (n : ℕ). f.size i.file.n + n) (inputs-size f is)
+    ∙ sym (sum_by-cons (λ (file : FileId). f.size file.n) i.file (map (λ (each : Input). each.file) is))
+
+-- ---- what the inputs come to
+
+module _ (words : MergeWords) (contents : List (List ℕ)) (reads : List InputRead) (read : inputs_of words contents ≡ Ok reads) where
+  -- what tells of those that can't
+  found-differs : (o : Option AppendDiffers) → append_refusal reads ≡ o → sources_read words contents ≡ and_then (unless (option_map Differs o) reads) (λ rs. Ok (in_place (zip contents rs)))
+  found-differs o is =
+      ap (λ (r : Result (List InputRead) Refusal). and_then r (λ rs. and_then (unless (option_map Differs (append_refusal rs)) rs) (λ each. Ok (in_place (zip contents each))))) read
+      ∙ ap (λ (d : Option AppendDiffers). and_then (unless (option_map Differs d) reads) (λ rs. Ok (in_place (zip contents rs)))) is
+
+  -- one of them can't
+  pub reads-differ : (d : AppendDiffers) → append_refusal reads ≡ Some d → sources_read words contents ≡ Err (Differs d)
+  reads-differ d is = found-differs (Some d) is
+
+  pub reads-alike : append_refusal reads ≡ None → sources_read words contents ≡ Ok (in_place (zip contents reads))
+  reads-alike is = found-differs None is
+
+-- inputs that were set in place
+pub reads-placed : (f : LiveFiles) (words : MergeWords) (ids : List FileId) (contents : List (List ℕ)) (inputs placed : List Input) → map (λ (i : Input). i.file) inputs ≡ ids → map (λ (i : Input). i.file) placed ≡ map (λ (i : Input). i.file) inputs
+    → AreTold f ids contents → inputs_of words contents ≡ Ok (reads_in inputs) → append_refusal (reads_in inputs) ≡ None → StandInPlace f inputs placed → sources_read words contents ≡ Ok (sources_from contents placed)
+reads-placed f words ids contents inputs placed of same told read none stand =
+    let before = told-contents f ids contents inputs of told in
+    reads-alike words contents (reads_in inputs) read none
+    ∙ ap (λ (sources : List Source). Ok (in_place sources)) (sym (sources-told f inputs contents before))
+    ∙ ap (λ (sources : List Source). Ok sources) (sym (stand (each-told f inputs contents before)) ∙ sources-told f placed contents (told-contents f ids contents placed (same ∙ of) told))
+
+-- what refuses the plan of inputs is what refuses that of their sources
+pub reads-planned : (f : LiveFiles) (words : MergeWords) (ids : List FileId) (contents : List (List ℕ)) (inputs : List Input) (o : Option PlanRefusal) → map (λ (i : Input). i.file) inputs ≡ ids → AreTold f ids contents
+    → sources_read words contents ≡ Ok (sources_from contents inputs) → plan_refusal words (reads_in inputs) ≡ o → sources_with words contents ≡ unless (option_map Plan o) (sources_from contents inputs)
+reads-planned f words ids contents inputs o of told read is =
+    let reads : reads_of (sources_from contents inputs) ≡ reads_in inputs = ap reads_of (sym (sources-told f inputs contents (told-contents f ids contents inputs of told))) ∙ reads-in f inputs in
+    ap (λ (r : Result (List Source) Refusal). and_then r (unless_refused words)) read
+    ∙ ap (λ (p : Option PlanRefusal). unless (option_map Plan p) (sources_from contents inputs)) (ap (plan_refusal words) reads ∙ is)
+
+-- ---- how much is read before the blocks
+
+-- inputs are read, and then walked over
+pub pays-both : (f : LiveFiles) (ids : List FileId) (inputs : List Input) (start mid now : ℕ) → map (λ (i : Input). i.file) inputs ≡ ids → mid ≤ start + 24 * files_size f ids → now ≤ mid + 6 * inputs_length f inputs → now ≤ start + 30 * files_size f ids
+pays-both f ids inputs start mid now of read walked =
+    let long : inputs_length f inputs ≡ files_size f ids = inputs-size f inputs ∙ ap (files_size f) of in
+    omega (arith, long)

@@ -80,6 +80,7 @@ use Rattle.mkv_merge.specs.Told.{is_warned, warnings_from}
 use Rattle.mkv_merge.specs.declared.preparing.Prepared.{Prepared}
 use Rattle.mkv_merge.specs.declared.refusal.Refusal.{Refusal}
 use Rattle.mkv_merge.proofs.NamesLemmas.{others-held}
+use Rattle.mkv_merge.proofs.PreparingLemmas.{each-told, inputs-size, sources-told, told-contents}
 use Rattle.mkv_merge.proofs.SummaryLemmas.{AreLanesFor, Tells, damages-are, past-damages, some-told, warnings-told}
 
 -- ---- what is asked of the plan
@@ -153,40 +154,11 @@ plan-good {S = S} r f files words ids p sound opened apart prepared =
 
 -- ---- its files are told
 
--- the contents of the files of inputs
-contents-are : (f : LiveFiles) (inputs : List Input) → files.contents_of f.content (map (λ (i : Input). i.file) inputs) ≡ map (λ (i : Input). f.content i.file.n) inputs
-contents-are f [] = refl
-contents-are f (i ∷ is) = ap (λ (rest : List (Option (List ℕ))). f.content i.file.n ∷ rest) (contents-are f is)
-
-sources-told : (f : LiveFiles) (inputs : List Input) (contents : List (List ℕ)) → map (λ (i : Input). f.content i.file.n) inputs ≡ map Some contents → map (source_in f) inputs ≡ zip contents (reads_in inputs)
-sources-told f [] [] told = refl
-sources-told f [] (bytes ∷ contents) told = absurd (cc)
-sources-told f (i ∷ is) [] told = absurd (cc)
-sources-told f (i ∷ is) (bytes ∷ contents) told =
-    let here : f.content i.file.n ≡ Some bytes = cc in
-    let behind : map (λ (i : Input). f.content i.file.n) is ≡ map Some contents = cc in
-    ap (λ (o : Option (List ℕ)). (unwrap_or o [], read_in i) ∷ map (source_in f) is) here
-    ∙ ap (λ (rest : List Source). (bytes, read_in i) ∷ rest) (sources-told f is contents behind)
-
-each-told : (f : LiveFiles) (inputs : List Input) (contents : List (List ℕ)) → map (λ (i : Input). f.content i.file.n) inputs ≡ map Some contents → All (λ (i : Input). f.content i.file.n ≡ Some (octets_in f i.file.n)) inputs
-each-told f inputs contents told = All-from_recursion (λ (i : Input). f.content i.file.n ≡ Some (octets_in f i.file.n)) inputs (each inputs contents told)
-  where
-    each : (inputs : List Input) (contents : List (List ℕ)) → map (λ (i : Input). f.content i.file.n) inputs ≡ map Some contents → AllByRecursion (λ (i : Input). f.content i.file.n ≡ Some (octets_in f i.file.n)) inputs
-    each [] contents told = tt
-    each (i ∷ is) [] told = absurd (cc)
-    each (i ∷ is) (bytes ∷ contents) told =
-        let here : f.content i.file.n ≡ Some bytes = cc in
-        let behind : map (λ (i : Input). f.content i.file.n) is ≡ map Some contents = cc in
-        (here ∙ sym (ap (λ (o : Option (List ℕ)). Some (unwrap_or o [])) here), each is contents behind)
-
-told-contents : (f : LiveFiles) (ids : List FileId) (contents : List (List ℕ)) (inputs : List Input) → AreInputsOf f ids inputs → AreTold f ids contents → map (λ (i : Input). f.content i.file.n) inputs ≡ map Some contents
-told-contents f ids contents inputs are told = sym (contents-are f inputs) ∙ ap (files.contents_of f.content) are.of ∙ told
-
 -- the files of the links
 pub plan-told : (f : LiveFiles) (words : MergeWords) (ids : List FileId) (contents : List (List ℕ)) (p : Prepared) → IsPrepared f words ids p → AreTold f ids contents → IsToldPlan f p.plan
 plan-told f words ids contents p prepared told =
     All-unmap (All (IsToldLink f)) (λ (l : PlannedLane). l.spec.links) p.plan.lanes
-    (prepared.written.told f (each-told f p.inputs contents (told-contents f ids contents p.inputs prepared.inputs told)))
+    (prepared.written.told f (each-told f p.inputs contents (told-contents f ids contents p.inputs prepared.inputs.of told)))
 
 -- ---- the plan is that of the sources
 
@@ -200,9 +172,9 @@ pub record IsMergeOf (f : LiveFiles) (words : MergeWords) (inputs : List Input) 
 pub merge-is : (f : LiveFiles) (words : MergeWords) (ids : List FileId) (contents : List (List ℕ)) (p : Prepared) → IsPrepared f words ids p → AreTold f ids contents → length p.inputs ≡ length words.files → IsMergeOf f words p.inputs p.plan (zip contents (reads_in p.inputs))
 merge-is f words ids contents p prepared told many = record {
   plan = prepared.plan;
-  from = sources-told f p.inputs contents (told-contents f ids contents p.inputs prepared.inputs told);
+  from = sources-told f p.inputs contents (told-contents f ids contents p.inputs prepared.inputs.of told);
   many = sym many;
-  told = each-told f p.inputs contents (told-contents f ids contents p.inputs prepared.inputs told);
+  told = each-told f p.inputs contents (told-contents f ids contents p.inputs prepared.inputs.of told);
 }
 
 -- what was read of the sources
@@ -272,13 +244,6 @@ records-none found why r is = subst (λ (o : Result (List Source) Refusal). Ends
     of (Err stop) = tt
 
 -- ---- how much is read
-
--- the inputs together are as long as their files
-inputs-size : (f : LiveFiles) (inputs : List Input) → sum_by (λ (i : Input). f.size i.file.n) inputs ≡ files_size f (map (λ (i : Input). i.file) inputs)
-inputs-size f [] = refl
-inputs-size f (i ∷ is) =
-    sum_by-cons (λ (each : Input). f.size each.file.n) i is ∙ ap (λ (n : ℕ). f.size i.file.n + n) (inputs-size f is)
-    ∙ sym (sum_by-cons (λ (file : FileId). f.size file.n) i.file (map (λ (each : Input). each.file) is))
 
 -- a lane reads the file of each input at most once
 pub lengths-within : (f : LiveFiles) (words : MergeWords) (ids : List FileId) (p : Prepared) → IsPrepared f words ids p → inputs_length f p.plan ≤ length p.plan.lanes * files_size f ids

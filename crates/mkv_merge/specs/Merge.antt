@@ -1,7 +1,7 @@
 -- What `merge` comes to.
 use Rattle.std.specs.Prelude.{ℕ, ◌==◌, nat_le, Bool, true, false, ◌||◌, if◌then◌else◌, List, [], ◌∷◌, ◌++◌, length, map, filter, flat_map, Option, Some, None, Result, Ok, Err}
 use Rattle.std.specs.List.{enumerate_from, find, list_any, range_with_len, zip}
-use Rattle.std.specs.Option.{option_map_or}
+use Rattle.std.specs.Option.{option_map, option_map_or}
 use Rattle.mkv_values.specs.declared.damage.Damage.{Damage}
 use Rattle.mkv_io.specs.Faults.{counted}
 use Rattle.cluster_reader.specs.ToldDamages.{ToldDamages, told_damages}
@@ -15,9 +15,10 @@ use Rattle.cues_seekhead.specs.Draft.{draft_of}
 use Rattle.merge_words.specs.declared.files.FileWords.{FileWords}
 use Rattle.merge_words.specs.declared.output.MergeWords.{MergeWords}
 use Rattle.merge_inputs.specs.Input.{InputRead}
-use Rattle.merge_plan.specs.declared.refusal.PlanRefusal.{PlanRefusal}
+use Rattle.merge_plan.specs.Appending.{append_refusal}
 use Rattle.merge_plan.specs.Plan.{Source, inputs_given, lanes_given, limits_of, rules_given}
 use Rattle.merge_plan.specs.Front.{front_of, reads_of}
+use Rattle.merge_plan.specs.Places.{in_place}
 use Rattle.merge_plan.specs.Records.{chapters_of, tags_of}
 use Rattle.merge_plan.specs.Refusal.{plan_refusal}
 use Rattle.mkv_lines.specs.Line.{damage_lines, no_track_line, wrote_blocks_line}
@@ -27,20 +28,25 @@ use Rattle.mkv_lines.specs.declared.status.Status.TheVariants.{Done, Warned}
 use Rattle.mkv_merge.specs.Read.{contents_of, inputs_of, pending_of, writes_input}
 use Rattle.mkv_merge.specs.Refused.{and_then, line_of, unless}
 use Rattle.mkv_merge.specs.declared.refusal.Refusal.{Refusal}
-use Rattle.mkv_merge.specs.declared.refusal.Refusal.TheVariants.{OutputIsInput, Plan}
+use Rattle.mkv_merge.specs.declared.refusal.Refusal.TheVariants.{Differs, OutputIsInput, Plan}
 
 -- ---- the sources
 
-abbrev pub unless_refused : Option PlanRefusal → List InputRead → Result (List InputRead) Refusal
-unless_refused None reads = Ok reads
-unless_refused (Some why) reads = Err (Plan why)
-
--- the sources of a merge whose inputs have these contents, or what refuses them: what is read of each, and what they come to
-abbrev pub sources_with : MergeWords → List (List ℕ) → Result (List Source) Refusal
-sources_with words contents =
+-- the sources of a merge whose inputs have these contents, each that is appended in its place; or what refuses them before they
+-- are planned: what is read of each, and then one whose tracks can't go on in the lanes of the one before it
+abbrev pub sources_read : MergeWords → List (List ℕ) → Result (List Source) Refusal
+sources_read words contents =
     and_then (inputs_of words contents) (λ reads.
-    and_then (unless_refused (plan_refusal words reads) reads) (λ taken.
-    Ok (zip contents taken)))
+    and_then (unless (option_map Differs (append_refusal reads)) reads) (λ alike.
+    Ok (in_place (zip contents alike))))
+
+-- sources, unless what they come to is refused
+abbrev pub unless_refused : MergeWords → List Source → Result (List Source) Refusal
+unless_refused words sources = unless (option_map Plan (plan_refusal words (reads_of sources))) sources
+
+-- the sources of a merge whose inputs have these contents, or what refuses them
+abbrev pub sources_with : MergeWords → List (List ℕ) → Result (List Source) Refusal
+sources_with words contents = and_then (sources_read words contents) (unless_refused words)
 
 -- the same, unless an edit of one of the files is pending
 abbrev pub sources_settled : (List ℕ → Option (List ℕ)) → MergeWords → List (List ℕ) → Result (List Source) Refusal

@@ -7,9 +7,10 @@ use Rattle.input_files.specs.Inputs as files
 use Rattle.merge_words.specs.declared.output.MergeWords.{MergeWords}
 use Rattle.merge_inputs.specs.Input.{InputRead, IsInput, read_in}
 use Rattle.merge_inputs.specs.declared.input.Input.{Input}
+use Rattle.merge_plan.specs.Plan.{Source}
 use Rattle.merge_plan.specs.Planned.{CanBeWritten, IsPlanOf}
 use Rattle.merge_plan.specs.Spots.{HasPlace}
-use Rattle.mkv_merge.specs.Merge.{sources_with}
+use Rattle.mkv_merge.specs.Merge.{sources_read, sources_with}
 use Rattle.mkv_merge.specs.declared.preparing.Prepared.{Prepared}
 use Rattle.mkv_merge.specs.declared.refusal.MergeEnd.{MergeEnd}
 use Rattle.mkv_merge.specs.declared.refusal.MergeEnd.TheVariants.{Refused, Stopped}
@@ -28,6 +29,10 @@ ReadsAs shown found (Err (Stopped stop)) = ⊤
 abbrev pub reads_in : List Input → List InputRead
 reads_in inputs = map read_in inputs
 
+-- the sources of inputs that have these contents
+abbrev pub sources_from : List (List ℕ) → List Input → List Source
+sources_from contents inputs = zip contents (reads_in inputs)
+
 -- The inputs are those of these files, none later than a lane's link may be.
 pub record AreInputsOf (f : LiveFiles) (list : List FileId) (inputs : List Input) : Type 0 where
   pub good : All (IsInput f) inputs
@@ -40,6 +45,10 @@ pub record IsPrepared (f : LiveFiles) (words : MergeWords) (list : List FileId) 
   pub plan : IsPlanOf words p.inputs p.plan
   pub written : CanBeWritten p.inputs p.plan
 
+-- The inputs are those of a merge, each in its place, where they have these contents.
+abbrev pub ReadsInPlace : MergeWords → List (List ℕ) → Result (List Input) MergeEnd → Type 0
+ReadsInPlace words contents result = ReadsAs (sources_from contents) (sources_read words contents) result
+
 -- the sources of a merge that was prepared, where its inputs have these contents
 abbrev pub Prepares : MergeWords → List (List ℕ) → Result Prepared MergeEnd → Type 0
-Prepares words contents result = ReadsAs (λ (p : Prepared). zip contents (reads_in p.inputs)) (sources_with words contents) result
+Prepares words contents result = ReadsAs (λ (p : Prepared). sources_from contents p.inputs) (sources_with words contents) result

@@ -8,9 +8,9 @@ use Rattle.merge_inputs.specs.declared.input.InputRefusal.{InputRefusal}
 use Rattle.merge_inputs.specs.declared.input.InputRefusal.TheVariants.{Damaged}
 use Rattle.merge_plan.specs.declared.refusal.PlanRefusal.{PlanRefusal}
 use Rattle.merge_plan.specs.declared.refusal.PlanRefusal.TheVariants.{NoLane, TooManyLanes, NotWebm, HeaderTooLarge}
-use Rattle.mkv_lines.specs.Line.{missing_line, no_lane_line, not_webm_line, output_is_input_line, pending_edit_line, refusal_line, too_large_line, too_many_lanes_line}
+use Rattle.mkv_lines.specs.Line.{append_differs_line, missing_line, no_lane_line, not_webm_line, output_is_input_line, pending_edit_line, refusal_line, too_large_line, too_many_lanes_line}
 use Rattle.mkv_merge.specs.declared.refusal.Refusal.{Refusal}
-use Rattle.mkv_merge.specs.declared.refusal.Refusal.TheVariants.{OutputIsInput, Missing, PendingInput, PendingOutput, Input, Plan}
+use Rattle.mkv_merge.specs.declared.refusal.Refusal.TheVariants.{OutputIsInput, Missing, PendingInput, PendingOutput, Input, Differs, Plan}
 
 -- ---- one step after the other
 
@@ -46,4 +46,5 @@ line_of words (Missing input) = missing_line (name_of words input)
 line_of words (PendingInput input) = pending_edit_line (name_of words input)
 line_of words PendingOutput = pending_edit_line words.output
 line_of words (Input input why) = input_line (name_of words input) why
+line_of words (Differs d) = append_differs_line (name_of words d.input) d.id
 line_of words (Plan why) = plan_line words.output why

@@ -5,7 +5,7 @@ ghost use Rattle.mkv_values.specs.declared.outside.ReadEnd.TheVariants as read_e
 ghost use Rattle.mkv_merge.specs.declared.refusal.MergeEnd.TheVariants as merge_end;
 
 use merge_inputs::InputRefusal;
-use merge_plan::PlanRefusal;
+use merge_plan::{AppendDiffers, PlanRefusal};
 use mkv_values::ReadEnd;
 use std::alloc::AllocError;
 
@@ -22,6 +22,8 @@ pub enum Refusal {
     PendingOutput,
     /// This input isn't taken.
     Input { input: usize, why: InputRefusal },
+    /// The tracks of this appended input can't go on in those of the one before it.
+    Differs(AppendDiffers),
     /// The inputs make no output.
     Plan(PlanRefusal),
 }
@@ -38,5 +40,13 @@ impl From<AllocError> for MergeEnd {
 
     fn from(_error: AllocError) -> MergeEnd {
         MergeEnd::Stopped(ReadEnd::Memory)
+    }
+}
+
+impl From<ReadEnd> for MergeEnd {
+    ghost from_gives = { λ why end. end ≡ merge_end.Stopped why };
+
+    fn from(why: ReadEnd) -> MergeEnd {
+        MergeEnd::Stopped(why)
     }
 }

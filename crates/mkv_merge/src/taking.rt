@@ -6,11 +6,11 @@ ghost use Rattle.mkv_merge.specs.Takes.{is_plain, takes};
 
 use merge_words::{FileWords, MergeWords};
 
-/// Whether a file stands beside the others, and its times are its own.
+/// Whether the times of a file are its own.
 fn is_plain(file: &FileWords) -> bool
     ensures { result ≡ is_plain file.now }
 {
-    !file.appended && file.times.is_empty()
+    file.times.is_empty()
 }
 
 /// Whether all files are so.

@@ -67,6 +67,10 @@ fn line_of<'a>(words: &'a MergeWords, why: &'a Refusal) -> Line<'a>
         },
         Refusal::PendingOutput => Line::PendingEdit { name: output },
         Refusal::Input { input, why } => input_line(name_of(words, *input), why),
+        Refusal::Differs(differs) => Line::AppendDiffers {
+            name: name_of(words, differs.input),
+            id: differs.id,
+        },
         Refusal::Plan(why) => plan_line(output, why),
     }
 }
