@@ -1,6 +1,7 @@
 mod TreeLemmas
 mod EntryLemmas
 mod TracksLemmas
+mod PlaceLemmas
 mod SourceLemmas
 mod LaneLemmas
 mod DocumentLemmas

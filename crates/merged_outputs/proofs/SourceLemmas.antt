@@ -5,6 +5,7 @@ use Rattle.std.specs.Option.{option_map, option_map_or}
 use Rattle.std.specs.Str.{IsUtf8, is_utf8}
 use Rattle.std.proofs.lemmas.List.{length-map}
 use Rattle.std.proofs.lemmas.List.Elements.{All-nil, All-cons, All-head, All-tail, All-append, All-map}
+use Rattle.std.proofs.lemmas.Slice.Zip.{length-zip}
 use Rattle.std.proofs.lemmas.Str.{IsUtf8-nil, IsUtf8-from_is_utf8}
 use Rattle.ebml_format.specs.Number.{AreOctets}
 use Rattle.ebml_format.proofs.SpelledLemmas.{AreOctets-take, AreOctets-drop}
@@ -53,18 +54,21 @@ use Rattle.merge_inputs.specs.declared.taken.TakenTrack.{TakenTrack}
 use Rattle.merge_inputs.specs.declared.input.InputRefusal.{InputRefusal}
 use Rattle.merge_inputs.specs.declared.input.InputRefusal.TheVariants.{Damaged}
 use Rattle.merge_inputs.proofs.TakenLemmas.{AreTaken-read, taken-tracks}
+use Rattle.merge_plan.specs.Appending.{append_refusal}
 use Rattle.merge_plan.specs.Front.{reads_of}
+use Rattle.merge_plan.specs.Places.{in_place}
 use Rattle.merge_plan.specs.Plan.{Source}
 use Rattle.merge_plan.specs.Refusal.{plan_refusal}
 use Rattle.merge_plan.specs.declared.refusal.PlanRefusal.{PlanRefusal}
 use Rattle.mkv_merge.specs.Merge as merge
-use Rattle.mkv_merge.specs.Merge.{sources_of, sources_settled, sources_with}
+use Rattle.mkv_merge.specs.Merge.{sources_of, sources_read, sources_settled, sources_with}
 use Rattle.mkv_merge.specs.Read.{contents_of, inputs_from, inputs_of, numbered, pending_of, unless_missing, writes_input}
 use Rattle.mkv_merge.specs.Refused as refused
 use Rattle.mkv_merge.specs.declared.refusal.Refusal.{Refusal}
-use Rattle.mkv_merge.specs.declared.refusal.Refusal.TheVariants.{OutputIsInput}
+use Rattle.mkv_merge.specs.declared.refusal.Refusal.TheVariants.{Differs, OutputIsInput, Plan}
 use Rattle.merge_words.specs.Texts.{HasTexts, AreTexts}
 use Rattle.merged_outputs.specs.Sources.{HoldsOctets, IsReadSource, AreSources}
+use Rattle.merged_outputs.proofs.PlaceLemmas.{placed-read}
 use Rattle.merged_outputs.proofs.TreeLemmas.{HasChildrenRead, tree_of-children, entries-octets, uid-small, IsOfOctets}
 
 -- ---- an Element that was read as a tree
@@ -253,16 +257,12 @@ numbered-ok : (k : ℕ) (found : Result InputRead InputRefusal) (read : InputRea
 numbered-ok k (Ok one) read is = ap (λ (i : InputRead). Ok i) (cc)
 numbered-ok k (Err why) read is = absurd (cc)
 
--- What is read of files with these contents.
-record AreInputsRead (contents : List (List ℕ)) (reads : List InputRead) : Type 0 where
-  each : All IsReadSource (zip contents reads)
-  all : reads_of (zip contents reads) ≡ reads
-
+-- what is read of files with these contents
 inputs-read : (webm : Bool) (k held : ℕ) (files : List FileWords) (contents : List (List ℕ)) (reads : List InputRead) → length contents ≡ length files → All AreOctets contents → All IsSoundFile files → All HasTexts files
-    → inputs_from webm k held (zip files contents) ≡ Ok reads → AreInputsRead contents reads
+    → inputs_from webm k held (zip files contents) ≡ Ok reads → All IsReadSource (zip contents reads)
 inputs-read webm k held [] [] reads same octets sound has is =
     let none : [] ≡ reads = cc in
-    subst (AreInputsRead []) none (record { each = All-nil IsReadSource; all = refl })
+    subst (λ (rs : List InputRead). All IsReadSource (zip [] rs)) none (All-nil IsReadSource)
 inputs-read webm k held [] (c ∷ cs) reads same octets sound has is = absurd (omega arith)
 inputs-read webm k held (f ∷ fs) [] reads same octets sound has is = absurd (omega arith)
 inputs-read webm k held (f ∷ fs) (c ∷ cs) reads same octets sound has is =
@@ -272,7 +272,7 @@ inputs-read webm k held (f ∷ fs) (c ∷ cs) reads same octets sound has is =
     let made : read ∷ others.0 ≡ reads = (let last = others.1.1 in cc) in
     let own = input-read f webm held c read (All-head AreOctets c cs octets) (All-head IsSoundFile f fs sound) (All-head HasTexts f fs has) (numbered-ok k (input_of f webm held c) read first.1.0) in
     let rest = inputs-read webm (suc k) (counted held read.held) fs cs others.0 (omega arith) (All-tail AreOctets c cs octets) (All-tail IsSoundFile f fs sound) (All-tail HasTexts f fs has) others.1.0 in
-    subst (AreInputsRead (c ∷ cs)) made (record { each = All-cons IsReadSource (c, read) (zip cs others.0) own rest.each; all = ap (λ l. read ∷ l) rest.all })
+    subst (λ (rs : List InputRead). All IsReadSource (zip (c ∷ cs) rs)) made (All-cons IsReadSource (c, read) (zip cs others.0) own rest)
 
 -- ---- the sources
 
@@ -289,20 +289,33 @@ there-ok : (missing : Option ℕ) (contents all : List (List ℕ)) → unless_mi
 there-ok None contents all is = cc
 there-ok (Some input) contents all is = absurd (cc)
 
-planned-ok : (why : Option PlanRefusal) (reads taken : List InputRead) → merge.unless_refused why reads ≡ Ok taken → (why ≡ None) × (reads ≡ taken)
-planned-ok None reads taken is = (refl, cc)
-planned-ok (Some why) reads taken is = absurd (cc)
+no-refusal : (why : Option Refusal) (sources found : List Source) → refused.unless why sources ≡ Ok found → (why ≡ None) × (sources ≡ found)
+no-refusal None sources found is = (refl, cc)
+no-refusal (Some why) sources found is = absurd (cc)
+
+unplanned : (why : Option PlanRefusal) → option_map Plan why ≡ None → why ≡ None
+unplanned None is = refl
+unplanned (Some why) is = absurd (cc)
+
+all-alike : (why : Option Refusal) (reads alike : List InputRead) → refused.unless why reads ≡ Ok alike → reads ≡ alike
+all-alike None reads alike is = cc
+all-alike (Some why) reads alike is = absurd (cc)
 
 module _ (words : MergeWords) (sources : List Source) (sound : IsSoundMerge words) (texts : AreTexts words) where
   with-contents : (contents : List (List ℕ)) → length contents ≡ length words.files → All AreOctets contents → sources_with words contents ≡ Ok sources → AreSources words sources
   with-contents contents same octets is =
-      let inputs = then-ok (inputs_of words contents) _ sources is in
+      let planned = then-ok (sources_read words contents) (merge.unless_refused words) sources is in
+      let good = no-refusal (option_map Plan (plan_refusal words (reads_of planned.0))) planned.0 sources planned.1.1 in
+      let inputs = then-ok (inputs_of words contents) _ planned.0 planned.1.0 in
       let reads : List InputRead = inputs.0 in
-      let plan = then-ok (merge.unless_refused (plan_refusal words reads) reads) _ sources inputs.1.1 in
-      let good = planned-ok (plan_refusal words reads) reads plan.0 plan.1.0 in
+      let alike = then-ok (refused.unless (option_map Differs (append_refusal reads)) reads) _ planned.0 inputs.1.1 in
       let read = inputs-read words.webm 0 0 words.files contents reads same octets sound.each texts.files inputs.1.0 in
-      let made : zip contents reads ≡ sources = ap (zip contents) good.1 ∙ (let last = plan.1.1 in cc) in
-      subst (AreSources words) made (record { each = read.each; unrefused = ap (plan_refusal words) read.all ∙ good.0 })
+      let made : in_place (zip contents alike.0) ≡ planned.0 = (let last = alike.1.1 in cc) in
+      let placed : in_place (zip contents reads) ≡ sources = ap (λ (rs : List InputRead). in_place (zip contents rs)) (all-alike (option_map Differs (append_refusal reads)) reads alike.0 alike.1.0) ∙ made ∙ good.1 in
+      record {
+        each = subst (All IsReadSource) placed (placed-read (zip contents reads) (omega (arith, length-zip contents reads, same, sound.files.most)) read);
+        unrefused = ap (λ (each : List Source). plan_refusal words (reads_of each)) (sym good.1) ∙ unplanned (plan_refusal words (reads_of planned.0)) good.0;
+      }
 
   settled-ok : (why : Option Refusal) (contents : List (List ℕ)) → refused.and_then (refused.unless why contents) (sources_with words) ≡ Ok sources → sources_with words contents ≡ Ok sources
   settled-ok None contents is = is
