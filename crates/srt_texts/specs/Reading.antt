@@ -36,9 +36,13 @@ abbrev pub left : Option Head → ℕ
 left None = 0
 left (Some h) = 1 + length h.rest.now
 
--- At most so many entries, each of which ends within 10,000 hours.
+-- An entry ends within 10,000 hours, and its text has at most so many octets.
+abbrev pub IsEntryWithin : ℕ → Entry → Type 0
+IsEntryWithin most e = (e.start + e.duration < latest) × (length e.text ≤ most)
+
+-- At most so many entries, each with at most so many octets of text.
 abbrev pub AreWithin : ℕ → List Entry → Type 0
-AreWithin most es = (length es ≤ most) × All (λ (e : Entry). e.start + e.duration < latest) es
+AreWithin most es = (length es ≤ most) × All (IsEntryWithin most) es
 
 -- so many line feeds
 abbrev pub breaks : ℕ → List ℕ

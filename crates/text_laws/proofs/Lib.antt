@@ -4,4 +4,3 @@ pub mod ChaptersLemmas
 pub mod PartsLemmas
 pub mod ArrowLemmas
 pub mod SubRipLemmas
-pub mod LengthLemmas

@@ -1,4 +1,3 @@
 pub mod Plain
 pub mod Chapters
 pub mod SubRip
-pub mod Lengths

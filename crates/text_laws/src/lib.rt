@@ -1,9 +1,8 @@
 #![tactic(auto)]
 
-//! What is written of texts is read back, and how long a text is that is read. No code that reads or writes stands on this crate.
+//! What is written of texts is read back. No code that reads or writes stands on this crate.
 
 ghost use Rattle.text_laws.specs.Chapters.{ChaptersAreReadBack};
-ghost use Rattle.text_laws.specs.Lengths.{TextsAreNoLonger};
 ghost use Rattle.text_laws.specs.SubRip.{EntriesAreReadBack};
 
 /// What `put_srt` writes of entries is read back as these entries.
@@ -14,9 +13,4 @@ pub fn entries_are_read_back()
 /// What `put_pair` writes of chapters is read back as these chapters.
 pub fn chapters_are_read_back()
     ensures { ChaptersAreReadBack }
-{}
-
-/// No text of a SubRip file is longer than the file.
-pub fn texts_are_no_longer()
-    ensures { TextsAreNoLonger }
 {}

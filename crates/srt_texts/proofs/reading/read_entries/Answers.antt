@@ -1,9 +1,12 @@
-use Rattle.std.proofs.Common.{arith, ◌≡◌, ◌++◌, ◌∷◌, append_assoc, ◌-◌, ◌+◌, ◌<◌, List, [], None, Some, length}
+use Rattle.std.proofs.Common.{arith, ◌≡◌, ◌++◌, ◌∷◌, append_assoc, ◌-◌, ◌+◌, ◌<◌, List, [], None, Some, length, ◌≤◌, All, subst}
 use Rattle.std.proofs.lemmas.Grind.{common_steps}
 use Rattle.std.proofs.lemmas.List.Elements.{All-push}
 use Rattle.text_entries.specs.declared.Entry.{Entry}
+use Rattle.text_lines.specs.Lines.{lines_of}
 use Rattle.srt_texts.specs.Times.{latest}
+use Rattle.srt_texts.specs.Srt.{entries}
 use Rattle.srt_texts.specs.Reading.{entries_at}
+use Rattle.srt_texts.proofs.LengthLemmas.{texts_short}
 use Rattle.srt_texts.proofs.SrtLemmas.{left_less, room_within}
 use Rattle.srt_texts.proofs.reading.read_entries.Goals as goal
 
@@ -20,6 +23,15 @@ pub returns-clause-good : goal.returns-clause-good
 returns-clause-good c =
     let none : c.loop-next.next ≡ None = c.in_default.is in
     rw none at c.loop-next.invariant.bad
+
+pub returns-clause-within : goal.returns-clause-within
+returns-clause-within c =
+    let none : c.loop-next.next ≡ None = c.in_default.is in
+    let same = rw none at c.loop-next.invariant.same in
+    let few = rw none at c.loop-next.invariant.few in
+    let is : entries (lines_of c.args.bytes.now) ≡ c.loop-next.list.items = cc (same, no_more c.loop-next.list.items) in
+    let short = subst (All (λ (e : Entry). length e.text ≤ length c.args.bytes.now)) is (texts_short c.args.bytes.now) in
+    (omega arith, λ k d below. (c.loop-next.invariant.ends k d below, short k d below))
 
 pub loop-next-preserved : goal.loop-next-preserved
 loop-next-preserved c =

@@ -1,4 +1,4 @@
-use Rattle.std.proofs.Common.{arith, ◌≡◌, ◌+◌, ◌<◌, ℕ, List, [], Err, rules, refl}
+use Rattle.std.proofs.Common.{arith, ◌≡◌, ℕ, List, [], Err, length, rules, refl}
 use Rattle.std.proofs.lemmas.List.Sorted.{answers_always, IsNonDecreasingBy-from_sort_by_key, All-permutation}
 use Rattle.text_entries.specs.declared.Entry.{Entry}
 use Rattle.text_lines.specs.Lines.{lines_of}
@@ -6,7 +6,7 @@ use Rattle.srt_texts.specs.Srt.{srt, first_bad, Front, sorted_by}
 use Rattle.text_lines.specs.declared.end.TextEnd.{TextEnd}
 use Rattle.text_lines.specs.declared.end.TextEnd.TheVariants as text_end
 use Rattle.text_lines.specs.Ends.{Blames, Reads}
-use Rattle.srt_texts.specs.Times.{latest}
+use Rattle.srt_texts.specs.Reading.{IsEntryWithin}
 use Rattle.srt_texts.proofs.SortLemmas.{stable_sorted}
 use Rattle.srt_texts.proofs.reading.read_srt.Goals as goal
 
@@ -37,4 +37,4 @@ returns-in-Ok-sort_by_key-clause-within c =
     let moved = c.in-Ok-sort_by_key.ensures.permutation in
     let same = c.in-Ok-sort_by_key.ensures.len in
     let few = within.0 in
-    rw c.from_vec.ensures (omega arith, All-permutation (λ (e : Entry). e.start + e.duration < latest) c.in-Ok.list.items c.sort_by_key.new.self.items moved within.1)
+    rw c.from_vec.ensures (omega arith, All-permutation (IsEntryWithin (length c.args.bytes.now)) c.in-Ok.list.items c.sort_by_key.new.self.items moved within.1)

