@@ -1,0 +1,2 @@
+pub mod TextFile
+pub mod ChapterFile
