@@ -26,3 +26,11 @@ returns-in-NoExtractor-clause-writes g c = λ plain ok.
 pub returns-in-Missing-clause-writes : goal.returns-in-Missing-clause-writes
 returns-in-Missing-clause-writes g c = λ plain ok.
     has_written_of_eq _ _ _ _ _ (ap text_of (sym c.in-Missing.is)) (c.write-in-Missing.ensures.writes plain ok)
+
+pub returns-in-BadText-clause-writes : goal.returns-in-BadText-clause-writes
+returns-in-BadText-clause-writes g c = λ plain ok.
+    has_written_of_eq _ _ _ _ _ (ap text_of (sym c.in-BadText.is)) (c.write-in-BadText.ensures.writes plain ok)
+
+pub returns-in-TextTooLarge-clause-writes : goal.returns-in-TextTooLarge-clause-writes
+returns-in-TextTooLarge-clause-writes g c = λ plain ok.
+    has_written_of_eq _ _ _ _ _ (ap text_of (sym c.in-TextTooLarge.is)) (c.write-in-TextTooLarge.ensures.writes plain ok)
