@@ -10,6 +10,7 @@ use Rattle.merge_inputs.specs.declared.input.Input.{Input}
 use Rattle.merge_plan.specs.Plan.{Source}
 use Rattle.merge_plan.specs.Planned.{CanBeWritten, IsPlanOf}
 use Rattle.merge_plan.specs.Spots.{HasPlace}
+use Rattle.text_files.specs.declared.chapter_file.ChapterFile.{ChapterFile}
 use Rattle.mkv_merge.specs.Merge.{sources_read, sources_with}
 use Rattle.mkv_merge.specs.declared.preparing.Prepared.{Prepared}
 use Rattle.mkv_merge.specs.declared.refusal.MergeEnd.{MergeEnd}
@@ -46,9 +47,9 @@ pub record IsPrepared (f : LiveFiles) (words : MergeWords) (list : List FileId) 
   pub written : CanBeWritten p.inputs p.plan
 
 -- The inputs are those of a merge, each in its place, where they have these contents.
-abbrev pub ReadsInPlace : MergeWords → List (List ℕ) → Result (List Input) MergeEnd → Type 0
-ReadsInPlace words contents result = ReadsAs (sources_from contents) (sources_read words contents) result
+abbrev pub ReadsInPlace : MergeWords → ChapterFile → List (List ℕ) → Result (List Input) MergeEnd → Type 0
+ReadsInPlace words chapters contents result = ReadsAs (sources_from contents) (sources_read words chapters contents) result
 
 -- the sources of a merge that was prepared, where its inputs have these contents
-abbrev pub Prepares : MergeWords → List (List ℕ) → Result Prepared MergeEnd → Type 0
-Prepares words contents result = ReadsAs (λ (p : Prepared). sources_from contents p.inputs) (sources_with words contents) result
+abbrev pub Prepares : MergeWords → ChapterFile → List (List ℕ) → Result Prepared MergeEnd → Type 0
+Prepares words chapters contents result = ReadsAs (λ (p : Prepared). sources_from contents p.inputs) (sources_with words chapters contents) result
