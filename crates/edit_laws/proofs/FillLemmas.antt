@@ -139,9 +139,9 @@ filled new at room e can some short within held =
           voids = v.void ∷ [];
           elements = All-cons IsElement e (v.void ∷ []) can.own (All-cons IsElement v.void [] v.element (All-nil IsElement));
           held = subst (HoldsAt new at) (sym (joined-two e v.void))
-          (ap (octets_between new at) (let end : at + length (octets_of e ++ octets_of v.void) ≡ at + room = omega arith in end)
-          ∙ between-split new at (at + length (octets_of e)) (at + room) (omega arith) (omega arith)
-          ∙ ap₂ (λ x y. x ++ y) first (ap (octets_between new (at + length (octets_of e))) (let end : at + room ≡ at + length (octets_of e) + length (octets_of v.void) = omega arith in end) ∙ v.held));
+              (ap (octets_between new at) (let end : at + length (octets_of e ++ octets_of v.void) ≡ at + room = omega arith in end)
+              ∙ between-split new at (at + length (octets_of e)) (at + room) (omega arith) (omega arith)
+              ∙ ap₂ (λ x y. x ++ y) first (ap (octets_between new (at + length (octets_of e))) (let end : at + room ≡ at + length (octets_of e) + length (octets_of v.void) = omega arith in end) ∙ v.held));
           len = ap (λ (l : List ℕ). length l) (joined-two e v.void) ∙ both;
           are = All-cons (λ (d : Element). d.id ≡ VOID) v.void [] v.id (All-nil (λ (d : Element). d.id ≡ VOID));
           is = inl (refl, refl, omega arith);
@@ -185,22 +185,22 @@ small-widen id body valid short =
         elim (cases_lt w 2) [
           | inl one ↦ inl (omega arith)
           | inr two ↦ inr (elim (cases_lt w 3) [
+            | inl is ↦ inl (omega arith)
+            | inr three ↦ inr (elim (cases_lt w 4) [
               | inl is ↦ inl (omega arith)
-              | inr three ↦ inr (elim (cases_lt w 4) [
-                  | inl is ↦ inl (omega arith)
-                  | inr four ↦ inr (omega arith)
-                ])
+              | inr four ↦ inr (omega arith)
             ])
+          ])
         ]
 
     more : (w : ℕ) → 1 ≤ w → w ≤ 4 → length body < all_ones w → length body < all_ones (w + 1)
     more w some few fits = elim (cases-few w some few) [
       | inl one ↦ subst (λ k. length body < all_ones (k + 1)) (sym one) (let small : length body < all_ones 1 = subst (λ k. length body < all_ones k) one fits in omega arith)
       | inr rest ↦ elim rest [
-          | inl two ↦ subst (λ k. length body < all_ones (k + 1)) (sym two) (let small : length body < all_ones 2 = subst (λ k. length body < all_ones k) two fits in omega arith)
-          | inr others ↦ elim others [
-              | inl three ↦ subst (λ k. length body < all_ones (k + 1)) (sym three) (let small : length body < all_ones 3 = subst (λ k. length body < all_ones k) three fits in omega arith)
-              | inr four ↦ subst (λ k. length body < all_ones (k + 1)) (sym four) (omega arith)
-            ]
+        | inl two ↦ subst (λ k. length body < all_ones (k + 1)) (sym two) (let small : length body < all_ones 2 = subst (λ k. length body < all_ones k) two fits in omega arith)
+        | inr others ↦ elim others [
+          | inl three ↦ subst (λ k. length body < all_ones (k + 1)) (sym three) (let small : length body < all_ones 3 = subst (λ k. length body < all_ones k) three fits in omega arith)
+          | inr four ↦ subst (λ k. length body < all_ones (k + 1)) (sym four) (omega arith)
         ]
+      ]
     ]

@@ -37,9 +37,10 @@ read_size may_open octets total p e h id (Err (fault.More n)) id_is is found = a
 read_size may_open octets total p e h id (Err fault.Bad) id_is is found = absurd (cc)
 read_size may_open octets total p e h id (Ok size) id_is is found =
     let made : Header = record { id = id.id; offset = p; body = p + id.len + size.len; size = size.size } in
-    let sound = sound-body made h (body_damage (outside may_open) total e made) found in
-    (record { id = id; size = size; id_is = id_is; size_is = is; made = sym sound.0 },
-    ap (λ k. body_damage (outside may_open) total e k) (sym sound.0) ∙ sound.1)
+    let sound = sound-body made h (body_damage (outside may_open) total e made) found in (
+      record { id = id; size = size; id_is = id_is; size_is = is; made = sym sound.0 },
+      ap (λ k. body_damage (outside may_open) total e k) (sym sound.0) ∙ sound.1,
+    )
 
 read_id : (may_open : ℕ → Bool) (octets : List ℕ) (total p e : ℕ) (h : Header) (read : Result IdRead NumFault) → id_at octets ≡ read → with_id (outside may_open) octets total p e read ≡ Ok h → Read octets p h × (body_damage (outside may_open) total e h ≡ None)
 read_id may_open octets total p e h (Err fault.Bad) is found = absurd (cc)

@@ -174,7 +174,7 @@ module _ (bytes : List ℕ) (size now_size : Size) (start e now_end last : ℕ) 
         held = f.held;
         within = omega arith;
         goes = All-cons (λ (d : Element). ends_segment now_size d.id ≡ false) f.now f.voids (now-goes name f.is)
-        (All-weaker (λ (d : Element). d.id ≡ VOID) (λ (d : Element). ends_segment now_size d.id ≡ false) (λ d is. ap (ends_segment now_size) is ∙ goes-on now_size VOID void-level) f.voids f.are);
+            (All-weaker (λ (d : Element). d.id ≡ VOID) (λ (d : Element). ends_segment now_size d.id ≡ false) (λ d is. ap (ends_segment now_size) is ∙ goes-on now_size VOID void-level) f.voids f.are);
         voids = f.are;
         stays = of own name f.is;
       }
@@ -245,10 +245,10 @@ module _ (bytes : List ℕ) (size now_size : Size) (start e now_end last : ℕ) 
       let own = header-id i (All-head (IsItem others) i is are) in
       All-cons (λ (o : Spot). o.header ≡ s.header → o ≡ s) _ _ (λ header. same)
       (λ k d below header.
-          let differs = rest_ids k d below in
-          let ids : (get_or (spots is (All-tail (IsItem others) i is are) (All-tail (λ (i : Item). IsOneOf ws (write_of others i)) i is one)) k d).header.id ≡ i.element.id =
-          ap (λ (g : Header). g.id) header ∙ ap (λ (x : Spot). x.header.id) (sym same) ∙ own in
-          absurd (let here : ((get_or (spots is (All-tail (IsItem others) i is are) (All-tail (λ (i : Item). IsOneOf ws (write_of others i)) i is one)) k d).header.id == i.element.id) ≡ true = grind (arith, nat_tests) in cc))
+      let differs = rest_ids k d below in
+      let ids : (get_or (spots is (All-tail (IsItem others) i is are) (All-tail (λ (i : Item). IsOneOf ws (write_of others i)) i is one)) k d).header.id ≡ i.element.id =
+      ap (λ (g : Header). g.id) header ∙ ap (λ (x : Spot). x.header.id) (sym same) ∙ own in
+      absurd (let here : ((get_or (spots is (All-tail (IsItem others) i is are) (All-tail (λ (i : Item). IsOneOf ws (write_of others i)) i is one)) k d).header.id == i.element.id) ≡ true = grind (arith, nat_tests) in cc))
   single-in (i ∷ is) are one distinct s (inr later) =
       let rest_ids = ids-are (λ n. (n == i.element.id) ≡ false) is (All-tail (IsItem others) i is are) (All-tail (λ (i : Item). IsOneOf ws (write_of others i)) i is one) distinct.0 in
       let own = header-id i (All-head (IsItem others) i is are) in
@@ -277,9 +277,9 @@ module _ (bytes : List ℕ) (size now_size : Size) (start e now_end last : ℕ) 
       (λ k begins ends touched. elim (touch k touched) [
         | inl before ↦ (let wrong : ⊥ = omega arith in wrong)
         | inr rest ↦ elim rest [
-            | inl past ↦ (let wrong : ⊥ = omega arith in wrong)
-            | inr inside ↦ none-inside p q k items are one clear begins ends inside
-          ]
+          | inl past ↦ (let wrong : ⊥ = omega arith in wrong)
+          | inr inside ↦ none-inside p q k items are one clear begins ends inside
+        ]
       ])
 
   -- The new content is the old one, but for what is written anew and what stands behind it.

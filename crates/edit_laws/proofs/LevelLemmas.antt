@@ -246,8 +246,8 @@ module _ (t : Edit) (Moves : Type 0) (is : IsEdit t Moves) where
       let here : Stands (new_inner t) p h m = record {
         inside = omega arith;
         found = found-same (λ id. false) (λ id. false) t.old t.new p t.end t.now_end h (omega arith) stands.found (omega arith)
-        (same-part t.old t.new p (stated_end h) p h.body (omega arith) (omega arith) (omega arith) own)
-        (sound-known (λ id. false) (length t.new) t.now_end h known (omega arith) new);
+            (same-part t.old t.new p (stated_end h) p h.body (omega arith) (omega arith) (omega arith) own)
+            (sound-known (λ id. false) (length t.new) t.now_end h known (omega arith) new);
         goes = stands.goes;
         next = ap (λ k. Ok k) (let same_end : min (stated_end h) t.now_end ≡ m = omega arith in same_end);
       } in
@@ -314,7 +314,7 @@ module _ (t : Edit) (Moves : Type 0) (is : IsEdit t Moves) where
       list = headers ++ rest.list;
       end = rest.end;
       run = elements-read in_segment (ends_segment t.now_size) (behind_in_segment t.new t.now_end) t.new (all_now s) s.header.offset t.now_end (Lists-level t.new t.now_size t.now_end) spot.elements spot.goes spot.held spot.within
-      ∙ ap (all_in_front headers) rest.run;
+          ∙ ap (all_in_front headers) rest.run;
       becomes = (rest.list, now s member spot own refl, rest.becomes);
     }
 
@@ -333,8 +333,8 @@ module _ (t : Edit) (Moves : Type 0) (is : IsEdit t Moves) where
           more = [];
           end = s.header.offset;
           held = run-stops (new_inner t) s.header.offset (advances-inner t.new t.now_end)
-          (let inside = spot.inside in let longer = is.longer in omega arith)
-          (ap (λ f. ends_cluster (id_of f)) first-found ∙ ap ends_cluster same ∙ ends);
+              (let inside = spot.inside in let longer = is.longer in omega arith)
+              (ap (λ f. ends_cluster (id_of f)) first-found ∙ ap ends_cluster same ∙ ends);
           none = All-nil HasNoBlock;
           rest = here;
         }
@@ -421,15 +421,19 @@ module _ (t : Edit) (Moves : Type 0) (is : IsEdit t Moves) where
         list = h ∷ rest.list;
         end = rest.end;
         run = run-step (new_level t) p m h (advances-level t.new t.now_size t.now_end)
-        (stands-now m (cond-false (is_unknown h.size) _ (Ok (end_in t.now_end h)) known ∙ ap (λ k. Ok k) (old.ends known ∙ next-is)))
-        ∙ ap (in_front h) rest.run;
-        becomes = (rest.list, kept (record {
-          apart = apart;
-          alike = λ r. known-alike r t.old t.new t.end t.now_end h known (old.ends known) (within t.old is.within) (within t.new (let now = is.now_within in let longer = is.longer in omega arith))
-          (let later = placed.later in let inner = header-inside in subst (λ k. AreSame t.old t.new h.body k) (sym next-is) (same-part t.old t.new p m h.body m (omega arith) inner (omega arith) same));
-          closed = old.closed;
-          held = held;
-        }) refl, rest.becomes);
+            (stands-now m (cond-false (is_unknown h.size) _ (Ok (end_in t.now_end h)) known ∙ ap (λ k. Ok k) (old.ends known ∙ next-is)))
+            ∙ ap (in_front h) rest.run;
+        becomes = (
+          rest.list,
+          kept (record {
+            apart = apart;
+            alike = λ r. known-alike r t.old t.new t.end t.now_end h known (old.ends known) (within t.old is.within) (within t.new (let now = is.now_within in let longer = is.longer in omega arith))
+                (let later = placed.later in let inner = header-inside in subst (λ k. AreSame t.old t.new h.body k) (sym next-is) (same-part t.old t.new p m h.body m (omega arith) inner (omega arith) same));
+            closed = old.closed;
+            held = held;
+          }) refl,
+          rest.becomes,
+        );
       }
         where
           within : (bytes : List ℕ) → t.end ≤ length bytes → end_in t.end h ≤ length bytes
@@ -465,12 +469,16 @@ module _ (t : Edit) (Moves : Type 0) (is : IsEdit t Moves) where
           list = h ∷ further.rest.list;
           end = further.rest.end;
           run = run-step (new_level t) p further.end h (advances-level t.new t.now_size t.now_end) (stands-now further.end next) ∙ ap (in_front h) further.rest.run;
-          becomes = (further.rest.list, kept (record {
-            apart = apart;
-            alike = λ r. open-alike r t.old t.new t.end t.now_end m further.end h children further.more unknown run_is now_run are.held further.none;
-            closed = old.closed;
-            held = λ other. absurd (let known = (whole-known t.old t.size p t.end m h stands other).0 in cc);
-          }) refl, further.rest.becomes);
+          becomes = (
+            further.rest.list,
+            kept (record {
+              apart = apart;
+              alike = λ r. open-alike r t.old t.new t.end t.now_end m further.end h children further.more unknown run_is now_run are.held further.none;
+              closed = old.closed;
+              held = λ other. absurd (let known = (whole-known t.old t.size p t.end m h stands other).0 in cc);
+            }) refl,
+            further.rest.becomes,
+          );
         }
 
     -- a Cluster of unknown size that stands in front of it
@@ -483,7 +491,7 @@ module _ (t : Edit) (Moves : Type 0) (is : IsEdit t Moves) where
           more = [];
           end = p;
           held = run-stops (new_inner t) p (advances-inner t.new t.now_end) (let inside = stands.inside in let longer = is.longer in omega arith)
-          (ap ends_cluster (id-same ((in_segment).may_open) (λ id. false) t.new p t.now_end h found) ∙ ends);
+              (ap ends_cluster (id-same ((in_segment).may_open) (λ id. false) t.new p t.now_end h found) ∙ ends);
           none = All-nil HasNoBlock;
           rest = here;
         }
@@ -559,9 +567,11 @@ module _ (t : Edit) (Moves : Type 0) (is : IsEdit t Moves) where
         let on = step in
         let go = further (end_of s) (inr (s, member, spot, omega arith, omega arith, refl))
         (await-behind p (end_of s) h hs (omega arith) (λ k other below same. let end = single k other below (own ∙ same) in omega arith) awaited) in
-        let here : IsListed t Moves (h ∷ hs) p = subst (IsListed t Moves (h ∷ hs)) same_place (listed-now s member spot h own hs go.0) in
-        (here, λ can. subst (IsInside t Moves (h ∷ hs)) same_place
-        (inside-now s member spot h own hs (listed-now s member spot h own hs go.0) (λ can. go.1 (subst CanGoOn (sym behind) can))))
+        let here : IsListed t Moves (h ∷ hs) p = subst (IsListed t Moves (h ∷ hs)) same_place (listed-now s member spot h own hs go.0) in (
+          here,
+          λ can. subst (IsInside t Moves (h ∷ hs)) same_place
+              (inside-now s member spot h own hs (listed-now s member spot h own hs go.0) (λ can. go.1 (subst CanGoOn (sym behind) can))),
+        )
 
     -- one that isn't
     at-other : m ≤ t.end → All (λ (s : Spot). (s.header.offset == h.offset) ≡ false) t.spots → Goes (h ∷ hs) p p
@@ -634,11 +644,17 @@ module _ (t : Edit) (Moves : Type 0) (is : IsEdit t Moves) where
           let on = step.1 in
           let behind : m ≡ stated_end h = omega arith in
           let go = further q (inr (s, member, spot, omega arith, omega arith, end))
-          (await-behind q q h hs (omega arith) (λ k other below same. let no_void = (is.spots k other below).void in let same_id : h.id ≡ (get_or t.spots k other).header.id = ap (λ (g : Header). g.id) same in absurd (let void_it : ((get_or t.spots k other).header.id == VOID) ≡ true = ap (λ n. n == VOID) (sym same_id ∙ void.0) in cc)) awaited) in
-          (record { list = go.0.list; end = go.0.end; run = go.0.run; becomes = (go.0.list, gone (inl goes) refl, go.0.becomes) },
-          λ can. let more = go.1 (inr (goes-moves p m h stands goes can)) in
-          record { more = more.more; end = more.end; held = more.held; none = more.none;
-          rest = record { list = more.rest.list; end = more.rest.end; run = more.rest.run; becomes = (more.rest.list, gone (inl goes) refl, more.rest.becomes) } })
+          (await-behind q q h hs (omega arith) (λ k other below same. let no_void = (is.spots k other below).void in let same_id : h.id ≡ (get_or t.spots k other).header.id = ap (λ (g : Header). g.id) same in absurd (let void_it : ((get_or t.spots k other).header.id == VOID) ≡ true = ap (λ n. n == VOID) (sym same_id ∙ void.0) in cc)) awaited) in (
+            record { list = go.0.list; end = go.0.end; run = go.0.run; becomes = (go.0.list, gone (inl goes) refl, go.0.becomes) },
+            λ can. let more = go.1 (inr (goes-moves p m h stands goes can)) in
+                record {
+                  more = more.more;
+                  end = more.end;
+                  held = more.held;
+                  none = more.none;
+                  rest = record { list = more.rest.list; end = more.rest.end; run = more.rest.run; becomes = (more.rest.list, gone (inl goes) refl, more.rest.becomes) };
+                },
+          )
 
       of : ((k : ℕ) → IsAt m k → AreAwaited k hs → Goes hs m k) → IsAt p q → Goes (h ∷ hs) p q
       of further (inl same) = here further same

@@ -607,13 +607,13 @@ module _ (bytes : List ℕ) (are_octets : AreOctets bytes) (short : length bytes
     where-written : (k : ℕ) → Touches ws k → ((segment.offset + length (id_octets SEGMENT) ≤ k) × (k < segment.body)) ⊎ ((total ≤ k) ⊎ IsInside others all k)
     where-written k touched = elim (touches-append (front ++ middle) (tail_write ∷ []) k (subst (λ (vs : List Write). Touches vs k) (sym is_writes-moving) touched)) [
       | inl before ↦ elim (touches-append front middle k before) [
-          | inl size ↦ inl (touches-size segment (new_end f.outline ps) k size)
-          | inr mid ↦ inr (inr (touches-items segment.body last others stand all k all-are (touches-ascending (writes_of others all) k mid)))
-        ]
+        | inl size ↦ inl (touches-size segment (new_end f.outline ps) k size)
+        | inr mid ↦ inr (inr (touches-items segment.body last others stand all k all-are (touches-ascending (writes_of others all) k mid)))
+      ]
       | inr behind ↦ elim behind [
-          | inl here ↦ inr (inl here.0)
-          | inr none ↦ absurd none
-        ]
+        | inl here ↦ inr (inl here.0)
+        | inr none ↦ absurd none
+      ]
     ]
 
     touch-moving : (k : ℕ) → Touches ws k → (k < segment.body) ⊎ ((total ≤ k) ⊎ IsInside others all k)
@@ -701,9 +701,9 @@ module _ (bytes : List ℕ) (are_octets : AreOctets bytes) (short : length bytes
         (λ k from to touched. elim (where-written k touched) [
           | inl size ↦ (let is = size.0 in let wrong : ⊥ = omega arith in wrong)
           | inr rest ↦ elim rest [
-              | inl past ↦ (let wrong : ⊥ = omega arith in wrong)
-              | inr room ↦ (let is = (inside-room all k all-are room).0 in let wrong : ⊥ = omega arith in wrong)
-            ]
+            | inl past ↦ (let wrong : ⊥ = omega arith in wrong)
+            | inr room ↦ (let is = (inside-room all k all-are room).0 in let wrong : ⊥ = omega arith in wrong)
+          ]
         ])
 
     clear-all : is_unknown segment.size ≡ true → (p q : ℕ) → q ≤ segment.body → AreSame bytes grown p q
@@ -712,13 +712,13 @@ module _ (bytes : List ℕ) (are_octets : AreOctets bytes) (short : length bytes
         same-clear ws bytes p q (order-fits total 0 total ws (omega arith) (omega arith) order) (omega arith)
         (λ k from to touched. elim (touches-append (front ++ middle) (tail_write ∷ []) k (subst (λ (vs : List Write). Touches vs k) (sym is_writes-moving) touched)) [
           | inl head_or ↦ elim (touches-append front middle k head_or) [
-              | inl size ↦ no-size k size
-              | inr mid ↦ (let is = (inside-room all k all-are (touches-items segment.body last others stand all k all-are (touches-ascending (writes_of others all) k mid))).0 in let wrong : ⊥ = omega arith in wrong)
-            ]
+            | inl size ↦ no-size k size
+            | inr mid ↦ (let is = (inside-room all k all-are (touches-items segment.body last others stand all k all-are (touches-ascending (writes_of others all) k mid))).0 in let wrong : ⊥ = omega arith in wrong)
+          ]
           | inr behind ↦ elim behind [
-              | inl here ↦ (let is = here.0 in let wrong : ⊥ = omega arith in wrong)
-              | inr none ↦ none
-            ]
+            | inl here ↦ (let is = here.0 in let wrong : ⊥ = omega arith in wrong)
+            | inr none ↦ none
+          ]
         ])
       where
         no-size : (k : ℕ) → Touches (size_writes segment (new_end f.outline ps)) k → ⊥
@@ -729,8 +729,8 @@ module _ (bytes : List ℕ) (are_octets : AreOctets bytes) (short : length bytes
         let later = body-later in let inside = body-inside in let start_inside = seg.inside in
         record {
           there = found-same ((at_level_0).may_open) ((at_level_0).may_open) bytes grown segment.offset total (length grown) segment (omega arith) seg.found (omega (arith, grown-len))
-          (clear-all unknown segment.offset segment.body (omega arith))
-          (sound-longer ((at_level_0).may_open) total (length grown) total (length grown) segment (found-sound ((at_level_0).may_open) bytes segment.offset total segment seg.found) (omega (arith, unknown-end segment.size refl, grown-len)) (omega arith));
+              (clear-all unknown segment.offset segment.body (omega arith))
+              (sound-longer ((at_level_0).may_open) total (length grown) total (length grown) segment (found-sound ((at_level_0).may_open) bytes segment.offset total segment seg.found) (omega (arith, unknown-end segment.size refl, grown-len)) (omega arith));
           own = seg.own;
           body = refl;
           size = sym (ap (λ (u : Bool). if u then segment.size else Known (grown_end - segment.body)) unknown);
@@ -784,13 +784,15 @@ module _ (bytes : List ℕ) (are_octets : AreOctets bytes) (short : length bytes
             let header_now : HoldsAt grown segment.offset (header_of e) = held-join grown segment.offset (id_octets SEGMENT) (size_octets (length now_body) (size_width segment)) id_now size_now in
             let place : segment.offset + length (header_of e) ≡ segment.body = omega arith in
             let body_now : HoldsAt grown (segment.offset + length (header_of e)) now_body = ap (λ n. octets_between grown n (n + length now_body)) place ∙ ap (octets_between grown segment.body) (let last_is : segment.body + length now_body ≡ grown_end = omega arith in last_is) in
-            let held : HoldsAt grown segment.offset (octets_of e) = held-join grown segment.offset (header_of e) now_body header_now body_now in
-            (header_in_place segment.offset e, record {
-              there = element_at-read at_level_0 grown e segment.offset (length grown) refl is_e held (omega (arith, grown-len));
-              own = refl;
-              body = place;
-              size = ap (λ n. Known n) body_len ∙ sym (ap (λ (u : Bool). if u then segment.size else Known (grown_end - segment.body)) known_size);
-            })
+            let held : HoldsAt grown segment.offset (octets_of e) = held-join grown segment.offset (header_of e) now_body header_now body_now in (
+              header_in_place segment.offset e,
+              record {
+                there = element_at-read at_level_0 grown e segment.offset (length grown) refl is_e held (omega (arith, grown-len));
+                own = refl;
+                body = place;
+                size = ap (λ n. Known n) body_len ∙ sym (ap (λ (u : Bool). if u then segment.size else Known (grown_end - segment.body)) known_size);
+              },
+            )
 
     now-is : (now : Header) × IsNow now
     now-is = of (is_unknown segment.size) refl
@@ -836,9 +838,12 @@ module _ (bytes : List ℕ) (are_octets : AreOctets bytes) (short : length bytes
           (λ n. (n == id) ≡ false) (All-cons (λ (i : Item). (i.element.id == id) ≡ false) seek_item items seek others_are)
 
       all-distinct : AreDistinct all
-      all-distinct = (All-append (λ (i : Item). (i.element.id == SEEK_HEAD) ≡ false) infos tracks
-          (All-weaker (λ (i : Item). i.element.id ≡ INFO) (λ (i : Item). (i.element.id == SEEK_HEAD) ≡ false) (λ i is. ap (λ n. n == SEEK_HEAD) is) infos (items-id (are_of_info edits) INFO others (info_nodes t.info)))
-          (All-weaker (λ (i : Item). i.element.id ≡ TRACKS) (λ (i : Item). (i.element.id == SEEK_HEAD) ≡ false) (λ i is. ap (λ n. n == SEEK_HEAD) is) tracks (items-id (are_of_tracks edits) TRACKS others t.tracks)), distinct)
+      all-distinct = (
+        All-append (λ (i : Item). (i.element.id == SEEK_HEAD) ≡ false) infos tracks
+            (All-weaker (λ (i : Item). i.element.id ≡ INFO) (λ (i : Item). (i.element.id == SEEK_HEAD) ≡ false) (λ i is. ap (λ n. n == SEEK_HEAD) is) infos (items-id (are_of_info edits) INFO others (info_nodes t.info)))
+            (All-weaker (λ (i : Item). i.element.id ≡ TRACKS) (λ (i : Item). (i.element.id == SEEK_HEAD) ≡ false) (λ i is. ap (λ n. n == SEEK_HEAD) is) tracks (items-id (are_of_tracks edits) TRACKS others t.tracks)),
+        distinct,
+      )
 
       section-moving : (id : ℕ) (nodes : List Node) (h : Header) → (id == CLUSTER) ≡ false → ends_cluster id ≡ true → CanBeRead id nodes → IsItemIn items (item_at nodes h) → first_of id others ≡ Some h
           → All (λ (i : Item). i.element.id ≡ id → i.element.body ≡ flat_map octets nodes) items → normal_form id grown now ≡ Ok (Some (octets (master id 0 (nodes_of nodes))))

@@ -51,9 +51,9 @@ module _ (t : Edit) (Moves : Type 0) where
       first = elim other [
         | inl is ↦ other-id s.now.id VOID id is void
         | inr differs ↦ elim spot.stays [
-            | inl same ↦ other-id s.now.id s.header.id id same.0 differs
-            | inr moved ↦ other-id s.now.id VOID id moved.0 void
-          ]
+          | inl same ↦ other-id s.now.id s.header.id id same.0 differs
+          | inr moved ↦ other-id s.now.id VOID id moved.0 void
+        ]
       ]
 
       of : HasNot id (all_now s)

@@ -124,8 +124,10 @@ alike-within zero stops a b p e few within within' same = alike-past stops a b p
 alike-within (suc n) stops a b p e few within within' same =
     elim (cases_lt p e) [
       | inl inside ↦
-          rw (elements-more in_master stops (λ h. Ok (end_in e h)) a p e (Advances-known in_master a e) inside,
-              elements-more in_master stops (λ h. Ok (end_in e h)) b p e (Advances-known in_master b e) inside)
+          rw (
+            elements-more in_master stops (λ h. Ok (end_in e h)) a p e (Advances-known in_master a e) inside,
+            elements-more in_master stops (λ h. Ok (end_in e h)) b p e (Advances-known in_master b e) inside,
+          )
           (step-alike stops a b p e (λ q. children stops a q e) (λ q. children stops b q e) (element_at in_master a p e) (element_at in_master b p e)
           (element-alike a b p e within within' same)
           (λ h found. let placed = element_at-placed in_master a p e h (omega arith) found in

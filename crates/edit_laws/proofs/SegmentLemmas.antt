@@ -34,15 +34,18 @@ outer-tiles a b p q x (h ∷ hs) (m, stands, rest) before within longer same =
     let next : min (stated_end h) (length a) ≡ m = cc in
     let behind = tiles-end (outer a) m q hs (advances-outer a) rest in
     let later = placed.later in
-    let inside = stands.inside in
-    (m, record {
-      inside = omega arith;
-      found = found-same ((at_level_0).may_open) ((at_level_0).may_open) a b p (length a) (length b) h (omega arith) stands.found (omega arith)
-      (same-part a b 0 x p h.body (omega arith) (omega arith) (omega arith) same)
-      (sound-longer ((at_level_0).may_open) (length a) (length b) (length a) (length b) h (found-sound ((at_level_0).may_open) a p (length a) h stands.found) (omega arith) (omega arith));
-      goes = stands.goes;
-      next = ap (λ k. Ok k) (let same_end : min (stated_end h) (length b) ≡ m = omega arith in same_end);
-    }, outer-tiles a b m q x hs rest before within longer same)
+    let inside = stands.inside in (
+      m,
+      record {
+        inside = omega arith;
+        found = found-same ((at_level_0).may_open) ((at_level_0).may_open) a b p (length a) (length b) h (omega arith) stands.found (omega arith)
+            (same-part a b 0 x p h.body (omega arith) (omega arith) (omega arith) same)
+            (sound-longer ((at_level_0).may_open) (length a) (length b) (length a) (length b) h (found-sound ((at_level_0).may_open) a p (length a) h stands.found) (omega arith) (omega arith));
+        goes = stands.goes;
+        next = ap (λ k. Ok k) (let same_end : min (stated_end h) (length b) ≡ m = omega arith in same_end);
+      },
+      outer-tiles a b m q x hs rest before within longer same,
+    )
 
 -- What is known of a Segment that was found.
 pub record IsSegment (a : List ℕ) (ebml segment : Header) : Type 0 where
