@@ -4,7 +4,9 @@ ghost use Rattle.std.specs.Prelude.{IfOk};
 ghost use Rattle.mkv_schema.specs.declared.ids.TheConstants.{CHAPTERS as CHAPTERS_ID};
 ghost use Rattle.tree_building.specs.Building.{IsRead};
 
-use chapter_changes::{cut, push_chapter_uids, push_edition_uids, shift, with_identifiers};
+use chapter_changes::{
+    cut, push_chapter_uids, push_edition_uids, shift, top_starts, with_identifiers,
+};
 use ebml_tree::{Tree, TreeEnd};
 use mkv_schema::ids::CHAPTERS;
 use mkv_schema::is_master;
@@ -163,6 +165,15 @@ fn chapters_are_cut(rt: HostRuntime) -> Result<(), Fail> {
             part.put(&mut out)?;
         }
         assert_eq!(rt; out.as_slice(), wanted);
+    }
+    Ok(())
+}
+
+#[test]
+fn starts_are_read(rt: HostRuntime) -> Result<(), Fail> {
+    for (body, wanted) in [(ENDED, [0, 2_500_000_000]), (OPEN, [0, 2_000_000_000])] {
+        let starts = top_starts(rt.alloc(), &chapters_of(rt.alloc(), body)?)?;
+        assert_eq!(rt; starts.as_slice(), wanted.as_slice());
     }
     Ok(())
 }

@@ -1,4 +1,4 @@
-//! What a merge makes of Chapters and Tags.
+//! What a merge makes of identifiers, Chapters and Tags.
 
 ghost use Rattle.std.specs.Prelude.{IfOk, IfSome};
 ghost use Rattle.mkv_schema.specs.declared.ids.TheConstants.{CHAPTERS as CHAPTERS_ID, TAGS as TAGS_ID};
@@ -6,12 +6,15 @@ ghost use Rattle.tree_building.specs.Building.{IsRead};
 ghost use Rattle.merged_records.specs.Inputs.{IsInput};
 
 use ebml_tree::{Tree, TreeEnd};
+use identifiers::renumber;
+use indexmap::IndexMap;
 use merged_records::{InputRecords, MergedRecords, TagKeep, merge_records};
 use mkv_schema::ids::{CHAPTERS, TAGS};
 use mkv_schema::is_master;
 use mkv_values::{Bytes, List};
 use std::alloc::{AllocError, Global};
 use std::test::Fail;
+use tag_records::{UidMap, merge_tags};
 
 // The body of Tags with one Tag, about the track with the TrackUID 5.
 const TAG: [u8; 21] = [
@@ -24,6 +27,49 @@ const BOTH: [u8; 47] = [
     0x12, 0x54, 0xC3, 0x67, 0xAA, 0x73, 0x73, 0x92, 0x63, 0xC0, 0x84, 0x63, 0xC5, 0x81, 5, 0x67,
     0xC8, 0x88, 0x45, 0xA3, 0x81, 0x41, 0x44, 0x87, 0x81, 0x62, 0x73, 0x73, 0x92, 0x63, 0xC0, 0x84,
     0x63, 0xC5, 0x81, 1, 0x67, 0xC8, 0x88, 0x45, 0xA3, 0x81, 0x41, 0x44, 0x87, 0x81, 0x62,
+];
+
+// The body of Tags with three: of track 5, a track 7, edition 256, all chapters and file 9, with a SimpleTag in another; of
+// the track 7; and of all tracks.
+const AIMED: &[u8] = &[
+    0x73, 0x73, 0xAE, 0x63, 0xC0, 0x99, 0x68, 0xCA, 0x81, 0x32, 0x63, 0xC5, 0x81, 5, 0x63, 0xC5,
+    0x81, 7, 0x63, 0xC9, 0x82, 1, 0, 0x63, 0xC4, 0x81, 0, 0x63, 0xC6, 0x81, 9, 0x67, 0xC8, 0x8F,
+    0x45, 0xA3, 0x81, 0x41, 0x67, 0xC8, 0x88, 0x45, 0xA3, 0x81, 0x42, 0x44, 0x87, 0x81, 0x62, 0x73,
+    0x73, 0x8E, 0x63, 0xC0, 0x84, 0x63, 0xC5, 0x81, 7, 0x67, 0xC8, 0x84, 0x45, 0xA3, 0x81, 0x43,
+    0x73, 0x73, 0x8E, 0x63, 0xC0, 0x84, 0x63, 0xC5, 0x81, 0, 0x67, 0xC8, 0x84, 0x45, 0xA3, 0x81,
+    0x44,
+];
+
+// Which of them are kept, of tracks and others, and the Tags that are written where track 5 gets the number 1, edition 256
+// the number 2 and file 9 the number 2^32.
+const KEPT: [(bool, bool, &[u8]); 3] = [
+    (
+        true,
+        true,
+        &[
+            0x12, 0x54, 0xC3, 0x67, 0xC1, 0x73, 0x73, 0xAD, 0x63, 0xC0, 0x98, 0x68, 0xCA, 0x81,
+            0x32, 0x63, 0xC5, 0x81, 1, 0x63, 0xC9, 0x81, 2, 0x63, 0xC4, 0x81, 0, 0x63, 0xC6, 0x85,
+            1, 0, 0, 0, 0, 0x67, 0xC8, 0x8F, 0x45, 0xA3, 0x81, 0x41, 0x67, 0xC8, 0x88, 0x45, 0xA3,
+            0x81, 0x42, 0x44, 0x87, 0x81, 0x62, 0x73, 0x73, 0x8E, 0x63, 0xC0, 0x84, 0x63, 0xC5,
+            0x81, 0, 0x67, 0xC8, 0x84, 0x45, 0xA3, 0x81, 0x44,
+        ],
+    ),
+    (
+        false,
+        true,
+        &[
+            0x12, 0x54, 0xC3, 0x67, 0x91, 0x73, 0x73, 0x8E, 0x63, 0xC0, 0x84, 0x63, 0xC5, 0x81, 0,
+            0x67, 0xC8, 0x84, 0x45, 0xA3, 0x81, 0x44,
+        ],
+    ),
+    (false, false, &[0x12, 0x54, 0xC3, 0x67, 0x80]),
+];
+
+// Identifiers, of which 0 is missing, and the numbers that they get.
+const GIVEN: [(&[u64], &[u64]); 3] = [
+    (&[], &[]),
+    (&[5, 0, 5, 1, 3], &[5, 2, 4, 1, 3]),
+    (&[u64::MAX, u64::MAX, 0], &[u64::MAX, 1, 2]),
 ];
 
 // The body of Chapters with an edition, whose chapter starts at 0.
@@ -129,5 +175,44 @@ fn appended_chapters_are_later(rt: HostRuntime) -> Result<(), Fail> {
         chapters.put(&mut out)?;
     }
     assert_eq!(rt; out.as_slice(), LATER.as_slice());
+    Ok(())
+}
+
+#[test]
+fn identifiers_are_given_again(rt: HostRuntime) -> Result<(), Fail> {
+    for (uids, numbers) in GIVEN {
+        let given = renumber(rt.alloc(), uids)?;
+        assert_eq!(rt; given.as_slice(), numbers);
+    }
+    Ok(())
+}
+
+// An identifier with the number that it gets.
+fn number(alloc: Global, uid: u64, number: u64) -> Result<IndexMap<u64, u64>, Fail> {
+    let mut numbers = IndexMap::new(alloc);
+    numbers.insert(uid, number)?;
+    Ok(numbers)
+}
+
+// The numbers of a track, an edition and an attached file.
+fn numbers(alloc: Global) -> Result<UidMap, Fail> {
+    Ok(UidMap {
+        tracks: number(alloc, 5, 1)?,
+        editions: number(alloc, 256, 2)?,
+        chapters: IndexMap::new(alloc),
+        attachments: number(alloc, 9, 1 << 32)?,
+    })
+}
+
+#[test]
+fn tags_are_written(rt: HostRuntime) -> Result<(), Fail> {
+    let map = numbers(rt.alloc())?;
+    let tags = tree_of(rt.alloc(), TAGS, AIMED)?;
+    for (tracks, global, wanted) in KEPT {
+        let written = merge_tags(rt.alloc(), &tags, &map, TagKeep { tracks, global })?;
+        let mut out = Bytes::new(rt.alloc());
+        written.put(&mut out)?;
+        assert_eq!(rt; out.as_slice(), wanted);
+    }
     Ok(())
 }
