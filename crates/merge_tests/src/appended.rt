@@ -2,17 +2,13 @@
 
 use crate::runs::{Answer, check, done, refused, warned};
 use crate::spelled::{
-    CL, CUT, E, H, INFO, S1, SEEKS, Spelled, TR, V1, VOID_3, merged, octets_of, written,
+    CL, CUT, E, H, INFO, JOINED, S1, SEEKS, Spelled, TR, V1, VOID_3, merged, octets_of, written,
 };
 use std::process::Abort;
 use std::test::Fail;
 
 /// A merge of a file and one that is appended to it.
 const JOIN: &str = "merge -o out.mkv a.mkv + b.mkv";
-
-/// The Cluster of the small file and itself, which begins at 20 ms.
-const JOINED: &str = "1F43B675 9F E78100 A38581000080AA A38581001480BB \
-    A38581001480AA A38581002880BB";
 
 /// Runs a command line over two files.
 fn check_two(

@@ -15,7 +15,11 @@ pub const TR: &str = "1654AE6B 94 AE92 D78101 73C58105 838102 8686 415F4F505553"
 /// A Cluster with the frames AA at 0 ms and BB at 20 ms.
 pub const CL: &str = "1F43B675 91 E78100 A38581000080AA A38581001480BB";
 
-/// The first 20 octets of it.
+/// The Cluster with itself behind it, which begins at 20 ms.
+pub const JOINED: &str = "1F43B675 9F E78100 A38581000080AA A38581001480BB \
+    A38581001480AA A38581002880BB";
+
+/// The first 20 octets of the Cluster.
 pub const CUT: &str = "1F43B675 91 E78100 A38581000080AA A385810014";
 
 /// A file of 68 octets.
