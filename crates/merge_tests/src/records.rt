@@ -96,3 +96,32 @@ fn a_large_attached_file_is_copied(rt: HostRuntime) -> Result<(), Fail> {
     ];
     check_one(&rt, LINE, &file, &done(TWO_BLOCKS, &output))
 }
+
+#[test]
+fn identifiers_are_completed_and_targets_follow_them(rt: HostRuntime) -> Result<(), Fail> {
+    // a FileData stands in front of the name, and another behind it
+    let files = "1941A469 95 61A792 465C83616263 466E8161 465C8178 46AE8107";
+    // an edition without an identifier, whose first chapter has one without inside, and whose second has that of the first
+    let chapters = "1043A770 A7 \
+        45B994 B689 73C48103 B683 918105 B687 73C48103 918107 \
+        45B98D 45BC8102 B687 918100 73C48101";
+    // of track 6, which isn't written, chapter 3, all chapters, edition 2, file 7 and track 5; of track 6 and edition 3; and of
+    // all tracks and chapters
+    let tags = "1254C367 D5 \
+        7373A9 63C098 63C58106 63C48103 63C48100 63C98102 63C68107 63C58105 67C88B 45A38141 67C884 45A38142 \
+        737392 63C088 63C58106 63C98103 67C884 45A38143 \
+        737391 63C087 63C58100 63C480 67C884 45A38144";
+    let file = [E, "18538067 40CF", TR, CL, files, chapters, tags];
+    let files = "1941A469 91 61A78E 465C83616263 466E8161 46AE8107";
+    let chapters = "1043A770 AF \
+        45B99C B68D 73C48103 B687 918105 73C48102 B687 73C48104 918107 45BC8101 \
+        45B98D 45BC8102 B687 918100 73C48101";
+    let tags = "1254C367 BC \
+        7373A5 63C094 63C48103 63C48100 63C98102 63C68107 63C58105 67C88B 45A38141 67C884 45A38142 \
+        737391 63C087 63C58100 63C480 67C884 45A38144";
+    let at = ["000000000000013F", "000000000000016B", "000000000000019F"];
+    let output = with_records("01000000000001E0", at, [TR, files, CL, chapters, tags]);
+    let answer = done(TWO_BLOCKS, &output);
+    check_one(&rt, LINE, &file, &answer)?;
+    check_one(&rt, LINE, &output, &answer)
+}
