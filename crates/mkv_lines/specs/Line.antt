@@ -6,7 +6,7 @@ use Rattle.matroska_format.specs.declared.element.Header.{Header}
 use Rattle.sidecar_format.specs.declared.recovery.Mark.{Mark}
 use Rattle.mkv_lines.specs.Shown.{damage_text, element_text, level_0_name, level_1_name, mark_text, place_text, shown_text, track_text}
 use Rattle.mkv_lines.specs.declared.line.Line.{Line}
-use Rattle.mkv_lines.specs.declared.line.Line.TheVariants.{Level0, Level1, Track, Refused, Warned, MoreDamages, NoTrack, NoAttachment, NoExtractor, Missing, PendingEdit, OutputIsInput, AppendDiffers, NoLane, TooManyLanes, NotWebm, TooLarge, Wrote, WroteBlocks, Edited, EditRefused, NoRoom, EditTooLarge, Recovered, NothingToRecover, BadSidecar, Foreign, Word, FilesFault}
+use Rattle.mkv_lines.specs.declared.line.Line.TheVariants.{Level0, Level1, Track, Refused, Warned, MoreDamages, NoTrack, NoAttachment, NoExtractor, Missing, BadText, TextTooLarge, PendingEdit, OutputIsInput, AppendDiffers, NoLane, TooManyLanes, NotWebm, TooLarge, Wrote, WroteBlocks, Edited, EditRefused, NoRoom, EditTooLarge, Recovered, NothingToRecover, BadSidecar, Foreign, Word, FilesFault}
 
 -- an Element at the top of a file
 abbrev pub level_0_line : Header → List ℕ
@@ -51,6 +51,13 @@ no_extractor_line name number = codes "error: " ++ (shown_text name ++ (codes ":
 -- a file that isn't there
 abbrev pub missing_line : List ℕ → List ℕ
 missing_line name = codes "error: " ++ (shown_text name ++ codes ": Missing")
+
+-- a text file that breaks its grammar, in this line, or is too long
+abbrev pub bad_text_line : List ℕ → ℕ → List ℕ
+bad_text_line name line = codes "error: " ++ (shown_text name ++ (codes ": BadText, line " ++ decimal line))
+
+abbrev pub text_too_large_line : List ℕ → List ℕ
+text_too_large_line name = codes "error: " ++ (shown_text name ++ codes ": TextTooLarge")
 
 -- a file of which an edit was begun and isn't done
 abbrev pub pending_edit_line : List ℕ → List ℕ
@@ -153,6 +160,8 @@ text_of (NoTrack name number) = no_track_line name.now number
 text_of (NoAttachment name number) = no_attachment_line name.now number
 text_of (NoExtractor name number) = no_extractor_line name.now number
 text_of (Missing name) = missing_line name.now
+text_of (BadText name line) = bad_text_line name.now line
+text_of (TextTooLarge name) = text_too_large_line name.now
 text_of (PendingEdit name) = pending_edit_line name.now
 text_of (OutputIsInput name) = output_is_input_line name.now
 text_of (AppendDiffers name id) = append_differs_line name.now id

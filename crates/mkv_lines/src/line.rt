@@ -52,6 +52,15 @@ pub enum Line<'a> {
     Missing {
         name: &'a str,
     },
+    /// This line of a text file, counted from 1, breaks the file's grammar.
+    BadText {
+        name: &'a str,
+        line: u64,
+    },
+    /// A text file is longer than one of its kind may be.
+    TextTooLarge {
+        name: &'a str,
+    },
     /// An edit of a file was begun and isn't done.
     PendingEdit {
         name: &'a str,
@@ -183,6 +192,14 @@ impl fmt::Display for Line<'_> {
             Line::Missing { name } => {
                 let name = ShownText(name);
                 write!(f, "error: {name}: Missing")
+            }
+            Line::BadText { name, line } => {
+                let name = ShownText(name);
+                write!(f, "error: {name}: BadText, line {line}")
+            }
+            Line::TextTooLarge { name } => {
+                let name = ShownText(name);
+                write!(f, "error: {name}: TextTooLarge")
             }
             Line::PendingEdit { name } => {
                 let name = ShownText(name);

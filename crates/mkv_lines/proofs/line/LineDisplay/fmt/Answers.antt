@@ -34,3 +34,11 @@ returns-in-NoRoom-clause-writes g c = λ plain ok.
 pub returns-in-EditTooLarge-clause-writes : goal.returns-in-EditTooLarge-clause-writes
 returns-in-EditTooLarge-clause-writes g c = λ plain ok.
     has_written_of_eq _ _ _ _ _ (ap text_of (sym c.in-EditTooLarge.is)) (c.write-in-EditTooLarge.ensures.writes plain ok)
+
+pub returns-in-BadText-clause-writes : goal.returns-in-BadText-clause-writes
+returns-in-BadText-clause-writes g c = λ plain ok.
+    has_written_of_eq _ _ _ _ _ (ap text_of (sym c.in-BadText.is)) (c.write-in-BadText.ensures.writes plain ok)
+
+pub returns-in-TextTooLarge-clause-writes : goal.returns-in-TextTooLarge-clause-writes
+returns-in-TextTooLarge-clause-writes g c = λ plain ok.
+    has_written_of_eq _ _ _ _ _ (ap text_of (sym c.in-TextTooLarge.is)) (c.write-in-TextTooLarge.ensures.writes plain ok)
