@@ -32,7 +32,7 @@ table =
     option (codes "-o") (codes "--output") s.Output Output f.Name (codes "write this file") ∷
     option (codes "-w") (codes "--webm") s.Webm Output f.Flag (codes "make WebM") ∷
     option (codes "") (codes "--title") s.Title Output f.Text (codes "give the output this title") ∷
-    option (codes "") (codes "--chapters") s.ChapterFile Output f.Name (codes "take chapters from a text (not built)") ∷
+    option (codes "") (codes "--chapters") s.ChapterFile Output f.Name (codes "take chapters from a text") ∷
     option (codes "") (codes "--timestamp-scale") s.Scale Output f.Scale (codes "let a tick of the output last so long") ∷
     option (codes "") (codes "--cluster-length") s.ClusterLength Output f.Length (codes "end a Cluster by then") ∷
     option (codes "") (codes "--split") s.Split Output f.Split (codes "begin further outputs there (not built)") ∷

@@ -74,7 +74,7 @@ static MERGE_OPTIONS: [OptionRow; 27] = [
     OptionRow("-o", "--output", Subject::Output, Scope::Output, ValueForm::Name, "write this file"),
     OptionRow("-w", "--webm", Subject::Webm, Scope::Output, ValueForm::Flag, "make WebM"),
     OptionRow("", "--title", Subject::Title, Scope::Output, ValueForm::Text, "give the output this title"),
-    OptionRow("", "--chapters", Subject::ChapterFile, Scope::Output, ValueForm::Name, "take chapters from a text (not built)"),
+    OptionRow("", "--chapters", Subject::ChapterFile, Scope::Output, ValueForm::Name, "take chapters from a text"),
     OptionRow("", "--timestamp-scale", Subject::Scale, Scope::Output, ValueForm::Scale, "let a tick of the output last so long"),
     OptionRow("", "--cluster-length", Subject::ClusterLength, Scope::Output, ValueForm::Length, "end a Cluster by then"),
     OptionRow("", "--split", Subject::Split, Scope::Output, ValueForm::Split, "begin further outputs there (not built)"),

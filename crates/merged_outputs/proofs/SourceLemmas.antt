@@ -1,5 +1,5 @@
 -- What is read of the inputs of a merge can be written.
-use Rattle.std.proofs.Common.{◌≡◌, ◌<◌, ◌≤◌, ℕ, suc, ◌+◌, ◌^◌, ◌==◌, Bool, true, false, if◌then◌else◌, cond, List, [], ◌∷◌, length, find, map, Option, Some, None, IfSome, Result, Ok, Err, inl, inr, ◌⊎◌, eqb-true, refl, sym, ap, subst, ◌∙◌, arith, unwrap_or}
+use Rattle.std.proofs.Common.{◌≡◌, ◌<◌, ◌≤◌, ℕ, suc, ◌+◌, ◌^◌, ◌==◌, Bool, true, false, not, if◌then◌else◌, cond, List, [], ◌∷◌, length, find, map, Option, Some, None, IfSome, Result, Ok, Err, inl, inr, ◌⊎◌, eqb-true, refl, sym, ap, subst, ◌∙◌, arith, unwrap_or}
 use Rattle.std.specs.List.{All, zip}
 use Rattle.std.specs.Option.{option_map, option_map_or}
 use Rattle.std.specs.Str.{IsUtf8, is_utf8}
@@ -47,7 +47,7 @@ use Rattle.merge_words.specs.declared.output.MergeWords.{MergeWords}
 use Rattle.merge_words.specs.Sound.{IsSoundFile, IsSoundMerge}
 use Rattle.input_files.specs.Inputs.{file_names, first_missing}
 use Rattle.merge_inputs.specs.Input.{InputRead, found_then, input_of, input_with, refusal_of, unless_refused}
-use Rattle.merge_inputs.specs.Select.{is_taken}
+use Rattle.merge_inputs.specs.Select.{is_taken, kept_one}
 use Rattle.merge_inputs.specs.Taken.{first_unusable, taken_from, taken_one, taken_track, value_for}
 use Rattle.merge_inputs.specs.Title.{title_of_info}
 use Rattle.merge_inputs.specs.declared.taken.TakenTrack.{TakenTrack}
@@ -61,8 +61,12 @@ use Rattle.merge_plan.specs.Plan.{Source}
 use Rattle.merge_plan.specs.Refusal.{plan_refusal}
 use Rattle.merge_plan.specs.declared.refusal.PlanRefusal.{PlanRefusal}
 use Rattle.mkv_merge.specs.Merge as merge
-use Rattle.mkv_merge.specs.Merge.{sources_of, sources_read, sources_settled, sources_with}
-use Rattle.mkv_merge.specs.Read.{contents_of, inputs_from, inputs_of, numbered, pending_of, unless_missing, writes_input}
+use Rattle.mkv_merge.specs.Merge.{sources_beside, sources_of, sources_read, sources_settled, sources_with}
+use Rattle.mkv_merge.specs.Chapters.{chaptered, chapters_refusal, first_with, with_chapters}
+use Rattle.mkv_merge.specs.Read.{begun_refusal, contents_of, inputs_from, inputs_of, inputs_with, numbered, unless_missing, writes_input}
+use Rattle.text_files.specs.ChapterFile.{chapter_file}
+use Rattle.text_files.specs.declared.chapter_file.ChapterFile.{ChapterFile}
+use Rattle.text_files.specs.declared.chapter_file.ChapterFile.TheVariants as file
 use Rattle.mkv_merge.specs.Refused as refused
 use Rattle.mkv_merge.specs.declared.refusal.Refusal.{Refusal}
 use Rattle.mkv_merge.specs.declared.refusal.Refusal.TheVariants.{Differs, OutputIsInput, Plan}
@@ -274,6 +278,33 @@ inputs-read webm k held (f ∷ fs) (c ∷ cs) reads same octets sound has is =
     let rest = inputs-read webm (suc k) (counted held read.held) fs cs others.0 (omega arith) (All-tail AreOctets c cs octets) (All-tail IsSoundFile f fs sound) (All-tail HasTexts f fs has) others.1.0 in
     subst (λ (rs : List InputRead). All IsReadSource (zip (c ∷ cs) rs)) made (All-cons IsReadSource (c, read) (zip cs others.0) own rest)
 
+-- ---- the Chapters of a chapter file
+
+chapters-source : (bytes : List ℕ) (read : InputRead) (chapters : Option Node) → IsReadSource (bytes, read) → IsReadSource (bytes, with_chapters chapters read)
+chapters-source bytes read chapters is = record { octets = is.octets; title = is.title; tracks = is.tracks; place = is.place }
+
+others-chaptered : (contents : List (List ℕ)) (reads : List InputRead) → All IsReadSource (zip contents reads) → All IsReadSource (zip contents (map (with_chapters None) reads))
+others-chaptered [] [] each = each
+others-chaptered [] (r ∷ rs) each = each
+others-chaptered (c ∷ cs) [] each = each
+others-chaptered (c ∷ cs) (r ∷ rs) each =
+    All-cons IsReadSource (c, with_chapters None r) (zip cs (map (with_chapters None) rs)) (chapters-source c r None (All-head IsReadSource (c, r) (zip cs rs) each))
+    (others-chaptered cs rs (All-tail IsReadSource (c, r) (zip cs rs) each))
+
+first-chaptered : (chapters : Option Node) (contents : List (List ℕ)) (reads : List InputRead) → All IsReadSource (zip contents reads) → All IsReadSource (zip contents (first_with with_chapters chapters reads))
+first-chaptered chapters [] [] each = each
+first-chaptered chapters [] (r ∷ rs) each = each
+first-chaptered chapters (c ∷ cs) [] each = each
+first-chaptered chapters (c ∷ cs) (r ∷ rs) each =
+    All-cons IsReadSource (c, with_chapters chapters r) (zip cs (map (with_chapters None) rs)) (chapters-source c r chapters (All-head IsReadSource (c, r) (zip cs rs) each))
+    (others-chaptered cs rs (All-tail IsReadSource (c, r) (zip cs rs) each))
+
+chaptered-read : (webm : Bool) (f : ChapterFile) (contents : List (List ℕ)) (reads : List InputRead) → All IsReadSource (zip contents reads) → All IsReadSource (zip contents (chaptered with_chapters webm f reads))
+chaptered-read webm file.Absent contents reads each = each
+chaptered-read webm file.Missing contents reads each = each
+chaptered-read webm (file.Refused why) contents reads each = each
+chaptered-read webm (file.Read chapters) contents reads each = first-chaptered (kept_one (not webm) (Some chapters)) contents reads each
+
 -- ---- the sources
 
 content-octets : (world : List ℕ → Option (List ℕ)) (name : List ℕ) (o : Option (List ℕ)) → HoldsOctets world → world name ≡ o → AreOctets (unwrap_or o [])
@@ -302,14 +333,17 @@ all-alike None reads alike is = cc
 all-alike (Some why) reads alike is = absurd (cc)
 
 module _ (words : MergeWords) (sources : List Source) (sound : IsSoundMerge words) (texts : AreTexts words) where
-  with-contents : (contents : List (List ℕ)) → length contents ≡ length words.files → All AreOctets contents → sources_with words contents ≡ Ok sources → AreSources words sources
-  with-contents contents same octets is =
-      let planned = then-ok (sources_read words contents) (merge.unless_refused words) sources is in
+  with-contents : (chapters : ChapterFile) (contents : List (List ℕ)) → length contents ≡ length words.files → All AreOctets contents → sources_with words chapters contents ≡ Ok sources → AreSources words sources
+  with-contents chapters contents same octets is =
+      let planned = then-ok (sources_read words chapters contents) (merge.unless_refused words) sources is in
       let good = no-refusal (option_map Plan (plan_refusal words (reads_of planned.0))) planned.0 sources planned.1.1 in
-      let inputs = then-ok (inputs_of words contents) _ planned.0 planned.1.0 in
+      let inputs = then-ok (inputs_with words chapters contents) _ planned.0 planned.1.0 in
       let reads : List InputRead = inputs.0 in
+      let found = then-ok (inputs_of words contents) _ reads inputs.1.0 in
+      let whole : chaptered with_chapters words.webm chapters found.0 ≡ reads = all-alike (chapters_refusal chapters) (chaptered with_chapters words.webm chapters found.0) reads found.1.1 in
       let alike = then-ok (refused.unless (option_map Differs (append_refusal reads)) reads) _ planned.0 inputs.1.1 in
-      let read = inputs-read words.webm 0 0 words.files contents reads same octets sound.each texts.files inputs.1.0 in
+      let read = subst (λ (rs : List InputRead). All IsReadSource (zip contents rs)) whole
+      (chaptered-read words.webm chapters contents found.0 (inputs-read words.webm 0 0 words.files contents found.0 same octets sound.each texts.files found.1.0)) in
       let made : in_place (zip contents alike.0) ≡ planned.0 = (let last = alike.1.1 in cc) in
       let placed : in_place (zip contents reads) ≡ sources = ap (λ (rs : List InputRead). in_place (zip contents rs)) (all-alike (option_map Differs (append_refusal reads)) reads alike.0 alike.1.0) ∙ made ∙ good.1 in
       record {
@@ -317,9 +351,9 @@ module _ (words : MergeWords) (sources : List Source) (sound : IsSoundMerge word
         unrefused = ap (λ (each : List Source). plan_refusal words (reads_of each)) (sym good.1) ∙ unplanned (plan_refusal words (reads_of planned.0)) good.0;
       }
 
-  settled-ok : (why : Option Refusal) (contents : List (List ℕ)) → refused.and_then (refused.unless why contents) (sources_with words) ≡ Ok sources → sources_with words contents ≡ Ok sources
-  settled-ok None contents is = is
-  settled-ok (Some why) contents is = absurd (cc)
+  settled-ok : (chapters : ChapterFile) (why : Option Refusal) (contents : List (List ℕ)) → refused.and_then (refused.unless why contents) (sources_with words chapters) ≡ Ok sources → sources_with words chapters contents ≡ Ok sources
+  settled-ok chapters None contents is = is
+  settled-ok chapters (Some why) contents is = absurd (cc)
 
   -- The sources of a merge can be written.
   pub sources-read : (world : List ℕ → Option (List ℕ)) → HoldsOctets world → sources_of world words ≡ Ok sources → AreSources words sources
@@ -334,13 +368,16 @@ module _ (words : MergeWords) (sources : List Source) (sound : IsSoundMerge word
       many : length contents ≡ length words.files
       many = length-map names (λ (name : List ℕ). unwrap_or (world name) []) ∙ length-map words.files (λ (w : FileWords). w.name)
 
-      of-contents : refused.and_then (contents_of world words.files) (sources_settled world words) ≡ Ok sources → AreSources words sources
-      of-contents found =
-          let there = then-ok (contents_of world words.files) (sources_settled world words) sources found in
-          let same = there-ok (first_missing world names) contents there.0 there.1.0 in
-          with-contents contents many (contents-octets world names holds)
-          (settled-ok (pending_of world words) contents (ap (sources_settled world words) same ∙ there.1.1))
+      chapters : ChapterFile
+      chapters = chapter_file world words.chapters
 
-      split : (t : Bool) → (if t then Err OutputIsInput else refused.and_then (contents_of world words.files) (sources_settled world words)) ≡ Ok sources → AreSources words sources
+      of-contents : sources_beside world words chapters ≡ Ok sources → AreSources words sources
+      of-contents found =
+          let there = then-ok (contents_of world words.files) (sources_settled world words chapters) sources found in
+          let same = there-ok (first_missing world names) contents there.0 there.1.0 in
+          with-contents chapters contents many (contents-octets world names holds)
+          (settled-ok chapters (begun_refusal world words chapters) contents (ap (sources_settled world words chapters) same ∙ there.1.1))
+
+      split : (t : Bool) → (if t then Err OutputIsInput else sources_beside world words chapters) ≡ Ok sources → AreSources words sources
       split true found = absurd (cc)
       split false found = of-contents found

@@ -4,3 +4,4 @@ pub mod PreparingLemmas
 pub mod SummaryLemmas
 pub mod TellingLemmas
 pub mod WritingLemmas
+pub mod ChaptersLemmas

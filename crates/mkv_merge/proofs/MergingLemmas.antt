@@ -9,14 +9,16 @@ use Rattle.mkv_io.specs.Told.{Told}
 use Rattle.mkv_outputs.specs.Sinks.{AreLive}
 use Rattle.input_files.specs.Inputs as inputs
 use Rattle.input_files.specs.Inputs.{file_names, first_missing}
+use Rattle.text_files.specs.ChapterFile.{chapter_file, chapter_octets}
+use Rattle.text_files.specs.declared.chapter_file.ChapterFile.{ChapterFile}
 use Rattle.merge_words.specs.declared.files.FileWords.{FileWords}
 use Rattle.merge_words.specs.declared.output.MergeWords.{MergeWords}
 use Rattle.merge_plan.specs.Front.{attached_length, reads_of}
 use Rattle.merge_plan.specs.Plan.{Source, lanes_given}
-use Rattle.mkv_merge.specs.Bound.{contents_length, files_size, most_looked, most_of, most_read}
-use Rattle.mkv_merge.specs.Merge.{sources_of, sources_settled, sources_with}
+use Rattle.mkv_merge.specs.Bound.{contents_length, files_size, most_beside, most_looked, most_of, most_read}
+use Rattle.mkv_merge.specs.Merge.{sources_beside, sources_of, sources_settled, sources_with}
 use Rattle.mkv_merge.specs.Prepared.{AreTold}
-use Rattle.mkv_merge.specs.Read.{contents_of, pending_of, unless_missing, writes_input}
+use Rattle.mkv_merge.specs.Read.{begun_refusal, unless_missing, writes_input}
 use Rattle.mkv_merge.specs.Refused.{and_then, unless}
 use Rattle.mkv_merge.specs.declared.refusal.Refusal.{Refusal}
 use Rattle.mkv_merge.specs.declared.refusal.Refusal.TheVariants.{OutputIsInput}
@@ -36,12 +38,17 @@ all-there-from world k (name ∷ names) none = step (world name) (all-there-from
 pub all-there : (world : List ℕ → Option (List ℕ)) (names : List (List ℕ)) → first_missing world names ≡ None → map world names ≡ map Some (map (λ name. unwrap_or (world name) []) names)
 all-there world names none = all-there-from world 0 names none
 
--- where no input is missing, nothing refuses the names
-pub opened-sources : (world : List ℕ → Option (List ℕ)) (words : MergeWords) (files : List FileWords) → writes_input words ≡ false → files ≡ words.files → first_missing world (file_names files) ≡ None → sources_of world words ≡ sources_settled world words (map (λ name. unwrap_or (world name) []) (file_names words.files))
-opened-sources world words files apart same there =
-    ap (λ (b : Bool). if b then Err OutputIsInput else and_then (contents_of world words.files) (sources_settled world words)) apart
-    ∙ ap (λ (missing : Option ℕ). and_then (unless_missing missing (map (λ name. unwrap_or (world name) []) (file_names words.files))) (sources_settled world words))
+-- where no input is missing, nothing refuses their names
+pub opened-sources : (world : List ℕ → Option (List ℕ)) (words : MergeWords) (chapters : ChapterFile) (files : List FileWords) → files ≡ words.files → first_missing world (file_names files) ≡ None → sources_beside world words chapters ≡ sources_settled world words chapters (map (λ name. unwrap_or (world name) []) (file_names words.files))
+opened-sources world words chapters files same there =
+    ap (λ (missing : Option ℕ). and_then (unless_missing missing (map (λ name. unwrap_or (world name) []) (file_names words.files))) (sources_settled world words chapters))
     (ap (λ (each : List FileWords). first_missing world (file_names each)) (sym same) ∙ there)
+
+-- where the output is none of the files that are read, the chapter file counts as it was read
+pub chaptered-sources : (world : List ℕ → Option (List ℕ)) (words : MergeWords) (chapters : ChapterFile) → writes_input words ≡ false → chapters ≡ chapter_file world words.chapters → sources_of world words ≡ sources_beside world words chapters
+chaptered-sources world words chapters apart is =
+    ap (λ (b : Bool). if b then Err OutputIsInput else sources_beside world words (chapter_file world words.chapters)) apart
+    ∙ ap (sources_beside world words) (sym is)
 
 -- and the files that were opened tell the contents of their names
 pub opened-told : (f : LiveFiles) (world : List ℕ → Option (List ℕ)) (words : MergeWords) (files : List FileWords) (list ids : List FileId) → files ≡ words.files → ids ≡ list → first_missing world (file_names files) ≡ None → inputs.contents_of f.content list ≡ map world (file_names files) → AreTold f ids (map (λ name. unwrap_or (world name) []) (file_names words.files))
@@ -75,22 +82,30 @@ reads-both found sources lanes old mid new size now copied is count same copied_
     fits : (n d : ℕ) → new ≤ mid + (6 * (n * size) + d) → new ≤ old + (30 * size + (6 * (n * size) + d))
     fits n d more = omega arith
 
--- where no edit is pending, sidecars and then inputs are read
-pub reads-settled : (world : List ℕ → Option (List ℕ)) (words : MergeWords) (contents : List (List ℕ)) (old mid new size now look : ℕ) → pending_of world words ≡ None → now ≡ size → mid ≤ old + look → new ≤ mid + most_of (sources_with words contents) now → new ≤ old + (most_of (sources_settled world words contents) size + look)
-reads-settled world words contents old mid new size now look none same first second =
-    subst (λ (found : Option Refusal). new ≤ old + (most_of (and_then (unless found contents) (sources_with words)) size + look)) (sym none)
-    (within (most_of (sources_with words contents) size) (subst (λ (n : ℕ). new ≤ mid + most_of (sources_with words contents) n) same second))
+-- where nothing refuses them before, sidecars and then inputs are read
+pub reads-settled : (world : List ℕ → Option (List ℕ)) (words : MergeWords) (chapters : ChapterFile) (contents : List (List ℕ)) (old mid new size now look : ℕ) → begun_refusal world words chapters ≡ None → now ≡ size → mid ≤ old + look → new ≤ mid + most_of (sources_with words chapters contents) now → new ≤ old + (most_of (sources_settled world words chapters contents) size + look)
+reads-settled world words chapters contents old mid new size now look none same first second =
+    subst (λ (found : Option Refusal). new ≤ old + (most_of (and_then (unless found contents) (sources_with words chapters)) size + look)) (sym none)
+    (within (most_of (sources_with words chapters contents) size) (subst (λ (n : ℕ). new ≤ mid + most_of (sources_with words chapters contents) n) same second))
   where
     within : (most : ℕ) → new ≤ mid + most → new ≤ old + (most + look)
     within most second = omega (arith, first)
 
 -- files are opened and closed without reading them
-pub reads-few : (world : List ℕ → Option (List ℕ)) (words : MergeWords) (found : Result (List Source) Refusal) (old opened merged closed size : ℕ) → sources_of world words ≡ found → size ≡ contents_length world words.files → opened ≡ old → merged ≤ opened + (most_of found size + most_looked words) → closed ≡ merged → closed ≤ old + most_read world words
-reads-few world words found old opened merged closed size is length begun most ended =
-    within (most_of found size) (most_of (sources_of world words) (contents_length world words.files)) (most_looked words) (ap (λ (n : ℕ). most_of found n) length ∙ ap (λ (r : Result (List Source) Refusal). most_of r (contents_length world words.files)) (sym is)) most
+pub reads-few : (world : List ℕ → Option (List ℕ)) (words : MergeWords) (chapters : ChapterFile) (found : Result (List Source) Refusal) (old opened merged closed size : ℕ) → sources_beside world words chapters ≡ found → size ≡ contents_length world words.files → opened ≡ old → merged ≤ opened + (most_of found size + most_looked words) → closed ≡ merged → closed ≤ old + most_beside world words (sources_beside world words chapters)
+reads-few world words chapters found old opened merged closed size is length begun most ended =
+    within (most_of found size) (most_of (sources_beside world words chapters) (contents_length world words.files)) (most_looked words) (ap (λ (n : ℕ). most_of found n) length ∙ ap (λ (r : Result (List Source) Refusal). most_of r (contents_length world words.files)) (sym is)) most
   where
     within : (n m l : ℕ) → n ≡ m → merged ≤ opened + (n + l) → closed ≤ old + (m + l)
     within n m l same most = omega arith
+
+-- the chapter file is read in front of them
+pub reads-chaptered : (world : List ℕ → Option (List ℕ)) (words : MergeWords) (found : Result (List Source) Refusal) (old mid new : ℕ) → sources_of world words ≡ found → mid ≤ old + chapter_octets world words.chapters → new ≤ mid + most_beside world words found → new ≤ old + most_read world words
+reads-chaptered world words found old mid new is first second =
+    within (most_beside world words found) (most_beside world words (sources_of world words)) (chapter_octets world words.chapters) (ap (most_beside world words) (sym is)) first second
+  where
+    within : (n m c : ℕ) → n ≡ m → mid ≤ old + c → new ≤ mid + n → new ≤ old + (c + m)
+    within n m c same first second = omega arith
 
 -- ---- live files that are the same
 

@@ -14,7 +14,7 @@ use Rattle.merge_words.specs.declared.files.FileWords.{FileWords}
 use Rattle.merge_words.specs.declared.output.MergeWords.{MergeWords}
 use Rattle.input_files.specs.Inputs.{file_names}
 use Rattle.sidecar_format.specs.Name.{sidecar_of}
-use Rattle.mkv_merge.specs.Read.{is_read, writes_input}
+use Rattle.mkv_merge.specs.Read.{is_chapter_file, is_read, writes_input}
 
 -- ---- two names
 
@@ -97,7 +97,11 @@ others-of output (file ∷ files) none = at (others-of output files (behind (is_
 
 -- an output that isn't read has another name than each input
 pub others-read : (words : MergeWords) → writes_input words ≡ false → All (λ (name : List ℕ). AreOthers name (words.output ∷ [])) (file_names words.files)
-others-read words none = others-of words.output words.files none
+others-read words none = others-of words.output words.files (first (list_any (is_read words.output) words.files) (is_chapter_file words.output words.chapters) none)
+  where
+    first : (a b : Bool) → (a || b) ≡ false → a ≡ false
+    first true b bad = bad
+    first false b is = refl
 
 -- the same of the names under which files were opened
 pub others-held : (holder : ℕ → List ℕ) (ids : List FileId) (words : MergeWords) → holders_of holder ids ≡ file_names words.files → writes_input words ≡ false → All (λ (f : FileId). AreOthers (holder f.n) (words.output ∷ [])) ids

@@ -1,12 +1,10 @@
 -- A merge that was prepared can be written, and comes to its verdict.
-use Rattle.std.proofs.Common.{◌≡◌, ◌≢◌, ℕ, zero, suc, ◌+◌, ◌*◌, ◌<◌, ◌≤◌, nat_le, Bool, true, false, ◌||◌, List, [], ◌∷◌, ◌++◌, length, map, get_or, Option, Some, None, Result, Ok, Err, IfOk, IfSome, refl, sym, ◌∙◌, ap, subst, arith}
-use Rattle.std.specs.List.{All, AllByRecursion, flat_map, sum_by, zip}
-use Rattle.std.specs.Option.{unwrap_or}
+use Rattle.std.proofs.Common.{◌≡◌, ◌≢◌, ℕ, ◌+◌, ◌*◌, ◌<◌, ◌≤◌, Bool, false, ◌||◌, List, [], ◌∷◌, ◌++◌, length, map, get_or, Option, Some, None, Result, Ok, Err, IfOk, IfSome, refl, sym, ◌∙◌, ap, subst, arith}
+use Rattle.std.specs.List.{All, flat_map, sum_by, zip}
 use Rattle.std.proofs.Math.ListN.{get_or-map}
 use Rattle.std.proofs.lemmas.List.{length-map}
-use Rattle.std.proofs.lemmas.Bool.Decides.{nat_tests}
-use Rattle.std.proofs.lemmas.List.Elements.{All-append, All-from_recursion, All-map, All-weaker}
-use Rattle.std.proofs.lemmas.List.Sums.{sum_by-cons, sum_by-le}
+use Rattle.std.proofs.lemmas.List.Elements.{All-map}
+use Rattle.std.proofs.lemmas.List.Sums.{sum_by-le}
 use Rattle.mkv_values.specs.declared.outside.FileId.{FileId}
 use Rattle.mkv_io.specs.Faults.{counted}
 use Rattle.mkv_io.specs.Lines.{with_lines}
@@ -31,9 +29,8 @@ use Rattle.output_model.specs.declared.heads.ClusterLimits.{ClusterLimits}
 use Rattle.merge_model.specs.Lanes.{lane_blocks}
 use Rattle.merge_model.specs.Links.{Given}
 use Rattle.merge_model.specs.Merged.{merged}
-use Rattle.lane_blocks.specs.Links.{given_in, octets_in, IsOpenLink, IsSmallLink, IsToldLink}
+use Rattle.lane_blocks.specs.Links.{given_in, IsOpenLink, IsSmallLink, IsToldLink}
 use Rattle.lane_blocks.specs.declared.link.Link.{Link}
-use Rattle.lane_blocks.specs.declared.link.Link.TheVariants.{Track, Entries}
 use Rattle.lanes.specs.Walks as walks
 use Rattle.time_merge.specs.Laws.{IsApartLink, lanes_over}
 use Rattle.cluster_runs.specs.Cued.{document_of}
@@ -53,12 +50,11 @@ use Rattle.merge_words.specs.Sound.{IsSoundMerge}
 use Rattle.merge_words.specs.declared.files.FileWords.{FileWords}
 use Rattle.merge_words.specs.declared.output.MergeWords.{MergeWords}
 use Rattle.input_files.specs.Inputs.{AreInputs, file_names}
-use Rattle.input_files.specs.Inputs as files
 use Rattle.merge_inputs.specs.Input.{InputRead, IsInput, read_in}
 use Rattle.merge_inputs.specs.declared.input.Input.{Input}
 use Rattle.merge_inputs.specs.declared.taken.TakenTrack.{TakenTrack}
 use Rattle.merge_plan.specs.Plan.{Source, inputs_given, lanes_given, limits_of, numbers_of, rules_given}
-use Rattle.merge_plan.specs.Planned.{AllLinks, CanBeWritten, IsFileOf, IsPlanOf, IsToldInput, source_in}
+use Rattle.merge_plan.specs.Planned.{CanBeWritten, IsFileOf, IsPlanOf, IsToldInput, source_in}
 use Rattle.merge_plan.specs.Front.{attached_length, attachments_of, front_of, reads_of}
 use Rattle.merge_plan.specs.Records.{chapters_of, is_appended, tags_of}
 use Rattle.merge_plan.proofs.ChainLemmas.{numbers-below}
@@ -73,7 +69,7 @@ use Rattle.mkv_lines.proofs.SaidLemmas.{SaysPart-all, SaysPart-before, SaysPart-
 use Rattle.mkv_lines.proofs.VerdictLemmas.{Leaves-same}
 use Rattle.mkv_merge.specs.Bound.{files_size}
 use Rattle.mkv_merge.specs.Merge.{blocks_of, document_in, has_absent, has_damage, lines_before, lines_behind, merged_verdict, status_of}
-use Rattle.mkv_merge.specs.Prepared.{AreInputsOf, AreTold, IsPrepared, reads_in}
+use Rattle.mkv_merge.specs.Prepared.{AreTold, IsPrepared, reads_in}
 use Rattle.mkv_merge.specs.Read.{writes_input}
 use Rattle.mkv_merge.specs.Records.{EndsWithRecords, HaveRecords, IsFilled}
 use Rattle.mkv_merge.specs.Told.{is_warned, warnings_from}

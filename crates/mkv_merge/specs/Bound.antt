@@ -3,6 +3,7 @@ use Rattle.std.specs.Prelude.{ℕ, ◌+◌, ◌*◌, List, [], length, sum_by, O
 use Rattle.mkv_values.specs.declared.outside.FileId.{FileId}
 use Rattle.mkv_io.specs.LiveFiles.{LiveFiles}
 use Rattle.sidecar_format.specs.declared.place.TheConstants.{HEAD}
+use Rattle.text_files.specs.ChapterFile.{chapter_octets}
 use Rattle.merge_words.specs.declared.files.FileWords.{FileWords}
 use Rattle.merge_words.specs.declared.output.MergeWords.{MergeWords}
 use Rattle.merge_plan.specs.Front.{attached_length, reads_of}
@@ -37,6 +38,10 @@ most_of sources octets = 30 * octets + (6 * (lane_count sources * octets) + data
 abbrev pub most_looked : MergeWords → ℕ
 most_looked words = HEAD * (length words.files + 1)
 
--- what a merge may read in a world of names
+-- what may be read of the sources of a merge, and of sidecars
+abbrev pub most_beside : (List ℕ → Option (List ℕ)) → MergeWords → Result (List Source) Refusal → ℕ
+most_beside world words sources = most_of sources (contents_length world words.files) + most_looked words
+
+-- what a merge may read in a world of names: besides, the chapter file once
 abbrev pub most_read : (List ℕ → Option (List ℕ)) → MergeWords → ℕ
-most_read world words = most_of (sources_of world words) (contents_length world words.files) + most_looked words
+most_read world words = chapter_octets world words.chapters + most_beside world words (sources_of world words)

@@ -4,6 +4,7 @@ pub mod Prepared
 pub mod Read
 pub mod Refused
 pub mod Ends
+pub mod Chapters
 pub mod Records
 pub mod Takes
 pub mod Told

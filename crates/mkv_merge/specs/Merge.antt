@@ -1,5 +1,5 @@
 -- What `merge` comes to.
-use Rattle.std.specs.Prelude.{ℕ, ◌==◌, nat_le, Bool, true, false, ◌||◌, if◌then◌else◌, List, [], ◌∷◌, ◌++◌, length, map, filter, flat_map, Option, Some, None, Result, Ok, Err}
+use Rattle.std.specs.Prelude.{ℕ, ◌==◌, nat_le, Bool, true, false, ◌||◌, if◌then◌else◌, List, [], ◌∷◌, ◌++◌, length, map, filter, flat_map, Option, Result, Ok, Err}
 use Rattle.std.specs.List.{enumerate_from, find, list_any, range_with_len, zip}
 use Rattle.std.specs.Option.{option_map, option_map_or}
 use Rattle.mkv_values.specs.declared.damage.Damage.{Damage}
@@ -12,6 +12,8 @@ use Rattle.merge_model.specs.Links.{Given}
 use Rattle.merge_model.specs.Merged.{merged}
 use Rattle.cluster_runs.specs.Cued.{document_of}
 use Rattle.cues_seekhead.specs.Draft.{draft_of}
+use Rattle.text_files.specs.ChapterFile.{chapter_file}
+use Rattle.text_files.specs.declared.chapter_file.ChapterFile.{ChapterFile}
 use Rattle.merge_words.specs.declared.files.FileWords.{FileWords}
 use Rattle.merge_words.specs.declared.output.MergeWords.{MergeWords}
 use Rattle.merge_inputs.specs.Input.{InputRead}
@@ -25,7 +27,7 @@ use Rattle.mkv_lines.specs.Line.{damage_lines, no_track_line, wrote_blocks_line}
 use Rattle.mkv_lines.specs.Verdict.{Verdict, in_turn, refused}
 use Rattle.mkv_lines.specs.declared.status.Status.{Status}
 use Rattle.mkv_lines.specs.declared.status.Status.TheVariants.{Done, Warned}
-use Rattle.mkv_merge.specs.Read.{contents_of, inputs_of, pending_of, writes_input}
+use Rattle.mkv_merge.specs.Read.{begun_refusal, contents_of, inputs_with, writes_input}
 use Rattle.mkv_merge.specs.Refused.{and_then, line_of, unless}
 use Rattle.mkv_merge.specs.declared.refusal.Refusal.{Refusal}
 use Rattle.mkv_merge.specs.declared.refusal.Refusal.TheVariants.{Differs, OutputIsInput, Plan}
@@ -33,10 +35,10 @@ use Rattle.mkv_merge.specs.declared.refusal.Refusal.TheVariants.{Differs, Output
 -- ---- the sources
 
 -- the sources of a merge whose inputs have these contents, each that is appended in its place; or what refuses them before they
--- are planned: what is read of each, and then one whose tracks can't go on in the lanes of the one before it
-abbrev pub sources_read : MergeWords → List (List ℕ) → Result (List Source) Refusal
-sources_read words contents =
-    and_then (inputs_of words contents) (λ reads.
+-- are planned: what is read of each, what the chapter file gives, and then one whose tracks can't go on in the lanes of the one before it
+abbrev pub sources_read : MergeWords → ChapterFile → List (List ℕ) → Result (List Source) Refusal
+sources_read words chapters contents =
+    and_then (inputs_with words chapters contents) (λ reads.
     and_then (unless (option_map Differs (append_refusal reads)) reads) (λ alike.
     Ok (in_place (zip contents alike))))
 
@@ -45,17 +47,21 @@ abbrev pub unless_refused : MergeWords → List Source → Result (List Source) 
 unless_refused words sources = unless (option_map Plan (plan_refusal words (reads_of sources))) sources
 
 -- the sources of a merge whose inputs have these contents, or what refuses them
-abbrev pub sources_with : MergeWords → List (List ℕ) → Result (List Source) Refusal
-sources_with words contents = and_then (sources_read words contents) (unless_refused words)
+abbrev pub sources_with : MergeWords → ChapterFile → List (List ℕ) → Result (List Source) Refusal
+sources_with words chapters contents = and_then (sources_read words chapters contents) (unless_refused words)
 
--- the same, unless an edit of one of the files is pending
-abbrev pub sources_settled : (List ℕ → Option (List ℕ)) → MergeWords → List (List ℕ) → Result (List Source) Refusal
-sources_settled world words contents = and_then (unless (pending_of world words) contents) (sources_with words)
+-- the same, unless the chapter file isn't there or an edit of one of the files is pending
+abbrev pub sources_settled : (List ℕ → Option (List ℕ)) → MergeWords → ChapterFile → List (List ℕ) → Result (List Source) Refusal
+sources_settled world words chapters contents = and_then (unless (begun_refusal world words chapters) contents) (sources_with words chapters)
 
--- the sources of a merge in a world of names, or the first thing that refuses it: the output's name, an input that isn't
--- there, an edit that is pending, and then what the inputs hold
+-- the same of the inputs' names, unless an input isn't there
+abbrev pub sources_beside : (List ℕ → Option (List ℕ)) → MergeWords → ChapterFile → Result (List Source) Refusal
+sources_beside world words chapters = and_then (contents_of world words.files) (sources_settled world words chapters)
+
+-- the sources of a merge in a world of names, or the first thing that refuses it: the output's name, an input or a chapter file
+-- that isn't there, an edit that is pending, and then what they hold
 abbrev pub sources_of : (List ℕ → Option (List ℕ)) → MergeWords → Result (List Source) Refusal
-sources_of world words = if writes_input words then Err OutputIsInput else and_then (contents_of world words.files) (sources_settled world words)
+sources_of world words = if writes_input words then Err OutputIsInput else sources_beside world words (chapter_file world words.chapters)
 
 -- ---- the output
 

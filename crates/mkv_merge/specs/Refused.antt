@@ -1,16 +1,18 @@
 -- Why nothing is merged, and the line that says so.
-use Rattle.std.specs.Prelude.{ℕ, List, [], Option, Some, None, Result, Ok, Err}
+use Rattle.std.specs.Prelude.{ℕ, List, [], Option, Some, None, unwrap_or, Result, Ok, Err}
 use Rattle.std.specs.List.{slice_get}
 use Rattle.std.specs.Option.{option_map_or}
+use Rattle.text_files.specs.declared.refusal.TextRefusal.{TextRefusal}
+use Rattle.text_files.specs.declared.refusal.TextRefusal.TheVariants.{TooLarge, Bad}
 use Rattle.merge_words.specs.declared.files.FileWords.{FileWords}
 use Rattle.merge_words.specs.declared.output.MergeWords.{MergeWords}
 use Rattle.merge_inputs.specs.declared.input.InputRefusal.{InputRefusal}
 use Rattle.merge_inputs.specs.declared.input.InputRefusal.TheVariants.{Damaged}
 use Rattle.merge_plan.specs.declared.refusal.PlanRefusal.{PlanRefusal}
 use Rattle.merge_plan.specs.declared.refusal.PlanRefusal.TheVariants.{NoLane, TooManyLanes, NotWebm, HeaderTooLarge}
-use Rattle.mkv_lines.specs.Line.{append_differs_line, missing_line, no_lane_line, not_webm_line, output_is_input_line, pending_edit_line, refusal_line, too_large_line, too_many_lanes_line}
+use Rattle.mkv_lines.specs.Line.{append_differs_line, bad_text_line, missing_line, no_lane_line, not_webm_line, output_is_input_line, pending_edit_line, refusal_line, text_too_large_line, too_large_line, too_many_lanes_line}
 use Rattle.mkv_merge.specs.declared.refusal.Refusal.{Refusal}
-use Rattle.mkv_merge.specs.declared.refusal.Refusal.TheVariants.{OutputIsInput, Missing, PendingInput, PendingOutput, Input, Differs, Plan}
+use Rattle.mkv_merge.specs.declared.refusal.Refusal.TheVariants.{OutputIsInput, Missing, MissingChapters, PendingInput, PendingOutput, Input, Chapters, Differs, Plan}
 
 -- ---- one step after the other
 
@@ -39,12 +41,22 @@ plan_line output TooManyLanes = too_many_lanes_line
 plan_line output (NotWebm codec) = not_webm_line codec
 plan_line output (HeaderTooLarge id) = too_large_line output id
 
+-- the name of the chapter file
+abbrev pub chapters_name : MergeWords → List ℕ
+chapters_name words = unwrap_or words.chapters []
+
+abbrev pub text_line : List ℕ → TextRefusal → List ℕ
+text_line name TooLarge = text_too_large_line name
+text_line name (Bad line) = bad_text_line name line
+
 -- the line of a refusal
 abbrev pub line_of : MergeWords → Refusal → List ℕ
 line_of words OutputIsInput = output_is_input_line words.output
 line_of words (Missing input) = missing_line (name_of words input)
+line_of words MissingChapters = missing_line (chapters_name words)
 line_of words (PendingInput input) = pending_edit_line (name_of words input)
 line_of words PendingOutput = pending_edit_line words.output
 line_of words (Input input why) = input_line (name_of words input) why
+line_of words (Chapters why) = text_line (chapters_name words) why
 line_of words (Differs d) = append_differs_line (name_of words d.input) d.id
 line_of words (Plan why) = plan_line words.output why

@@ -8,7 +8,7 @@ use Rattle.merge_words.specs.declared.output.MergeWords.{MergeWords}
 abbrev pub is_plain : FileWords → Bool
 is_plain file = length file.times == 0
 
--- no parts, no chapters of a text file, no identifiers, and plain files
+-- no parts, no identifiers, and plain files
 abbrev pub takes : MergeWords → Bool
 takes words =
-    (is_none words.split && is_none words.chapters) && (length words.uuids == 0 && not words.link) && list_all is_plain words.files
+    is_none words.split && (length words.uuids == 0 && not words.link) && list_all is_plain words.files

@@ -2,6 +2,7 @@
 
 //! The command `merge`, which writes one file of several: the tracks that the words take of each, as they say them.
 
+mod chapters;
 mod merging;
 mod names;
 mod pending;

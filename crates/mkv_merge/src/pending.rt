@@ -1,11 +1,11 @@
-//! Edits that are pending of the files of a merge.
+//! What keeps the files of a merge from being read.
 
 ghost use Rattle.std.specs.Prelude.{◌≡◌, ◌+◌, ◌*◌, ◌≤◌, length, IfOk};
 ghost use Rattle.mkv_io.specs.Faults.{HasCause, is_read_fault};
 ghost use Rattle.mkv_io.specs.Told.{Told};
 ghost use Rattle.sidecar_format.specs.declared.place.TheConstants.{HEAD};
 ghost use Rattle.pending_edits.specs.Pending.{LooksOnly};
-ghost use Rattle.mkv_merge.specs.Read.{pending_of};
+ghost use Rattle.mkv_merge.specs.Read.{begun_refusal, pending_of};
 
 use crate::refusal::Refusal;
 use input_files::first_pending;
@@ -14,10 +14,11 @@ use mkv_io::Files;
 use mkv_values::ReadEnd;
 use pending_edits::is_pending;
 use std::alloc::Global;
+use text_files::ChapterFile;
 
 /// What refuses a merge of files of which an edit is pending: the first of the inputs, in the order of the words, and
 /// then the file that lies at the output's name.
-pub fn pending_of<F: Files>(
+fn pending_of<F: Files>(
     alloc: Global,
     words: &MergeWords,
     files: &mut F,
@@ -34,4 +35,23 @@ pub fn pending_of<F: Files>(
         return Ok(Some(Refusal::PendingOutput));
     }
     Ok(None)
+}
+
+/// What refuses a merge whose inputs are there before they are read: a chapter file that isn't there, or an edit that is
+/// pending.
+pub fn begun_refusal<F: Files>(
+    alloc: Global,
+    words: &MergeWords,
+    chapters: &ChapterFile,
+    files: &mut F,
+) -> Result<Option<Refusal>, ReadEnd>
+    ensures exact { Told (F.names files.old) (λ world. IfOk result (λ why. why ≡ begun_refusal world words.now chapters.now)) }
+    ensures looks { LooksOnly F.Reads F.Files.own files.old files.new }
+    ensures cause { HasCause is_read_fault (F.reading_faults files.old) (F.reading_faults files.new) result }
+    ensures octets { F.octets_read files.new ≤ F.octets_read files.old + HEAD * (length words.now.files + 1) }
+{
+    match chapters {
+        ChapterFile::Missing => Ok(Some(Refusal::MissingChapters)),
+        _ => pending_of(alloc, words, files),
+    }
 }

@@ -5,13 +5,15 @@ ghost use Rattle.std.specs.List.{All};
 ghost use Rattle.mkv_io.specs.Faults.{HasCause};
 ghost use Rattle.mkv_io.specs.Sources.{IfTold, IsLive, file_size, live_files};
 ghost use Rattle.mkv_outputs.specs.Sinks.{AreLive};
+ghost use Rattle.text_files.specs.ChapterFile.{CanBeWritten};
 ghost use Rattle.merge_words.specs.Sound.{IsSoundFile, IsSoundMerge};
 ghost use Rattle.merge_inputs.specs.Input.{IsInput, IsReadOf, input_of, read_in};
 ghost use Rattle.mkv_merge.specs.Bound.{files_size};
 ghost use Rattle.mkv_merge.specs.Ends.{is_files_fault};
 ghost use Rattle.mkv_merge.specs.Prepared.{AreInputsOf, AreTold, IsPrepared, Prepares, ReadsAs, ReadsInPlace, reads_in};
-ghost use Rattle.mkv_merge.specs.Read.{inputs_of, numbered};
+ghost use Rattle.mkv_merge.specs.Read.{inputs_of, inputs_with, numbered};
 
+use crate::chapters::with_file;
 use crate::refusal::{MergeEnd, Refusal};
 use appended_inputs::set_in_place;
 use merge_inputs::{Input, InputEnd, read_input};
@@ -21,6 +23,7 @@ use mkv_io::Reads;
 use mkv_values::{FileId, List, ReadEnd};
 use remux_plan::MergePlan;
 use std::alloc::Global;
+use text_files::ChapterFile;
 
 /// What a merge is made of.
 #[derive(Drop)]
@@ -85,48 +88,75 @@ fn read_inputs<R: Reads>(
     Ok(inputs)
 }
 
-/// The inputs as they were read, each that is appended in its place; or what refuses them: what is read of each, and then
-/// one whose tracks can't go on in the lanes of the one before it.
-fn inputs_in_place<R: Reads>(
+/// The same with what the chapter file gives, or what refuses it.
+fn read_all<R: Reads>(
     alloc: Global,
     words: &MergeWords,
+    chapters: ChapterFile,
     src: &mut R,
     files: &[FileId],
 ) -> Result<List<Input>, MergeEnd>
     requires sound { IsSoundMerge words.now }
+    requires chapters { CanBeWritten chapters }
     requires live { AreLive (live_files R.Reads src.old).live files.now }
     requires each { length files.now ≡ length words.now.files }
     ensures exact { (contents : List (List ℕ)) → AreTold (live_files R.Reads src.old) files.now contents
-        → ReadsInPlace words.now contents result }
+        → ReadsAs reads_in (inputs_with words.now chapters contents) result }
+    ensures inputs { IfOk result (AreInputsOf (live_files R.Reads src.new) files.now) }
+    ensures standing { R.standing src.new ≡ R.standing src.old }
+    ensures cause { HasCause is_files_fault (R.reading_faults src.old) (R.reading_faults src.new) result }
+    ensures octets { R.octets_read src.new ≤ R.octets_read src.old + 24 * files_size (live_files R.Reads src.old) files.now }
+{
+    let inputs = read_inputs(alloc, words, src, files)?;
+    with_file(alloc, words.webm, chapters, inputs)
+}
+
+/// The inputs as they were read, each that is appended in its place; or what refuses them: what is read of each, what the
+/// chapter file gives, and then one whose tracks can't go on in the lanes of the one before it.
+fn inputs_in_place<R: Reads>(
+    alloc: Global,
+    words: &MergeWords,
+    chapters: ChapterFile,
+    src: &mut R,
+    files: &[FileId],
+) -> Result<List<Input>, MergeEnd>
+    requires sound { IsSoundMerge words.now }
+    requires chapters { CanBeWritten chapters }
+    requires live { AreLive (live_files R.Reads src.old).live files.now }
+    requires each { length files.now ≡ length words.now.files }
+    ensures exact { (contents : List (List ℕ)) → AreTold (live_files R.Reads src.old) files.now contents
+        → ReadsInPlace words.now chapters contents result }
     ensures inputs { IfOk result (AreInputsOf (live_files R.Reads src.new) files.now) }
     ensures standing { R.standing src.new ≡ R.standing src.old }
     ensures cause { HasCause is_files_fault (R.reading_faults src.old) (R.reading_faults src.new) result }
     ensures octets { R.octets_read src.new ≤ R.octets_read src.old + 30 * files_size (live_files R.Reads src.old) files.now }
 {
-    let inputs = read_inputs(alloc, words, src, files)?;
+    let inputs = read_all(alloc, words, chapters, src, files)?;
     if let Some(differs) = append_refusal(inputs.as_slice()) {
         return Err(MergeEnd::Refused(Refusal::Differs(differs)));
     }
     Ok(set_in_place(alloc, inputs, src)?)
 }
 
-/// What these words make of these live files, or what refuses them.
+/// What these words make of these live files and of the chapter file, or what refuses them.
 pub fn prepare<R: Reads>(
     alloc: Global,
     words: &MergeWords,
+    chapters: ChapterFile,
     src: &mut R,
     files: &[FileId],
 ) -> Result<Prepared, MergeEnd>
     requires sound { IsSoundMerge words.now }
+    requires chapters { CanBeWritten chapters }
     requires live { AreLive (live_files R.Reads src.old).live files.now }
     requires each { length files.now ≡ length words.now.files }
-    ensures exact { (contents : List (List ℕ)) → AreTold (live_files R.Reads src.old) files.now contents → Prepares words.now contents result }
+    ensures exact { (contents : List (List ℕ)) → AreTold (live_files R.Reads src.old) files.now contents → Prepares words.now chapters contents result }
     ensures prepared { IfOk result (IsPrepared (live_files R.Reads src.new) words.now files.now) }
     ensures standing { R.standing src.new ≡ R.standing src.old }
     ensures cause { HasCause is_files_fault (R.reading_faults src.old) (R.reading_faults src.new) result }
     ensures octets { R.octets_read src.new ≤ R.octets_read src.old + 30 * files_size (live_files R.Reads src.old) files.now }
 {
-    let inputs = inputs_in_place(alloc, words, src, files)?;
+    let inputs = inputs_in_place(alloc, words, chapters, src, files)?;
     match plan_of(alloc, words, inputs.as_slice()) {
         Ok(plan) => Ok(Prepared { inputs, plan }),
         Err(PlanEnd::Refused(why)) => Err(MergeEnd::Refused(Refusal::Plan(why))),

@@ -8,20 +8,25 @@ use merge_inputs::InputRefusal;
 use merge_plan::{AppendDiffers, PlanRefusal};
 use mkv_values::ReadEnd;
 use std::alloc::AllocError;
+use text_files::TextRefusal;
 
 /// Why nothing is merged. Inputs count from 0, in the order of the words.
 #[derive(Debug, Drop)]
 pub enum Refusal {
-    /// The output has the name of an input, or of the file beside an input in which an edit is kept.
+    /// The output has the name of an input, of the file beside an input in which an edit is kept, or of the chapter file.
     OutputIsInput,
     /// There is no file of this input's name.
     Missing { input: usize },
+    /// There is no file of the chapter file's name.
+    MissingChapters,
     /// An edit of this input is pending.
     PendingInput { input: usize },
     /// An edit of the file that lies at the output's name is pending.
     PendingOutput,
     /// This input isn't taken.
     Input { input: usize, why: InputRefusal },
+    /// The chapter file isn't taken.
+    Chapters(TextRefusal),
     /// The tracks of this appended input can't go on in those of the one before it.
     Differs(AppendDiffers),
     /// The inputs make no output.

@@ -24,7 +24,7 @@ fn are_plain(files: &[FileWords]) -> bool
 pub fn takes(words: &MergeWords) -> bool
     ensures { result ≡ takes words.now }
 {
-    let is_whole = words.split.is_none() && words.chapters.is_none();
+    let is_whole = words.split.is_none();
     let is_unnamed = words.uuids.is_empty() && !words.link;
     is_whole && is_unnamed && are_plain(words.files.as_slice())
 }

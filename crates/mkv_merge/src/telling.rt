@@ -9,7 +9,7 @@ ghost use Rattle.remux_plan.specs.declared.summary.InputDamage.{InputDamage as D
 ghost use Rattle.remux_plan.specs.declared.summary.MoreDamage.{MoreDamage as MoreSeen};
 ghost use Rattle.mkv_merge.specs.Merge.{absent_of, has_absent, is_some_of, lines_before};
 ghost use Rattle.mkv_merge.specs.Prepared.{reads_in};
-ghost use Rattle.mkv_merge.specs.Refused.{input_line, line_of, name_of, plan_line};
+ghost use Rattle.mkv_merge.specs.Refused.{chapters_name, input_line, line_of, name_of, plan_line, text_line};
 ghost use Rattle.mkv_merge.specs.Told.{damages_at, more_at, warnings_from};
 
 use crate::refusal::Refusal;
@@ -20,6 +20,7 @@ use mkv_io::Report;
 use mkv_lines::{Line, Status, Stop, say};
 use remux_plan::{InputDamage, MoreDamage, Summary};
 use std::alloc::Global;
+use text_files::TextRefusal;
 
 /// The name of an input, by its number.
 fn name_of(words: &MergeWords, input: usize) -> &str
@@ -52,6 +53,25 @@ fn plan_line<'a>(name: &'a str, why: &'a PlanRefusal) -> Line<'a>
     }
 }
 
+/// The name of the chapter file.
+fn chapters_name(words: &MergeWords) -> &str
+    ensures { result.now ≡ chapters_name words.now }
+{
+    match &words.chapters {
+        Some(name) => name.as_str(),
+        None => "",
+    }
+}
+
+fn text_line<'a>(name: &'a str, why: &TextRefusal) -> Line<'a>
+    ensures { text_of result ≡ text_line name.now why.now }
+{
+    match *why {
+        TextRefusal::TooLarge => Line::TextTooLarge { name },
+        TextRefusal::Bad { line } => Line::BadText { name, line },
+    }
+}
+
 /// The line of a refusal.
 fn line_of<'a>(words: &'a MergeWords, why: &'a Refusal) -> Line<'a>
     ensures { text_of result ≡ line_of words.now why.now }
@@ -62,11 +82,15 @@ fn line_of<'a>(words: &'a MergeWords, why: &'a Refusal) -> Line<'a>
         Refusal::Missing { input } => Line::Missing {
             name: name_of(words, *input),
         },
+        Refusal::MissingChapters => Line::Missing {
+            name: chapters_name(words),
+        },
         Refusal::PendingInput { input } => Line::PendingEdit {
             name: name_of(words, *input),
         },
         Refusal::PendingOutput => Line::PendingEdit { name: output },
         Refusal::Input { input, why } => input_line(name_of(words, *input), why),
+        Refusal::Chapters(why) => text_line(chapters_name(words), why),
         Refusal::Differs(differs) => Line::AppendDiffers {
             name: name_of(words, differs.input),
             id: differs.id,

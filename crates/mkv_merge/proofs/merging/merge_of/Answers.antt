@@ -1,99 +1,63 @@
-use Rattle.std.proofs.Common.{◌≡◌, false, List, [], map, Result, refl, sym, ◌∙◌, ap, subst}
-use Rattle.std.specs.Prelude.{unwrap_or}
-use Rattle.mkv_io.specs.Sources.{live_files}
-use Rattle.input_files.specs.Inputs.{file_names}
+use Rattle.std.proofs.Common.{◌≡◌, false, List, Result, refl, sym, ◌∙◌, ap, subst}
 use Rattle.merge_plan.specs.Plan.{Source}
 use Rattle.mkv_lines.specs.Seen.{Seen, seen}
 use Rattle.mkv_lines.specs.Verdict.{Reaches, Verdict}
 use Rattle.mkv_lines.proofs.VerdictLemmas.{IsStopped-before}
-use Rattle.mkv_merge.specs.Bound.{files_size}
-use Rattle.mkv_merge.specs.Merge.{merge_verdict, sources_of, sources_settled, verdict_of}
-use Rattle.mkv_merge.specs.Prepared.{AreTold}
+use Rattle.mkv_merge.specs.Merge.{merge_verdict, sources_beside, verdict_of}
 use Rattle.mkv_merge.specs.Read.{writes_input}
 use Rattle.mkv_merge.specs.Records.{EndsWithRecords}
 use Rattle.mkv_merge.specs.declared.refusal.Refusal.{Refusal}
-use Rattle.mkv_merge.proofs.MergingLemmas.{opened-sources, opened-told, reads-few, size-told}
+use Rattle.mkv_merge.proofs.MergingLemmas.{chaptered-sources, reads-chaptered}
 use Rattle.mkv_merge.proofs.merging.merge_of.Goals as goal
 
--- the inputs were opened, merged and closed
-pub returns-clause-verdict : goal.returns-clause-verdict
-returns-clause-verdict g c = λ world told.
+-- the chapter file was looked into, and nothing that is seen has changed
+pub returns-in-Ok-clause-verdict : goal.returns-in-Ok-clause-verdict
+returns-in-Ok-clause-verdict g c = λ world told.
     let words = c.args.words.now in
     let old = c.args.files.now in
-    let opened = c.open_all.new.files in
-    let merged = c.merge_settled-ended.new.files in
-    let closed = c.close_all.new in
-    let said = c.merge_settled-ended.new.report in
-    let contents = map (λ name. unwrap_or (world name) []) (file_names words.files) in
+    let mid = c.read_chapter_file.new.files in
+    let looks = c.read_chapter_file.ensures.looks in
     let apart : writes_input words ≡ false = sym c.writes_input.ensures ∙ c.if-writes_input.false in
-    let there = c.in-Ok.ensures.missing world told in
-    let sources : sources_of world words ≡ sources_settled world words contents = opened-sources world words c.as_slice.result.now apart c.as_slice.ensures there in
-    let same = c.in-Ok.ensures.same in
-    let ends = c.close_all.ensures in
-    let contents-told : AreTold (live_files g.F.Reads opened) c.as_slice-2.result.now contents =
-    opened-told (live_files g.F.Reads opened) world words c.as_slice.result.now c.in-Ok.ids c.as_slice-2.result.now c.as_slice.ensures c.as_slice-2.ensures there (c.in-Ok.ensures.contents world told) in
+    let sources = chaptered-sources world words c.in-Ok.chapters apart (c.in-Ok.ensures.exact world told) in
+    let reading : g.F.Reads.reading_faults mid ≡ g.F.Reads.reading_faults old = c.in-Ok.ensures.cause in
     let was = seen g.F.Reads g.F.Files.writing_faults g.F.Files.names g.P.Report old c.args.report.now in
-    let read = seen g.F.Reads g.F.Files.writing_faults g.F.Files.names g.P.Report opened c.args.report.now in
-    let wrote = seen g.F.Reads g.F.Files.writing_faults g.F.Files.names g.P.Report merged said in
-    let now = seen g.F.Reads g.F.Files.writing_faults g.F.Files.names g.P.Report c.close_all.new.files said in
-    let cause : g.F.Reads.reading_faults opened ≡ g.F.Reads.reading_faults old = c.in-Ok.ensures.cause in
+    let read = seen g.F.Reads g.F.Files.writing_faults g.F.Files.names g.P.Report mid c.args.report.now in
+    let now = seen g.F.Reads g.F.Files.writing_faults g.F.Files.names g.P.Report c.merge_beside.new.files c.merge_beside.new.report in
     let begun : read ≡ was = λ i. record {
-      counts = record { reading = cause i; writing = same.writing i; report = g.P.Report.faults c.args.report.now };
+      counts = record { reading = reading i; writing = looks.writing i; report = g.P.Report.faults c.args.report.now };
       lines = g.P.Report.lines c.args.report.now;
-      names = same.names i;
+      names = looks.names i;
     } in
-    let ended : wrote ≡ now = λ i. record {
-      counts = record { reading = sym ends.reading i; writing = sym ends.writing i; report = g.P.Report.faults said };
-      lines = g.P.Report.lines said;
-      names = sym ends.names i;
-    } in
-    subst (λ (s : Seen). Reaches was s c.merge_settled-ended.result (merge_verdict world words)) ended
-    (subst (λ (s : Seen). Reaches s wrote c.merge_settled-ended.result (merge_verdict world words)) begun
-    (subst (λ (v : Verdict). Reaches read wrote c.merge_settled-ended.result v) (ap (verdict_of words) (sym sources))
-    (c.merge_settled-ended.ensures.verdict world (same.names ∙ told) contents contents-told)))
+    subst (λ (s : Seen). Reaches s now c.merge_beside.result (merge_verdict world words)) begun
+    (subst (λ (v : Verdict). Reaches read now c.merge_beside.result v) (ap (verdict_of words) (sym sources))
+    (c.merge_beside.ensures.verdict world (looks.names ∙ told)))
 
--- the inputs couldn't be opened
-pub returns-in-Err-Failed-clause-verdict : goal.returns-in-Err-Failed-clause-verdict
-returns-in-Err-Failed-clause-verdict g c = λ world told.
-    IsStopped-before (seen g.F.Reads g.F.Files.writing_faults g.F.Files.names g.P.Report c.args.files.now c.args.report.now)
-    (seen g.F.Reads g.F.Files.writing_faults g.F.Files.names g.P.Report c.open_all.new.files c.args.report.now)
-    (merge_verdict world c.args.words.now) refl c.open_all.ensures.same.names
+pub returns-in-Ok-clause-live : goal.returns-in-Ok-clause-live
+returns-in-Ok-clause-live g c = λ file. c.merge_beside.ensures.live file ∙ c.read_chapter_file.ensures.looks.kept.live file
 
-pub returns-in-Err-Memory-clause-verdict : goal.returns-in-Err-Memory-clause-verdict
-returns-in-Err-Memory-clause-verdict g c = λ world told.
+-- the chapter file couldn't be looked into
+pub returns-in-Err-clause-verdict : goal.returns-in-Err-clause-verdict
+returns-in-Err-clause-verdict g c = λ world told.
     IsStopped-before (seen g.F.Reads g.F.Files.writing_faults g.F.Files.names g.P.Report c.args.files.now c.args.report.now)
-    (seen g.F.Reads g.F.Files.writing_faults g.F.Files.names g.P.Report c.open_all.new.files c.args.report.now)
-    (merge_verdict world c.args.words.now) refl c.open_all.ensures.same.names
+    (seen g.F.Reads g.F.Files.writing_faults g.F.Files.names g.P.Report c.read_chapter_file.new.files c.args.report.now)
+    (merge_verdict world c.args.words.now) refl c.read_chapter_file.ensures.looks.names
 
 -- ---- how much is read
 
-pub returns-clause-octets : goal.returns-clause-octets
-returns-clause-octets g c = λ world told.
+pub returns-in-Ok-clause-octets : goal.returns-in-Ok-clause-octets
+returns-in-Ok-clause-octets g c = λ world told.
     let words = c.args.words.now in
-    let opened = c.open_all.new.files in
-    let ids = c.as_slice-2.result.now in
-    let f = live_files g.F.Reads opened in
-    let contents = map (λ name. unwrap_or (world name) []) (file_names words.files) in
     let apart : writes_input words ≡ false = sym c.writes_input.ensures ∙ c.if-writes_input.false in
-    let there = c.in-Ok.ensures.missing world told in
-    let contents-told : AreTold f ids contents =
-    opened-told f world words c.as_slice.result.now c.in-Ok.ids ids c.as_slice.ensures c.as_slice-2.ensures there (c.in-Ok.ensures.contents world told) in
-    reads-few world words (sources_settled world words contents) (g.F.Reads.octets_read c.args.files.now) (g.F.Reads.octets_read opened) (g.F.Reads.octets_read c.merge_settled-ended.new.files) (g.F.Reads.octets_read c.close_all.new.files) (files_size f ids)
-    (opened-sources world words c.as_slice.result.now apart c.as_slice.ensures there) (size-told f (g.met.F.Reads.told_size (g.F.Reads.standing opened)) world words.files ids contents-told)
-    c.in-Ok.ensures.same.octets (c.merge_settled-ended.ensures.octets world (c.in-Ok.ensures.same.names ∙ told) contents contents-told) c.close_all.ensures.octets
+    reads-chaptered world words (sources_beside world words c.in-Ok.chapters) (g.F.Reads.octets_read c.args.files.now) (g.F.Reads.octets_read c.read_chapter_file.new.files) (g.F.Reads.octets_read c.merge_beside.new.files)
+    (chaptered-sources world words c.in-Ok.chapters apart (c.in-Ok.ensures.exact world told))
+    (c.read_chapter_file.ensures.octets world told) (c.merge_beside.ensures.octets world (c.read_chapter_file.ensures.looks.names ∙ told))
 
 -- ---- the records
 
-pub returns-clause-records : goal.returns-clause-records
-returns-clause-records g c = λ world told.
+pub returns-in-Ok-clause-records : goal.returns-in-Ok-clause-records
+returns-in-Ok-clause-records g c = λ world told.
     let words = c.args.words.now in
-    let f = live_files g.F.Reads c.open_all.new.files in
-    let ids = c.as_slice-2.result.now in
-    let contents = map (λ name. unwrap_or (world name) []) (file_names words.files) in
     let apart : writes_input words ≡ false = sym c.writes_input.ensures ∙ c.if-writes_input.false in
-    let there = c.in-Ok.ensures.missing world told in
-    let contents-told : AreTold f ids contents =
-    opened-told f world words c.as_slice.result.now c.in-Ok.ids ids c.as_slice.ensures c.as_slice-2.ensures there (c.in-Ok.ensures.contents world told) in
-    subst (λ (found : Result (List Source) Refusal). EndsWithRecords found c.merge_settled-ended.result)
-    (sym (opened-sources world words c.as_slice.result.now apart c.as_slice.ensures there))
-    (c.merge_settled-ended.ensures.records world (c.in-Ok.ensures.same.names ∙ told) contents contents-told)
+    subst (λ (found : Result (List Source) Refusal). EndsWithRecords found c.merge_beside.result)
+    (sym (chaptered-sources world words c.in-Ok.chapters apart (c.in-Ok.ensures.exact world told)))
+    (c.merge_beside.ensures.records world (c.read_chapter_file.ensures.looks.names ∙ told))

@@ -10,7 +10,7 @@ use Rattle.mkv_lines.proofs.VerdictLemmas.{IsStopped-before, Reaches-lines}
 use Rattle.mkv_merge.specs.Bound.{files_size, most_looked}
 use Rattle.mkv_merge.specs.Merge.{sources_settled, sources_with, verdict_of}
 use Rattle.mkv_merge.specs.Prepared.{AreTold}
-use Rattle.mkv_merge.specs.Read.{pending_of}
+use Rattle.mkv_merge.specs.Read.{begun_refusal}
 use Rattle.mkv_merge.specs.Records.{EndsWithRecords}
 use Rattle.mkv_merge.specs.Refused.{and_then, line_of, unless}
 use Rattle.mkv_merge.specs.declared.refusal.Refusal.{Refusal}
@@ -21,18 +21,18 @@ use Rattle.mkv_merge.proofs.merging.merge_settled.Goals as goal
 -- the inputs stand while sidecars are looked into
 pub merge_opened-requires-clause-inputs : goal.merge_opened-requires-clause-inputs
 merge_opened-requires-clause-inputs g c =
-    (stand-over g.F.Reads g.F.Files (file_names c.args.words.now.files) [] c.args.files.now c.pending_of.new.files c.args.ids.now
-    c.requires.inputs c.pending_of.ensures.looks.kept).inputs
+    (stand-over g.F.Reads g.F.Files (file_names c.args.words.now.files) [] c.args.files.now c.begun_refusal.new.files c.args.ids.now
+    c.requires.inputs c.begun_refusal.ensures.looks.kept).inputs
 
 -- no edit is pending: nothing that is seen has changed
 pub returns-in-Ok-None-clause-verdict : goal.returns-in-Ok-None-clause-verdict
 returns-in-Ok-None-clause-verdict g c = λ world told contents held.
     let words = c.args.words.now in
     let old = c.args.files.now in
-    let mid = c.pending_of.new.files in
-    let looks = c.pending_of.ensures.looks in
+    let mid = c.begun_refusal.new.files in
+    let looks = c.begun_refusal.ensures.looks in
     let reading : g.F.Reads.reading_faults mid ≡ g.F.Reads.reading_faults old = c.in-Ok-None.ensures.cause in
-    let none : pending_of world words ≡ None = sym (c.in-Ok-None.ensures.exact world told) ∙ c.in-Ok-None.field-0-is in
+    let none : begun_refusal world words c.args.chapters ≡ None = sym (c.in-Ok-None.ensures.exact world told) ∙ c.in-Ok-None.field-0-is in
     let was = seen g.F.Reads g.F.Files.writing_faults g.F.Files.names g.P.Report old c.args.report.now in
     let read = seen g.F.Reads g.F.Files.writing_faults g.F.Files.names g.P.Report mid c.args.report.now in
     let now = seen g.F.Reads g.F.Files.writing_faults g.F.Files.names g.P.Report c.merge_opened.new.files c.merge_opened.new.report in
@@ -41,49 +41,49 @@ returns-in-Ok-None-clause-verdict g c = λ world told contents held.
       lines = g.P.Report.lines c.args.report.now;
       names = looks.names i;
     } in
-    let settled : sources_settled world words contents ≡ sources_with words contents =
-    ap (λ (why : Option Refusal). and_then (unless why contents) (sources_with words)) none in
+    let settled : sources_settled world words c.args.chapters contents ≡ sources_with words c.args.chapters contents =
+    ap (λ (why : Option Refusal). and_then (unless why contents) (sources_with words c.args.chapters)) none in
     let mid-told : AreTold (live_files g.F.Reads mid) c.args.ids.now contents =
     contents-kept (live_files g.F.Reads old).live (live_files g.F.Reads old).content (live_files g.F.Reads mid).content c.args.ids.now
     (λ file live. (looks.kept.others file tt).content live) c.requires.inputs.live ∙ held in
-    subst (λ (s : Seen). Reaches s now c.merge_opened.result (verdict_of words (sources_settled world words contents))) begun
+    subst (λ (s : Seen). Reaches s now c.merge_opened.result (verdict_of words (sources_settled world words c.args.chapters contents))) begun
     (subst (λ (v : Verdict). Reaches read now c.merge_opened.result v) (ap (verdict_of words) (sym settled))
     (c.merge_opened.ensures.verdict contents mid-told))
 
 pub returns-in-Ok-None-clause-kept : goal.returns-in-Ok-None-clause-kept
 returns-in-Ok-None-clause-kept g c =
-    KeepsOthers-then g.F.Reads g.F.Files (c.args.words.now.output ∷ []) c.args.files.now c.pending_of.new.files c.merge_opened.new.files
-    (KeepsOthers-more g.F.Reads g.F.Files [] (c.args.words.now.output ∷ []) c.args.files.now c.pending_of.new.files (λ name other. tt) c.pending_of.ensures.looks.kept)
+    KeepsOthers-then g.F.Reads g.F.Files (c.args.words.now.output ∷ []) c.args.files.now c.begun_refusal.new.files c.merge_opened.new.files
+    (KeepsOthers-more g.F.Reads g.F.Files [] (c.args.words.now.output ∷ []) c.args.files.now c.begun_refusal.new.files (λ name other. tt) c.begun_refusal.ensures.looks.kept)
     c.merge_opened.ensures.kept
 
--- one is: the merge is refused
+-- one is, or there is no chapter file: the merge is refused
 pub returns-in-Ok-Some-clause-verdict : goal.returns-in-Ok-Some-clause-verdict
 returns-in-Ok-Some-clause-verdict g c = λ world told contents held.
     let words = c.args.words.now in
     let why = c.in-Ok-Some.why in
-    let mid = c.pending_of.new.files in
-    let some : pending_of world words ≡ Some why = sym (c.in-Ok-Some.ensures.exact world told) ∙ c.in-Ok-Some.field-0-is in
+    let mid = c.begun_refusal.new.files in
+    let some : begun_refusal world words c.args.chapters ≡ Some why = sym (c.in-Ok-Some.ensures.exact world told) ∙ c.in-Ok-Some.field-0-is in
     let was = seen g.F.Reads g.F.Files.writing_faults g.F.Files.names g.P.Report c.args.files.now c.args.report.now in
     let now = seen g.F.Reads g.F.Files.writing_faults g.F.Files.names g.P.Report mid c.refuse.new.report in
-    let verdict : verdict_of words (sources_settled world words contents) ≡ refused (line_of words why) =
-    ap (λ (found : Option Refusal). verdict_of words (and_then (unless found contents) (sources_with words))) some in
+    let verdict : verdict_of words (sources_settled world words c.args.chapters contents) ≡ refused (line_of words why) =
+    ap (λ (found : Option Refusal). verdict_of words (and_then (unless found contents) (sources_with words c.args.chapters))) some in
     subst (λ (v : Verdict). Reaches was now c.refuse.result v) (sym verdict)
-    (Reaches-lines was now c.refuse.result (refused (line_of words why)) c.refuse.ensures.verdict refl c.pending_of.ensures.looks.names)
+    (Reaches-lines was now c.refuse.result (refused (line_of words why)) c.refuse.ensures.verdict refl c.begun_refusal.ensures.looks.names)
 
 pub returns-in-Ok-Some-clause-kept : goal.returns-in-Ok-Some-clause-kept
 returns-in-Ok-Some-clause-kept g c =
-    KeepsOthers-more g.F.Reads g.F.Files [] (c.args.words.now.output ∷ []) c.args.files.now c.pending_of.new.files (λ name other. tt) c.pending_of.ensures.looks.kept
+    KeepsOthers-more g.F.Reads g.F.Files [] (c.args.words.now.output ∷ []) c.args.files.now c.begun_refusal.new.files (λ name other. tt) c.begun_refusal.ensures.looks.kept
 
 -- a sidecar couldn't be looked into
 pub returns-in-Err-clause-verdict : goal.returns-in-Err-clause-verdict
 returns-in-Err-clause-verdict g c = λ world told contents held.
     IsStopped-before (seen g.F.Reads g.F.Files.writing_faults g.F.Files.names g.P.Report c.args.files.now c.args.report.now)
-    (seen g.F.Reads g.F.Files.writing_faults g.F.Files.names g.P.Report c.pending_of.new.files c.args.report.now)
-    (verdict_of c.args.words.now (sources_settled world c.args.words.now contents)) refl c.pending_of.ensures.looks.names
+    (seen g.F.Reads g.F.Files.writing_faults g.F.Files.names g.P.Report c.begun_refusal.new.files c.args.report.now)
+    (verdict_of c.args.words.now (sources_settled world c.args.words.now c.args.chapters contents)) refl c.begun_refusal.ensures.looks.names
 
 pub returns-in-Err-clause-kept : goal.returns-in-Err-clause-kept
 returns-in-Err-clause-kept g c =
-    KeepsOthers-more g.F.Reads g.F.Files [] (c.args.words.now.output ∷ []) c.args.files.now c.pending_of.new.files (λ name other. tt) c.pending_of.ensures.looks.kept
+    KeepsOthers-more g.F.Reads g.F.Files [] (c.args.words.now.output ∷ []) c.args.files.now c.begun_refusal.new.files (λ name other. tt) c.begun_refusal.ensures.looks.kept
 
 -- ---- how much is read
 
@@ -92,25 +92,25 @@ returns-in-Ok-None-clause-octets g c = λ world told contents held.
     let words = c.args.words.now in
     let ids = c.args.ids.now in
     let old = live_files g.F.Reads c.args.files.now in
-    let mid = live_files g.F.Reads c.pending_of.new.files in
-    let kept = c.pending_of.ensures.looks.kept in
-    let none : pending_of world words ≡ None = sym (c.in-Ok-None.ensures.exact world told) ∙ c.in-Ok-None.field-0-is in
+    let mid = live_files g.F.Reads c.begun_refusal.new.files in
+    let kept = c.begun_refusal.ensures.looks.kept in
+    let none : begun_refusal world words c.args.chapters ≡ None = sym (c.in-Ok-None.ensures.exact world told) ∙ c.in-Ok-None.field-0-is in
     let mid-told : AreTold mid ids contents =
     contents-kept old.live old.content mid.content ids (λ file live. (kept.others file tt).content live) c.requires.inputs.live ∙ held in
-    reads-settled world words contents (g.F.Reads.octets_read c.args.files.now) (g.F.Reads.octets_read c.pending_of.new.files) (g.F.Reads.octets_read c.merge_opened.new.files) (files_size old ids) (files_size mid ids) (most_looked words)
-    none (sizes-kept old mid ids (λ file. kept.others file tt) c.requires.inputs.live) c.pending_of.ensures.octets (c.merge_opened.ensures.octets contents mid-told)
+    reads-settled world words c.args.chapters contents (g.F.Reads.octets_read c.args.files.now) (g.F.Reads.octets_read c.begun_refusal.new.files) (g.F.Reads.octets_read c.merge_opened.new.files) (files_size old ids) (files_size mid ids) (most_looked words)
+    none (sizes-kept old mid ids (λ file. kept.others file tt) c.requires.inputs.live) c.begun_refusal.ensures.octets (c.merge_opened.ensures.octets contents mid-told)
 
 -- ---- the records
 
 pub returns-in-Ok-None-clause-records : goal.returns-in-Ok-None-clause-records
 returns-in-Ok-None-clause-records g c = λ world told contents held.
     let words = c.args.words.now in
-    let kept = c.pending_of.ensures.looks.kept in
+    let kept = c.begun_refusal.ensures.looks.kept in
     let old = live_files g.F.Reads c.args.files.now in
-    let mid = live_files g.F.Reads c.pending_of.new.files in
-    let none : pending_of world words ≡ None = sym (c.in-Ok-None.ensures.exact world told) ∙ c.in-Ok-None.field-0-is in
-    let settled : sources_settled world words contents ≡ sources_with words contents =
-    ap (λ (why : Option Refusal). and_then (unless why contents) (sources_with words)) none in
+    let mid = live_files g.F.Reads c.begun_refusal.new.files in
+    let none : begun_refusal world words c.args.chapters ≡ None = sym (c.in-Ok-None.ensures.exact world told) ∙ c.in-Ok-None.field-0-is in
+    let settled : sources_settled world words c.args.chapters contents ≡ sources_with words c.args.chapters contents =
+    ap (λ (why : Option Refusal). and_then (unless why contents) (sources_with words c.args.chapters)) none in
     let mid-told : AreTold mid c.args.ids.now contents =
     contents-kept old.live old.content mid.content c.args.ids.now (λ file live. (kept.others file tt).content live) c.requires.inputs.live ∙ held in
     subst (λ (found : Result (List Source) Refusal). EndsWithRecords found c.merge_opened.result) (sym settled) (c.merge_opened.ensures.records contents mid-told)
@@ -119,5 +119,5 @@ pub returns-in-Ok-Some-clause-records : goal.returns-in-Ok-Some-clause-records
 returns-in-Ok-Some-clause-records g c = λ world told contents held.
     let words = c.args.words.now in
     let why = c.in-Ok-Some.why in
-    let some : pending_of world words ≡ Some why = sym (c.in-Ok-Some.ensures.exact world told) ∙ c.in-Ok-Some.field-0-is in
-    records-none (sources_settled world words contents) why c.refuse.result (ap (λ (found : Option Refusal). and_then (unless found contents) (sources_with words)) some)
+    let some : begun_refusal world words c.args.chapters ≡ Some why = sym (c.in-Ok-Some.ensures.exact world told) ∙ c.in-Ok-Some.field-0-is in
+    records-none (sources_settled world words c.args.chapters contents) why c.refuse.result (ap (λ (found : Option Refusal). and_then (unless found contents) (sources_with words c.args.chapters)) some)

@@ -1,5 +1,5 @@
 -- The inputs were read, and are set in place.
-use Rattle.std.proofs.Common.{◌≡◌, List, None, Some, length, map, sym, ◌∙◌, ap, subst, arith}
+use Rattle.std.proofs.Common.{◌≡◌, List, length, map, sym, ◌∙◌, ap, subst, arith}
 use Rattle.std.proofs.lemmas.List.{length-map}
 use Rattle.mkv_values.specs.declared.outside.FileId.{FileId}
 use Rattle.mkv_io.specs.LiveFiles.{LiveFiles}
@@ -15,7 +15,7 @@ use Rattle.mkv_merge.proofs.preparing.inputs_in_place.Goals as goal
 -- an appended one can't go on
 pub returns-in-Some-clause-exact : goal.returns-in-Some-clause-exact
 returns-in-Some-clause-exact g c = λ contents told.
-    reads-differ c.args.words.now contents (reads_in c.in_ok-inputs.inputs) (c.in_ok-inputs.ensures.exact contents told) c.in-Some.differs
+    reads-differ c.args.words.now c.args.chapters contents (reads_in c.in_ok-inputs.inputs) (c.in_ok-inputs.ensures.exact contents told) c.in-Some.differs
     (ap append_refusal (sym (ap (map read_in) c.as_slice.ensures)) ∙ sym c.append_refusal.ensures ∙ c.in-Some.is)
 
 -- there are no more than 64
@@ -30,8 +30,8 @@ returns-clause-exact g c = λ contents told.
     let f = live_files g.R.Reads c.args.src.now in
     let inputs : List Input = c.in_ok-inputs.inputs in
     let placed : List Input = c.in_ok-set_in_place.field-0 in
-    let same : live_files g.R.Reads c.read_inputs.new.src ≡ f = ap g.R.Reads.files c.in_ok-inputs.ensures.standing in
-    reads-placed f c.args.words.now c.args.files.now contents inputs placed c.in_ok-inputs.ensures.inputs.of c.in_ok-set_in_place.ensures.placed.files told (c.in_ok-inputs.ensures.exact contents told)
+    let same : live_files g.R.Reads c.read_all.new.src ≡ f = ap g.R.Reads.files c.in_ok-inputs.ensures.standing in
+    reads-placed f c.args.words.now c.args.chapters c.args.files.now contents inputs placed c.in_ok-inputs.ensures.inputs.of c.in_ok-set_in_place.ensures.placed.files told (c.in_ok-inputs.ensures.exact contents told)
     (ap append_refusal (sym (ap (map read_in) c.as_slice.ensures)) ∙ sym c.append_refusal.ensures ∙ c.in_default.is)
     (subst (λ (now : LiveFiles). StandInPlace now inputs placed) same c.in_ok-set_in_place.ensures.exact)
 
@@ -41,6 +41,6 @@ pub returns-clause-octets : goal.returns-clause-octets
 returns-clause-octets g c =
     let f = live_files g.R.Reads c.args.src.now in
     let inputs : List Input = c.in_ok-inputs.inputs in
-    let same : live_files g.R.Reads c.read_inputs.new.src ≡ f = ap g.R.Reads.files c.in_ok-inputs.ensures.standing in
-    pays-both f c.args.files.now inputs (g.R.Reads.octets_read c.args.src.now) (g.R.Reads.octets_read c.read_inputs.new.src) (g.R.Reads.octets_read c.set_in_place.new.src) c.in_ok-inputs.ensures.inputs.of c.read_inputs.ensures.octets
+    let same : live_files g.R.Reads c.read_all.new.src ≡ f = ap g.R.Reads.files c.in_ok-inputs.ensures.standing in
+    pays-both f c.args.files.now inputs (g.R.Reads.octets_read c.args.src.now) (g.R.Reads.octets_read c.read_all.new.src) (g.R.Reads.octets_read c.set_in_place.new.src) c.in_ok-inputs.ensures.inputs.of c.read_all.ensures.octets
     (omega (arith, c.set_in_place.ensures.octets, ap (λ (now : LiveFiles). inputs_length now inputs) same))

@@ -1,0 +1,155 @@
+-- Inputs with the Chapters of a chapter file.
+use Rattle.std.proofs.Common.{◌≡◌, ℕ, Bool, true, false, not, List, [], ◌∷◌, ◌++◌, map, Option, Some, None, IfSome, Result, Ok, Err, IfOk, refl, sym, ◌∙◌, ap, subst}
+use Rattle.std.specs.List.{All}
+use Rattle.std.proofs.lemmas.List.{map-append}
+use Rattle.std.proofs.lemmas.List.Elements.{All-nil, All-cons, All-head, All-tail}
+use Rattle.mkv_schema.specs.declared.ids.TheConstants.{CHAPTERS}
+use Rattle.mkv_values.specs.declared.outside.FileId.{FileId}
+use Rattle.mkv_io.specs.LiveFiles.{LiveFiles}
+use Rattle.tree_format.specs.Node.{Node}
+use Rattle.tree_building.specs.Building.{IsRead}
+use Rattle.text_files.specs.ChapterFile.{CanBeWritten}
+use Rattle.text_files.specs.declared.chapter_file.ChapterFile.{ChapterFile}
+use Rattle.text_files.specs.declared.chapter_file.ChapterFile.TheVariants as file
+use Rattle.merge_words.specs.declared.output.MergeWords.{MergeWords}
+use Rattle.merge_inputs.specs.Input.{InputRead, IsInput, read_in}
+use Rattle.merge_inputs.specs.Select.{kept_one}
+use Rattle.merge_inputs.specs.declared.input.Input.{Input}
+use Rattle.merge_plan.specs.Spots.{HasPlace}
+use Rattle.mkv_merge.specs.Chapters.{chaptered, chapters_refusal, first_with, missing_chapters, with_chapters, with_file, with_tree}
+use Rattle.mkv_merge.specs.Prepared.{AreInputsOf, ReadsAs, reads_in}
+use Rattle.mkv_merge.specs.Read.{inputs_of, inputs_with}
+use Rattle.mkv_merge.specs.Refused.{and_then, unless}
+use Rattle.mkv_merge.specs.declared.refusal.MergeEnd.{MergeEnd}
+use Rattle.mkv_merge.specs.declared.refusal.MergeEnd.TheVariants.{Refused, Stopped}
+use Rattle.mkv_merge.specs.declared.refusal.Refusal.{Refusal}
+
+-- ---- a chapter file that is there refuses nothing
+
+pub not-missing : (c : ChapterFile) → (c ≡ file.Missing → ⊥) → missing_chapters c ≡ None
+not-missing file.Absent other = refl
+not-missing file.Missing other = absurd (other refl)
+not-missing (file.Refused why) other = refl
+not-missing (file.Read chapters) other = refl
+
+-- ---- the first of them has the Chapters
+
+-- what is still to be given, behind so many
+abbrev pub left_for : {A : Type 0} → Option Node → List A → Option Node
+left_for chapters [] = chapters
+left_for chapters (i ∷ is) = None
+
+-- one more input
+pub first-more : (chapters : Option Node) (done : List Input) (i : Input) → first_with with_tree chapters (done ++ i ∷ []) ≡ first_with with_tree chapters done ++ with_tree (left_for chapters done) i ∷ []
+first-more chapters [] i = refl
+first-more chapters (d ∷ done) i = ap (λ (rest : List Input). with_tree chapters d ∷ rest) (map-append (with_tree None) done (i ∷ []))
+
+pub none-left : (chapters : Option Node) (done : List Input) (i : Input) → left_for chapters (done ++ i ∷ []) ≡ None
+none-left chapters [] i = refl
+none-left chapters (d ∷ done) i = refl
+
+-- ---- what was read of them
+
+others-read : (inputs : List Input) → reads_in (map (with_tree None) inputs) ≡ map (with_chapters None) (reads_in inputs)
+others-read [] = refl
+others-read (i ∷ is) = ap (λ (rest : List InputRead). with_chapters None (read_in i) ∷ rest) (others-read is)
+
+first-read : (chapters : Option Node) (inputs : List Input) → reads_in (first_with with_tree chapters inputs) ≡ first_with with_chapters chapters (reads_in inputs)
+first-read chapters [] = refl
+first-read chapters (i ∷ is) = ap (λ (rest : List InputRead). with_chapters chapters (read_in i) ∷ rest) (others-read is)
+
+chaptered-read : (webm : Bool) (f : ChapterFile) (inputs : List Input) → reads_in (chaptered with_tree webm f inputs) ≡ chaptered with_chapters webm f (reads_in inputs)
+chaptered-read webm file.Absent inputs = refl
+chaptered-read webm file.Missing inputs = refl
+chaptered-read webm (file.Refused why) inputs = refl
+chaptered-read webm (file.Read chapters) inputs = first-read (kept_one (not webm) (Some chapters)) inputs
+
+-- ---- they are inputs of the same files
+
+input-with : (f : LiveFiles) (chapters : Option Node) (i : Input) → IfSome chapters (IsRead CHAPTERS) → IsInput f i → IsInput f (with_tree chapters i)
+input-with f chapters i read is = record {
+  live = is.live;
+  size = is.size;
+  scale = is.scale;
+  taken = is.taken;
+  attachments = is.attachments;
+  chapters = read;
+  tags = is.tags;
+}
+
+others-inputs : (f : LiveFiles) (inputs : List Input) → All (IsInput f) inputs → All (IsInput f) (map (with_tree None) inputs)
+others-inputs f [] all = All-nil (IsInput f)
+others-inputs f (i ∷ is) all =
+    All-cons (IsInput f) (with_tree None i) (map (with_tree None) is) (input-with f None i tt (All-head (IsInput f) i is all)) (others-inputs f is (All-tail (IsInput f) i is all))
+
+first-inputs : (f : LiveFiles) (chapters : Option Node) (inputs : List Input) → IfSome chapters (IsRead CHAPTERS) → All (IsInput f) inputs → All (IsInput f) (first_with with_tree chapters inputs)
+first-inputs f chapters [] read all = All-nil (IsInput f)
+first-inputs f chapters (i ∷ is) read all =
+    All-cons (IsInput f) (with_tree chapters i) (map (with_tree None) is) (input-with f chapters i read (All-head (IsInput f) i is all)) (others-inputs f is (All-tail (IsInput f) i is all))
+
+others-files : (inputs : List Input) → map (λ (i : Input). i.file) (map (with_tree None) inputs) ≡ map (λ (i : Input). i.file) inputs
+others-files [] = refl
+others-files (i ∷ is) = ap (λ (rest : List FileId). i.file ∷ rest) (others-files is)
+
+first-files : (chapters : Option Node) (inputs : List Input) → map (λ (i : Input). i.file) (first_with with_tree chapters inputs) ≡ map (λ (i : Input). i.file) inputs
+first-files chapters [] = refl
+first-files chapters (i ∷ is) = ap (λ (rest : List FileId). i.file ∷ rest) (others-files is)
+
+others-places : (inputs : List Input) → All HasPlace inputs → All HasPlace (map (with_tree None) inputs)
+others-places [] all = All-nil HasPlace
+others-places (i ∷ is) all = All-cons HasPlace (with_tree None i) (map (with_tree None) is) (All-head HasPlace i is all) (others-places is (All-tail HasPlace i is all))
+
+first-places : (chapters : Option Node) (inputs : List Input) → All HasPlace inputs → All HasPlace (first_with with_tree chapters inputs)
+first-places chapters [] all = All-nil HasPlace
+first-places chapters (i ∷ is) all = All-cons HasPlace (with_tree chapters i) (map (with_tree None) is) (All-head HasPlace i is all) (others-places is (All-tail HasPlace i is all))
+
+kept-read : (webm : Bool) (chapters : Node) → IsRead CHAPTERS chapters → IfSome (kept_one (not webm) (Some chapters)) (IsRead CHAPTERS)
+kept-read true chapters read = tt
+kept-read false chapters read = read
+
+chaptered-inputs : (f : LiveFiles) (list : List FileId) (webm : Bool) (c : ChapterFile) (inputs : List Input) → CanBeWritten c → AreInputsOf f list inputs → AreInputsOf f list (chaptered with_tree webm c inputs)
+chaptered-inputs f list webm file.Absent inputs written are = are
+chaptered-inputs f list webm file.Missing inputs written are = are
+chaptered-inputs f list webm (file.Refused why) inputs written are = are
+chaptered-inputs f list webm (file.Read chapters) inputs written are =
+    let kept = kept_one (not webm) (Some chapters) in
+    record {
+      good = first-inputs f kept inputs (kept-read webm chapters written) are.good;
+      of = first-files kept inputs ∙ are.of;
+      places = first-places kept inputs are.places;
+    }
+
+-- ---- what was made of inputs and a chapter file
+
+unrefused : {A : Type 0} (why : Option Refusal) (x y : A) → unless why x ≡ Ok y → (why ≡ None) × (x ≡ y)
+unrefused None x y is = (refl, cc)
+unrefused (Some why) x y is = absurd (cc)
+
+-- it is what was read of them
+pub file-read : (webm : Bool) (c : ChapterFile) (inputs : List Input) (result : Result (List Input) MergeEnd) → ReadsAs (λ (list : List Input). list) (with_file with_tree webm c inputs) result → ReadsAs reads_in (with_file with_chapters webm c (reads_in inputs)) result
+file-read webm c inputs (Ok list) is =
+    let good = unrefused (chapters_refusal c) (chaptered with_tree webm c inputs) list is in
+    ap (λ (why : Option Refusal). unless why (chaptered with_chapters webm c (reads_in inputs))) good.0
+    ∙ ap (λ (reads : List InputRead). Ok reads) (sym (chaptered-read webm c inputs) ∙ ap reads_in good.1)
+file-read webm c inputs (Err (Refused why)) is = refused (chapters_refusal c) is
+  where
+    refused : (found : Option Refusal) → unless found (chaptered with_tree webm c inputs) ≡ Err why → unless found (chaptered with_chapters webm c (reads_in inputs)) ≡ Err why
+    refused None bad = absurd (cc)
+    refused (Some other) same = ap (λ (e : Refusal). Err e) (cc)
+file-read webm c inputs (Err (Stopped stop)) is = tt
+
+-- they are inputs of the same files
+pub file-inputs : (f : LiveFiles) (list : List FileId) (webm : Bool) (c : ChapterFile) (inputs : List Input) (result : Result (List Input) MergeEnd) → CanBeWritten c → AreInputsOf f list inputs → ReadsAs (λ (made : List Input). made) (with_file with_tree webm c inputs) result → IfOk result (AreInputsOf f list)
+file-inputs f list webm c inputs (Ok made) written are is =
+    subst (AreInputsOf f list) (unrefused (chapters_refusal c) (chaptered with_tree webm c inputs) made is).1 (chaptered-inputs f list webm c inputs written are)
+file-inputs f list webm c inputs (Err end) written are is = tt
+
+-- inputs that weren't read
+pub inputs-end : (words : MergeWords) (c : ChapterFile) (contents : List (List ℕ)) (end : MergeEnd) → ReadsAs reads_in (inputs_of words contents) (Err end) → ReadsAs reads_in (inputs_with words c contents) (Err end)
+inputs-end words c contents (Refused why) is = ap (λ (found : Result (List InputRead) Refusal). and_then found (with_file with_chapters words.webm c)) is
+inputs-end words c contents (Stopped stop) is = tt
+
+-- and those that were
+pub inputs-then : (words : MergeWords) (c : ChapterFile) (contents : List (List ℕ)) (inputs : List Input) (result : Result (List Input) MergeEnd) → inputs_of words contents ≡ Ok (reads_in inputs) → ReadsAs (λ (list : List Input). list) (with_file with_tree words.webm c inputs) result → ReadsAs reads_in (inputs_with words c contents) result
+inputs-then words c contents inputs result read made =
+    subst (λ (found : Result (List InputRead) Refusal). ReadsAs reads_in (and_then found (with_file with_chapters words.webm c)) result) (sym read) (file-read words.webm c inputs result made)

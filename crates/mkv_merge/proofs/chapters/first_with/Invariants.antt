@@ -1,0 +1,12 @@
+-- The first inputs have what is theirs, and what is still to be given goes to the next.
+use Rattle.std.proofs.Common.{◌≡◌, ◌++◌}
+use Rattle.mkv_merge.specs.Chapters.{first_with, with_tree}
+use Rattle.mkv_merge.proofs.ChaptersLemmas.{left_for}
+use Rattle.mkv_merge.proofs.chapters.first_with.Given as goal
+
+abbrev pub invariant-loop-input : goal.invariant-loop-input
+invariant-loop-input l = record {
+  all : l.yielded ++ l.input-iterator.rest.items ≡ l.initial.input-iterator.rest.items;
+  list : l.list ≡ first_with with_tree l.fn.chapters l.yielded;
+  next : l.next ≡ left_for l.fn.chapters l.yielded;
+}

@@ -1,0 +1,50 @@
+//! The Chapters of a chapter file in place of those of the inputs: RFC 9559, section 5.1.7 (Chapters Element).
+
+ghost use Rattle.std.specs.Prelude.{◌≡◌, false, IfOk, IfErr};
+ghost use Rattle.mkv_merge.specs.Chapters.{first_with, with_file, with_tree};
+ghost use Rattle.mkv_merge.specs.Ends.{is_files_fault};
+ghost use Rattle.mkv_merge.specs.Prepared.{ReadsAs};
+
+use crate::refusal::{MergeEnd, Refusal};
+use ebml_tree::Tree;
+use merge_inputs::Input;
+use mkv_values::List;
+use std::alloc::{AllocError, Global};
+use text_files::ChapterFile;
+
+/// Of inputs the first with these Chapters, and the others without any.
+fn first_with(
+    alloc: Global,
+    chapters: Option<Tree>,
+    inputs: List<Input>,
+) -> Result<List<Input>, AllocError>
+    ensures { IfOk result (λ list. list ≡ first_with with_tree chapters inputs) }
+{
+    let mut next = chapters;
+    let mut list = List::new(alloc);
+    for mut input in inputs.into_vec() {
+        input.chapters = next.take();
+        list.push(input)?;
+    }
+    Ok(list)
+}
+
+/// Inputs with what a chapter file gives, unless it isn't taken: its Chapters in place of theirs, or none at all in WebM.
+pub fn with_file(
+    alloc: Global,
+    webm: bool,
+    file: ChapterFile,
+    inputs: List<Input>,
+) -> Result<List<Input>, MergeEnd>
+    ensures exact { ReadsAs (λ list. list) (with_file with_tree webm file inputs) result }
+    ensures cause { IfErr result (λ end. is_files_fault end ≡ false) }
+{
+    match file {
+        ChapterFile::Absent | ChapterFile::Missing => Ok(inputs),
+        ChapterFile::Refused(why) => Err(MergeEnd::Refused(Refusal::Chapters(why))),
+        ChapterFile::Read(chapters) => {
+            let kept = if webm { None } else { Some(chapters) };
+            Ok(first_with(alloc, kept, inputs)?)
+        }
+    }
+}
