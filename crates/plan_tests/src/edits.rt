@@ -72,21 +72,31 @@ const MOVED: [(u64, &[u8]); 4] = [
     ),
 ];
 
-// One edit, which sets a property.
-fn set(alloc: Global, place: Selector, name: &str, value: &str) -> Result<List<Edit>, AllocError> {
-    let edit = Edit {
+/// An edit of a property.
+pub fn edit(
+    alloc: Global,
+    place: Selector,
+    change: Change,
+    name: &str,
+    value: &str,
+) -> Result<Edit, AllocError> {
+    Ok(Edit {
         place,
-        change: Change::Set,
+        change,
         name: Text::from_string(name.to_string(alloc)?),
         value: Text::from_string(value.to_string(alloc)?),
-    };
+    })
+}
+
+// One edit, which sets a property.
+fn set(alloc: Global, place: Selector, name: &str, value: &str) -> Result<List<Edit>, AllocError> {
     let mut edits = List::new(alloc);
-    edits.push(edit)?;
+    edits.push(edit(alloc, place, Change::Set, name, value)?)?;
     Ok(edits)
 }
 
-// What edits write to a file of these octets.
-fn writes(
+/// What edits write to a file of these octets.
+pub fn writes(
     alloc: Global,
     octets: &[u8],
     edits: &List<Edit>,

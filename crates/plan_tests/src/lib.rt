@@ -6,3 +6,5 @@
 mod edits;
 #[cfg(test)]
 mod parts;
+#[cfg(test)]
+mod properties;
