@@ -8,9 +8,13 @@ mod calls;
 #[cfg(test)]
 mod data;
 #[cfg(test)]
+mod edits;
+#[cfg(test)]
 mod images;
 #[cfg(test)]
 mod real;
+#[cfg(test)]
+mod row;
 #[cfg(test)]
 mod rows;
 #[cfg(test)]

@@ -2,7 +2,7 @@
 
 use crate::calls::{cut, open, read, sync, write};
 use crate::data::{EDITED, FILE, RECORD};
-use crate::running::recover_on;
+use crate::running::{edit_on, recover_on};
 use mkv_disk::{Disk, MEDIA, SIDECAR};
 use mkv_host_disk::RealDisk;
 use mkv_io::Reads;
@@ -17,6 +17,12 @@ fn fresh_folder(rt: &HostRuntime, folder: &str) -> io::Result<()> {
     fs::create_dir(rt, folder)
 }
 
+/// Whether a file holds these octets.
+fn holds(rt: &HostRuntime, name: &str, octets: &[u8]) -> io::Result<bool> {
+    let found = fs::read(rt, name)?;
+    Ok(found.as_slice() == octets)
+}
+
 #[test]
 fn a_pair_of_files_is_written_cut_and_synced(rt: HostRuntime) -> Result<(), Fail> {
     fresh_folder(&rt, "disk_test_pair")?;
@@ -25,10 +31,7 @@ fn a_pair_of_files_is_written_cut_and_synced(rt: HostRuntime) -> Result<(), Fail
     open(&mut disk, "disk_test_pair/a.mkv")?;
     assert_eq!(rt; disk.size(MEDIA), 8);
     assert_eq!(rt; disk.size(SIDECAR), 0);
-    assert_eq!(rt;
-        fs::read(&rt, "disk_test_pair/a.mkv.mkvedit")?.as_slice(),
-        b"".as_slice()
-    );
+    assert!(rt; holds(&rt, "disk_test_pair/a.mkv.mkvedit", b"".as_slice())?);
 
     assert_eq!(rt; write(&mut disk, MEDIA, 5, b"ska file"), Ok(()));
     assert_eq!(rt; cut(&mut disk, MEDIA, 8), Ok(()));
@@ -39,14 +42,8 @@ fn a_pair_of_files_is_written_cut_and_synced(rt: HostRuntime) -> Result<(), Fail
     let mut octets = [0; 4];
     assert_eq!(rt; read(&mut disk, SIDECAR, 2, &mut octets), Ok(()));
     assert_eq!(rt; octets, *b"side");
-    assert_eq!(rt;
-        fs::read(&rt, "disk_test_pair/a.mkv")?.as_slice(),
-        b"Matroska".as_slice()
-    );
-    assert_eq!(rt;
-        fs::read(&rt, "disk_test_pair/a.mkv.mkvedit")?.as_slice(),
-        b"beside".as_slice()
-    );
+    assert!(rt; holds(&rt, "disk_test_pair/a.mkv", b"Matroska".as_slice())?);
+    assert!(rt; holds(&rt, "disk_test_pair/a.mkv.mkvedit", b"beside".as_slice())?);
 
     fs::write(&rt, "disk_test_pair/a.mkv", b"cut".as_slice())?;
     assert_eq!(rt; read(&mut disk, MEDIA, 4, &mut octets), Err(Failed));
@@ -77,6 +74,16 @@ fn a_pair_is_missing_or_cannot_be_opened(rt: HostRuntime) -> Result<(), Fail> {
 }
 
 #[test]
+fn an_edit_of_a_file_that_is_not_there_is_refused(rt: HostRuntime) -> Result<(), Fail> {
+    let mut disk = RealDisk::new(rt.alloc(), &rt);
+    let (status, report) = edit_on(rt.alloc(), "disk_test_none.mkv", &mut disk)?;
+    assert_eq!(rt; status, Status::Refused);
+    assert_eq!(rt; report.line(0), Some("error: disk_test_none.mkv: Missing"));
+    assert!(rt; fs::metadata(&rt, "disk_test_none.mkv.mkvedit").is_err());
+    Ok(())
+}
+
+#[test]
 fn a_stopped_edit_of_a_file_is_made_whole(rt: HostRuntime) -> Result<(), Fail> {
     fresh_folder(&rt, "disk_test_recover")?;
     fs::write(&rt, "disk_test_recover/a.mkv", FILE.as_slice())?;
@@ -89,14 +96,8 @@ fn a_stopped_edit_of_a_file_is_made_whole(rt: HostRuntime) -> Result<(), Fail> {
         let (status, report) = recover_on(rt.alloc(), "disk_test_recover/a.mkv", &mut disk)?;
         assert_eq!(rt; status, Status::Done);
         assert_eq!(rt; report.line(0), Some(line));
-        assert_eq!(rt;
-            fs::read(&rt, "disk_test_recover/a.mkv")?.as_slice(),
-            EDITED.as_slice()
-        );
-        assert_eq!(rt;
-            fs::read(&rt, "disk_test_recover/a.mkv.mkvedit")?.as_slice(),
-            [0].as_slice()
-        );
+        assert!(rt; holds(&rt, "disk_test_recover/a.mkv", EDITED.as_slice())?);
+        assert!(rt; holds(&rt, "disk_test_recover/a.mkv.mkvedit", [0].as_slice())?);
     }
     fs::remove_dir_all(&rt, "disk_test_recover")?;
     Ok(())

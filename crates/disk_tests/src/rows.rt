@@ -1,47 +1,20 @@
 //! What `recover` says of a file and its sidecar, and what it leaves of them.
 
-ghost use Rattle.std.specs.Prelude.{◌≡◌, ◌≤◌, ◌<◌, length, IfOk};
-ghost use Rattle.mkv_values.specs.declared.outside.TheConstants.{LONGEST_FILE};
+ghost use Rattle.std.specs.Prelude.{◌<◌, length};
 
 use crate::data::{EDITED, FILE, FIRST_RECORD, RECORD};
-use crate::running::{copied, failing, octets_of, recover_on};
-use memory_disk::MemDisk;
-use mkv_disk::{MEDIA, SIDECAR};
+use crate::row::{Row, agrees, refused};
+use crate::running::{failing, recover_on, recovered};
 use mkv_lines::Status;
+use mkv_memory::MemReport;
 use std::alloc::{AllocError, Global};
 use std::test::Fail;
 
-/// A file and its sidecar, and what has to come of them.
-#[derive(Drop)]
-struct Row<'a> {
-    media: &'a [u8],
-    sidecar: &'a [u8],
-    status: Status,
-    line: &'a str,
-    media_after: &'a [u8],
-    sidecar_after: &'a [u8],
-}
-
-/// Whether `recover` says and leaves what it has to.
-fn agrees(alloc: Global, row: &Row) -> Result<bool, Fail>
-    requires media { length row.now.media.now ≤ LONGEST_FILE }
-    requires sidecar { length row.now.sidecar.now ≤ LONGEST_FILE }
-{
-    let mut disk = MemDisk::new(alloc, row.media, row.sidecar, 100, 4096)?;
-    let (status, report) = recover_on(alloc, "out.mkv", &mut disk)?;
-    Ok(
-        status == row.status
-            && report.line(0) == Some(row.line)
-            && report.line(1).is_none()
-            && octets_of(alloc, &disk, MEDIA)?.as_slice() == row.media_after
-            && octets_of(alloc, &disk, SIDECAR)?.as_slice() == row.sidecar_after,
-    )
-}
+const RECOVER: &str = "recover out.mkv";
 
 /// A copy of octets with one of them set.
 fn with_octet(alloc: Global, octets: &[u8], at: usize, octet: u8) -> Result<Vec<u8>, AllocError>
     requires { at < length octets.now }
-    ensures { IfOk result (λ copy. length copy.items ≡ length octets.now) }
 {
     let mut copy = octets.to_vec(alloc)?;
     copy[at] = octet;
@@ -52,6 +25,7 @@ fn with_octet(alloc: Global, octets: &[u8], at: usize, octet: u8) -> Result<Vec<
 fn a_record_of_either_version_is_redone(rt: HostRuntime) -> Result<(), Fail> {
     for record in [RECORD.as_slice(), FIRST_RECORD.as_slice()] {
         let row = Row {
+            words: RECOVER,
             media: &FILE,
             sidecar: record,
             status: Status::Done,
@@ -68,6 +42,7 @@ fn a_record_of_either_version_is_redone(rt: HostRuntime) -> Result<(), Fail> {
 fn an_octet_that_is_written_is_not_compared(rt: HostRuntime) -> Result<(), Fail> {
     let media = with_octet(rt.alloc(), &FILE, 45, 0x77)?;
     let row = Row {
+        words: RECOVER,
         media: &media,
         sidecar: &RECORD,
         status: Status::Done,
@@ -80,19 +55,8 @@ fn an_octet_that_is_written_is_not_compared(rt: HostRuntime) -> Result<(), Fail>
 }
 
 /// Whether `recover` refuses with this line, and leaves both files.
-fn refuses(alloc: Global, media: &[u8], sidecar: &[u8], line: &str) -> Result<bool, Fail>
-    requires media { length media.now ≤ LONGEST_FILE }
-    requires sidecar { length sidecar.now ≤ LONGEST_FILE }
-{
-    let row = Row {
-        media,
-        sidecar,
-        status: Status::Refused,
-        line,
-        media_after: media,
-        sidecar_after: sidecar,
-    };
-    agrees(alloc, &row)
+fn refuses(alloc: Global, media: &[u8], sidecar: &[u8], line: &str) -> Result<bool, Fail> {
+    agrees(alloc, &refused(RECOVER, media, sidecar, line))
 }
 
 #[test]
@@ -122,6 +86,7 @@ fn beside_a_quiet_sidecar_nothing_is_done(rt: HostRuntime) -> Result<(), Fail> {
     let closed = with_octet(rt.alloc(), &RECORD, 0, 0)?;
     for sidecar in [[].as_slice(), [0xA5].as_slice(), closed.as_slice()] {
         let row = Row {
+            words: RECOVER,
             media: &FILE,
             sidecar,
             status: Status::Done,
@@ -134,11 +99,20 @@ fn beside_a_quiet_sidecar_nothing_is_done(rt: HostRuntime) -> Result<(), Fail> {
     Ok(())
 }
 
+/// What `recover` says where a call of the disk fails, if another then makes the edit whole.
+fn failed(alloc: Global, call: u64) -> Result<(Status, MemReport), Fail> {
+    let mut disk = failing(alloc, &FILE, &RECORD, call)?;
+    let said = recover_on(alloc, "out.mkv", &mut disk)?;
+    if recovered(alloc, &disk)?.as_slice() != EDITED.as_slice() {
+        return Err("not recovered".into());
+    }
+    Ok(said)
+}
+
 #[test]
 fn a_call_of_the_disk_that_fails_is_told(rt: HostRuntime) -> Result<(), Fail> {
     for call in 0..40 {
-        let mut disk = failing(rt.alloc(), &FILE, &RECORD, call)?;
-        let (status, report) = recover_on(rt.alloc(), "out.mkv", &mut disk)?;
+        let (status, report) = failed(rt.alloc(), call)?;
         if status == Status::Done {
             assert!(rt; call > 10);
             return Ok(());
@@ -146,13 +120,6 @@ fn a_call_of_the_disk_that_fails_is_told(rt: HostRuntime) -> Result<(), Fail> {
         assert_eq!(rt; status, Status::Outside);
         assert_eq!(rt; report.line(0), Some("fault: disk"));
         assert!(rt; report.line(1).is_none());
-        let mut left = copied(rt.alloc(), &disk)?;
-        let (after, _) = recover_on(rt.alloc(), "out.mkv", &mut left)?;
-        assert_eq!(rt; after, Status::Done);
-        assert_eq!(rt;
-            octets_of(rt.alloc(), &left, MEDIA)?.as_slice(),
-            EDITED.as_slice()
-        );
     }
     Err("no run comes to its end".into())
 }

@@ -1,50 +1,45 @@
 //! Disks in memory, runs of `recover` on them, and what is then read.
 
-ghost use Rattle.std.specs.Prelude.{◌≡◌, ◌<◌, ◌≤◌, length, IfOk};
-ghost use Rattle.mkv_values.specs.declared.outside.TheConstants.{LONGEST_FILE};
+ghost use Rattle.std.specs.Prelude.{◌<◌, IfOk};
 ghost use Rattle.mkv_disk.specs.Calls.{AtRest};
-ghost use Rattle.mkv_disk.specs.Pair.{IsSynced, both};
+ghost use Rattle.mkv_disk.specs.Pair.{IsSynced};
 ghost use Rattle.memory_disk.specs.DiskIn.{seen};
 ghost use Rattle.memory_disk.specs.SeenDisk.{pair_in};
 
 use crate::calls::{octets, open};
 use memory_disk::MemDisk;
-use mkv_disk::Disk;
+use mkv_disk::{Disk, MEDIA};
 use mkv_lines::Status;
 use mkv_memory::{MemFiles, MemReport};
 use mkv_run::run;
-use mkv_values::FileId;
+use mkv_values::{FileId, LONGEST_FILE};
 use std::alloc::{AllocError, Global};
 use std::test::Fail;
 
-/// A disk with these two files, which stops at a call.
-pub fn stopped(
-    alloc: Global,
-    media: &[u8],
-    sidecar: &[u8],
-    stop: u64,
-) -> Result<MemDisk, AllocError>
-    requires media { length media.now ≤ LONGEST_FILE }
-    requires sidecar { length sidecar.now ≤ LONGEST_FILE }
-    ensures { IfOk result (λ disk. pair_in (seen disk) ≡ both media.now sidecar.now) }
+/// A disk in memory with these two files.
+pub fn fresh(alloc: Global, media: &[u8], sidecar: &[u8]) -> Result<MemDisk, Fail>
+    ensures { IfOk result (λ disk. IsSynced (pair_in (seen disk))) }
 {
-    let mut disk = MemDisk::new(alloc, media, sidecar, 100, 4096)?;
+    if media.len() as u64 > LONGEST_FILE || sidecar.len() as u64 > LONGEST_FILE {
+        return Err("too long".into());
+    }
+    Ok(MemDisk::new(alloc, media, sidecar, 100, 4096)?)
+}
+
+/// The same, which stops at a call.
+pub fn stopped(alloc: Global, media: &[u8], sidecar: &[u8], stop: u64) -> Result<MemDisk, Fail>
+    ensures { IfOk result (λ disk. IsSynced (pair_in (seen disk))) }
+{
+    let mut disk = fresh(alloc, media, sidecar)?;
     disk.stop_at(stop);
     Ok(disk)
 }
 
-/// A disk with these two files, of which one call fails.
-pub fn failing(
-    alloc: Global,
-    media: &[u8],
-    sidecar: &[u8],
-    call: u64,
-) -> Result<MemDisk, AllocError>
-    requires media { length media.now ≤ LONGEST_FILE }
-    requires sidecar { length sidecar.now ≤ LONGEST_FILE }
-    ensures { IfOk result (λ disk. pair_in (seen disk) ≡ both media.now sidecar.now) }
+/// The same, of which one call fails.
+pub fn failing(alloc: Global, media: &[u8], sidecar: &[u8], call: u64) -> Result<MemDisk, Fail>
+    ensures { IfOk result (λ disk. IsSynced (pair_in (seen disk))) }
 {
-    let mut disk = MemDisk::new(alloc, media, sidecar, 100, 4096)?;
+    let mut disk = fresh(alloc, media, sidecar)?;
     disk.fail_at(call)?;
     Ok(disk)
 }
@@ -56,7 +51,7 @@ pub fn copied(alloc: Global, disk: &MemDisk) -> Result<MemDisk, AllocError>
     disk.crashed(alloc, 0)
 }
 
-/// The same, which stops at a call.
+/// The same copy, which stops at a call.
 pub fn stopped_copy(alloc: Global, disk: &MemDisk, stop: u64) -> Result<MemDisk, AllocError>
     ensures { IfOk result (λ copy. IsSynced (pair_in (seen copy))) }
 {
@@ -65,18 +60,24 @@ pub fn stopped_copy(alloc: Global, disk: &MemDisk, stop: u64) -> Result<MemDisk,
     Ok(copy)
 }
 
+/// The words of a line, which stand apart by one space each.
+fn words_of(alloc: Global, line: &str) -> Result<Vec<String>, AllocError> {
+    let mut words = Vec::new(alloc);
+    for word in line.split(' ') {
+        words.push(word.to_string(alloc)?)?;
+    }
+    Ok(words)
+}
+
 /// Runs a command line on a disk.
-fn run_on<D: Disk>(
+pub fn run_on<D: Disk>(
     alloc: Global,
-    line: &[&str],
+    line: &str,
     disk: &mut D,
 ) -> Result<(Status, MemReport), AllocError>
     requires { AtRest D.Disk.own disk.old }
 {
-    let mut words = Vec::new(alloc);
-    for word in line {
-        words.push(word.to_string(alloc)?)?;
-    }
+    let words = words_of(alloc, line)?;
     let mut files = MemFiles::new(alloc)?;
     let mut report = MemReport::new(alloc, 10, 1000)?;
     let status = run(alloc, &words, &mut files, disk, &mut report);
@@ -91,7 +92,7 @@ pub fn recover_on<D: Disk>(
 ) -> Result<(Status, MemReport), AllocError>
     requires { AtRest D.Disk.own disk.old }
 {
-    run_on(alloc, &["recover", name], disk)
+    run_on(alloc, &format!(in alloc; "recover {name}")?, disk)
 }
 
 /// Runs an edit of a name on a disk, which names its first audio track.
@@ -102,15 +103,32 @@ pub fn edit_on<D: Disk>(
 ) -> Result<(Status, MemReport), AllocError>
     requires { AtRest D.Disk.own disk.old }
 {
-    let line = ["propedit", name, "--edit", "track:a1", "--set", "name=Hi"];
+    let line = format!(in alloc; "propedit {name} --edit track:a1 --set name=Hi")?;
     run_on(alloc, &line, disk)
 }
 
-/// What is read of a file of a disk.
+/// What is read of a file of a disk, which is opened.
+fn opened_octets<D: Disk>(alloc: Global, disk: &mut D, file: FileId) -> Result<Vec<u8>, Fail>
+    requires { file.n < 2 }
+{
+    open(disk, "out.mkv")?;
+    octets(alloc, disk, file)
+}
+
+/// What is read of a file of a disk in memory.
 pub fn octets_of(alloc: Global, disk: &MemDisk, file: FileId) -> Result<Vec<u8>, Fail>
     requires { file.n < 2 }
 {
     let mut now = copied(alloc, disk)?;
-    open(&mut now, "out.mkv")?;
-    octets(alloc, &mut now, file)
+    opened_octets(alloc, &mut now, file)
+}
+
+/// The file that `recover` makes of what a crash left.
+pub fn recovered(alloc: Global, left: &MemDisk) -> Result<Vec<u8>, Fail> {
+    let mut disk = copied(alloc, left)?;
+    let (status, _) = recover_on(alloc, "out.mkv", &mut disk)?;
+    if status != Status::Done {
+        return Err("not recovered".into());
+    }
+    octets_of(alloc, &disk, MEDIA)
 }

@@ -1,33 +1,18 @@
 //! An edit by `propedit` is stopped at each call of the disk, recovered with a stop at each call, and recovered again.
 
-ghost use Rattle.std.specs.Prelude.{◌≡◌, ◌≤◌, ◌+◌, length, IfOk};
-ghost use Rattle.mkv_values.specs.declared.outside.TheConstants.{LONGEST_FILE};
-
 use crate::data::{EDITED, FILE};
-use crate::running::{copied, edit_on, failing, octets_of, recover_on, stopped, stopped_copy};
+use crate::running::{edit_on, failing, recover_on, recovered, stopped, stopped_copy};
 use memory_disk::MemDisk;
-use mkv_disk::MEDIA;
 use mkv_lines::Status;
+use mkv_memory::MemReport;
 use std::alloc::{AllocError, Global};
 use std::test::Fail;
 
 /// The edit on a disk with this sidecar, stopped at a call of the disk; and whether it came to its end.
-fn edited(alloc: Global, sidecar: &[u8], stop: u64) -> Result<(MemDisk, bool), Fail>
-    requires { length sidecar.now ≤ LONGEST_FILE }
-{
+fn edited(alloc: Global, sidecar: &[u8], stop: u64) -> Result<(MemDisk, bool), Fail> {
     let mut disk = stopped(alloc, &FILE, sidecar, stop)?;
     let (status, _) = edit_on(alloc, "out.mkv", &mut disk)?;
     Ok((disk, status == Status::Done))
-}
-
-/// The file that `recover` makes of what a crash left.
-fn recovered(alloc: Global, left: &MemDisk) -> Result<Vec<u8>, Fail> {
-    let mut disk = copied(alloc, left)?;
-    let (status, _) = recover_on(alloc, "out.mkv", &mut disk)?;
-    if status != Status::Done {
-        return Err("not recovered".into());
-    }
-    octets_of(alloc, &disk, MEDIA)
 }
 
 /// Whether these are the octets of the file or of the edited one.
@@ -59,9 +44,7 @@ fn recovers(alloc: Global, left: &MemDisk) -> Result<bool, Fail> {
 }
 
 /// Whether the edit beside this sidecar, stopped at any call and crashed with any image, is recovered whole or not at all.
-fn is_safe(alloc: Global, sidecar: &[u8]) -> Result<bool, Fail>
-    requires { length sidecar.now ≤ LONGEST_FILE }
-{
+fn is_safe(alloc: Global, sidecar: &[u8]) -> Result<bool, Fail> {
     for stop in 0..100 {
         let (disk, whole) = edited(alloc, sidecar, stop)?;
         for pick in 0..6 {
@@ -90,12 +73,20 @@ fn comes_to_either(alloc: Global, disk: &MemDisk) -> Result<bool, Fail> {
     Ok(true)
 }
 
+/// What the edit says where a call of the disk fails, if all that it may leave is recovered.
+fn failed(alloc: Global, call: u64) -> Result<(Status, MemReport), Fail> {
+    let mut disk = failing(alloc, &FILE, &[], call)?;
+    let said = edit_on(alloc, "out.mkv", &mut disk)?;
+    if !comes_to_either(alloc, &disk)? {
+        return Err("not recovered".into());
+    }
+    Ok(said)
+}
+
 #[test]
 fn an_edit_of_which_a_call_fails_tells_it_and_is_recovered(rt: HostRuntime) -> Result<(), Fail> {
     for call in 0..100 {
-        let mut disk = failing(rt.alloc(), &FILE, &[], call)?;
-        let (status, report) = edit_on(rt.alloc(), "out.mkv", &mut disk)?;
-        assert!(rt; comes_to_either(rt.alloc(), &disk)?);
+        let (status, report) = failed(rt.alloc(), call)?;
         if status == Status::Done {
             assert!(rt; call > 20);
             assert_eq!(rt; report.line(0), Some("edited out.mkv"));
@@ -128,9 +119,7 @@ const OLD_FRONT: [u8; 47] = [
 ];
 
 /// The older record behind these octets.
-fn old_record(alloc: Global, gate: &[u8]) -> Result<Vec<u8>, AllocError>
-    ensures { IfOk result (λ octets. length octets.items ≡ length gate.now + 299) }
-{
+fn old_record(alloc: Global, gate: &[u8]) -> Result<Vec<u8>, AllocError> {
     let mut octets = gate.to_vec(alloc)?;
     octets.extend_from_slice(&OLD_FRONT)?;
     octets.extend_from_slice(&[0; 112])?;
