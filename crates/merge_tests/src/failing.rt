@@ -2,7 +2,8 @@
 
 use crate::runs::{LINE, Outside, TWO_BLOCKS};
 use crate::spelled::{
-    CL, CUT, E, H, INFO, JOINED, LIVE, S1, SEEKS, TR, VOID_2, VOID_3, merged, octets_of,
+    CL, CUT, E, H, INFO, JOINED, LIVE, S1, SEEKS, TR, VOID_2, VOID_3, merged, merged_first,
+    octets_of,
 };
 use mkv_lines::Status;
 use std::process::Abort;
@@ -103,7 +104,7 @@ fn a_call_of_the_files_that_fails_leaves_a_first_part(rt: HostRuntime) -> Result
             lines: TWO_BLOCKS,
             open: octets_of(rt.alloc(), &[H, SEGMENT, VOID, INFO, TR, CL])?,
             without_size: octets_of(rt.alloc(), &[H, SEGMENT, area, SEEKS, VOID_2, INFO, TR, CL])?,
-            whole: octets_of(rt.alloc(), &merged(2))?,
+            whole: octets_of(rt.alloc(), &merged())?,
         };
         // nothing is made; nothing is appended; the front stands; all stands but for what is written over
         check_calls(&rt, &case, &[6, 0, 371, 393])?;
@@ -151,7 +152,7 @@ warning: a.mkv: Truncated, element A3, offset 61
 #[test]
 fn a_line_that_fails_is_the_last(rt: HostRuntime) -> Result<(), Fail> {
     let input = octets_of(rt.alloc(), &[E, "18538067 AF", TR, CUT])?;
-    let whole = octets_of(rt.alloc(), &merged(1))?;
+    let whole = octets_of(rt.alloc(), &merged_first())?;
     for line in 0..=3 {
         let mut outside = Outside::new(&rt, &[input.as_slice()])?;
         outside.report.fail_at(line)?;

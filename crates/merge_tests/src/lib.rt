@@ -1,21 +1,12 @@
 #![tactic(auto)]
 
-//! Merges of small files in memory, and what `merge -J` tells of them: what is written and told, and what a failure leaves. Tests alone.
+//! Merges of small files in memory: what stands of an output, and is told, where a call fails, and what is read
+//! while it is written. Tests alone.
 
-#[cfg(test)]
-mod appended;
-#[cfg(test)]
-mod damage;
 #[cfg(test)]
 mod failing;
 #[cfg(test)]
-mod identified;
-#[cfg(test)]
 mod large;
-#[cfg(test)]
-mod merges;
-#[cfg(test)]
-mod records;
 #[cfg(test)]
 mod runs;
 #[cfg(test)]

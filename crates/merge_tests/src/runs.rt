@@ -1,6 +1,5 @@
-//! Runs over files and a report in memory, and what they have to answer.
+//! Runs over files and a report in memory.
 
-use crate::spelled::{Spelled, octets_of};
 use memory_disk::MemDisk;
 use mkv_lines::Status;
 use mkv_memory::{MemFiles, MemReport};
@@ -13,37 +12,6 @@ pub const LINE: &str = "merge -o out.mkv a.mkv";
 
 /// The line of an output of two blocks.
 pub const TWO_BLOCKS: &str = "wrote out.mkv: 2 blocks\n";
-
-/// What a run answers: its status and its lines, and what `out.mkv` then holds.
-#[derive(Clone, Copy)]
-pub struct Answer<'a> {
-    pub status: Status,
-    pub lines: &'a str,
-    pub output: Option<Spelled<'a>>,
-}
-
-pub fn done<'a>(lines: &'a str, output: Spelled<'a>) -> Answer<'a> {
-    Answer {
-        status: Status::Done,
-        lines,
-        output: Some(output),
-    }
-}
-
-pub fn warned<'a>(lines: &'a str, output: Spelled<'a>) -> Answer<'a> {
-    Answer {
-        status: Status::Warned,
-        ..done(lines, output)
-    }
-}
-
-pub fn refused<'a>(lines: &'a str) -> Answer<'a> {
-    Answer {
-        status: Status::Refused,
-        lines,
-        output: None,
-    }
-}
 
 /// The names of inputs, in their order.
 const NAMES: [&str; 2] = ["a.mkv", "b.mkv"];
@@ -100,40 +68,4 @@ impl Outside {
         let mut named = NAMES.iter().zip(inputs);
         named.all(|(name, octets)| self.files.bytes(name) == Some(*octets))
     }
-}
-
-/// Runs a command line over these inputs, and compares what it answers and leaves.
-pub fn check(
-    rt: &(impl Abort + AllocGlobal),
-    line: &str,
-    inputs: &[&[u8]],
-    answer: &Answer,
-) -> Result<(), Fail> {
-    let mut outside = Outside::new(rt, inputs)?;
-    let status = outside.run(rt, line)?;
-    assert_eq!(rt; status, answer.status, "{line}");
-    assert_eq!(rt; outside.said(rt)?.as_str(), answer.lines, "{line}");
-    assert!(rt; outside.keeps(inputs), "{line}");
-    let written = outside.files.bytes("out.mkv");
-    if let Some(output) = answer.output {
-        let expected = octets_of(rt.alloc(), output)?;
-        assert!(rt; written == Some(expected.as_slice()), "{line}: {written:?}");
-    } else {
-        assert!(rt; written.is_none(), "{line}");
-    }
-    for name in ["out.mkv.mkvedit", "a.mkv.mkvedit", "out-001.mkv"] {
-        assert!(rt; outside.files.bytes(name).is_none(), "{line}: {name}");
-    }
-    Ok(())
-}
-
-/// The same over one input that is spelled.
-pub fn check_one(
-    rt: &(impl Abort + AllocGlobal),
-    line: &str,
-    file: Spelled,
-    answer: &Answer,
-) -> Result<(), Fail> {
-    let octets = octets_of(rt.alloc(), file)?;
-    check(rt, line, &[octets.as_slice()], answer)
 }

@@ -34,15 +34,6 @@ pub const LIVE: [&str; 5] = [
     "1C53BB6B 80",
 ];
 
-/// Tracks with a video track: V_VP8, number 1, UID 7.
-pub const VIDEO: &str = "1654AE6B 93 AE91 D78101 73C58107 838101 8685 565F565038";
-
-/// A Cluster with a key frame at 0 ms, and another frame at 20 ms.
-pub const KEY_FIRST: &str = "1F43B675 91 E78100 A38581000080AA A38581001400BB";
-
-/// A file of 67 octets with both.
-pub const V1: [&str; 4] = [E, "18538067 AE", VIDEO, KEY_FIRST];
-
 /// An EBML header of an output.
 pub const H: &str = "1A45DFA3 A3 42868101 42F78101 42F28104 42F38108 \
     4282886D6174726F736B61 42878104 42858102";
@@ -67,25 +58,14 @@ pub fn written<'a>(size: &'a str, clusters: &'a str) -> [&'a str; 9] {
     [H, "18538067", size, head, SEEKS, VOID_2, INFO, TR, clusters]
 }
 
-/// What the small file is merged to, where so many of its two blocks are read.
-pub fn merged(blocks: u8) -> [&'static str; 9] {
-    if blocks == 0 {
-        return written("010000000000013F", "");
-    }
-    if blocks == 1 {
-        return written("010000000000014E", "1F43B675 8A E78100 A38581000080AA");
-    }
+/// What the small file is merged to.
+pub fn merged() -> [&'static str; 9] {
     written("0100000000000155", CL)
 }
 
-/// An output with Cues at this position: Tracks, Clusters and Cues stand last.
-pub fn with_cues<'a>(size: &'a str, at: &'a str, behind: [&'a str; 3]) -> [&'a str; 12] {
-    let [tracks, clusters, cues] = behind;
-    let head = "114D9B74 BF";
-    let seek = "4DBB9253AB84 1C53BB6B 53AC88";
-    [
-        H, "18538067", size, head, SEEKS, seek, at, VOID_3, INFO, tracks, clusters, cues,
-    ]
+/// The same where its second block can't be read.
+pub fn merged_first() -> [&'static str; 9] {
+    written("010000000000014E", "1F43B675 8A E78100 A38581000080AA")
 }
 
 /// The octets that are spelled. `00*3` stands for `000000`.
