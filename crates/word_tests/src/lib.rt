@@ -1,7 +1,7 @@
 #![tactic(auto)]
 
-//! Lines of words with the answers that they must have, the lines that a
-//! user reads, and runs over files in memory: tests alone.
+//! Lines of words that mean a command, lines that a user reads, and runs over files in memory of which a call fails:
+//! tests alone.
 
 #[cfg(test)]
 mod extractions;
@@ -9,8 +9,6 @@ mod extractions;
 mod lines;
 #[cfg(test)]
 mod pending;
-#[cfg(test)]
-mod records;
 #[cfg(test)]
 mod running;
 #[cfg(test)]

@@ -1,10 +1,9 @@
-//! Files of which an edit was begun and isn't done: they aren't read before it is recovered.
+//! A file of which an edit was begun and isn't done, where its sidecar can't be read.
 
-use crate::extractions::{TWO_BLOCKS, words_of};
-use crate::running::run_over;
+use crate::extractions::TWO_BLOCKS;
+use crate::running::{run_over, words_of};
 use mkv_lines::Status;
 use mkv_memory::{MemFiles, MemReport};
-use std::alloc::{AllocError, Global};
 use std::test::Fail;
 
 /// An edit that makes four writes, as its record was kept in version 1.
@@ -27,165 +26,9 @@ const BEGUN: [u8; 256] = [
     0x00, 0x00, 0x00, 0x00, 0x00, 0x00, 0x00, 0x00, 0x00, 0x00, 0x00, 0x00, 0x00, 0x00, 0x00, 0x00,
 ];
 
-/// The same edit in version 2.
-const BEGUN_2: [u8; 328] = [
-    0xA5, 0x4D, 0x4B, 0x56, 0x45, 0x44, 0x49, 0x54, 0x00, 0x00, 0x00, 0x00, 0x00, 0x00, 0x01, 0x48,
-    0x00, 0x00, 0x00, 0x00, 0x00, 0x00, 0x01, 0xA7, 0x02, 0x04, 0x00, 0x00, 0x00, 0x00, 0x00, 0x00,
-    0x00, 0x00, 0x00, 0x00, 0x00, 0x00, 0x00, 0x2C, 0x00, 0x00, 0x00, 0x00, 0x00, 0x00, 0x00, 0x08,
-    0x00, 0x00, 0x00, 0x00, 0x00, 0x00, 0x00, 0x34, 0x00, 0x00, 0x00, 0x00, 0x00, 0x00, 0x00, 0x38,
-    0x00, 0x00, 0x00, 0x00, 0x00, 0x00, 0x01, 0x5A, 0x00, 0x00, 0x00, 0x00, 0x00, 0x00, 0x00, 0x02,
-    0x00, 0x00, 0x00, 0x00, 0x00, 0x00, 0x01, 0x89, 0x00, 0x00, 0x00, 0x00, 0x00, 0x00, 0x00, 0x1E,
-    0x00, 0x00, 0x00, 0x00, 0x00, 0x00, 0x00, 0x00, 0x00, 0x00, 0x00, 0x00, 0x00, 0x00, 0x00, 0x00,
-    0x00, 0x00, 0x00, 0x00, 0x00, 0x00, 0x00, 0x00, 0x00, 0x00, 0x00, 0x00, 0x00, 0x00, 0x00, 0x00,
-    0x00, 0x00, 0x00, 0x00, 0x00, 0x00, 0x00, 0x00, 0x00, 0x00, 0x00, 0x00, 0x00, 0x00, 0x00, 0x00,
-    0x00, 0x00, 0x00, 0x00, 0x00, 0x00, 0x00, 0x00, 0x00, 0x00, 0x00, 0x00, 0x00, 0x00, 0x00, 0x00,
-    0x00, 0x00, 0x00, 0x00, 0x00, 0x00, 0x01, 0x89, 0x1A, 0x45, 0xDF, 0xA3, 0xA3, 0x42, 0x86, 0x81,
-    0x01, 0x42, 0xF7, 0x81, 0x01, 0x42, 0xF2, 0x81, 0x04, 0x42, 0xF3, 0x81, 0x08, 0x42, 0x82, 0x88,
-    0x6D, 0x61, 0x74, 0x72, 0x6F, 0x73, 0x6B, 0x61, 0x42, 0x87, 0x81, 0x04, 0x42, 0x85, 0x81, 0x02,
-    0x18, 0x53, 0x80, 0x67, 0x01, 0x00, 0x00, 0x00, 0x00, 0x00, 0x01, 0x55, 0x11, 0x4D, 0x9B, 0x74,
-    0xAA, 0x4D, 0xBB, 0x92, 0x53, 0xAB, 0x84, 0x15, 0x01, 0x00, 0x00, 0x00, 0x00, 0x00, 0x01, 0x73,
-    0x11, 0x4D, 0x9B, 0x74, 0xAA, 0x4D, 0xBB, 0x92, 0x53, 0xAB, 0x84, 0x15, 0x49, 0xA9, 0x66, 0x53,
-    0xAC, 0x88, 0x00, 0x00, 0x00, 0x00, 0x00, 0x00, 0x01, 0x00, 0x4D, 0xBB, 0x92, 0x53, 0xAB, 0x84,
-    0x16, 0x54, 0xAE, 0x6B, 0x53, 0xAC, 0x88, 0x00, 0x00, 0x00, 0x00, 0x00, 0x00, 0x01, 0x55, 0xEC,
-    0x01, 0x00, 0x00, 0x00, 0x00, 0x00, 0x00, 0xC8, 0xEC, 0x97, 0x16, 0x54, 0xAE, 0x6B, 0x99, 0xAE,
-    0x97, 0xD7, 0x81, 0x01, 0x73, 0xC5, 0x81, 0x05, 0x83, 0x81, 0x02, 0x86, 0x86, 0x41, 0x5F, 0x4F,
-    0x50, 0x55, 0x53, 0x53, 0x6E, 0x82, 0x48, 0x69,
-];
-
-/// A row: the names beside which a sidecar lies, what it holds, the words, the status and the line.
-#[derive(Clone, Copy)]
-struct Row<'a> {
-    edited: &'a [&'a str],
-    sidecar: &'a [u8],
-    words: &'a [&'a str],
-    status: Status,
-    line: &'a str,
-}
-
-const INFO: [&str; 2] = ["info", "s1.mkv"];
-
-const EXTRACT: [&str; 5] = ["extract", "s1.mkv", "tracks", "--raw", "0:r"];
-
-const MERGE: [&str; 5] = ["merge", "-o", "out.mkv", "s1.mkv", "s2.mkv"];
-
-const PENDING: &str = "error: s1.mkv: PendingEdit, run recover";
-
-/// A row of words that are refused.
-fn refused<'a>(
-    edited: &'a [&'a str],
-    sidecar: &'a [u8],
-    words: &'a [&'a str],
-    line: &'a str,
-) -> Row<'a> {
-    Row {
-        edited,
-        sidecar,
-        words,
-        status: Status::Refused,
-        line,
-    }
-}
-
-/// A row of words that are obeyed.
-fn obeyed<'a>(
-    edited: &'a [&'a str],
-    sidecar: &'a [u8],
-    words: &'a [&'a str],
-    line: &'a str,
-) -> Row<'a> {
-    Row {
-        edited,
-        sidecar,
-        words,
-        status: Status::Done,
-        line,
-    }
-}
-
-#[test]
-fn a_file_of_which_an_edit_is_pending_is_refused(rt: HostRuntime) -> Result<(), Fail> {
-    let first = ["s1.mkv.mkvedit"];
-    let second = ["s2.mkv.mkvedit"];
-    let both = ["s2.mkv.mkvedit", "s1.mkv.mkvedit"];
-    let output = ["out.mkv.mkvedit"];
-    let all = ["out.mkv.mkvedit", "s2.mkv.mkvedit"];
-    let missing = ["merge", "-o", "out.mkv", "s1.mkv", "no.mkv"];
-    let line_of_2 = "error: s2.mkv: PendingEdit, run recover";
-    let line_of_output = "error: out.mkv: PendingEdit, run recover";
-    let rows = [
-        refused(&first, &BEGUN, &INFO, PENDING),
-        refused(&first, &BEGUN_2, &INFO, PENDING),
-        refused(&first, &BEGUN, &EXTRACT, PENDING),
-        refused(&first, &BEGUN_2, &EXTRACT, PENDING),
-        refused(&first, &BEGUN, &MERGE, PENDING),
-        refused(&second, &BEGUN_2, &MERGE, line_of_2),
-        refused(&both, &BEGUN, &MERGE, PENDING),
-        refused(&all, &BEGUN, &MERGE, line_of_2),
-        refused(&output, &BEGUN, &MERGE, line_of_output),
-        refused(&first, &BEGUN, &missing, "error: no.mkv: Missing"),
-    ];
-    for row in &rows {
-        assert!(rt; agrees(rt.alloc(), row)?, "{:?}", row.words);
-    }
-    Ok(())
-}
-
-#[test]
-fn a_sidecar_without_a_pending_edit_is_passed_over(rt: HostRuntime) -> Result<(), Fail> {
-    let first = ["s1.mkv.mkvedit"];
-    let taken = ["r.mkvedit"];
-    let mut closed = BEGUN;
-    closed[0] = 0x00;
-    let torn = &BEGUN[..255];
-    let bad = &BEGUN_2[..21];
-    let listed = "EBML at 0 size 11";
-    let merged = "wrote out.mkv: 4 blocks";
-    let mut rows = Vec::new(rt.alloc());
-    for sidecar in [closed.as_slice(), torn, bad, &[0xA5], &[]] {
-        rows.push(obeyed(&first, sidecar, &INFO, listed))?;
-        rows.push(obeyed(&first, sidecar, &EXTRACT, "wrote r"))?;
-        rows.push(obeyed(&first, sidecar, &MERGE, merged))?;
-    }
-    rows.push(obeyed(&taken, &BEGUN, &EXTRACT, "wrote r"))?;
-    for row in &rows {
-        assert!(rt; agrees(rt.alloc(), row)?, "{:?}", row.words);
-    }
-    Ok(())
-}
-
-/// Whether a row that is run says and makes what it has to, and leaves the inputs and the sidecars.
-fn agrees(alloc: Global, row: &Row) -> Result<bool, AllocError> {
-    let mut files = MemFiles::new(alloc)?;
-    let mut report = MemReport::new(alloc, 100, 4096)?;
-    files.put("s1.mkv", &TWO_BLOCKS)?;
-    files.put("s2.mkv", &TWO_BLOCKS)?;
-    let sidecar = &row.sidecar[..row.sidecar.len().min(400)];
-    for name in row.edited {
-        files.put(name, sidecar)?;
-    }
-    let words = words_of(alloc, row.words)?;
-    let status = run_over(alloc, &words, &mut files, &mut report)?;
-    let is_alone = row.status != Status::Refused || report.line(1).is_none();
-    let is_made = files.bytes("r").is_some() || files.bytes("out.mkv").is_some();
-    let is_info = row.words.len() == INFO.len();
-    for name in row.edited {
-        if files.bytes(name) != Some(sidecar) {
-            return Ok(false);
-        }
-    }
-    Ok(
-        status == row.status
-            && report.line(0) == Some(row.line)
-            && is_alone
-            && is_made == (status == Status::Done && !is_info)
-            && files.bytes("s1.mkv") == Some(TWO_BLOCKS.as_slice())
-            && files.bytes("s2.mkv") == Some(TWO_BLOCKS.as_slice()),
-    )
-}
-
 #[test]
 fn a_sidecar_that_fails_ends_the_run(rt: HostRuntime) -> Result<(), Fail> {
-    let info = words_of(rt.alloc(), &INFO)?;
+    let info = words_of(rt.alloc(), &["info", "s1.mkv"])?;
     // the file is opened, and then its sidecar is opened and read
     for call in 1..3 {
         let mut files = MemFiles::new(rt.alloc())?;

@@ -16,3 +16,12 @@ pub fn run_over(
     let mut disk = MemDisk::new(alloc, &[], &[], 0, 0)?;
     Ok(run(alloc, words, files, &mut disk, report))
 }
+
+/// The words of a command line.
+pub fn words_of(alloc: Global, words: &[&str]) -> Result<Vec<String>, AllocError> {
+    let mut owned = Vec::new(alloc);
+    for word in words {
+        owned.push(word.to_string(alloc)?)?;
+    }
+    Ok(owned)
+}

@@ -1,12 +1,7 @@
 //! Lines of words of `merge`, by topic, as those of the other commands.
 
 /// `merge`, for the whole output.
-pub(crate) static OUTPUTS: [(&str, &str); 38] = [
-    ("merge", "1 NoOutput"),
-    ("merge a", "2 NoOutput"),
-    ("merge -o out.mkv", "3 NoInput"),
-    ("merge -o out.mkv --title x", "5 NoInput"),
-    ("merge --title x", "3 NoOutput"),
+pub(crate) static OUTPUTS: [(&str, &str); 17] = [
     ("merge -o out.mkv s1.mkv", "merge out.mkv | s1.mkv"),
     ("merge s1.mkv --output out.mkv", "merge out.mkv | s1.mkv"),
     ("merge -o  s1.mkv", "merge  | s1.mkv"),
@@ -15,22 +10,13 @@ pub(crate) static OUTPUTS: [(&str, &str); 38] = [
     ("merge  -o o", "merge o | "),
     ("merge -o o --title a\0b f", "4 BadValue"),
     ("merge -o o --chapters a\0b f", "merge o chapters=a\0b | f"),
-    ("merge -o out.mkv --foo s1.mkv", "3 UnknownOption"),
-    ("merge -o out.mkv --title=x s1.mkv", "3 UnknownOption"),
-    ("merge -o out.mkv -- s1.mkv", "3 UnknownOption"),
-    ("merge -o", "2 MissingValue"),
-    ("merge -o a -o", "3 RepeatedOption"),
-    ("merge -o a -o b c", "3 RepeatedOption"),
-    ("merge -o a --output b c", "3 RepeatedOption"),
     ("merge -w -o w.webm s1.mkv", "merge w.webm webm | s1.mkv"),
-    ("merge --webm -o w.webm s1.mkv -w", "5 RepeatedOption"),
     (
         "merge -o o --title x --chapters c.txt f",
         "merge o title=x chapters=c.txt | f",
     ),
     ("merge -o o --title  f", "merge o title= | f"),
     ("merge -o o --chapters -c f", "merge o chapters=-c | f"),
-    ("merge -o o --title x f --title y", "6 RepeatedOption"),
     (
         "merge -o o --timestamp-scale 1000 f",
         "merge o scale=1000 | f",
@@ -39,8 +25,6 @@ pub(crate) static OUTPUTS: [(&str, &str); 38] = [
         "merge -o o --timestamp-scale 010000000 f",
         "merge o scale=10000000 | f",
     ),
-    ("merge -o o --timestamp-scale 999 f", "4 BadValue"),
-    ("merge -o o --timestamp-scale 10000001 f", "4 BadValue"),
     ("merge -o o --cluster-length 1 f", "merge o blocks=1 | f"),
     (
         "merge -o o --cluster-length 100ms f",
@@ -50,15 +34,10 @@ pub(crate) static OUTPUTS: [(&str, &str); 38] = [
         "merge -o o --cluster-length 32000ms f",
         "merge o span=32000000000 | f",
     ),
-    ("merge -o o --cluster-length 0 f", "4 BadValue"),
-    ("merge -o o --cluster-length 65536 f", "4 BadValue"),
-    ("merge -o o --cluster-length 99ms f", "4 BadValue"),
-    ("merge -o o --cluster-length 32001ms f", "4 BadValue"),
-    ("merge -o o --cluster-length ms f", "4 BadValue"),
 ];
 
 /// `merge --split`.
-pub(crate) static SPLITS: [(&str, &str); 46] = [
+pub(crate) static SPLITS: [(&str, &str); 17] = [
     (
         "merge -o o --split duration:10s f",
         "merge o every 10000000000 | f",
@@ -79,40 +58,14 @@ pub(crate) static SPLITS: [(&str, &str); 46] = [
         "merge -o o --split duration:9223372036s f",
         "merge o every 9223372036000000000 | f",
     ),
-    ("merge -o o --split duration:9223372037s f", "4 BadValue"),
     (
         "merge -o o --split duration:2562047:47:16.854775807 f",
         "merge o every 9223372036854775807 | f",
     ),
     (
-        "merge -o o --split duration:2562047:47:16.854775808 f",
-        "4 BadValue",
-    ),
-    (
-        "merge -o o --split duration:99999999999999999999s f",
-        "4 BadValue",
-    ),
-    ("merge -o o --split duration:0s f", "4 BadValue"),
-    ("merge -o o --split duration:10 f", "4 BadValue"),
-    ("merge -o o --split duration:1:60:00 f", "4 BadValue"),
-    ("merge -o o --split duration:1:00:60 f", "4 BadValue"),
-    ("merge -o o --split duration:1:0:00 f", "4 BadValue"),
-    ("merge -o o --split duration::00:01 f", "4 BadValue"),
-    ("merge -o o --split duration:00:01 f", "4 BadValue"),
-    ("merge -o o --split duration:0:00:01. f", "4 BadValue"),
-    (
-        "merge -o o --split duration:0:00:01.0000000001 f",
-        "4 BadValue",
-    ),
-    ("merge -o o --split duration:-1s f", "4 BadValue"),
-    (
         "merge -o o --split timestamps:0s,1s,0:00:02 f",
         "merge o at 0 1000000000 2000000000 | f",
     ),
-    ("merge -o o --split timestamps:1s,1s f", "4 BadValue"),
-    ("merge -o o --split timestamps:2s,1s f", "4 BadValue"),
-    ("merge -o o --split timestamps:1s, f", "4 BadValue"),
-    ("merge -o o --split timestamps: f", "4 BadValue"),
     (
         "merge -o o --split chapters:all f",
         "merge o chapters all | f",
@@ -121,7 +74,6 @@ pub(crate) static SPLITS: [(&str, &str); 46] = [
         "merge -o o --split chapters:2,2,0 f",
         "merge o chapters 2 2 0 | f",
     ),
-    ("merge -o o --split chapters:all,1 f", "4 BadValue"),
     (
         "merge -o o --split parts:0s-1s,2s-3s f",
         "merge o parts 0-1000000000 2000000000-3000000000 | f",
@@ -130,11 +82,6 @@ pub(crate) static SPLITS: [(&str, &str); 46] = [
         "merge -o o --split parts:0s-1s,1s- f",
         "merge o parts 0-1000000000 1000000000- | f",
     ),
-    ("merge -o o --split parts:1s-1s f", "4 BadValue"),
-    ("merge -o o --split parts:1s-3s,2s-4s f", "4 BadValue"),
-    ("merge -o o --split parts:1s-,2s-3s f", "4 BadValue"),
-    ("merge -o o --split parts:-1s f", "4 BadValue"),
-    ("merge -o o --split parts:1s f", "4 BadValue"),
     ("merge -o o --split size:7 f", "merge o size 7 | f"),
     ("merge -o o --split size:007k f", "merge o size 7168 | f"),
     ("merge -o o --split size:1m f", "merge o size 1048576 | f"),
@@ -150,17 +97,10 @@ pub(crate) static SPLITS: [(&str, &str); 46] = [
         "merge -o o --split size:999999999999g f",
         "merge o size 18446744073709551615 | f",
     ),
-    ("merge -o o --split size:0 f", "4 BadValue"),
-    ("merge -o o --split size:1000000000000 f", "4 BadValue"),
-    ("merge -o o --split size:1K f", "4 BadValue"),
-    ("merge -o o --split size:k f", "4 BadValue"),
-    ("merge -o o --split 10s f", "4 BadValue"),
-    ("merge -o o --split frames:1 f", "4 BadValue"),
 ];
 
 /// `merge` with `--segment-uid`, `--link` and `-J`.
-pub(crate) static IDENTIFIERS: [(&str, &str); 22] = [
-    ("merge -o o f -J g", "4 ExtraWord"),
+pub(crate) static IDENTIFIERS: [(&str, &str); 4] = [
     (
         "merge -o o --segment-uid 00000000000000000000000000000001 f",
         "merge o uuids 1 | f",
@@ -169,38 +109,12 @@ pub(crate) static IDENTIFIERS: [(&str, &str); 22] = [
         "merge -o o --segment-uid ffffffffffffffffffffffffffffffff,0000000000000000000000000000000A --link f",
         "merge o uuids 340282366920938463463374607431768211455 10 link | f",
     ),
-    (
-        "merge -o o --segment-uid 0000000000000000000000000000000a,0000000000000000000000000000000A f",
-        "4 BadValue",
-    ),
-    (
-        "merge -o o --segment-uid 0000000000000000000000000000001 f",
-        "4 BadValue",
-    ),
-    (
-        "merge -o o --segment-uid 0000000000000000000000000000000g f",
-        "4 BadValue",
-    ),
-    ("merge -o o --link f", "3 NeedsUuids"),
-    ("merge --link f -o o", "1 NeedsUuids"),
-    ("merge --link f", "3 NoOutput"),
-    ("merge -o o --link", "4 NoInput"),
     ("merge -J f", "identify f"),
-    ("merge -J", "2 MissingValue"),
-    ("merge -J f g", "3 ExtraWord"),
-    ("merge -J f --foo", "3 UnknownOption"),
-    ("merge -J f -o", "3 ExtraWord"),
-    ("merge -J --foo", "2 UnknownOption"),
-    ("merge -J -o x f", "2 ExtraWord"),
-    ("merge -J -J f", "2 ExtraWord"),
-    ("merge -J + f", "2 ExtraWord"),
     ("merge -J -", "identify -"),
-    ("merge f -J", "2 ExtraWord"),
-    ("merge -o o -J f", "3 ExtraWord"),
 ];
 
 /// `merge`, for the next file.
-pub(crate) static FILES: [(&str, &str); 24] = [
+pub(crate) static FILES: [(&str, &str); 9] = [
     ("merge -o -a s1.mkv", "merge -a | s1.mkv"),
     ("merge -o o -a 1 f", "merge o | f audio 1 named 1"),
     (
@@ -219,19 +133,10 @@ pub(crate) static FILES: [(&str, &str); 24] = [
         "merge -o o --no-audio --no-video --no-subtitles f",
         "merge o | f no-video no-audio no-subtitles",
     ),
-    ("merge -o o -a 0 -A f", "5 RepeatedOption"),
-    ("merge -o o -A -a 0 f", "4 RepeatedOption"),
-    ("merge -o o -a 0 -a 1 f", "5 RepeatedOption"),
-    ("merge -o o -a 0 -A", "5 RepeatedOption"),
     (
         "merge -o o --video-tracks 1 f -d 2 g",
         "merge o | f video 1 named 1 | g video 2 named 2",
     ),
-    ("merge -o o -a ! f", "4 BadValue"),
-    ("merge -o o -a 1, f", "4 BadValue"),
-    ("merge -o o -a  f", "4 BadValue"),
-    ("merge -o o -a 1,!2 f", "4 BadValue"),
-    ("merge -o o -a 1000000000000000000 f", "4 BadValue"),
     (
         "merge -o o -M -T --no-global-tags --no-chapters f g",
         "merge o | f no-attachments no-track-tags no-global-tags no-chapters | g",
@@ -240,19 +145,12 @@ pub(crate) static FILES: [(&str, &str); 24] = [
         "merge -o o --no-attachments --no-track-tags f",
         "merge o | f no-attachments no-track-tags",
     ),
-    ("merge -o o -M -M f", "4 RepeatedOption"),
-    ("merge -o o -T --no-track-tags f", "4 RepeatedOption"),
-    ("merge -o o f -a 1", "4 DanglingOption"),
-    ("merge -o o -a 1", "3 DanglingOption"),
-    ("merge -a 1 -M", "1 DanglingOption"),
-    ("merge -o o f -w -T --no-chapters", "5 DanglingOption"),
 ];
 
 /// `merge`, for one track of the next file.
-pub(crate) static TRACKS: [(&str, &str); 36] = [
+pub(crate) static TRACKS: [(&str, &str); 14] = [
     ("merge -o o --track-name 0:a\0 f", "4 BadValue"),
     ("merge -o o --language 0:a\0b f", "4 BadValue"),
-    ("merge -o a b -y", "5 MissingValue"),
     (
         "merge -o o -y 0:-10 --sync 1:5 f",
         "merge o | f sync 0:-10000000 sync 1:5000000 named 0 1",
@@ -269,16 +167,7 @@ pub(crate) static TRACKS: [(&str, &str); 36] = [
         "merge -o o -y 0:-36028797018 f",
         "merge o | f sync 0:-36028797018000000 named 0",
     ),
-    ("merge -o o -y 0:36028797019 f", "4 BadValue"),
-    ("merge -o o -y 0:-36028797019 f", "4 BadValue"),
     ("merge -o o -y 0:-0 f", "merge o | f sync 0:0 named 0"),
-    ("merge -o o -y 0:+1 f", "4 BadValue"),
-    ("merge -o o -y 0:1.5 f", "4 BadValue"),
-    ("merge -o o -y 0 f", "4 BadValue"),
-    ("merge -o o -y 0: f", "4 BadValue"),
-    ("merge -o o -y 0:1 -y 0:2 f", "5 RepeatedOption"),
-    ("merge -o o -y 0:1 -y 0:x f", "6 BadValue"),
-    ("merge -o o -y 0:1 -y 00:2 f", "5 RepeatedOption"),
     (
         "merge -o o -y 0:1 f -y 0:2 g",
         "merge o | f sync 0:1000000 named 0 | g sync 0:2000000 named 0",
@@ -291,30 +180,14 @@ pub(crate) static TRACKS: [(&str, &str); 36] = [
         "merge -o o --track-name 2: f",
         "merge o | f name 2: named 2",
     ),
-    ("merge -o o --track-name 2 f", "4 BadValue"),
-    (
-        "merge -o o --track-name 2:a --track-name 2:b f",
-        "5 RepeatedOption",
-    ),
-    ("merge -o o --language 0:Ger f", "4 BadValue"),
-    ("merge -o o --language 0:ge f", "4 BadValue"),
-    ("merge -o o --language 0:deut f", "4 BadValue"),
     (
         "merge -o o --default-track-flag 0 --default-track-flag 1:0 --forced-display-flag 2:1 f",
         "merge o | f default 0:true default 1:false forced 2:true named 0 1 2",
-    ),
-    ("merge -o o --default-track-flag 0:2 f", "4 BadValue"),
-    ("merge -o o --default-track-flag 0: f", "4 BadValue"),
-    ("merge -o o --forced-display-flag x f", "4 BadValue"),
-    (
-        "merge -o o --forced-display-flag 0 --forced-display-flag 0:0 f",
-        "5 RepeatedOption",
     ),
     (
         "merge -o o --cues 0:none --cues 1:iframes --cues 2:all f",
         "merge o | f cues 0:never cues 1:key cues 2:all named 0 1 2",
     ),
-    ("merge -o o --cues 0:key f", "4 BadValue"),
     (
         "merge -o o --timestamps 0:t.txt f",
         "merge o | f times 0:t.txt named 0",
@@ -323,35 +196,18 @@ pub(crate) static TRACKS: [(&str, &str); 36] = [
         "merge -o o --timestamps 1: -a !4 f",
         "merge o | f audio not 4 times 1: named 1 4",
     ),
-    ("merge -o o --timestamps t.txt f", "4 BadValue"),
-    ("merge -o o f -M -a 1 -y 0:1", "4 DanglingOption"),
 ];
 
 /// `merge` with `+`, with options behind the last file, and with many files.
-pub(crate) static JOINS: [(&str, &str); 13] = [
-    ("merge -o o - +", "5 MissingValue"),
-    ("merge -o o f + -a 1", "7 MissingValue"),
-    ("merge -o o f -a 1 +", "7 MissingValue"),
-    ("merge f +", "3 MissingValue"),
+pub(crate) static JOINS: [(&str, &str); 4] = [
     ("merge -o o f + g", "merge o | f + g"),
     (
         "merge -o o f -a 1 + -w g h",
         "merge o webm | f + g audio 1 named 1 | h",
     ),
-    ("merge -o o + f", "3 AppendFirst"),
-    ("merge +", "1 AppendFirst"),
-    ("merge -o o f + + g", "5 ExtraWord"),
     ("merge -o o f + g + h", "merge o | f + g + h"),
     (
         "merge -o o f f f f f f f f f f f f f f f f f f f f f f f f f f f f f f f f f f f f f f f f f f f f f f f f f f f f f f f f f f f f f f f f",
         "merge o | f | f | f | f | f | f | f | f | f | f | f | f | f | f | f | f | f | f | f | f | f | f | f | f | f | f | f | f | f | f | f | f | f | f | f | f | f | f | f | f | f | f | f | f | f | f | f | f | f | f | f | f | f | f | f | f | f | f | f | f | f | f | f | f",
-    ),
-    (
-        "merge -o o f f f f f f f f f f f f f f f f f f f f f f f f f f f f f f f f f f f f f f f f f f f f f f f f f f f f f f f f f f f f f f f f g",
-        "67 TooManyInputs",
-    ),
-    (
-        "merge f f f f f f f f f f f f f f f f f f f f f f f f f f f f f f f f f f f f f f f f f f f f f f f f f f f f f f f f f f f f f f f f + g",
-        "66 TooManyInputs",
     ),
 ];
