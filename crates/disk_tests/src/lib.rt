@@ -8,15 +8,11 @@ mod calls;
 #[cfg(test)]
 mod data;
 #[cfg(test)]
-mod edits;
+mod faults;
 #[cfg(test)]
 mod images;
 #[cfg(test)]
 mod real;
-#[cfg(test)]
-mod row;
-#[cfg(test)]
-mod rows;
 #[cfg(test)]
 mod running;
 #[cfg(test)]

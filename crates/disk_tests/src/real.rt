@@ -1,12 +1,9 @@
 //! A file of the system and its sidecar.
 
 use crate::calls::{cut, open, read, sync, write};
-use crate::data::{EDITED, FILE, RECORD};
-use crate::running::{edit_on, recover_on};
 use mkv_disk::{Disk, MEDIA, SIDECAR};
 use mkv_host_disk::RealDisk;
 use mkv_io::Reads;
-use mkv_lines::Status;
 use mkv_values::{Failed, OpenFault};
 use std::test::Fail;
 use std::{fs, io};
@@ -70,35 +67,5 @@ fn a_pair_is_missing_or_cannot_be_opened(rt: HostRuntime) -> Result<(), Fail> {
     }
     assert!(rt; fs::metadata(&rt, "disk_test_names/none.mkv.mkvedit").is_err());
     fs::remove_dir_all(&rt, "disk_test_names")?;
-    Ok(())
-}
-
-#[test]
-fn an_edit_of_a_file_that_is_not_there_is_refused(rt: HostRuntime) -> Result<(), Fail> {
-    let mut disk = RealDisk::new(rt.alloc(), &rt);
-    let (status, report) = edit_on(rt.alloc(), "disk_test_none.mkv", &mut disk)?;
-    assert_eq!(rt; status, Status::Refused);
-    assert_eq!(rt; report.line(0), Some("error: disk_test_none.mkv: Missing"));
-    assert!(rt; fs::metadata(&rt, "disk_test_none.mkv.mkvedit").is_err());
-    Ok(())
-}
-
-#[test]
-fn a_stopped_edit_of_a_file_is_made_whole(rt: HostRuntime) -> Result<(), Fail> {
-    fresh_folder(&rt, "disk_test_recover")?;
-    fs::write(&rt, "disk_test_recover/a.mkv", FILE.as_slice())?;
-    fs::write(&rt, "disk_test_recover/a.mkv.mkvedit", RECORD.as_slice())?;
-    let mut disk = RealDisk::new(rt.alloc(), &rt);
-    for line in [
-        "recovered disk_test_recover/a.mkv",
-        "nothing to recover in disk_test_recover/a.mkv",
-    ] {
-        let (status, report) = recover_on(rt.alloc(), "disk_test_recover/a.mkv", &mut disk)?;
-        assert_eq!(rt; status, Status::Done);
-        assert_eq!(rt; report.line(0), Some(line));
-        assert!(rt; holds(&rt, "disk_test_recover/a.mkv", EDITED.as_slice())?);
-        assert!(rt; holds(&rt, "disk_test_recover/a.mkv.mkvedit", [0].as_slice())?);
-    }
-    fs::remove_dir_all(&rt, "disk_test_recover")?;
     Ok(())
 }
