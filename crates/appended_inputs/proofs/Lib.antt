@@ -1,2 +1,2 @@
 mod LinkLemmas
-mod PlaceLemmas
+pub mod PlaceLemmas

@@ -5,7 +5,7 @@ use Rattle.std.specs.List.{All, sum_by}
 use Rattle.std.specs.Option.{option_map, option_map_or, unwrap_or}
 use Rattle.std.proofs.lemmas.List.{map-append}
 use Rattle.std.proofs.lemmas.List.Elements.{All-head, All-nil, All-push, All-tail}
-use Rattle.std.proofs.lemmas.List.Sums.{sum_by-append, sum_by-cons}
+use Rattle.std.proofs.lemmas.List.Sums.{sum_by-cons}
 use Rattle.mkv_values.specs.declared.outside.FileId.{FileId}
 use Rattle.mkv_io.specs.LiveFiles.{LiveFiles}
 use Rattle.lane_blocks.specs.Links.{octets_in}
@@ -17,8 +17,8 @@ use Rattle.merge_plan.specs.Places.{begun_at, end_of, in_place, in_place_from}
 use Rattle.merge_plan.specs.Plan.{Source, later_by}
 use Rattle.merge_plan.specs.Planned.{IsToldInput, source_in}
 use Rattle.merge_plan.specs.Spots.{HasPlace}
-use Rattle.appended_inputs.specs.Behind.{end_behind, last_in, most_behind, size_behind}
-use Rattle.appended_inputs.specs.Placed.{ArePlaced, StandInPlace, inputs_length}
+use Rattle.appended_inputs.specs.Behind.{end_behind, last_in, most_behind, size_behind, walked_for}
+use Rattle.appended_inputs.specs.Placed.{ArePlaced, StandInPlace, walked_behind}
 
 -- ---- the last of some inputs
 
@@ -63,7 +63,6 @@ pub record GoesOn (f : LiveFiles) (inputs placed left : List Input) : Type 0 whe
   pub many : length placed + length left ≡ length inputs
   pub places : All HasPlace placed
   pub near : most_behind placed ≤ length placed * MOST_END
-  pub long : inputs_length f placed + inputs_length f left ≡ inputs_length f inputs
   pub told : All (IsToldInput f) inputs → All (IsToldInput f) placed × All (IsToldInput f) left
   pub exact : All (IsToldInput f) inputs → map (source_in f) placed ++ in_place_from (end_behind f placed) (map (source_in f) left) ≡ in_place (map (source_in f) inputs)
 
@@ -75,7 +74,6 @@ goes-begin f inputs good = record {
   many = omega arith;
   places = All-nil HasPlace;
   near = omega arith;
-  long = omega arith;
   told = λ told. (All-nil (IsToldInput f), told);
   exact = λ told. refl;
 }
@@ -97,7 +95,6 @@ module _ (f : LiveFiles) (inputs placed new left rest : List Input) (i : Input) 
     many = omega (arith, length-append placed (moved shift i ∷ []), ap length next, goes.many);
     places = All-push HasPlace placed (moved shift i) goes.places place;
     near = omega (arith, length-append placed (moved shift i ∷ []), behind-push (λ (each : Input). later_by (read_in each) + MOST_END) placed (moved shift i), near, goes.near);
-    long = omega (arith, sum_by-append (λ (each : Input). f.size each.file.n) placed (moved shift i ∷ []), sum_by-cons (λ (each : Input). f.size each.file.n) i rest, ap (inputs_length f) next, goes.long);
     told = λ told.
         let before = goes.told told in
         let after = subst (All (IsToldInput f)) next before.1 in
@@ -115,11 +112,11 @@ module _ (f : LiveFiles) (inputs placed new left rest : List Input) (i : Input) 
       place : HasPlace (moved shift i)
       place = omega (arith, near, goes.near, goes.many, ap length next)
 
-  -- what is read of the last but one is paid by the lengths
-  pub goes-paid : (start mid now : ℕ) → mid + 6 * size_behind f placed ≤ start + 6 * inputs_length f placed → now ≤ mid + 6 * size_behind f placed → now + 6 * size_behind f new ≤ start + 6 * inputs_length f new
-  goes-paid start mid now before more =
-      subst (λ (ps : List Input). now + 6 * size_behind f ps ≤ start + 6 * inputs_length f ps) (sym put)
-      (omega (arith, behind-push (λ (each : Input). f.size each.file.n) placed (moved shift i), sum_by-append (λ (each : Input). f.size each.file.n) placed (moved shift i ∷ []), sum_by-cons (λ (each : Input). f.size each.file.n) (moved shift i) []))
+  -- what is walked over for it is a part of what is walked over for all that were left
+  pub goes-paid : (most mid now : ℕ) → mid + 6 * walked_behind f (size_behind f placed) left ≤ most → now ≤ mid + 6 * walked_for i.shift (size_behind f placed) → now + 6 * walked_behind f (size_behind f new) rest ≤ most
+  goes-paid most mid now before more =
+      let last : size_behind f new ≡ f.size i.file.n = ap (size_behind f) put ∙ behind-push (λ (each : Input). f.size each.file.n) placed (moved shift i) in
+      omega (arith, ap (walked_behind f (size_behind f placed)) next, ap (λ (n : ℕ). walked_behind f n rest) last)
 
 -- at the end all are set
 pub goes-end : (f : LiveFiles) (inputs placed left : List Input) → GoesOn f inputs placed left → left ≡ [] → ArePlaced f inputs placed
@@ -135,6 +132,13 @@ goes-exact f inputs placed left goes none told =
     ∙ ap (λ (l : List Input). map (source_in f) placed ++ in_place_from (end_behind f placed) (map (source_in f) l)) (sym none)
     ∙ goes.exact told
 
--- what was read so far is within what may be read of all
-pub goes-within : (f : LiveFiles) (inputs placed left : List Input) (start mid now : ℕ) → GoesOn f inputs placed left → mid + 6 * size_behind f placed ≤ start + 6 * inputs_length f placed → now ≤ mid + 6 * size_behind f placed → now ≤ start + 6 * inputs_length f inputs
-goes-within f inputs placed left start mid now goes before more = omega (arith, goes.long)
+-- no more is walked over than all files
+pub walked-within : (f : LiveFiles) (before : ℕ) (inputs : List Input) → walked_behind f before inputs ≤ before + sum_by (λ (i : Input). f.size i.file.n) inputs
+walked-within f before [] = omega arith
+walked-within f before (i ∷ is) =
+    let rest = walked-within f (f.size i.file.n) is in
+    omega (arith, at i.shift, sum_by-cons (λ (each : Input). f.size each.file.n) i is)
+  where
+    at : (shift : Option ℕ) → walked_for shift before ≤ before
+    at None = omega arith
+    at (Some time) = omega arith

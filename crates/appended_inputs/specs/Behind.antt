@@ -1,5 +1,5 @@
 -- What the last of some inputs says of one that is appended to it.
-use Rattle.std.specs.Prelude.{◌≡◌, ℕ, ◌+◌, ◌-◌, List, length, Option, slice_get}
+use Rattle.std.specs.Prelude.{◌≡◌, ℕ, ◌+◌, ◌-◌, List, length, Option, None, Some, slice_get}
 use Rattle.std.specs.List.{All}
 use Rattle.std.specs.Option.{option_map, option_map_or}
 use Rattle.mkv_io.specs.LiveFiles.{LiveFiles}
@@ -29,6 +29,11 @@ most_behind inputs = option_map_or (λ (i : Input). later_by (read_in i) + MOST_
 -- the length of its file
 abbrev pub size_behind : LiveFiles → List Input → ℕ
 size_behind f inputs = option_map_or (λ (i : Input). f.size i.file.n) (last_in inputs) 0
+
+-- how much is walked over for an input with this shift: the file before it, of this length, where it is appended
+abbrev pub walked_for : Option ℕ → ℕ → ℕ
+walked_for None before = 0
+walked_for (Some time) before = before
 
 -- An input with this shift is later by so much, behind these, where their files tell their contents.
 abbrev pub IsBehind : LiveFiles → List Input → Option ℕ → Option ℕ → Type 0

@@ -10,8 +10,8 @@ ghost use Rattle.file_survey.specs.declared.found.TheConstants.{MOST_END};
 ghost use Rattle.merge_inputs.specs.Input.{IsInput, read_in};
 ghost use Rattle.merge_plan.specs.Plan.{later_by};
 ghost use Rattle.merge_plan.specs.Spots.{HasPlace};
-ghost use Rattle.appended_inputs.specs.Behind.{EndsAt, IsBehind, most_behind, size_behind};
-ghost use Rattle.appended_inputs.specs.Placed.{ArePlaced, StandInPlace, inputs_length};
+ghost use Rattle.appended_inputs.specs.Behind.{EndsAt, IsBehind, most_behind, size_behind, walked_for};
+ghost use Rattle.appended_inputs.specs.Placed.{ArePlaced, StandInPlace, walked_length};
 
 use file_survey::survey;
 use merge_inputs::Input;
@@ -48,7 +48,7 @@ fn shift_behind<R: Reads>(
     ensures near { IfOk result (λ later. unwrap_or later 0 ≤ most_behind before.now) }
     ensures standing { R.standing src.new ≡ R.standing src.old }
     ensures cause { HasCause is_read_fault (R.reading_faults src.old) (R.reading_faults src.new) result }
-    ensures octets { R.octets_read src.new ≤ R.octets_read src.old + 6 * size_behind (live_files R.Reads src.old) before.now }
+    ensures octets { R.octets_read src.new ≤ R.octets_read src.old + 6 * walked_for shift (size_behind (live_files R.Reads src.old) before.now) }
 {
     if shift.is_none() {
         return Ok(None);
@@ -59,7 +59,7 @@ fn shift_behind<R: Reads>(
     }
 }
 
-/// Sets each input that is appended to where the one before it ends. The file of that one is walked over.
+/// Sets each input that is appended to where the one before it ends. The file of that one is walked over, and no other.
 pub fn set_in_place<R: Reads>(
     alloc: Global,
     inputs: List<Input>,
@@ -71,7 +71,7 @@ pub fn set_in_place<R: Reads>(
     ensures placed { IfOk result (ArePlaced (live_files R.Reads src.new) inputs) }
     ensures standing { R.standing src.new ≡ R.standing src.old }
     ensures cause { HasCause is_read_fault (R.reading_faults src.old) (R.reading_faults src.new) result }
-    ensures octets { R.octets_read src.new ≤ R.octets_read src.old + 6 * inputs_length (live_files R.Reads src.old) inputs }
+    ensures octets { R.octets_read src.new ≤ R.octets_read src.old + 6 * walked_length (live_files R.Reads src.old) inputs }
 {
     let mut placed = List::new(alloc);
     for input in inputs.into_vec() {

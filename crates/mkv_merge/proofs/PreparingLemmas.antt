@@ -27,7 +27,8 @@ use Rattle.merge_plan.specs.Spots.{HasPlace}
 use Rattle.merge_plan.specs.declared.appending.AppendDiffers.{AppendDiffers}
 use Rattle.merge_plan.specs.declared.refusal.PlanRefusal.{PlanRefusal}
 use Rattle.merge_plan.proofs.FileLemmas.{reads-in}
-use Rattle.appended_inputs.specs.Placed.{StandInPlace, inputs_length}
+use Rattle.appended_inputs.specs.Placed.{StandInPlace, walked_length}
+use Rattle.appended_inputs.proofs.PlaceLemmas.{walked-within}
 use Rattle.mkv_merge.specs.Bound.{files_size}
 use Rattle.mkv_merge.specs.Merge.{sources_read, sources_with, unless_refused}
 use Rattle.mkv_merge.specs.Prepared.{AreTold, ReadsAs, reads_in, sources_from}
@@ -222,7 +223,7 @@ reads-planned f words chapters ids contents inputs o of told read is =
 -- ---- how much is read before the blocks
 
 -- inputs are read, and then walked over
-pub pays-both : (f : LiveFiles) (ids : List FileId) (inputs : List Input) (start mid now : ℕ) → map (λ (i : Input). i.file) inputs ≡ ids → mid ≤ start + 24 * files_size f ids → now ≤ mid + 6 * inputs_length f inputs → now ≤ start + 30 * files_size f ids
+pub pays-both : (f : LiveFiles) (ids : List FileId) (inputs : List Input) (start mid now : ℕ) → map (λ (i : Input). i.file) inputs ≡ ids → mid ≤ start + 24 * files_size f ids → now ≤ mid + 6 * walked_length f inputs → now ≤ start + 30 * files_size f ids
 pays-both f ids inputs start mid now of read walked =
-    let long : inputs_length f inputs ≡ files_size f ids = inputs-size f inputs ∙ ap (files_size f) of in
-    omega (arith, long)
+    let long : sum_by (λ (i : Input). f.size i.file.n) inputs ≡ files_size f ids = inputs-size f inputs ∙ ap (files_size f) of in
+    omega (arith, long, walked-within f 0 inputs)

@@ -2,7 +2,7 @@
 use Rattle.std.proofs.Common.{◌≡◌, ◌+◌, ◌*◌, ◌≤◌}
 use Rattle.mkv_io.specs.Sources.{live_files}
 use Rattle.appended_inputs.specs.Behind.{size_behind}
-use Rattle.appended_inputs.specs.Placed.{inputs_length}
+use Rattle.appended_inputs.specs.Placed.{walked_behind, walked_length}
 use Rattle.appended_inputs.proofs.PlaceLemmas.{GoesOn}
 use Rattle.appended_inputs.proofs.placing.set_in_place.Given as goal
 
@@ -11,5 +11,6 @@ invariant-loop-input g l = record {
   goes : GoesOn (live_files g.R.Reads l.initial.src) l.initial.input-iterator.rest.items l.placed l.input-iterator.rest.items;
   standing : g.R.Reads.standing l.src ≡ g.R.Reads.standing l.initial.src;
   faults : g.R.Reads.reading_faults l.src ≡ g.R.Reads.reading_faults l.initial.src;
-  octets : g.R.Reads.octets_read l.src + 6 * size_behind (live_files g.R.Reads l.initial.src) l.placed ≤ g.R.Reads.octets_read l.initial.src + 6 * inputs_length (live_files g.R.Reads l.initial.src) l.placed;
+  octets : g.R.Reads.octets_read l.src + 6 * walked_behind (live_files g.R.Reads l.initial.src) (size_behind (live_files g.R.Reads l.initial.src) l.placed) l.input-iterator.rest.items
+      ≤ g.R.Reads.octets_read l.initial.src + 6 * walked_length (live_files g.R.Reads l.initial.src) l.initial.input-iterator.rest.items;
 }

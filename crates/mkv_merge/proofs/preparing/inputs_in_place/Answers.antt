@@ -7,7 +7,7 @@ use Rattle.mkv_io.specs.Sources.{live_files}
 use Rattle.merge_inputs.specs.Input.{read_in}
 use Rattle.merge_inputs.specs.declared.input.Input.{Input}
 use Rattle.merge_plan.specs.Appending.{append_refusal}
-use Rattle.appended_inputs.specs.Placed.{StandInPlace, inputs_length}
+use Rattle.appended_inputs.specs.Placed.{StandInPlace, walked_length}
 use Rattle.mkv_merge.specs.Prepared.{reads_in}
 use Rattle.mkv_merge.proofs.PreparingLemmas.{pays-both, reads-differ, reads-placed}
 use Rattle.mkv_merge.proofs.preparing.inputs_in_place.Goals as goal
@@ -43,4 +43,12 @@ returns-clause-octets g c =
     let inputs : List Input = c.in_ok-inputs.inputs in
     let same : live_files g.R.Reads c.read_all.new.src ≡ f = ap g.R.Reads.files c.in_ok-inputs.ensures.standing in
     pays-both f c.args.files.now inputs (g.R.Reads.octets_read c.args.src.now) (g.R.Reads.octets_read c.read_all.new.src) (g.R.Reads.octets_read c.set_in_place.new.src) c.in_ok-inputs.ensures.inputs.of c.read_all.ensures.octets
-    (omega (arith, c.set_in_place.ensures.octets, ap (λ (now : LiveFiles). inputs_length now inputs) same))
+    (omega (arith, c.set_in_place.ensures.octets, ap (λ (now : LiveFiles). walked_length now inputs) same))
+
+pub returns-in_err-set_in_place-clause-octets : goal.returns-in_err-set_in_place-clause-octets
+returns-in_err-set_in_place-clause-octets g c =
+    let f = live_files g.R.Reads c.args.src.now in
+    let inputs : List Input = c.in_ok-inputs.inputs in
+    let same : live_files g.R.Reads c.read_all.new.src ≡ f = ap g.R.Reads.files c.in_ok-inputs.ensures.standing in
+    pays-both f c.args.files.now inputs (g.R.Reads.octets_read c.args.src.now) (g.R.Reads.octets_read c.read_all.new.src) (g.R.Reads.octets_read c.set_in_place.new.src) c.in_ok-inputs.ensures.inputs.of c.read_all.ensures.octets
+    (omega (arith, c.set_in_place.ensures.octets, ap (λ (now : LiveFiles). walked_length now inputs) same))
