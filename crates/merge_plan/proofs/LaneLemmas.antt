@@ -1,9 +1,10 @@
 -- Lanes of tracks that are taken.
 use Rattle.std.proofs.Common.{◌≡◌, ◌≤◌, ◌<◌, ℕ, zero, suc, ◌+◌, Bool, true, false, if◌then◌else◌, List, [], ◌∷◌, ◌++◌, length, take, drop, map, get_or, Option, Some, None, sym, ap, ap₂, subst, ◌∙◌, refl, arith, append-nil, append_assoc}
-use Rattle.std.specs.List.{All, AllZip, enumerate_from, slice_get, take_while}
+use Rattle.std.specs.List.{All, AllZip, enumerate_from, range_with_len, slice_get, take_while}
+use Rattle.std.proofs.lemmas.List.FromFn.{map-range_with_len_more}
 use Rattle.std.specs.Option.{option_map, option_to_list}
 use Rattle.std.proofs.lemmas.Grind.{flat_map-append}
-use Rattle.std.proofs.lemmas.List.{drop_all, get_or-map, length-map, map-append, map_push}
+use Rattle.std.proofs.lemmas.List.{drop_all, get_or-map, length-append, length-map, map-append, map_push}
 use Rattle.std.proofs.lemmas.List.Elements.{All-drop, All-take}
 use Rattle.std.proofs.Math.ListN.{length-drop, length-take}
 use Rattle.lane_blocks.specs.declared.link.Link.{Link}
@@ -13,11 +14,13 @@ use Rattle.merge_inputs.specs.Input.{read_in}
 use Rattle.merge_inputs.specs.Taken.{IsTaken}
 use Rattle.merge_inputs.specs.declared.input.Input.{Input}
 use Rattle.merge_inputs.specs.declared.taken.TakenTrack.{TakenTrack}
+use Rattle.splitter.specs.Split.{is_driver}
+use Rattle.remux_plan.specs.Parts.{drivers_of}
 use Rattle.remux_plan.specs.declared.plan.PlannedLane.{PlannedLane}
 use Rattle.merge_plan.specs.Chains.{at_place, columns_from}
 use Rattle.merge_plan.specs.Plan.{rule_of}
 use Rattle.merge_plan.specs.Records.{tracks_begun}
-use Rattle.merge_plan.specs.Spots.{GoesOn, HasTaken, IsLaneOf, IsLink, IsLinkAt, IsLinkOf, Spot, goes_on, spot, spots_at, spots_behind, spots_from, spots_in}
+use Rattle.merge_plan.specs.Spots.{AreDriven, GoesOn, HasTaken, IsLaneOf, IsLink, IsLinkAt, IsLinkOf, Spot, goes_on, spot, spots_at, spots_behind, spots_from, spots_in}
 use Rattle.merge_plan.proofs.ChainLemmas.{enumerate-push, while-enumerate}
 use Rattle.merge_plan.proofs.RecordLemmas.{begun-taken}
 use Rattle.merge_plan.proofs.ListLemmas.{drop-next, take-next}
@@ -76,14 +79,15 @@ stays place number i old new none same =
       are = tt;
       inputs = ap (λ (l : PlannedLane). l.inputs) same ∙ sym (append-nil old.inputs);
       rule = ap (λ (l : PlannedLane). l.cues) same;
+      drives = ap (λ (l : PlannedLane). l.drives) same;
     })
 
 -- and one that has a track
 pub goes : (place number : ℕ) (i : Input) (t : TakenTrack) (link : TrackLink) (old new : PlannedLane) → slice_get i.taken place ≡ Some t → IsLinkOf i t link
-    → new.spec.links ≡ old.spec.links ++ Track link ∷ [] → new.inputs ≡ old.inputs ++ number ∷ [] → new.cues ≡ old.cues → GoesOn (spots_at place (number, i)) old new
-goes place number i t link old new some is links inputs rule =
+    → new.spec.links ≡ old.spec.links ++ Track link ∷ [] → new.inputs ≡ old.inputs ++ number ∷ [] → new.cues ≡ old.cues → new.drives ≡ old.drives → GoesOn (spots_at place (number, i)) old new
+goes place number i t link old new some is links inputs rule drives =
     subst (λ (spots : List Spot). GoesOn spots old new) (sym (spots-one place number i (Some t) some))
-    (record { more = Track link ∷ []; links = links; are = (is, tt); inputs = inputs; rule = rule })
+    (record { more = Track link ∷ []; links = links; are = (is, tt); inputs = inputs; rule = rule; drives = drives })
 
 -- what goes on in it, of one input more
 pub behind-more : (place number : ℕ) (inputs : List Input) (k : ℕ) (i : Input) → k < length inputs → i ≡ get_or inputs k i
@@ -170,3 +174,14 @@ behind-few inputs behind n are inside =
     let left : length (drop n inputs) + n ≡ length inputs = simp length-drop (omega arith) in
     let many : length behind ≡ length (take_while goes_on (drop n inputs)) = ap length are in
     omega arith
+
+-- ---- which lanes drive
+
+pub driven-more : (videos : List Bool) (lanes new : List PlannedLane) (lane : PlannedLane) → AreDriven videos lanes → lane.drives ≡ is_driver videos (length lanes) → new ≡ lanes ++ lane ∷ [] → AreDriven videos new
+driven-more videos lanes new lane so_far drives put =
+    let here : 0 + length lanes ≡ length lanes = omega arith in
+    let more : length new ≡ length lanes + 1 = ap (λ (ls : List PlannedLane). length ls) put ∙ simp length-append (omega arith) in
+    ap drivers_of put ∙ map_push (λ (l : PlannedLane). l.drives) lanes lane
+    ∙ ap₂ (λ (before : List Bool) (one : Bool). before ++ one ∷ []) so_far drives
+    ∙ sym (map-range_with_len_more (is_driver videos) 0 (length lanes) (length lanes) here)
+    ∙ ap (λ (n : ℕ). map (is_driver videos) (range_with_len 0 n)) (sym more)

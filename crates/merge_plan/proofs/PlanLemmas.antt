@@ -1,6 +1,6 @@
 -- What a plan's lanes are.
 use Rattle.std.proofs.Common.{◌≡◌, ◌≤◌, ◌<◌, ℕ, zero, suc, ◌+◌, Bool, true, false, if◌then◌else◌, List, [], ◌∷◌, ◌++◌, length, map, flat_map, get_or, Option, Some, None, nat_abs, refl, sym, ap, ap₂, subst, ◌∙◌, arith}
-use Rattle.std.specs.List.{All, AllZip, enumerate_from, sum_by}
+use Rattle.std.specs.List.{All, AllZip, enumerate_from, range_with_len, sum_by}
 use Rattle.std.specs.Option.{option_or}
 use Rattle.std.proofs.lemmas.List.{map-append, length-map}
 use Rattle.std.proofs.lemmas.List.Elements.{All-map}
@@ -19,6 +19,8 @@ use Rattle.lane_blocks.specs.declared.link.Link.TheVariants.{Track, Entries}
 use Rattle.lane_blocks.specs.declared.link.TrackLink.{TrackLink}
 use Rattle.lanes.specs.Walks.{file_length, files_length}
 use Rattle.time_merge.specs.Laws.{IsApartLink}
+use Rattle.splitter.specs.Split.{is_driver}
+use Rattle.remux_plan.specs.Parts.{drivers_of}
 use Rattle.remux_plan.specs.Plan.{links_of, rules_of}
 use Rattle.remux_plan.specs.declared.plan.PlannedLane.{PlannedLane}
 use Rattle.output_model.specs.declared.TheConstants.{MOST_LANES}
@@ -28,12 +30,12 @@ use Rattle.merge_inputs.specs.Taken.{IsTaken}
 use Rattle.merge_inputs.specs.declared.input.Input.{Input}
 use Rattle.merge_inputs.specs.declared.taken.TakenTrack.{TakenTrack}
 use Rattle.merge_plan.specs.Chains.{lanes_by}
-use Rattle.merge_plan.specs.Plan.{Source, given_for, given_of, inputs_given, lanes_given, later_by, numbers_of, placing_for, rule_of, rules_given}
+use Rattle.merge_plan.specs.Plan.{Source, drives_given, given_for, given_of, inputs_given, is_video, lanes_given, later_by, numbers_of, placing_for, rule_of, rules_given}
 use Rattle.merge_plan.specs.Planned.{IsLinked, source_in}
 use Rattle.merge_plan.specs.Records.{is_appended, tracks_begun, tracks_taken}
 use Rattle.merge_plan.specs.Refusal.{lanes_refusal, plan_refusal, records_refusal}
 use Rattle.merge_plan.specs.declared.refusal.PlanRefusal.{PlanRefusal}
-use Rattle.merge_plan.specs.Spots.{Spot, HasPlace, HasTaken, IsLaneOf, IsLinkAt, IsLinkOf, goes_on, rule_at, spot, spots_in, spots_from}
+use Rattle.merge_plan.specs.Spots.{AreDriven, Spot, HasPlace, HasTaken, IsLaneOf, IsLinkAt, IsLinkOf, goes_on, rule_at, spot, spots_in, spots_from}
 use Rattle.merge_plan.proofs.ChainLemmas.{begins, enumerate-all, enumerate-map, enumerate-sum, lanes-all, lanes-few, lanes-first, lanes-light, lanes-map, unnumbered}
 use Rattle.merge_plan.proofs.RefusalLemmas.{unrefused-few}
 
@@ -229,6 +231,13 @@ module _ (inputs : List Input) (lanes : List PlannedLane) (are : AllZip IsLaneOf
 
   pub lanes-rules : rules_of lanes ≡ rules_given (map read_in inputs)
   lanes-rules = zip-map IsLaneOf (λ (l : PlannedLane). l.cues) rule_at (λ spots l is. is.rule) (spots_from 0 inputs) lanes are ∙ spots-rules 0 inputs
+
+  -- those drive that do by the types of the tracks
+  pub lanes-drives : (videos : List Bool) → AreDriven videos lanes → videos ≡ map is_video (tracks_taken (map read_in inputs)) → drivers_of lanes ≡ drives_given (map read_in inputs)
+  lanes-drives videos driven same =
+      driven
+      ∙ ap (λ (n : ℕ). map (is_driver videos) (range_with_len 0 n)) (lanes-length ∙ sym (length-map (tracks_taken (map read_in inputs)) is_video))
+      ∙ ap (λ (vs : List Bool). map (is_driver vs) (range_with_len 0 (length (map is_video (tracks_taken (map read_in inputs)))))) same
 
   -- each has few links, and of each the input's number
   pub lanes-linked : All (IsLinked inputs) lanes

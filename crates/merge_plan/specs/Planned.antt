@@ -14,6 +14,7 @@ use Rattle.lane_blocks.specs.Links.{octets_in, given_in, IsOpenLink, IsToldLink,
 use Rattle.lane_blocks.specs.declared.link.Link.{Link}
 use Rattle.lanes.specs.Walks.{files_length}
 use Rattle.time_merge.specs.Laws.{IsApartLink}
+use Rattle.remux_plan.specs.Parts.{drivers_of}
 use Rattle.remux_plan.specs.Plan.{links_of, rules_of}
 use Rattle.remux_plan.specs.declared.plan.MergePlan.{MergePlan}
 use Rattle.remux_plan.specs.declared.plan.PlannedLane.{PlannedLane}
@@ -25,7 +26,7 @@ use Rattle.merge_plan.specs.declared.refusal.PlanEnd.TheVariants.{Refused, Memor
 use Rattle.merge_plan.specs.declared.outputs.OutputRecords.{OutputRecords}
 use Rattle.merge_plan.specs.Records.{chapters_of, tags_of, tracks_of}
 use Rattle.merge_plan.specs.Front.{attachments_of, attached_length, front_of}
-use Rattle.merge_plan.specs.Plan.{Source, inputs_given, lanes_given, limits_of, rules_given}
+use Rattle.merge_plan.specs.Plan.{Source, drives_given, inputs_given, lanes_given, limits_of, rules_given, split_given}
 use Rattle.merge_plan.specs.Refusal.{plan_refusal}
 
 -- an input, with its content among live files
@@ -71,11 +72,12 @@ GivesRecords words inputs (Err Memory) = ⊤
 
 -- ---- the plan
 
--- The plan that words and inputs come to: its name, where its Clusters end, what stands in front of them and what behind,
+-- The plan that words and inputs come to: its name, where it is split and where its Clusters end, what stands in front of them and what behind,
 -- with how many octets of attached files' data;
--- and of each lane what its links give, by the contents of their files, their inputs, and which blocks get a cue point.
+-- and of each lane what its links give, by the contents of their files, their inputs, which blocks get a cue point, and whether it drives.
 pub record IsPlanOf (words : MergeWords) (inputs : List Input) (p : MergePlan) : Type 0 where
   pub output : p.output ≡ words.output
+  pub split : p.split ≡ split_given words (map read_in inputs)
   pub limits : p.limits ≡ limits_of words
   pub front : (f : LiveFiles) → All (IsToldInput f) inputs → front_with f p.front ≡ front_of words (map (source_in f) inputs)
   pub octets : sum_by (λ (a : Attachment). a.len) p.front.attachments ≡ attached_length (map read_in inputs)
@@ -84,6 +86,7 @@ pub record IsPlanOf (words : MergeWords) (inputs : List Input) (p : MergePlan) :
   pub lanes : (f : LiveFiles) → map (map (given_in f)) (links_of p.lanes) ≡ lanes_given (map (source_in f) inputs)
   pub numbers : map (λ (l : PlannedLane). l.inputs) p.lanes ≡ inputs_given 0 (map read_in inputs)
   pub rules : rules_of p.lanes ≡ rules_given (map read_in inputs)
+  pub drives : drivers_of p.lanes ≡ drives_given (map read_in inputs)
 
 -- A plan is that of the words and inputs, which nothing refuses; they are refused for what refuses them; or there is no
 -- memory.

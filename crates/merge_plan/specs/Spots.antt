@@ -1,6 +1,6 @@
 -- Where the blocks of a lane come from, and the attached files of an output.
 use Rattle.std.specs.Prelude.{◌≡◌, ◌≤◌, ℕ, Bool, List, [], ◌∷◌, ◌++◌, length, map, slice_get, IfSome}
-use Rattle.std.specs.List.{All, AllZip, enumerate_from}
+use Rattle.std.specs.List.{All, AllZip, enumerate_from, range_with_len}
 use Rattle.std.specs.Option.{option_to_list}
 use Rattle.mkv_schema.specs.declared.ids.TheConstants.{CHAPTERS, TAGS}
 use Rattle.tree_building.specs.Building.{IsRead}
@@ -13,6 +13,8 @@ use Rattle.cluster_runs.specs.declared.rule.CueRule.TheVariants.{Never}
 use Rattle.lane_blocks.specs.declared.link.Link.{Link}
 use Rattle.lane_blocks.specs.declared.link.Link.TheVariants.{Track, Entries}
 use Rattle.lane_blocks.specs.declared.link.TrackLink.{TrackLink}
+use Rattle.splitter.specs.Split.{is_driver}
+use Rattle.remux_plan.specs.Parts.{drivers_of}
 use Rattle.remux_plan.specs.declared.plan.PlannedLane.{PlannedLane}
 use Rattle.merge_inputs.specs.Taken.{IsTaken}
 use Rattle.merge_inputs.specs.declared.input.Input.{Input}
@@ -86,6 +88,7 @@ pub record GoesOn (spots : List Spot) (old new : PlannedLane) : Type 0 where
   pub are : AllZip IsLinkAt spots more
   pub inputs : new.inputs ≡ old.inputs ++ map (λ (s : Spot). s.number) spots
   pub rule : new.cues ≡ old.cues
+  pub drives : new.drives ≡ old.drives
 
 -- A lane has these tracks, one behind the other.
 pub record IsLaneOf (spots : List Spot) (l : PlannedLane) : Type 0 where
@@ -95,6 +98,10 @@ pub record IsLaneOf (spots : List Spot) (l : PlannedLane) : Type 0 where
 
 abbrev pub AreLanesOf : List Input → List PlannedLane → Type 0
 AreLanesOf inputs lanes = AllZip IsLaneOf (spots_from 0 inputs) lanes
+
+-- Of lanes, of which these are video, it is said which drive.
+abbrev pub AreDriven : List Bool → List PlannedLane → Type 0
+AreDriven videos lanes = drivers_of lanes ≡ map (is_driver videos) (range_with_len 0 (length lanes))
 
 abbrev pub HasTaken : Input → Type 0
 HasTaken i = All IsTaken i.taken

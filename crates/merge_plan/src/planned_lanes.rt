@@ -6,7 +6,7 @@ ghost use Rattle.track_format.specs.Encoding.{prefix_of};
 ghost use Rattle.output_model.specs.declared.TheConstants.{MOST_OF_PREFIX};
 ghost use Rattle.merge_inputs.specs.Taken.{IsTaken};
 ghost use Rattle.merge_plan.specs.Plan.{rule_of, usual_rule};
-ghost use Rattle.merge_plan.specs.Spots.{AreLanesOf, AreLinksOf, GoesOn, HasTaken, IsLaneOf, IsLinkOf, goes_on, spot, spots_at, spots_behind};
+ghost use Rattle.merge_plan.specs.Spots.{AreDriven, AreLanesOf, AreLinksOf, GoesOn, HasTaken, IsLaneOf, IsLinkOf, goes_on, spot, spots_at, spots_behind};
 
 use crate::entries::tracks_begun;
 use cluster_runs::CueRule;
@@ -15,6 +15,7 @@ use merge_inputs::track_type::{SUBTITLE_TRACK, VIDEO_TRACK};
 use merge_inputs::{Input, TakenTrack};
 use mkv_values::{Bytes, List};
 use remux_plan::PlannedLane;
+use splitter::is_driver;
 use std::alloc::{AllocError, Global};
 use track_records::usable;
 use word_values::CueWord;
@@ -116,7 +117,7 @@ fn go_on(
 }
 
 /// The lane that a track begins of an input with this number, from 0: at this place it goes on in the inputs that are
-/// appended to that one.
+/// appended to that one. It drives, or doesn't.
 fn lane_of(
     alloc: Global,
     number: usize,
@@ -124,11 +125,13 @@ fn lane_of(
     place: usize,
     taken: &TakenTrack,
     behind: &[Input],
+    drives: bool,
 ) -> Result<PlannedLane, AllocError>
     requires taken { IsTaken taken.now }
     requires behind { All HasTaken behind.now }
     requires room { number + length behind.now + 1 < 2 ^ 64 }
-    ensures { IfOk result (IsLaneOf (spot number input.now taken.now ∷ spots_behind place (number + 1) behind.now)) }
+    ensures lane { IfOk result (IsLaneOf (spot number input.now taken.now ∷ spots_behind place (number + 1) behind.now)) }
+    ensures drives { IfOk result (λ lane. lane.drives ≡ drives) }
 {
     let mut links = List::new(alloc);
     links.push(Link::Track(link_of(alloc, input, taken)?))?;
@@ -138,6 +141,7 @@ fn lane_of(
         spec: LaneSpec { links },
         inputs,
         cues: rule_of(taken),
+        drives,
     };
     for (k, other) in behind.iter().enumerate() {
         go_on(alloc, place, number + 1 + k, other, &mut lane)?;
@@ -145,16 +149,22 @@ fn lane_of(
     Ok(lane)
 }
 
-/// The lanes of inputs, one behind the other.
-pub(crate) fn lanes_of(alloc: Global, inputs: &[Input]) -> Result<List<PlannedLane>, AllocError>
+/// The lanes of inputs, one behind the other, of which these are video.
+pub(crate) fn lanes_of(
+    alloc: Global,
+    inputs: &[Input],
+    videos: &[bool],
+) -> Result<List<PlannedLane>, AllocError>
     requires { All HasTaken inputs.now }
-    ensures { IfOk result (AreLanesOf inputs.now) }
+    ensures lanes { IfOk result (AreLanesOf inputs.now) }
+    ensures drives { IfOk result (AreDriven videos.now) }
 {
     let mut lanes = List::new(alloc);
     for (number, input) in inputs.iter().enumerate() {
         let behind = appended(&inputs[number + 1..]);
         for (place, taken) in tracks_begun(input).iter().enumerate() {
-            lanes.push(lane_of(alloc, number, input, place, taken, behind)?)?;
+            let drives = is_driver(videos, lanes.len());
+            lanes.push(lane_of(alloc, number, input, place, taken, behind, drives)?)?;
         }
     }
     Ok(lanes)
