@@ -1,11 +1,14 @@
 -- A merge that was prepared can be written, and comes to its verdict.
 use Rattle.std.proofs.Common.{◌≡◌, ◌≢◌, ℕ, zero, suc, ◌+◌, ◌*◌, ◌<◌, ◌≤◌, nat_le, Bool, true, false, ◌||◌, List, [], ◌∷◌, ◌++◌, length, map, get_or, Option, Some, None, Result, Ok, Err, IfOk, IfSome, refl, sym, ◌∙◌, ap, subst, arith}
+use Rattle.std.specs.Prelude.{if◌then◌else◌}
 use Rattle.std.specs.List.{All, AllByRecursion, flat_map, sum_by, zip}
 use Rattle.std.specs.Option.{unwrap_or}
 use Rattle.std.proofs.Math.ListN.{get_or-map}
 use Rattle.std.proofs.lemmas.List.{length-map}
 use Rattle.std.proofs.lemmas.Bool.Decides.{nat_tests}
-use Rattle.std.proofs.lemmas.List.Elements.{All-append, All-from_recursion, All-map, All-weaker}
+use Rattle.std.proofs.lemmas.List.Elements.{All-append, All-from_recursion, All-head, All-map, All-tail, All-weaker}
+use Rattle.std.proofs.lemmas.Slice.Eq.{bytes_eq-Decides}
+use Rattle.std.specs.Str.{bytes_eq}
 use Rattle.std.proofs.lemmas.List.Sums.{sum_by-cons, sum_by-le}
 use Rattle.mkv_values.specs.declared.outside.FileId.{FileId}
 use Rattle.mkv_io.specs.Faults.{counted}
@@ -13,6 +16,8 @@ use Rattle.mkv_io.specs.Lines.{with_lines}
 use Rattle.mkv_io.specs.LiveFiles.{LiveFiles}
 use Rattle.mkv_io.specs.Names.{AreOthers, Names, with_content}
 use Rattle.mkv_io.specs.Sources.{IsLive, live_files}
+use Rattle.mkv_io.specs.Writing.{KeepsOthers}
+use Rattle.mkv_io.proofs.WritingLemmas.{KeepsOthers-more}
 use Rattle.mkv_io.specs.declared.files.Files as writing
 use Rattle.mkv_io.specs.declared.reads.Reads.{Ghosts}
 use Rattle.mkv_outputs.specs.Drafts.{Draft, StandsInTurn, outputs_of}
@@ -36,19 +41,25 @@ use Rattle.lane_blocks.specs.declared.link.Link.{Link}
 use Rattle.lane_blocks.specs.declared.link.Link.TheVariants.{Track, Entries}
 use Rattle.lanes.specs.Walks as walks
 use Rattle.time_merge.specs.Laws.{IsApartLink, lanes_over}
+use Rattle.splitter.specs.Names.{is_part_name}
+use Rattle.splitter.specs.declared.spec.SplitSpec.{SplitSpec}
+use Rattle.splitter.specs.declared.spec.SplitSpec.TheVariants.{Whole}
 use Rattle.cluster_runs.specs.Cued.{document_of}
 use Rattle.cluster_runs.specs.declared.rule.CueRule.{CueRule}
 use Rattle.cues_seekhead.specs.Draft.{draft_of}
 use Rattle.cues_seekhead.specs.OpenOutput.{CanAttach}
 use Rattle.remux_plan.specs.Plan as planned
+use Rattle.remux_plan.specs.Parts.{PlannedOutput, is_split, may_be_written, name_of, outputs_in}
+use Rattle.remux_plan.proofs.PartsLemmas.{whole-output}
 use Rattle.remux_plan.specs.Plan.{links_of, rules_of}
-use Rattle.remux_plan.specs.Summary.{IsSummary, count_to, damages_of}
-use Rattle.remux_plan.specs.declared.TheConstants.{MOST_INPUTS}
+use Rattle.remux_plan.specs.Summary.{IsSummary, count_to, damages_of, written_of}
+use Rattle.remux_plan.specs.declared.TheConstants.{MOST_INPUTS, MOST_SCALE}
 use Rattle.remux_plan.specs.declared.plan.MergePlan.{MergePlan}
 use Rattle.remux_plan.specs.declared.plan.PlannedLane.{PlannedLane}
 use Rattle.remux_plan.specs.declared.summary.Summary.{Summary}
 use Rattle.remux_plan.specs.declared.summary.Written.{Written}
-use Rattle.remuxer.specs.Plan.{IsPlan, IsToldPlan, WritesLayout, data_length, inputs_length}
+use Rattle.remuxer.specs.Output.{IsUnwrittenLink, KeepsUnwritten, WritesAll, WritesOutputs, drafts_of, laid_out}
+use Rattle.remuxer.specs.Plan.{IsPlan, IsToldPlan, data_length, inputs_length}
 use Rattle.merge_words.specs.Sound.{IsSoundMerge}
 use Rattle.merge_words.specs.declared.files.FileWords.{FileWords}
 use Rattle.merge_words.specs.declared.output.MergeWords.{MergeWords}
@@ -61,6 +72,7 @@ use Rattle.merge_plan.specs.Plan.{Source, inputs_given, lanes_given, limits_of, 
 use Rattle.merge_plan.specs.Planned.{AllLinks, CanBeWritten, IsFileOf, IsPlanOf, IsToldInput, source_in}
 use Rattle.merge_plan.specs.Front.{attached_length, attachments_of, front_of, reads_of}
 use Rattle.merge_plan.specs.Records.{chapters_of, is_appended, tags_of}
+use Rattle.merge_plan.proofs.RecordLemmas.{read-record}
 use Rattle.merge_plan.proofs.ChainLemmas.{numbers-below}
 use Rattle.merge_plan.proofs.FileLemmas.{reads-in}
 use Rattle.mkv_lines.specs.Line.{wrote_blocks_line}
@@ -121,6 +133,17 @@ file-good r f files name inputs a good others entry is =
       apart = subst (λ (file : FileId). f.holder files file.n ≢ name) (sym is.same) (λ same. other.0 (sym same));
     }
 
+-- none of its links was opened under the name of an output that isn't split
+unwritten : (holder : ℕ → List ℕ) (split : SplitSpec) (output : List ℕ) (link : Link) → split ≡ Whole → IsApartLink holder (output ∷ []) link → IsUnwrittenLink holder (is_split split) output link
+unwritten holder split output (Track t) whole others =
+    ap (λ (s : SplitSpec). if is_split s then is_part_name output (holder t.file.n) else bytes_eq output (holder t.file.n)) whole
+    ∙ either (bytes_eq output (holder t.file.n)) (bytes_eq-Decides output (holder t.file.n)).0
+  where
+    either : (is : Bool) → (is ≡ true → output ≡ holder t.file.n) → is ≡ false
+    either true same = absurd (others.0 (same refl))
+    either false same = refl
+unwritten holder split output (Entries e) whole others = tt
+
 -- what was prepared can be carried out
 pub plan-good : {S : Type 0} (r : Ghosts S) (f : writing.Ghosts S) (files : S) (words : MergeWords) (ids : List FileId) (p : Prepared) → IsSoundMerge words → AreInputs r f (file_names words.files) files ids → writes_input words ≡ false → IsPrepared (live_files r files) words ids p → IsPlan r f files p.plan
 plan-good {S = S} r f files words ids p sound opened apart prepared =
@@ -134,20 +157,25 @@ plan-good {S = S} r f files words ids p sound opened apart prepared =
     let others : All (λ (i : Input). AreOthers (f.holder files i.file.n) (p.plan.output ∷ [])) p.inputs = All-unmap (λ (file : FileId). AreOthers (f.holder files file.n) (p.plan.output ∷ [])) (λ (i : Input). i.file) p.inputs held in
     record {
       scale = subst (λ (l : ClusterLimits). 1 ≤ l.scale) (sym plan.limits) (omega (arith, sound.scale.least));
+      scale_most = subst (λ (l : ClusterLimits). l.scale ≤ MOST_SCALE) (sym plan.limits) (omega (arith, sound.scale.most));
       few = written.few;
       lanes = λ k d below. record {
         few = omega (arith, (written.linked k d below).few, many, sound.files.most);
         small = All-unmap (All IsSmallLink) (λ (l : PlannedLane). l.spec.links) lanes written.small k d below;
         live = All-unmap (All (IsOpenLink (live_files r files))) (λ (l : PlannedLane). l.spec.links) lanes (written.is_open (live_files r files) prepared.inputs.good) k d below;
-        apart = All-unmap (All (IsApartLink (f.holder files) (p.plan.output ∷ []))) (λ (l : PlannedLane). l.spec.links) lanes (written.apart (f.holder files) (p.plan.output ∷ []) others) k d below;
+        apart = λ j e inside. unwritten (f.holder files) p.plan.split p.plan.output (get_or (get_or lanes k d).spec.links j e) prepared.whole
+            (All-unmap (All (IsApartLink (f.holder files) (p.plan.output ∷ []))) (λ (l : PlannedLane). l.spec.links) lanes (written.apart (f.holder files) (p.plan.output ∷ []) others) k d below j e inside);
         numbered = (written.linked k d below).numbered;
         inputs = All-unmap (All (λ (i : ℕ). i < MOST_INPUTS)) (λ (l : PlannedLane). l.inputs) lanes (subst (All (All (λ (i : ℕ). i < MOST_INPUTS))) (sym plan.numbers) (numbers-small (map read_in p.inputs) (omega (arith, length-map p.inputs read_in, many, sound.files.most)))) k d below;
       };
       records = record {
         info = written.info.id;
         tracks = written.tracks.id;
-        attached = λ k d below. file-good r f files p.plan.output p.inputs (get_or p.plan.front.attachments k d) prepared.inputs.good others (written.attachments k d below) (written.files k d below);
-        chapters = record-id CHAPTERS p.plan.chapters written.chapters;
+        attached =
+            let name : p.plan.output ≡ name_of (is_split p.plan.split) p.plan.output 1 = sym (ap (λ (s : SplitSpec). name_of (is_split s) p.plan.output 1) prepared.whole) in
+            subst (λ (n : List ℕ). All (CanAttach r f files n) p.plan.front.attachments) name
+            (λ k d below. file-good r f files p.plan.output p.inputs (get_or p.plan.front.attachments k d) prepared.inputs.good others (written.attachments k d below) (written.files k d below));
+        chapters = read-record CHAPTERS p.plan.chapters written.chapters;
         tags = record-id TAGS p.plan.tags written.tags;
       };
     }
@@ -165,6 +193,7 @@ plan-told f words ids contents p prepared told =
 -- A plan is that of the words and of these sources, whose files are told.
 pub record IsMergeOf (f : LiveFiles) (words : MergeWords) (inputs : List Input) (p : MergePlan) (sources : List Source) : Type 0 where
   pub plan : IsPlanOf words inputs p
+  pub whole : p.split ≡ Whole
   pub from : map (source_in f) inputs ≡ sources
   pub many : length words.files ≡ length inputs
   pub told : All (IsToldInput f) inputs
@@ -172,6 +201,7 @@ pub record IsMergeOf (f : LiveFiles) (words : MergeWords) (inputs : List Input) 
 pub merge-is : (f : LiveFiles) (words : MergeWords) (ids : List FileId) (contents : List (List ℕ)) (p : Prepared) → IsPrepared f words ids p → AreTold f ids contents → length p.inputs ≡ length words.files → IsMergeOf f words p.inputs p.plan (zip contents (reads_in p.inputs))
 merge-is f words ids contents p prepared told many = record {
   plan = prepared.plan;
+  whole = prepared.whole;
   from = sources-told f p.inputs contents (told-contents f ids contents p.inputs prepared.inputs.of told);
   many = sym many;
   told = each-told f p.inputs contents (told-contents f ids contents p.inputs prepared.inputs.of told);
@@ -279,7 +309,7 @@ tells-is f p s is = record { damages = is.damages; more = is.more; past = past-d
 behind-told : (f : LiveFiles) (words : MergeWords) (inputs : List Input) (p : MergePlan) (sources : List Source) (s : Summary) → IsMergeOf f words inputs p sources → IsSummary f p s
     → map (λ (w : Written). wrote_blocks_line w.name w.blocks) s.outputs ++ warnings_from s 0 words.files ≡ lines_behind words sources
 behind-told f words inputs p sources s is sums =
-    ap (λ (ws : List Written). map (λ (w : Written). wrote_blocks_line w.name w.blocks) ws ++ warnings_from s 0 words.files) sums.outputs
+    ap (λ (ws : List Written). map (λ (w : Written). wrote_blocks_line w.name w.blocks) ws ++ warnings_from s 0 words.files) (sums.outputs ∙ ap (map written_of) (whole-output f p is.whole))
     ∙ ap (λ (name : List ℕ). wrote_blocks_line name (counted 0 (length (planned.blocks_of f p))) ∷ warnings_from s 0 words.files) is.plan.output
     ∙ ap (λ (bs : List OutputBlock). wrote_blocks_line words.output (counted 0 (length bs)) ∷ warnings_from s 0 words.files) (blocks-are f words inputs p sources is)
     ∙ ap (λ (lines : List (List ℕ)). wrote_blocks_line words.output (counted 0 (length (blocks_of words sources))) ∷ lines)
@@ -306,24 +336,25 @@ draft-is : (f : LiveFiles) (words : MergeWords) (inputs : List Input) (p : Merge
 draft-is f words inputs p sources is = ap (λ (name : List ℕ). draft_of name (planned.document_in f p)) is.plan.output ∙ ap (draft_of words.output) (document-is f words inputs p sources is)
 
 -- all that isn't there was warned of, and the output couldn't be written
-pub merge-left : (old new : Seen) (why : Stop) (f : LiveFiles) (words : MergeWords) (inputs : List Input) (p : MergePlan) (sources : List Source) → IsMergeOf f words inputs p sources → new.lines ≡ with_lines old.lines (lines_before words (reads_in inputs)) → StandsInTurn old.names new.names (draft_of p.output (planned.document_in f p) ∷ []) → Reaches old new (Err why) (merged_verdict words sources)
+pub merge-left : (old new : Seen) (why : Stop) (f : LiveFiles) (words : MergeWords) (inputs : List Input) (p : MergePlan) (sources : List Source) → IsMergeOf f words inputs p sources → new.lines ≡ with_lines old.lines (lines_before words (reads_in inputs)) → StandsInTurn old.names new.names (drafts_of (outputs_in f p)) → Reaches old new (Err why) (merged_verdict words sources)
 merge-left old new why f words inputs p sources is said stands =
     let reads = reads-are f words inputs p sources is in
     record {
       lines = SaysPart-before old.lines new.lines (lines_before words (reads_of sources)) (lines_behind words sources)
           (SaysPart-all old.lines new.lines (lines_before words (reads_of sources)) (said ∙ ap (λ (rs : List InputRead). with_lines old.lines (lines_before words rs)) (sym reads)));
-      names = subst (λ (d : Draft). StandsInTurn old.names new.names (d ∷ [])) (draft-is f words inputs p sources is) stands;
+      names = subst (λ (d : Draft). StandsInTurn old.names new.names (d ∷ [])) (draft-is f words inputs p sources is)
+          (subst (λ (os : List PlannedOutput). StandsInTurn old.names new.names (drafts_of os)) (whole-output f p is.whole) stands);
     }
 
--- the output stands whole
-layout-whole : (old new : Names) (name : List ℕ) (d : Document) → WritesLayout old new name d → new ≡ with_outputs old (outputs_of (draft_of name d ∷ []))
-layout-whole old new name d writes = writes.names ∙ sym (ap (λ (o : Output). with_content old o.name o.content) writes.becomes)
+-- the outputs stand whole
+all-whole : (old new : Names) (outputs : List PlannedOutput) → WritesAll old new outputs → new ≡ with_outputs old (outputs_of (drafts_of outputs))
+all-whole old new outputs writes = writes.names ∙ sym (ap (with_outputs old) writes.become)
 
 -- and the rest is told
 pub merge-told : (old new : Seen) (mid : ReportLines) (r : Result Status Stop) (f : LiveFiles) (words : MergeWords) (inputs : List Input) (p : MergePlan) (sources : List Source) (s : Summary) (absent : Bool) → IsMergeOf f words inputs p sources → IsSummary f p s
     → absent ≡ has_absent words (reads_in inputs) → mid ≡ with_lines old.lines (lines_before words (reads_in inputs))
     → Says mid new.lines (map (λ (w : Written). wrote_blocks_line w.name w.blocks) s.outputs ++ warnings_from s 0 words.files) r → IfOk r (λ (status : Status). status ≡ status_of (is_warned absent s))
-    → WritesLayout old.names new.names p.output (planned.document_in f p) → Reaches old new r (merged_verdict words sources)
+    → WritesAll old.names new.names (outputs_in f p) → Reaches old new r (merged_verdict words sources)
 merge-told old new mid r f words inputs p sources s absent is sums missing before says status writes =
     step r (subst (λ (lines : List (List ℕ)). Says mid new.lines lines r) (behind-told f words inputs p sources s is sums) says) status
   where
@@ -335,7 +366,8 @@ merge-told old new mid r f words inputs p sources s absent is sums missing befor
 
     whole : new.names ≡ with_outputs old.names (outputs_of (draft_of words.output (document_in words sources) ∷ []))
     whole =
-        layout-whole old.names new.names p.output (planned.document_in f p) writes
+        all-whole old.names new.names (outputs_in f p) writes
+        ∙ ap (λ (os : List PlannedOutput). with_outputs old.names (outputs_of (drafts_of os))) (whole-output f p is.whole)
         ∙ ap (λ (d : Draft). with_outputs old.names (outputs_of (d ∷ []))) (draft-is f words inputs p sources is)
 
     warned : is_warned absent s ≡ (has_absent words (reads_of sources) || has_damage sources)
@@ -353,3 +385,18 @@ merge-told old new mid r f words inputs p sources s absent is sums missing befor
       lines = SaysPart-behind old.lines mid new.lines (lines_before words (reads_of sources)) (lines_behind words sources) first says;
       names = StandsInTurn-whole old.names new.names (draft_of words.output (document_in words sources) ∷ []) [] whole;
     }
+
+-- ---- which files stay
+
+-- what isn't split writes no other name
+pub keeps-output : {S : Type 0} (r : Ghosts S) (f : writing.Ghosts S) (split : SplitSpec) (output name : List ℕ) (old new : S) → split ≡ Whole → output ≡ name → KeepsUnwritten r f (is_split split) output old new → KeepsOthers r f (name ∷ []) old new
+keeps-output r f split output name old new whole named kept = KeepsOthers-more r f kept.names (name ∷ []) old new (among kept.names kept.form) kept.kept
+  where
+    same : (other : List ℕ) → may_be_written (is_split split) output other ≡ true → name ≡ other
+    same other may = sym named ∙ (bytes_eq-Decides output other).0 (sym (ap (λ (s : SplitSpec). may_be_written (is_split s) output other) whole) ∙ may)
+
+    among : (names : List (List ℕ)) → All (λ (n : List ℕ). may_be_written (is_split split) output n ≡ true) names → (other : List ℕ) → AreOthers other (name ∷ []) → AreOthers other names
+    among [] form other others = tt
+    among (n ∷ names) form other others =
+        (λ is. others.0 (same n (All-head (λ (m : List ℕ). may_be_written (is_split split) output m ≡ true) n names form) ∙ is),
+        among names (All-tail (λ (m : List ℕ). may_be_written (is_split split) output m ≡ true) n names form) other others)

@@ -4,6 +4,7 @@ use Rattle.std.specs.List.{All, zip}
 use Rattle.mkv_values.specs.declared.outside.FileId.{FileId}
 use Rattle.mkv_io.specs.LiveFiles.{LiveFiles}
 use Rattle.input_files.specs.Inputs as files
+use Rattle.splitter.specs.declared.spec.SplitSpec.TheVariants.{Whole}
 use Rattle.merge_words.specs.declared.output.MergeWords.{MergeWords}
 use Rattle.merge_inputs.specs.Input.{InputRead, IsInput, read_in}
 use Rattle.merge_inputs.specs.declared.input.Input.{Input}
@@ -39,11 +40,12 @@ pub record AreInputsOf (f : LiveFiles) (list : List FileId) (inputs : List Input
   pub of : map (λ (i : Input). i.file) inputs ≡ list
   pub places : All HasPlace inputs
 
--- The inputs are those of these files, and the plan is theirs.
+-- The inputs are those of these files, and the plan is theirs, which isn't split.
 pub record IsPrepared (f : LiveFiles) (words : MergeWords) (list : List FileId) (p : Prepared) : Type 0 where
   pub inputs : AreInputsOf f list p.inputs
   pub plan : IsPlanOf words p.inputs p.plan
   pub written : CanBeWritten p.inputs p.plan
+  pub whole : p.plan.split ≡ Whole
 
 -- The inputs are those of a merge, each in its place, where they have these contents.
 abbrev pub ReadsInPlace : MergeWords → List (List ℕ) → Result (List Input) MergeEnd → Type 0

@@ -1,6 +1,6 @@
 //! Files are opened, merged and closed.
 
-ghost use Rattle.std.specs.Prelude.{◌≡◌, ◌+◌, ◌≤◌, false, ℕ, List, [], ◌∷◌, IfOk};
+ghost use Rattle.std.specs.Prelude.{◌≡◌, ◌+◌, ◌≤◌, false, ℕ, List, [], ◌∷◌, None, IfOk};
 ghost use Rattle.mkv_io.specs.Sources.{live_files};
 ghost use Rattle.mkv_io.specs.Told.{Told};
 ghost use Rattle.mkv_io.specs.Writing.{KeepsOthers};
@@ -40,6 +40,7 @@ fn merge_opened<F: Files, P: Report>(
     requires sound { IsSoundMerge words.now }
     requires inputs { AreInputs F.Reads F.Files.own (file_names words.now.files) files.old ids.now }
     requires apart { writes_input words.now ≡ false }
+    requires split { words.now.split ≡ None }
     ensures verdict { (contents : List (List ℕ)) → AreTold (live_files F.Reads files.old) ids.now contents → Reaches
         (seen F.Reads F.writing_faults F.names P.Report files.old report.old)
         (seen F.Reads F.writing_faults F.names P.Report files.new report.new)
@@ -72,6 +73,7 @@ fn merge_settled<F: Files, P: Report>(
     requires sound { IsSoundMerge words.now }
     requires inputs { AreInputs F.Reads F.Files.own (file_names words.now.files) files.old ids.now }
     requires apart { writes_input words.now ≡ false }
+    requires split { words.now.split ≡ None }
     ensures verdict { Told (F.names files.old) (λ world. (contents : List (List ℕ)) → AreTold (live_files F.Reads files.old) ids.now contents → Reaches
         (seen F.Reads F.writing_faults F.names P.Report files.old report.old)
         (seen F.Reads F.writing_faults F.names P.Report files.new report.new)
@@ -94,14 +96,15 @@ fn merge_settled<F: Files, P: Report>(
     }
 }
 
-/// Writes one file of several, as the words say: the tracks that they take of each.
+/// Writes one file of several, as the words say: the tracks that they take of each. Parts aren't built.
 pub fn merge_of<F: Files, P: Report>(
     alloc: Global,
     words: &MergeWords,
     files: &mut F,
     report: &mut P,
 ) -> Result<Status, Stop>
-    requires { IsSoundMerge words.now }
+    requires sound { IsSoundMerge words.now }
+    requires split { words.now.split ≡ None }
     ensures verdict { Told (F.names files.old) (λ world. Reaches
         (seen F.Reads F.writing_faults F.names P.Report files.old report.old)
         (seen F.Reads F.writing_faults F.names P.Report files.new report.new)

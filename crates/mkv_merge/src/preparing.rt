@@ -1,6 +1,6 @@
 //! What stands before the blocks of the inputs, and what they come to.
 
-ghost use Rattle.std.specs.Prelude.{◌≡◌, ◌+◌, ◌*◌, ◌≤◌, List, ℕ, length, IfOk};
+ghost use Rattle.std.specs.Prelude.{◌≡◌, ◌+◌, ◌*◌, ◌≤◌, List, ℕ, length, None, IfOk};
 ghost use Rattle.std.specs.List.{All};
 ghost use Rattle.mkv_io.specs.Faults.{HasCause};
 ghost use Rattle.mkv_io.specs.Sources.{IfTold, IsLive, file_size, live_files};
@@ -110,7 +110,7 @@ fn inputs_in_place<R: Reads>(
     Ok(set_in_place(alloc, inputs, src)?)
 }
 
-/// What these words make of these live files, or what refuses them.
+/// What these words make of these live files, or what refuses them. One output is made.
 pub fn prepare<R: Reads>(
     alloc: Global,
     words: &MergeWords,
@@ -120,6 +120,7 @@ pub fn prepare<R: Reads>(
     requires sound { IsSoundMerge words.now }
     requires live { AreLive (live_files R.Reads src.old).live files.now }
     requires each { length files.now ≡ length words.now.files }
+    requires split { words.now.split ≡ None }
     ensures exact { (contents : List (List ℕ)) → AreTold (live_files R.Reads src.old) files.now contents → Prepares words.now contents result }
     ensures prepared { IfOk result (IsPrepared (live_files R.Reads src.new) words.now files.now) }
     ensures standing { R.standing src.new ≡ R.standing src.old }

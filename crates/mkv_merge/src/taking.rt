@@ -1,6 +1,6 @@
 //! Which merges are built.
 
-ghost use Rattle.std.specs.Prelude.{◌≡◌};
+ghost use Rattle.std.specs.Prelude.{◌≡◌, None, IsTrue};
 ghost use Rattle.std.specs.List.{list_all};
 ghost use Rattle.mkv_merge.specs.Takes.{is_plain, takes};
 
@@ -22,7 +22,8 @@ fn are_plain(files: &[FileWords]) -> bool
 
 /// Whether a merge of these words is built.
 pub fn takes(words: &MergeWords) -> bool
-    ensures { result ≡ takes words.now }
+    ensures value { result ≡ takes words.now }
+    ensures split { IsTrue result → words.now.split ≡ None }
 {
     let is_whole = words.split.is_none() && words.chapters.is_none();
     let is_unnamed = words.uuids.is_empty() && !words.link;

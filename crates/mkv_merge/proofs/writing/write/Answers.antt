@@ -8,7 +8,7 @@ use Rattle.mkv_lines.specs.Said.{SaysPart}
 use Rattle.mkv_lines.specs.Seen.{seen}
 use Rattle.mkv_merge.specs.Merge.{has_absent, lines_before}
 use Rattle.mkv_merge.specs.Prepared.{reads_in}
-use Rattle.mkv_merge.proofs.WritingLemmas.{many-inputs, merge-begun, merge-is, merge-left, merge-told, plan-good, plan-reads, plan-told}
+use Rattle.mkv_merge.proofs.WritingLemmas.{keeps-output, many-inputs, merge-begun, merge-is, merge-left, merge-told, plan-good, plan-reads, plan-told}
 use Rattle.mkv_merge.proofs.writing.write.Goals as goal
 
 -- a warning of a track that isn't there couldn't be said
@@ -69,3 +69,15 @@ returns-in-Err-clause-octets g c =
 pub returns-clause-octets : goal.returns-clause-octets
 returns-clause-octets g c =
     plan-reads (live_files g.F.Reads c.args.files.now) c.args.words.now c.args.ids.now c.args.prepared (g.F.Reads.octets_read c.args.files.now) (g.F.Reads.octets_read c.remux.new.files) c.requires.prepared c.remux.ensures.octets
+
+-- ---- which files stay
+
+pub returns-in-Err-clause-kept : goal.returns-in-Err-clause-kept
+returns-in-Err-clause-kept g c =
+    let plan = c.args.prepared.plan in
+    keeps-output g.F.Reads g.F.Files plan.split plan.output c.args.words.now.output c.args.files.now c.remux.new.files c.requires.prepared.whole c.requires.prepared.plan.output c.remux.ensures.kept
+
+pub returns-clause-kept : goal.returns-clause-kept
+returns-clause-kept g c =
+    let plan = c.args.prepared.plan in
+    keeps-output g.F.Reads g.F.Files plan.split plan.output c.args.words.now.output c.args.files.now c.remux.new.files c.requires.prepared.whole c.requires.prepared.plan.output c.remux.ensures.kept
