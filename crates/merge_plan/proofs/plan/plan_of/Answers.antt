@@ -1,5 +1,5 @@
 -- The lanes are those of the tracks that are taken, and nothing refuses them.
-use Rattle.std.proofs.Common.{◌≡◌, Bool, List, Option, map, refl, sym, ap, ◌∙◌, arith, rules}
+use Rattle.std.proofs.Common.{◌≡◌, List, Option, map, refl, sym, ap, ◌∙◌, arith, rules}
 use Rattle.mkv_schema.specs.declared.ids.TheConstants.{CHAPTERS}
 use Rattle.tree_format.specs.Node.{Node}
 use Rattle.splitter.specs.Words.{spec_of}
