@@ -1,5 +1,5 @@
 -- What edits leave, and how they are told.
-use Rattle.std.proofs.Common.{◌≡◌, ◌∙◌, inl, inr, ⊎_elim, ℕ, IsTrue, Bool, true, false, not, ◌||◌, nat_le, nat_lt, if◌then◌else◌, List, [], ◌∷◌, length, slice_index, Option, Some, None, option_map, Result, Ok, Err, refl, ap, sym, subst, arith, eq-eqb}
+use Rattle.std.proofs.Common.{◌≡◌, ◌∙◌, inl, inr, ⊎_elim, ℕ, ◌+◌, ◌≤◌, IsTrue, Bool, true, false, not, ◌||◌, nat_le, nat_lt, if◌then◌else◌, List, [], ◌∷◌, length, slice_index, Option, Some, None, option_map, Result, Ok, Err, refl, ap, sym, subst, arith, eq-eqb}
 use Rattle.std.specs.Prelude.{◌==◌, OnOk}
 use Rattle.std.proofs.lemmas.List.{get_or-take}
 use Rattle.std.proofs.lemmas.Bool.Decides.{nat_tests}
@@ -37,7 +37,7 @@ use Rattle.edit_format.specs.Change.{and_then}
 use Rattle.edit_format.specs.Plan.{edited, plan_of, recorded as record_for}
 use Rattle.edit_plan.specs.Record.{record_of}
 use Rattle.edit_plan.proofs.RecordLemmas.{writes_of-recorded}
-use Rattle.mkv_propedit.specs.Left.{HasMadeCause, IsEdit, IsPropediting, IsUnderway, LeavesEdited, LeavesPlanned}
+use Rattle.mkv_propedit.specs.Left.{HasMadeCause, IsEdit, IsPropediting, IsUnderway, LeavesEdited, LeavesPlanned, StaysOpen}
 use Rattle.mkv_propedit.specs.Propedit.{propedit_on, propedit_verdict, told, unless_begun}
 
 -- ---- a quiet sidecar
@@ -129,6 +129,17 @@ module _ {D : Type 0} (r : reads.Ghosts D) (d : Ghosts D) where
   -- a call that only reads
   pub reads-moment : (old new : D) → IsLeft r d old new → ((m s : List ℕ) → d.left_since old (d.moment old) m s → IsPairImage (d.pair old) m s) → LeavesOnly d.moment d.left_since old new (IsPairImage (d.pair old))
   reads-moment old new left only = same d.moment d.left_since old new (IsPairImage (d.pair old)) left.moment left.back left.forth only
+
+  -- what is read before a call that leaves the pair open
+  pub open-then : (old mid new : D) (n more most : ℕ) → d.opened mid ≡ d.opened old → r.octets_read mid ≤ r.octets_read old + n → StaysOpen r d mid new more → n + more ≤ most → StaysOpen r d old new most
+  open-then old mid new n more most same read open least = record {
+    opened = open.opened ∙ same;
+    octets = let then = open.octets in omega (arith, read, then, least);
+  }
+
+  -- nothing else is read
+  pub open-read : (old new : D) (n most : ℕ) → d.opened new ≡ d.opened old → r.octets_read new ≤ r.octets_read old + n → n ≤ most → StaysOpen r d old new most
+  open-read old new n most same read least = record { opened = same; octets = omega (arith, read, least) }
 
 module _ {D : Type 0} (d : Ghosts D) (edits : List Edit) where
   abbrev pub Edits : D → D → Type 0

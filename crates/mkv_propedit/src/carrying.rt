@@ -13,7 +13,7 @@ ghost use Rattle.mkv_recover.specs.Recovery.{HasDiskStop};
 ghost use Rattle.sidecar_format.specs.Fields.{writes_of};
 ghost use Rattle.sidecar_format.specs.Writes.{applied};
 ghost use Rattle.sidecar_edit.specs.Leaves.{IsEditing};
-ghost use Rattle.mkv_propedit.specs.Left.{IsPlannedFor, LeavesPlanned};
+ghost use Rattle.mkv_propedit.specs.Left.{IsPlannedFor, LeavesPlanned, StaysOpen};
 
 use crate::telling::{edited_text, tell};
 use mkv_disk::Disk;
@@ -38,7 +38,7 @@ pub fn edit_planned<D: Disk, R: Report>(
     ensures ordinary { IfOk result IsOrdinary }
     ensures pair { OfReads D.Disk.own disk.old (λ M S. LeavesPlanned (status_of result) plan.now M S (D.pair disk.new)) }
     ensures any_moment { AnyMoment D.Disk.own disk.old disk.new (λ M S m s. IsEditing plan.now M m s) }
-    ensures opened { D.opened disk.new ≡ D.opened disk.old }
+    ensures open { StaysOpen D.Reads D.Disk.own disk.old disk.new 0 }
     ensures cause { HasDiskStop D.Reads D.Disk.own disk.old disk.new (R.faults report.old) (R.faults report.new) result }
 {
     let Ok(edited) = edited_text(alloc, name) else {

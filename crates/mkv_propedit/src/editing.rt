@@ -1,14 +1,17 @@
 //! A file and its sidecar are opened, and properties of the file edited.
 
-ghost use Rattle.std.specs.Prelude.{◌≡◌, IfOk};
+ghost use Rattle.std.specs.Prelude.{◌≡◌, ◌≤◌, ◌+◌, ◌*◌, IfOk, length};
+ghost use Rattle.mkv_io.specs.Sources.{file_size};
 ghost use Rattle.mkv_disk.specs.Calls.{AtRest, IsReady, OfReads};
+ghost use Rattle.mkv_disk.specs.declared.disk.TheConstants.{MEDIA};
 ghost use Rattle.mkv_lines.specs.Code.{status_of};
 ghost use Rattle.mkv_lines.specs.Ordinary.{IsOrdinary};
 ghost use Rattle.mkv_lines.specs.Verdict.{SaysVerdict};
 ghost use Rattle.mkv_recover.specs.Recovery.{HasDiskStop};
 ghost use Rattle.sidecar_format.specs.Gate.{state};
+ghost use Rattle.sidecar_format.specs.declared.place.TheConstants.{HEAD, KEPT};
 ghost use Rattle.edit_format.specs.Plan.{edited};
-ghost use Rattle.mkv_propedit.specs.Left.{IsEdit, IsEditOf};
+ghost use Rattle.mkv_propedit.specs.Left.{IsEdit, IsEditOf, StaysOpen};
 ghost use Rattle.mkv_propedit.specs.Propedit.{propedit_verdict, told, unless_begun};
 
 use crate::carrying::edit_planned;
@@ -38,6 +41,8 @@ pub fn propedit_of<D: Disk, R: Report>(
         (propedit_verdict (D.is_there disk.old name.now) name.now edits.now M S)) }
     ensures ordinary { IfOk result IsOrdinary }
     ensures edit { IsEditOf D.Reads D.Disk.own name.now edits.now disk.old disk.new (status_of result) }
+    ensures octets { OfReads D.Disk.own disk.old (λ M S.
+        D.octets_read disk.new ≤ D.octets_read disk.old + (HEAD + (25 * length M + KEPT))) }
     ensures cause { HasDiskStop D.Reads D.Disk.own disk.old disk.new (R.faults report.old) (R.faults report.new) result }
 {
     match disk.open_pair(name) {
@@ -61,7 +66,8 @@ fn edit_open<D: Disk, R: Report>(
         (unless_begun name.now (state S) (told name.now (edited M edits.now)))) }
     ensures ordinary { IfOk result IsOrdinary }
     ensures edit { IsEdit D.Disk.own edits.now disk.old disk.new (status_of result) }
-    ensures opened { D.opened disk.new ≡ D.opened disk.old }
+    ensures open { StaysOpen D.Reads D.Disk.own disk.old disk.new
+        (HEAD + (25 * file_size D.Reads disk.old MEDIA + KEPT)) }
     ensures cause { HasDiskStop D.Reads D.Disk.own disk.old disk.new (R.faults report.old) (R.faults report.new) result }
 {
     match state(disk, SIDECAR) {
@@ -86,7 +92,7 @@ fn edit_quiet<D: Disk, R: Report>(
         (told name.now (edited M edits.now))) }
     ensures ordinary { IfOk result IsOrdinary }
     ensures edit { IsEdit D.Disk.own edits.now disk.old disk.new (status_of result) }
-    ensures opened { D.opened disk.new ≡ D.opened disk.old }
+    ensures open { StaysOpen D.Reads D.Disk.own disk.old disk.new (25 * file_size D.Reads disk.old MEDIA + KEPT) }
     ensures cause { HasDiskStop D.Reads D.Disk.own disk.old disk.new (R.faults report.old) (R.faults report.new) result }
 {
     match plan(alloc, disk, edits) {

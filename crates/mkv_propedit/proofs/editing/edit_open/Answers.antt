@@ -1,4 +1,6 @@
-use Rattle.std.proofs.Common.{◌≡◌, ◌∙◌, IsTrue, refl, inl, sym, subst}
+use Rattle.std.proofs.Common.{◌≡◌, ◌∙◌, ◌+◌, ◌*◌, ◌≤◌, IsTrue, refl, inl, sym, subst, arith}
+use Rattle.mkv_io.specs.Sources.{file_size}
+use Rattle.mkv_disk.specs.declared.disk.TheConstants.{MEDIA}
 use Rattle.mkv_disk.specs.Moments.{LeavesOnly}
 use Rattle.mkv_disk.specs.Pair.{IsPairImage, Pair}
 use Rattle.mkv_disk.proofs.WritingLemmas.{IsLeft, left-ready}
@@ -9,10 +11,12 @@ use Rattle.mkv_lines.specs.declared.status.Status.TheVariants as status
 use Rattle.mkv_recover.proofs.RecoverLemmas.{said-stop, stop-then}
 use Rattle.sidecar_format.specs.declared.gate.Gate.{Gate}
 use Rattle.sidecar_format.specs.declared.gate.Gate.TheVariants.{Quiet}
+use Rattle.sidecar_format.specs.declared.place.TheConstants.{HEAD, KEPT}
 use Rattle.sidecar_format.specs.Gate.{state}
 use Rattle.edit_format.specs.Plan.{edited}
+use Rattle.mkv_propedit.specs.Left.{StaysOpen}
 use Rattle.mkv_propedit.specs.Propedit.{told, unless_begun}
-use Rattle.mkv_propedit.proofs.PropeditLemmas.{edit-none, edit-then, reads-moment, refused-left}
+use Rattle.mkv_propedit.proofs.PropeditLemmas.{edit-none, edit-then, open-read, open-then, reads-moment, refused-left}
 use Rattle.mkv_propedit.proofs.editing.edit_open.Given.{Over}
 use Rattle.mkv_propedit.proofs.editing.edit_open.Goals as goal
 
@@ -31,6 +35,10 @@ stands g old new same = record {
 -- and a crash behind it leaves what is read
 reads : (g : Over) (old new : g.row.D.Denot) → g.D.Reads.standing new ≡ g.D.Reads.standing old → IsTrue g.D.Disk.told → LeavesOnly g.D.Disk.moment g.D.Disk.left_since old new (IsPairImage (g.D.Disk.pair old))
 reads g old new same told = reads-moment g.D.Reads g.D.Disk old new (stands g old new same) (λ m s left. g.met.D.Disk.only_now old m s told left)
+
+-- and no more is read
+none : (g : Over) (old new : g.row.D.Denot) → g.D.Reads.standing new ≡ g.D.Reads.standing old → g.D.Reads.octets_read new ≤ g.D.Reads.octets_read old + HEAD → StaysOpen g.D.Reads g.D.Disk old new (HEAD + (25 * file_size g.D.Reads old MEDIA + KEPT))
+none g old new same read = open-read g.D.Reads g.D.Disk old new HEAD _ (stands g old new same).opened read (omega arith)
 
 -- ---- no edit is pending
 
@@ -59,8 +67,11 @@ returns-in-Ok-Quiet-clause-edit g c =
     let a = c.args.disk.now in let b = c.state.new.src in let same = c.state.ensures.only.standing in
     edit-then g.D.Disk c.args.edits.now a b c.edit_quiet.new.disk (status_of c.edit_quiet.result) c.requires.at_rest (λ tells. (stands g a b same).pair) (reads g a b same) c.edit_quiet.ensures.edit
 
-pub returns-in-Ok-Quiet-clause-opened : goal.returns-in-Ok-Quiet-clause-opened
-returns-in-Ok-Quiet-clause-opened g c = c.edit_quiet.ensures.opened ∙ (stands g c.args.disk.now c.state.new.src c.state.ensures.only.standing).opened
+pub returns-in-Ok-Quiet-clause-open : goal.returns-in-Ok-Quiet-clause-open
+returns-in-Ok-Quiet-clause-open g c =
+    let a = c.args.disk.now in let b = c.state.new.src in let new = c.edit_quiet.new.disk in let same = c.state.ensures.only.standing in
+    let open = subst (λ s. StaysOpen g.D.Reads g.D.Disk b new (25 * (g.D.Reads.files s).size MEDIA.n + KEPT)) same c.edit_quiet.ensures.open in
+    open-then g.D.Reads g.D.Disk a b new HEAD (25 * file_size g.D.Reads a MEDIA + KEPT) _ (stands g a b same).opened c.state.ensures.octets open (omega arith)
 
 pub returns-in-Ok-Quiet-clause-cause : goal.returns-in-Ok-Quiet-clause-cause
 returns-in-Ok-Quiet-clause-cause g c =
@@ -83,8 +94,8 @@ returns-in-Ok-Live-clause-edit g c =
     edit-none g.D.Disk edits a b (status_of c.refuse.result) c.requires.at_rest (refused-left g.D.Disk edits (pending_edit_line c.args.name.now) (g.R.Report.lines c.args.report.now) (g.R.Report.lines c.refuse.new.report) c.refuse.result c.refuse.ensures.verdict)
     (λ tells. (stands g a b same).pair) (reads g a b same)
 
-pub returns-in-Ok-Live-clause-opened : goal.returns-in-Ok-Live-clause-opened
-returns-in-Ok-Live-clause-opened g c = (stands g c.args.disk.now c.state.new.src c.state.ensures.only.standing).opened
+pub returns-in-Ok-Live-clause-open : goal.returns-in-Ok-Live-clause-open
+returns-in-Ok-Live-clause-open g c = none g c.args.disk.now c.state.new.src c.state.ensures.only.standing c.state.ensures.octets
 
 pub returns-in-Ok-Live-clause-cause : goal.returns-in-Ok-Live-clause-cause
 returns-in-Ok-Live-clause-cause g c =
@@ -105,8 +116,8 @@ returns-in-Ok-Bad-clause-edit g c =
     edit-none g.D.Disk edits a b (status_of c.refuse-in-Ok-Bad.result) c.requires.at_rest (refused-left g.D.Disk edits (bad_sidecar_line c.args.name.now c.in-Ok-Bad.offset) (g.R.Report.lines c.args.report.now) (g.R.Report.lines c.refuse-in-Ok-Bad.new.report) c.refuse-in-Ok-Bad.result c.refuse-in-Ok-Bad.ensures.verdict)
     (λ tells. (stands g a b same).pair) (reads g a b same)
 
-pub returns-in-Ok-Bad-clause-opened : goal.returns-in-Ok-Bad-clause-opened
-returns-in-Ok-Bad-clause-opened g c = (stands g c.args.disk.now c.state.new.src c.state.ensures.only.standing).opened
+pub returns-in-Ok-Bad-clause-open : goal.returns-in-Ok-Bad-clause-open
+returns-in-Ok-Bad-clause-open g c = none g c.args.disk.now c.state.new.src c.state.ensures.only.standing c.state.ensures.octets
 
 pub returns-in-Ok-Bad-clause-cause : goal.returns-in-Ok-Bad-clause-cause
 returns-in-Ok-Bad-clause-cause g c =
@@ -121,8 +132,8 @@ returns-in-Err-clause-edit g c =
     let a = c.args.disk.now in let b = c.state.new.src in let same = c.state.ensures.only.standing in
     edit-none g.D.Disk c.args.edits.now a b status.Outside c.requires.at_rest (λ M S p is. tt) (λ tells. (stands g a b same).pair) (reads g a b same)
 
-pub returns-in-Err-clause-opened : goal.returns-in-Err-clause-opened
-returns-in-Err-clause-opened g c = (stands g c.args.disk.now c.state.new.src c.state.ensures.only.standing).opened
+pub returns-in-Err-clause-open : goal.returns-in-Err-clause-open
+returns-in-Err-clause-open g c = none g c.args.disk.now c.state.new.src c.state.ensures.only.standing c.state.ensures.octets
 
 pub returns-in-Err-clause-cause : goal.returns-in-Err-clause-cause
 returns-in-Err-clause-cause g c = (inl (c.in-Err.ensures.cause, (stands g c.args.disk.now c.state.new.src c.state.ensures.only.standing).writing), refl)

@@ -1,4 +1,4 @@
-use Rattle.std.proofs.Common.{◌≡◌, ◌∙◌, IsTrue, Result, Ok, Err, List, ℕ, inr, sym, subst}
+use Rattle.std.proofs.Common.{◌≡◌, ◌∙◌, IsTrue, Result, Ok, Err, List, ℕ, ◌+◌, ◌≤◌, inr, sym, subst, arith}
 use Rattle.mkv_disk.specs.Moments.{LeavesOnly}
 use Rattle.mkv_disk.specs.Pair.{IsPairImage, Pair}
 use Rattle.mkv_disk.proofs.MomentsLemmas.{weaker}
@@ -11,9 +11,9 @@ use Rattle.sidecar_format.specs.declared.gate.Gate.TheVariants.{Quiet}
 use Rattle.sidecar_format.specs.Gate.{state}
 use Rattle.edit_format.specs.declared.refusal.Refusal.{Refusal}
 use Rattle.edit_plan.specs.Record.{record_of}
-use Rattle.mkv_propedit.specs.Left.{IsPlannedFor, IsPropediting}
+use Rattle.mkv_propedit.specs.Left.{IsPlannedFor, IsPropediting, StaysOpen}
 use Rattle.mkv_propedit.specs.Propedit.{told}
-use Rattle.mkv_propedit.proofs.PropeditLemmas.{edit-none, edit-then, leaves-planned, quiet-state, reads-moment, record-edited, record-made, record-refused, refused-left, underway}
+use Rattle.mkv_propedit.proofs.PropeditLemmas.{edit-none, edit-then, leaves-planned, open-then, quiet-state, reads-moment, record-edited, record-made, record-refused, refused-left, underway}
 use Rattle.mkv_propedit.proofs.editing.edit_quiet.Given.{Over}
 use Rattle.mkv_propedit.proofs.editing.edit_quiet.Goals as goal
 
@@ -32,6 +32,10 @@ stands g old new same = record {
 -- and a crash behind it leaves what is read
 reads : (g : Over) (old new : g.row.D.Denot) → g.D.Reads.standing new ≡ g.D.Reads.standing old → IsTrue g.D.Disk.told → LeavesOnly g.D.Disk.moment g.D.Disk.left_since old new (IsPairImage (g.D.Disk.pair old))
 reads g old new same told = reads-moment g.D.Reads g.D.Disk old new (stands g old new same) (λ m s left. g.met.D.Disk.only_now old m s told left)
+
+-- and no more is read
+none : (g : Over) (old new : g.row.D.Denot) (n : ℕ) → g.D.Reads.standing new ≡ g.D.Reads.standing old → g.D.Reads.octets_read new ≤ g.D.Reads.octets_read old + n → StaysOpen g.D.Reads g.D.Disk old new n
+none g old new n same read = record { opened = (stands g old new same).opened; octets = read }
 
 -- ---- the edits are planned
 
@@ -69,8 +73,9 @@ returns-in-Ok-clause-edit g c =
           weaker d.moment d.left_since b new _ (IsPropediting edits M S) (λ m s editing. inr (underway M edits S m s plan (quiet tells) (is tells) editing)) (c.edit_planned.ensures.any_moment tells);
     })
 
-pub returns-in-Ok-clause-opened : goal.returns-in-Ok-clause-opened
-returns-in-Ok-clause-opened g c = c.edit_planned.ensures.opened ∙ (stands g c.args.disk.now c.plan.new.disk c.plan.ensures.standing).opened
+pub returns-in-Ok-clause-open : goal.returns-in-Ok-clause-open
+returns-in-Ok-clause-open g c =
+    open-then g.D.Reads g.D.Disk c.args.disk.now c.plan.new.disk c.edit_planned.new.disk _ _ _ (stands g c.args.disk.now c.plan.new.disk c.plan.ensures.standing).opened c.plan.ensures.octets c.edit_planned.ensures.open (omega arith)
 
 pub returns-in-Ok-clause-cause : goal.returns-in-Ok-clause-cause
 returns-in-Ok-clause-cause g c =
@@ -112,11 +117,11 @@ returns-in-Err-Memory-clause-edit g c =
     let a = c.args.disk.now in let b = c.plan.new.disk in let same = c.plan.ensures.standing in
     edit-none g.D.Disk c.args.edits.now a b status.NoMemory c.requires.ready.at_rest (λ M S p is. is) (λ tells. (stands g a b same).pair) (reads g a b same)
 
-pub returns-in-Err-ReadFault-clause-opened : goal.returns-in-Err-ReadFault-clause-opened
-returns-in-Err-ReadFault-clause-opened g c = (stands g c.args.disk.now c.plan.new.disk c.plan.ensures.standing).opened
+pub returns-in-Err-ReadFault-clause-open : goal.returns-in-Err-ReadFault-clause-open
+returns-in-Err-ReadFault-clause-open g c = none g c.args.disk.now c.plan.new.disk _ c.plan.ensures.standing c.plan.ensures.octets
 
-pub returns-in-Err-Memory-clause-opened : goal.returns-in-Err-Memory-clause-opened
-returns-in-Err-Memory-clause-opened g c = (stands g c.args.disk.now c.plan.new.disk c.plan.ensures.standing).opened
+pub returns-in-Err-Memory-clause-open : goal.returns-in-Err-Memory-clause-open
+returns-in-Err-Memory-clause-open g c = none g c.args.disk.now c.plan.new.disk _ c.plan.ensures.standing c.plan.ensures.octets
 
-pub returns-in-Err-Refused-clause-opened : goal.returns-in-Err-Refused-clause-opened
-returns-in-Err-Refused-clause-opened g c = (stands g c.args.disk.now c.plan.new.disk c.plan.ensures.standing).opened
+pub returns-in-Err-Refused-clause-open : goal.returns-in-Err-Refused-clause-open
+returns-in-Err-Refused-clause-open g c = none g c.args.disk.now c.plan.new.disk _ c.plan.ensures.standing c.plan.ensures.octets

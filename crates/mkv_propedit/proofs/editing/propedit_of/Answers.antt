@@ -1,4 +1,4 @@
-use Rattle.std.proofs.Common.{◌∙◌, inl, inr, sym, subst}
+use Rattle.std.proofs.Common.{◌∙◌, length, inl, inr, ap, sym, subst, arith}
 use Rattle.mkv_disk.specs.Pair.{IsSynced, Pair}
 use Rattle.mkv_lines.specs.Code.{status_of}
 use Rattle.mkv_lines.specs.Line.{missing_line}
@@ -31,8 +31,17 @@ returns-in-Ok-clause-verdict g c = λ tells.
 pub returns-in-Ok-clause-edit : goal.returns-in-Ok-clause-edit
 returns-in-Ok-clause-edit g c = record {
   leaves = edit-then g.D.Disk c.args.edits.now c.args.disk.now c.open_pair.new.self c.edit_open.new.disk (status_of c.edit_open.result) c.requires c.open_pair.ensures.pair c.open_pair.ensures.any_moment c.edit_open.ensures.edit;
-  opened = inl (c.edit_open.ensures.opened ∙ c.in-Ok.ensures.opened);
+  opened = inl (c.edit_open.ensures.open.opened ∙ c.in-Ok.ensures.opened);
 }
+
+pub returns-in-Ok-clause-octets : goal.returns-in-Ok-clause-octets
+returns-in-Ok-clause-octets g c = λ tells.
+    let b = c.open_pair.new.self in
+    let long = g.met.D.Reads.told_size (g.D.Reads.standing b) 0 (g.D.Disk.pair b).media.reads (g.met.D.Disk.contents b tells).0 in
+    let same = ap (λ (p : Pair). length p.media.reads) (c.open_pair.ensures.pair tells) in
+    let most = c.edit_open.ensures.open.octets in
+    let before = c.open_pair.ensures.octets in
+    omega (arith, long, same, most, before)
 
 pub returns-in-Ok-clause-cause : goal.returns-in-Ok-clause-cause
 returns-in-Ok-clause-cause g c =
