@@ -7,8 +7,8 @@ use Rattle.std.proofs.lemmas.Int.{to_z_pos}
 use Rattle.std.proofs.lemmas.Nat.{div_below, div-add-mod'}
 use Rattle.std.proofs.lemmas.Bool.{leb-true, leb-false}
 use Rattle.std.proofs.lemmas.Int.{ints}
-use Rattle.merge_model.specs.Ticks.{floor_div, ticks_for, ticks_to}
-use Rattle.lane_blocks.specs.Times.{ticks_before, ticks_back}
+use Rattle.merge_model.specs.Ticks.{floor_div, tick_of, ticks_for, ticks_to}
+use Rattle.lane_blocks.specs.Times.{most_time, ticks_before, ticks_back}
 
 -- r more are at most r quotients more
 pub div-more : (x r s : ℕ) → 0 < s → (x + r) / s ≤ x / s + r
@@ -22,6 +22,15 @@ div-more x r s some =
 
 pub div-le : (x s : ℕ) → 0 < s → x / s ≤ x
 div-le x s some = let more : (0 + x) / s ≤ 0 / s + x = div-more 0 x s some in let none : 0 / s ≡ 0 = grind arith in let same : 0 + x ≡ x = omega arith in let e : (0 + x) / s ≡ x / s = ap (λ (n : ℕ). n / s) same in omega arith
+
+-- a time that is rounded to ticks is later by half a tick at most
+below-rounded : (s t most : ℕ) → t < most → tick_of s t * s ≤ most + s / 2
+below-rounded s t most less =
+    let split : (t + s / 2) / s * s + (t + s / 2) % s ≡ t + s / 2 = div-add-mod' (t + s / 2) s in
+    omega (arith, split, less)
+
+pub tick-early : (s t : ℕ) → t < most_time → tick_of s t * s ≤ most_time + s / 2
+tick-early s t less = below-rounded s t most_time less
 
 -- a shorter way is fewer ticks
 pub div-rises : (x y s : ℕ) → 0 < s → x ≤ y → x / s ≤ y / s
@@ -72,6 +81,8 @@ ticks_to-back s t n some = step (nat_le (suc n) (t + s / 2)) refl
         ap (λ (each : ℤ). floor_div each s -ℤ pos ((t + s / 2) / s)) z ∙ e
 
 pub ruleset small = (ticks_before-small, ticks_for-small)
+
+pub ruleset few = (tick-early)
 
 -- the same of a number with a sign, as the code has it
 

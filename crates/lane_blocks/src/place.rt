@@ -94,6 +94,7 @@ fn lace_for(sizes: &[u32], lace: Lace) -> Lace
 
 /// Places the block that a cursor has given, behind one of this greatest tick. Answers whether it is given: one
 /// of another track isn't, and one that stands before the start.
+#[tactic(auto, using(crate::proofs::TickLemmas::few))]
 pub fn place_block(
     track: &TrackLink,
     scale: u64,
@@ -133,6 +134,7 @@ pub fn place_block(
 
 /// Places an entry of a text, behind a block of this greatest tick. Answers whether it is given: one that stands
 /// before the start isn't.
+#[tactic(auto, using(crate::proofs::TickLemmas::few))]
 pub fn place_entry(
     text: &TextLink,
     scale: u64,

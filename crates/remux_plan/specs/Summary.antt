@@ -8,12 +8,13 @@ use Rattle.mkv_io.specs.LiveFiles.{LiveFiles}
 use Rattle.cluster_reader.specs.ToldDamages.{ToldDamages, told_damages}
 use Rattle.merge_model.specs.Lanes.{lane_damages}
 use Rattle.lane_blocks.specs.Links.{given_in}
-use Rattle.remux_plan.specs.Plan.{blocks_of}
+use Rattle.remux_plan.specs.Parts.{PlannedOutput, outputs_in}
 use Rattle.remux_plan.specs.declared.plan.MergePlan.{MergePlan}
 use Rattle.remux_plan.specs.declared.plan.PlannedLane.{PlannedLane}
 use Rattle.remux_plan.specs.declared.summary.InputDamage.{InputDamage}
 use Rattle.remux_plan.specs.declared.summary.MoreDamage.{MoreDamage}
 use Rattle.remux_plan.specs.declared.summary.Summary.{Summary}
+use Rattle.remux_plan.specs.declared.summary.Written.{Written}
 
 -- ---- the damages of the inputs
 
@@ -43,8 +44,12 @@ more_damages input told = if told.more == 0 then [] else record { input = input;
 
 -- ---- the summary
 
--- The output has the blocks of the merged list, and these are the damages of the inputs.
+-- what is known of an output that stands: its name, and how many blocks it has
+abbrev pub written_of : PlannedOutput → Written
+written_of o = record { name = o.name; blocks = counted 0 (length o.blocks) }
+
+-- The outputs are those of the plan, and these are the damages of the inputs.
 pub record IsSummary (f : LiveFiles) (p : MergePlan) (s : Summary) : Type 0 where
-  pub outputs : s.outputs ≡ record { name = p.output; blocks = counted 0 (length (blocks_of f p)) } ∷ []
+  pub outputs : s.outputs ≡ map written_of (outputs_in f p)
   pub damages : s.damages ≡ flat_map (λ input. first_damages input (told_damages (damages_of f p.lanes input))) (inputs_of p.lanes)
   pub more : s.more ≡ flat_map (λ input. more_damages input (told_damages (damages_of f p.lanes input))) (inputs_of p.lanes)

@@ -1,17 +1,25 @@
 #![tactic(auto)]
 
-//! What a merge is to write, and what is known of it when it stands, as plain values. The output that a plan comes to,
-//! which the crates above cite, is defined in `specs/`.
+//! What a merge is to write, and what is known of it when it stands, as plain values. The outputs that a plan comes to,
+//! which the crates above cite, are defined in `specs/`.
 
+mod laws;
+mod output;
 mod plan;
 mod summary;
 
 pub use cluster_runs::CueRule;
 pub use lane_blocks::LaneSpec;
+pub use laws::whole_is_one_output;
+pub use output::OutputSpec;
 pub use output_model::ClusterLimits;
 pub use plan::{MergePlan, PlannedLane};
 pub use segment_octets::Front;
+pub use splitter::SplitSpec;
 pub use summary::{InputDamage, MoreDamage, Summary, Written};
 
 /// The most inputs of a merge.
 pub const MOST_INPUTS: usize = 64;
+
+/// The most nanoseconds of a tick.
+pub const MOST_SCALE: u64 = 1 << 32;

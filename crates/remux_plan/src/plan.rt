@@ -6,18 +6,22 @@ use lane_blocks::LaneSpec;
 use mkv_values::{List, Text};
 use output_model::ClusterLimits;
 use segment_octets::Front;
+use splitter::SplitSpec;
 
-/// One output: RFC 9559, section 5.1 (Segment Element).
+/// One output, or several, each of which has a part of the blocks: RFC 9559, section 5.1 (Segment Element).
 #[derive(Drop)]
 pub struct MergePlan {
-    /// Its name.
+    /// The name of the one output. Where it is split, those of the parts are made of it.
     pub output: Text,
+    /// Where it is split.
+    pub split: SplitSpec,
     /// Where its Clusters end, and how many nanoseconds a tick has.
     pub limits: ClusterLimits,
     /// Its lanes, of which the first has the number 1.
     pub lanes: List<PlannedLane>,
-    /// What stands in front of the Clusters.
+    /// What stands in front of the Clusters. The attachments go to the first part alone.
     pub front: Front,
+    /// Of these each part has what goes into its stretch of time.
     pub chapters: Option<Tree>,
     pub tags: Option<Tree>,
 }
@@ -31,4 +35,6 @@ pub struct PlannedLane {
     pub inputs: List<usize>,
     /// Which of its blocks get a cue point.
     pub cues: CueRule,
+    /// Whether the output may be cut before its key blocks.
+    pub drives: bool,
 }

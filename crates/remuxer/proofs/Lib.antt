@@ -1,6 +1,10 @@
+pub mod PartLemmas
+pub mod StepLemmas
+pub mod TakingLemmas
 pub mod OutputLemmas
+pub mod OutputsLemmas
 pub mod PlanLemmas
 pub mod StartedLemmas
 pub mod SummaryLemmas
-pub mod TakingLemmas
 pub mod ToldLemmas
+pub mod NextLemmas

@@ -1,27 +1,32 @@
 -- An output from its first octets to its last.
-use Rattle.std.proofs.Common.{◌≡◌, ◌≤◌, ◌<◌, ℕ, List, [], ◌∷◌, ◌++◌, length, true, None, Result, Ok, Err, inl, inr, refl, sym, ◌∙◌, ap, subst, arith}
+use Rattle.std.proofs.Common.{◌≡◌, ◌≢◌, ◌≤◌, ◌<◌, ℕ, zero, suc, ◌+◌, ◌*◌, Bool, true, false, List, [], ◌∷◌, ◌++◌, All, length, Option, Some, None, Result, Ok, Err, inl, inr, refl, sym, ◌∙◌, ap, ap₂, subst, arith}
 use Rattle.std.proofs.lemmas.List.{take_all}
-use Rattle.std.specs.Prelude.{slice_index_or}
+use Rattle.std.specs.Prelude.{slice_index_or, if◌then◌else◌}
+use Rattle.std.specs.Option.{option_and_then}
 use Rattle.mkv_values.specs.declared.outside.FileId.{FileId}
-use Rattle.mkv_io.specs.Faults.{counted}
+use Rattle.mkv_io.specs.Faults.{counted, last_count}
+use Rattle.mkv_io.specs.LiveFiles.{IsSameFile, LiveFiles}
 use Rattle.mkv_io.specs.Names.{AreOthers, Names}
 use Rattle.mkv_io.specs.Sources.{live_files}
 use Rattle.mkv_io.specs.Writing.{KeepsOthers}
+use Rattle.mkv_io.proofs.WritingLemmas.{IsSameFile-twice}
+use Rattle.tree_format.specs.Node.{Node}
 use Rattle.mkv_io.specs.declared.reads.Reads.{Ghosts}
 use Rattle.mkv_io.specs.declared.files.Files as writing
 use Rattle.mkv_jobs.specs.declared.remux_end.RemuxEnd.{RemuxEnd}
 use Rattle.mkv_outputs.specs.Drafts.{AreDrafted, StandsInTurn}
 use Rattle.mkv_outputs.specs.Outputs.{Output}
-use Rattle.mkv_outputs.specs.Sinks.{EndsOnly}
+use Rattle.mkv_outputs.specs.Sinks.{EndsOnly, IsNoneOf}
 use Rattle.mkv_outputs.specs.Starts.{AreBegun, StandsInPart}
 use Rattle.mkv_outputs.proofs.StartsLemmas.{IsStart-then}
 use Rattle.element_octets.specs.Element.{joined}
-use Rattle.output_model.specs.declared.TheConstants.{MOST_CUES, MOST_LANES}
+use Rattle.output_model.specs.declared.TheConstants.{MOST_CUES}
 use Rattle.output_model.specs.declared.heads.ClusterLimits.{ClusterLimits}
 use Rattle.output_model.specs.declared.places.CuePoint.{CuePoint}
+use Rattle.segment_octets.specs.Front.{front_with}
 use Rattle.output_model.specs.OutputBlock.{OutputBlock}
 use Rattle.output_model.specs.Cluster.{clusters}
-use Rattle.output_model.specs.Document.{Document, back_elements, clusters_elements, cues_for, opened, opened_with}
+use Rattle.output_model.specs.Document.{Document, layout, back_elements, clusters_elements, cues_for, opened, opened_with}
 use Rattle.cluster_writer.specs.Gathered.{Gathered, Holds}
 use Rattle.cues_seekhead.specs.Draft.{StandsDrafted, draft_of}
 use Rattle.cues_seekhead.specs.Finished.{Finishes, HoldsLayout, IsReady}
@@ -36,11 +41,20 @@ use Rattle.lane_blocks.specs.Links.{IsOpenLink, KeepsLink}
 use Rattle.lane_blocks.specs.declared.link.Link.{Link}
 use Rattle.lane_blocks.specs.declared.link.Link.TheVariants.{Track, Entries}
 use Rattle.time_merge.specs.Laws.{IsApart, IsApartLink, StandsAmong}
-use Rattle.time_merge.specs.Merge.{KeepsMerge, MergeSeen}
-use Rattle.time_merge.specs.Merge as merges
+use Rattle.time_merge.specs.Merge.{KeepsMerge, due, files_length, left}
 use Rattle.time_merge.proofs.KeptLemmas.{stands-kept}
-use Rattle.remuxer.specs.Output.{Writes}
-use Rattle.remuxer.specs.Taking.{CanTake, Ends}
+use Rattle.time_merge.proofs.QueueLemmas.{links-kept}
+use Rattle.splitter.specs.Sections.{Part}
+use Rattle.chapter_changes.specs.Cut as chapters
+use Rattle.remux_plan.specs.Parts.{chapters_of, document_with, stretch_of}
+use Rattle.remux_plan.specs.declared.output.OutputSpec.{OutputSpec}
+use Rattle.remuxer.specs.Places.{CanGive, IsToldFrom, lane_of, lent_at, part_from, parts_behind, split_in}
+use Rattle.remuxer.specs.Output.{FillsPart, HasWritten, Writes, WritesLayout, chapters_cut, chapters_in, part_in}
+use Rattle.remuxer.specs.declared.output.Filled.{Filled}
+use Rattle.remuxer.specs.declared.placed.PartStart.{PartStart}
+use Rattle.remuxer.proofs.TakingLemmas.{goes-more, parts-ahead-same}
+use Rattle.remuxer.specs.Taking.{CanTake, Goes, GoesOn}
+use Rattle.remuxer.specs.declared.placed.PlacedBlocks.{PlacedBlocks}
 use Rattle.remuxer.specs.declared.writer.BlockWriter.{BlockWriter}
 
 -- ---- one draft of one output
@@ -48,8 +62,8 @@ use Rattle.remuxer.specs.declared.writer.BlockWriter.{BlockWriter}
 pub drafted-in_turn : (before now : Names) (name : List ℕ) (d : Document) → StandsDrafted before now (draft_of name d) → StandsInTurn before now (draft_of name d ∷ [])
 drafted-in_turn before now name d stands = record { stand = stands.output ∷ []; drafted = inr stands.drafted; names = stands.names }
 
-pub whole-in_turn : (before now : Names) (name : List ℕ) (d : Document) (len : ℕ) → HoldsLayout before now name d len → StandsInTurn before now (draft_of name d ∷ [])
-whole-in_turn before now name d len holds = record { stand = _ ∷ []; drafted = inl (sym holds.becomes); names = holds.names }
+pub whole-in_turn : (before now : Names) (name : List ℕ) (d : Document) → WritesLayout before now name d → StandsInTurn before now (draft_of name d ∷ [])
+whole-in_turn before now name d writes = record { stand = (let o : Output = record { name = name; content = layout d } in o) ∷ []; drafted = inl (sym writes.becomes); names = writes.names }
 
 -- what was refused while it was begun
 pub begun-in_turn : (before now : Names) (name : List ℕ) (d : Document) → StandsInPart before now (record { name = name; content = opened_with d.front [] } ∷ []) → StandsInTurn before now (draft_of name d ∷ [])
@@ -84,62 +98,75 @@ module _ {S : Type 0} (r : Ghosts S) (f : writing.Ghosts S) (before : Names) (na
   }
 
   -- it has all its Clusters, and is finished
-  pub finishes-all : (old new : S) (o : OpenOutput) (result : Result ℕ RemuxEnd) → Finishes r f o d.chapters d.tags old new result → HasAll r f before name d old o → Writes before (f.names new) name d result
-  finishes-all old new o result finishes all = step result finishes
+  pub finishes-all : (old new : S) (o : OpenOutput) (chapters tags : Option Node) (result : Result ℕ RemuxEnd) → d.chapters ≡ chapters → d.tags ≡ tags → Finishes r f o chapters tags old new result → HasAll r f before name d old o → Writes before (f.names new) name d result
+  finishes-all old new o chapters tags result its_chapters its_tags finishes all = step result finishes
     where
       named : f.holder old o.file.n ≡ name
       named = all.stands.holder
 
-      ready : IsReady r f before d old o d.chapters d.tags
+      ready : IsReady r f before d old o chapters tags
       ready =
           let P : List ℕ → Type 0 = λ n. StandsOpen r f before n d.front (joined (clusters_elements d.clusters)) old o in
-          record { stands = subst P (sym named) all.stands; cues = all.cues; chapters = refl; tags = refl }
+          record { stands = subst P (sym named) all.stands; cues = all.cues; chapters = its_chapters; tags = its_tags }
 
-      step : (answer : Result ℕ RemuxEnd) → Finishes r f o d.chapters d.tags old new answer → Writes before (f.names new) name d answer
-      step (Ok len) ends = let P : List ℕ → Type 0 = λ n. HoldsLayout before (f.names new) n d len in subst P named (ends before d ready)
+      step : (answer : Result ℕ RemuxEnd) → Finishes r f o chapters tags old new answer → Writes before (f.names new) name d answer
+      step (Ok len) ends =
+          let P : List ℕ → Type 0 = λ n. HoldsLayout before (f.names new) n d len in
+          let holds = subst P named (ends before d ready) in
+          record { names = holds.names; becomes = holds.becomes }
       step (Err end) ends =
           let P : List ℕ → Type 0 = λ n. StandsInTurn before (f.names new) (draft_of n d ∷ []) in
           subst P named (drafted-in_turn before (f.names new) (f.holder old o.file.n) d (ends before d ready))
 
 -- ---- the merge, while the output is begun
 
-module _ {S : Type 0} (r : Ghosts S) (f : writing.Ghosts S) (a b : S) (name : List ℕ) (file : FileId) (m : MergeSeen) (made : MakesFile r f name file a b) (ready : merges.IsReady (live_files r a) m) (apart : IsApart (f.holder a) (name ∷ []) m) where
-  begun-keeps : KeepsMerge (live_files r a) (live_files r b) m
-  begun-keeps = λ k d lt. λ j e inside. one (slice_index_or (slice_index_or m.queues k d).lane.links j e) ((ready k d lt).files j e inside) (apart k d lt j e inside)
+module _ {S : Type 0} (r : Ghosts S) (f : writing.Ghosts S) (a b : S) (name : List ℕ) (file : FileId) (p : PlacedBlocks) (made : MakesFile r f name file a b) (gives : CanGive (live_files r a) p) (apart : IsApart (f.holder a) (name ∷ []) p.merge) where
+  begun-keeps : KeepsMerge (live_files r a) (live_files r b) p.merge
+  begun-keeps = λ k d lt. λ j e inside. one (slice_index_or (slice_index_or p.merge.queues k d).lane.links j e) ((gives.ready k d lt).files j e inside) (apart k d lt j e inside)
     where
       one : (link : Link) → IsOpenLink (live_files r a) link → IsApartLink (f.holder a) (name ∷ []) link → KeepsLink (live_files r a) (live_files r b) link
       one (Track t) opened others = made.others t.file.n (opened.live, others)
       one (Entries e) opened others = tt
 
-  pub begun-among : StandsAmong (live_files r a) (live_files r b) m
-  begun-among = stands-kept (live_files r a) (live_files r b) m begun-keeps ready
+  begun-among : StandsAmong (live_files r a) (live_files r b) p.merge
+  begun-among = stands-kept (live_files r a) (live_files r b) p.merge begun-keeps gives.ready
 
-  begun-apart : IsApart (f.holder b) (f.holder b file.n ∷ []) m
-  begun-apart = subst (λ (n : List ℕ). IsApart (f.holder b) (n ∷ []) m) (sym made.holder)
-      (λ k d lt. λ j e inside. one (slice_index_or (slice_index_or m.queues k d).lane.links j e) ((ready k d lt).files j e inside) (apart k d lt j e inside))
+  pub begun-left : left (live_files r b) p.merge ≡ left (live_files r a) p.merge
+  begun-left = begun-among.left
+
+  begun-apart : IsApart (f.holder b) (f.holder b file.n ∷ []) p.merge
+  begun-apart = subst (λ (n : List ℕ). IsApart (f.holder b) (n ∷ []) p.merge) (sym made.holder)
+      (λ k d lt. λ j e inside. one (slice_index_or (slice_index_or p.merge.queues k d).lane.links j e) ((gives.ready k d lt).files j e inside) (apart k d lt j e inside))
     where
       one : (link : Link) → IsOpenLink (live_files r a) link → IsApartLink (f.holder a) (name ∷ []) link → IsApartLink (f.holder b) (name ∷ []) link
       one (Track t) opened others = subst (λ (n : List ℕ). AreOthers n (name ∷ [])) (sym (made.holders t.file.n opened.live)) others
       one (Entries e) opened others = tt
 
+  begun-gives : CanGive (live_files r b) p
+  begun-gives = record { ready = begun-among.ready; few = gives.few; drives = gives.drives; scales = gives.scales; scale = gives.scale; early = gives.early }
+
   -- the output can take its blocks
-  pub begun-can : (w : BlockWriter) → w.out.file ≡ file → IsOpen r b w.out → length m.queues ≤ MOST_LANES → CanTake r f b w m
-  begun-can w same is_open few = record {
+  pub begun-can : (w : BlockWriter) → w.out.file ≡ file → IsOpen r b w.out → CanTake r f b w p
+  begun-can w same is_open = record {
     is_open = is_open;
-    few = few;
-    ready = begun-among.ready;
-    apart = subst (λ (id : FileId). IsApart (f.holder b) (f.holder b id.n ∷ []) m) (sym same) begun-apart;
+    gives = begun-gives;
+    apart = subst (λ (id : FileId). IsApart (f.holder b) (f.holder b id.n ∷ []) p.merge) (sym same) begun-apart;
   }
 
-  -- it has ended
-  pub ends-among : (m' : MergeSeen) → Ends (live_files r b) m m' → Ends (live_files r a) m m'
-  ends-among m' ends = record {
-    lanes = ends.lanes;
-    all = λ told. record {
-      given = (ends.all (begun-among.told told)).given ∙ ap (λ bs. counted m.given (length bs)) begun-among.left;
-      damages = (ends.all (begun-among.told told)).damages ∙ begun-among.damages;
-    };
+  -- so many octets were read
+  pub begun-goes : (more : ℕ) → r.octets_read b ≤ r.octets_read a + more → GoesOn r more a b p p
+  begun-goes more octets = record {
+    lanes = refl;
+    split = refl;
+    gives = begun-gives;
+    length = begun-among.length;
+    paid = let due = begun-among.due in omega (arith, due, octets);
+    told = λ told. record { told = begun-among.told told; damages = begun-among.damages };
   }
+
+  pub begun-told : (lane : Option ℕ) → IsToldFrom (live_files r a) p lane → IsToldFrom (live_files r b) p lane
+  begun-told None told = (begun-among.told told.0, begun-left ∙ told.1)
+  begun-told (Some k) told = begun-among.told told
 
 -- ---- the output's file has ended
 
@@ -154,3 +181,102 @@ module _ {S : Type 0} (r : Ghosts S) (f : writing.Ghosts S) (a b c e : S) (name 
 
   pub abandoned-keeps : EndsOnly r f c e (its ∷ []) → KeepsOthers r f (name ∷ []) a e
   abandoned-keeps ends = MakesFile-ended r f name its a c e numbered written ends
+
+  -- the merge, while it ends
+  module _ (p p' : PlacedBlocks) (gives : CanGive (live_files r a) p) (apart : IsApart (f.holder a) (name ∷ []) p.merge) (goes : GoesOn r 0 b c p p') (ends : WritesAndEnds r f its c e) where
+    ending-keeps : KeepsMerge (live_files r c) (live_files r e) p'.merge
+    ending-keeps = λ k d lt. λ j x inside. one (slice_index_or (slice_index_or p'.merge.queues k d).lane.links j x) ((goes.gives.ready k d lt).files j x inside)
+        (links-kept (All (IsApartLink (f.holder a) (name ∷ []))) p.merge.queues p'.merge.queues goes.lanes apart k d lt j x inside)
+        (links-kept (All (IsOpenLink (live_files r a))) p.merge.queues p'.merge.queues goes.lanes (λ i y small. (gives.ready i y small).files) k d lt j x inside)
+      where
+        alone : (n : ℕ) → its.n ≢ n → IsNoneOf n (its ∷ [])
+        alone n differs zero d inside = differs
+        alone n differs (suc k) d inside = absurd (omega arith)
+
+        -- a file of another name isn't the output's
+        other : (n : ℕ) → (live_files r a).live n ≡ true → AreOthers (f.holder a n) (name ∷ []) → IsSameFile (live_files r c) (live_files r e) n
+        other n live others =
+            let holder : f.holder c n ≡ f.holder a n = written.holders n live in
+            let apart_is : AreOthers (f.holder c n) (f.holder c its.n ∷ []) = (λ equal. others.0 (sym written.holder ∙ equal ∙ holder), tt) in
+            let differs : its.n ≢ n = λ equal. others.0 (sym written.holder ∙ ap (f.holder c) equal ∙ holder) in
+            IsSameFile-twice (live_files r c) (live_files r ends.before) (live_files r e) n (ends.written.kept.others n apart_is) (ends.ended.others n (alone n differs))
+
+        one : (link : Link) → IsOpenLink (live_files r c) link → IsApartLink (f.holder a) (name ∷ []) link → IsOpenLink (live_files r a) link → KeepsLink (live_files r c) (live_files r e) link
+        one (Track t) opened others was = other t.file.n was.live others
+        one (Entries entries) opened others was = tt
+
+    ending-among : StandsAmong (live_files r c) (live_files r e) p'.merge
+    ending-among = stands-kept (live_files r c) (live_files r e) p'.merge ending-keeps goes.gives.ready
+
+    pub ending-left : left (live_files r e) p'.merge ≡ left (live_files r c) p'.merge
+    ending-left = ending-among.left
+
+    pub ending-goes : GoesOn r 0 c e p' p'
+    ending-goes = record {
+      lanes = refl;
+      split = refl;
+      gives = record { ready = ending-among.ready; few = goes.gives.few; drives = goes.gives.drives; scales = goes.gives.scales; scale = goes.gives.scale; early = goes.gives.early };
+      length = ending-among.length;
+      paid = let due = ending-among.due in let one = ends.written.octets in let other = ends.ended.octets in omega (arith, due, one, other);
+      told = λ told. record { told = ending-among.told told; damages = ending-among.damages };
+    }
+
+-- ---- what was written
+
+-- a count that has 64 bits
+pub counted-all : (blocks n : ℕ) → blocks ≤ last_count → counted blocks 0 ≡ n → blocks ≡ n
+counted-all blocks n few is = grind arith
+
+-- the Chapters of a part
+pub chapters-are : (o : OutputSpec) (f : LiveFiles) (part : Part) (cut : Option Node) → cut ≡ chapters_cut o part.start part.end → (document_with f o part).chapters ≡ chapters_in o cut
+chapters-are o f part cut is = by_split o.split ∙ sym (ap (chapters_in o) is)
+  where
+    by_split : (split : Bool) → chapters_of split o.chapters (stretch_of o.limits.scale part.start part.end)
+        ≡ (if split then (if split then option_and_then (chapters.cut (stretch_of o.limits.scale part.start part.end)) o.chapters else None) else o.chapters)
+    by_split true = refl
+    by_split false = refl
+
+-- ---- a part in its output
+
+module _ {S : Type 0} (r : Ghosts S) (f : writing.Ghosts S) (o : OutputSpec) (name : List ℕ) (a b : S) (p : PlacedBlocks) (part : PartStart) (same : left (live_files r b) p.merge ≡ left (live_files r a) p.merge) where
+  -- it is the same while the output is begun
+  part-same : part_in (live_files r b) p part ≡ part_in (live_files r a) p part
+  part-same = ap (part_from (split_in p) part.start (lent_at p.merge part.lane)) same
+
+  -- the output was begun
+  pub begun-stands : (out : OpenOutput) (buffer : Gathered) → StandsOpen r f (f.names a) name (front_with (live_files r a) o.front) [] b out → out.cues ≡ [] → Holds None buffer → buffer.limits ≡ o.limits
+      → Stands r f (f.names a) name o.rules (document_with (live_files r a) o (part_in (live_files r a) p part)) b out buffer (part_in (live_files r b) p part).blocks
+  begun-stands out buffer opened cues holds limits =
+      stands-begun r f (f.names a) name (document_with (live_files r a) o (part_in (live_files r a) p part)) o.rules o.limits b out buffer (part_in (live_files r b) p part).blocks
+      (ap (λ (each : Part). clusters o.limits each.blocks) part-same) cues holds limits opened
+
+  -- it was filled, and is finished
+  pub filled-finishes : (c e : S) (w w' : BlockWriter) (p' : PlacedBlocks) (filled : Filled) (chapters : Option Node) (result : Result ℕ RemuxEnd) → FillsPart r f o part b c w w' p p' filled
+      → Stands r f (f.names a) name o.rules (document_with (live_files r a) o (part_in (live_files r a) p part)) b w.out w.buffer (part_in (live_files r b) p part).blocks
+      → chapters ≡ chapters_in o filled.chapters → Finishes r f w'.out chapters o.tags c e result → Writes (f.names a) (f.names e) name (document_with (live_files r a) o (part_in (live_files r a) p part)) result
+  filled-finishes c e w w' p' filled chapters result fills stands its finishes =
+      let d : Document = document_with (live_files r a) o (part_in (live_files r a) p part) in
+      let cut : filled.chapters ≡ chapters_cut o part.start (part_in (live_files r a) p part).end = fills.chapters ∙ ap (λ (each : Part). chapters_cut o part.start each.end) part-same in
+      finishes-all r f (f.names a) name d c e w'.out chapters o.tags result (chapters-are o (live_files r a) (part_in (live_files r a) p part) filled.chapters cut ∙ sym its) refl finishes
+      (fills.all (f.names a) name d refl stands)
+
+  -- so many blocks, and the parts behind it
+  pub filled-written : (c e : S) (w w' : BlockWriter) (p' : PlacedBlocks) (filled : Filled) → FillsPart r f o part b c w w' p p' filled → w.blocks ≡ 0 → left (live_files r e) p'.merge ≡ left (live_files r c) p'.merge
+      → HasWritten (live_files r a) (live_files r e) part p p' (record { blocks = w'.blocks; ahead = filled.ahead })
+  filled-written c e w w' p' filled fills none later = record {
+    count = counted-all w'.blocks (counted 0 (length (part_in (live_files r a) p part).blocks)) (fills.few (omega (arith, none)))
+        (fills.count ∙ ap₂ (λ (n : ℕ) (each : Part). counted n (length each.blocks)) none part-same);
+    behind =
+        parts-ahead-same (live_files r e) (live_files r c) p' (lane_of filled.ahead) later ∙ fills.behind
+        ∙ ap (parts_behind (split_in p) part.start) same;
+  }
+
+-- what was read for the attachments, and for the blocks
+pub goes-whole : {S : Type 0} (r : Ghosts S) (more : ℕ) (a b c e : S) (p p' : PlacedBlocks) → GoesOn r more a b p p → GoesOn r 0 b c p p' → GoesOn r 0 c e p' p' → GoesOn r more a e p p'
+goes-whole r more a b c e p p' first next last = goes-more r more a c e p p' p' (goes-more r more a b c p p p' first next) last
+
+-- or for blocks that were refused; nothing is read behind them
+pub goes-refused : {S T E : Type 0} (r : Ghosts S) (more : ℕ) (a b c e : S) (p p' : PlacedBlocks) (result : Result T E) → GoesOn r more a b p p → Goes r 0 b c p p' result → r.octets_read e ≤ r.octets_read c
+    → r.octets_read e ≤ r.octets_read a + due (live_files r a) p.merge + 2 * files_length (live_files r a) p.merge + more
+goes-refused r more a b c e p p' (Ok done) first next same = let one = first.paid in let other = next.paid in omega (arith, one, other, same)
+goes-refused r more a b c e p p' (Err end) first next same = let one = first.paid in let long = first.length in omega (arith, one, long, next, same)

@@ -1,44 +1,44 @@
 -- A plan, and the merge that it comes to.
-use Rattle.std.proofs.Common.{◌≡◌, ◌≤◌, ◌<◌, ℕ, ◌*◌, List, [], ◌∷◌, All, length, map, Result, refl, sym, ◌∙◌, ap, ap₂, subst, arith}
+use Rattle.std.proofs.Common.{◌≡◌, ◌≤◌, ◌<◌, ℕ, ◌*◌, Bool, List, [], ◌∷◌, All, length, map, Result, Ok, refl, sym, ◌∙◌, ap, ap₂, subst, arith}
 use Rattle.std.proofs.lemmas.List.{length-map}
 use Rattle.std.proofs.lemmas.List.Elements.{All-cons, All-head, All-nil, All-tail}
-use Rattle.mkv_io.specs.Faults.{counted, last_count}
-use Rattle.mkv_io.specs.Names.{Names}
 use Rattle.mkv_io.specs.Sources.{live_files}
 use Rattle.mkv_io.specs.declared.reads.Reads.{Ghosts}
 use Rattle.mkv_io.specs.declared.files.Files as writing
 use Rattle.mkv_jobs.specs.declared.remux_end.RemuxEnd.{RemuxEnd}
 use Rattle.output_model.specs.declared.TheConstants.{MOST_LANES}
 use Rattle.output_model.specs.OutputBlock.{OutputBlock}
-use Rattle.output_model.specs.Document.{Document}
-use Rattle.segment_octets.specs.Front.{front_with}
 use Rattle.cluster_reader.specs.ToldDamages.{ToldDamages, told_damages}
 use Rattle.merge_model.specs.Lanes.{lane_damages}
 use Rattle.lane_blocks.specs.Links.{IsToldLink, given_in}
 use Rattle.lanes.specs.Lane.{LaneSeen}
 use Rattle.lanes.specs.Lane as lanes
-use Rattle.time_merge.specs.Laws.{IsApart, IsApartLink}
 use Rattle.time_merge.specs.Merge as merges
 use Rattle.time_merge.specs.Merge.{Begins, IsTold, MergeSeen, Starts, damages, due, files_length, left}
 use Rattle.time_merge.specs.declared.queue.Queue.{Queue}
 use Rattle.time_merge.proofs.KeptLemmas.{started-merged}
-use Rattle.cluster_runs.specs.Cued.{document_of}
+use Rattle.splitter.specs.Sections.{Split, parts}
+use Rattle.splitter.specs.Steps.{CutsSeen, new_cuts}
 use Rattle.cluster_runs.specs.declared.rule.CueRule.{CueRule}
-use Rattle.remux_plan.specs.Plan.{blocks_of, document_in, links_of}
-use Rattle.remux_plan.specs.Summary.{IsSummary, first_damages, more_damages}
+use Rattle.remux_plan.specs.Parts.{PlannedOutput, drives_by, is_split, name_of, outputs_from, outputs_in, spec_of, split_of}
+use Rattle.remux_plan.specs.Plan.{blocks_of, links_of}
+use Rattle.remux_plan.specs.Summary.{IsSummary, first_damages, more_damages, written_of}
 use Rattle.remux_plan.specs.declared.TheConstants.{MOST_INPUTS}
 use Rattle.remux_plan.specs.declared.plan.MergePlan.{MergePlan}
 use Rattle.remux_plan.specs.declared.plan.PlannedLane.{PlannedLane}
+use Rattle.remux_plan.specs.declared.output.OutputSpec.{OutputSpec}
 use Rattle.remux_plan.specs.declared.summary.Summary.{Summary}
 use Rattle.remux_plan.specs.declared.summary.Written.{Written}
 use Rattle.std.specs.List.{flat_map, range_with_len}
-use Rattle.remuxer.specs.Output.{Writes, document_with}
-use Rattle.remuxer.specs.Plan.{IsPlan, IsToldPlan, inputs_length}
+use Rattle.remuxer.specs.Places.{CanGive, split_in}
+use Rattle.remuxer.specs.Output.{CanWriteAll, Ends, HasRecords, IsUnwritten, IsUnwrittenLink, KeepsUnwritten, ReadsParts, SaysWritten, WritesOutputs, WritesParts, outputs_left}
+use Rattle.remuxer.specs.Plan.{IsPlan, IsToldPlan, ReadsFew, WritesPlan, inputs_length}
 use Rattle.remuxer.specs.Started.{AreStarted, CanStart}
-use Rattle.remuxer.specs.Taking.{HasGivenAll, told_by}
+use Rattle.remuxer.specs.Taking.{told_by}
 use Rattle.remuxer.specs.Told.{HasDamages, damages_told}
+use Rattle.remuxer.specs.declared.placed.PlacedBlocks.{PlacedBlocks}
 use Rattle.remuxer.specs.declared.planned.StartedLanes.{StartedLanes}
-use Rattle.remuxer.proofs.StartedLemmas.{all-due, all-lengths, all-links, all-ready, all-told, are-started, count-started}
+use Rattle.remuxer.proofs.StartedLemmas.{all-due, all-lengths, all-links, all-ready, all-scales, all-told, are-started, count-started}
 use Rattle.remuxer.proofs.SummaryLemmas.{plan-damages}
 
 -- what holds of the lanes that a merge was started with
@@ -75,10 +75,21 @@ module _ {S : Type 0} (r : Ghosts S) (f : writing.Ghosts S) (a : S) (p : MergePl
     pub plan-ready : merges.IsReady (live_files r a) m
     plan-ready = starts.ready (all-ready (live_files r a) p.limits.scale p.lanes s.lanes started.lanes (λ k d inside. (plan.lanes k d inside).live))
 
-    pub plan-apart : IsApart (f.holder a) (p.output ∷ []) m
+    pub plan-apart : IsUnwritten (f.holder a) (is_split p.split) p.output m
     plan-apart =
-        lanes-to (λ (l : LaneSeen). All (IsApartLink (f.holder a) (p.output ∷ [])) l.links) m.queues s.lanes begins.lanes
-        (all-links (IsApartLink (f.holder a) (p.output ∷ [])) p.limits.scale p.lanes s.lanes started.lanes (λ k d inside. (plan.lanes k d inside).apart))
+        lanes-to (λ (l : LaneSeen). All (IsUnwrittenLink (f.holder a) (is_split p.split) p.output) l.links) m.queues s.lanes begins.lanes
+        (all-links (IsUnwrittenLink (f.holder a) (is_split p.split) p.output) p.limits.scale p.lanes s.lanes started.lanes (λ k d inside. (plan.lanes k d inside).apart))
+
+    -- its blocks, none of which was placed
+    pub plan-gives : CanGive (live_files r a) (record { merge = m; cuts = new_cuts p.split p.limits.scale; drives = s.drives })
+    plan-gives = record {
+      ready = plan-ready;
+      few = plan-few;
+      drives = ap (λ (ds : List Bool). length ds) started.drives ∙ length-map p.lanes (λ (l : PlannedLane). l.drives) ∙ sym count-lanes ∙ sym count-queues;
+      scales = lanes-to (λ (l : LaneSeen). l.scale ≡ p.limits.scale) m.queues s.lanes begins.lanes (all-scales p.limits.scale p.lanes s.lanes started.lanes);
+      scale = plan.scale_most;
+      early = omega arith;
+    }
 
     pub plan-told : IsToldPlan (live_files r a) p → IsTold (live_files r a) m
     plan-told told =
@@ -94,44 +105,77 @@ module _ {S : Type 0} (r : Ghosts S) (f : writing.Ghosts S) (a : S) (p : MergePl
     pub plan-length : files_length (live_files r a) m ≡ inputs_length (live_files r a) p
     plan-length = starts.length ∙ all-lengths (live_files r a) p.limits.scale p.lanes s.lanes started.lanes
 
-    plan-document : document_with (live_files r a) (record { name = p.output; limits = p.limits; rules = s.rules; front = p.front; chapters = p.chapters; tags = p.tags }) (left (live_files r a) m) ≡ document_in (live_files r a) p
-    plan-document = ap₂ (λ (rules : List CueRule) (blocks : List OutputBlock). document_of p.limits rules (front_with (live_files r a) p.front) p.chapters p.tags blocks) started.rules plan-left
+    plan-split : split_in (record { merge = m; cuts = new_cuts p.split p.limits.scale; drives = s.drives }) ≡ split_of p
+    plan-split = ap (λ (drivers : List Bool). let x : Split = record { spec = p.split; scale = p.limits.scale; drives = drives_by drivers } in x) started.drives
 
-    -- the output is that of the plan
-    pub plan-writes : (now : Names) (result : Result ℕ RemuxEnd)
-        → (IsTold (live_files r a) m → Writes (f.names a) now p.output (document_with (live_files r a) (record { name = p.output; limits = p.limits; rules = s.rules; front = p.front; chapters = p.chapters; tags = p.tags }) (left (live_files r a) m)) result)
-        → IsToldPlan (live_files r a) p → Writes (f.names a) now p.output (document_in (live_files r a) p) result
-    plan-writes now result writes told = subst (λ (d : Document). Writes (f.names a) now p.output d result) plan-document (writes (plan-told told))
+    -- its blocks and what its outputs have in common, as they were made of it
+    module _ (b : S) (idle : b ≡ a) (cuts : CutsSeen) (cut : cuts ≡ new_cuts p.split p.limits.scale) (split : Bool) (same : split ≡ is_split p.split) where
+      abbrev pub started_blocks : PlacedBlocks
+      started_blocks = record { merge = m; cuts = cuts; drives = s.drives }
+
+      abbrev pub started_spec : OutputSpec
+      started_spec = record { name = p.output; split = split; limits = p.limits; rules = s.rules; front = p.front; chapters = p.chapters; tags = p.tags }
+
+      -- the outputs can be written
+      pub plan-can : CanWriteAll r f b started_spec started_blocks
+      plan-can = subst (λ (x : S). CanWriteAll r f x started_spec started_blocks) (sym idle) (record {
+        gives = subst (λ (c : CutsSeen). CanGive (live_files r a) (record { merge = m; cuts = c; drives = s.drives })) (sym cut) plan-gives;
+        fresh = ap (λ (c : CutsSeen). c.start) cut;
+        scale = ap (λ (c : CutsSeen). c.scale) cut;
+        apart = subst (λ (q : Bool). IsUnwritten (f.holder a) q p.output m) (sym same) plan-apart;
+        records = subst (λ (q : Bool). HasRecords r f a (name_of q p.output 1) p.front p.chapters p.tags) (sym same) plan.records;
+      })
+
+      -- they are those of the plan
+      plan-outputs : outputs_left (live_files r a) started_spec started_blocks ≡ outputs_in (live_files r a) p
+      plan-outputs =
+          ap (λ (c : CutsSeen). outputs_left (live_files r a) started_spec (record { merge = m; cuts = c; drives = s.drives })) cut
+          ∙ ap₂ (λ (each : Bool) (rules : List CueRule). outputs_left (live_files r a) (record { name = p.output; split = each; limits = p.limits; rules = rules; front = p.front; chapters = p.chapters; tags = p.tags })
+          (record { merge = m; cuts = new_cuts p.split p.limits.scale; drives = s.drives })) same started.rules
+          ∙ ap₂ (λ (each : Split) (blocks : List OutputBlock). outputs_from (live_files r a) (spec_of p) 1 (parts each blocks)) plan-split plan-left
+
+      -- they are written
+      pub plan-writes : {T : Type 0} (now : S) (result : Result T RemuxEnd) → WritesParts r f b now started_spec started_blocks result → WritesPlan r f a now p result
+      plan-writes now result writes told =
+          let here = subst (λ (x : S). WritesParts r f x now started_spec started_blocks result) idle writes in
+          subst (λ (outputs : List PlannedOutput). WritesOutputs (f.names a) (f.names now) outputs result) plan-outputs (here (plan-told told))
+
+      -- and so it is said
+      pub plan-says : (written : List Written) → SaysWritten r b started_spec started_blocks (Ok written) → IsToldPlan (live_files r a) p → written ≡ map written_of (outputs_in (live_files r a) p)
+      plan-says written says told =
+          subst (λ (x : S). SaysWritten r x started_spec started_blocks (Ok written)) idle says (plan-told told) ∙ ap (map written_of) plan-outputs
+
+      -- so many octets are read
+      pub plan-reads : (now : S) → ReadsParts r b now started_spec started_blocks → ReadsFew r a now p
+      plan-reads now reads =
+          let here = subst (λ (x : S). ReadsParts r x now started_spec started_blocks) idle reads in
+          omega (arith, here, plan-due, plan-length)
+
+      -- and files of other names stay
+      pub plan-keeps : (now : S) → KeepsUnwritten r f split p.output b now → KeepsUnwritten r f (is_split p.split) p.output a now
+      plan-keeps now kept = subst (λ (x : S). KeepsUnwritten r f (is_split p.split) p.output x now) idle (subst (λ (q : Bool). KeepsUnwritten r f q p.output b now) same kept)
+
+      pub plan-ends : (m' : MergeSeen) → Ends (live_files r b) m m' → Ends (live_files r a) m m'
+      plan-ends m' ends = subst (λ (x : S). Ends (live_files r x) m m') idle ends
 
     -- and so is the summary
-    pub plan-summary : (m' : MergeSeen) (blocks : ℕ) (sum : Summary) → HasGivenAll (live_files r a) m m' → blocks ≡ m'.given → blocks ≤ last_count → sum.outputs ≡ record { name = p.output; blocks = blocks } ∷ []
+    pub plan-summary : (m' : MergeSeen) (sum : Summary) → told_by m' ≡ damages (live_files r a) m → sum.outputs ≡ map written_of (outputs_in (live_files r a) p)
         → HasDamages s.inputs (told_by m') (range_with_len 0 MOST_INPUTS) sum → IsSummary (live_files r a) p sum
-    plan-summary m' blocks sum given is few outputs has = record {
-      outputs = outputs ∙ ap (λ (n : ℕ). ones n) count;
+    plan-summary m' sum given outputs has = record {
+      outputs = outputs;
       damages = has.damages ∙ ap₂ (λ (ns : List (List ℕ)) (ts : List (List ToldDamages)). flat_map (λ input. first_damages input (damages_told ns ts input)) (range_with_len 0 MOST_INPUTS)) started.inputs told
           ∙ plan-damages (live_files r a) p.lanes first_damages (λ input. refl) numbered inputs;
       more = has.more ∙ ap₂ (λ (ns : List (List ℕ)) (ts : List (List ToldDamages)). flat_map (λ input. more_damages input (damages_told ns ts input)) (range_with_len 0 MOST_INPUTS)) started.inputs told
           ∙ plan-damages (live_files r a) p.lanes more_damages (λ input. refl) numbered inputs;
     }
       where
-        ones : ℕ → List Written
-        ones n = record { name = p.output; blocks = n } ∷ []
-
         numbered : All (λ (l : PlannedLane). length l.inputs ≡ length l.spec.links) p.lanes
         numbered = λ k d inside. (plan.lanes k d inside).numbered
 
         inputs : All (λ (l : PlannedLane). All (λ n. n < MOST_INPUTS) l.inputs) p.lanes
         inputs = λ k d inside. (plan.lanes k d inside).inputs
 
-        alone : (n : ℕ) → n ≤ last_count → n ≡ counted n 0
-        alone n most = grind arith
-
-        count : blocks ≡ counted 0 (length (blocks_of (live_files r a) p))
-        count =
-            alone blocks few ∙ ap (λ n. counted n 0) is ∙ given.given ∙ ap (λ n. counted n (length (left (live_files r a) m))) begins.given
-            ∙ ap (λ (bs : List OutputBlock). counted 0 (length bs)) plan-left
-
         told : told_by m' ≡ map (λ (l : PlannedLane). map told_damages (lane_damages (map (given_in (live_files r a)) l.spec.links))) p.lanes
         told =
-            given.damages ∙ lanes-map (lanes.told_in_all (live_files r a)) m.queues ∙ ap (map (lanes.told_in_all (live_files r a))) begins.lanes
+            given ∙ lanes-map (lanes.told_in_all (live_files r a)) m.queues ∙ ap (map (lanes.told_in_all (live_files r a))) begins.lanes
             ∙ all-told (live_files r a) p.limits.scale p.lanes s.lanes started.lanes

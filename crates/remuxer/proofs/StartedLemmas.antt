@@ -94,3 +94,10 @@ all-links P scale (p ∷ ps) [] are each = absurd are
 all-links P scale (p ∷ ps) (l ∷ ls) are each =
     All-cons (λ (one : LaneSeen). All P one.links) l ls (subst (All P) (sym are.0.begins.links) (All-head (λ (one : PlannedLane). All P one.spec.links) p ps each))
     (all-links P scale ps ls are.1 (All-tail (λ (one : PlannedLane). All P one.spec.links) p ps each))
+
+-- a tick has as many nanoseconds in each lane
+pub all-scales : (scale : ℕ) (planned : List PlannedLane) (ls : List LaneSeen) → AllZip (IsStarted scale) planned ls → All (λ (l : LaneSeen). l.scale ≡ scale) ls
+all-scales scale [] [] are = All-nil (λ (l : LaneSeen). l.scale ≡ scale)
+all-scales scale [] (l ∷ ls) are = absurd are
+all-scales scale (p ∷ ps) [] are = absurd are
+all-scales scale (p ∷ ps) (l ∷ ls) are = All-cons (λ (one : LaneSeen). one.scale ≡ scale) l ls are.0.begins.scale (all-scales scale ps ls are.1)

@@ -1,26 +1,28 @@
 -- An output that takes the blocks of a merge: a block is read, and then something is written.
-use Rattle.std.proofs.Common.{◌≡◌, ◌≤◌, ℕ, ◌+◌, Bool, List, [], ◌∷◌, length, Result, Ok, Err, refl, sym, ◌∙◌, ap, subst, arith, map, ap₂, ◌++◌, take, append-nil}
+use Rattle.std.proofs.Common.{◌≡◌, ◌≤◌, ℕ, ◌+◌, Bool, true, false, List, [], ◌∷◌, length, Option, Some, None, Result, Ok, Err, refl, sym, ◌∙◌, ap, subst, arith, map, ap₂, ◌++◌, take, append-nil}
 use Rattle.std.proofs.lemmas.List.{drop_all, take_all}
 use Rattle.std.specs.List.{All}
 use Rattle.std.proofs.lemmas.List.Elements.{All-head, All-tail}
-use Rattle.mkv_values.specs.declared.outside.FileId.{FileId}
-use Rattle.mkv_io.specs.Faults.{counted}
+use Rattle.mkv_io.specs.Faults.{counted, last_count}
 use Rattle.mkv_io.specs.LiveFiles.{LiveFiles}
 use Rattle.mkv_io.specs.Names.{Names}
 use Rattle.mkv_io.specs.Sources.{live_files}
 use Rattle.mkv_io.specs.Writing.{KeepsOthers}
+use Rattle.mkv_values.specs.declared.outside.FileId.{FileId}
+use Rattle.tree_format.specs.Node.{Node}
 use Rattle.mkv_io.specs.declared.reads.Reads.{Ghosts}
 use Rattle.mkv_io.specs.declared.files.Files as writing
 use Rattle.mkv_io.proofs.WritingLemmas.{KeepsOthers-then}
 use Rattle.mkv_jobs.specs.declared.remux_end.RemuxEnd.{RemuxEnd}
 use Rattle.output_model.specs.OutputBlock.{OutputBlock}
-use Rattle.output_model.specs.Document.{Document}
+use Rattle.output_model.specs.Document.{Document, cues_for}
 use Rattle.cues_seekhead.specs.OpenOutput.{IsOpen, OpenOutput}
 use Rattle.cues_seekhead.specs.Draft.{StandsDrafted, draft_of}
 use Rattle.cues_seekhead.proofs.OpenLemmas.{StandsOpen-read}
 use Rattle.cluster_writer.specs.Gathered.{Gathered}
 use Rattle.cluster_runs.specs.Cued.{is_cue}
-use Rattle.cluster_runs.specs.Stands.{Adds, Ends, Stands}
+use Rattle.cluster_runs.specs.Stands.{Adds, Stands}
+use Rattle.cluster_runs.specs.Stands as runs
 use Rattle.cluster_runs.proofs.StandsLemmas.{stands-drafted}
 use Rattle.cluster_runs.specs.declared.rule.CueRule.{CueRule}
 use Rattle.cluster_reader.specs.ToldDamages.{ToldDamages}
@@ -30,14 +32,23 @@ use Rattle.lanes.specs.Told.{with_all}
 use Rattle.merge_model.specs.Lanes.{lane_damages}
 use Rattle.lanes.specs.Walks.{links_left}
 use Rattle.time_merge.specs.Laws.{IsApart, StandsAmong}
-use Rattle.time_merge.specs.Merge.{IsReady, IsTold, MergeSeen, damages, damages_of, due, files_length, left}
+use Rattle.time_merge.specs.Merge.{IsEnded, IsTold, MergeSeen, damages, damages_of, due, files_length, left}
 use Rattle.time_merge.specs.Queues.{KeepsQueues}
 use Rattle.time_merge.specs.declared.queue.Queue.{Queue}
 use Rattle.time_merge.proofs.KeptLemmas.{apart-kept, keeps-merge, stands-kept}
 use Rattle.time_merge.proofs.QueueLemmas.{apart-same, count-kept, length-same}
-use Rattle.remuxer.specs.Taking.{CanTake, GoesOn, GoesOnTold, HasNone, StaysDraft, StaysOnTheWay, TakesAll, TakesNext}
-use Rattle.remuxer.specs.Taking as taking
+use Rattle.splitter.specs.Sections.{Split, beyond, cuts, in_part, parts_in, sections_at}
+use Rattle.splitter.specs.Steps.{start_of}
+use Rattle.placed_merge.specs.declared.placing.Ahead.{Ahead}
+use Rattle.remuxer.specs.Places.{CanGive, first_tick, in_part_from, lane_of, lent_at, parts_ahead, parts_behind, parts_from, since, split_in}
+use Rattle.remux_plan.specs.declared.output.OutputSpec.{OutputSpec}
+use Rattle.remuxer.specs.Output.{Ends, FillsPart, chapters_cut}
+use Rattle.remuxer.specs.declared.placed.PartStart.{PartStart}
+use Rattle.remuxer.specs.Taking.{CanTake, Goes, GoesOn, GoesOnTold, StaysDraft, StaysOnTheWay, TakesAll, TakesNext, TakesRest, TakesSome, WritesInto, rest_of_part}
+use Rattle.remuxer.specs.declared.placed.PlacedBlocks.{PlacedBlocks}
 use Rattle.remuxer.specs.declared.writer.BlockWriter.{BlockWriter}
+use Rattle.remuxer.proofs.PartLemmas.{behind-cut, beyond-cut, beyond-next, within-cut, within-next}
+use Rattle.remuxer.proofs.StepLemmas.{ahead-parts}
 
 -- ---- files that were only read
 
@@ -54,13 +65,13 @@ pub only-read : {S : Type 0} (r : Ghosts S) (f : writing.Ghosts S) (old new : S)
 only-read r f old new same names holders given = record { standing = same; names = names new old same; holders = holders new old same; given = given new old same }
 
 module _ {S : Type 0} (r : Ghosts S) (f : writing.Ghosts S) (old new : S) (read : OnlyRead r f old new) where
-  files-same : live_files r new ≡ live_files r old
+  pub files-same : live_files r new ≡ live_files r old
   files-same = ap r.files read.standing
 
   holder-same : f.holder new ≡ f.holder old
   holder-same = λ i file. read.holders file i
 
-  read-keeps : (names : List (List ℕ)) → KeepsOthers r f names old new
+  pub read-keeps : (names : List (List ℕ)) → KeepsOthers r f names old new
   read-keeps names = record {
     live = λ file. ap (λ (s : LiveFiles). s.live file) files-same;
     given = omega (arith, read.given);
@@ -99,33 +110,24 @@ takes-lent r f rules b lent cued old new w w' (Err end) same cue adds = λ left 
 counted-twice : (count n m : ℕ) → counted (counted count n) m ≡ counted count (n + m)
 counted-twice count n m = grind arith
 
--- a block was given
-pub given-next : (given given' : ℕ) (b : OutputBlock) (was left : List OutputBlock) → given' ≡ counted given 1 → was ≡ b ∷ left → counted given' (length left) ≡ counted given (length was)
-given-next given given' b was left one is =
-    ap (λ n. counted n (length left)) one ∙ counted-twice given 1 (length left)
-    ∙ ap (counted given) (let more : 1 + length left ≡ length (b ∷ left) = omega arith in more ∙ sym (ap length is))
+-- ---- what is written
 
--- none was
-pub given-none : (given given' : ℕ) (was left : List OutputBlock) → given' ≡ counted given 0 → was ≡ [] → left ≡ [] → counted given' (length left) ≡ counted given (length was)
-given-none given given' was left none is end =
-    ap (λ n. counted n (length left)) none ∙ ap (λ bs. counted (counted given 0) (length bs)) end ∙ counted-twice given 0 0 ∙ ap (λ bs. counted given (length bs)) (sym is)
-
-module _ {S : Type 0} (r : Ghosts S) (f : writing.Ghosts S) (rules : List CueRule) (a b c : S) (w w' : BlockWriter) (m m' : MergeSeen)
-    (read : OnlyRead r f a b) (can : CanTake r f a w m) (lanes : KeepsQueues m.queues m'.queues) (ready : IsReady (live_files r b) m')
+module _ {S : Type 0} (r : Ghosts S) (f : writing.Ghosts S) (rules : List CueRule) (a b c : S) (w w' : BlockWriter) (p p' : PlacedBlocks)
+    (read : OnlyRead r f a b) (apart : IsApart (f.holder a) (f.holder a w.out.file.n ∷ []) p.merge) (lanes : KeepsQueues p.merge.queues p'.merge.queues) (gives : CanGive (live_files r b) p')
     (kept : KeepsOthers r f (f.holder b w.out.file.n ∷ []) b c) where
   same : live_files r b ≡ live_files r a
   same = files-same r f a b read
 
-  turn-apart : IsApart (f.holder b) (f.holder b w.out.file.n ∷ []) m'
+  turn-apart : IsApart (f.holder b) (f.holder b w.out.file.n ∷ []) p'.merge
   turn-apart =
-      let P : (ℕ → List ℕ) → Type 0 = λ h. IsApart h (h w.out.file.n ∷ []) m' in
-      subst P (sym (holder-same r f a b read)) (apart-same (f.holder a) (f.holder a w.out.file.n ∷ []) m m' lanes can.apart)
+      let P : (ℕ → List ℕ) → Type 0 = λ h. IsApart h (h w.out.file.n ∷ []) p'.merge in
+      subst P (sym (holder-same r f a b read)) (apart-same (f.holder a) (f.holder a w.out.file.n ∷ []) p.merge p'.merge lanes apart)
 
-  turn-stands : StandsAmong (live_files r b) (live_files r c) m'
-  turn-stands = stands-kept (live_files r b) (live_files r c) m' (keeps-merge r f (f.holder b w.out.file.n ∷ []) b c m' kept turn-apart) ready
+  turn-stands : StandsAmong (live_files r b) (live_files r c) p'.merge
+  turn-stands = stands-kept (live_files r b) (live_files r c) p'.merge (keeps-merge r f (f.holder b w.out.file.n ∷ []) b c p'.merge kept turn-apart) gives.ready
 
-  turn-left : left (live_files r c) m' ≡ left (live_files r a) m'
-  turn-left = turn-stands.left ∙ ap (λ s. left s m') same
+  pub turn-left : left (live_files r c) p'.merge ≡ left (live_files r a) p'.merge
+  turn-left = turn-stands.left ∙ ap (λ s. left s p'.merge) same
 
   -- files of other names stay
   pub turn-keeps : KeepsOthers r f (f.holder a w.out.file.n ∷ []) a c
@@ -134,45 +136,37 @@ module _ {S : Type 0} (r : Ghosts S) (f : writing.Ghosts S) (rules : List CueRul
       KeepsOthers-then r f (f.holder a w.out.file.n ∷ []) a b c (read-keeps r f a b read (f.holder a w.out.file.n ∷ [])) (subst P (read.holders w.out.file.n) kept)
 
   -- the merge goes on
-  pub turn-goes : r.octets_read c ≡ r.octets_read b → r.octets_read b + due (live_files r a) m' ≤ r.octets_read a + due (live_files r a) m
-      → (IsTold (live_files r a) m → GoesOnTold (live_files r a) (live_files r a) m m') → GoesOn r a c m m'
-  turn-goes octets paid gives = record {
+  pub turn-goes : split_in p' ≡ split_in p → r.octets_read c ≡ r.octets_read b → r.octets_read b + due (live_files r a) p'.merge ≤ r.octets_read a + due (live_files r a) p.merge
+      → (IsTold (live_files r a) p.merge → GoesOnTold (live_files r a) (live_files r a) p.merge p'.merge) → GoesOn r 0 a c p p'
+  turn-goes split octets paid told = record {
     lanes = lanes;
-    ready = turn-stands.ready;
-    length = turn-stands.length ∙ ap (λ s. files_length s m') same ∙ length-same (live_files r a) m.queues m'.queues lanes;
-    paid = let owed : due (live_files r c) m' ≡ due (live_files r a) m' = turn-stands.due ∙ ap (λ s. due s m') same in omega arith;
-    told = λ told. record {
-      told = turn-stands.told (let P : LiveFiles → Type 0 = λ s. IsTold s m' in subst P (sym same) (gives told).told);
-      given = ap (λ bs. counted m'.given (length bs)) turn-left ∙ (gives told).given;
-      damages = turn-stands.damages ∙ ap (λ s. damages s m') same ∙ (gives told).damages;
+    split = split;
+    gives = record { ready = turn-stands.ready; few = gives.few; drives = gives.drives; scales = gives.scales; scale = gives.scale; early = gives.early };
+    length = turn-stands.length ∙ ap (λ s. files_length s p'.merge) same ∙ length-same (live_files r a) p.merge.queues p'.merge.queues lanes;
+    paid = let owed : due (live_files r c) p'.merge ≡ due (live_files r a) p'.merge = turn-stands.due ∙ ap (λ s. due s p'.merge) same in omega arith;
+    told = λ is. record {
+      told = turn-stands.told (let P : LiveFiles → Type 0 = λ s. IsTold s p'.merge in subst P (sym same) (told is).told);
+      damages = turn-stands.damages ∙ ap (λ s. damages s p'.merge) same ∙ (told is).damages;
     };
   }
 
-  -- the block is taken
-  pub turn-takes : (x : OutputBlock) → (IsTold (live_files r a) m → left (live_files r a) m ≡ x ∷ left (live_files r a) m') → ((left : List OutputBlock) → StaysOnTheWay r f rules (x ∷ left) left b c w w')
-      → IsTold (live_files r a) m → StaysOnTheWay r f rules (left (live_files r a) m) (left (live_files r c) m') a c w w'
-  turn-takes x gives takes told before name d stands =
+  -- the first of some blocks is taken
+  pub turn-takes : (rest : List OutputBlock → List OutputBlock) (x : OutputBlock) → rest (left (live_files r a) p.merge) ≡ x ∷ rest (left (live_files r a) p'.merge) → ((others : List OutputBlock) → StaysOnTheWay r f rules (x ∷ others) others b c w w')
+      → StaysOnTheWay r f rules (rest (left (live_files r a) p.merge)) (rest (left (live_files r c) p'.merge)) a c w w'
+  turn-takes rest x gives takes before name d stands =
       let P : List OutputBlock → Type 0 = λ bs. Stands r f before name rules d a w.out w.buffer bs in
-      let Q : List OutputBlock → Type 0 = λ bs. Stands r f before name rules d c w'.out w'.buffer bs in
+      let Q : List OutputBlock → Type 0 = λ bs. Stands r f before name rules d c w'.out w'.buffer (rest bs) in
       subst Q (sym turn-left)
-      (takes (left (live_files r a) m') before name d
-      (stands-read r f a b read before name rules d w.out w.buffer (x ∷ left (live_files r a) m') (subst P (gives told) stands)))
+      (takes (rest (left (live_files r a) p'.merge)) before name d
+      (stands-read r f a b read before name rules d w.out w.buffer (x ∷ rest (left (live_files r a) p'.merge)) (subst P gives stands)))
 
   -- or the call is refused
-  pub turn-drafted : (x : OutputBlock) → (IsTold (live_files r a) m → left (live_files r a) m ≡ x ∷ left (live_files r a) m') → ((left : List OutputBlock) → StaysDraft r f rules (x ∷ left) b c w)
-      → IsTold (live_files r a) m → StaysDraft r f rules (left (live_files r a) m) a c w
-  turn-drafted x gives drafted told before name d stands =
+  pub turn-drafted : (rest : List OutputBlock → List OutputBlock) (x : OutputBlock) → rest (left (live_files r a) p.merge) ≡ x ∷ rest (left (live_files r a) p'.merge) → ((others : List OutputBlock) → StaysDraft r f rules (x ∷ others) b c w)
+      → StaysDraft r f rules (rest (left (live_files r a) p.merge)) a c w
+  turn-drafted rest x gives drafted before name d stands =
       let P : List OutputBlock → Type 0 = λ bs. Stands r f before name rules d a w.out w.buffer bs in
-      drafted (left (live_files r a) m') before name d
-      (stands-read r f a b read before name rules d w.out w.buffer (x ∷ left (live_files r a) m') (subst P (gives told) stands))
-
--- no block is left
-pub end-takes : {S : Type 0} (r : Ghosts S) (f : writing.Ghosts S) (rules : List CueRule) (a b : S) (w : BlockWriter) (m m' : MergeSeen) → OnlyRead r f a b → (IsTold (live_files r a) m → (left (live_files r a) m ≡ []) × (left (live_files r a) m' ≡ []))
-    → IsTold (live_files r a) m → StaysOnTheWay r f rules (left (live_files r a) m) (left (live_files r b) m') a b w w
-end-takes r f rules a b w m m' read gives told before name d stands =
-    let P : List OutputBlock → Type 0 = λ bs. Stands r f before name rules d b w.out w.buffer bs in
-    let left-same = ap (λ s. left s m') (files-same r f a b read) in
-    subst P ((gives told).0 ∙ sym (gives told).1 ∙ sym left-same) (stands-read r f a b read before name rules d w.out w.buffer (left (live_files r a) m) stands)
+      drafted (rest (left (live_files r a) p'.merge)) before name d
+      (stands-read r f a b read before name rules d w.out w.buffer (x ∷ rest (left (live_files r a) p'.merge)) (subst P gives stands))
 
 -- a read was refused
 pub read-drafted : {S : Type 0} (r : Ghosts S) (f : writing.Ghosts S) (rules : List CueRule) (a b : S) (w : BlockWriter) (was : List OutputBlock) → OnlyRead r f a b → StaysDraft r f rules was a b w
@@ -180,30 +174,173 @@ read-drafted r f rules a b w was read before name d stands =
     let P : Names → Type 0 = λ names. StandsDrafted before names (draft_of name d) in
     subst P (sym read.names) (stands-drafted r f before name rules d a w.out w.buffer was stands)
 
+-- ---- the blocks of a part
+
+-- the next one is in the part
+pub part-next : (s : Split) (start : ℕ) (x : OutputBlock) (was left : List OutputBlock) → was ≡ x ∷ left → cuts s (since start) x ≡ false → in_part_from s start [] was ≡ in_part start x ∷ in_part_from s start [] left
+part-next s start x was left is none = ap (in_part_from s start []) is ∙ ap (map (in_part start)) (within-next s start x left none)
+
+-- counts
+counted-next : (n k : ℕ) → counted (counted n 1) k ≡ counted n (1 + k)
+counted-next n k = grind arith
+
+counted-few : (n k : ℕ) → counted n k ≤ last_count
+counted-few n k = grind arith
+
+few-more : (n m k : ℕ) → m ≡ counted n k → m ≤ last_count
+few-more n m k is = let few = counted-few n k in omega (arith, is, few)
+
+pub some-taken : {S : Type 0} (r : Ghosts S) (f : writing.Ghosts S) (rules : List CueRule) (s : Split) (start : ℕ) (a c : S) (w w' : BlockWriter) (m m' : MergeSeen) (x : OutputBlock) → left (live_files r a) m ≡ x ∷ left (live_files r a) m' → cuts s (since start) x ≡ false
+    → left (live_files r c) m' ≡ left (live_files r a) m' → w'.blocks ≡ counted w.blocks 1
+    → StaysOnTheWay r f rules (rest_of_part (live_files r a) s start m) (rest_of_part (live_files r c) s start m') a c w w' → TakesSome r f rules s start a c w w' m m'
+some-taken r f rules s start a c w w' m m' x is none same one stands =
+    let was = left (live_files r a) m in
+    let now = left (live_files r a) m' in
+    record {
+      stands = stands;
+      behind = ap (beyond s (since start)) same ∙ sym (ap (beyond s (since start)) is ∙ beyond-next s start x now none);
+      count = ap₂ (λ (n : ℕ) (bs : List OutputBlock). counted n (length (in_part_from s start [] bs))) one same ∙ counted-next w.blocks (length (in_part_from s start [] now))
+          ∙ sym (ap (λ (bs : List OutputBlock). counted w.blocks (length bs)) (part-next s start x was now is none) ∙ ap (counted w.blocks) (let more : length (in_part start x ∷ in_part_from s start [] now) ≡ 1 + length (in_part_from s start [] now) = omega arith in more));
+      few = λ le. few-more w.blocks w'.blocks 1 one;
+    }
+
+-- no block is left of the part; one is ahead
+pub over-ahead : {S : Type 0} (r : Ghosts S) (f : writing.Ghosts S) (rules : List CueRule) (start : ℕ) (a b : S) (w : BlockWriter) (p p' : PlacedBlocks) (ahead : Ahead) (x : OutputBlock) → OnlyRead r f a b → left (live_files r a) p.merge ≡ x ∷ left (live_files r a) p'.merge
+    → cuts (split_in p) (since start) x ≡ true → split_in p' ≡ split_in p → lent_at p'.merge (Some ahead.lane) ≡ x ∷ [] → start_of p'.cuts ≡ x.tick → TakesRest r f rules (split_in p) start [] a b w w p.merge p' (Some ahead)
+over-ahead r f rules start a b w p p' ahead x read is cut split one at =
+    let s = split_in p in
+    let was = left (live_files r a) p.merge in
+    let now = left (live_files r a) p'.merge in
+    let same : left (live_files r b) p'.merge ≡ now = ap (λ (h : LiveFiles). left h p'.merge) (files-same r f a b read) in
+    let none : in_part_from s start [] was ≡ [] = ap (in_part_from s start []) is ∙ ap (map (in_part start)) (within-cut s start x now cut) in
+    record {
+      stands = λ before name d stands.
+          let P : List OutputBlock → Type 0 = λ bs. Stands r f before name rules d a w.out w.buffer bs in
+          stands-read r f a b read before name rules d w.out w.buffer [] (subst P none stands);
+      end = ap first_tick one ∙ sym (ap first_tick (ap (beyond s (since start)) is ∙ beyond-cut s start x now cut));
+      behind = ahead-parts (live_files r b) p p' ahead.lane x split one ∙ ap₂ (λ (n : ℕ) (bs : List OutputBlock). parts_from s n (x ∷ bs)) at same ∙ sym (behind-cut s start x now cut) ∙ ap (parts_behind s start) (sym is);
+      count = sym (ap (λ (bs : List OutputBlock). counted w.blocks (length bs)) none);
+      few = λ le. le;
+    }
+
+-- none is left at all
+pub over-ended : {S : Type 0} (r : Ghosts S) (f : writing.Ghosts S) (rules : List CueRule) (start : ℕ) (a b : S) (w : BlockWriter) (p p' : PlacedBlocks) → OnlyRead r f a b → left (live_files r a) p.merge ≡ [] → TakesRest r f rules (split_in p) start [] a b w w p.merge p' None
+over-ended r f rules start a b w p p' read is =
+    let s = split_in p in
+    let none : in_part_from s start [] (left (live_files r a) p.merge) ≡ [] = ap (in_part_from s start []) is in
+    record {
+      stands = λ before name d stands.
+          let P : List OutputBlock → Type 0 = λ bs. Stands r f before name rules d a w.out w.buffer bs in
+          stands-read r f a b read before name rules d w.out w.buffer [] (subst P none stands);
+      end = sym (ap (λ (bs : List OutputBlock). first_tick (beyond s (since start) bs)) is);
+      behind = sym (ap (parts_behind s start) is);
+      count = sym (ap (λ (bs : List OutputBlock). counted w.blocks (length bs)) none);
+      few = λ le. le;
+    }
+
 -- ---- after some calls
 
 -- the output can take more
-pub can-again : {S : Type 0} (r : Ghosts S) (f : writing.Ghosts S) (a b : S) (w w' : BlockWriter) (m m' : MergeSeen) → CanTake r f a w m → w'.out.file ≡ w.out.file → IsOpen r b w'.out → KeepsOthers r f (f.holder a w.out.file.n ∷ []) a b → GoesOn r a b m m' → CanTake r f b w' m'
-can-again r f a b w w' m m' can file is_open kept goes =
-    let P : List ℕ → Type 0 = λ name. IsApart (f.holder b) (name ∷ []) m' in
-    let named : f.holder b w'.out.file.n ≡ f.holder a w.out.file.n = ap (λ (id : FileId). f.holder b id.n) file ∙ kept.holders w.out.file.n can.is_open.live in
+pub can-again : {S : Type 0} (r : Ghosts S) (f : writing.Ghosts S) (a b : S) (w w' : BlockWriter) (p p' : PlacedBlocks) → CanTake r f a w p → w'.out.file ≡ w.out.file → IsOpen r b w'.out → KeepsOthers r f (f.holder a w.out.file.n ∷ []) a b → GoesOn r 0 a b p p' → CanTake r f b w' p'
+can-again r f a b w w' p p' can file is_open kept goes =
+    let P : List ℕ → Type 0 = λ name. IsApart (f.holder b) (name ∷ []) p'.merge in
+    let named : f.holder b w'.out.file.n ≡ f.holder a w.out.file.n = ap (λ id. f.holder b id.n) file ∙ kept.holders w.out.file.n can.is_open.live in
     record {
       is_open = is_open;
-      few = omega (arith, count-kept m.queues m'.queues goes.lanes, can.few);
-      ready = goes.ready;
-      apart = subst P (sym named) (apart-same (f.holder b) (f.holder a w.out.file.n ∷ []) m m' goes.lanes (apart-kept r f (f.holder a w.out.file.n ∷ []) a b m kept can.ready can.apart));
+      gives = goes.gives;
+      apart = subst P (sym named) (apart-same (f.holder b) (f.holder a w.out.file.n ∷ []) p.merge p'.merge goes.lanes (apart-kept r f (f.holder a w.out.file.n ∷ []) a b p.merge kept can.gives.ready can.apart));
     }
 
--- no block is left, and the last Cluster is written
-pub ends-all : {S T : Type 0} (r : Ghosts S) (f : writing.Ghosts S) (rules : List CueRule) (a b c : S) (w v w' : BlockWriter) (m m' : MergeSeen) (result : Result T RemuxEnd)
-    → (IsTold (live_files r a) m → StaysOnTheWay r f rules (left (live_files r a) m) (left (live_files r b) m') a b w v) → HasNone r a b m m'
-    → Ends r f b c v.out w'.out v.buffer result → TakesAll r f rules a c w w' m result
-ends-all r f rules a b c w v w' m m' (Ok done) takes none ends = λ told before name d cues stands.
-    let P : List OutputBlock → Type 0 = λ bs. Stands r f before name rules d b v.out v.buffer bs in
-    ends before name rules d (subst P (none.left told) (takes told before name d stands)) cues
-ends-all r f rules a b c w v w' m m' (Err end) takes none ends = λ told before name d stands.
-    let P : List OutputBlock → Type 0 = λ bs. Stands r f before name rules d b v.out v.buffer bs in
-    ends before name rules d (subst P (none.left told) (takes told before name d stands))
+-- nothing was done
+pub goes-none : {S : Type 0} (r : Ghosts S) (a : S) (p : PlacedBlocks) → CanGive (live_files r a) p → GoesOn r 0 a a p p
+goes-none r a p gives = record {
+  lanes = refl;
+  split = refl;
+  gives = gives;
+  length = refl;
+  paid = omega arith;
+  told = λ told. record { told = told; damages = refl };
+}
+
+-- two calls
+pub goes-then : {S : Type 0} (r : Ghosts S) (m n : ℕ) (a b c : S) (p q q' : PlacedBlocks) → GoesOn r m a b p q → GoesOn r n b c q q' → GoesOn r (m + n) a c p q'
+goes-then r m n a b c p q q' first next = record {
+  lanes = next.lanes ∙ first.lanes;
+  split = next.split ∙ first.split;
+  gives = next.gives;
+  length = next.length ∙ first.length;
+  paid = let one = first.paid in let other = next.paid in omega (arith, one, other);
+  told = λ told.
+      let here = first.told told in
+      let there = next.told here.told in
+      record { told = there.told; damages = there.damages ∙ here.damages };
+}
+
+-- the second of which reads no more than is due
+pub goes-more : {S : Type 0} (r : Ghosts S) (more : ℕ) (a b c : S) (p q q' : PlacedBlocks) → GoesOn r more a b p q → GoesOn r 0 b c q q' → GoesOn r more a c p q'
+goes-more r more a b c p q q' first next =
+    let same : more + 0 ≡ more = omega arith in
+    subst (λ (n : ℕ). GoesOn r n a c p q') same (goes-then r more 0 a b c p q q' first next)
+
+-- some blocks were taken, and then more
+pub some-then : {S : Type 0} (r : Ghosts S) (f : writing.Ghosts S) (rules : List CueRule) (s : Split) (start : ℕ) (a b c : S) (w v u : BlockWriter) (l m n : MergeSeen)
+    → TakesSome r f rules s start a b w v l m → TakesSome r f rules s start b c v u m n → TakesSome r f rules s start a c w u l n
+some-then r f rules s start a b c w v u l m n first next = record {
+  stands = λ before name d stands. next.stands before name d (first.stands before name d stands);
+  behind = next.behind ∙ first.behind;
+  count = next.count ∙ first.count;
+  few = λ le. next.few (first.few le);
+}
+
+-- some blocks were taken, and then the call is refused
+pub some-drafted : {S : Type 0} (r : Ghosts S) (f : writing.Ghosts S) (rules : List CueRule) (s : Split) (start : ℕ) (a b c : S) (w v : BlockWriter) (l m : MergeSeen)
+    → TakesSome r f rules s start a b w v l m → StaysDraft r f rules (rest_of_part (live_files r b) s start m) b c v → StaysDraft r f rules (rest_of_part (live_files r a) s start l) a c w
+some-drafted r f rules s start a b c w v l m first drafted before name d stands = drafted before name d (first.stands before name d stands)
+
+-- some, and then the rest
+pub rest-then : {S : Type 0} (r : Ghosts S) (f : writing.Ghosts S) (rules : List CueRule) (s : Split) (start : ℕ) (a b c : S) (w v u : BlockWriter) (l m : MergeSeen) (p : PlacedBlocks) (ahead : Option Ahead)
+    → TakesSome r f rules s start a b w v l m → TakesRest r f rules s start [] b c v u m p ahead → TakesRest r f rules s start [] a c w u l p ahead
+rest-then r f rules s start a b c w v u l m p ahead first next = record {
+  stands = λ before name d stands. next.stands before name d (first.stands before name d stands);
+  end = next.end ∙ ap first_tick first.behind;
+  behind = next.behind ∙ ap (λ (bs : List OutputBlock). parts_in s (sections_at s bs)) first.behind;
+  count = next.count ∙ first.count;
+  few = λ le. next.few (first.few le);
+}
+
+-- none has been taken
+pub some-none : {S : Type 0} (r : Ghosts S) (f : writing.Ghosts S) (rules : List CueRule) (s : Split) (start : ℕ) (a : S) (w : BlockWriter) (m : MergeSeen) → TakesSome r f rules s start a a w w m m
+some-none r f rules s start a w m = record { stands = λ before name d stands. stands; behind = refl; count = refl; few = λ le. le }
+
+-- the first block of a part was taken, and then the rest of it
+pub part-taken : {S : Type 0} (r : Ghosts S) (f : writing.Ghosts S) (rules : List CueRule) (s : Split) (start : ℕ) (a b c : S) (w v u : BlockWriter) (m : MergeSeen) (p : PlacedBlocks) (ahead : Option Ahead) (x : OutputBlock) (first : List OutputBlock) → first ≡ x ∷ []
+    → left (live_files r b) m ≡ left (live_files r a) m → v.blocks ≡ counted w.blocks 1 → ((others : List OutputBlock) → StaysOnTheWay r f rules (in_part start x ∷ others) others a b w v)
+    → TakesRest r f rules s start [] b c v u m p ahead → TakesRest r f rules s start first a c w u m p ahead
+part-taken r f rules s start a b c w v u m p ahead x first is same one takes rest =
+    let was = left (live_files r a) m in
+    let whole : TakesRest r f rules s start (x ∷ []) a c w u m p ahead = record {
+      stands = λ before name d stands.
+          let P : List OutputBlock → Type 0 = λ bs. Stands r f before name rules d b v.out v.buffer (in_part_from s start [] bs) in
+          rest.stands before name d (subst P (sym same) (takes (in_part_from s start [] was) before name d stands));
+      end = rest.end ∙ ap (λ (bs : List OutputBlock). first_tick (beyond s (since start) bs)) same;
+      behind = rest.behind ∙ ap (parts_behind s start) same;
+      count = rest.count ∙ ap₂ (λ (n : ℕ) (bs : List OutputBlock). counted n (length (in_part_from s start [] bs))) one same ∙ counted-next w.blocks (length (in_part_from s start [] was))
+          ∙ ap (counted w.blocks) (let more : 1 + length (in_part_from s start [] was) ≡ length (in_part start x ∷ in_part_from s start [] was) = omega arith in more);
+      few = λ le. rest.few (few-more w.blocks v.blocks 1 one);
+    } in
+    subst (λ (bs : List OutputBlock). TakesRest r f rules s start bs a c w u m p ahead) (sym is) whole
+
+-- a part without blocks
+pub part-none : {S : Type 0} (r : Ghosts S) (f : writing.Ghosts S) (rules : List CueRule) (s : Split) (start : ℕ) (a : S) (w : BlockWriter) (p : PlacedBlocks) → left (live_files r a) p.merge ≡ [] → TakesRest r f rules s start [] a a w w p.merge p None
+part-none r f rules s start a w p is =
+    let none : in_part_from s start [] (left (live_files r a) p.merge) ≡ [] = ap (in_part_from s start []) is in
+    record {
+      stands = λ before name d stands. let P : List OutputBlock → Type 0 = λ bs. Stands r f before name rules d a w.out w.buffer bs in subst P none stands;
+      end = sym (ap (λ (bs : List OutputBlock). first_tick (beyond s (since start) bs)) is);
+      behind = sym (ap (parts_behind s start) is);
+      count = sym (ap (λ (bs : List OutputBlock). counted w.blocks (length bs)) none);
+      few = λ le. le;
+    }
 
 -- ---- all lanes have ended
 
@@ -221,11 +358,88 @@ ended-told f (q ∷ qs) ready ended =
     ap₂ (λ (d : List ToldDamages) ds. d ∷ ds) (sym (lane-told f q.lane here (All-head (λ (each : Queue). lanes.IsEnded each.lane) q qs ended)))
     (ended-told f qs (All-tail (λ (each : Queue). lanes.IsReady f each.lane) q qs ready) (All-tail (λ (each : Queue). lanes.IsEnded each.lane) q qs ended))
 
-pub merge-ends : {S : Type 0} (r : Ghosts S) (a b : S) (m m' : MergeSeen) → GoesOn r a b m m' → HasNone r a b m m' → taking.Ends (live_files r a) m m'
-merge-ends r a b m m' goes none = record {
-  lanes = count-kept m.queues m'.queues goes.lanes;
-  all = λ told. record {
-    given = ap (λ bs. counted m'.given (length bs)) (sym (none.left told)) ∙ (goes.told told).given;
-    damages = ended-told (live_files r b) m'.queues goes.ready none.ended ∙ (goes.told told).damages;
-  };
+pub merge-ends : {S : Type 0} (r : Ghosts S) (more : ℕ) (a b : S) (p p' : PlacedBlocks) → GoesOn r more a b p p' → IsEnded p'.merge → Ends (live_files r a) p.merge p'.merge
+merge-ends r more a b p p' goes ended = record {
+  lanes = count-kept p.merge.queues p'.merge.queues goes.lanes;
+  damages = λ told. ended-told (live_files r b) p'.merge.queues goes.gives.ready ended ∙ (goes.told told).damages;
 }
+
+-- ---- what is written behind the last block
+
+pub parts-ahead-same : (f h : LiveFiles) (p : PlacedBlocks) (lane : Option ℕ) → left f p.merge ≡ left h p.merge → parts_ahead f p lane ≡ parts_ahead h p lane
+parts-ahead-same f h p None is = refl
+parts-ahead-same f h p (Some k) is = ap (λ (bs : List OutputBlock). parts_from (split_in p) (start_of p.cuts) (lent_at p.merge (Some k) ++ bs)) is
+
+module _ {S : Type 0} (r : Ghosts S) (f : writing.Ghosts S) (a b : S) (w : BlockWriter) (p : PlacedBlocks) (can : CanTake r f a w p) (kept : KeepsOthers r f (f.holder a w.out.file.n ∷ []) a b) (octets : r.octets_read b ≡ r.octets_read a) where
+  rest-among : StandsAmong (live_files r a) (live_files r b) p.merge
+  rest-among = stands-kept (live_files r a) (live_files r b) p.merge (keeps-merge r f (f.holder a w.out.file.n ∷ []) a b p.merge kept can.apart) can.gives.ready
+
+  pub rest-left : left (live_files r b) p.merge ≡ left (live_files r a) p.merge
+  rest-left = rest-among.left
+
+  pub rest-goes : GoesOn r 0 a b p p
+  rest-goes = record {
+    lanes = refl;
+    split = refl;
+    gives = record { ready = rest-among.ready; few = can.gives.few; drives = can.gives.drives; scales = can.gives.scales; scale = can.gives.scale; early = can.gives.early };
+    length = rest-among.length;
+    paid = let due = rest-among.due in omega (arith, due, octets);
+    told = λ told. record { told = rest-among.told told; damages = rest-among.damages };
+  }
+
+-- a call, and then one that may be refused
+pub goes-result : {S T E : Type 0} (r : Ghosts S) (a b c : S) (p q q' : PlacedBlocks) (result : Result T E) → GoesOn r 0 a b p q → Goes r 0 b c q q' result → Goes r 0 a c p q' result
+goes-result r a b c p q q' (Ok done) first next = goes-then r 0 0 a b c p q q' first next
+goes-result r a b c p q q' (Err end) first next = let paid = first.paid in let long = first.length in omega (arith, paid, long, next)
+
+-- the first block of a part, and then a call that may be refused
+pub part-then : {S : Type 0} (r : Ghosts S) (f : writing.Ghosts S) (rules : List CueRule) (start lane : ℕ) (a b c : S) (w v u : BlockWriter) (p p' : PlacedBlocks) (x : OutputBlock) (result : Result (Option Ahead) RemuxEnd) → lent_at p.merge (Some lane) ≡ x ∷ []
+    → left (live_files r b) p.merge ≡ left (live_files r a) p.merge → v.blocks ≡ counted w.blocks 1 → ((others : List OutputBlock) → StaysOnTheWay r f rules (in_part start x ∷ others) others a b w v)
+    → TakesAll r f rules start [] b c v u p p' result → TakesAll r f rules start (lent_at p.merge (Some lane)) a c w u p p' result
+part-then r f rules start lane a b c w v u p p' x (Ok ahead) is same one takes rest = part-taken r f rules (split_in p) start a b c w v u p.merge p' ahead x (lent_at p.merge (Some lane)) is same one takes rest
+part-then r f rules start lane a b c w v u p p' x (Err end) is same one takes drafted = λ before name d stands.
+    let s = split_in p in
+    let P : List OutputBlock → Type 0 = λ bs. Stands r f before name rules d b v.out v.buffer (in_part_from s start [] bs) in
+    let Q : List OutputBlock → Type 0 = λ first. Stands r f before name rules d a w.out w.buffer (in_part_from s start first (left (live_files r a) p.merge)) in
+    drafted before name d (subst P (sym same) (takes (in_part_from s start [] (left (live_files r a) p.merge)) before name d (subst Q is stands)))
+
+-- the first block couldn't be added
+pub first-drafted : {S : Type 0} (r : Ghosts S) (f : writing.Ghosts S) (rules : List CueRule) (s : Split) (start : ℕ) (a b : S) (w : BlockWriter) (x : OutputBlock) (first bs : List OutputBlock) → first ≡ x ∷ [] → ((others : List OutputBlock) → StaysDraft r f rules (in_part start x ∷ others) a b w)
+    → StaysDraft r f rules (in_part_from s start first bs) a b w
+first-drafted r f rules s start a b w x first bs is drafted before name d stands =
+    let Q : List OutputBlock → Type 0 = λ each. Stands r f before name rules d a w.out w.buffer (in_part_from s start each bs) in
+    drafted (in_part_from s start [] bs) before name d (subst Q is stands)
+
+-- two calls that write into one output
+pub writes-then : {S T U : Type 0} (r : Ghosts S) (f : writing.Ghosts S) (a b c : S) (w v u : BlockWriter) (done : T) (result : Result U RemuxEnd) → IsOpen r a w.out → WritesInto r f a b w v (Ok done) → WritesInto r f b c v u result → WritesInto r f a c w u result
+writes-then r f a b c w v u done result is_open first next =
+    let named : f.holder b v.out.file.n ≡ f.holder a w.out.file.n = ap (λ (id : FileId). f.holder b id.n) first.file ∙ first.kept.holders w.out.file.n is_open.live in
+    let P : List ℕ → Type 0 = λ name. KeepsOthers r f (name ∷ []) b c in
+    record {
+      file = next.file ∙ first.file;
+      is_open = next.is_open;
+      kept = KeepsOthers-then r f (f.holder a w.out.file.n ∷ []) a b c first.kept (subst P named next.kept);
+    }
+
+-- the last Cluster is written
+pub fills-part : {S : Type 0} (r : Ghosts S) (f : writing.Ghosts S) (o : OutputSpec) (rules : List CueRule) (part : PartStart) (a b c : S) (w v u : BlockWriter) (p p' : PlacedBlocks) (ahead : Option Ahead) (chapters : Option Node) (end : Option ℕ) → rules ≡ o.rules
+    → TakesRest r f rules (split_in p) part.start (lent_at p.merge part.lane) a b w v p.merge p' ahead → end ≡ first_tick (lent_at p'.merge (lane_of ahead)) → chapters ≡ chapters_cut o part.start end
+    → left (live_files r c) p'.merge ≡ left (live_files r b) p'.merge → runs.Ends {T = Unit {0}} {E = RemuxEnd} r f b c v.out u.out v.buffer (Ok tt) → u.blocks ≡ v.blocks
+    → FillsPart r f o part a c w u p p' (record { ahead = ahead; chapters = chapters })
+fills-part r f o rules part a b c w v u p p' ahead chapters end are rest at cut same ends blocks = record {
+  all = λ before name d cues stands.
+      let P : List CueRule → Type 0 = λ each. Stands r f before name each d a w.out w.buffer (in_part_from (split_in p) part.start (lent_at p.merge part.lane) (left (live_files r a) p.merge)) in
+      ends before name rules d (rest.stands before name d (subst P (sym are) stands)) (cues ∙ ap (λ (each : List CueRule). cues_for (is_cue each) d.front d.clusters) (sym are));
+  chapters = cut ∙ ap (chapters_cut o part.start) (at ∙ rest.end);
+  count = ap (λ (n : ℕ). counted n 0) blocks ∙ rest.count;
+  behind = parts-ahead-same (live_files r c) (live_files r b) p' (lane_of ahead) same ∙ rest.behind;
+  few = λ le. let most = rest.few le in omega (arith, blocks, most);
+}
+
+-- it couldn't be
+pub fills-none : {S : Type 0} (r : Ghosts S) (f : writing.Ghosts S) (o : OutputSpec) (rules : List CueRule) (start : ℕ) (first : List OutputBlock) (a b : S) (w v : BlockWriter) (p p' : PlacedBlocks) (ahead : Option Ahead) (now : S) → rules ≡ o.rules
+    → TakesRest r f rules (split_in p) start first a b w v p.merge p' ahead → ((before : Names) (name : List ℕ) (d : Document) → Stands r f before name rules d b v.out v.buffer [] → StandsDrafted before (f.names now) (draft_of name d))
+    → StaysDraft r f o.rules (in_part_from (split_in p) start first (left (live_files r a) p.merge)) a now w
+fills-none r f o rules start first a b w v p p' ahead now are rest drafted = λ before name d stands.
+    let P : List CueRule → Type 0 = λ each. Stands r f before name each d a w.out w.buffer (in_part_from (split_in p) start first (left (live_files r a) p.merge)) in
+    drafted before name d (rest.stands before name d (subst P (sym are) stands))

@@ -1,5 +1,6 @@
+pub mod Places
+pub mod Taking
 pub mod Output
 pub mod Plan
 pub mod Started
-pub mod Taking
 pub mod Told

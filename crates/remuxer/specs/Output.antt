@@ -1,37 +1,262 @@
--- A whole output: what it is to be, and what stands of it.
-use Rattle.std.specs.Prelude.{◌≡◌, ℕ, List, [], ◌∷◌, All, IfSome, Option, Result, Ok, Err}
+-- The outputs of a merge, one after the other: what they are to be, and what stands of them.
+use Rattle.std.specs.Prelude.{◌≡◌, ◌≤◌, ⊤, ℕ, ◌+◌, ◌*◌, Bool, true, false, if◌then◌else◌, List, [], ◌∷◌, ◌++◌, All, IfOk, IfSome, length, map, sum_by, Option, Some, None, Result, Ok, Err}
+use Rattle.std.specs.Option.{option_and_then}
+use Rattle.mkv_io.specs.Faults.{counted, last_count}
 use Rattle.mkv_io.specs.LiveFiles.{LiveFiles}
-use Rattle.mkv_io.specs.Names.{Names}
+use Rattle.mkv_io.specs.Names.{Names, with_content}
+use Rattle.mkv_io.specs.Sources.{live_files}
+use Rattle.mkv_io.specs.Writing.{KeepsOthers}
 use Rattle.mkv_io.specs.declared.reads.Reads.{Ghosts}
 use Rattle.mkv_io.specs.declared.files.Files as writing
+use Rattle.mkv_values.specs.declared.outside.ReadEnd.{ReadEnd}
 use Rattle.mkv_jobs.specs.declared.remux_end.RemuxEnd.{RemuxEnd}
-use Rattle.mkv_outputs.specs.Drafts.{StandsInTurn}
+use Rattle.mkv_outputs.specs.Drafts.{Draft, StandsInTurn, output_of, outputs_of}
+use Rattle.mkv_outputs.specs.Outputs.{Output, with_outputs}
 use Rattle.mkv_schema.specs.declared.ids.TheConstants.{INFO, TRACKS, CHAPTERS, TAGS}
 use Rattle.tree_format.specs.Node.{Node, id_of}
-use Rattle.output_model.specs.OutputBlock.{OutputBlock}
-use Rattle.output_model.specs.Document.{Document}
-use Rattle.segment_octets.specs.Front.{front_with}
+use Rattle.tree_building.specs.Building.{IsRead}
+use Rattle.chapter_changes.specs.Cut.{cut}
+use Rattle.attachment_records.specs.declared.attachment.Attachment.{Attachment}
+use Rattle.output_model.specs.Document.{Document, layout}
 use Rattle.segment_octets.specs.declared.front.Front.{Front}
 use Rattle.cues_seekhead.specs.Draft.{draft_of}
-use Rattle.cues_seekhead.specs.Finished.{HoldsLayout}
 use Rattle.cues_seekhead.specs.OpenOutput.{CanAttach}
-use Rattle.cluster_runs.specs.Cued.{document_of}
-use Rattle.remuxer.specs.declared.output.OutputSpec.{OutputSpec}
+use Rattle.lane_blocks.specs.declared.link.Link.{Link}
+use Rattle.lane_blocks.specs.declared.link.Link.TheVariants.{Track, Entries}
+use Rattle.time_merge.specs.Laws.{IsApart}
+use Rattle.time_merge.specs.Merge.{IsTold, MergeSeen, damages, due, files_length, left, way}
+use Rattle.time_merge.specs.declared.queue.Queue.{Queue}
+use Rattle.splitter.specs.Sections.{Part, parts}
+use Rattle.placed_merge.specs.declared.placing.Ahead.{Ahead}
+use Rattle.remux_plan.specs.Parts.{PlannedOutput, document_with, may_be_written, name_of, outputs_from, stretch_of}
+use Rattle.remux_plan.specs.Summary.{written_of}
+use Rattle.remux_plan.specs.declared.output.OutputSpec.{OutputSpec}
+use Rattle.remux_plan.specs.declared.summary.Written.{Written}
+use Rattle.remuxer.specs.Places.{CanBegin, CanGive, IsToldFrom, StandsAhead, lane_of, lent_at, part_from, parts_ahead, parts_behind, split_in, way_ahead}
+use Rattle.remuxer.specs.Taking.{CanTake, GetsAll, StaysDraft, told_by}
+use Rattle.remuxer.specs.declared.output.Filled.{Filled}
+use Rattle.remuxer.specs.declared.output.WrittenPart.{WrittenPart}
+use Rattle.remuxer.specs.declared.placed.PartStart.{PartStart}
+use Rattle.remuxer.specs.declared.placed.PlacedBlocks.{PlacedBlocks}
+use Rattle.remuxer.specs.declared.writer.BlockWriter.{BlockWriter}
 
--- What stands in front of its Clusters and behind them are Elements of their IDs, and its attachments can be attached.
+-- ---- what is asked of them
+
+-- What stands in front of the Clusters of an output and behind them are Elements of their IDs, Chapters can be read, and the attachments can be attached.
 pub record HasRecords {S : Type 0} (r : Ghosts S) (f : writing.Ghosts S) (files : S) (name : List ℕ) (front : Front) (its_chapters its_tags : Option Node) : Type 0 where
   pub info : id_of front.info ≡ INFO
   pub tracks : id_of front.tracks ≡ TRACKS
   pub attached : All (CanAttach r f files name) front.attachments
-  pub chapters : IfSome its_chapters (λ n. id_of n ≡ CHAPTERS)
+  pub chapters : IfSome its_chapters (IsRead CHAPTERS)
   pub tags : IfSome its_tags (λ n. id_of n ≡ TAGS)
 
--- an output with these blocks, among these files
-abbrev pub document_with : LiveFiles → OutputSpec → List OutputBlock → Document
-document_with f s blocks = document_of s.limits s.rules (front_with f s.front) s.chapters s.tags blocks
+-- No file of a link was opened under a name that may be written.
+abbrev pub IsUnwrittenLink : (ℕ → List ℕ) → Bool → List ℕ → Link → Type 0
+IsUnwrittenLink holder split output (Track t) = may_be_written split output (holder t.file.n) ≡ false
+IsUnwrittenLink holder split output (Entries e) = ⊤
 
--- The document's octets stand under the name, and this is how many they are. After a refusal it stands as a draft, or
--- the name is as before. No other name changes.
-abbrev pub Writes : Names → Names → List ℕ → Document → Result ℕ RemuxEnd → Type 0
-Writes old new name d (Ok len) = HoldsLayout old new name d len
+abbrev pub IsUnwritten : (ℕ → List ℕ) → Bool → List ℕ → MergeSeen → Type 0
+IsUnwritten holder split output m = All (λ (q : Queue). All (IsUnwrittenLink holder split output) q.lane.links) m.queues
+
+-- An output of this name can be written of the part that begins so: its blocks can be given, their ticks are those of the output, no file of a
+-- link was opened under the name, and what stands around the Clusters can be written.
+pub record CanWrite {S : Type 0} (r : Ghosts S) (f : writing.Ghosts S) (files : S) (o : OutputSpec) (name : List ℕ) (p : PartStart) (b : PlacedBlocks) : Type 0 where
+  pub gives : CanGive (live_files r files) b
+  pub begins : CanBegin b p
+  pub scale : b.cuts.scale ≡ o.limits.scale
+  pub apart : IsApart (f.holder files) (name ∷ []) b.merge
+  pub records : HasRecords r f files name o.front o.chapters o.tags
+
+-- how many octets the data of the attachments are
+abbrev pub data_of : OutputSpec → ℕ
+data_of o = sum_by (λ (a : Attachment). a.len) o.front.attachments
+
+-- ---- one output
+
+-- the part that begins so, of the blocks that are left
+abbrev pub part_in : LiveFiles → PlacedBlocks → PartStart → Part
+part_in f b p = part_from (split_in b) p.start (lent_at b.merge p.lane) (left f b.merge)
+
+-- The octets of the document stand under the name, and no other name changes; they are what its draft becomes.
+pub record WritesLayout (old new : Names) (name : List ℕ) (d : Document) : Type 0 where
+  pub names : new ≡ with_content old name (layout d)
+  pub becomes : output_of (draft_of name d) ≡ record { name = name; content = layout d }
+
+-- After a refusal the output stands as a draft, or the name is as before. No other name changes.
+abbrev pub Writes : {T : Type 0} → Names → Names → List ℕ → Document → Result T RemuxEnd → Type 0
+Writes old new name d (Ok _) = WritesLayout old new name d
 Writes old new name d (Err _) = StandsInTurn old new (draft_of name d ∷ [])
+
+-- Where the links' files are told, it has the blocks of the part that begins so.
+abbrev pub WritesPart : {S T : Type 0} → Ghosts S → writing.Ghosts S → S → S → OutputSpec → List ℕ → PartStart → PlacedBlocks → Result T RemuxEnd → Type 0
+WritesPart r f old new o name p b result =
+    IsToldFrom (live_files r old) b p.lane → Writes (f.names old) (f.names new) name (document_with (live_files r old) o (part_in (live_files r old) b p)) result
+
+-- what is cut out of its Chapters for a part from one tick to another, where an output is split
+abbrev pub chapters_cut : OutputSpec → ℕ → Option ℕ → Option Node
+chapters_cut o start end = if o.split then option_and_then (cut (stretch_of o.limits.scale start end)) o.chapters else None
+
+-- the Chapters of a part, for which these were cut out
+abbrev pub chapters_in : OutputSpec → Option Node → Option Node
+chapters_in o part = if o.split then part else o.chapters
+
+-- An output that takes blocks can be filled with the part that begins so.
+pub record CanFill {S : Type 0} (r : Ghosts S) (f : writing.Ghosts S) (files : S) (o : OutputSpec) (p : PartStart) (w : BlockWriter) (b : PlacedBlocks) : Type 0 where
+  pub can : CanTake r f files w b
+  pub begins : CanBegin b p
+  pub scale : b.cuts.scale ≡ o.limits.scale
+  pub chapters : IfSome o.chapters (IsRead CHAPTERS)
+
+-- It has all its Clusters, with as many blocks as the part has, and its Chapters were cut; the parts behind it are those that were left.
+pub record FillsPart {S : Type 0} (r : Ghosts S) (f : writing.Ghosts S) (o : OutputSpec) (p : PartStart) (old new : S) (w w' : BlockWriter) (b b' : PlacedBlocks) (filled : Filled) : Type 0 where
+  pub all : GetsAll r f o.rules (part_in (live_files r old) b p).blocks old new w w'
+  pub chapters : filled.chapters ≡ chapters_cut o p.start (part_in (live_files r old) b p).end
+  pub count : counted w'.blocks 0 ≡ counted w.blocks (length (part_in (live_files r old) b p).blocks)
+  pub few : w.blocks ≤ last_count → w'.blocks ≤ last_count
+  pub behind : parts_ahead (live_files r new) b' (lane_of filled.ahead) ≡ parts_behind (split_in b) p.start (left (live_files r old) b.merge)
+
+-- After a refusal it stands as a draft.
+abbrev pub FillsTold : {S : Type 0} → Ghosts S → writing.Ghosts S → OutputSpec → PartStart → S → S → BlockWriter → BlockWriter → PlacedBlocks → PlacedBlocks → Result Filled RemuxEnd → Type 0
+FillsTold r f o p old new w w' b b' (Ok filled) = FillsPart r f o p old new w w' b b' filled
+FillsTold r f o p old new w w' b b' (Err _) = StaysDraft r f o.rules (part_in (live_files r old) b p).blocks old new w
+
+-- So it is where the links' files are told.
+abbrev pub Fills : {S : Type 0} → Ghosts S → writing.Ghosts S → OutputSpec → PartStart → S → S → BlockWriter → BlockWriter → PlacedBlocks → PlacedBlocks → Result Filled RemuxEnd → Type 0
+Fills r f o p old new w w' b b' result = IsToldFrom (live_files r old) b p.lane → FillsTold r f o p old new w w' b b' result
+
+-- It has so many blocks, and the parts behind it are those that were left.
+pub record HasWritten (f h : LiveFiles) (p : PartStart) (b b' : PlacedBlocks) (w : WrittenPart) : Type 0 where
+  pub count : w.blocks ≡ counted 0 (length (part_in f b p).blocks)
+  pub behind : parts_ahead h b' (lane_of w.ahead) ≡ parts_behind (split_in b) p.start (left f b.merge)
+
+-- So it is where the links' files are told. A block is ahead, or all lanes have ended; and no more turns are left.
+pub record StandsWritten (f h : LiveFiles) (p : PartStart) (b b' : PlacedBlocks) (w : WrittenPart) : Type 0 where
+  pub told : IsToldFrom f b p.lane → HasWritten f h p b b' w
+  pub stands : StandsAhead b' w.ahead
+  pub on : way_ahead b' (lane_of w.ahead) ≤ way b.merge
+
+-- ---- all of them
+
+-- the parts from one that begins so
+abbrev pub parts_begun : LiveFiles → PlacedBlocks → Option PartStart → List Part
+parts_begun f b None = []
+parts_begun f b (Some p) = part_in f b p ∷ parts_behind (split_in b) p.start (left f b.merge)
+
+-- at most so many turns are left, and one where a part can be begun
+abbrev pub turns_left : PlacedBlocks → Option PartStart → ℕ
+turns_left b None = way b.merge
+turns_left b (Some p) = way b.merge + 1
+
+-- A part can be begun, or all lanes have ended.
+abbrev pub CanBeNext : PlacedBlocks → Option PartStart → Type 0
+CanBeNext b None = StandsAhead b None
+CanBeNext b (Some p) = CanBegin b p
+
+abbrev pub IsToldNext : LiveFiles → PlacedBlocks → Option PartStart → Type 0
+IsToldNext f b None = ⊤
+IsToldNext f b (Some p) = IsToldFrom f b p.lane
+
+-- The part that is next can be begun; no more turns are left than these; and where the links' files were told, these are the parts.
+pub record FindsPart (f h : LiveFiles) (turns : ℕ) (parts : List Part) (b b' : PlacedBlocks) (p : Option PartStart) : Type 0 where
+  pub begins : CanBeNext b' p
+  pub on : turns_left b' p ≤ turns
+  pub told : IsTold f b.merge → IsToldNext h b' p
+  pub found : IsTold f b.merge → parts_begun h b' p ≡ parts
+
+-- From what is ahead the next part is found, of those that were left.
+abbrev pub FindsBehind : {S : Type 0} → Ghosts S → S → S → PlacedBlocks → PlacedBlocks → Option Ahead → Result (Option PartStart) ReadEnd → Type 0
+FindsBehind r old new b b' ahead result =
+    IfOk result (FindsPart (live_files r old) (live_files r new) (way_ahead b (lane_of ahead)) (parts_ahead (live_files r old) b (lane_of ahead)) b b')
+
+-- The first part is found, of all.
+abbrev pub FindsFirst : {S : Type 0} → Ghosts S → S → S → PlacedBlocks → PlacedBlocks → Result (Option PartStart) ReadEnd → Type 0
+FindsFirst r old new b b' result =
+    IfOk result (FindsPart (live_files r old) (live_files r new) (way b.merge + 1) (parts (split_in b) (left (live_files r old) b.merge)) b b')
+
+-- the name of the output behind those that were written
+abbrev pub next_name : OutputSpec → List Written → List ℕ
+next_name o written = name_of o.split o.name (length written + 1)
+
+-- The output of the part that begins so can be written behind these; no file of a link was opened under a name that may be written.
+pub record CanWriteNext {S : Type 0} (r : Ghosts S) (f : writing.Ghosts S) (files : S) (o : OutputSpec) (written : List Written) (p : PartStart) (b : PlacedBlocks) : Type 0 where
+  pub gives : CanGive (live_files r files) b
+  pub begins : CanBegin b p
+  pub scale : b.cuts.scale ≡ o.limits.scale
+  pub apart : IsUnwritten (f.holder files) o.split o.name b.merge
+  pub records : HasRecords r f files (next_name o written) o.front o.chapters o.tags
+
+-- One output more stands, and is among those that were written; the parts from the next one on are those that were left.
+pub record WritesOne {S : Type 0} (r : Ghosts S) (f : writing.Ghosts S) (p : PartStart) (old new : S) (o : OutputSpec) (b b' : PlacedBlocks) (written written' : List Written) (next : Option PartStart) : Type 0 where
+  pub writes : WritesLayout (f.names old) (f.names new) (next_name o written) (document_with (live_files r old) o (part_in (live_files r old) b p))
+  pub added : written' ≡ written ++ record { name = next_name o written; blocks = counted 0 (length (part_in (live_files r old) b p).blocks) } ∷ []
+  pub told : IsToldNext (live_files r new) b' next
+  pub behind : parts_begun (live_files r new) b' next ≡ parts_behind (split_in b) p.start (left (live_files r old) b.merge)
+
+-- After a refusal it stands as a draft, or whole, or its name is as before.
+abbrev pub WritesTold : {S : Type 0} → Ghosts S → writing.Ghosts S → PartStart → S → S → OutputSpec → PlacedBlocks → PlacedBlocks → List Written → List Written → Result (Option PartStart) RemuxEnd → Type 0
+WritesTold r f p old new o b b' written written' (Ok next) = WritesOne r f p old new o b b' written written' next
+WritesTold r f p old new o b b' written written' (Err _) =
+    StandsInTurn (f.names old) (f.names new) (draft_of (next_name o written) (document_with (live_files r old) o (part_in (live_files r old) b p)) ∷ [])
+
+-- So it is where the links' files are told.
+abbrev pub WritesNext : {S : Type 0} → Ghosts S → writing.Ghosts S → PartStart → S → S → OutputSpec → PlacedBlocks → PlacedBlocks → List Written → List Written → Result (Option PartStart) RemuxEnd → Type 0
+WritesNext r f p old new o b b' written written' result = IsToldFrom (live_files r old) b p.lane → WritesTold r f p old new o b b' written written' result
+
+-- The next part can be begun; no attachments are left; and no more turns are.
+pub record FindsNext (o o' : OutputSpec) (b b' : PlacedBlocks) (written written' : List Written) (next : Option PartStart) : Type 0 where
+  pub begins : CanBeNext b' next
+  pub spec : o' ≡ record o { front = record o.front { attachments = [] } }
+  pub count : length written' ≡ length written + 1
+  pub on : turns_left b' next ≤ way b.merge
+
+-- what outputs are on the way, and when they stand
+abbrev pub drafts_of : List PlannedOutput → List Draft
+drafts_of outputs = map (λ (o : PlannedOutput). draft_of o.name o.document) outputs
+
+abbrev pub laid_out : PlannedOutput → Output
+laid_out o = record { name = o.name; content = layout o.document }
+
+-- The octets of all documents stand under their names, and no other name changes; they are what the drafts become.
+pub record WritesAll (old new : Names) (outputs : List PlannedOutput) : Type 0 where
+  pub names : new ≡ with_outputs old (map laid_out outputs)
+  pub become : outputs_of (drafts_of outputs) ≡ map laid_out outputs
+
+-- After a refusal some first outputs stand whole, and the next one as a draft; every other name is as before.
+abbrev pub WritesOutputs : {T : Type 0} → Names → Names → List PlannedOutput → Result T RemuxEnd → Type 0
+WritesOutputs old new outputs (Ok _) = WritesAll old new outputs
+WritesOutputs old new outputs (Err _) = StandsInTurn old new (drafts_of outputs)
+
+-- Outputs can be written of all parts: no block was placed, and what stands around the Clusters of the first can be written.
+pub record CanWriteAll {S : Type 0} (r : Ghosts S) (f : writing.Ghosts S) (files : S) (o : OutputSpec) (b : PlacedBlocks) : Type 0 where
+  pub gives : CanGive (live_files r files) b
+  pub fresh : b.cuts.start ≡ None
+  pub scale : b.cuts.scale ≡ o.limits.scale
+  pub apart : IsUnwritten (f.holder files) o.split o.name b.merge
+  pub records : HasRecords r f files (name_of o.split o.name 1) o.front o.chapters o.tags
+
+-- the outputs of all parts of the blocks that are left
+abbrev pub outputs_left : LiveFiles → OutputSpec → PlacedBlocks → List PlannedOutput
+outputs_left f o b = outputs_from f o 1 (parts (split_in b) (left f b.merge))
+
+-- Where the links' files are told, these are written,
+abbrev pub WritesParts : {S T : Type 0} → Ghosts S → writing.Ghosts S → S → S → OutputSpec → PlacedBlocks → Result T RemuxEnd → Type 0
+WritesParts r f old new o b result = IsTold (live_files r old) b.merge → WritesOutputs (f.names old) (f.names new) (outputs_left (live_files r old) o b) result
+
+-- and so it is said.
+abbrev pub SaysWritten : {S : Type 0} → Ghosts S → S → OutputSpec → PlacedBlocks → Result (List Written) RemuxEnd → Type 0
+SaysWritten r old o b result = IsTold (live_files r old) b.merge → IfOk result (λ written. written ≡ map written_of (outputs_left (live_files r old) o b))
+
+-- Of each of the links' files what is due and two octets more may be read, and the data of the attachments.
+abbrev pub ReadsParts : {S : Type 0} → Ghosts S → S → S → OutputSpec → PlacedBlocks → Type 0
+ReadsParts r old new o b = r.octets_read new ≤ r.octets_read old + due (live_files r old) b.merge + 2 * files_length (live_files r old) b.merge + data_of o
+
+-- No file stays open, and the files of all names stay but of those that may be written.
+pub record KeepsUnwritten {S : Type 0} (r : Ghosts S) (f : writing.Ghosts S) (split : Bool) (output : List ℕ) (old new : S) : Type 0 where
+  pub names : List (List ℕ)
+  pub form : All (λ name. may_be_written split output name ≡ true) names
+  pub kept : KeepsOthers r f names old new
+
+-- It has as many lanes as before, and has told all damages where the links' files are told.
+pub record Ends (f : LiveFiles) (m m' : MergeSeen) : Type 0 where
+  pub lanes : length m'.queues ≡ length m.queues
+  pub damages : IsTold f m → told_by m' ≡ damages f m

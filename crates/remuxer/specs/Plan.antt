@@ -1,46 +1,42 @@
 -- A plan that can be written, and what becomes of it.
-use Rattle.std.specs.Prelude.{◌≡◌, ◌<◌, ◌≤◌, ℕ, ◌+◌, ◌*◌, List, [], ◌∷◌, All, IfOk, length, sum_by, Result, Ok, Err}
+use Rattle.std.specs.Prelude.{◌≡◌, ◌<◌, ◌≤◌, ℕ, ◌+◌, ◌*◌, Bool, List, All, IfOk, length, sum_by, Result}
 use Rattle.mkv_io.specs.LiveFiles.{LiveFiles}
-use Rattle.mkv_io.specs.Names.{Names, with_content}
 use Rattle.mkv_io.specs.Sources.{live_files}
 use Rattle.mkv_io.specs.declared.reads.Reads.{Ghosts}
 use Rattle.mkv_io.specs.declared.files.Files as writing
 use Rattle.mkv_jobs.specs.declared.remux_end.RemuxEnd.{RemuxEnd}
-use Rattle.mkv_outputs.specs.Drafts.{StandsInTurn, output_of}
 use Rattle.attachment_records.specs.declared.attachment.Attachment.{Attachment}
 use Rattle.output_model.specs.declared.TheConstants.{MOST_LANES}
-use Rattle.output_model.specs.Document.{Document, layout}
 use Rattle.merge_model.specs.declared.limits.TheConstants.{MOST_LINKS}
 use Rattle.lane_blocks.specs.Links.{IsOpenLink, IsSmallLink, IsToldLink}
 use Rattle.lanes.specs.Walks.{files_length}
-use Rattle.time_merge.specs.Laws.{IsApartLink}
-use Rattle.cues_seekhead.specs.Draft.{draft_of}
-use Rattle.remux_plan.specs.Plan.{document_in}
+use Rattle.remux_plan.specs.Parts.{is_split, name_of, outputs_in}
 use Rattle.remux_plan.specs.Summary.{IsSummary}
-use Rattle.remux_plan.specs.declared.TheConstants.{MOST_INPUTS}
+use Rattle.remux_plan.specs.declared.TheConstants.{MOST_INPUTS, MOST_SCALE}
 use Rattle.remux_plan.specs.declared.plan.MergePlan.{MergePlan}
 use Rattle.remux_plan.specs.declared.plan.PlannedLane.{PlannedLane}
 use Rattle.remux_plan.specs.declared.summary.Summary.{Summary}
-use Rattle.remuxer.specs.Output.{HasRecords}
+use Rattle.remuxer.specs.Output.{HasRecords, IsUnwrittenLink, WritesOutputs}
 
 -- ---- what is asked of a plan
 
 -- A lane has at most 64 links, which keep the limits of what a lane lends, and of each the number of its input. Their
--- files are live, and none of them was opened under the output's name.
-pub record IsPlannedLane {S : Type 0} (r : Ghosts S) (f : writing.Ghosts S) (files : S) (name : List ℕ) (l : PlannedLane) : Type 0 where
+-- files are live, and none of them was opened under a name that may be written.
+pub record IsPlannedLane {S : Type 0} (r : Ghosts S) (f : writing.Ghosts S) (files : S) (split : Bool) (output : List ℕ) (l : PlannedLane) : Type 0 where
   pub few : length l.spec.links ≤ MOST_LINKS
   pub small : All IsSmallLink l.spec.links
   pub live : All (IsOpenLink (live_files r files)) l.spec.links
-  pub apart : All (IsApartLink (f.holder files) (name ∷ [])) l.spec.links
+  pub apart : All (IsUnwrittenLink (f.holder files) split output) l.spec.links
   pub numbered : length l.inputs ≡ length l.spec.links
   pub inputs : All (λ input. input < MOST_INPUTS) l.inputs
 
--- A tick has nanoseconds, there are at most 64 lanes, and what stands around the Clusters can be written.
+-- A tick has nanoseconds, but not too many; there are at most 64 lanes, and what stands around the Clusters can be written.
 pub record IsPlan {S : Type 0} (r : Ghosts S) (f : writing.Ghosts S) (files : S) (p : MergePlan) : Type 0 where
   pub scale : 1 ≤ p.limits.scale
+  pub scale_most : p.limits.scale ≤ MOST_SCALE
   pub few : length p.lanes ≤ MOST_LANES
-  pub lanes : All (IsPlannedLane r f files p.output) p.lanes
-  pub records : HasRecords r f files p.output p.front p.chapters p.tags
+  pub lanes : All (IsPlannedLane r f files (is_split p.split) p.output) p.lanes
+  pub records : HasRecords r f files (name_of (is_split p.split) p.output 1) p.front p.chapters p.tags
 
 -- The files of all links tell their contents.
 abbrev pub IsToldPlan : LiveFiles → MergePlan → Type 0
@@ -60,19 +56,9 @@ data_length p = sum_by (λ (a : Attachment). a.len) p.front.attachments
 abbrev pub ReadsFew : {S : Type 0} → Ghosts S → S → S → MergePlan → Type 0
 ReadsFew r old new p = r.octets_read new ≤ r.octets_read old + 6 * inputs_length (live_files r old) p + data_length p
 
--- The octets of the document stand under the name, and no other name changes; they are what its draft becomes.
-pub record WritesLayout (old new : Names) (name : List ℕ) (d : Document) : Type 0 where
-  pub names : new ≡ with_content old name (layout d)
-  pub becomes : output_of (draft_of name d) ≡ record { name = name; content = layout d }
-
--- After a refusal the output stands as a draft, or the name is as before.
-abbrev pub WritesOutput : {T : Type 0} → Names → Names → List ℕ → Document → Result T RemuxEnd → Type 0
-WritesOutput old new name d (Ok _) = WritesLayout old new name d
-WritesOutput old new name d (Err _) = StandsInTurn old new (draft_of name d ∷ [])
-
--- Where the links' files are told, the output is that of the plan.
+-- Where the links' files are told, the outputs are those of the plan.
 abbrev pub WritesPlan : {S T : Type 0} → Ghosts S → writing.Ghosts S → S → S → MergePlan → Result T RemuxEnd → Type 0
-WritesPlan r f old new p result = IsToldPlan (live_files r old) p → WritesOutput (f.names old) (f.names new) p.output (document_in (live_files r old) p) result
+WritesPlan r f old new p result = IsToldPlan (live_files r old) p → WritesOutputs (f.names old) (f.names new) (outputs_in (live_files r old) p) result
 
 -- And so is the summary that is answered.
 abbrev pub SumsUp : {S : Type 0} → Ghosts S → S → MergePlan → Result Summary RemuxEnd → Type 0

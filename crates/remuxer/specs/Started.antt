@@ -5,6 +5,7 @@ use Rattle.mkv_io.specs.LiveFiles.{LiveFiles}
 use Rattle.merge_model.specs.declared.limits.TheConstants.{MOST_LINKS}
 use Rattle.lane_blocks.specs.Links.{IsSmallLink}
 use Rattle.lanes.specs.Lane.{Begins, LaneSeen, Starts}
+use Rattle.remux_plan.specs.Parts.{drivers_of}
 use Rattle.remux_plan.specs.Plan.{rules_of}
 use Rattle.remux_plan.specs.declared.plan.PlannedLane.{PlannedLane}
 use Rattle.remuxer.specs.declared.planned.StartedLanes.{StartedLanes}
@@ -25,6 +26,7 @@ pub record AddsLane (scale : ℕ) (p : PlannedLane) (old new : StartedLanes) : T
   pub started : IsStarted scale p lane
   pub lanes : new.lanes ≡ old.lanes ++ lane ∷ []
   pub rules : new.rules ≡ old.rules ++ p.cues ∷ []
+  pub drives : new.drives ≡ old.drives ++ p.drives ∷ []
   pub inputs : new.inputs ≡ old.inputs ++ p.inputs ∷ []
 
 -- the numbers of the inputs of the links of lanes
@@ -35,4 +37,5 @@ numbers_of planned = map (λ (p : PlannedLane). p.inputs) planned
 pub record AreStarted (scale : ℕ) (planned : List PlannedLane) (s : StartedLanes) : Type 0 where
   pub lanes : AllZip (IsStarted scale) planned s.lanes
   pub rules : s.rules ≡ rules_of planned
+  pub drives : s.drives ≡ drivers_of planned
   pub inputs : s.inputs ≡ numbers_of planned

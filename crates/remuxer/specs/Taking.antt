@@ -1,6 +1,6 @@
 -- An output that takes the blocks of a merge, and what a call makes of both.
-use Rattle.std.specs.Prelude.{◌≡◌, ◌<◌, ◌≤◌, ⊤, ℕ, ◌+◌, ◌*◌, Bool, true, false, List, [], ◌∷◌, length, map, Result, Ok, Err, OnOk}
-use Rattle.mkv_io.specs.Faults.{counted}
+use Rattle.std.specs.Prelude.{◌≡◌, ◌<◌, ◌≤◌, ⊤, ℕ, ◌+◌, ◌*◌, List, [], ◌∷◌, length, map, Result, Ok, Err, OnOk, Option}
+use Rattle.mkv_io.specs.Faults.{counted, last_count}
 use Rattle.mkv_io.specs.LiveFiles.{LiveFiles}
 use Rattle.mkv_io.specs.Names.{Names}
 use Rattle.mkv_io.specs.Sources.{live_files}
@@ -8,8 +8,7 @@ use Rattle.mkv_io.specs.Writing.{KeepsOthers}
 use Rattle.mkv_io.specs.declared.reads.Reads.{Ghosts}
 use Rattle.mkv_io.specs.declared.files.Files as writing
 use Rattle.mkv_jobs.specs.declared.remux_end.RemuxEnd.{RemuxEnd}
-use Rattle.output_model.specs.declared.TheConstants.{MOST_LANES}
-use Rattle.output_model.specs.OutputBlock.{OutputBlock, lent_block}
+use Rattle.output_model.specs.OutputBlock.{OutputBlock}
 use Rattle.output_model.specs.Document.{Document, cues_for}
 use Rattle.cues_seekhead.specs.OpenOutput.{IsOpen}
 use Rattle.cues_seekhead.specs.Draft.{StandsDrafted, draft_of}
@@ -17,21 +16,24 @@ use Rattle.cluster_runs.specs.Cued.{is_cue}
 use Rattle.cluster_runs.specs.Stands.{HasAll, Stands}
 use Rattle.cluster_runs.specs.declared.rule.CueRule.{CueRule}
 use Rattle.cluster_reader.specs.ToldDamages.{ToldDamages}
-use Rattle.merge_model.specs.Merged.{in_lane}
-use Rattle.lanes.specs.Lane.{LaneSeen, lent}
 use Rattle.time_merge.specs.Laws.{IsApart}
-use Rattle.time_merge.specs.Merge.{IsEnded, IsReady, IsTold, MergeSeen, damages, due, files_length, left, way}
+use Rattle.time_merge.specs.Merge.{IsTold, MergeSeen, damages, due, files_length, left, way}
 use Rattle.time_merge.specs.Queues.{KeepsQueues}
 use Rattle.time_merge.specs.declared.queue.Queue.{Queue}
+use Rattle.splitter.specs.Sections.{Split, beyond}
+use Rattle.placed_merge.specs.declared.placing.Ahead.{Ahead}
+use Rattle.remuxer.specs.Places.{CanGive, IsIn, IsToldFrom, StandsBehind, first_tick, in_part_from, lane_of, lent_at, parts_ahead, parts_behind, since, split_in, way_ahead}
+use Rattle.remuxer.specs.declared.placed.PartStart.{PartStart}
+use Rattle.remuxer.specs.declared.placed.PlacedBlocks.{PlacedBlocks}
 use Rattle.remuxer.specs.declared.writer.BlockWriter.{BlockWriter}
+use Rattle.remuxer.specs.declared.writer.Turn.{Turn}
+use Rattle.remuxer.specs.declared.writer.Turn.TheVariants.{Added, Over}
 
--- An output can take the blocks of a merge: its file is open; the merge has at most 64 lanes, and may go on; and no file
--- of a link was opened under the output's name.
-pub record CanTake {S : Type 0} (r : Ghosts S) (f : writing.Ghosts S) (files : S) (w : BlockWriter) (m : MergeSeen) : Type 0 where
+-- An output can take blocks: its file is open; they can be given; and no file of a link was opened under the output's name.
+pub record CanTake {S : Type 0} (r : Ghosts S) (f : writing.Ghosts S) (files : S) (w : BlockWriter) (b : PlacedBlocks) : Type 0 where
   pub is_open : IsOpen r files w.out
-  pub few : length m.queues ≤ MOST_LANES
-  pub ready : IsReady (live_files r files) m
-  pub apart : IsApart (f.holder files) (f.holder files w.out.file.n ∷ []) m
+  pub gives : CanGive (live_files r files) b
+  pub apart : IsApart (f.holder files) (f.holder files w.out.file.n ∷ []) b.merge
 
 -- ---- the output's file
 
@@ -58,68 +60,87 @@ abbrev pub StaysDraft : {S : Type 0} → Ghosts S → writing.Ghosts S → List 
 StaysDraft r f rules was old new w =
     (before : Names) (name : List ℕ) (d : Document) → Stands r f before name rules d old w.out w.buffer was → StandsDrafted before (f.names new) (draft_of name d)
 
--- the block that the k-th lane lends, from 0; in the output lanes count from 1
-abbrev pub block_lent : ℕ → LaneSeen → OutputBlock
-block_lent k l = in_lane (k + 1) (lent_block (lent l))
-
 -- This block was the first of those that were left, and the others are left.
 abbrev pub TakesNext : {S T : Type 0} → Ghosts S → writing.Ghosts S → List CueRule → OutputBlock → S → S → BlockWriter → BlockWriter → Result T RemuxEnd → Type 0
 TakesNext r f rules b old new w w' (Ok _) = (left : List OutputBlock) → StaysOnTheWay r f rules (b ∷ left) left old new w w'
 TakesNext r f rules b old new w w' (Err _) = (left : List OutputBlock) → StaysDraft r f rules (b ∷ left) old new w
 
--- Those that the merge had left were left, and those that it has left are, where the links' files are told.
-abbrev pub TakesFrom : {S T : Type 0} → Ghosts S → writing.Ghosts S → List CueRule → S → S → BlockWriter → BlockWriter → MergeSeen → MergeSeen → Result T RemuxEnd → Type 0
-TakesFrom r f rules old new w w' m m' (Ok _) = IsTold (live_files r old) m → StaysOnTheWay r f rules (left (live_files r old) m) (left (live_files r new) m') old new w w'
-TakesFrom r f rules old new w w' m m' (Err _) = IsTold (live_files r old) m → StaysDraft r f rules (left (live_files r old) m) old new w
+-- So many blocks more were taken.
+abbrev pub TakesMore : {T : Type 0} → ℕ → BlockWriter → BlockWriter → Result T RemuxEnd → Type 0
+TakesMore n w w' result = OnOk result (w'.blocks ≡ counted w.blocks n)
 
--- Those that the merge had left were left, and the output has got them all.
-abbrev pub TakesAll : {S T : Type 0} → Ghosts S → writing.Ghosts S → List CueRule → S → S → BlockWriter → BlockWriter → MergeSeen → Result T RemuxEnd → Type 0
-TakesAll r f rules old new w w' m (Ok _) = IsTold (live_files r old) m → GetsAll r f rules (left (live_files r old) m) old new w w'
-TakesAll r f rules old new w w' m (Err _) = IsTold (live_files r old) m → StaysDraft r f rules (left (live_files r old) m) old new w
+-- of the blocks that a merge has left, those of a part that starts at this tick
+abbrev pub rest_of_part : LiveFiles → Split → ℕ → MergeSeen → List OutputBlock
+rest_of_part f s start m = in_part_from s start [] (left f m)
+
+-- Some of the blocks that were left of a part were taken, and the others are left; the same parts stand behind it.
+pub record TakesSome {S : Type 0} (r : Ghosts S) (f : writing.Ghosts S) (rules : List CueRule) (s : Split) (start : ℕ) (old new : S) (w w' : BlockWriter) (m m' : MergeSeen) : Type 0 where
+  pub stands : StaysOnTheWay r f rules (rest_of_part (live_files r old) s start m) (rest_of_part (live_files r new) s start m') old new w w'
+  pub behind : beyond s (since start) (left (live_files r new) m') ≡ beyond s (since start) (left (live_files r old) m)
+  pub count : counted w'.blocks (length (rest_of_part (live_files r new) s start m')) ≡ counted w.blocks (length (rest_of_part (live_files r old) s start m))
+  pub few : w.blocks ≤ last_count → w'.blocks ≤ last_count
+
+-- All blocks of a part were taken: these, and those that were left of it. What is ahead then stands where the part ends, and begins the
+-- parts behind it.
+pub record TakesRest {S : Type 0} (r : Ghosts S) (f : writing.Ghosts S) (rules : List CueRule) (s : Split) (start : ℕ) (first : List OutputBlock) (old new : S) (w w' : BlockWriter) (m : MergeSeen) (b' : PlacedBlocks) (ahead : Option Ahead) : Type 0 where
+  pub stands : StaysOnTheWay r f rules (in_part_from s start first (left (live_files r old) m)) [] old new w w'
+  pub end : first_tick (lent_at b'.merge (lane_of ahead)) ≡ first_tick (beyond s (since start) (left (live_files r old) m))
+  pub behind : parts_ahead (live_files r new) b' (lane_of ahead) ≡ parts_behind s start (left (live_files r old) m)
+  pub count : counted w'.blocks 0 ≡ counted w.blocks (length (in_part_from s start first (left (live_files r old) m)))
+  pub few : w.blocks ≤ last_count → w'.blocks ≤ last_count
+
+-- Where the links' files are told, one block more of a part was taken, or none was left of it.
+abbrev pub TakesFrom : {S : Type 0} → Ghosts S → writing.Ghosts S → List CueRule → ℕ → S → S → BlockWriter → BlockWriter → PlacedBlocks → PlacedBlocks → Result Turn RemuxEnd → Type 0
+TakesFrom r f rules start old new w w' b b' (Ok Added) = IsTold (live_files r old) b.merge → TakesSome r f rules (split_in b) start old new w w' b.merge b'.merge
+TakesFrom r f rules start old new w w' b b' (Ok (Over ahead)) = IsTold (live_files r old) b.merge → TakesRest r f rules (split_in b) start [] old new w w' b.merge b' ahead
+TakesFrom r f rules start old new w w' b b' (Err _) = IsTold (live_files r old) b.merge → StaysDraft r f rules (rest_of_part (live_files r old) (split_in b) start b.merge) old new w
+
+-- All blocks were taken of a part that begins with these; after a refusal it stands as a draft.
+abbrev pub TakesAll : {S : Type 0} → Ghosts S → writing.Ghosts S → List CueRule → ℕ → List OutputBlock → S → S → BlockWriter → BlockWriter → PlacedBlocks → PlacedBlocks → Result (Option Ahead) RemuxEnd → Type 0
+TakesAll r f rules start first old new w w' b b' (Ok ahead) = TakesRest r f rules (split_in b) start first old new w w' b.merge b' ahead
+TakesAll r f rules start first old new w w' b b' (Err _) = StaysDraft r f rules (in_part_from (split_in b) start first (left (live_files r old) b.merge)) old new w
+
+-- Where the links' files are told, all blocks were taken that were left of a part,
+abbrev pub TakesLeft : {S : Type 0} → Ghosts S → writing.Ghosts S → List CueRule → ℕ → S → S → BlockWriter → BlockWriter → PlacedBlocks → PlacedBlocks → Result (Option Ahead) RemuxEnd → Type 0
+TakesLeft r f rules start old new w w' b b' result = IsTold (live_files r old) b.merge → TakesAll r f rules start [] old new w w' b b' result
+
+-- or all of the part that begins so.
+abbrev pub TakesPart : {S : Type 0} → Ghosts S → writing.Ghosts S → List CueRule → PartStart → S → S → BlockWriter → BlockWriter → PlacedBlocks → PlacedBlocks → Result (Option Ahead) RemuxEnd → Type 0
+TakesPart r f rules p old new w w' b b' result = IsToldFrom (live_files r old) b p.lane → TakesAll r f rules p.start (lent_at b.merge p.lane) old new w w' b b' result
 
 -- ---- the merge
 
--- The links' files are told still; as many blocks as before have been given or are left; and the same damages will
--- have been told in the end.
+-- The links' files are told still, and the same damages will have been told in the end.
 pub record GoesOnTold (f h : LiveFiles) (m m' : MergeSeen) : Type 0 where
   pub told : IsTold h m'
-  pub given : counted m'.given (length (left h m')) ≡ counted m.given (length (left f m))
   pub damages : damages h m' ≡ damages f m
 
--- Its lanes have the same links, and it may go on among the new files. What was read is taken from what may be read.
-pub record GoesOn {S : Type 0} (r : Ghosts S) (old new : S) (m m' : MergeSeen) : Type 0 where
-  pub lanes : KeepsQueues m.queues m'.queues
-  pub ready : IsReady (live_files r new) m'
-  pub length : files_length (live_files r new) m' ≡ files_length (live_files r old) m
-  pub paid : r.octets_read new + due (live_files r new) m' ≤ r.octets_read old + due (live_files r old) m
-  pub told : IsTold (live_files r old) m → GoesOnTold (live_files r old) (live_files r new) m m'
+-- Its lanes have the same links, and are cut as before; blocks can be given among the new files. What was read is taken from
+-- what may be read, but for so many octets.
+pub record GoesOn {S : Type 0} (r : Ghosts S) (more : ℕ) (old new : S) (b b' : PlacedBlocks) : Type 0 where
+  pub lanes : KeepsQueues b.merge.queues b'.merge.queues
+  pub split : split_in b' ≡ split_in b
+  pub gives : CanGive (live_files r new) b'
+  pub length : files_length (live_files r new) b'.merge ≡ files_length (live_files r old) b.merge
+  pub paid : r.octets_read new + due (live_files r new) b'.merge ≤ r.octets_read old + due (live_files r old) b.merge + more
+  pub told : IsTold (live_files r old) b.merge → GoesOnTold (live_files r old) (live_files r new) b.merge b'.merge
 
 -- A call that is refused may read two octets besides for each of the links' files.
-abbrev pub Goes : {S T : Type 0} → Ghosts S → S → S → MergeSeen → MergeSeen → Result T RemuxEnd → Type 0
-Goes r old new m m' (Ok _) = GoesOn r old new m m'
-Goes r old new m m' (Err _) = r.octets_read new ≤ r.octets_read old + due (live_files r old) m + 2 * files_length (live_files r old) m
+abbrev pub Goes : {S T E : Type 0} → Ghosts S → ℕ → S → S → PlacedBlocks → PlacedBlocks → Result T E → Type 0
+Goes r more old new b b' (Ok _) = GoesOn r more old new b b'
+Goes r more old new b b' (Err _) = r.octets_read new ≤ r.octets_read old + due (live_files r old) b.merge + 2 * files_length (live_files r old) b.merge + more
 
--- All its lanes have ended, and it has no block left.
-pub record HasNone {S : Type 0} (r : Ghosts S) (old new : S) (m m' : MergeSeen) : Type 0 where
-  pub ended : IsEnded m'
-  pub left : IsTold (live_files r old) m → left (live_files r new) m' ≡ []
+-- What is ahead stands behind the part, and fewer turns are left; none more where all lanes have ended.
+pub record IsOver (start : ℕ) (b b' : PlacedBlocks) (ahead : Option Ahead) : Type 0 where
+  pub stands : StandsBehind start b' ahead
+  pub on : way_ahead b' (lane_of ahead) ≤ way b.merge
 
--- Where there was a block, fewer are left; else none is.
-abbrev pub Finds : {S : Type 0} → Ghosts S → S → S → MergeSeen → MergeSeen → Result Bool RemuxEnd → Type 0
-Finds r old new m m' (Ok true) = way m' < way m
-Finds r old new m m' (Ok false) = HasNone r old new m m'
-Finds r old new m m' (Err _) = ⊤
+-- A block of the part was next, and fewer turns are left; else it is over.
+abbrev pub Finds : ℕ → PlacedBlocks → PlacedBlocks → Result Turn RemuxEnd → Type 0
+Finds start b b' (Ok Added) = IsIn start b' × (way b'.merge < way b.merge)
+Finds start b b' (Ok (Over ahead)) = IsOver start b b' ahead
+Finds start b b' (Err _) = ⊤
 
 -- the damages that were told of each link of each lane
 abbrev pub told_by : MergeSeen → List (List ToldDamages)
 told_by m = map (λ (q : Queue). q.lane.walk.told.items) m.queues
-
--- All blocks that it had left were given, and all damages were told.
-pub record HasGivenAll (f : LiveFiles) (m m' : MergeSeen) : Type 0 where
-  pub given : counted m'.given 0 ≡ counted m.given (length (left f m))
-  pub damages : told_by m' ≡ damages f m
-
--- It has as many lanes as before, and has given all where the links' files are told.
-pub record Ends (f : LiveFiles) (m m' : MergeSeen) : Type 0 where
-  pub lanes : length m'.queues ≡ length m.queues
-  pub all : IsTold f m → HasGivenAll f m m'

@@ -1,23 +1,36 @@
 //! A merge by its plan.
 
-ghost use Rattle.std.specs.Prelude.{[], ◌∷◌};
-ghost use Rattle.mkv_io.specs.Writing.{KeepsOthers};
+ghost use Rattle.std.specs.Prelude.{◌≡◌};
 ghost use Rattle.mkv_jobs.specs.Ends.{HasRemuxCause};
+ghost use Rattle.remux_plan.specs.Parts.{is_split};
+ghost use Rattle.remuxer.specs.Output.{KeepsUnwritten};
 ghost use Rattle.remuxer.specs.Plan.{IsPlan, ReadsFew, SumsUp, WritesPlan};
 
-use crate::output::{OutputSpec, write_output};
+use crate::parts::write_parts;
+use crate::placed::PlacedBlocks;
 use crate::planned::StartedLanes;
 use crate::summary::summary_of;
 use mkv_io::{Files, Reads};
 use mkv_jobs::RemuxEnd;
-use remux_plan::{MergePlan, Summary, Written};
+use remux_plan::{MergePlan, OutputSpec, Summary};
+use splitter::{Cuts, SplitSpec};
 use std::alloc::Global;
 use time_merge::Merge;
 
-/// Writes the output of a plan, from its first octet to its last, and says what was written and what is wrong with the
+/// Whether an output is written in parts.
+fn is_split(split: &SplitSpec) -> bool
+    ensures { result ≡ is_split split.now }
+{
+    match split {
+        SplitSpec::Whole => false,
+        _ => true,
+    }
+}
+
+/// Writes the outputs of a plan, each from its first octet to its last, and says what was written and what is wrong with the
 /// inputs. Blocks are written as they are read: no more than a Cluster of them is held.
 ///
-/// After a refusal the output may stand in part, and nothing else was changed.
+/// After a refusal some first outputs stand whole, and the next one may stand in part; nothing else was changed.
 pub fn remux<F: Files>(alloc: Global, plan: MergePlan, files: &mut F) -> Result<Summary, RemuxEnd>
     requires { IsPlan F.Reads F.Files.own files.old plan }
 
@@ -25,12 +38,13 @@ pub fn remux<F: Files>(alloc: Global, plan: MergePlan, files: &mut F) -> Result<
     ensures summary { SumsUp F.Reads files.old plan result }
 
     // No file stays open, whatever the answer.
-    ensures kept { KeepsOthers F.Reads F.Files.own (plan.output ∷ []) files.old files.new }
+    ensures kept { KeepsUnwritten F.Reads F.Files.own (is_split plan.split) plan.output files.old files.new }
     ensures cause { HasRemuxCause F.Reads F.Files.own files.old files.new result }
     ensures octets { ReadsFew F.Reads files.old files.new plan }
 {
     let MergePlan {
         output,
+        split,
         limits,
         lanes,
         front,
@@ -40,22 +54,26 @@ pub fn remux<F: Files>(alloc: Global, plan: MergePlan, files: &mut F) -> Result<
     let StartedLanes {
         lanes,
         rules,
+        drives,
         inputs,
     } = StartedLanes::start(alloc, lanes, limits.scale)?;
-    let mut merge = Merge::start(alloc, lanes, files)?;
+    let merge = Merge::start(alloc, lanes, files)?;
     let spec = OutputSpec {
         name: output,
+        split: is_split(&split),
         limits,
         rules,
         front,
         chapters,
         tags,
     };
-    write_output(alloc, files, &spec, &mut merge)?;
-    let written = Written {
-        name: spec.name,
-        blocks: merge.given(),
+    let cuts = Cuts::new(split, limits.scale);
+    let mut blocks = PlacedBlocks {
+        merge,
+        cuts,
+        drives,
     };
-    let summary = summary_of(alloc, written, inputs.as_slice(), &merge)?;
+    let written = write_parts(alloc, files, spec, &mut blocks)?;
+    let summary = summary_of(alloc, written, inputs.as_slice(), &blocks.merge)?;
     Ok(summary)
 }

@@ -1,66 +1,131 @@
 //! Whole outputs.
 
-ghost use Rattle.std.specs.Prelude.{◌≡◌, ◌+◌, ◌*◌, ◌≤◌, [], ◌∷◌, length, sum_by, OnOk};
+ghost use Rattle.std.specs.Prelude.{◌≡◌, ◌*◌, ◌<◌, ◌^◌, [], ◌∷◌, IfOk, IfSome};
 ghost use Rattle.mkv_io.specs.Sources.{live_files};
 ghost use Rattle.mkv_io.specs.Writing.{KeepsOthers};
 ghost use Rattle.mkv_jobs.specs.Ends.{HasRemuxCause};
-ghost use Rattle.attachment_records.specs.declared.attachment.Attachment.{Attachment as AttachmentSeen};
-ghost use Rattle.output_model.specs.declared.TheConstants.{MOST_LANES};
-ghost use Rattle.time_merge.specs.Laws.{IsApart};
-ghost use Rattle.time_merge.specs.Merge.{IsReady, IsTold, due, files_length, left};
-ghost use Rattle.remuxer.specs.Output.{HasRecords, Writes, document_with};
-ghost use Rattle.remuxer.specs.Taking.{Ends};
+ghost use Rattle.mkv_schema.specs.declared.ids.TheConstants.{CHAPTERS};
+ghost use Rattle.tree_format.specs.Node.{id_of};
+ghost use Rattle.tree_building.specs.Building.{IsRead};
+ghost use Rattle.remuxer.specs.Places.{IsEnd};
+ghost use Rattle.remuxer.specs.Taking.{Goes, IsOver, WritesInto};
+ghost use Rattle.remuxer.specs.Output.{CanFill, CanWrite, Fills, StandsWritten, WritesPart, chapters_cut, chapters_in, data_of};
 
+use crate::placed::{PartStart, PlacedBlocks};
 use crate::writer::BlockWriter;
-use cluster_runs::CueRule;
+use chapter_changes::cut;
+use cluster_runs::add_rest;
 use cluster_writer::ClusterBuf;
 use cues_seekhead::{OutEnd, OutFile};
 use ebml_tree::Tree;
 use mkv_io::{Files, Reads};
-use mkv_values::{List, Text};
-use output_model::ClusterLimits;
-use segment_octets::Front;
-use std::alloc::Global;
-use time_merge::Merge;
+use placed_merge::Ahead;
+use remux_plan::OutputSpec;
+use std::alloc::{AllocError, Global};
 
-/// What an output is made of, but for its blocks.
-#[derive(Drop)]
-pub(crate) struct OutputSpec {
-    pub(crate) name: Text,
-    pub(crate) limits: ClusterLimits,
-    /// For each lane, which of its blocks get a cue point.
-    pub(crate) rules: List<CueRule>,
-    pub(crate) front: Front,
-    pub(crate) chapters: Option<Tree>,
-    pub(crate) tags: Option<Tree>,
+/// What became of a part: how many blocks it has, and the block of the merge behind it, if there is one.
+#[derive(Clone, Copy)]
+pub(crate) struct WrittenPart {
+    pub(crate) blocks: u64,
+    pub(crate) ahead: Option<Ahead>,
 }
 
-/// Writes an output that has the blocks which a merge has left, and answers its length. Whatever is answered, no file
-/// of it is open.
+// What a part was filled with besides its blocks: the block of the merge behind it, if there is one, and what was cut out of
+// the chapters, where the output is split.
+#[derive(Drop)]
+struct Filled {
+    ahead: Option<Ahead>,
+    chapters: Option<Tree>,
+}
+
+// What of the chapters goes into a part from one tick to another, where the output is split.
+fn cut_chapters(
+    alloc: Global,
+    spec: &OutputSpec,
+    start: u64,
+    end: Option<u64>,
+) -> Result<Option<Tree>, AllocError>
+    requires chapters { IfSome spec.now.chapters (IsRead CHAPTERS) }
+    requires start { start * spec.now.limits.scale < 2 ^ 64 }
+    requires end { IfSome end (IsEnd spec.now.limits.scale start) }
+    ensures exact { IfOk result (λ part. part ≡ chapters_cut spec.now start end) }
+    ensures id { IfOk result (λ part. IfSome part (λ n. id_of n ≡ CHAPTERS)) }
+{
+    if !spec.split {
+        return Ok(None);
+    }
+    let Some(chapters) = &spec.chapters else {
+        return Ok(None);
+    };
+    let scale = spec.limits.scale;
+    let to = match end {
+        Some(end) => Some(end * scale),
+        None => None,
+    };
+    cut(alloc, chapters, start * scale, to)
+}
+
+// The chapters of a part, for which these were cut out where the output is split.
+fn chapters_in<'a>(spec: &'a OutputSpec, part: &'a Option<Tree>) -> &'a Option<Tree>
+    ensures { result.now ≡ chapters_in spec.now part.now }
+{
+    if spec.split { part } else { &spec.chapters }
+}
+
+// Adds all blocks of a part to an output that was begun, and writes its last Cluster.
+fn fill<F: Files>(
+    alloc: Global,
+    files: &mut F,
+    spec: &OutputSpec,
+    part: PartStart,
+    blocks: &mut PlacedBlocks,
+    writer: &mut BlockWriter,
+) -> Result<Filled, OutEnd>
+    requires { CanFill F.Reads F.Files.own files.old spec.now part writer.old blocks.old }
+    ensures fills { Fills F.Reads F.Files.own spec.now part files.old files.new writer.old writer.new blocks.old blocks.new result }
+    ensures id { IfOk result (λ filled. IfSome filled.chapters (λ n. id_of n ≡ CHAPTERS)) }
+    ensures writes { WritesInto F.Reads F.Files.own files.old files.new writer.old writer.new result }
+    ensures goes { Goes F.Reads 0 files.old files.new blocks.old blocks.new result }
+    ensures finds { IfOk result (λ filled. IsOver part.start blocks.old blocks.new filled.ahead) }
+    ensures cause { HasRemuxCause F.Reads F.Files.own files.old files.new result }
+{
+    let ahead = writer.add_part(files, blocks, spec.rules.as_slice(), part)?;
+    let chapters = cut_chapters(alloc, spec, part.start, blocks.tick_ahead(ahead))?;
+    add_rest(files, &mut writer.out, &mut writer.buffer)?;
+    Ok(Filled { ahead, chapters })
+}
+
+/// Writes an output of this name that has the part of a merge which begins so. Whatever is answered, no file of it is open.
 pub(crate) fn write_output<F: Files>(
     alloc: Global,
     files: &mut F,
     spec: &OutputSpec,
-    merge: &mut Merge,
-) -> Result<u64, OutEnd>
-    requires few { length merge.old.queues ≤ MOST_LANES }
-    requires ready { IsReady (live_files F.Reads files.old) merge.old }
-    requires apart { IsApart (F.holder files.old) (spec.now.name ∷ []) merge.old }
-    requires records { HasRecords F.Reads F.Files.own files.old spec.now.name spec.now.front spec.now.chapters spec.now.tags }
-    ensures writes { IsTold (live_files F.Reads files.old) merge.old → Writes (F.names files.old) (F.names files.new) spec.now.name
-        (document_with (live_files F.Reads files.old) spec.now (left (live_files F.Reads files.old) merge.old)) result }
-    ensures ends { OnOk result (Ends (live_files F.Reads files.old) merge.old merge.new) }
-    ensures kept { KeepsOthers F.Reads F.Files.own (spec.now.name ∷ []) files.old files.new }
-    ensures octets { F.octets_read files.new ≤ F.octets_read files.old
-        + due (live_files F.Reads files.old) merge.old + 2 * files_length (live_files F.Reads files.old) merge.old
-        + sum_by (λ (a : AttachmentSeen). a.len) spec.now.front.attachments }
+    name: &str,
+    part: PartStart,
+    blocks: &mut PlacedBlocks,
+) -> Result<WrittenPart, OutEnd>
+    requires { CanWrite F.Reads F.Files.own files.old spec.now name.now part blocks.old }
+    ensures writes { WritesPart F.Reads F.Files.own files.old files.new spec.now name.now part blocks.old result }
+    ensures finds { IfOk result (StandsWritten (live_files F.Reads files.old) (live_files F.Reads files.new) part blocks.old blocks.new) }
+    ensures goes { Goes F.Reads (data_of spec.now) files.old files.new blocks.old blocks.new result }
+    ensures kept { KeepsOthers F.Reads F.Files.own (name.now ∷ []) files.old files.new }
     ensures cause { HasRemuxCause F.Reads F.Files.own files.old files.new result }
 {
     let buffer = ClusterBuf::new(alloc, spec.limits)?;
-    let out = OutFile::begin(alloc, files, spec.name.as_str(), &spec.front)?;
-    let mut writer = BlockWriter { out, buffer };
-    match writer.add_clusters(files, merge, spec.rules.as_slice()) {
-        Ok(()) => writer.out.finish_with(files, &spec.chapters, &spec.tags),
+    let out = OutFile::begin(alloc, files, name, &spec.front)?;
+    let mut writer = BlockWriter {
+        out,
+        buffer,
+        blocks: 0,
+    };
+    match fill(alloc, files, spec, part, blocks, &mut writer) {
+        Ok(filled) => {
+            let blocks = writer.blocks;
+            let ahead = filled.ahead;
+            let chapters = chapters_in(spec, &filled.chapters);
+            writer.out.finish_with(files, chapters, &spec.tags)?;
+            Ok(WrittenPart { blocks, ahead })
+        }
         Err(end) => {
             writer.out.abandon(files);
             Err(end)

@@ -8,12 +8,13 @@ use mkv_values::List;
 use remux_plan::PlannedLane;
 use std::alloc::{AllocError, Global};
 
-/// The lanes of a plan, none of which has given a block: of each its rule of cue points, and for each of its links the
-/// number of the input.
+/// The lanes of a plan, none of which has given a block: of each its rule of cue points, whether it drives, and for each of
+/// its links the number of the input.
 #[derive(Drop)]
 pub(crate) struct StartedLanes {
     pub(crate) lanes: List<Lane>,
     pub(crate) rules: List<CueRule>,
+    pub(crate) drives: List<bool>,
     pub(crate) inputs: List<List<usize>>,
 }
 
@@ -33,6 +34,7 @@ impl StartedLanes {
         let mut started = StartedLanes {
             lanes: List::new(alloc),
             rules: List::new(alloc),
+            drives: List::new(alloc),
             inputs: List::new(alloc),
         };
         for lane in planned.into_vec() {
@@ -47,9 +49,15 @@ impl StartedLanes {
         requires lane { CanStart planned }
         ensures { OnOk result (AddsLane scale planned self.old self.new) }
     {
-        let PlannedLane { spec, inputs, cues } = planned;
+        let PlannedLane {
+            spec,
+            inputs,
+            cues,
+            drives,
+        } = planned;
         self.lanes.push(Lane::start(alloc, spec, scale)?)?;
         self.rules.push(cues)?;
+        self.drives.push(drives)?;
         self.inputs.push(inputs)
     }
 }

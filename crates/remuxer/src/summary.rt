@@ -1,6 +1,6 @@
 //! What is known of a merge whose output stands.
 
-ghost use Rattle.std.specs.Prelude.{◌≡◌, ◌∷◌, [], length, IfOk, OnOk};
+ghost use Rattle.std.specs.Prelude.{◌≡◌, length, IfOk, OnOk};
 ghost use Rattle.std.specs.List.{range_with_len};
 ghost use Rattle.std.specs.Option.{option_copied};
 ghost use Rattle.remux_plan.specs.declared.TheConstants.{MOST_INPUTS as INPUTS};
@@ -53,20 +53,18 @@ fn add_damages(summary: &mut Summary, input: usize, told: &Damages) -> Result<()
     Ok(())
 }
 
-/// The summary of an output that was written, with the damages that a merge has told, whose lanes have links of these
+/// The summary of outputs that were written, with the damages that a merge has told, whose lanes have links of these
 /// inputs.
 pub(crate) fn summary_of(
     alloc: Global,
-    written: Written,
+    outputs: List<Written>,
     inputs: &[List<usize>],
     merge: &Merge,
 ) -> Result<Summary, AllocError>
     requires { length inputs.now ≡ length merge.now.queues }
-    ensures outputs { IfOk result (λ s. s.outputs ≡ written ∷ []) }
+    ensures outputs { IfOk result (λ s. s.outputs ≡ outputs) }
     ensures damages { IfOk result (HasDamages inputs.now (told_by merge.now) (range_with_len 0 INPUTS)) }
 {
-    let mut outputs = List::new(alloc);
-    outputs.push(written)?;
     let mut summary = Summary {
         outputs,
         damages: List::new(alloc),

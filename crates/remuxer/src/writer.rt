@@ -1,25 +1,25 @@
-//! The blocks of a merge, one after the other, into an output.
+//! The blocks of a part, one after the other, into an output.
 
-ghost use Rattle.std.specs.Prelude.{◌≡◌, ◌+◌, ◌*◌, ◌<◌, ◌≤◌, OnOk};
+ghost use Rattle.std.specs.Prelude.{◌≡◌, ◌+◌, ◌<◌, IfOk};
 ghost use Rattle.std.specs.List.{slice_get};
 ghost use Rattle.std.specs.Option.{unwrap_or};
-ghost use Rattle.mkv_io.specs.Sources.{live_files};
 ghost use Rattle.mkv_jobs.specs.Ends.{HasRemuxCause};
 ghost use Rattle.output_model.specs.declared.TheConstants.{MOST_LANES};
 ghost use Rattle.output_model.specs.OutputBlock.{IsLent, lent_block};
 ghost use Rattle.merge_model.specs.Merged.{in_lane};
 ghost use Rattle.lanes.specs.Lane.{lent};
-ghost use Rattle.time_merge.specs.Merge.{due, files_length};
+ghost use Rattle.splitter.specs.Sections.{in_part};
 ghost use Rattle.cluster_writer.specs.Lent.{CanBePut, block_of};
 ghost use Rattle.cluster_runs.specs.Cued.{is_cue_by};
 ghost use Rattle.cluster_runs.specs.declared.rule.CueRule.TheVariants as cue_rule;
 
-use cluster_runs::{CueRule, add_block, add_rest};
+use crate::placed::{PartStart, PlacedBlocks, is_same};
+use cluster_runs::{CueRule, add_block};
 use cluster_writer::{ClusterBuf, LentBlock};
 use cues_seekhead::{OutEnd, OutFile};
 use lanes::Lane;
 use mkv_io::{Files, Reads};
-use time_merge::Merge;
+use placed_merge::{Ahead, place_next};
 
 // Whether a block of the k-th lane, from 0, gets a cue point. A lane without a rule has none.
 fn is_cued(rules: &[CueRule], k: usize, key: bool) -> bool
@@ -31,17 +31,17 @@ fn is_cued(rules: &[CueRule], k: usize, key: bool) -> bool
     }
 }
 
-// The block that the k-th lane lends, from 0. In the output lanes count from 1.
-fn lent_by(lane: &Lane, k: usize) -> LentBlock<'_>
+// The block that the k-th lane lends, from 0, in a part that starts at this tick. In the output lanes count from 1.
+fn lent_by(lane: &Lane, k: usize, start: u64) -> LentBlock<'_>
     requires lent { IsLent (lent lane.now) }
     requires number { k < MOST_LANES }
-    ensures block { block_of result ≡ in_lane (k + 1) (lent_block (lent lane.now)) }
+    ensures block { block_of result ≡ in_part start (in_lane (k + 1) (lent_block (lent lane.now))) }
     ensures can { CanBePut result }
 {
     let head = lane.head();
     LentBlock {
         lane: k as u8 + 1,
-        tick: head.tick,
+        tick: head.tick.saturating_sub(start),
         head,
         prefix: lane.prefix(),
         body: lane.body(),
@@ -51,93 +51,130 @@ fn lent_by(lane: &Lane, k: usize) -> LentBlock<'_>
     }
 }
 
-/// An output that takes blocks: its file, and the Cluster that the next block may join.
+/// What the next block of a merge was to a part.
+#[derive(Clone, Copy)]
+pub(crate) enum Turn {
+    /// The next of its blocks, which was added.
+    Added,
+    /// There is none in the part; this is ahead.
+    Over { ahead: Option<Ahead> },
+}
+
+/// An output that takes blocks: its file, the Cluster that the next block may join, and how many blocks it has taken.
 #[derive(Drop)]
 pub(crate) struct BlockWriter {
     pub(crate) out: OutFile,
     pub(crate) buffer: ClusterBuf,
+    pub(crate) blocks: u64,
 }
 
 impl BlockWriter {
     ghost use Rattle.cues_seekhead.specs.OpenOutput.{IsOpen};
-    ghost use Rattle.remuxer.specs.Taking.{CanTake, Ends, Finds, Goes, HasNone, TakesAll, TakesFrom, TakesNext, WritesInto, block_lent};
+    ghost use Rattle.remuxer.specs.Places.{BeginsWith, IsIn, lent_in};
+    ghost use Rattle.remuxer.specs.Taking.{CanTake, Finds, Goes, IsOver, TakesFrom, TakesLeft, TakesMore, TakesNext, TakesPart, WritesInto};
 
-    // Adds the block that the k-th lane lends, from 0.
+    // Adds the block that the k-th lane lends, from 0, to a part that starts at this tick.
     fn add_lent<F: Files>(
         &mut self,
         files: &mut F,
         lane: &Lane,
         k: usize,
         rules: &[CueRule],
+        start: u64,
     ) -> Result<(), OutEnd>
         requires lent { IsLent (lent lane.now) }
         requires number { k < MOST_LANES }
         requires open { IsOpen F.Reads files.old self.old.out }
-        ensures takes { TakesNext F.Reads F.Files.own rules.now (block_lent k lane.now) files.old files.new self.old self.new result }
+        ensures takes { TakesNext F.Reads F.Files.own rules.now (lent_in start k lane.now) files.old files.new self.old self.new result }
+        ensures count { TakesMore 1 self.old self.new result }
         ensures writes { WritesInto F.Reads F.Files.own files.old files.new self.old self.new result }
         ensures octets { F.octets_read files.new ≡ F.octets_read files.old }
         ensures cause { HasRemuxCause F.Reads F.Files.own files.old files.new result }
     {
-        let block = lent_by(lane, k);
+        let block = lent_by(lane, k, start);
         let cued = is_cued(rules, k, block.head.key);
-        add_block(files, &mut self.out, &mut self.buffer, &block, cued)
-    }
-
-    // Adds the next block that a merge has left. Answers whether there was one.
-    fn add_next<F: Files>(
-        &mut self,
-        files: &mut F,
-        merge: &mut Merge,
-        rules: &[CueRule],
-    ) -> Result<bool, OutEnd>
-        requires { CanTake F.Reads F.Files.own files.old self.old merge.old }
-        ensures takes { TakesFrom F.Reads F.Files.own rules.now files.old files.new self.old self.new merge.old merge.new result }
-        ensures writes { WritesInto F.Reads F.Files.own files.old files.new self.old self.new result }
-        ensures goes { Goes F.Reads files.old files.new merge.old merge.new result }
-        ensures finds { Finds F.Reads files.old files.new merge.old merge.new result }
-        ensures cause { HasRemuxCause F.Reads F.Files.own files.old files.new result }
-    {
-        let Some(k) = merge.step(files)? else {
-            return Ok(false);
-        };
-        self.add_lent(files, merge.lane(k), k, rules)?;
-        Ok(true)
-    }
-
-    // Adds all blocks that a merge has left.
-    fn add_blocks<F: Files>(
-        &mut self,
-        files: &mut F,
-        merge: &mut Merge,
-        rules: &[CueRule],
-    ) -> Result<(), OutEnd>
-        requires { CanTake F.Reads F.Files.own files.old self.old merge.old }
-        ensures takes { TakesFrom F.Reads F.Files.own rules.now files.old files.new self.old self.new merge.old merge.new result }
-        ensures writes { WritesInto F.Reads F.Files.own files.old files.new self.old self.new result }
-        ensures goes { Goes F.Reads files.old files.new merge.old merge.new result }
-        ensures none { OnOk result (HasNone F.Reads files.old files.new merge.old merge.new) }
-        ensures cause { HasRemuxCause F.Reads F.Files.own files.old files.new result }
-    {
-        'steps: while self.add_next(files, merge, rules)? {}
+        add_block(files, &mut self.out, &mut self.buffer, &block, cued)?;
+        self.blocks = self.blocks.saturating_add(1);
         Ok(())
     }
 
-    /// Adds all blocks that a merge has left, and writes the last Cluster.
-    pub(crate) fn add_clusters<F: Files>(
+    // Adds the next block that a merge has left, where it stands in the part that starts at this tick.
+    fn add_next<F: Files>(
         &mut self,
         files: &mut F,
-        merge: &mut Merge,
+        blocks: &mut PlacedBlocks,
         rules: &[CueRule],
-    ) -> Result<(), OutEnd>
-        requires { CanTake F.Reads F.Files.own files.old self.old merge.old }
-        ensures takes { TakesAll F.Reads F.Files.own rules.now files.old files.new self.old self.new merge.old result }
+        start: u64,
+    ) -> Result<Turn, OutEnd>
+        requires can { CanTake F.Reads F.Files.own files.old self.old blocks.old }
+        requires within { IsIn start blocks.old }
+        ensures takes { TakesFrom F.Reads F.Files.own rules.now start files.old files.new self.old self.new blocks.old blocks.new result }
         ensures writes { WritesInto F.Reads F.Files.own files.old files.new self.old self.new result }
-        ensures ends { OnOk result (Ends (live_files F.Reads files.old) merge.old merge.new) }
-        ensures octets { F.octets_read files.new ≤ F.octets_read files.old
-            + due (live_files F.Reads files.old) merge.old + 2 * files_length (live_files F.Reads files.old) merge.old }
+        ensures goes { Goes F.Reads 0 files.old files.new blocks.old blocks.new result }
+        ensures finds { Finds start blocks.old blocks.new result }
         ensures cause { HasRemuxCause F.Reads F.Files.own files.old files.new result }
     {
-        self.add_blocks(files, merge, rules)?;
-        add_rest(files, &mut self.out, &mut self.buffer)
+        let next = place_next(
+            &mut blocks.merge,
+            &mut blocks.cuts,
+            blocks.drives.as_slice(),
+            files,
+        )?;
+        let Some(ahead) = next else {
+            return Ok(Turn::Over { ahead: None });
+        };
+        if !is_same(ahead.place) {
+            return Ok(Turn::Over { ahead: next });
+        }
+        let lane = blocks.merge.lane(ahead.lane);
+        self.add_lent(files, lane, ahead.lane, rules, start)?;
+        Ok(Turn::Added)
+    }
+
+    // Adds all blocks that a merge has left of the part that starts at this tick. Answers what is ahead then.
+    fn add_blocks<F: Files>(
+        &mut self,
+        files: &mut F,
+        blocks: &mut PlacedBlocks,
+        rules: &[CueRule],
+        start: u64,
+    ) -> Result<Option<Ahead>, OutEnd>
+        requires can { CanTake F.Reads F.Files.own files.old self.old blocks.old }
+        requires within { IsIn start blocks.old }
+        ensures takes { TakesLeft F.Reads F.Files.own rules.now start files.old files.new self.old self.new blocks.old blocks.new result }
+        ensures writes { WritesInto F.Reads F.Files.own files.old files.new self.old self.new result }
+        ensures goes { Goes F.Reads 0 files.old files.new blocks.old blocks.new result }
+        ensures finds { IfOk result (IsOver start blocks.old blocks.new) }
+        ensures cause { HasRemuxCause F.Reads F.Files.own files.old files.new result }
+    {
+        'steps: loop {
+            match self.add_next(files, blocks, rules, start)? {
+                Turn::Added => {}
+                Turn::Over { ahead } => return Ok(ahead),
+            }
+        }
+    }
+
+    /// Adds all blocks of the part that begins so. Answers what is ahead then.
+    pub(crate) fn add_part<F: Files>(
+        &mut self,
+        files: &mut F,
+        blocks: &mut PlacedBlocks,
+        rules: &[CueRule],
+        part: PartStart,
+    ) -> Result<Option<Ahead>, OutEnd>
+        requires can { CanTake F.Reads F.Files.own files.old self.old blocks.old }
+        requires begins { BeginsWith blocks.old part.start part.lane }
+        ensures takes { TakesPart F.Reads F.Files.own rules.now part files.old files.new self.old self.new blocks.old blocks.new result }
+        ensures writes { WritesInto F.Reads F.Files.own files.old files.new self.old self.new result }
+        ensures goes { Goes F.Reads 0 files.old files.new blocks.old blocks.new result }
+        ensures finds { IfOk result (IsOver part.start blocks.old blocks.new) }
+        ensures cause { HasRemuxCause F.Reads F.Files.own files.old files.new result }
+    {
+        let Some(lane) = part.lane else {
+            return Ok(None);
+        };
+        self.add_lent(files, blocks.merge.lane(lane), lane, rules, part.start)?;
+        self.add_blocks(files, blocks, rules, part.start)
     }
 }

@@ -24,6 +24,7 @@ loop-lane-preserved c =
       can = All-tail CanStart lane rest (subst (All CanStart) is inv.can);
       lanes = started-next c.args.scale lane rest all old new adds (subst (λ (ps : List PlannedLane). (ls : List LaneSeen) → AllZip (IsStarted c.args.scale) ps ls → AllZip (IsStarted c.args.scale) all (old.lanes ++ ls)) is inv.lanes);
       rules = listed-next rule lane rest old.rules new.rules (map rule all) adds.rules (ap (λ ps. old.rules ++ map rule ps) (sym is) ∙ inv.rules);
+      drives = listed-next (λ (p : PlannedLane). p.drives) lane rest old.drives new.drives (map (λ (p : PlannedLane). p.drives) all) adds.drives (ap (λ ps. old.drives ++ map (λ (p : PlannedLane). p.drives) ps) (sym is) ∙ inv.drives);
       inputs = listed-next (λ (p : PlannedLane). p.inputs) lane rest old.inputs new.inputs (map (λ (p : PlannedLane). p.inputs) all) adds.inputs (ap (λ ps. old.inputs ++ map (λ (p : PlannedLane). p.inputs) ps) (sym is) ∙ inv.inputs);
     }
 
@@ -38,5 +39,6 @@ returns c =
     record {
       lanes = subst (λ (ps : List PlannedLane). AllZip (IsStarted c.args.scale) ps started.lanes) whole (started-all c.args.scale rest.items all started.lanes none inv.lanes);
       rules = listed-all (λ (p : PlannedLane). p.cues) rest.items started.rules (map (λ (p : PlannedLane). p.cues) all) none inv.rules ∙ ap (map (λ (p : PlannedLane). p.cues)) whole;
+      drives = listed-all (λ (p : PlannedLane). p.drives) rest.items started.drives (map (λ (p : PlannedLane). p.drives) all) none inv.drives ∙ ap (map (λ (p : PlannedLane). p.drives)) whole;
       inputs = listed-all (λ (p : PlannedLane). p.inputs) rest.items started.inputs (map (λ (p : PlannedLane). p.inputs) all) none inv.inputs ∙ ap (map (λ (p : PlannedLane). p.inputs)) whole;
     }

@@ -1,9 +1,10 @@
-use Rattle.std.proofs.Common.{◌≡◌, ◌∷◌, []}
+use Rattle.std.proofs.Common.{◌≡◌, ◌≤◌, ◌∷◌, []}
 use Rattle.mkv_io.specs.Sources.{live_files}
 use Rattle.mkv_io.specs.Writing.{KeepsOthers}
 use Rattle.cues_seekhead.specs.OpenOutput.{IsOpen}
-use Rattle.time_merge.specs.Merge.{IsTold, left, way}
-use Rattle.remuxer.specs.Taking.{GoesOn, StaysOnTheWay}
+use Rattle.time_merge.specs.Merge.{IsTold, way}
+use Rattle.remuxer.specs.Places.{IsIn, split_in}
+use Rattle.remuxer.specs.Taking.{GoesOn, TakesSome}
 use Rattle.remuxer.proofs.writer.BlockWriter.add_blocks.Given as goal
 
 abbrev pub invariant-steps : goal.invariant-steps
@@ -11,12 +12,14 @@ invariant-steps g l = record {
   file : l.self.out.file ≡ l.initial.self.out.file;
   is_open : IsOpen g.F.Reads l.files l.self.out;
   kept : KeepsOthers g.F.Reads g.F.Files (g.F.Files.holder l.initial.files l.initial.self.out.file.n ∷ []) l.initial.files l.files;
-  goes : GoesOn g.F.Reads l.initial.files l.files l.initial.merge l.merge;
+  goes : GoesOn g.F.Reads 0 l.initial.files l.files l.initial.blocks l.blocks;
+  within : IsIn l.start l.blocks;
+  on : way l.blocks.merge ≤ way l.initial.blocks.merge;
   reading : g.F.Reads.reading_faults l.files ≡ g.F.Reads.reading_faults l.initial.files;
   writing : g.F.Files.writing_faults l.files ≡ g.F.Files.writing_faults l.initial.files;
-  stands : IsTold (live_files g.F.Reads l.initial.files) l.initial.merge
-      → StaysOnTheWay g.F.Reads g.F.Files l.rules (left (live_files g.F.Reads l.initial.files) l.initial.merge) (left (live_files g.F.Reads l.files) l.merge) l.initial.files l.files l.initial.self l.self;
+  takes : IsTold (live_files g.F.Reads l.initial.files) l.initial.blocks.merge
+      → TakesSome g.F.Reads g.F.Files l.rules (split_in l.initial.blocks) l.start l.initial.files l.files l.initial.self l.self l.initial.blocks.merge l.blocks.merge;
 }
 
 abbrev pub decreases-steps : goal.decreases-steps
-decreases-steps g l = way l.merge
+decreases-steps g l = way l.blocks.merge

@@ -1,0 +1,368 @@
+-- Outputs that are written one after the other.
+use Rattle.std.proofs.Common.{◌≡◌, ◌≤◌, ◌<◌, ℕ, suc, ◌+◌, ◌*◌, ◌^◌, Bool, true, false, List, [], ◌∷◌, ◌++◌, All, length, map, Option, Some, None, ◌⊎◌, inl, inr, refl, sym, ◌∙◌, ap, ap₂, subst, append_assoc, append-nil, arith}
+use Rattle.std.specs.Prelude.{◌==◌, if◌then◌else◌, slice_index_or}
+use Rattle.std.proofs.lemmas.List.{length-map, map-append}
+use Rattle.std.proofs.lemmas.List.Elements.{All-append, All-cons, All-nil}
+use Rattle.std.proofs.lemmas.Bool.Decides.{nat_tests}
+use Rattle.mkv_io.specs.LiveFiles.{LiveFiles}
+use Rattle.mkv_io.specs.Names.{AreOthers, Names, with_content}
+use Rattle.mkv_io.specs.Sources.{live_files}
+use Rattle.mkv_io.specs.Writing.{KeepsOthers}
+use Rattle.mkv_io.specs.declared.reads.Reads.{Ghosts}
+use Rattle.mkv_io.specs.declared.files.Files as writing
+use Rattle.std.proofs.lemmas.Slice.Eq.{bytes_eq-Decides}
+use Rattle.mkv_io.proofs.WritingLemmas.{KeepsOthers-more, KeepsOthers-none, KeepsOthers-then}
+use Rattle.mkv_outputs.specs.Drafts.{AreDrafted, Draft, IsDrafted, StandsInTurn, output_of, outputs_of}
+use Rattle.mkv_outputs.specs.Outputs.{Output, with_outputs}
+use Rattle.mkv_outputs.proofs.DraftsLemmas.{StandsInTurn-next, StandsInTurn-whole}
+use Rattle.mkv_outputs.proofs.OutputsLemmas.{with_outputs-added}
+use Rattle.attachment_records.specs.declared.attachment.Attachment.{Attachment}
+use Rattle.tree_format.specs.Node.{id_of}
+use Rattle.output_model.specs.Document.{Document, layout}
+use Rattle.segment_octets.specs.declared.front.Front.{Front}
+use Rattle.segment_octets.specs.Front.{front_with}
+use Rattle.output_model.specs.Document as model
+use Rattle.cluster_runs.specs.Cued.{document_of}
+use Rattle.cues_seekhead.specs.Draft.{draft_of}
+use Rattle.cues_seekhead.specs.OpenOutput.{CanAttach}
+use Rattle.lane_blocks.specs.Links.{IsOpenLink}
+use Rattle.lane_blocks.specs.declared.link.Link.{Link}
+use Rattle.lane_blocks.specs.declared.link.Link.TheVariants.{Track, Entries}
+use Rattle.time_merge.specs.Laws.{IsApart, IsApartLink}
+use Rattle.time_merge.specs.Merge.{IsReady, IsTold, MergeSeen, due, files_length, left}
+use Rattle.time_merge.specs.Queues.{KeepsQueues}
+use Rattle.time_merge.proofs.QueueLemmas.{links-kept}
+use Rattle.splitter.specs.Sections.{Part, Split, parts}
+use Rattle.splitter.proofs.NameLemmas.{part-names}
+use Rattle.remux_plan.specs.Parts.{PlannedOutput, document_with, chapters_of, front_of, may_be_written, name_of, output_in, outputs_from, spec_at, stretch_of}
+use Rattle.remux_plan.specs.Summary.{written_of}
+use Rattle.remux_plan.specs.declared.output.OutputSpec.{OutputSpec}
+use Rattle.remux_plan.specs.declared.summary.Written.{Written}
+use Rattle.remuxer.specs.Places.{IsToldFrom, parts_behind, split_in}
+use Rattle.remuxer.specs.Taking.{GoesOn}
+use Rattle.remuxer.specs.declared.placed.PartStart.{PartStart}
+use Rattle.remuxer.specs.declared.placed.PlacedBlocks.{PlacedBlocks}
+use Rattle.remuxer.proofs.TakingLemmas.{OnlyRead, files-same, goes-then, read-keeps}
+use Rattle.remuxer.specs.Output.{CanBeNext, FindsNext, FindsPart, HasRecords, IsToldNext, IsUnwritten, IsUnwrittenLink, KeepsUnwritten, ReadsParts, WritesAll, WritesOne, data_of, drafts_of, laid_out, next_name, part_in, parts_begun}
+
+-- ---- one behind the other
+
+outputs-split : (f : LiveFiles) (o : OutputSpec) (number : ℕ) (done more : List Part) → outputs_from f o number (done ++ more) ≡ outputs_from f o number done ++ outputs_from f o (number + length done) more
+outputs-split f o number [] more = ap (λ (n : ℕ). outputs_from f o n more) (let same : number ≡ number + 0 = omega arith in same)
+outputs-split f o number (p ∷ done) more =
+    ap (λ (rest : List PlannedOutput). output_in f o number p ∷ rest)
+    (outputs-split f o (suc number) done more ∙ ap (λ (n : ℕ). outputs_from f o (suc number) done ++ outputs_from f o n more) (let same : suc number + length done ≡ number + length (p ∷ done) = omega arith in same))
+
+count-outputs : (f : LiveFiles) (o : OutputSpec) (number : ℕ) (done : List Part) → length (outputs_from f o number done) ≡ length done
+count-outputs f o number [] = refl
+count-outputs f o number (p ∷ done) = ap suc (count-outputs f o (suc number) done)
+
+-- some first drafts are whole, and one more
+whole-behind : (old mid new : Names) (done : List Draft) (d : Draft) → mid ≡ with_outputs old (outputs_of done) → new ≡ with_content mid (output_of d).name (output_of d).content → new ≡ with_outputs old (outputs_of (done ++ d ∷ []))
+whole-behind old mid new done d before names =
+    names ∙ ap (λ (n : Names). with_content n (output_of d).name (output_of d).content) before
+    ∙ sym (ap (with_outputs old) (map-append output_of done (d ∷ [])) ∙ with_outputs-added old (outputs_of done) (output_of d))
+
+-- some first drafts are whole, and what stands of the next one stands in turn
+pub in_turn-behind : (old mid new : Names) (done rest : List Draft) (d : Draft) → mid ≡ with_outputs old (outputs_of done) → StandsInTurn mid new (d ∷ []) → StandsInTurn old new (done ++ d ∷ rest)
+in_turn-behind old mid new done rest d before stands = step stands.stand stands.drafted stands.names
+  where
+    one : (o : Output) → (o ≡ output_of d) ⊎ IsDrafted o d → new ≡ with_outputs mid (o ∷ []) → StandsInTurn old new (done ++ d ∷ rest)
+    one o (inl whole) names =
+        subst (StandsInTurn old new) (append_assoc done (d ∷ []) rest)
+        (StandsInTurn-whole old new (done ++ d ∷ []) rest (whole-behind old mid new done d before (names ∙ ap (λ (each : Output). with_outputs mid (each ∷ [])) whole)))
+    one o (inr is) names = StandsInTurn-next old mid new done rest d o before names is
+
+    step : (os : List Output) → AreDrafted os (d ∷ []) → new ≡ with_outputs mid os → StandsInTurn old new (done ++ d ∷ rest)
+    step [] drafted names = StandsInTurn-whole old new done (d ∷ rest) (names ∙ before)
+    step (o ∷ []) drafted names = one o drafted names
+    step (o ∷ (other ∷ os)) drafted names = absurd drafted.1
+
+-- ---- names
+
+-- the name of each output has the form of those that may be written
+pub named-so : (split : Bool) (output : List ℕ) (number : ℕ) → number < 2 ^ 64 → may_be_written split output (name_of split output number) ≡ true
+named-so true output number few = part-names output number few
+named-so false output number few = (bytes_eq-Decides output output).1 refl
+
+-- so no file of a link was opened under it
+pub unwritten-apart : (holder : ℕ → List ℕ) (split : Bool) (output name : List ℕ) (m : MergeSeen) → may_be_written split output name ≡ true → IsUnwritten holder split output m → IsApart holder (name ∷ []) m
+unwritten-apart holder split output name m may unwritten = λ k d lt. λ j e inside. one (slice_index_or (slice_index_or m.queues k d).lane.links j e) (unwritten k d lt j e inside)
+  where
+    one : (link : Link) → IsUnwrittenLink holder split output link → IsApartLink holder (name ∷ []) link
+    one (Track t) isnt = (λ same. let both : may_be_written split output (holder t.file.n) ≡ true = sym (ap (may_be_written split output) same) ∙ may in absurd (cc), tt)
+    one (Entries entries) isnt = tt
+
+others-front : (name : List ℕ) (xs ys : List (List ℕ)) → AreOthers name (xs ++ ys) → AreOthers name xs
+others-front name [] ys others = tt
+others-front name (x ∷ xs) ys others = (others.0, others-front name xs ys others.1)
+
+others-behind : (name : List ℕ) (xs ys : List (List ℕ)) → AreOthers name (xs ++ ys) → AreOthers name ys
+others-behind name [] ys others = others
+others-behind name (x ∷ xs) ys others = others-behind name xs ys others.1
+
+-- files that stay open keep their names
+pub unwritten-kept : {S : Type 0} (r : Ghosts S) (f : writing.Ghosts S) (split : Bool) (output : List ℕ) (names : List (List ℕ)) (a b : S) (m m' : MergeSeen) → KeepsOthers r f names a b → IsReady (live_files r a) m → KeepsQueues m.queues m'.queues → IsUnwritten (f.holder a) split output m → IsUnwritten (f.holder b) split output m'
+unwritten-kept r f split output names a b m m' kept ready lanes unwritten =
+    links-kept (All (IsUnwrittenLink (f.holder b) split output)) m.queues m'.queues lanes
+    (λ k d lt. λ j e inside. one (slice_index_or (slice_index_or m.queues k d).lane.links j e) ((ready k d lt).files j e inside) (unwritten k d lt j e inside))
+  where
+    one : (link : Link) → IsOpenLink (live_files r a) link → IsUnwrittenLink (f.holder a) split output link → IsUnwrittenLink (f.holder b) split output link
+    one (Track t) opened isnt = ap (may_be_written split output) (kept.holders t.file.n opened.live) ∙ isnt
+    one (Entries entries) opened isnt = tt
+
+-- ---- the files of other names
+
+module _ {S : Type 0} (r : Ghosts S) (f : writing.Ghosts S) (split : Bool) (output : List ℕ) where
+  -- no name was written
+  pub keeps-none : (a : S) → KeepsUnwritten r f split output a a
+  keeps-none a = record { names = []; form = All-nil (λ n. may_be_written split output n ≡ true); kept = KeepsOthers-none r f [] a }
+
+  -- the files were only read
+  pub keeps-read : (a b : S) → OnlyRead r f a b → KeepsUnwritten r f split output a b
+  keeps-read a b read = record { names = []; form = All-nil (λ n. may_be_written split output n ≡ true); kept = read-keeps r f a b read [] }
+
+  -- one was
+  pub keeps-one : (name : List ℕ) (a b : S) → may_be_written split output name ≡ true → KeepsOthers r f (name ∷ []) a b → KeepsUnwritten r f split output a b
+  keeps-one name a b may kept = record {
+    names = name ∷ [];
+    form = All-cons (λ n. may_be_written split output n ≡ true) name [] may (All-nil (λ n. may_be_written split output n ≡ true));
+    kept = kept;
+  }
+
+  -- some were, and then more
+  pub keeps-then : (a b c : S) → KeepsUnwritten r f split output a b → KeepsUnwritten r f split output b c → KeepsUnwritten r f split output a c
+  keeps-then a b c first next = record {
+    names = first.names ++ next.names;
+    form = All-append (λ n. may_be_written split output n ≡ true) first.names next.names first.form next.form;
+    kept = KeepsOthers-then r f (first.names ++ next.names) a b c
+        (KeepsOthers-more r f first.names (first.names ++ next.names) a b (λ name others. others-front name first.names next.names others) first.kept)
+        (KeepsOthers-more r f next.names (first.names ++ next.names) b c (λ name others. others-behind name first.names next.names others) next.kept);
+  }
+
+-- the links' files are told where a part begins
+pub told-merge : (f : LiveFiles) (b : PlacedBlocks) (lane : Option ℕ) → IsToldFrom f b lane → IsTold f b.merge
+told-merge f b None told = told.0
+told-merge f b (Some k) told = told
+
+-- ---- on the way
+
+module _ {S : Type 0} (r : Ghosts S) (f : writing.Ghosts S) (o : OutputSpec) (a : S) (p : PlacedBlocks) where
+  -- The outputs of some first parts stand, and the others are left.
+  pub record Standing (b : S) (o' : OutputSpec) (p' : PlacedBlocks) (written : List Written) (next : Option PartStart) : Type 0 where
+    pub done : List Part
+    pub whole : parts (split_in p) (left (live_files r a) p.merge) ≡ done ++ parts_begun (live_files r b) p' next
+    pub written_are : written ≡ map written_of (outputs_from (live_files r a) o 1 done)
+    pub names : f.names b ≡ with_outputs (f.names a) (outputs_of (drafts_of (outputs_from (live_files r a) o 1 done)))
+    pub become : outputs_of (drafts_of (outputs_from (live_files r a) o 1 done)) ≡ map laid_out (outputs_from (live_files r a) o 1 done)
+    pub told : IsToldNext (live_files r b) p' next
+    pub front : front_with (live_files r b) o'.front ≡ front_with (live_files r a) o'.front
+
+  -- So it is where the links' files are told; the next part can be begun, and so many octets were read.
+  pub record OnTheWay (b : S) (o' : OutputSpec) (p' : PlacedBlocks) (written : List Written) (next : Option PartStart) : Type 0 where
+    pub read : ℕ
+    pub data_left : read + data_of o' ≤ data_of o
+    pub goes : GoesOn r read a b p p'
+    pub begins : CanBeNext p' next
+    pub spec : o' ≡ spec_at o (length written + 1)
+    pub attached : All (CanAttach r f b (next_name o' written)) o'.front.attachments
+    pub kept : KeepsUnwritten r f o.split o.name a b
+    pub standing : IsTold (live_files r a) p.merge → Standing b o' p' written next
+
+  -- ---- the first part was found
+
+  pub way-begins : (b : S) (p' : PlacedBlocks) (next : Option PartStart) (turns : ℕ) → OnlyRead r f a b → GoesOn r 0 a b p p' → FindsPart (live_files r a) (live_files r b) turns (parts (split_in p) (left (live_files r a) p.merge)) p p' next
+      → All (CanAttach r f a (name_of o.split o.name 1)) o.front.attachments → OnTheWay b o p' [] next
+  way-begins b p' next turns read goes finds attached = record {
+    read = 0;
+    data_left = omega arith;
+    goes = goes;
+    begins = finds.begins;
+    spec = refl;
+    attached = λ k d inside. attach (slice_index_or o.front.attachments k d) (attached k d inside);
+    kept = keeps-read r f o.split o.name a b read;
+    standing = λ told. record {
+      done = [];
+      whole = sym (finds.found told);
+      written_are = refl;
+      names = read.names;
+      become = refl;
+      told = finds.told told;
+      front = ap (λ (h : LiveFiles). front_with h o.front) (files-same r f a b read);
+    };
+  }
+    where
+      attach : (it : Attachment) → CanAttach r f a (name_of o.split o.name 1) it → CanAttach r f b (name_of o.split o.name 1) it
+      attach it can = record {
+        id = can.id;
+        master = can.master;
+        live = ap (λ (h : LiveFiles). h.live it.file.n) (files-same r f a b read) ∙ can.live;
+        inside = omega (arith, can.inside, ap (λ (h : LiveFiles). h.size it.file.n) (files-same r f a b read));
+        apart = λ same. can.apart (sym (read.holders it.file.n) ∙ same);
+      }
+
+  -- ---- one output more
+
+  module _ (b : S) (o' : OutputSpec) (p' : PlacedBlocks) (written : List Written) (part : PartStart) (way : OnTheWay b o' p' written (Some part)) where
+    pub way-scale : p.cuts.scale ≡ o.limits.scale → p'.cuts.scale ≡ o'.limits.scale
+    way-scale same = ap (λ (s : Split). s.scale) way.goes.split ∙ same ∙ sym (ap (λ (each : OutputSpec). each.limits.scale) way.spec)
+
+    pub way-records : HasRecords r f a (name_of o.split o.name 1) o.front o.chapters o.tags → HasRecords r f b (next_name o' written) o'.front o'.chapters o'.tags
+    way-records has =
+        let n = length written + 1 in
+        let P : OutputSpec → Type 0 = λ each. All (CanAttach r f b (next_name o' written)) each.front.attachments in
+        let at : HasRecords r f b (next_name o' written) (front_of o.front n) o.chapters o.tags = record {
+          info = ap (λ (fr : Front). id_of fr.info) (around n) ∙ has.info;
+          tracks = ap (λ (fr : Front). id_of fr.tracks) (around n) ∙ has.tracks;
+          attached = subst P way.spec way.attached;
+          chapters = has.chapters;
+          tags = has.tags;
+        } in
+        subst (λ (each : OutputSpec). HasRecords r f b (next_name o' written) each.front each.chapters each.tags) (sym way.spec) at
+      where
+        around : (n : ℕ) → record (front_of o.front n) { attachments = [] } ≡ record o.front { attachments = [] }
+        around n = either (n == 1)
+          where
+            either : (first : Bool) → record (if first then o.front else record o.front { attachments = [] }) { attachments = [] } ≡ record o.front { attachments = [] }
+            either true = refl
+            either false = refl
+
+    pub way-apart : IsUnwritten (f.holder a) o.split o.name p.merge → IsReady (live_files r a) p.merge → IsUnwritten (f.holder b) o'.split o'.name p'.merge
+    way-apart unwritten ready =
+        subst (λ (each : OutputSpec). IsUnwritten (f.holder b) each.split each.name p'.merge) (sym way.spec)
+        (unwritten-kept r f o.split o.name way.kept.names a b p.merge p'.merge way.kept.kept ready way.goes.lanes unwritten)
+
+    -- the files of other names stay
+    pub way-keeps : (c : S) → KeepsUnwritten r f o'.split o'.name b c → KeepsUnwritten r f o.split o.name a c
+    way-keeps c kept = keeps-then r f o.split o.name a b c way.kept (subst (λ (each : OutputSpec). KeepsUnwritten r f each.split each.name b c) way.spec kept)
+
+    -- no more octets are read than may be
+    pub way-refused : (c : S) → r.octets_read c ≤ r.octets_read b + due (live_files r b) p'.merge + 2 * files_length (live_files r b) p'.merge + data_of o' → ReadsParts r a c o p
+    way-refused c reads =
+        let paid = way.goes.paid in
+        let long = way.goes.length in
+        let kept = way.data_left in
+        omega (arith, paid, long, kept, reads)
+
+    module _ (told : IsTold (live_files r a) p.merge) where
+      so_far : Standing b o' p' written (Some part)
+      so_far = way.standing told
+
+      abbrev here : Part
+      here = part_in (live_files r b) p' part
+
+      number : length written + 1 ≡ 1 + length so_far.done
+      number =
+          let count : length written ≡ length so_far.done = ap length so_far.written_are ∙ length-map (outputs_from (live_files r a) o 1 so_far.done) written_of ∙ count-outputs (live_files r a) o 1 so_far.done in
+          omega (arith, count)
+
+      -- it is the next of the outputs
+      is-next : (let x : PlannedOutput = record { name = next_name o' written; blocks = here.blocks; document = document_with (live_files r b) o' here } in x) ≡ output_in (live_files r a) o (1 + length so_far.done) here
+      is-next =
+          ap (λ (fr : model.Front). let x : PlannedOutput = record {
+            name = next_name o' written;
+            blocks = here.blocks;
+            document = document_of o'.limits o'.rules fr (chapters_of o'.split o'.chapters (stretch_of o'.limits.scale here.start here.end)) o'.tags here.blocks;
+          } in x) so_far.front
+          ∙ ap (λ (each : OutputSpec). let x : PlannedOutput = record { name = name_of each.split each.name (length written + 1); blocks = here.blocks; document = document_with (live_files r a) each here } in x) way.spec
+          ∙ ap (λ (n : ℕ). output_in (live_files r a) o n here) number
+
+      abbrev rest : List Part
+      rest = parts_behind (split_in p') part.start (left (live_files r b) p'.merge)
+
+      abbrev done_drafts : List Draft
+      done_drafts = drafts_of (outputs_from (live_files r a) o 1 so_far.done)
+
+      abbrev its : PlannedOutput
+      its = record { name = next_name o' written; blocks = here.blocks; document = document_with (live_files r b) o' here }
+
+      all-drafts : drafts_of (outputs_from (live_files r a) o 1 (parts (split_in p) (left (live_files r a) p.merge)))
+          ≡ done_drafts ++ draft_of its.name its.document ∷ drafts_of (outputs_from (live_files r a) o (suc (1 + length so_far.done)) rest)
+      all-drafts =
+          ap (λ (all : List Part). drafts_of (outputs_from (live_files r a) o 1 all)) so_far.whole
+          ∙ ap drafts_of (outputs-split (live_files r a) o 1 so_far.done (here ∷ rest))
+          ∙ map-append (λ (each : PlannedOutput). draft_of each.name each.document) (outputs_from (live_files r a) o 1 so_far.done) (outputs_from (live_files r a) o (1 + length so_far.done) (here ∷ rest))
+          ∙ ap (λ (each : PlannedOutput). done_drafts ++ draft_of each.name each.document ∷ drafts_of (outputs_from (live_files r a) o (suc (1 + length so_far.done)) rest)) (sym is-next)
+
+      -- it was refused
+      pub refused-next : (now : Names) → StandsInTurn (f.names b) now (draft_of its.name its.document ∷ []) → StandsInTurn (f.names a) now (drafts_of (outputs_from (live_files r a) o 1 (parts (split_in p) (left (live_files r a) p.merge))))
+      refused-next now stands =
+          subst (StandsInTurn (f.names a) now) (sym all-drafts)
+          (in_turn-behind (f.names a) (f.names b) now done_drafts (drafts_of (outputs_from (live_files r a) o (suc (1 + length so_far.done)) rest)) (draft_of its.name its.document) so_far.names stands)
+
+      -- it stands
+      one-more : outputs_from (live_files r a) o 1 (so_far.done ++ here ∷ []) ≡ outputs_from (live_files r a) o 1 so_far.done ++ its ∷ []
+      one-more =
+          outputs-split (live_files r a) o 1 so_far.done (here ∷ [])
+          ∙ ap (λ (each : PlannedOutput). outputs_from (live_files r a) o 1 so_far.done ++ each ∷ []) (sym is-next)
+
+      pub stands-next : (e : S) (o'' : OutputSpec) (p'' : PlacedBlocks) (written' : List Written) (next : Option PartStart) → WritesOne r f part b e o' p' p'' written written' next
+          → o'' ≡ record o' { front = record o'.front { attachments = [] } } → Standing e o'' p'' written' next
+      stands-next e o'' p'' written' next writes spec = record {
+        done = so_far.done ++ here ∷ [];
+        whole = so_far.whole ∙ ap (λ (more : List Part). so_far.done ++ here ∷ more) (sym writes.behind) ∙ sym (append_assoc so_far.done (here ∷ []) (parts_begun (live_files r e) p'' next));
+        written_are =
+            writes.added ∙ ap (λ (ws : List Written). ws ++ written_of its ∷ []) so_far.written_are
+            ∙ sym (map-append written_of (outputs_from (live_files r a) o 1 so_far.done) (its ∷ [])) ∙ ap (map written_of) (sym one-more);
+        names =
+            whole-behind (f.names a) (f.names b) (f.names e) done_drafts (draft_of its.name its.document) so_far.names
+            (writes.writes.names ∙ sym (ap (λ (x : Output). with_content (f.names b) x.name x.content) writes.writes.becomes))
+            ∙ ap (λ (ds : List Draft). with_outputs (f.names a) (outputs_of ds)) (drafts-more ∙ ap drafts_of (sym one-more));
+        become =
+            ap (λ (os : List PlannedOutput). outputs_of (drafts_of os)) one-more
+            ∙ ap outputs_of (sym drafts-more)
+            ∙ map-append output_of done_drafts (draft_of its.name its.document ∷ [])
+            ∙ ap₂ (λ (before : List Output) (x : Output). before ++ x ∷ []) so_far.become writes.writes.becomes
+            ∙ sym (map-append laid_out (outputs_from (live_files r a) o 1 so_far.done) (its ∷ []))
+            ∙ ap (map laid_out) (sym one-more);
+        told = writes.told;
+        front = subst (λ (each : OutputSpec). front_with (live_files r e) each.front ≡ front_with (live_files r a) each.front) (sym spec) refl;
+      }
+        where
+          drafts-more : done_drafts ++ draft_of its.name its.document ∷ [] ≡ drafts_of (outputs_from (live_files r a) o 1 so_far.done ++ its ∷ [])
+          drafts-more = sym (map-append (λ (each : PlannedOutput). draft_of each.name each.document) (outputs_from (live_files r a) o 1 so_far.done) (its ∷ []))
+
+    -- and so on
+    pub way-next : (e : S) (o'' : OutputSpec) (p'' : PlacedBlocks) (written' : List Written) (next : Option PartStart) → FindsNext o' o'' p' p'' written written' next → GoesOn r (data_of o') b e p' p'' → KeepsUnwritten r f o'.split o'.name b e
+        → (IsToldFrom (live_files r b) p' part.lane → WritesOne r f part b e o' p' p'' written written' next) → OnTheWay e o'' p'' written' next
+    way-next e o'' p'' written' next finds goes kept writes = record {
+      read = way.read + data_of o';
+      data_left = let none : data_of o'' ≡ 0 = ap data_of finds.spec in let before = way.data_left in omega (arith, none, before);
+      goes = goes-then r way.read (data_of o') a b e p p' p'' way.goes goes;
+      begins = finds.begins;
+      spec = finds.spec ∙ ap (λ (each : OutputSpec). let x : OutputSpec = record each { front = record each.front { attachments = [] } } in x) way.spec ∙ later (length written + 1 == 1) ∙ ap (λ (n : ℕ). spec_at o (n + 1)) (sym finds.count);
+      attached = subst (λ (each : OutputSpec). All (CanAttach r f e (next_name o'' written')) each.front.attachments) (sym finds.spec) (All-nil (CanAttach r f e (next_name o'' written')));
+      kept = way-keeps e kept;
+      standing = λ told. stands-next told e o'' p'' written' next (writes ((way.standing told).told)) finds.spec;
+    }
+      where
+        later : (first : Bool) → (let x : OutputSpec = record o { front = record (if first then o.front else record o.front { attachments = [] }) { attachments = [] } } in x) ≡ spec_at o (length written + 1 + 1)
+        later first = either first ∙ ap (λ (q : Bool). let x : OutputSpec = record o { front = if q then o.front else record o.front { attachments = [] } } in x) (sym (more (length written)))
+          where
+            either : (q : Bool) → (let x : OutputSpec = record o { front = record (if q then o.front else record o.front { attachments = [] }) { attachments = [] } } in x) ≡ record o { front = record o.front { attachments = [] } }
+            either true = refl
+            either false = refl
+
+            more : (n : ℕ) → (n + 1 + 1 == 1) ≡ false
+            more n = grind (arith, nat_tests)
+
+-- ---- no part is left
+
+pub all-written : {S : Type 0} (r : Ghosts S) (f : writing.Ghosts S) (o : OutputSpec) (a b : S) (p p' : PlacedBlocks) (o' : OutputSpec) (written : List Written) → Standing r f o a p b o' p' written None
+    → WritesAll (f.names a) (f.names b) (outputs_from (live_files r a) o 1 (parts (split_in p) (left (live_files r a) p.merge)))
+all-written r f o a b p p' o' written standing =
+    let whole : parts (split_in p) (left (live_files r a) p.merge) ≡ standing.done = standing.whole ∙ append-nil standing.done in
+    subst (λ (all : List Part). WritesAll (f.names a) (f.names b) (outputs_from (live_files r a) o 1 all)) (sym whole)
+    (record { names = standing.names ∙ ap (with_outputs (f.names a)) standing.become; become = standing.become })
+
+pub all-summed : {S : Type 0} (r : Ghosts S) (f : writing.Ghosts S) (o : OutputSpec) (a b : S) (p p' : PlacedBlocks) (o' : OutputSpec) (written : List Written) → Standing r f o a p b o' p' written None
+    → written ≡ map written_of (outputs_from (live_files r a) o 1 (parts (split_in p) (left (live_files r a) p.merge)))
+all-summed r f o a b p p' o' written standing =
+    let whole : parts (split_in p) (left (live_files r a) p.merge) ≡ standing.done = standing.whole ∙ append-nil standing.done in
+    standing.written_are ∙ ap (λ (all : List Part). map written_of (outputs_from (live_files r a) o 1 all)) (sym whole)
+
+-- which is what stands where something else is refused then
+pub all-in_turn : (old new : Names) (outputs : List PlannedOutput) → WritesAll old new outputs → StandsInTurn old new (drafts_of outputs)
+all-in_turn old new outputs writes =
+    subst (StandsInTurn old new) (append-nil (drafts_of outputs))
+    (StandsInTurn-whole old new (drafts_of outputs) [] (writes.names ∙ ap (with_outputs old) (sym writes.become)))

@@ -1,0 +1,82 @@
+//! All outputs of a merge, one after the other.
+
+ghost use Rattle.std.specs.Prelude.{◌≡◌, IfOk, OnOk};
+ghost use Rattle.mkv_io.specs.Sources.{live_files};
+ghost use Rattle.mkv_jobs.specs.Ends.{HasRemuxCause};
+ghost use Rattle.remux_plan.specs.Parts.{name_of};
+ghost use Rattle.remuxer.specs.Taking.{Goes};
+ghost use Rattle.remuxer.specs.Output.{CanWriteAll, CanWriteNext, Ends, FindsNext, KeepsUnwritten, ReadsParts, SaysWritten, WritesNext, WritesParts, data_of};
+
+use crate::output::write_output;
+use crate::placed::{PartStart, PlacedBlocks};
+use cues_seekhead::OutEnd;
+use mkv_io::{Files, Reads};
+use mkv_values::{List, Text};
+use remux_plan::{OutputSpec, Written};
+use splitter::part_name;
+use std::alloc::{AllocError, Global};
+
+// The name of the part of this number, from 1 on.
+fn name_of(alloc: Global, spec: &OutputSpec, number: u64) -> Result<Text, AllocError>
+    ensures { IfOk result (λ name. name ≡ name_of spec.now.split spec.now.name number) }
+{
+    if spec.split {
+        part_name(alloc, spec.name.as_str(), number)
+    } else {
+        spec.name.clone()
+    }
+}
+
+// Writes the output of the part that begins so, and adds it to those that were written. Answers where the next one begins, to
+// which no attachments go.
+fn write_next<F: Files>(
+    alloc: Global,
+    files: &mut F,
+    spec: &mut OutputSpec,
+    blocks: &mut PlacedBlocks,
+    written: &mut List<Written>,
+    part: PartStart,
+) -> Result<Option<PartStart>, OutEnd>
+    requires { CanWriteNext F.Reads F.Files.own files.old spec.old written.old part blocks.old }
+    ensures writes { WritesNext F.Reads F.Files.own part files.old files.new spec.old blocks.old blocks.new written.old written.new result }
+    ensures finds { IfOk result (FindsNext spec.old spec.new blocks.old blocks.new written.old written.new) }
+    ensures goes { Goes F.Reads (data_of spec.old) files.old files.new blocks.old blocks.new result }
+    ensures kept { KeepsUnwritten F.Reads F.Files.own spec.old.split spec.old.name files.old files.new }
+    ensures cause { HasRemuxCause F.Reads F.Files.own files.old files.new result }
+{
+    let number = written.as_slice().len() as u64 + 1;
+    let name = name_of(alloc, spec, number)?;
+    let done = write_output(alloc, files, spec, name.as_str(), part, blocks)?;
+    written.push(Written {
+        name,
+        blocks: done.blocks,
+    })?;
+    spec.front.attachments = List::new(alloc);
+    let next = blocks.next_part(files, done.ahead)?;
+    Ok(next)
+}
+
+/// Writes an output for each part of a merge, one after the other, and says which were written. Attachments go to the first.
+/// After a refusal the first ones stand whole, and the next in part.
+pub(crate) fn write_parts<F: Files>(
+    alloc: Global,
+    files: &mut F,
+    spec: OutputSpec,
+    blocks: &mut PlacedBlocks,
+) -> Result<List<Written>, OutEnd>
+    requires { CanWriteAll F.Reads F.Files.own files.old spec blocks.old }
+    ensures writes { WritesParts F.Reads F.Files.own files.old files.new spec blocks.old result }
+    ensures written { SaysWritten F.Reads files.old spec blocks.old result }
+    ensures ends { OnOk result (Ends (live_files F.Reads files.old) blocks.old.merge blocks.new.merge) }
+    ensures kept { KeepsUnwritten F.Reads F.Files.own spec.split spec.name files.old files.new }
+    ensures octets { ReadsParts F.Reads files.old files.new spec blocks.old }
+    ensures cause { HasRemuxCause F.Reads F.Files.own files.old files.new result }
+{
+    let mut spec = spec;
+    let mut written = List::new(alloc);
+    let mut next = blocks.first_part(files)?;
+    'parts: while let Some(part) = next {
+        next = write_next(alloc, files, &mut spec, blocks, &mut written, part)?;
+    }
+    Ok(written)
+}
