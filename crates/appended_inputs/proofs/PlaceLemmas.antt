@@ -1,24 +1,25 @@
 -- Inputs are set in place, one after the other.
-use Rattle.std.proofs.Common.{◌≡◌, ◌≤◌, ◌<◌, ℕ, zero, suc, ◌+◌, ◌*◌, ◌-◌, List, [], ◌∷◌, ◌++◌, length, map, Option, Some, None, refl, sym, ap, ap₂, subst, ◌∙◌, arith, append_assoc, append-nil, length-append}
+use Rattle.std.proofs.Common.{◌≡◌, ◌≤◌, ℕ, ◌+◌, ◌*◌, ◌-◌, List, [], ◌∷◌, ◌++◌, length, map, Option, Some, None, refl, sym, ap, ap₂, subst, ◌∙◌, arith, append_assoc, length-append}
 use Rattle.std.specs.Prelude.{slice_get}
 use Rattle.std.specs.List.{All, sum_by}
 use Rattle.std.specs.Option.{option_map, option_map_or, unwrap_or}
 use Rattle.std.proofs.lemmas.List.{map-append}
-use Rattle.std.proofs.lemmas.List.Elements.{All-head, All-nil, All-push, All-tail}
+use Rattle.std.proofs.lemmas.List.Elements.{All-head, All-push, All-tail}
 use Rattle.std.proofs.lemmas.List.Sums.{sum_by-cons}
 use Rattle.mkv_values.specs.declared.outside.FileId.{FileId}
 use Rattle.mkv_io.specs.LiveFiles.{LiveFiles}
-use Rattle.lane_blocks.specs.Links.{octets_in}
-use Rattle.merge_model.specs.declared.limits.TheConstants.{MOST_LINKS, MOST_SHIFT}
+use Rattle.merge_model.specs.declared.limits.TheConstants.{MOST_LINKS}
 use Rattle.file_survey.specs.declared.found.TheConstants.{MOST_END}
 use Rattle.merge_inputs.specs.Input.{IsInput, read_in}
+use Rattle.merge_inputs.specs.declared.input.Blocks.{Blocks}
+use Rattle.merge_inputs.specs.declared.input.Blocks.TheVariants as held_by
 use Rattle.merge_inputs.specs.declared.input.Input.{Input}
 use Rattle.merge_plan.specs.Places.{begun_at, end_of, in_place, in_place_from}
 use Rattle.merge_plan.specs.Plan.{Source, later_by}
 use Rattle.merge_plan.specs.Planned.{IsToldInput, source_in}
 use Rattle.merge_plan.specs.Spots.{HasPlace}
-use Rattle.appended_inputs.specs.Behind.{end_behind, last_in, most_behind, size_behind, walked_for}
-use Rattle.appended_inputs.specs.Placed.{ArePlaced, StandInPlace, walked_behind}
+use Rattle.appended_inputs.specs.Behind.{end_behind, last_in, most_behind, size_behind, walked_for, walked_in, walked_of}
+use Rattle.appended_inputs.specs.Placed.{walked_behind}
 
 -- ---- the last of some inputs
 
@@ -45,8 +46,7 @@ moved shift i = record i { shift = shift }
 moved-good : (f : LiveFiles) (shift : Option ℕ) (i : Input) → IsInput f i → IsInput f (moved shift i)
 moved-good f shift i is = record {
   live = is.live;
-  size = is.size;
-  scale = is.scale;
+  blocks = is.blocks;
   taken = is.taken;
   attachments = is.attachments;
   chapters = is.chapters;
@@ -66,23 +66,8 @@ pub record GoesOn (f : LiveFiles) (inputs placed left : List Input) : Type 0 whe
   pub told : All (IsToldInput f) inputs → All (IsToldInput f) placed × All (IsToldInput f) left
   pub exact : All (IsToldInput f) inputs → map (source_in f) placed ++ in_place_from (end_behind f placed) (map (source_in f) left) ≡ in_place (map (source_in f) inputs)
 
-pub goes-begin : (f : LiveFiles) (inputs : List Input) → All (IsInput f) inputs → GoesOn f inputs [] inputs
-goes-begin f inputs good = record {
-  good = All-nil (IsInput f);
-  rest = good;
-  files = refl;
-  many = omega arith;
-  places = All-nil HasPlace;
-  near = omega arith;
-  told = λ told. (All-nil (IsToldInput f), told);
-  exact = λ told. refl;
-}
-
 module _ (f : LiveFiles) (inputs placed new left rest : List Input) (i : Input) (shift : Option ℕ) (goes : GoesOn f inputs placed left) (next : left ≡ i ∷ rest)
     (near : unwrap_or shift 0 ≤ most_behind placed) (behind : All (IsToldInput f) placed → shift ≡ option_map (λ _. end_behind f placed) i.shift) (put : new ≡ placed ++ moved shift i ∷ []) where
-  one : Input
-  one = moved shift i
-
   pub goes-more : length inputs ≤ MOST_LINKS → GoesOn f inputs new rest
   goes-more few = subst (λ (ps : List Input). GoesOn f inputs ps rest) (sym put) (record {
     good = All-push (IsInput f) placed (moved shift i) goes.good (moved-good f shift i (All-head (IsInput f) i rest (subst (All (IsInput f)) next goes.rest)));
@@ -115,30 +100,21 @@ module _ (f : LiveFiles) (inputs placed new left rest : List Input) (i : Input) 
   -- what is walked over for it is a part of what is walked over for all that were left
   pub goes-paid : (most mid now : ℕ) → mid + 6 * walked_behind f (size_behind f placed) left ≤ most → now ≤ mid + 6 * walked_for i.shift (size_behind f placed) → now + 6 * walked_behind f (size_behind f new) rest ≤ most
   goes-paid most mid now before more =
-      let last : size_behind f new ≡ f.size i.file.n = ap (size_behind f) put ∙ behind-push (λ (each : Input). f.size each.file.n) placed (moved shift i) in
+      let last : size_behind f new ≡ walked_of f i = ap (size_behind f) put ∙ behind-push (walked_of f) placed (moved shift i) in
       omega (arith, ap (walked_behind f (size_behind f placed)) next, ap (λ (n : ℕ). walked_behind f n rest) last)
-
--- at the end all are set
-pub goes-end : (f : LiveFiles) (inputs placed left : List Input) → GoesOn f inputs placed left → left ≡ [] → ArePlaced f inputs placed
-goes-end f inputs placed left goes none = record {
-  good = goes.good;
-  files = sym (append-nil (map (λ (i : Input). i.file) placed)) ∙ ap (λ (l : List Input). map (λ (i : Input). i.file) placed ++ map (λ (i : Input). i.file) l) (sym none) ∙ goes.files;
-  places = goes.places;
-}
-
-pub goes-exact : (f : LiveFiles) (inputs placed left : List Input) → GoesOn f inputs placed left → left ≡ [] → StandInPlace f inputs placed
-goes-exact f inputs placed left goes none told =
-    sym (append-nil (map (source_in f) placed))
-    ∙ ap (λ (l : List Input). map (source_in f) placed ++ in_place_from (end_behind f placed) (map (source_in f) l)) (sym none)
-    ∙ goes.exact told
 
 -- no more is walked over than all files
 pub walked-within : (f : LiveFiles) (before : ℕ) (inputs : List Input) → walked_behind f before inputs ≤ before + sum_by (λ (i : Input). f.size i.file.n) inputs
 walked-within f before [] = omega arith
 walked-within f before (i ∷ is) =
-    let rest = walked-within f (f.size i.file.n) is in
+    let own = within i.blocks (f.size i.file.n) in
+    let rest = walked-within f (walked_of f i) is in
     omega (arith, at i.shift, sum_by-cons (λ (each : Input). f.size each.file.n) i is)
   where
+    within : (blocks : Blocks) (size : ℕ) → walked_in blocks size ≤ size
+    within (held_by.Clusters outline scale) size = omega arith
+    within (held_by.Entries entries) size = omega arith
+
     at : (shift : Option ℕ) → walked_for shift before ≤ before
     at None = omega arith
     at (Some time) = omega arith

@@ -5,6 +5,8 @@ use Rattle.std.specs.Option.{option_map, option_map_or}
 use Rattle.mkv_io.specs.LiveFiles.{LiveFiles}
 use Rattle.file_survey.specs.declared.found.TheConstants.{MOST_END}
 use Rattle.merge_inputs.specs.Input.{read_in}
+use Rattle.merge_inputs.specs.declared.input.Blocks.{Blocks}
+use Rattle.merge_inputs.specs.declared.input.Blocks.TheVariants.{Clusters, Entries}
 use Rattle.merge_inputs.specs.declared.input.Input.{Input}
 use Rattle.merge_plan.specs.Places.{end_of}
 use Rattle.merge_plan.specs.Plan.{later_by}
@@ -26,11 +28,19 @@ end_behind f inputs = option_map_or (λ (i : Input). end_of (source_in f i)) (la
 abbrev pub most_behind : List Input → ℕ
 most_behind inputs = option_map_or (λ (i : Input). later_by (read_in i) + MOST_END) (last_in inputs) 0
 
--- the length of its file
-abbrev pub size_behind : LiveFiles → List Input → ℕ
-size_behind f inputs = option_map_or (λ (i : Input). f.size i.file.n) (last_in inputs) 0
+-- how much of a file of this length is walked over to find where it ends: of a text nothing, since its entries tell that
+abbrev pub walked_in : Blocks → ℕ → ℕ
+walked_in (Clusters outline scale) size = size
+walked_in (Entries entries) size = 0
 
--- how much is walked over for an input with this shift: the file before it, of this length, where it is appended
+abbrev pub walked_of : LiveFiles → Input → ℕ
+walked_of f i = walked_in i.blocks (f.size i.file.n)
+
+-- how much of the file of the last of these is
+abbrev pub size_behind : LiveFiles → List Input → ℕ
+size_behind f inputs = option_map_or (walked_of f) (last_in inputs) 0
+
+-- how much is walked over for an input with this shift: so much of the file before it, where it is appended
 abbrev pub walked_for : Option ℕ → ℕ → ℕ
 walked_for None before = 0
 walked_for (Some time) before = before

@@ -4,13 +4,13 @@ ghost use Rattle.std.specs.Prelude.{◌≡◌, ◌+◌, ◌*◌, ◌≤◌, leng
 ghost use Rattle.std.specs.List.{All};
 ghost use Rattle.std.specs.Option.{unwrap_or};
 ghost use Rattle.mkv_io.specs.Faults.{HasCause, is_read_fault};
-ghost use Rattle.mkv_io.specs.Sources.{file_size, live_files};
+ghost use Rattle.mkv_io.specs.Sources.{live_files};
 ghost use Rattle.merge_model.specs.declared.limits.TheConstants.{MOST_LINKS};
 ghost use Rattle.file_survey.specs.declared.found.TheConstants.{MOST_END};
 ghost use Rattle.merge_inputs.specs.Input.{IsInput, read_in};
 ghost use Rattle.merge_plan.specs.Plan.{later_by};
 ghost use Rattle.merge_plan.specs.Spots.{HasPlace};
-ghost use Rattle.appended_inputs.specs.Behind.{EndsAt, IsBehind, most_behind, size_behind, walked_for};
+ghost use Rattle.appended_inputs.specs.Behind.{EndsAt, IsBehind, most_behind, size_behind, walked_for, walked_of};
 ghost use Rattle.appended_inputs.specs.Placed.{ArePlaced, StandInPlace, walked_length};
 
 use file_survey::survey;
@@ -20,7 +20,7 @@ use mkv_io::Reads;
 use mkv_values::{List, ReadEnd};
 use std::alloc::Global;
 
-/// Where an input ends, in nanoseconds: so much later as it is itself. Its file is walked over.
+/// Where an input ends, in nanoseconds: so much later as it is itself. Its file is walked over, unless it is a text.
 fn end_of<R: Reads>(alloc: Global, input: &Input, src: &mut R) -> Result<u64, ReadEnd>
     requires input { IsInput (live_files R.Reads src.old) input.now }
     requires place { HasPlace input.now }
@@ -28,7 +28,7 @@ fn end_of<R: Reads>(alloc: Global, input: &Input, src: &mut R) -> Result<u64, Re
     ensures near { IfOk result (λ end. end ≤ later_by (read_in input.now) + MOST_END) }
     ensures standing { R.standing src.new ≡ R.standing src.old }
     ensures cause { HasCause is_read_fault (R.reading_faults src.old) (R.reading_faults src.new) result }
-    ensures octets { R.octets_read src.new ≤ R.octets_read src.old + 6 * file_size R.Reads src.old input.now.file }
+    ensures octets { R.octets_read src.new ≤ R.octets_read src.old + 6 * walked_of (live_files R.Reads src.old) input.now }
 {
     let links = links_of(alloc, input)?;
     let found = survey(alloc, src, &links)?;
@@ -59,7 +59,8 @@ fn shift_behind<R: Reads>(
     }
 }
 
-/// Sets each input that is appended to where the one before it ends. The file of that one is walked over, and no other.
+/// Sets each input that is appended to where the one before it ends. The file of that one is walked over, unless it is a text,
+/// and no other.
 pub fn set_in_place<R: Reads>(
     alloc: Global,
     inputs: List<Input>,

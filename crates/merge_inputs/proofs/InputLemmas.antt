@@ -11,7 +11,9 @@ use Rattle.tag_records.specs.declared.uid_map.TagKeep.{TagKeep}
 use Rattle.file_records.specs.Attached.{AttachedFile, in_file}
 use Rattle.file_records.specs.Records.{FileRecords, file_records, scale_of_info}
 use Rattle.merge_words.specs.declared.files.FileWords.{FileWords}
-use Rattle.merge_inputs.specs.Input.{InputRead, found_then, input_of, input_with, refusal_of, unless_refused}
+use Rattle.merge_inputs.specs.Input.{InputRead, Clusters, CanBeGiven, file_read, found_then, input_with, refusal_of, unless_refused}
+use Rattle.merge_inputs.specs.declared.input.Blocks.{Blocks}
+use Rattle.merge_inputs.specs.declared.input.Blocks.TheVariants as held_by
 use Rattle.merge_inputs.specs.Laws.{InputsStay}
 use Rattle.merge_inputs.specs.Select.{keep_of, keeps_attachments, keeps_chapters, keeps_tags, kept_list, kept_one, unmoved}
 use Rattle.merge_inputs.specs.Taken.{taken_from}
@@ -25,8 +27,7 @@ use Rattle.merge_inputs.specs.declared.input.InputRefusal.TheVariants.{Damaged}
 -- what is read of a file with this outline
 abbrev pub read_with : FileOutline → ℕ → List ℕ → ℕ → List TakenTrack → List AttachedFile → Option Node → Option Node → TagKeep → Option ℕ → InputRead
 read_with v scale title count taken attachments chapters tags keep shift = record {
-  segment = v.segment;
-  scale = scale;
+  blocks = Clusters v.segment scale;
   title = title;
   held = v.held;
   count = count;
@@ -55,20 +56,20 @@ behind words webm bytes o =
     unless_refused (refusal_as words r) (input_with words webm o r))
 
 -- nothing, where the outline refuses the file
-pub input_of-outline : (words : FileWords) (webm : Bool) (held : ℕ) (bytes : List ℕ) (d : Damage) → outline_in held bytes ≡ Err d → input_of words webm held bytes ≡ Err (Damaged d)
-input_of-outline words webm held bytes d outline = ap (λ (found : Result Outlined Damage). found_then found (behind words webm bytes)) (outline_of-refused held bytes d outline)
+pub file_read-outline : (words : FileWords) (webm : Bool) (held : ℕ) (bytes : List ℕ) (d : Damage) → outline_in held bytes ≡ Err d → file_read words webm held bytes ≡ Err (Damaged d)
+file_read-outline words webm held bytes d outline = ap (λ (found : Result Outlined Damage). found_then found (behind words webm bytes)) (outline_of-refused held bytes d outline)
 
 -- nor where a record does
-pub input_of-records : (words : FileWords) (webm : Bool) (held : ℕ) (bytes : List ℕ) (v : FileOutline) (d : Damage) → outline_in held bytes ≡ Ok v → file_records bytes v.segment ≡ Err d → input_of words webm held bytes ≡ Err (Damaged d)
-input_of-records words webm held bytes v d outline records =
+pub file_read-records : (words : FileWords) (webm : Bool) (held : ℕ) (bytes : List ℕ) (v : FileOutline) (d : Damage) → outline_in held bytes ≡ Ok v → file_records bytes v.segment ≡ Err d → file_read words webm held bytes ≡ Err (Damaged d)
+file_read-records words webm held bytes v d outline records =
     let of = Outlines-shown held bytes v outline in
     ap (λ (found : Result Outlined Damage). found_then found (behind words webm bytes)) of.is
     ∙ ap (λ (found : Result FileRecords Damage). found_then found (λ (r : FileRecords). unless_refused (refusal_as words r) (input_with words webm of.outlined r)))
     (ap (λ (w : FileOutline). file_records bytes w.segment) (sym of.shows) ∙ records)
 
 -- what is taken of it, unless something refuses that
-input_of-unless : (words : FileWords) (webm : Bool) (held : ℕ) (bytes : List ℕ) (v : FileOutline) (r : FileRecords) → outline_in held bytes ≡ Ok v → file_records bytes v.segment ≡ Ok r → input_of words webm held bytes ≡ unless_refused (refusal_as words r) (read_as words webm v r)
-input_of-unless words webm held bytes v r outline records =
+file_read-unless : (words : FileWords) (webm : Bool) (held : ℕ) (bytes : List ℕ) (v : FileOutline) (r : FileRecords) → outline_in held bytes ≡ Ok v → file_records bytes v.segment ≡ Ok r → file_read words webm held bytes ≡ unless_refused (refusal_as words r) (read_as words webm v r)
+file_read-unless words webm held bytes v r outline records =
     let of = Outlines-shown held bytes v outline in
     ap (λ (found : Result Outlined Damage). found_then found (behind words webm bytes)) of.is
     ∙ ap (λ (found : Result FileRecords Damage). found_then found (λ (each : FileRecords). unless_refused (refusal_as words each) (input_with words webm of.outlined each)))
@@ -76,15 +77,15 @@ input_of-unless words webm held bytes v r outline records =
     ∙ ap (λ (w : FileOutline). unless_refused (refusal_as words r) (read_as words webm w r)) (sym of.shows)
 
 -- where something does
-pub input_of-refused : (words : FileWords) (webm : Bool) (held : ℕ) (bytes : List ℕ) (v : FileOutline) (r : FileRecords) (why : InputRefusal) → outline_in held bytes ≡ Ok v → file_records bytes v.segment ≡ Ok r → refusal_as words r ≡ Some why → input_of words webm held bytes ≡ Err why
-input_of-refused words webm held bytes v r why outline records bad =
-    input_of-unless words webm held bytes v r outline records
+pub file_read-refused : (words : FileWords) (webm : Bool) (held : ℕ) (bytes : List ℕ) (v : FileOutline) (r : FileRecords) (why : InputRefusal) → outline_in held bytes ≡ Ok v → file_records bytes v.segment ≡ Ok r → refusal_as words r ≡ Some why → file_read words webm held bytes ≡ Err why
+file_read-refused words webm held bytes v r why outline records bad =
+    file_read-unless words webm held bytes v r outline records
     ∙ ap (λ (refusal : Option InputRefusal). unless_refused refusal (read_as words webm v r)) bad
 
 -- where nothing does
-pub input_of-all : (words : FileWords) (webm : Bool) (held : ℕ) (bytes : List ℕ) (v : FileOutline) (r : FileRecords) (input : InputRead) → outline_in held bytes ≡ Ok v → file_records bytes v.segment ≡ Ok r → refusal_as words r ≡ None → input ≡ read_as words webm v r → input_of words webm held bytes ≡ Ok input
-input_of-all words webm held bytes v r input outline records good is =
-    input_of-unless words webm held bytes v r outline records
+pub file_read-all : (words : FileWords) (webm : Bool) (held : ℕ) (bytes : List ℕ) (v : FileOutline) (r : FileRecords) (input : InputRead) → outline_in held bytes ≡ Ok v → file_records bytes v.segment ≡ Ok r → refusal_as words r ≡ None → input ≡ read_as words webm v r → file_read words webm held bytes ≡ Ok input
+file_read-all words webm held bytes v r input outline records good is =
+    file_read-unless words webm held bytes v r outline records
     ∙ ap (λ (refusal : Option InputRefusal). unless_refused refusal (read_as words webm v r)) good
     ∙ ap Ok (sym is)
 
@@ -113,12 +114,16 @@ kept-some P false one holds = tt
 
 -- ---- among other files
 
+-- blocks can be given of a file of the same length
+given : {n m : ℕ} → n ≡ m → (blocks : Blocks) → CanBeGiven n blocks → CanBeGiven m blocks
+given same (held_by.Clusters outline scale) are = record { size = sym same ∙ are.size; scale = are.scale }
+given same (held_by.Entries entries) are = are
+
 -- an input stands where its file is the same
 pub inputs-stay : InputsStay
 inputs-stay old new i same is = record {
   live = same.alive ∙ is.live;
-  size = same.size is.live ∙ is.size;
-  scale = is.scale;
+  blocks = given (sym (same.size is.live)) i.blocks is.blocks;
   taken = is.taken;
   attachments = is.attachments;
   chapters = is.chapters;

@@ -2,3 +2,4 @@ pub mod InputLemmas
 pub mod StandardFacts
 pub mod TakenLemmas
 pub mod TitleLemmas
+mod TextLemmas

@@ -2,15 +2,23 @@
 use Rattle.std.specs.Prelude.{Bool, true, false}
 use Rattle.element_reader.specs.declared.outline_end.OutlineEnd.{OutlineEnd}
 use Rattle.element_reader.specs.declared.outline_end.OutlineEnd.TheVariants as outline_end
+use Rattle.text_files.specs.declared.refusal.TextFileEnd.{TextFileEnd}
+use Rattle.text_files.specs.declared.refusal.TextFileEnd.TheVariants as text_end
 use Rattle.merge_inputs.specs.declared.input.InputEnd.{InputEnd}
 use Rattle.merge_inputs.specs.declared.input.InputEnd.TheVariants as input_end
-use Rattle.merge_inputs.specs.declared.input.InputRefusal.TheVariants.{Damaged}
+use Rattle.merge_inputs.specs.declared.input.InputRefusal.TheVariants.{Damaged, Text}
 
 -- the same of a call that reads its outline or its records
 abbrev pub end_of : OutlineEnd → InputEnd
 end_of (outline_end.Refused d) = input_end.Refused (Damaged d)
 end_of outline_end.ReadFault = input_end.ReadFault
 end_of outline_end.Memory = input_end.Memory
+
+-- the same of a call that reads a text
+abbrev pub text_end_of : TextFileEnd → InputEnd
+text_end_of (text_end.Refused why) = input_end.Refused (Text why)
+text_end_of text_end.ReadFault = input_end.ReadFault
+text_end_of text_end.Memory = input_end.Memory
 
 -- a read failed
 abbrev pub is_input_fault : InputEnd → Bool

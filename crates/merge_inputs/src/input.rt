@@ -7,18 +7,27 @@ use crate::taken::TakenTrack;
 use attachment_reading::Attachment;
 use ebml_tree::Tree;
 use element_reader::{Outline, OutlineEnd};
-use mkv_values::{Damage, FileId, List, Text};
+use mkv_values::{Damage, Failed, FileId, List, Text};
 use std::alloc::{AllocError, AllocFailed};
 use std::rc::Rc;
 use tag_records::TagKeep;
+use text_entries::Entry;
+use text_files::{TextFileEnd, TextRefusal};
+
+/// What holds the blocks of an input.
+#[derive(Drop)]
+pub enum Blocks {
+    /// The Clusters of a file with this outline, in ticks of so many nanoseconds.
+    Clusters { outline: Rc<Outline>, scale: u64 },
+    /// The entries of a text, sorted by start.
+    Entries { entries: List<Entry> },
+}
 
 /// A live file that is merged, and what was read of it before its blocks.
 #[derive(Drop)]
 pub struct Input {
     pub file: FileId,
-    pub outline: Rc<Outline>,
-    /// Nanoseconds a tick of the file.
-    pub scale: u64,
+    pub blocks: Blocks,
     /// The title of the file, empty where it has none.
     pub title: Text,
     /// How many tracks the file has.
@@ -43,6 +52,8 @@ pub struct Input {
 pub enum InputRefusal {
     /// The file is damaged, passes a limit, or a track that is taken can't be used.
     Damaged(Damage),
+    /// The text isn't taken.
+    Text(TextRefusal),
 }
 
 /// Why an input isn't read.
@@ -83,5 +94,27 @@ impl From<AllocFailed<Outline>> for InputEnd {
 
     fn from(_failed: AllocFailed<Outline>) -> InputEnd {
         InputEnd::Memory
+    }
+}
+
+impl From<TextFileEnd> for InputEnd {
+    ghost use Rattle.merge_inputs.specs.End.{text_end_of};
+
+    ghost from_gives = { λ why end. end ≡ text_end_of why };
+
+    fn from(why: TextFileEnd) -> InputEnd {
+        match why {
+            TextFileEnd::Refused(why) => InputEnd::Refused(InputRefusal::Text(why)),
+            TextFileEnd::ReadFault => InputEnd::ReadFault,
+            TextFileEnd::Memory => InputEnd::Memory,
+        }
+    }
+}
+
+impl From<Failed> for InputEnd {
+    ghost from_gives = { λ _ end. end ≡ input_end.ReadFault };
+
+    fn from(_failed: Failed) -> InputEnd {
+        InputEnd::ReadFault
     }
 }

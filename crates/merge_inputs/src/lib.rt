@@ -1,7 +1,7 @@
 #![tactic(auto)]
 
-//! What is read of an input of a merge before its blocks: its outline, what describes it, and the tracks that the
-//! words take of it (RFC 9559, section 5.1.4, Tracks Element); or what refuses it.
+//! What is read of an input of a merge before its blocks: its outline and what describes it, or the entries of a text, and the
+//! tracks that the words take of it (RFC 9559, section 5.1.4, Tracks Element); or what refuses it.
 
 mod input;
 mod kept;
@@ -12,6 +12,6 @@ mod taken;
 mod title;
 pub mod track_type;
 
-pub use input::{Input, InputEnd, InputRefusal};
+pub use input::{Blocks, Input, InputEnd, InputRefusal};
 pub use reading::read_input;
 pub use taken::TakenTrack;

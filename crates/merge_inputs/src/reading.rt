@@ -1,14 +1,14 @@
 //! What is read of an input before its blocks.
 
-ghost use Rattle.std.specs.Prelude.{◌≡◌, ◌+◌, ◌*◌, ◌≤◌, true, IfOk};
-ghost use Rattle.mkv_io.specs.Faults.{HasCause};
+ghost use Rattle.std.specs.Prelude.{◌≡◌, ◌+◌, ◌*◌, ◌≤◌, IfOk};
+ghost use Rattle.mkv_io.specs.Faults.{HasCause, is_failure};
 ghost use Rattle.mkv_io.specs.Sources.{IfTold, IsLive, file_size, live_files};
-ghost use Rattle.file_blocks.specs.File.{file_events};
 ghost use Rattle.merge_words.specs.Sound.{IsSoundFile};
+ghost use Rattle.text_tracks.specs.Names.{is_srt};
 ghost use Rattle.merge_inputs.specs.End.{is_input_fault};
-ghost use Rattle.merge_inputs.specs.Input.{IsInput, IsReadOf, ReadsInput, events_in, input_of, read_in};
+ghost use Rattle.merge_inputs.specs.Input.{AreOwnEvents, IsInput, IsReadOf, ReadsInput, file_read, input_of, text_read};
 
-use crate::input::{Input, InputEnd, InputRefusal};
+use crate::input::{Blocks, Input, InputEnd, InputRefusal};
 use crate::kept::{kept_files, kept_tree};
 use crate::select::{keep_of, keeps_attachments, keeps_chapters, keeps_tags, unmoved};
 use crate::taken::{first_unusable, taken_of};
@@ -17,14 +17,16 @@ use element_reader::Outline;
 use file_records::{Records, read_records, scale_of};
 use merge_words::FileWords;
 use mkv_io::Reads;
-use mkv_values::FileId;
+use mkv_values::{Failed, FileId, List, Text};
 use std::alloc::Global;
 use std::rc::Rc;
+use text_files::read_entries;
+use text_tracks::{begins_ebml, is_srt_name, text_tracks};
 
-/// What is read of a live file before its blocks, or the first thing that refuses it: its outline, its records,
+/// What is read of a live file with Clusters before these, or the first thing that refuses it: its outline, its records,
 /// and then the tracks that the words take, in their order. Earlier inputs have held so many octets of Info, Tracks,
 /// Chapters and Tags. A WebM output leaves attached files and chapters out.
-pub fn read_input<R: Reads>(
+fn read_file<R: Reads>(
     alloc: Global,
     words: &FileWords,
     webm: bool,
@@ -34,13 +36,10 @@ pub fn read_input<R: Reads>(
 ) -> Result<Input, InputEnd>
     requires live { IsLive R.Reads src.old file }
     requires delays { IsSoundFile words.now }
-    ensures exact { IfTold R.Reads src.old file (λ bytes. ReadsInput (input_of words.now webm held bytes) result) }
+    ensures exact { IfTold R.Reads src.old file (λ bytes. ReadsInput (file_read words.now webm held bytes) result) }
     ensures input { IfOk result (IsInput (live_files R.Reads src.new)) }
     ensures file { IfOk result (IsReadOf file words.now) }
-
-    // A tick has as many nanoseconds as in the file's own blocks and damages.
-    ensures events { IfOk result (λ input. IfTold R.Reads src.old file (λ bytes.
-        events_in (read_in input) bytes ≡ file_events true bytes input.outline.value.segment)) }
+    ensures events { IfOk result (λ input. IfTold R.Reads src.old file (AreOwnEvents input.blocks)) }
     ensures standing { R.standing src.new ≡ R.standing src.old }
     ensures cause { HasCause is_input_fault (R.reading_faults src.old) (R.reading_faults src.new) result }
     ensures octets { R.octets_read src.new ≤ R.octets_read src.old + 24 * file_size R.Reads src.old file }
@@ -60,8 +59,10 @@ pub fn read_input<R: Reads>(
     }
     Ok(Input {
         file,
-        outline: Rc::new(alloc, outline)?,
-        scale: scale_of(&info),
+        blocks: Blocks::Clusters {
+            outline: Rc::new(alloc, outline)?,
+            scale: scale_of(&info),
+        },
         title: title_of(alloc, &info)?,
         count,
         taken,
@@ -71,4 +72,82 @@ pub fn read_input<R: Reads>(
         keep: keep_of(words),
         shift: unmoved(words),
     })
+}
+
+/// What is read of a live text: its entries, and its one track, where the words take it.
+fn read_text<R: Reads>(
+    alloc: Global,
+    words: &FileWords,
+    src: &mut R,
+    file: FileId,
+) -> Result<Input, InputEnd>
+    requires live { IsLive R.Reads src.old file }
+    requires delays { IsSoundFile words.now }
+    ensures exact { IfTold R.Reads src.old file (λ bytes. ReadsInput (text_read words.now bytes) result) }
+    ensures input { IfOk result (IsInput (live_files R.Reads src.new)) }
+    ensures file { IfOk result (IsReadOf file words.now) }
+    ensures events { IfOk result (λ input. IfTold R.Reads src.old file (AreOwnEvents input.blocks)) }
+    ensures standing { R.standing src.new ≡ R.standing src.old }
+    ensures cause { HasCause is_input_fault (R.reading_faults src.old) (R.reading_faults src.new) result }
+    ensures octets { R.octets_read src.new ≤ R.octets_read src.old + file_size R.Reads src.old file }
+{
+    let entries = read_entries(alloc, src, file)?;
+    let tracks = text_tracks(alloc)?;
+    Ok(Input {
+        file,
+        blocks: Blocks::Entries { entries },
+        title: Text::new(alloc),
+        count: 1,
+        taken: taken_of(alloc, words, tracks)?,
+        attachments: List::new(alloc),
+        chapters: None,
+        tags: None,
+        keep: keep_of(words),
+        shift: unmoved(words),
+    })
+}
+
+/// Whether a live file is read as SubRip. Its first octets are read only where its name is such a file's.
+fn is_text<R: Reads>(words: &FileWords, src: &mut R, file: FileId) -> Result<bool, Failed>
+    requires { IsLive R.Reads src.old file }
+    ensures exact { IfTold R.Reads src.old file (λ bytes. IfOk result (λ is. is ≡ is_srt words.now.name bytes)) }
+    ensures standing { R.standing src.new ≡ R.standing src.old }
+    ensures cause { HasCause is_failure (R.reading_faults src.old) (R.reading_faults src.new) result }
+    ensures octets { R.octets_read src.new ≤ R.octets_read src.old + file_size R.Reads src.old file }
+{
+    if !is_srt_name(words.name.as_str()) {
+        return Ok(false);
+    }
+    let mut octets = [0; 4];
+    let known = src.size(file).min(4) as usize;
+    src.read_at(file, 0, &mut octets[..known])?;
+    Ok(!begins_ebml(&octets[..known]))
+}
+
+/// What is read of a live file before its blocks, or what refuses it: of a SubRip file its entries, of any other file what
+/// stands before its Clusters. Earlier inputs have held so many octets of Info, Tracks, Chapters and Tags. A WebM output leaves
+/// attached files and chapters out.
+pub fn read_input<R: Reads>(
+    alloc: Global,
+    words: &FileWords,
+    webm: bool,
+    held: u64,
+    src: &mut R,
+    file: FileId,
+) -> Result<Input, InputEnd>
+    requires live { IsLive R.Reads src.old file }
+    requires delays { IsSoundFile words.now }
+    ensures exact { IfTold R.Reads src.old file (λ bytes. ReadsInput (input_of words.now webm held bytes) result) }
+    ensures input { IfOk result (IsInput (live_files R.Reads src.new)) }
+    ensures file { IfOk result (IsReadOf file words.now) }
+    ensures events { IfOk result (λ input. IfTold R.Reads src.old file (AreOwnEvents input.blocks)) }
+    ensures standing { R.standing src.new ≡ R.standing src.old }
+    ensures cause { HasCause is_input_fault (R.reading_faults src.old) (R.reading_faults src.new) result }
+    ensures octets { R.octets_read src.new ≤ R.octets_read src.old + 25 * file_size R.Reads src.old file }
+{
+    if is_text(words, src, file)? {
+        read_text(alloc, words, src, file)
+    } else {
+        read_file(alloc, words, webm, held, src, file)
+    }
 }

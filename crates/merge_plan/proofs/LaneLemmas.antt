@@ -1,23 +1,23 @@
 -- Lanes of tracks that are taken.
-use Rattle.std.proofs.Common.{◌≡◌, ◌≤◌, ◌<◌, ℕ, zero, suc, ◌+◌, Bool, true, false, if◌then◌else◌, List, [], ◌∷◌, ◌++◌, length, take, drop, map, get_or, Option, Some, None, sym, ap, ap₂, subst, ◌∙◌, refl, arith, append-nil, append_assoc}
-use Rattle.std.specs.List.{All, AllZip, enumerate_from, slice_get, take_while}
+use Rattle.std.proofs.Common.{◌≡◌, ◌<◌, ℕ, zero, suc, ◌+◌, Bool, true, false, if◌then◌else◌, List, [], ◌∷◌, ◌++◌, length, take, drop, map, get_or, Option, None, sym, ap, ap₂, subst, ◌∙◌, refl, arith, append-nil, append_assoc}
+use Rattle.std.specs.List.{All, AllZip, enumerate_from, range_with_len, slice_get, take_while}
+use Rattle.std.proofs.lemmas.List.FromFn.{map-range_with_len_more}
 use Rattle.std.specs.Option.{option_map, option_to_list}
 use Rattle.std.proofs.lemmas.Grind.{flat_map-append}
-use Rattle.std.proofs.lemmas.List.{drop_all, get_or-map, length-map, map-append, map_push}
+use Rattle.std.proofs.lemmas.List.{get_or-map, length-append, length-map, map-append, map_push}
 use Rattle.std.proofs.lemmas.List.Elements.{All-drop, All-take}
-use Rattle.std.proofs.Math.ListN.{length-drop, length-take}
+use Rattle.std.proofs.Math.ListN.{length-take}
 use Rattle.lane_blocks.specs.declared.link.Link.{Link}
-use Rattle.lane_blocks.specs.declared.link.Link.TheVariants.{Track}
-use Rattle.lane_blocks.specs.declared.link.TrackLink.{TrackLink}
 use Rattle.merge_inputs.specs.Input.{read_in}
 use Rattle.merge_inputs.specs.Taken.{IsTaken}
 use Rattle.merge_inputs.specs.declared.input.Input.{Input}
 use Rattle.merge_inputs.specs.declared.taken.TakenTrack.{TakenTrack}
+use Rattle.splitter.specs.Split.{is_driver}
+use Rattle.remux_plan.specs.Parts.{drivers_of}
 use Rattle.remux_plan.specs.declared.plan.PlannedLane.{PlannedLane}
 use Rattle.merge_plan.specs.Chains.{at_place, columns_from}
-use Rattle.merge_plan.specs.Plan.{rule_of}
 use Rattle.merge_plan.specs.Records.{tracks_begun}
-use Rattle.merge_plan.specs.Spots.{GoesOn, HasTaken, IsLaneOf, IsLink, IsLinkAt, IsLinkOf, Spot, goes_on, spot, spots_at, spots_behind, spots_from, spots_in}
+use Rattle.merge_plan.specs.Spots.{AreDriven, GoesOn, HasTaken, IsLaneOf, IsLink, IsLinkAt, Spot, goes_on, spot, spots_at, spots_behind, spots_from, spots_in}
 use Rattle.merge_plan.proofs.ChainLemmas.{enumerate-push, while-enumerate}
 use Rattle.merge_plan.proofs.RecordLemmas.{begun-taken}
 use Rattle.merge_plan.proofs.ListLemmas.{drop-next, take-next}
@@ -31,22 +31,12 @@ zip-append R (x ∷ xs) (y ∷ ys) ws zs all more = (all.0, zip-append R xs ys w
 -- ---- links
 
 -- one more track of an input is a link
-pub link-more : (i : Input) (taken : List TakenTrack) (k : ℕ) (t : TakenTrack) (link : TrackLink) (old new : List Link) → k < length taken → t ≡ get_or taken k t → AllZip (IsLink i) (take k taken) old → IsLinkOf i t link → new ≡ old ++ Track link ∷ [] → AllZip (IsLink i) (take (k + 1) taken) new
+pub link-more : (i : Input) (taken : List TakenTrack) (k : ℕ) (t : TakenTrack) (link : Link) (old new : List Link) → k < length taken → t ≡ get_or taken k t → AllZip (IsLink i) (take k taken) old → IsLink i t link → new ≡ old ++ link ∷ [] → AllZip (IsLink i) (take (k + 1) taken) new
 link-more i taken k t link old new inside at are is put =
-    let more : AllZip (IsLink i) (take k taken ++ t ∷ []) (old ++ Track link ∷ []) = zip-append (IsLink i) (take k taken) old (t ∷ []) (Track link ∷ []) are (is, tt) in
-    subst (AllZip (IsLink i) (take (k + 1) taken)) (sym put) (subst (λ (ts : List TakenTrack). AllZip (IsLink i) ts (old ++ Track link ∷ [])) (sym (take-next taken k t inside at)) more)
+    let more : AllZip (IsLink i) (take k taken ++ t ∷ []) (old ++ link ∷ []) = zip-append (IsLink i) (take k taken) old (t ∷ []) (link ∷ []) are (is, tt) in
+    subst (AllZip (IsLink i) (take (k + 1) taken)) (sym put) (subst (λ (ts : List TakenTrack). AllZip (IsLink i) ts (old ++ link ∷ [])) (sym (take-next taken k t inside at)) more)
 
 -- ---- one lane
-
--- a lane of one track
-pub lane-begun : (s : Spot) (link : TrackLink) (links : List Link) (numbers : List ℕ) (lane : PlannedLane) → IsLinkOf s.input s.track link → links ≡ Track link ∷ [] → numbers ≡ s.number ∷ []
-    → lane.spec.links ≡ links → lane.inputs ≡ numbers → lane.cues ≡ rule_of s.track → IsLaneOf (s ∷ []) lane
-lane-begun s link links numbers lane is one number links_are inputs_are rule =
-    record {
-      links = subst (AllZip IsLinkAt (s ∷ [])) (sym (links_are ∙ one)) (is, tt);
-      inputs = inputs_are ∙ number;
-      rule = rule;
-    }
 
 -- it goes on
 pub lane-more : (first : Spot) (spots more : List Spot) (old new : PlannedLane) → IsLaneOf (first ∷ spots) old → GoesOn more old new → IsLaneOf (first ∷ (spots ++ more)) new
@@ -76,14 +66,8 @@ stays place number i old new none same =
       are = tt;
       inputs = ap (λ (l : PlannedLane). l.inputs) same ∙ sym (append-nil old.inputs);
       rule = ap (λ (l : PlannedLane). l.cues) same;
+      drives = ap (λ (l : PlannedLane). l.drives) same;
     })
-
--- and one that has a track
-pub goes : (place number : ℕ) (i : Input) (t : TakenTrack) (link : TrackLink) (old new : PlannedLane) → slice_get i.taken place ≡ Some t → IsLinkOf i t link
-    → new.spec.links ≡ old.spec.links ++ Track link ∷ [] → new.inputs ≡ old.inputs ++ number ∷ [] → new.cues ≡ old.cues → GoesOn (spots_at place (number, i)) old new
-goes place number i t link old new some is links inputs rule =
-    subst (λ (spots : List Spot). GoesOn spots old new) (sym (spots-one place number i (Some t) some))
-    (record { more = Track link ∷ []; links = links; are = (is, tt); inputs = inputs; rule = rule })
 
 -- what goes on in it, of one input more
 pub behind-more : (place number : ℕ) (inputs : List Input) (k : ℕ) (i : Input) → k < length inputs → i ≡ get_or inputs k i
@@ -128,14 +112,6 @@ place-next inputs number i taken behind place t inside is =
     ap (λ row. columns_from place row (map spots_in (enumerate_from (number + 1) behind)) ++ spots_from (number + 1) (drop (number + 1) inputs))
     (drop-next (map (spot number i) taken) place (spot number i t) (omega arith) at)
 
--- at its end
-pub place-past : (inputs : List Input) (number : ℕ) (i : Input) (taken : List TakenTrack) (behind : List Input) (place : ℕ) → length taken ≤ place
-    → left_at inputs number i taken behind place ≡ spots_from (number + 1) (drop (number + 1) inputs)
-place-past inputs number i taken behind place past =
-    let long : length (map (spot number i) taken) ≡ length taken = length-map taken (spot number i) in
-    ap (λ row. columns_from place row (map spots_in (enumerate_from (number + 1) behind)) ++ spots_from (number + 1) (drop (number + 1) inputs))
-    (drop_all place (map (spot number i) taken) (omega arith))
-
 -- an input begins lanes, of which it gives to the first
 pub input-next : (inputs : List Input) (number : ℕ) (i : Input) (taken : List TakenTrack) (behind : List Input) → number < length inputs → i ≡ get_or inputs number i → taken ≡ tracks_begun (read_in i)
     → behind ≡ take_while goes_on (drop (number + 1) inputs) → spots_from number (drop number inputs) ≡ left_at inputs number i taken behind 0
@@ -164,9 +140,13 @@ item-taken inputs number i taken k t all inside is are within at =
 pub behind-taken : (inputs behind : List Input) (n : ℕ) → All HasTaken inputs → behind ≡ take_while goes_on (drop n inputs) → All HasTaken behind
 behind-taken inputs behind n all are = subst (All HasTaken) (sym are) (All-take HasTaken _ (drop n inputs) (All-drop HasTaken n inputs all))
 
-pub behind-few : (inputs behind : List Input) (n : ℕ) → behind ≡ take_while goes_on (drop n inputs) → n ≤ length inputs → n + length behind ≤ length inputs
-behind-few inputs behind n are inside =
-    let few : length (take_while goes_on (drop n inputs)) ≤ length (drop n inputs) = simp length-take (omega arith) in
-    let left : length (drop n inputs) + n ≡ length inputs = simp length-drop (omega arith) in
-    let many : length behind ≡ length (take_while goes_on (drop n inputs)) = ap length are in
-    omega arith
+-- ---- which lanes drive
+
+pub driven-more : (videos : List Bool) (lanes new : List PlannedLane) (lane : PlannedLane) → AreDriven videos lanes → lane.drives ≡ is_driver videos (length lanes) → new ≡ lanes ++ lane ∷ [] → AreDriven videos new
+driven-more videos lanes new lane so_far drives put =
+    let here : 0 + length lanes ≡ length lanes = omega arith in
+    let more : length new ≡ length lanes + 1 = ap (λ (ls : List PlannedLane). length ls) put ∙ simp length-append (omega arith) in
+    ap drivers_of put ∙ map_push (λ (l : PlannedLane). l.drives) lanes lane
+    ∙ ap₂ (λ (before : List Bool) (one : Bool). before ++ one ∷ []) so_far drives
+    ∙ sym (map-range_with_len_more (is_driver videos) 0 (length lanes) (length lanes) here)
+    ∙ ap (λ (n : ℕ). map (is_driver videos) (range_with_len 0 n)) (sym more)

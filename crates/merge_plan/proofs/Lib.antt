@@ -6,3 +6,4 @@ pub mod LaneLemmas
 pub mod RefusalLemmas
 pub mod PlanLemmas
 pub mod FileLemmas
+pub mod SplitLemmas

@@ -1,39 +1,45 @@
 -- What a plan's lanes are.
 use Rattle.std.proofs.Common.{◌≡◌, ◌≤◌, ◌<◌, ℕ, zero, suc, ◌+◌, Bool, true, false, if◌then◌else◌, List, [], ◌∷◌, ◌++◌, length, map, flat_map, get_or, Option, Some, None, nat_abs, refl, sym, ap, ap₂, subst, ◌∙◌, arith}
-use Rattle.std.specs.List.{All, AllZip, enumerate_from, sum_by}
+use Rattle.std.specs.List.{All, AllZip, enumerate_from, range_with_len, sum_by}
 use Rattle.std.specs.Option.{option_or}
 use Rattle.std.proofs.lemmas.List.{map-append, length-map}
-use Rattle.std.proofs.lemmas.List.Elements.{All-map}
+use Rattle.std.proofs.lemmas.List.Elements.{All-map, All-weaker}
 use Rattle.std.proofs.lemmas.List.Sums.{sum_by-cons}
 use Rattle.std.proofs.lemmas.List.FromFn.{length-enumerate_from}
 use Rattle.mkv_values.specs.declared.outside.FileId.{FileId}
 use Rattle.mkv_io.specs.LiveFiles.{LiveFiles}
-use Rattle.mkv_io.specs.Names.{AreOthers}
 use Rattle.element_reader.specs.Outline.{FileOutline}
 use Rattle.block_format.specs.Elements.{with_limits}
 use Rattle.block_format.specs.Events.{events_of}
-use Rattle.merge_model.specs.Links.{Given, Placing, track_given}
-use Rattle.lane_blocks.specs.Links.{octets_in, placing_of, given_in, IsOpenLink, IsToldLink, IsSmallLink}
+use Rattle.text_entries.specs.declared.Entry.{Entry}
+use Rattle.srt_texts.specs.Reading.{AreWithin, IsEntryWithin}
+use Rattle.text_files.specs.declared.limits.TheConstants.{MOST_OF_SRT}
+use Rattle.merge_model.specs.Links.{Given, Placing, text_given, track_given}
+use Rattle.lane_blocks.specs.Links.{octets_in, placing_of, given_in, IsOpenLink, IsOpenTrack, IsToldLink, IsSmallEntry, IsSmallLink, IsSmallText, IsSmallTrack}
 use Rattle.lane_blocks.specs.declared.link.Link.{Link}
 use Rattle.lane_blocks.specs.declared.link.Link.TheVariants.{Track, Entries}
+use Rattle.lane_blocks.specs.declared.link.TextLink.{TextLink}
 use Rattle.lane_blocks.specs.declared.link.TrackLink.{TrackLink}
 use Rattle.lanes.specs.Walks.{file_length, files_length}
-use Rattle.time_merge.specs.Laws.{IsApartLink}
+use Rattle.splitter.specs.Split.{is_driver}
+use Rattle.remux_plan.specs.Parts.{drivers_of}
 use Rattle.remux_plan.specs.Plan.{links_of, rules_of}
 use Rattle.remux_plan.specs.declared.plan.PlannedLane.{PlannedLane}
 use Rattle.output_model.specs.declared.TheConstants.{MOST_LANES}
 use Rattle.merge_words.specs.declared.output.MergeWords.{MergeWords}
-use Rattle.merge_inputs.specs.Input.{InputRead, IsInput, events_in, read_in}
+use Rattle.merge_inputs.specs.Input.{AreClusters, CanBeGiven, InputRead, IsInput, blocks_in, read_in}
 use Rattle.merge_inputs.specs.Taken.{IsTaken}
+use Rattle.merge_inputs.specs.declared.input.Blocks.{Blocks}
+use Rattle.merge_inputs.specs.declared.input.Blocks.TheVariants as held_by
 use Rattle.merge_inputs.specs.declared.input.Input.{Input}
 use Rattle.merge_inputs.specs.declared.taken.TakenTrack.{TakenTrack}
 use Rattle.merge_plan.specs.Chains.{lanes_by}
-use Rattle.merge_plan.specs.Plan.{Source, given_for, given_of, inputs_given, lanes_given, later_by, numbers_of, placing_for, rule_of, rules_given}
-use Rattle.merge_plan.specs.Planned.{IsLinked, source_in}
+use Rattle.merge_plan.specs.Plan.{Source, drives_given, given_for, given_from, given_of, inputs_given, is_video, lanes_given, later_by, numbers_of, placing_for, rule_of, rules_given}
+use Rattle.merge_plan.specs.Planned.{IsLinked, IsSparedLink, IsToldInput, source_in}
 use Rattle.merge_plan.specs.Records.{is_appended, tracks_begun, tracks_taken}
 use Rattle.merge_plan.specs.Refusal.{lanes_refusal, plan_refusal, records_refusal}
 use Rattle.merge_plan.specs.declared.refusal.PlanRefusal.{PlanRefusal}
-use Rattle.merge_plan.specs.Spots.{Spot, HasPlace, HasTaken, IsLaneOf, IsLinkAt, IsLinkOf, goes_on, rule_at, spot, spots_in, spots_from}
+use Rattle.merge_plan.specs.Spots.{AreDriven, Spot, HasPlace, HasTaken, IsLaneOf, IsLink, IsLinkAt, IsLinkBy, IsLinkOf, IsShortText, IsTextOf, goes_on, rule_at, spot, spots_in, spots_from}
 use Rattle.merge_plan.proofs.ChainLemmas.{begins, enumerate-all, enumerate-map, enumerate-sum, lanes-all, lanes-few, lanes-first, lanes-light, lanes-map, unnumbered}
 use Rattle.merge_plan.proofs.RefusalLemmas.{unrefused-few}
 
@@ -92,14 +98,14 @@ spots-rules n inputs =
 
 -- what a track gives, among these files
 abbrev pub given_at : LiveFiles → Spot → Given
-given_at f s = given_for (later_by (read_in s.input)) (events_in (read_in s.input) (octets_in f s.input.file.n)) s.track
+given_at f s = given_from (later_by (read_in s.input)) (blocks_in s.input.blocks) (octets_in f s.input.file.n) s.track
 
 spots-given : (f : LiveFiles) (n : ℕ) (inputs : List Input) → map (map (given_at f)) (spots_from n inputs) ≡ lanes_given (map (source_in f) inputs)
 spots-given f n inputs =
     sym (lanes-map (λ (s : Source). is_appended s.1) given_of (λ (each : ℕ × Input). source_in f each.1) spots_in (given_at f) (λ each. of each.0 each.1 each.1.taken) (enumerate_from n inputs))
     ∙ ap lanes_given (unnumbered (source_in f) n inputs)
   where
-    of : (n : ℕ) (i : Input) (ts : List TakenTrack) → map (given_for (later_by (read_in i)) (events_in (read_in i) (octets_in f i.file.n))) ts ≡ map (given_at f) (map (spot n i) ts)
+    of : (n : ℕ) (i : Input) (ts : List TakenTrack) → map (given_from (later_by (read_in i)) (blocks_in i.blocks) (octets_in f i.file.n)) ts ≡ map (given_at f) (map (spot n i) ts)
     of n i [] = refl
     of n i (t ∷ ts) = ap (λ l. given_at f (spot n i t) ∷ l) (of n i ts)
 
@@ -125,70 +131,117 @@ record HoldsIn (P : Input → Type 0) (i : Input) : Type 0 where
 spots-hold : (P : Input → Type 0) (n : ℕ) (inputs : List Input) → All P inputs → All HasTaken inputs → All (All (Holds P)) (spots_from n inputs)
 spots-hold P n inputs each all =
     lanes-all (Holds P) own_place spots_in (λ (each : ℕ × Input). HoldsIn P each.1)
-    (λ each holds. All-map (Holds P) (spot each.0 each.1) each.1.taken (λ k d inside. record { input = holds.input; taken = holds.taken k d inside }))
+    (λ each holds. All-map (Holds P) (spot each.0 each.1) each.1.taken (λ k d inside. record { input = holds.input; taken = holds.taken.taken k d inside }))
     (enumerate_from n inputs) (enumerate-all (HoldsIn P) n inputs (λ k d inside. record { input = each k d inside; taken = all k d inside }))
 
--- ---- a link
+-- ---- a link to a track of a file
 
 -- what a track of this number gives, of a file with this outline
 made : LiveFiles → Placing → ℕ → ℕ → ℕ → FileOutline → Given
 made f p number scale file outline = track_given p number (events_of (with_limits scale) (octets_in f file) outline.segment)
 
-module _ (i : Input) (t : TakenTrack) (link : TrackLink) (is : IsLinkOf i t link) where
+module _ (i : Input) (read : FileOutline) (nanoseconds : ℕ) (t : TakenTrack) (link : TrackLink) (is : IsLinkOf i read nanoseconds t link) where
   placing-is : placing_of link ≡ placing_for (later_by (read_in i)) t
   placing-is = λ j. record { delay = is.delay j; shift = is.shift j; default_duration = is.default_duration j; prefix = is.prefix j }
 
-  made-same : (f : LiveFiles) → made f (placing_of link) link.number link.scale link.file.n link.outline.value ≡ made f (placing_for (later_by (read_in i)) t) t.track.number i.scale i.file.n i.outline.value
+  made-same : (f : LiveFiles) → made f (placing_of link) link.number link.scale link.file.n link.outline.value ≡ made f (placing_for (later_by (read_in i)) t) t.track.number nanoseconds i.file.n read
   made-same f =
       ap (λ p. made f p link.number link.scale link.file.n link.outline.value) placing-is
       ∙ ap (λ n. made f (placing_for (later_by (read_in i)) t) n link.scale link.file.n link.outline.value) is.number
       ∙ ap (λ s. made f (placing_for (later_by (read_in i)) t) t.track.number s link.file.n link.outline.value) is.scale
-      ∙ ap (λ (file : FileId). made f (placing_for (later_by (read_in i)) t) t.track.number i.scale file.n link.outline.value) is.file
-      ∙ ap (made f (placing_for (later_by (read_in i)) t) t.track.number i.scale i.file.n) is.outline
+      ∙ ap (λ (file : FileId). made f (placing_for (later_by (read_in i)) t) t.track.number nanoseconds file.n link.outline.value) is.file
+      ∙ ap (made f (placing_for (later_by (read_in i)) t) t.track.number nanoseconds i.file.n) is.outline
 
-  pub link-given : (f : LiveFiles) → given_in f (Track link) ≡ given_for (later_by (read_in i)) (events_in (read_in i) (octets_in f i.file.n)) t
+  track-given : (f : LiveFiles) → given_in f (Track link) ≡ given_for (later_by (read_in i)) (events_of (with_limits nanoseconds) (octets_in f i.file.n) read.segment) t
   unfolding made
-  link-given f = made-same f
+  track-given f = made-same f
 
-  link-small : IsTaken t → HasPlace i → IsSmallLink (Track link)
-  link-small taken place =
+  track-small : IsTaken t → HasPlace i → IsSmallTrack link
+  track-small taken place =
       let near = taken.near in
       record {
         moves = record { near = omega (arith, ap nat_abs is.delay); within = omega (arith, is.shift) };
         prefix = is.short;
       }
 
-  pub link-open : (f : LiveFiles) → IsInput f i → IsOpenLink f (Track link)
-  link-open f good =
-      let some = good.scale in
+  track-open : (f : LiveFiles) → f.live i.file.n ≡ true → AreClusters (f.size i.file.n) read nanoseconds → IsOpenTrack f link
+  track-open f live are =
+      let some = are.scale in
       record {
-        live = ap (λ (file : FileId). f.live file.n) is.file ∙ good.live;
-        size = ap (λ (file : FileId). f.size file.n) is.file ∙ good.size ∙ ap (λ (o : FileOutline). o.total) (sym is.outline);
+        live = ap (λ (file : FileId). f.live file.n) is.file ∙ live;
+        size = ap (λ (file : FileId). f.size file.n) is.file ∙ are.size ∙ ap (λ (o : FileOutline). o.total) (sym is.outline);
         scale = omega (arith, is.scale);
       }
 
-  pub link-told : (f : LiveFiles) → f.content i.file.n ≡ Some (octets_in f i.file.n) → IsToldLink f (Track link)
-  link-told f told = ap (λ (file : FileId). f.content file.n) is.file ∙ told ∙ ap (λ (file : FileId). Some (octets_in f file.n)) (sym is.file)
+-- ---- a link to a text
 
-  link-apart : (holder : ℕ → List ℕ) (names : List (List ℕ)) → AreOthers (holder i.file.n) names → IsApartLink holder names (Track link)
-  link-apart holder names other = let P : ℕ → Type 0 = λ n. AreOthers (holder n) names in subst P (ap (λ (file : FileId). file.n) (sym is.file)) other
+small-entry : (e : Entry) → IsEntryWithin MOST_OF_SRT e → IsSmallEntry e
+small-entry e within = let ends = within.0 in let few = within.1 in record { start = omega arith; duration = omega arith; text = omega arith }
+
+module _ (i : Input) (read : List Entry) (t : TakenTrack) (link : TextLink) (is : IsTextOf i read t link) where
+  text-given : (f : LiveFiles) → given_in f (Entries link) ≡ text_given t.delay (later_by (read_in i)) read
+  text-given f = λ j. text_given (is.delay j) (is.shift j) (is.entries j)
+
+  text-small : IsTaken t → HasPlace i → AreWithin MOST_OF_SRT read → IsSmallText link
+  text-small taken place within =
+      let near = taken.near in
+      let few = within.0 in
+      record {
+        moves = record { near = omega (arith, ap nat_abs is.delay); within = omega (arith, is.shift) };
+        few = omega (arith, ap length is.entries);
+        entries = subst (All IsSmallEntry) (sym is.entries) (All-weaker (IsEntryWithin MOST_OF_SRT) IsSmallEntry small-entry read within.1);
+      }
+
+-- ---- a link, by what holds the blocks of its input
+
+-- what an input has that was read
+pub input-taken : (f : LiveFiles) (i : Input) → IsInput f i → HasTaken i
+input-taken f i good = record { taken = good.taken; text = short i.blocks good.blocks }
+  where
+    short : (blocks : Blocks) → CanBeGiven (f.size i.file.n) blocks → IsShortText blocks
+    short (held_by.Clusters outline scale) are = tt
+    short (held_by.Entries entries) are = are
+
+module _ (i : Input) (t : TakenTrack) where
+  pub link-given : (f : LiveFiles) (blocks : Blocks) (link : Link) → IsLinkBy i blocks t link → given_in f link ≡ given_from (later_by (read_in i)) (blocks_in blocks) (octets_in f i.file.n) t
+  link-given f (held_by.Clusters outline scale) (Track link) is = track-given i outline.value scale t link is f
+  link-given f (held_by.Clusters outline scale) (Entries text) is = absurd is
+  link-given f (held_by.Entries entries) (Track link) is = absurd is
+  link-given f (held_by.Entries entries) (Entries text) is = text-given i entries t text is f
+
+  pub link-small : (blocks : Blocks) (link : Link) → IsLinkBy i blocks t link → IsTaken t → HasPlace i → IsShortText blocks → IsSmallLink link
+  link-small (held_by.Clusters outline scale) (Track link) is taken place short = track-small i outline.value scale t link is taken place
+  link-small (held_by.Clusters outline scale) (Entries text) is taken place short = absurd is
+  link-small (held_by.Entries entries) (Track link) is taken place short = absurd is
+  link-small (held_by.Entries entries) (Entries text) is taken place short = text-small i entries t text is taken place short
+
+  pub link-open : (f : LiveFiles) (blocks : Blocks) (link : Link) → IsLinkBy i blocks t link → f.live i.file.n ≡ true → CanBeGiven (f.size i.file.n) blocks → IsOpenLink f link
+  link-open f (held_by.Clusters outline scale) (Track link) is live are = track-open i outline.value scale t link is f live are
+  link-open f (held_by.Clusters outline scale) (Entries text) is live are = absurd is
+  link-open f (held_by.Entries entries) (Track link) is live are = absurd is
+  link-open f (held_by.Entries entries) (Entries text) is live are = tt
+
+  -- the file of a track is that of the input
+  file-of : (P : ℕ → Type 0) → P i.file.n → (blocks : Blocks) (link : TrackLink) → IsLinkBy i blocks t (Track link) → P link.file.n
+  file-of P own (held_by.Clusters outline scale) link is = subst (λ (file : FileId). P file.n) (sym is.file) own
+  file-of P own (held_by.Entries entries) link is = absurd is
+
+  pub link-told : (f : LiveFiles) (blocks : Blocks) (link : Link) → IsLinkBy i blocks t link → IsToldInput f i → IsToldLink f link
+  link-told f blocks (Track link) is told = file-of (λ n. f.content n ≡ Some (octets_in f n)) told blocks link is
+  link-told f blocks (Entries text) is told = tt
+
+  link-spared : (test : ℕ → Bool) (blocks : Blocks) (link : Link) → IsLinkBy i blocks t link → test i.file.n ≡ false → IsSparedLink test link
+  link-spared test blocks (Track link) is own = file-of (λ n. test n ≡ false) own blocks link is
+  link-spared test blocks (Entries text) is own = tt
+
+  link-length : (f : LiveFiles) (blocks : Blocks) (link : Link) → IsLinkBy i blocks t link → file_length f link ≤ f.size i.file.n
+  link-length f blocks (Track link) is = file-of (λ n. f.size n ≤ f.size i.file.n) (omega arith) blocks link is
+  link-length f blocks (Entries text) is = omega arith
 
 -- ---- the lanes
 
--- a fact of tracks is one of a lane's links
-lane-links : (Q : Spot → Type 0) (P : Link → Type 0) → ((s : Spot) (link : TrackLink) → Q s → IsLinkOf s.input s.track link → P (Track link)) → (spots : List Spot) (l : PlannedLane) → All Q spots → IsLaneOf spots l → All P l.spec.links
-lane-links Q P so spots l each is = zip-all IsLinkAt Q P one spots l.spec.links each is.links
-  where
-    one : (s : Spot) (link : Link) → Q s → IsLinkAt s link → P link
-    one s (Track link) holds at = so s link holds at
-    one s (Entries text) holds at = absurd at
-
 lane-given : (f : LiveFiles) (spots : List Spot) (l : PlannedLane) → IsLaneOf spots l → map (given_in f) l.spec.links ≡ map (given_at f) spots
-lane-given f spots l is = zip-map IsLinkAt (given_in f) (given_at f) one spots l.spec.links is.links
-  where
-    one : (s : Spot) (link : Link) → IsLinkAt s link → given_in f link ≡ given_at f s
-    one s (Track link) at = link-given s.input s.track link at f
-    one s (Entries text) at = absurd at
+lane-given f spots l is = zip-map IsLinkAt (given_in f) (given_at f) (λ s link at. link-given s.input s.track f s.input.blocks link at) spots l.spec.links is.links
 
 lane-linked : (inputs : List Input) (spots : List Spot) (l : PlannedLane) → length spots ≤ length inputs → IsLaneOf spots l → IsLinked inputs l
 lane-linked inputs spots l few is =
@@ -200,15 +253,19 @@ lane-linked inputs spots l few is =
 abbrev spot_length : LiveFiles → Spot → ℕ
 spot_length f s = f.size s.input.file.n
 
-lane-length : (f : LiveFiles) (spots : List Spot) (links : List Link) → AllZip IsLinkAt spots links → files_length f links ≡ sum_by (spot_length f) spots
-lane-length f [] [] all = refl
+lane-length : (f : LiveFiles) (spots : List Spot) (links : List Link) → AllZip IsLinkAt spots links → files_length f links ≤ sum_by (spot_length f) spots
+lane-length f [] [] all = omega arith
 lane-length f [] (link ∷ links) all = absurd all
 lane-length f (s ∷ spots) [] all = absurd all
-lane-length f (s ∷ spots) (link ∷ links) all = ap₂ (λ m n. m + n) (one link all.0) (lane-length f spots links all.1) ∙ sym (sum_by-cons (spot_length f) s spots)
-  where
-    one : (link : Link) → IsLinkAt s link → file_length f link ≡ spot_length f s
-    one (Track link) at = ap (λ (file : FileId). f.size file.n) at.file
-    one (Entries text) at = absurd at
+lane-length f (s ∷ spots) (link ∷ links) all =
+    let here = link-length s.input s.track f s.input.blocks link all.0 in
+    let rest = lane-length f spots links all.1 in
+    omega (arith, sum_by-cons (spot_length f) s spots)
+
+-- An input's links keep their limits.
+record KeepsLimits (i : Input) : Type 0 where
+  pub place : HasPlace i
+  pub has : HasTaken i
 
 module _ (inputs : List Input) (lanes : List PlannedLane) (are : AllZip IsLaneOf (spots_from 0 inputs) lanes) where
   -- as many lanes as tracks that begin one
@@ -230,6 +287,13 @@ module _ (inputs : List Input) (lanes : List PlannedLane) (are : AllZip IsLaneOf
   pub lanes-rules : rules_of lanes ≡ rules_given (map read_in inputs)
   lanes-rules = zip-map IsLaneOf (λ (l : PlannedLane). l.cues) rule_at (λ spots l is. is.rule) (spots_from 0 inputs) lanes are ∙ spots-rules 0 inputs
 
+  -- those drive that do by the types of the tracks
+  pub lanes-drives : (videos : List Bool) → AreDriven videos lanes → videos ≡ map is_video (tracks_taken (map read_in inputs)) → drivers_of lanes ≡ drives_given (map read_in inputs)
+  lanes-drives videos driven same =
+      driven
+      ∙ ap (λ (n : ℕ). map (is_driver videos) (range_with_len 0 n)) (lanes-length ∙ sym (length-map (tracks_taken (map read_in inputs)) is_video))
+      ∙ ap (λ (vs : List Bool). map (is_driver vs) (range_with_len 0 (length (map is_video (tracks_taken (map read_in inputs)))))) same
+
   -- each has few links, and of each the input's number
   pub lanes-linked : All (IsLinked inputs) lanes
   lanes-linked =
@@ -249,23 +313,26 @@ module _ (inputs : List Input) (lanes : List PlannedLane) (are : AllZip IsLaneOf
       (λ spots l fits is. omega (arith, lane-length f spots l.spec.links is.links)) (spots_from 0 inputs) lanes each are
 
   -- a fact of each link, where it follows from one of each input
-  pub lanes-links : (C : Input → Type 0) (P : Link → Type 0) → ((i : Input) (t : TakenTrack) (link : TrackLink) → C i → IsTaken t → IsLinkOf i t link → P (Track link)) → All C inputs → All HasTaken inputs → All (All P) (links_of lanes)
+  pub lanes-links : (C : Input → Type 0) (P : Link → Type 0) → ((i : Input) (t : TakenTrack) (link : Link) → C i → IsTaken t → IsLink i t link → P link) → All C inputs → All HasTaken inputs → All (All P) (links_of lanes)
   lanes-links C P so each taken =
       All-map (All P) (λ (l : PlannedLane). l.spec.links) lanes
-      (zip-all IsLaneOf (All (Holds C)) (λ (l : PlannedLane). All P l.spec.links) (λ spots l holds is. lane-links (Holds C) P (λ s link one at. so s.input s.track link one.input one.taken at) spots l holds is) (spots_from 0 inputs) lanes (spots-hold C 0 inputs each taken) are)
+      (zip-all IsLaneOf (All (Holds C)) (λ (l : PlannedLane). All P l.spec.links)
+      (λ spots l holds is. zip-all IsLinkAt (Holds C) P (λ s link one at. so s.input s.track link one.input one.taken at) spots l.spec.links holds is.links) (spots_from 0 inputs) lanes (spots-hold C 0 inputs each taken) are)
 
   module _ (taken : All HasTaken inputs) where
     pub links-small : All HasPlace inputs → All (All IsSmallLink) (links_of lanes)
-    links-small places = lanes-links HasPlace IsSmallLink (λ i t link place one is. link-small i t link is one place) places taken
+    links-small places =
+        lanes-links KeepsLimits IsSmallLink (λ i t link can one is. link-small i t i.blocks link is one can.place can.has.text)
+        (λ k d inside. record { place = places k d inside; has = taken k d inside }) taken
 
     pub links-open : (f : LiveFiles) → All (IsInput f) inputs → All (All (IsOpenLink f)) (links_of lanes)
-    links-open f good = lanes-links (IsInput f) (IsOpenLink f) (λ i t link one each is. link-open i t link is f one) good taken
+    links-open f good = lanes-links (IsInput f) (IsOpenLink f) (λ i t link own one is. link-open i t f i.blocks link is own.live own.blocks) good taken
 
-    pub links-told : (f : LiveFiles) → All (λ (i : Input). f.content i.file.n ≡ Some (octets_in f i.file.n)) inputs → All (All (IsToldLink f)) (links_of lanes)
-    links-told f told = lanes-links (λ (i : Input). f.content i.file.n ≡ Some (octets_in f i.file.n)) (IsToldLink f) (λ i t link one each is. link-told i t link is f one) told taken
+    pub links-told : (f : LiveFiles) → All (IsToldInput f) inputs → All (All (IsToldLink f)) (links_of lanes)
+    links-told f told = lanes-links (IsToldInput f) (IsToldLink f) (λ i t link own one is. link-told i t f i.blocks link is own) told taken
 
-    pub links-apart : (holder : ℕ → List ℕ) (names : List (List ℕ)) → All (λ (i : Input). AreOthers (holder i.file.n) names) inputs → All (All (IsApartLink holder names)) (links_of lanes)
-    links-apart holder names apart = lanes-links (λ (i : Input). AreOthers (holder i.file.n) names) (IsApartLink holder names) (λ i t link one each is. link-apart i t link is holder names one) apart taken
+    pub links-spared : (test : ℕ → Bool) → All (λ (i : Input). test i.file.n ≡ false) inputs → All (All (IsSparedLink test)) (links_of lanes)
+    links-spared test spared = lanes-links (λ (i : Input). test i.file.n ≡ false) (IsSparedLink test) (λ i t link own one is. link-spared i t test i.blocks link is own) spared taken
 
 -- ---- the plan
 

@@ -1,12 +1,15 @@
 -- The titles of inputs, the tracks that are taken, and their entries.
-use Rattle.std.proofs.Common.{◌≡◌, ◌≤◌, ◌<◌, ℕ, zero, suc, ◌+◌, Bool, true, false, if◌then◌else◌, List, [], ◌∷◌, ◌++◌, length, take, drop, map, flat_map, get_or, refl, sym, ap, ap₂, ◌∙◌, arith, append-nil, append_assoc}
+use Rattle.std.proofs.Common.{◌≡◌, ◌≤◌, ◌<◌, ℕ, zero, suc, ◌+◌, Bool, true, false, if◌then◌else◌, List, [], ◌∷◌, ◌++◌, length, take, drop, map, flat_map, get_or, Option, Some, None, refl, sym, ap, ap₂, ◌∙◌, arith, append-nil, append_assoc}
 use Rattle.std.specs.List.{All}
+use Rattle.std.specs.Option.{IfSome}
 use Rattle.std.proofs.lemmas.Grind.{flat_map-append}
 use Rattle.std.proofs.lemmas.List.{length-map, take_all, drop_all}
 use Rattle.std.proofs.lemmas.List.Elements.{All-append}
 use denote.Ref.{Bor}
 use Rattle.identifier_format.proofs.GivenLemmas.{length-from}
 use Rattle.tree_format.specs.Node.{Node}
+use Rattle.tree_building.specs.Building.{IsRead}
+use Rattle.output_model.specs.Sound.{IsRecord}
 use Rattle.merge_inputs.specs.Input.{read_in}
 use Rattle.merge_inputs.specs.Taken.{IsTaken}
 use Rattle.merge_inputs.specs.declared.input.Input.{Input}
@@ -57,11 +60,11 @@ taken-all inputs k past = ap taken_in (take_all k inputs past) ∙ taken-read in
 
 -- each is taken so
 pub begun-taken : (i : Input) → HasTaken i → All IsTaken (begun_in i)
-begun-taken i all = of (is_appended (read_in i))
+begun-taken i has = of (is_appended (read_in i))
   where
     of : (b : Bool) → All IsTaken (if b then [] else i.taken)
     of true = λ k d inside. absurd (omega arith)
-    of false = all
+    of false = has.taken
 
 pub each-taken : (inputs : List Input) → All HasTaken inputs → All IsTaken (taken_in inputs)
 each-taken [] all = λ k d inside. absurd (omega arith)
@@ -95,3 +98,8 @@ pub entries-all : (uids : List ℕ) (refs : List (Bor TakenTrack)) (k : ℕ) (en
     → entries ++ entries_from (k + 1) (drop k uids) (drop k (lent refs)) ≡ all → entries ≡ all
 entries-all uids refs k entries all past as_many so_far =
     sym (append-nil entries) ∙ ap (λ us. entries ++ entries_from (k + 1) us (drop k (lent refs))) (sym (drop_all k uids (omega arith))) ∙ so_far
+
+-- what can be written was read
+pub read-record : (own : ℕ) (n : Option Node) → IfSome n (IsRecord own) → IfSome n (IsRead own)
+read-record own None is = tt
+read-record own (Some m) is = record { id = is.id; master = is.master; sound = is.sound }

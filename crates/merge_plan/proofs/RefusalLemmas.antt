@@ -46,11 +46,6 @@ module _ (webm : Bool) (taken : List TakenTrack) where
         let is : nat_lt MOST_LANES (length taken) ≡ true = grind (arith, nat_tests) in
         past-none ∙ ap (λ b. option_or (where_so b TooManyLanes) (not_webm webm taken)) is
 
-    pub refused-webm : length taken ≤ MOST_LANES → lanes_refusal webm taken ≡ not_webm webm taken
-    refused-webm few =
-        let is : nat_lt MOST_LANES (length taken) ≡ false = grind (arith, nat_tests) in
-        past-none ∙ ap (λ b. option_or (where_so b TooManyLanes) (not_webm webm taken)) is
-
 -- what isn't refused are some lanes, and not too many
 pub unrefused-few : (webm : Bool) (taken : List TakenTrack) → lanes_refusal webm taken ≡ None → length taken ≤ MOST_LANES
 unrefused-few webm taken none = of (length taken == 0) refl (nat_lt MOST_LANES (length taken)) refl

@@ -1,20 +1,26 @@
 -- What the lanes of a merge are made of.
-use Rattle.std.specs.Prelude.{ℕ, ◌==◌, ◌||◌, if◌then◌else◌, List, map, Option, Some, None, unwrap_or}
-use Rattle.std.specs.List.{enumerate_from}
+use Rattle.std.specs.Prelude.{ℕ, ◌==◌, Bool, ◌||◌, if◌then◌else◌, List, [], length, map, Option, Some, None, unwrap_or}
+use Rattle.std.specs.List.{enumerate_from, range_with_len}
+use Rattle.std.specs.Option.{option_map_or}
+use Rattle.tree_format.specs.Node.{Node}
 use Rattle.block_format.specs.Events.{Event}
 use Rattle.track_format.specs.Encoding.{prefix_of}
 use Rattle.output_model.specs.declared.heads.ClusterLimits.{ClusterLimits}
-use Rattle.merge_model.specs.Links.{Given, Placing, track_given}
+use Rattle.merge_model.specs.Links.{Given, Placing, text_given, track_given}
 use Rattle.cluster_runs.specs.declared.rule.CueRule.{CueRule}
 use Rattle.cluster_runs.specs.declared.rule.CueRule.TheVariants as rule
+use Rattle.chapter_changes.specs.Starts.{top_starts}
+use Rattle.splitter.specs.Split.{is_driver}
+use Rattle.splitter.specs.Words.{spec_of}
+use Rattle.splitter.specs.declared.spec.SplitSpec.{SplitSpec}
 use Rattle.word_values.specs.declared.values.CueWord.{CueWord}
 use Rattle.word_values.specs.declared.values.CueWord.TheVariants.{Never, Key, All}
 use Rattle.merge_words.specs.declared.output.MergeWords.{MergeWords}
 use Rattle.merge_inputs.specs.declared.track_type.TheConstants.{VIDEO_TRACK, SUBTITLE_TRACK}
-use Rattle.merge_inputs.specs.Input.{InputRead, events_in}
+use Rattle.merge_inputs.specs.Input.{BlocksRead, Clusters, Entries, InputRead, events_by}
 use Rattle.merge_inputs.specs.declared.taken.TakenTrack.{TakenTrack}
 use Rattle.merge_plan.specs.Chains.{lanes_by}
-use Rattle.merge_plan.specs.Records.{is_appended, tracks_taken}
+use Rattle.merge_plan.specs.Records.{chapters_of, is_appended, tracks_taken}
 
 -- ---- the lanes, one for each track that begins one
 
@@ -35,9 +41,15 @@ placing_for shift t = record { delay = t.delay; shift = shift; default_duration 
 abbrev pub given_for : ℕ → List Event → TakenTrack → Given
 given_for shift events t = track_given (placing_for shift t) t.track.number events
 
+-- what a track gives, by what holds the blocks of its input, and by the content of the file: of Clusters its own blocks, with the damages of
+-- the file; of a text all entries
+abbrev pub given_from : ℕ → BlocksRead → List ℕ → TakenTrack → Given
+given_from shift (Clusters segment scale) bytes t = given_for shift (events_by (Clusters segment scale) bytes) t
+given_from shift (Entries entries) bytes t = text_given t.delay shift entries
+
 -- what the tracks of a source give to its lanes
 abbrev pub given_of : Source → List Given
-given_of s = map (given_for (later_by s.1) (events_in s.1 s.0)) s.1.taken
+given_of s = map (given_from (later_by s.1) s.1.blocks s.0) s.1.taken
 
 -- Each lane, by what its links give: a track of a source that isn't appended begins one, and the tracks at its place of those that are
 -- appended to that source go on in it.
@@ -72,3 +84,22 @@ rule_of t = rule_for t.cues t.track.kind
 
 abbrev pub rules_given : List InputRead → List CueRule
 rules_given reads = map rule_of (tracks_taken reads)
+
+-- ---- where the output is split
+
+abbrev pub is_video : TakenTrack → Bool
+is_video t = t.track.kind == VIDEO_TRACK
+
+-- of lanes, of which these are video, which drive
+abbrev pub drivers_by : List Bool → List Bool
+drivers_by videos = map (is_driver videos) (range_with_len 0 (length videos))
+
+abbrev pub drives_given : List InputRead → List Bool
+drives_given reads = drivers_by (map is_video (tracks_taken reads))
+
+-- where the chapters start that are written, if any are
+abbrev pub starts_in : Option Node → List ℕ
+starts_in chapters = option_map_or top_starts chapters []
+
+abbrev pub split_given : MergeWords → List InputRead → SplitSpec
+split_given words reads = spec_of words.split (starts_in (chapters_of reads))

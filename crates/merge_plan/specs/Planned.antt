@@ -1,8 +1,7 @@
 -- What a plan is.
-use Rattle.std.specs.Prelude.{◌≡◌, ◌<◌, ◌≤◌, ⊤, ℕ, ◌+◌, List, length, map, get_or, sum_by, None, Some, IfSome, Result, Ok, Err}
+use Rattle.std.specs.Prelude.{◌≡◌, ◌<◌, ◌≤◌, ⊤, ℕ, ◌+◌, Bool, false, List, length, map, get_or, sum_by, None, Some, IfSome, Result, Ok, Err}
 use Rattle.std.specs.List.{All}
 use Rattle.mkv_io.specs.LiveFiles.{LiveFiles}
-use Rattle.mkv_io.specs.Names.{AreOthers}
 use Rattle.mkv_schema.specs.declared.ids.TheConstants.{INFO, TRACKS, CHAPTERS, TAGS}
 use Rattle.output_model.specs.declared.TheConstants.{MOST_LANES}
 use Rattle.attachment_records.specs.Attached.{attached_file}
@@ -12,20 +11,21 @@ use Rattle.merged_records.specs.Inputs.{IsAttached}
 use Rattle.segment_octets.specs.Front.{front_with}
 use Rattle.lane_blocks.specs.Links.{octets_in, given_in, IsOpenLink, IsToldLink, IsSmallLink}
 use Rattle.lane_blocks.specs.declared.link.Link.{Link}
+use Rattle.lane_blocks.specs.declared.link.Link.TheVariants.{Track, Entries}
 use Rattle.lanes.specs.Walks.{files_length}
-use Rattle.time_merge.specs.Laws.{IsApartLink}
+use Rattle.remux_plan.specs.Parts.{drivers_of}
 use Rattle.remux_plan.specs.Plan.{links_of, rules_of}
 use Rattle.remux_plan.specs.declared.plan.MergePlan.{MergePlan}
 use Rattle.remux_plan.specs.declared.plan.PlannedLane.{PlannedLane}
 use Rattle.merge_words.specs.declared.output.MergeWords.{MergeWords}
-use Rattle.merge_inputs.specs.Input.{IsInput, read_in}
+use Rattle.merge_inputs.specs.Input.{IsInput, read_in, total_in}
 use Rattle.merge_inputs.specs.declared.input.Input.{Input}
 use Rattle.merge_plan.specs.declared.refusal.PlanEnd.{PlanEnd}
 use Rattle.merge_plan.specs.declared.refusal.PlanEnd.TheVariants.{Refused, Memory}
 use Rattle.merge_plan.specs.declared.outputs.OutputRecords.{OutputRecords}
 use Rattle.merge_plan.specs.Records.{chapters_of, tags_of, tracks_of}
 use Rattle.merge_plan.specs.Front.{attachments_of, attached_length, front_of}
-use Rattle.merge_plan.specs.Plan.{Source, inputs_given, lanes_given, limits_of, rules_given}
+use Rattle.merge_plan.specs.Plan.{Source, drives_given, inputs_given, lanes_given, limits_of, rules_given, split_given}
 use Rattle.merge_plan.specs.Refusal.{plan_refusal}
 
 -- an input, with its content among live files
@@ -53,7 +53,7 @@ pub record IsFileOf (inputs : List Input) (a : Attachment) : Type 0 where
   pub inside : number < length inputs
   pub is : input ≡ get_or inputs number input
   pub same : a.file ≡ input.file
-  pub within : a.at + a.len ≤ input.outline.value.total
+  pub within : a.at + a.len ≤ total_in input.blocks
 
 -- They can be written and read again.
 pub record AreSound (inputs : List Input) (r : OutputRecords) : Type 0 where
@@ -71,11 +71,12 @@ GivesRecords words inputs (Err Memory) = ⊤
 
 -- ---- the plan
 
--- The plan that words and inputs come to: its name, where its Clusters end, what stands in front of them and what behind,
+-- The plan that words and inputs come to: its name, where it is split and where its Clusters end, what stands in front of them and what behind,
 -- with how many octets of attached files' data;
--- and of each lane what its links give, by the contents of their files, their inputs, and which blocks get a cue point.
+-- and of each lane what its links give, by the contents of their files, their inputs, which blocks get a cue point, and whether it drives.
 pub record IsPlanOf (words : MergeWords) (inputs : List Input) (p : MergePlan) : Type 0 where
   pub output : p.output ≡ words.output
+  pub split : p.split ≡ split_given words (map read_in inputs)
   pub limits : p.limits ≡ limits_of words
   pub front : (f : LiveFiles) → All (IsToldInput f) inputs → front_with f p.front ≡ front_of words (map (source_in f) inputs)
   pub octets : sum_by (λ (a : Attachment). a.len) p.front.attachments ≡ attached_length (map read_in inputs)
@@ -84,6 +85,7 @@ pub record IsPlanOf (words : MergeWords) (inputs : List Input) (p : MergePlan) :
   pub lanes : (f : LiveFiles) → map (map (given_in f)) (links_of p.lanes) ≡ lanes_given (map (source_in f) inputs)
   pub numbers : map (λ (l : PlannedLane). l.inputs) p.lanes ≡ inputs_given 0 (map read_in inputs)
   pub rules : rules_of p.lanes ≡ rules_given (map read_in inputs)
+  pub drives : drivers_of p.lanes ≡ drives_given (map read_in inputs)
 
 -- A plan is that of the words and inputs, which nothing refuses; they are refused for what refuses them; or there is no
 -- memory.
@@ -98,13 +100,19 @@ Plans words inputs (Err Memory) = ⊤
 abbrev pub AllLinks : (Link → Type 0) → MergePlan → Type 0
 AllLinks P p = All (All P) (links_of p.lanes)
 
+-- A test of live files, by their numbers, spares that of a track.
+abbrev pub IsSparedLink : (ℕ → Bool) → Link → Type 0
+IsSparedLink test (Track t) = test t.file.n ≡ false
+IsSparedLink test (Entries e) = ⊤
+
 -- A lane has at most one link for each input, and of each the number of its input.
 pub record IsLinked (inputs : List Input) (l : PlannedLane) : Type 0 where
   pub few : length l.spec.links ≤ length inputs
   pub numbered : length l.inputs ≡ length l.spec.links
 
 -- A plan of these inputs can be carried out: its lanes are few, each with links for some of the inputs, of each one at most; the links
--- are small, and tracks of the inputs; its records are read again, and its attached files stand in those of the inputs.
+-- are small, and tracks of the inputs, so that a test which spares the files of all inputs spares theirs; its records are read again, and its
+-- attached files stand in those of the inputs.
 pub record CanBeWritten (inputs : List Input) (p : MergePlan) : Type 0 where
   pub few : length p.lanes ≤ MOST_LANES
   pub linked : All (IsLinked inputs) p.lanes
@@ -112,8 +120,7 @@ pub record CanBeWritten (inputs : List Input) (p : MergePlan) : Type 0 where
   pub small : AllLinks IsSmallLink p
   pub is_open : (f : LiveFiles) → All (IsInput f) inputs → AllLinks (IsOpenLink f) p
   pub told : (f : LiveFiles) → All (IsToldInput f) inputs → AllLinks (IsToldLink f) p
-  pub apart : (holder : ℕ → List ℕ) (names : List (List ℕ)) → All (λ (i : Input). AreOthers (holder i.file.n) names) inputs
-      → AllLinks (IsApartLink holder names) p
+  pub apart : (test : ℕ → Bool) → All (λ (i : Input). test i.file.n ≡ false) inputs → AllLinks (IsSparedLink test) p
   pub info : IsRecord INFO p.front.info
   pub tracks : IsRecord TRACKS p.front.tracks
   pub attachments : All IsAttached p.front.attachments

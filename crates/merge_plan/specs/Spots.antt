@@ -1,23 +1,32 @@
 -- Where the blocks of a lane come from, and the attached files of an output.
-use Rattle.std.specs.Prelude.{◌≡◌, ◌≤◌, ℕ, Bool, List, [], ◌∷◌, ◌++◌, length, map, slice_get, IfSome}
-use Rattle.std.specs.List.{All, AllZip, enumerate_from}
+use Rattle.std.specs.Prelude.{◌≡◌, ◌≤◌, ⊤, ℕ, Bool, List, [], ◌∷◌, ◌++◌, length, map, slice_get, IfSome}
+use Rattle.std.specs.List.{All, AllZip, enumerate_from, range_with_len}
 use Rattle.std.specs.Option.{option_to_list}
 use Rattle.mkv_schema.specs.declared.ids.TheConstants.{CHAPTERS, TAGS}
 use Rattle.tree_building.specs.Building.{IsRead}
 use Rattle.track_format.specs.Encoding.{prefix_of}
 use Rattle.attachment_reading.specs.Walk.{IsAttachedIn}
+use Rattle.element_reader.specs.Outline.{FileOutline}
+use Rattle.text_entries.specs.declared.Entry.{Entry}
+use Rattle.srt_texts.specs.Reading.{AreWithin}
+use Rattle.text_files.specs.declared.limits.TheConstants.{MOST_OF_SRT}
 use Rattle.output_model.specs.declared.TheConstants.{MOST_OF_PREFIX}
 use Rattle.merge_model.specs.declared.limits.TheConstants.{MOST_SHIFT}
 use Rattle.cluster_runs.specs.declared.rule.CueRule.{CueRule}
 use Rattle.cluster_runs.specs.declared.rule.CueRule.TheVariants.{Never}
 use Rattle.lane_blocks.specs.declared.link.Link.{Link}
 use Rattle.lane_blocks.specs.declared.link.Link.TheVariants.{Track, Entries}
+use Rattle.lane_blocks.specs.declared.link.TextLink.{TextLink}
 use Rattle.lane_blocks.specs.declared.link.TrackLink.{TrackLink}
+use Rattle.splitter.specs.Split.{is_driver}
+use Rattle.remux_plan.specs.Parts.{drivers_of}
 use Rattle.remux_plan.specs.declared.plan.PlannedLane.{PlannedLane}
 use Rattle.merge_inputs.specs.Taken.{IsTaken}
+use Rattle.merge_inputs.specs.declared.input.Blocks.{Blocks}
+use Rattle.merge_inputs.specs.declared.input.Blocks.TheVariants as held_by
 use Rattle.merge_inputs.specs.declared.input.Input.{Input}
 use Rattle.merge_inputs.specs.declared.taken.TakenTrack.{TakenTrack}
-use Rattle.merge_inputs.specs.Input.{read_in}
+use Rattle.merge_inputs.specs.Input.{read_in, total_in}
 use Rattle.merge_plan.specs.Chains.{at_place, lanes_by}
 use Rattle.merge_plan.specs.Plan.{later_by, rule_of}
 use Rattle.merge_plan.specs.Records.{is_appended}
@@ -51,21 +60,34 @@ spots_at place each = option_to_list (slice_get (spots_in each) place)
 abbrev pub spots_behind : ℕ → ℕ → List Input → List Spot
 spots_behind place number others = at_place place (map spots_in (enumerate_from number others))
 
--- A link is this track of an input, with no more in front of each frame than a lane puts back.
-pub record IsLinkOf (i : Input) (t : TakenTrack) (link : TrackLink) : Type 0 where
+-- A link is this track of an input whose file has this outline and so many nanoseconds a tick, with no more in front of each frame than a
+-- lane puts back.
+pub record IsLinkOf (i : Input) (read : FileOutline) (nanoseconds : ℕ) (t : TakenTrack) (link : TrackLink) : Type 0 where
   pub file : link.file ≡ i.file
-  pub outline : link.outline.value ≡ i.outline.value
+  pub outline : link.outline.value ≡ read
   pub number : link.number ≡ t.track.number
-  pub scale : link.scale ≡ i.scale
+  pub scale : link.scale ≡ nanoseconds
   pub default_duration : link.default_duration ≡ t.track.default_duration
   pub delay : link.delay ≡ t.delay
   pub shift : link.shift ≡ later_by (read_in i)
   pub prefix : link.prefix ≡ prefix_of t.track.entry
   pub short : length link.prefix ≤ MOST_OF_PREFIX
 
+-- A link is this track of an input that is a text with these entries.
+pub record IsTextOf (i : Input) (read : List Entry) (t : TakenTrack) (link : TextLink) : Type 0 where
+  pub entries : link.entries ≡ read
+  pub delay : link.delay ≡ t.delay
+  pub shift : link.shift ≡ later_by (read_in i)
+
+-- A link is this track of an input whose blocks are held so.
+abbrev pub IsLinkBy : Input → Blocks → TakenTrack → Link → Type 0
+IsLinkBy i (held_by.Clusters outline scale) t (Track link) = IsLinkOf i outline.value scale t link
+IsLinkBy i (held_by.Clusters outline scale) t (Entries text) = ⊥
+IsLinkBy i (held_by.Entries entries) t (Track link) = ⊥
+IsLinkBy i (held_by.Entries entries) t (Entries text) = IsTextOf i entries t text
+
 abbrev pub IsLink : Input → TakenTrack → Link → Type 0
-IsLink i t (Track link) = IsLinkOf i t link
-IsLink i t (Entries text) = ⊥
+IsLink i t link = IsLinkBy i i.blocks t link
 
 abbrev pub IsLinkAt : Spot → Link → Type 0
 IsLinkAt s link = IsLink s.input s.track link
@@ -86,6 +108,7 @@ pub record GoesOn (spots : List Spot) (old new : PlannedLane) : Type 0 where
   pub are : AllZip IsLinkAt spots more
   pub inputs : new.inputs ≡ old.inputs ++ map (λ (s : Spot). s.number) spots
   pub rule : new.cues ≡ old.cues
+  pub drives : new.drives ≡ old.drives
 
 -- A lane has these tracks, one behind the other.
 pub record IsLaneOf (spots : List Spot) (l : PlannedLane) : Type 0 where
@@ -96,8 +119,19 @@ pub record IsLaneOf (spots : List Spot) (l : PlannedLane) : Type 0 where
 abbrev pub AreLanesOf : List Input → List PlannedLane → Type 0
 AreLanesOf inputs lanes = AllZip IsLaneOf (spots_from 0 inputs) lanes
 
-abbrev pub HasTaken : Input → Type 0
-HasTaken i = All IsTaken i.taken
+-- Of lanes, of which these are video, it is said which drive.
+abbrev pub AreDriven : List Bool → List PlannedLane → Type 0
+AreDriven videos lanes = drivers_of lanes ≡ map (is_driver videos) (range_with_len 0 (length lanes))
+
+-- The entries of a text are those of one that isn't too long.
+abbrev pub IsShortText : Blocks → Type 0
+IsShortText (held_by.Clusters outline scale) = ⊤
+IsShortText (held_by.Entries entries) = AreWithin MOST_OF_SRT entries
+
+-- The tracks that are taken of an input are such as can be, and a text isn't too long.
+pub record HasTaken (i : Input) : Type 0 where
+  pub taken : All IsTaken i.taken
+  pub text : IsShortText i.blocks
 
 -- An input isn't later than a lane's link may be.
 abbrev pub HasPlace : Input → Type 0
@@ -105,6 +139,6 @@ HasPlace i = later_by (read_in i) ≤ MOST_SHIFT
 
 -- The data of the attached files of an input stand in its file, and its Chapters and Tags were read.
 pub record HasRecords (i : Input) : Type 0 where
-  pub attachments : All (IsAttachedIn i.file i.outline.value.total) i.attachments
+  pub attachments : All (IsAttachedIn i.file (total_in i.blocks)) i.attachments
   pub chapters : IfSome i.chapters (IsRead CHAPTERS)
   pub tags : IfSome i.tags (IsRead TAGS)

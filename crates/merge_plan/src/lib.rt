@@ -10,6 +10,7 @@ mod plan;
 mod planned_lanes;
 mod records;
 mod refusal;
+mod splitting;
 mod title;
 mod webm;
 

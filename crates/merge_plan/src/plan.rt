@@ -1,8 +1,9 @@
 //! The plan of a merge.
 
-ghost use Rattle.std.specs.Prelude.{◌≡◌, IfOk};
+ghost use Rattle.std.specs.Prelude.{◌≡◌, true, IfOk};
 ghost use Rattle.std.specs.List.{All};
 ghost use Rattle.std.specs.Option.{option_copied};
+ghost use Rattle.splitter.specs.Words.{is_by_time};
 ghost use Rattle.merge_plan.specs.Lent.{lent};
 ghost use Rattle.merge_plan.specs.Planned.{AreSound, CanBeWritten, GivesRecords, Plans};
 ghost use Rattle.merge_plan.specs.Refusal.{lanes_refusal, other_codec};
@@ -12,6 +13,7 @@ use crate::entries::tracks_taken;
 use crate::outputs::{OutputRecords, output_of};
 use crate::planned_lanes::lanes_of;
 use crate::refusal::{PlanEnd, PlanRefusal};
+use crate::splitting::{split_of, videos_of};
 use crate::title::title_of;
 use crate::webm::is_webm_codec;
 use merge_inputs::{Input, TakenTrack};
@@ -79,11 +81,13 @@ fn records_for(
 }
 
 /// What these inputs come to in one output, or the first thing that refuses them: that no track is taken, or more than 64;
-/// in WebM a track of a codec that it can't have; and Tracks, Chapters or Tags that would be too large to be read again.
+/// in WebM a track of a codec that it can't have; and Tracks, Chapters or Tags that would be too large to be read again. What
+/// is split by octets isn't built.
 pub fn plan_of(alloc: Global, words: &MergeWords, inputs: &[Input]) -> Result<MergePlan, PlanEnd>
     requires tracks { All HasTaken inputs.now }
     requires records { All HasRecords inputs.now }
     requires places { All HasPlace inputs.now }
+    requires split { is_by_time words.now.split ≡ true }
     ensures exact { Plans words.now inputs.now result }
     ensures written { IfOk result (CanBeWritten inputs.now) }
 {
@@ -94,14 +98,18 @@ pub fn plan_of(alloc: Global, words: &MergeWords, inputs: &[Input]) -> Result<Me
         tags,
     } = records_for(alloc, words, inputs)?;
     let info = info_of(alloc, words.scale, title_of(words, inputs))?;
+    let split = split_of(alloc, words, &chapters)?;
+    let taken = tracks_taken(alloc, inputs)?;
+    let videos = videos_of(alloc, taken.as_slice())?;
     Ok(MergePlan {
         output: words.output.clone()?,
+        split,
         limits: ClusterLimits {
             blocks: words.blocks,
             span: words.span,
             scale: words.scale,
         },
-        lanes: lanes_of(alloc, inputs)?,
+        lanes: lanes_of(alloc, inputs, videos.as_slice())?,
         front: Front {
             webm: words.webm,
             info,

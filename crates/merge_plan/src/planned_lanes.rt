@@ -4,18 +4,23 @@ ghost use Rattle.std.specs.Prelude.{◌≡◌, ◌≤◌, ◌<◌, ◌+◌, ◌^
 ghost use Rattle.std.specs.List.{All, take_while};
 ghost use Rattle.track_format.specs.Encoding.{prefix_of};
 ghost use Rattle.output_model.specs.declared.TheConstants.{MOST_OF_PREFIX};
+ghost use Rattle.merge_inputs.specs.Input.{read_in};
 ghost use Rattle.merge_inputs.specs.Taken.{IsTaken};
-ghost use Rattle.merge_plan.specs.Plan.{rule_of, usual_rule};
-ghost use Rattle.merge_plan.specs.Spots.{AreLanesOf, AreLinksOf, GoesOn, HasTaken, IsLaneOf, IsLinkOf, goes_on, spot, spots_at, spots_behind};
+ghost use Rattle.merge_plan.specs.Plan.{later_by, rule_of, usual_rule};
+ghost use Rattle.merge_plan.specs.Spots.{AreDriven, AreLanesOf, AreLinksOf, GoesOn, HasTaken, IsLaneOf, IsLink, IsLinkOf, IsTextOf, goes_on, spot, spots_at, spots_behind};
 
 use crate::entries::tracks_begun;
 use cluster_runs::CueRule;
-use lane_blocks::{LaneSpec, Link, TrackLink};
+use element_reader::Outline;
+use lane_blocks::{LaneSpec, Link, TextLink, TrackLink};
 use merge_inputs::track_type::{SUBTITLE_TRACK, VIDEO_TRACK};
-use merge_inputs::{Input, TakenTrack};
+use merge_inputs::{Blocks, Input, TakenTrack};
 use mkv_values::{Bytes, List};
 use remux_plan::PlannedLane;
+use splitter::is_driver;
 use std::alloc::{AllocError, Global};
+use std::rc::Rc;
+use text_entries::Entry;
 use track_records::usable;
 use word_values::CueWord;
 
@@ -55,21 +60,82 @@ fn prefix_of(alloc: Global, taken: &TakenTrack) -> Result<Bytes, AllocError>
     Ok(prefix)
 }
 
-/// A track as a link.
-fn link_of(alloc: Global, input: &Input, taken: &TakenTrack) -> Result<TrackLink, AllocError>
+/// By how many nanoseconds an input is later.
+fn later_by(input: &Input) -> u64
+    ensures { result ≡ later_by (read_in input.now) }
+{
+    input.shift.unwrap_or(0)
+}
+
+/// A track of an input whose file has this outline, and so many nanoseconds a tick, as a link.
+fn track_of(
+    alloc: Global,
+    input: &Input,
+    outline: &Rc<Outline>,
+    scale: u64,
+    taken: &TakenTrack,
+) -> Result<TrackLink, AllocError>
     requires { IsTaken taken.now }
-    ensures { IfOk result (IsLinkOf input.now taken.now) }
+    ensures { IfOk result (IsLinkOf input.now outline.now.value scale taken.now) }
 {
     Ok(TrackLink {
         file: input.file,
-        outline: input.outline.clone()?,
+        outline: outline.clone()?,
         number: taken.track.number,
-        scale: input.scale,
+        scale,
         default_duration: taken.track.default_duration,
         delay: taken.delay,
-        shift: input.shift.unwrap_or(0),
+        shift: later_by(input),
         prefix: prefix_of(alloc, taken)?,
     })
+}
+
+/// Entries again.
+fn copies(alloc: Global, entries: &[Entry]) -> Result<List<Entry>, AllocError>
+    ensures { IfOk result (λ copies. copies ≡ entries.now) }
+{
+    let mut copies = List::new(alloc);
+    for entry in entries {
+        copies.push(Entry {
+            start: entry.start,
+            duration: entry.duration,
+            text: entry.text.clone()?,
+        })?;
+    }
+    Ok(copies)
+}
+
+/// A track of an input that is a text with these entries as a link.
+fn text_of(
+    alloc: Global,
+    input: &Input,
+    entries: &List<Entry>,
+    taken: &TakenTrack,
+) -> Result<TextLink, AllocError>
+    ensures { IfOk result (IsTextOf input.now entries.now taken.now) }
+{
+    Ok(TextLink {
+        entries: copies(alloc, entries.as_slice())?,
+        delay: taken.delay,
+        shift: later_by(input),
+    })
+}
+
+/// A track as a link.
+fn link_of(alloc: Global, input: &Input, taken: &TakenTrack) -> Result<Link, AllocError>
+    requires { IsTaken taken.now }
+    ensures { IfOk result (IsLink input.now taken.now) }
+{
+    match &input.blocks {
+        Blocks::Clusters { outline, scale } => {
+            let track = track_of(alloc, input, outline, *scale, taken)?;
+            Ok(Link::Track(track))
+        }
+        Blocks::Entries { entries } => {
+            let text = text_of(alloc, input, entries, taken)?;
+            Ok(Link::Entries(text))
+        }
+    }
 }
 
 /// The tracks that are taken of an input as links.
@@ -79,7 +145,7 @@ pub fn links_of(alloc: Global, input: &Input) -> Result<List<Link>, AllocError>
 {
     let mut links = List::new(alloc);
     for taken in input.taken.as_slice() {
-        links.push(Link::Track(link_of(alloc, input, taken)?))?;
+        links.push(link_of(alloc, input, taken)?)?;
     }
     Ok(links)
 }
@@ -109,14 +175,14 @@ fn go_on(
 {
     if let Some(taken) = input.taken.get(place) {
         let link = link_of(alloc, input, taken)?;
-        lane.spec.links.push(Link::Track(link))?;
+        lane.spec.links.push(link)?;
         lane.inputs.push(number)?;
     }
     Ok(())
 }
 
 /// The lane that a track begins of an input with this number, from 0: at this place it goes on in the inputs that are
-/// appended to that one.
+/// appended to that one. It drives, or doesn't.
 fn lane_of(
     alloc: Global,
     number: usize,
@@ -124,20 +190,23 @@ fn lane_of(
     place: usize,
     taken: &TakenTrack,
     behind: &[Input],
+    drives: bool,
 ) -> Result<PlannedLane, AllocError>
     requires taken { IsTaken taken.now }
     requires behind { All HasTaken behind.now }
     requires room { number + length behind.now + 1 < 2 ^ 64 }
-    ensures { IfOk result (IsLaneOf (spot number input.now taken.now ∷ spots_behind place (number + 1) behind.now)) }
+    ensures lane { IfOk result (IsLaneOf (spot number input.now taken.now ∷ spots_behind place (number + 1) behind.now)) }
+    ensures drives { IfOk result (λ lane. lane.drives ≡ drives) }
 {
     let mut links = List::new(alloc);
-    links.push(Link::Track(link_of(alloc, input, taken)?))?;
+    links.push(link_of(alloc, input, taken)?)?;
     let mut inputs = List::new(alloc);
     inputs.push(number)?;
     let mut lane = PlannedLane {
         spec: LaneSpec { links },
         inputs,
         cues: rule_of(taken),
+        drives,
     };
     for (k, other) in behind.iter().enumerate() {
         go_on(alloc, place, number + 1 + k, other, &mut lane)?;
@@ -145,16 +214,22 @@ fn lane_of(
     Ok(lane)
 }
 
-/// The lanes of inputs, one behind the other.
-pub(crate) fn lanes_of(alloc: Global, inputs: &[Input]) -> Result<List<PlannedLane>, AllocError>
+/// The lanes of inputs, one behind the other, of which these are video.
+pub(crate) fn lanes_of(
+    alloc: Global,
+    inputs: &[Input],
+    videos: &[bool],
+) -> Result<List<PlannedLane>, AllocError>
     requires { All HasTaken inputs.now }
-    ensures { IfOk result (AreLanesOf inputs.now) }
+    ensures lanes { IfOk result (AreLanesOf inputs.now) }
+    ensures drives { IfOk result (AreDriven videos.now) }
 {
     let mut lanes = List::new(alloc);
     for (number, input) in inputs.iter().enumerate() {
         let behind = appended(&inputs[number + 1..]);
         for (place, taken) in tracks_begun(input).iter().enumerate() {
-            lanes.push(lane_of(alloc, number, input, place, taken, behind)?)?;
+            let drives = is_driver(videos, lanes.len());
+            lanes.push(lane_of(alloc, number, input, place, taken, behind, drives)?)?;
         }
     }
     Ok(lanes)

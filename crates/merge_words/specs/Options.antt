@@ -35,7 +35,7 @@ table =
     option (codes "") (codes "--chapters") s.ChapterFile Output f.Name (codes "take chapters from a text") ∷
     option (codes "") (codes "--timestamp-scale") s.Scale Output f.Scale (codes "let a tick of the output last so long") ∷
     option (codes "") (codes "--cluster-length") s.ClusterLength Output f.Length (codes "end a Cluster by then") ∷
-    option (codes "") (codes "--split") s.Split Output f.Split (codes "begin further outputs there (not built)") ∷
+    option (codes "") (codes "--split") s.Split Output f.Split (codes "begin new outputs there (size: not built)") ∷
     option (codes "") (codes "--segment-uid") s.Uuids Output f.Uuids (codes "give the outputs these (not built)") ∷
     option (codes "") (codes "--link") s.Link Output f.Flag (codes "link the outputs to each other (not built)") ∷
     option (codes "-J") (codes "") s.Identify Output f.Flag (codes "identify FILE, and nothing else") ∷

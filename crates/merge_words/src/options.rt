@@ -77,7 +77,7 @@ static MERGE_OPTIONS: [OptionRow; 27] = [
     OptionRow("", "--chapters", Subject::ChapterFile, Scope::Output, ValueForm::Name, "take chapters from a text"),
     OptionRow("", "--timestamp-scale", Subject::Scale, Scope::Output, ValueForm::Scale, "let a tick of the output last so long"),
     OptionRow("", "--cluster-length", Subject::ClusterLength, Scope::Output, ValueForm::Length, "end a Cluster by then"),
-    OptionRow("", "--split", Subject::Split, Scope::Output, ValueForm::Split, "begin further outputs there (not built)"),
+    OptionRow("", "--split", Subject::Split, Scope::Output, ValueForm::Split, "begin new outputs there (size: not built)"),
     OptionRow("", "--segment-uid", Subject::Uuids, Scope::Output, ValueForm::Uuids, "give the outputs these (not built)"),
     OptionRow("", "--link", Subject::Link, Scope::Output, ValueForm::Flag, "link the outputs to each other (not built)"),
     OptionRow("-J", "", Subject::Identify, Scope::Output, ValueForm::Flag, "identify FILE, and nothing else"),

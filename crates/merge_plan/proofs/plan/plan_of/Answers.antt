@@ -1,24 +1,38 @@
 -- The lanes are those of the tracks that are taken, and nothing refuses them.
-use Rattle.std.proofs.Common.{◌≡◌, map, refl, sym, ap, ◌∙◌, arith, rules}
+use Rattle.std.proofs.Common.{◌≡◌, List, Option, map, refl, sym, ap, ◌∙◌, arith, rules}
+use Rattle.mkv_schema.specs.declared.ids.TheConstants.{CHAPTERS}
+use Rattle.tree_format.specs.Node.{Node}
+use Rattle.splitter.specs.Words.{spec_of}
 use Rattle.output_records.specs.Info.{output_info}
 use Rattle.merge_inputs.specs.Input.{read_in}
-use Rattle.merge_plan.specs.Records.{info_of, tracks_of}
+use Rattle.merge_inputs.specs.declared.taken.TakenTrack.{TakenTrack}
+use denote.Ref.{Bor}
+use Rattle.merge_plan.specs.Lent.{lent}
+use Rattle.merge_plan.specs.Plan.{is_video, starts_in}
+use Rattle.merge_plan.specs.Records.{info_of, tracks_of, tracks_taken}
 use Rattle.merge_plan.proofs.FileLemmas.{reads-in}
-use Rattle.merge_plan.proofs.PlanLemmas.{lanes-length, lanes-given, lanes-numbers, lanes-rules, lanes-linked, lanes-once, links-small, links-open, links-told, links-apart, plan-few}
+use Rattle.merge_plan.proofs.RecordLemmas.{read-record}
+use Rattle.merge_plan.proofs.PlanLemmas.{lanes-length, lanes-drives, lanes-given, lanes-numbers, lanes-rules, lanes-linked, lanes-once, links-small, links-open, links-told, links-spared, plan-few}
 use Rattle.merge_plan.proofs.plan.plan_of.Goals as goal
+
+pub split_of-requires-clause-chapters : goal.split_of-requires-clause-chapters
+split_of-requires-clause-chapters c = read-record CHAPTERS c.in_ok-tracks.field-0.chapters c.in_ok-tracks.ensures.sound.chapters
 
 pub returns-clause-exact : goal.returns-clause-exact
 returns-clause-exact c =
     let inputs = c.args.inputs.now in
     let lanes = c.in_ok-lanes_of.field-0 in
-    let are = c.in_ok-lanes_of.ensures in
+    let are = c.in_ok-lanes_of.ensures.lanes in
     let words = c.args.words.now in
     let records = c.in_ok-tracks.ensures.exact.1 in
     let info : c.in_ok-info.info ≡ info_of words (map read_in inputs) = c.in_ok-info.ensures.exact ∙ ap (output_info words.scale) c.title_of.ensures in
+    let videos : c.as_slice-2.result.now ≡ map is_video (tracks_taken (map read_in inputs)) = c.as_slice-2.ensures ∙ c.in_ok-videos.ensures ∙ ap (λ (refs : List (Bor TakenTrack)). map is_video (lent refs)) c.as_slice.ensures.value
+    ∙ ap (λ (ts : List TakenTrack). map is_video ts) c.in_ok-taken.ensures in
     let output : c.in_ok-clone.field-0 ≡ words.output = search (rules, c.in_ok-clone.ensures.cases) in (
       c.in_ok-tracks.ensures.exact.0,
       record {
         output = output;
+        split = c.in_ok-split.ensures ∙ ap (λ (n : Option Node). spec_of words.split (starts_in n)) records.chapters;
         limits = refl;
         front = λ f told.
             let reads = sym (reads-in f inputs) in
@@ -29,6 +43,7 @@ returns-clause-exact c =
         lanes = lanes-given inputs lanes are;
         numbers = lanes-numbers inputs lanes are;
         rules = lanes-rules inputs lanes are;
+        drives = lanes-drives inputs lanes are c.as_slice-2.result.now c.in_ok-lanes_of.ensures.drives videos;
       },
     )
 
@@ -36,7 +51,7 @@ pub returns-clause-written : goal.returns-clause-written
 returns-clause-written c =
     let inputs = c.args.inputs.now in
     let lanes = c.in_ok-lanes_of.field-0 in
-    let are = c.in_ok-lanes_of.ensures in
+    let are = c.in_ok-lanes_of.ensures.lanes in
     let long = lanes-length inputs lanes are in
     let few = plan-few c.args.words.now (map read_in inputs) c.in_ok-tracks.ensures.exact.0 in
     let records = c.in_ok-tracks.ensures.sound in
@@ -47,7 +62,7 @@ returns-clause-written c =
       small = links-small inputs lanes are c.requires.tracks c.requires.places;
       is_open = links-open inputs lanes are c.requires.tracks;
       told = links-told inputs lanes are c.requires.tracks;
-      apart = links-apart inputs lanes are c.requires.tracks;
+      apart = links-spared inputs lanes are c.requires.tracks;
       info = c.in_ok-info.ensures.sound;
       tracks = records.tracks;
       attachments = records.attachments;

@@ -1,7 +1,10 @@
 -- The lane goes on in the inputs so far.
-use Rattle.std.proofs.Common.{◌+◌, ◌∷◌, take}
+use Rattle.std.proofs.Common.{◌≡◌, ◌+◌, ◌∷◌, take}
 use Rattle.merge_plan.specs.Spots.{IsLaneOf, spot, spots_behind}
 use Rattle.merge_plan.proofs.planned_lanes.lane_of.Given as goal
 
 abbrev pub invariant-loop-k : goal.invariant-loop-k
-invariant-loop-k l = IsLaneOf (spot l.number l.input l.taken ∷ spots_behind l.place (l.number + 1) (take l.k l.behind)) l.lane
+invariant-loop-k l = record {
+  lane : IsLaneOf (spot l.number l.input l.taken ∷ spots_behind l.place (l.number + 1) (take l.k l.behind)) l.lane;
+  drives : l.lane.drives ≡ l.drives;
+}

@@ -3,7 +3,8 @@ use Rattle.std.proofs.Common.{List, [], ◌∷◌, ◌+◌, ◌∙◌, ap, drop}
 use Rattle.std.specs.List.{take_while}
 use Rattle.std.proofs.lemmas.List.{drop_all, take_rest}
 use Rattle.merge_plan.specs.Spots.{Spot, goes_on, spot, spots_behind, spots_from}
-use Rattle.merge_plan.proofs.LaneLemmas.{behind-taken, input-next, item-taken, lane-next, lanes-done, left-same, left_at, place-next}
+use Rattle.splitter.specs.Split.{is_driver}
+use Rattle.merge_plan.proofs.LaneLemmas.{behind-taken, driven-more, input-next, item-taken, lane-next, lanes-done, left-same, left_at, place-next}
 use Rattle.merge_plan.proofs.planned_lanes.lanes_of.Goals as goal
 
 pub loop-place-init : goal.loop-place-init
@@ -13,8 +14,11 @@ loop-place-init c =
     let i = c.index-inputs-number.result in
     let taken = c.tracks_begun-taken-items.result.now in
     let behind = c.appended-behind.result.now in
-    left-same (spots_from number (drop number inputs)) (left_at inputs number i taken behind 0) (spots_from 0 inputs) c.loop-number.lanes
-    (input-next inputs number i taken behind c.loop-number-test.true c.index-inputs-number.is c.tracks_begun-taken-items.ensures (c.appended-behind.ensures ∙ ap (take_while goes_on) (take_rest inputs (number + 1)))) c.loop-number.invariant
+    record {
+      lanes = left-same (spots_from number (drop number inputs)) (left_at inputs number i taken behind 0) (spots_from 0 inputs) c.loop-number.lanes
+          (input-next inputs number i taken behind c.loop-number-test.true c.index-inputs-number.is c.tracks_begun-taken-items.ensures (c.appended-behind.ensures ∙ ap (take_while goes_on) (take_rest inputs (number + 1)))) c.loop-number.invariant.lanes;
+      drives = c.loop-number.invariant.drives;
+    }
 
 pub lane_of-requires-clause-taken : goal.lane_of-requires-clause-taken
 lane_of-requires-clause-taken c =
@@ -34,14 +38,18 @@ loop-place-preserved c =
     let place = c.loop-place.place in
     let t = c.taken-item.result in
     let spots : List Spot = spot number i t ∷ spots_behind place (number + 1) behind in
-    lane-next spots (left_at inputs number i taken behind (place + 1)) (spots_from 0 inputs) c.loop-place.lanes c.push.new.self c.in_ok-lane_of.field-0
-    (left-same (left_at inputs number i taken behind place) (spots ∷ left_at inputs number i taken behind (place + 1)) (spots_from 0 inputs) c.loop-place.lanes
-    (place-next inputs number i taken behind place t c.loop-place-test.true c.taken-item.is) c.loop-place.invariant)
-    c.in_ok-lane_of.ensures c.in_ok-push.ensures.ok
+    record {
+      lanes = lane-next spots (left_at inputs number i taken behind (place + 1)) (spots_from 0 inputs) c.loop-place.lanes c.push.new.self c.in_ok-lane_of.field-0
+          (left-same (left_at inputs number i taken behind place) (spots ∷ left_at inputs number i taken behind (place + 1)) (spots_from 0 inputs) c.loop-place.lanes
+          (place-next inputs number i taken behind place t c.loop-place-test.true c.taken-item.is) c.loop-place.invariant.lanes)
+          c.in_ok-lane_of.ensures.lane c.in_ok-push.ensures.ok;
+      drives = driven-more c.args.videos.now c.loop-place.lanes c.push.new.self c.in_ok-lane_of.field-0 c.loop-place.invariant.drives
+          (c.in_ok-lane_of.ensures.drives ∙ c.is_driver-drives.ensures ∙ ap (is_driver c.args.videos.now) c.len.ensures) c.in_ok-push.ensures.ok;
+    }
 
-pub returns : goal.returns
-returns c =
+pub returns-clause-lanes : goal.returns-clause-lanes
+returns-clause-lanes c =
     let inputs = c.args.inputs.now in
     let number = c.loop-number.number in
     lanes-done (spots_from 0 inputs) c.loop-number.lanes
-    (left-same (spots_from number (drop number inputs)) [] (spots_from 0 inputs) c.loop-number.lanes (ap (spots_from number) (drop_all number inputs c.loop-number-test.false)) c.loop-number.invariant)
+    (left-same (spots_from number (drop number inputs)) [] (spots_from 0 inputs) c.loop-number.lanes (ap (spots_from number) (drop_all number inputs c.loop-number-test.false)) c.loop-number.invariant.lanes)

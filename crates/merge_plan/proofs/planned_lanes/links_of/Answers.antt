@@ -1,5 +1,5 @@
 -- One track more is a link.
-use Rattle.std.proofs.Common.{List, ◌∙◌, subst, take}
+use Rattle.std.proofs.Common.{List, ◌∙◌, subst}
 use Rattle.std.specs.List.{AllZip}
 use Rattle.std.proofs.lemmas.List.{take_all}
 use Rattle.merge_inputs.specs.declared.taken.TakenTrack.{TakenTrack}

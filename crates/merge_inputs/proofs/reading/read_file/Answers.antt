@@ -18,9 +18,9 @@ use Rattle.merge_inputs.specs.Select.{kept_list, kept_one}
 use Rattle.merge_inputs.specs.Taken.{first_unusable}
 use Rattle.merge_inputs.specs.declared.input.InputRefusal.TheVariants.{Damaged}
 use Rattle.merge_inputs.specs.declared.taken.TakenTrack.{TakenTrack}
-use Rattle.merge_inputs.proofs.InputLemmas.{input_of-all, input_of-refused, kept-all, kept-files, kept-some, read-same}
+use Rattle.merge_inputs.proofs.InputLemmas.{file_read-all, file_read-refused, kept-all, kept-files, kept-some, read-same}
 use Rattle.merge_inputs.proofs.TakenLemmas.{AreTaken-read, taken-tracks}
-use Rattle.merge_inputs.proofs.reading.read_input.Goals as goal
+use Rattle.merge_inputs.proofs.reading.read_file.Goals as goal
 
 -- the tracks that are taken are entries
 pub first_unusable-requires : goal.first_unusable-requires
@@ -33,7 +33,7 @@ pub returns-in-Some-clause-exact : goal.returns-in-Some-clause-exact
 returns-in-Some-clause-exact g c = λ bytes told.
     let outline = c.in_ok-outline.ensures.exact bytes told in
     let now = ap (λ s. (g.R.Reads.files s).content c.args.file.n) c.read_after.ensures.same.standing ∙ told in
-    input_of-refused c.args.words.now c.args.webm c.args.held bytes c.in_ok-outline.outline (described_by c.in_ok-info.field-0) (Damaged c.in-Some.damage) outline
+    file_read-refused c.args.words.now c.args.webm c.args.held bytes c.in_ok-outline.outline (described_by c.in_ok-info.field-0) (Damaged c.in-Some.damage) outline
     (c.in_ok-info.ensures.exact bytes now c.args.held outline)
     (ap refusal_of (sym (c.as_slice.ensures ∙ c.in_ok-taken.ensures)) ∙ ap (option_map Damaged) (sym c.first_unusable.ensures ∙ c.in-Some.is))
 
@@ -42,7 +42,7 @@ pub returns-clause-exact : goal.returns-clause-exact
 returns-clause-exact g c = λ bytes told.
     let outline = c.in_ok-outline.ensures.exact bytes told in
     let now = ap (λ s. (g.R.Reads.files s).content c.args.file.n) c.read_after.ensures.same.standing ∙ told in
-    input_of-all c.args.words.now c.args.webm c.args.held bytes c.in_ok-outline.outline (described_by c.in_ok-info.field-0) _ outline
+    file_read-all c.args.words.now c.args.webm c.args.held bytes c.in_ok-outline.outline (described_by c.in_ok-info.field-0) _ outline
     (c.in_ok-info.ensures.exact bytes now c.args.held outline)
     (ap refusal_of (sym (c.as_slice.ensures ∙ c.in_ok-taken.ensures)) ∙ ap (option_map Damaged) (sym c.first_unusable.ensures ∙ c.in_default.is))
     (read-same c.in_ok-new.field-0.value c.in_ok-outline.outline c.in_ok-new.ensures.ok c.scale_of.ensures.value c.in_ok-title_of.ensures c.len-count.ensures c.in_ok-taken.ensures
@@ -58,8 +58,10 @@ returns-clause-input g c =
     let stands = c.read_records.ensures.standing ∙ c.read_after.ensures.same.standing in
     record {
       live = ap (λ s. (g.R.Reads.files s).live c.args.file.n) stands ∙ c.requires.live;
-      size = ap (λ s. (g.R.Reads.files s).size c.args.file.n) stands ∙ sym c.in_ok-outline.ensures.total ∙ ap (λ (o : FileOutline). o.total) (sym c.in_ok-new.ensures.ok);
-      scale = c.scale_of.ensures.some;
+      blocks = record {
+        size = ap (λ s. (g.R.Reads.files s).size c.args.file.n) stands ∙ sym c.in_ok-outline.ensures.total ∙ ap (λ (o : FileOutline). o.total) (sym c.in_ok-new.ensures.ok);
+        scale = c.scale_of.ensures.some;
+      };
       taken = AreTaken-read c.args.words.now c.in_ok-info.field-0.tracks c.in_ok-taken.taken c.in_ok-taken.ensures c.in_ok-info.ensures.good.tracks c.requires.delays
           (ap first_unusable (sym c.as_slice.ensures) ∙ sym c.first_unusable.ensures ∙ c.in_default.is);
       attachments =

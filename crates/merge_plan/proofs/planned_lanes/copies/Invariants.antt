@@ -1,0 +1,6 @@
+-- The copies are those of the entries so far.
+use Rattle.std.proofs.Common.{◌≡◌, take}
+use Rattle.merge_plan.proofs.planned_lanes.copies.Given as goal
+
+abbrev pub invariant-loop-entry : goal.invariant-loop-entry
+invariant-loop-entry l = l.copies ≡ take l.entry-index l.entries

@@ -1,0 +1,60 @@
+//! Where the output of a merge is split: RFC 9559, section 5.1.7 (Chapters Element), has the chapters. That it is split, and how, is this project's.
+
+ghost use Rattle.std.specs.Prelude.{◌≡◌, map, true, IfOk, IfSome};
+ghost use Rattle.mkv_schema.specs.declared.ids.TheConstants.{CHAPTERS};
+ghost use Rattle.tree_building.specs.Building.{IsRead};
+ghost use Rattle.splitter.specs.Words.{is_by_time, spec_of};
+ghost use Rattle.merge_plan.specs.Lent.{lent};
+ghost use Rattle.merge_plan.specs.Plan.{is_video, starts_in};
+
+use chapter_changes::top_starts;
+use ebml_tree::Tree;
+use merge_inputs::TakenTrack;
+use merge_inputs::track_type::VIDEO_TRACK;
+use merge_words::MergeWords;
+use mkv_values::List;
+use splitter::{SplitSpec, split_spec};
+use std::alloc::{AllocError, Global};
+
+/// Where the chapters start that are written, if any are.
+fn starts_in(alloc: Global, chapters: &Option<Tree>) -> Result<List<u64>, AllocError>
+    requires { IfSome chapters.now (IsRead CHAPTERS) }
+    ensures { IfOk result (λ starts. starts ≡ starts_in chapters.now) }
+{
+    match chapters {
+        Some(chapters) => top_starts(alloc, chapters),
+        None => Ok(List::new(alloc)),
+    }
+}
+
+/// Where an output with these Chapters is split.
+pub(crate) fn split_of(
+    alloc: Global,
+    words: &MergeWords,
+    chapters: &Option<Tree>,
+) -> Result<SplitSpec, AllocError>
+    requires split { is_by_time words.now.split ≡ true }
+    requires chapters { IfSome chapters.now (IsRead CHAPTERS) }
+    ensures { IfOk result (λ spec. spec ≡ spec_of words.now.split (starts_in chapters.now)) }
+{
+    let starts = starts_in(alloc, chapters)?;
+    split_spec(alloc, &words.split, starts.as_slice())
+}
+
+/// Whether a track is video.
+fn is_video(taken: &TakenTrack) -> bool
+    ensures { result ≡ is_video taken.now }
+{
+    taken.track.kind == VIDEO_TRACK
+}
+
+/// Which of these tracks are video.
+pub(crate) fn videos_of(alloc: Global, taken: &[&TakenTrack]) -> Result<List<bool>, AllocError>
+    ensures { IfOk result (λ videos. videos ≡ map is_video (lent taken.now)) }
+{
+    let mut videos = List::new(alloc);
+    for each in taken {
+        videos.push(is_video(each))?;
+    }
+    Ok(videos)
+}
