@@ -1,13 +1,13 @@
 -- What Clusters hold, and that they are sound.
-use Rattle.std.proofs.Common.{◌≡◌, ℕ, ◌+◌, ◌-◌, ◌*◌, nat_le, Bool, true, false, ◌&&◌, if◌then◌else◌, List, [], ◌∷◌, ◌++◌, length, flat_map, All, append_assoc, refl, ap, ◌∙◌, arith}
+use Rattle.std.proofs.Common.{◌≡◌, ℕ, ◌+◌, ◌-◌, ◌*◌, ◌≤◌, nat_le, Bool, true, false, ◌&&◌, if◌then◌else◌, List, [], ◌∷◌, ◌++◌, length, flat_map, All, append_assoc, refl, ap, ◌∙◌, arith}
 use Rattle.std.proofs.lemmas.Bool.{le-leb}
 use Rattle.std.proofs.lemmas.List.Elements.{All-nil, All-cons, All-head, All-tail, All-append}
 use Rattle.output_model.specs.declared.TheConstants.{MOST_OF_CLUSTER}
 use Rattle.output_model.specs.declared.heads.ClusterLimits.{ClusterLimits}
-use Rattle.output_model.specs.OutputBlock.{OutputBlock}
+use Rattle.output_model.specs.OutputBlock.{OutputBlock, in_output}
 use Rattle.output_model.specs.Cluster.{OutputCluster, is_near, cluster_body, with_block, begun, joins, cut_from, clusters}
 use Rattle.output_model.specs.Sound.{IsSoundBlock, IsSoundIn, BeginsAt, IsSoundCluster}
-use Rattle.merge_model.specs.Merged.{in_lane, merged}
+use Rattle.merge_model.specs.Merged.{merged}
 use Rattle.merge_laws.proofs.MergedLemmas.{IsIn, merged-hold}
 
 -- ---- no block is lost
@@ -28,7 +28,7 @@ clusters-hold limits (b ∷ bs) = cut-holds limits (begun b) bs
 -- ---- each is sound
 
 -- a sound block in one of so many lanes
-abbrev IsOf : ℕ → OutputBlock → Type 0
+abbrev pub IsOf : ℕ → OutputBlock → Type 0
 IsOf lanes b = IsIn IsSoundBlock 1 (lanes + 1) b
 
 -- of four tests the second
@@ -80,19 +80,29 @@ cut-sound lanes limits c (b ∷ bs) sound are =
     split own more other true is = more (joined-sound lanes limits c b sound own is)
     split own more other false is = All-cons (IsSoundCluster lanes) c (cut_from limits (begun b) bs) sound other
 
-clusters-sound : (lanes : ℕ) (limits : ClusterLimits) (bs : List OutputBlock) → All (IsOf lanes) bs → All (IsSoundCluster lanes) (clusters limits bs)
+pub clusters-sound : (lanes : ℕ) (limits : ClusterLimits) (bs : List OutputBlock) → All (IsOf lanes) bs → All (IsSoundCluster lanes) (clusters limits bs)
 clusters-sound lanes limits [] are = All-nil (IsSoundCluster lanes)
 clusters-sound lanes limits (b ∷ bs) are = cut-sound lanes limits (begun b) bs (begun-sound lanes b (All-head (IsOf lanes) b bs are)) (All-tail (IsOf lanes) b bs are)
 
--- a block's lane doesn't count
-sound-in_lane : (j : ℕ) (b : OutputBlock) → IsSoundBlock b → IsSoundBlock (in_lane j b)
-sound-in_lane j b is = record {
-  tick = is.tick;
+-- ---- a block in a lane, or earlier
+
+-- neither a block's lane counts, nor how early it is
+sound-in_output : (lane tick : ℕ) (b : OutputBlock) → tick ≤ b.tick → IsSoundBlock b → IsSoundBlock (in_output lane tick b)
+sound-in_output lane tick b early is = record {
+  tick = (let small = is.tick in omega arith);
   frames = is.frames;
   one = is.one;
   simple = λ alone. (let s = is.simple alone in record { duration = s.duration; references = s.references; kept = s.kept });
   group = λ grouped. (let g = is.group grouped in record { key = g.key; discardable = g.discardable; duration = g.duration; references = g.references; kept = g.kept });
 }
 
+-- So it is one of its lane where it is earlier.
+pub earlier-of : (lanes tick : ℕ) (b : OutputBlock) → tick ≤ b.tick → IsOf lanes b → IsOf lanes (in_output b.lane tick b)
+earlier-of lanes tick b early is = record { holds = sound-in_output b.lane tick b early is.holds; some = is.some; most = is.most }
+
+-- Each block of a merged list is one of its lanes.
+pub merged-of : (lanes : List (List OutputBlock)) → All (All IsSoundBlock) lanes → All (IsOf (length lanes)) (merged lanes)
+merged-of lanes are = merged-hold IsSoundBlock lanes (λ j b is. sound-in_output j b.tick b (omega arith) is) are
+
 pub merged-sound : (limits : ClusterLimits) (lanes : List (List OutputBlock)) → All (All IsSoundBlock) lanes → All (IsSoundCluster (length lanes)) (clusters limits (merged lanes))
-merged-sound limits lanes are = clusters-sound (length lanes) limits (merged lanes) (merged-hold IsSoundBlock lanes sound-in_lane are)
+merged-sound limits lanes are = clusters-sound (length lanes) limits (merged lanes) (merged-of lanes are)

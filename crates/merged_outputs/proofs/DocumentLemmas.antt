@@ -1,13 +1,14 @@
--- The document of a merge is sound.
+-- The document of each output of a merge is sound.
 use Rattle.std.proofs.Common.{◌≡◌, ◌<◌, ◌≤◌, ℕ, ◌^◌, Bool, true, false, if◌then◌else◌, List, [], ◌∷◌, ◌++◌, length, length-append, map, Option, Some, None, IfSome, refl, sym, ap, subst, ◌∙◌, arith, unwrap_or}
 use Rattle.std.specs.List.{All}
 use Rattle.std.specs.Str.{IsUtf8}
 use Rattle.std.proofs.lemmas.List.Elements.{All-nil, All-cons, All-head, All-tail, All-append}
 use Rattle.std.proofs.lemmas.List.Concat.{flat_map-append}
+use Rattle.std.proofs.lemmas.Option.{IfSome_then}
 use Rattle.std.proofs.lemmas.Str.{IsUtf8-nil}
 use lib.Utf8.{encode}
 use Rattle.ebml_format.specs.Number.{id_octets}
-use Rattle.mkv_schema.specs.declared.ids.TheConstants.{ATTACHMENTS, INFO, TIMESTAMP_SCALE, TITLE, MUXING_APP, WRITING_APP, SEGMENT, ATTACHED_FILE, FILE_DATA}
+use Rattle.mkv_schema.specs.declared.ids.TheConstants.{ATTACHMENTS, CHAPTERS, INFO, TIMESTAMP_SCALE, TITLE, MUXING_APP, WRITING_APP, SEGMENT, ATTACHED_FILE, FILE_DATA}
 use Rattle.mkv_values.specs.declared.outside.TheConstants.{LONGEST_FILE}
 use Rattle.tree_format.specs.Node.{Node, leaf, master, nodes_of, list_of, depth_all}
 use Rattle.tree_format.specs.Changes.{part, with_child}
@@ -22,31 +23,34 @@ use Rattle.attachment_reading.proofs.TableFacts.{file_data-valid, file_data-valu
 use Rattle.meta_format.specs.Info.{scale_of}
 use Rattle.element_octets.specs.Element.{Element, header_of, octets_of, joined, master_element}
 use Rattle.output_model.specs.declared.TheConstants.{MOST_LANES}
-use Rattle.output_model.specs.OutputBlock.{OutputBlock}
+use Rattle.output_model.specs.Cues.{cues_elements}
 use Rattle.output_model.specs.SeekHead.{area_elements}
-use Rattle.output_model.specs.Document.{Document, ebml_element, tree_element, attachments_elements, clusters_elements, back_elements, elements_behind_area, seeks_of, segment_size, layout}
-use Rattle.output_model.specs.Sound.{IsRecord, IsAttachment, IsSoundCluster, IsSoundDocument, lanes_of}
+use Rattle.output_model.specs.Document.{Document, ebml_element, tree_element, tree_elements, attachments_elements, front_elements, clusters_elements, back_elements, elements_behind_area, seeks_of, segment_size, layout}
+use Rattle.output_model.specs.Sound.{IsRecord, IsAttachment, IsSoundCluster, IsSoundDocument}
 use Rattle.record_changes.specs.Children.{uint_leaf}
 use Rattle.output_records.specs.Info.{application, title_elements, output_info}
 use Rattle.output_records.proofs.RecordLemmas.{info-scale, scale-in, title-in, muxing-in, writing-in}
 use Rattle.tree_building.proofs.LeafLemmas.{uint-stands, text-stands}
-use Rattle.merge_model.specs.Lanes.{lane_blocks}
-use Rattle.merge_laws.specs.Read.{LEAST_SCALE}
-use Rattle.merge_laws.proofs.ClusterLemmas.{merged-sound}
-use Rattle.cluster_runs.specs.Cued.{is_cue}
+use Rattle.layout_laws.proofs.AreaLemmas.{HasIds}
+use Rattle.merge_laws.proofs.ClusterLemmas.{IsOf, clusters-sound}
+use Rattle.cluster_runs.specs.Cued.{document_of, is_cue}
+use Rattle.splitter.specs.Sections.{Part}
+use Rattle.remux_plan.specs.Parts.{stretch_of}
 use Rattle.merge_words.specs.declared.output.MergeWords.{MergeWords}
 use Rattle.merge_words.specs.Sound.{IsSoundMerge}
-use Rattle.merge_plan.specs.Front.{reads_of}
-use Rattle.merge_plan.specs.Plan.{Source, lanes_given, limits_of, rules_given}
-use Rattle.merge_plan.specs.Records.{first_title, is_appended, title_of, title_or, tracks_begun, tracks_taken}
+use Rattle.merge_plan.specs.Front.{front_of, reads_of}
+use Rattle.merge_plan.specs.Plan.{Source, limits_of, rules_given}
+use Rattle.merge_plan.specs.Records.{chapters_of, first_title, info_of, is_appended, tags_of, title_of, title_or, tracks_begun, tracks_of, tracks_taken}
 use Rattle.merge_plan.proofs.PlanLemmas.{plan-few}
-use Rattle.mkv_merge.specs.Merge.{document_in}
+use Rattle.mkv_merge.specs.Merge.{chapters_in}
+use Rattle.mkv_merge.specs.Read.{is_split}
 use Rattle.mkv_merge.specs.Records.{HaveRecords, IsFilled}
 use Rattle.merge_words.specs.Texts.{AreTexts}
 use Rattle.track_format.specs.Entry as tracks
-use Rattle.merged_outputs.specs.Merge.{IsPlain}
+use Rattle.merged_outputs.specs.Merge.{IsPlain, lanes_selected}
 use Rattle.merged_outputs.specs.Sources.{AreSources, IsReadSource, IsReadTrack}
-use Rattle.merged_outputs.proofs.LaneLemmas.{lanes-sound, lanes-length}
+use Rattle.merged_outputs.proofs.ChapterLemmas.{IsRecordIfShort, chapters-stand, record-short}
+use Rattle.merged_outputs.proofs.LaneLemmas.{lanes-length}
 use Rattle.merged_outputs.proofs.TracksLemmas.{taken-lanes, taken-plain, taken-tracks}
 
 -- ---- how long the records are
@@ -78,6 +82,24 @@ module _ (d : Document) where
       let first : Element = tree_element d.front.info in
       let e : Element = tree_element d.front.tracks in
       omega (arith, behind-short d, length-append (octets_of first) (joined (e ∷ others)), length-append (octets_of e) (joined others), length-append (header_of e) e.body)
+
+-- what stands last is a part of all
+last-short : (xs ys : List Element) → length (joined ys) ≤ length (joined (xs ++ ys))
+last-short xs ys = omega (arith, ap length (flat_map-append octets_of xs ys), length-append (joined xs) (joined ys))
+
+-- so are Chapters
+chapters-short : (d : Document) → IfSome d.chapters (λ (n : Node). length (content n) ≤ length (layout d))
+chapters-short d =
+    let middle : List Element = clusters_elements d.clusters in
+    let cues : List Element = cues_elements d.cues in
+    let last : List Element = tree_elements d.chapters ++ tree_elements d.tags in
+    of d.chapters (omega (arith, behind-short d, last-short (front_elements d.front) (middle ++ (cues ++ last)), last-short middle (cues ++ last), last-short cues last))
+  where
+    of : (o : Option Node) → length (joined (tree_elements o ++ tree_elements d.tags)) ≤ length (layout d) → IfSome o (λ (n : Node). length (content n) ≤ length (layout d))
+    of None short = tt
+    of (Some n) short =
+        let e : Element = tree_element n in
+        omega (arith, length-append (octets_of e) (joined (tree_elements d.tags)), length-append (header_of e) e.body)
 
 -- an AttachedFile is a part of its Attachments
 each-short : (most : ℕ) (ns : List Node) → length (joined (map tree_element ns)) ≤ most → All (λ (n : Node). length (content n) ≤ most) ns
@@ -188,43 +210,57 @@ all-tracks (s ∷ ss) each =
 
 -- ---- the document
 
+-- the document of a part, with these attached files
+abbrev pub document_with : MergeWords → List Source → List Node → Part → Document
+document_with words sources files part =
+    document_of (limits_of words) (rules_given (reads_of sources)) (record (front_of words sources) { attachments = files }) (chapters_in words sources part) (tags_of (reads_of sources)) part.blocks
+
+-- what stands of the Chapters in a part
+part-chapters : (words : MergeWords) (sources : List Source) (part : Part) → HaveRecords sources → IfSome (chapters_in words sources part) (IsRecordIfShort CHAPTERS)
+part-chapters words sources part have = chapters-stand (is_split words) (stretch_of words.scale part.start part.end) (chapters_of (reads_of sources)) have.chapters
+
+-- Info, Tracks, Chapters and Tags have their IDs.
+pub document-ids : (words : MergeWords) (sources : List Source) (files : List Node) (part : Part) → HaveRecords sources → HasIds (document_with words sources files part)
+document-ids words sources files part have = record {
+  info = refl;
+  tracks = refl;
+  chapters = IfSome_then (chapters_in words sources part) (part-chapters words sources part have) (λ n is. is.read.id);
+  tags = IfSome_then (tags_of (reads_of sources)) have.tags (λ n is. is.id);
+}
+
 module _ (words : MergeWords) (sources : List Source) (sound : IsSoundMerge words) (texts : AreTexts words) (are : AreSources words sources) where
   scale-small : words.scale < 2 ^ 64
   scale-small = let most = sound.scale.most in omega arith
 
-  least : LEAST_SCALE ≤ words.scale
-  least = sound.scale.least
-
   tracks-few : length (tracks_taken (reads_of sources)) ≤ MOST_LANES
   tracks-few = plan-few words (reads_of sources) are.unrefused
 
-  lanes-as_many : lanes_of (document_in words sources) ≡ length (map (lane_blocks words.scale) (lanes_given sources))
+  lanes-as_many : length (tracks.entries_of (tracks_of (reads_of sources))) ≡ length (lanes_selected words sources)
   lanes-as_many = taken-lanes (tracks_taken (reads_of sources)) (all-tracks sources are.each) tracks-few ∙ sym (lanes-length words.scale sources)
 
   -- Its tracks have frames as they stand.
-  pub document-plain : All IsPlain (tracks.entries_of (document_in words sources).front.tracks)
+  pub document-plain : All IsPlain (tracks.entries_of (tracks_of (reads_of sources)))
   document-plain = taken-plain (tracks_taken (reads_of sources)) (all-tracks sources are.each) tracks-few
 
   -- The scale of its Info is that of the words.
-  pub document-scale : scale_of (document_in words sources).front.info ≡ words.scale
+  pub document-scale : scale_of (info_of words (reads_of sources)) ≡ words.scale
   document-scale = info-scale words.scale (title_of words (reads_of sources)) scale-small
 
-  -- The document of a merge is sound.
-  pub document-sound : HaveRecords sources → length (layout (document_in words sources)) ≤ LONGEST_FILE → IsSoundDocument (document_in words sources)
-  document-sound have short =
-      let d : Document = document_in words sources in
-      let lanes : List (List OutputBlock) = map (lane_blocks words.scale) (lanes_given sources) in
-      let clusters = merged-sound (limits_of words) lanes (lanes-sound words.scale sources least are.each) in
-      let some = least in
+  -- It is sound, where its records can be written and its blocks are those of the lanes.
+  pub document-sound : (files : List Node) (part : Part) → HaveRecords sources → All IsFilled files → All (IsOf (length (lanes_selected words sources))) part.blocks
+      → length (layout (document_with words sources files part)) ≤ LONGEST_FILE → IsSoundDocument (document_with words sources files part)
+  document-sound files part have filled blocks short =
+      let d : Document = document_with words sources files part in
+      let some = sound.scale.least in
       record {
         info = info-record words.scale (title_of words (reads_of sources)) scale-small (title-text words.title (first_title (reads_of sources)) texts.title (first-text sources are.each)) (omega (arith, info-short d));
         scale = omega (arith, document-scale);
         tracks = taken-tracks (tracks_taken (reads_of sources)) (all-tracks sources are.each) tracks-few (omega (arith, tracks-short d));
-        attachments = files-sound (length (layout d)) d.front.attachments (omega arith) have.attachments (files-short d);
-        clusters = subst (λ (n : ℕ). All (IsSoundCluster n) d.clusters) (sym lanes-as_many) clusters;
+        attachments = files-sound (length (layout d)) files (omega arith) filled (files-short d);
+        clusters = subst (λ (n : ℕ). All (IsSoundCluster n) d.clusters) (sym lanes-as_many) (clusters-sound (length (lanes_selected words sources)) (limits_of words) part.blocks blocks);
         cued = is_cue (rules_given (reads_of sources));
         cues = refl;
-        chapters = have.chapters;
+        chapters = record-short CHAPTERS (length (layout d)) d.chapters (omega arith) (part-chapters words sources part have) (chapters-short d);
         tags = have.tags;
         short = short;
       }

@@ -48,7 +48,8 @@ record IsMadeLeaf (n : Node) : Type 0 where
   is : n ≡ leaf id 0 body
   stands : StandsIn TRACK_ENTRY (leaf id 0 body)
 
-master-with : (n : Node) (ns : List Node) → IsMaster n → IsMaster (with_children n ns)
+-- with other children a master stays one
+pub master-with : (n : Node) (ns : List Node) → IsMaster n → IsMaster (with_children n ns)
 master-with (leaf id at body) ns is = absurd (cc)
 master-with (master id at kids) ns is = refl
 

@@ -1,8 +1,13 @@
 mod TreeLemmas
 mod EntryLemmas
 mod TracksLemmas
+mod TextLemmas
+mod GivenLemmas
 mod PlaceLemmas
 mod SourceLemmas
 mod LaneLemmas
+mod ChapterLemmas
+mod PartLemmas
 mod DocumentLemmas
+mod OutputLemmas
 pub mod MergeLemmas

@@ -1,14 +1,19 @@
 -- What is written of a merge holds it.
-use Rattle.std.proofs.Common.{◌≡◌, ◌≢◌, ◌≤◌, ℕ, false, List, length, Option, Some, Result, Ok, Err, IfOk, refl, sym, ap, ◌∙◌}
-use Rattle.std.specs.List.{All}
+use Rattle.std.proofs.Common.{◌≡◌, ◌≢◌, ◌≤◌, ℕ, false, List, [], ◌∷◌, length, map, Option, Some, Result, Ok, Err, IfOk, refl, sym, ap, ap₂, ◌∙◌}
+use Rattle.std.specs.List.{All, AllZip}
 use Rattle.std.specs.Str.{IsUtf8}
+use Rattle.std.proofs.lemmas.List.{length-map}
+use Rattle.std.proofs.lemmas.List.Elements.{All-head, All-tail}
 use Rattle.mkv_values.specs.declared.outside.TheConstants.{LONGEST_FILE}
-use Rattle.mkv_io.specs.Names.{with_content}
-use Rattle.mkv_schema.specs.declared.ids.TheConstants.{CHAPTERS, TAGS}
 use Rattle.mkv_outputs.specs.Drafts.{patched}
+use Rattle.mkv_outputs.specs.Drafts.{outputs_of as outputs_of_drafts}
+use Rattle.mkv_outputs.specs.Outputs.{Output, with_outputs}
+use Rattle.tree_format.specs.Node.{Node}
 use Rattle.meta_format.specs.Info.{scale_of}
 use Rattle.file_blocks.specs.File.{file_events}
+use Rattle.output_model.specs.Cluster.{clusters}
 use Rattle.output_model.specs.Document.{Document, layout, opened}
+use Rattle.output_model.specs.Sound.{IsSoundDocument}
 use Rattle.layout_laws.specs.Reading.{header_of_segment}
 use Rattle.layout_laws.proofs.LayoutLemmas.{layout-read}
 use Rattle.layout_laws.proofs.AreaLemmas.{length-area_of}
@@ -18,53 +23,98 @@ use Rattle.merge_model.specs.Lanes.{lane_blocks}
 use Rattle.merge_laws.specs.Lanes.{blocks_read, lanes_read}
 use Rattle.merge_laws.proofs.AgainLemmas.{lanes-again}
 use Rattle.merge_laws.proofs.OrderLemmas.{order-again}
+use Rattle.splitter.specs.Sections.{Part}
+use Rattle.remux_plan.specs.Parts.{PlannedOutput, name_of}
+use Rattle.remuxer.specs.Output.{drafts_of}
 use Rattle.merge_words.specs.declared.output.MergeWords.{MergeWords}
 use Rattle.merge_words.specs.Sound.{IsSoundMerge}
+use Rattle.merge_words.specs.Texts.{AreTexts}
 use Rattle.mkv_args.specs.Words.{command}
 use Rattle.mkv_args.specs.declared.command.Command.TheVariants.{Merge}
 use Rattle.mkv_args.proofs.SoundLemmas.{command-sound}
 use Rattle.mkv_args.proofs.TextLemmas.{asked-texts}
-use Rattle.merge_plan.specs.Front.{reads_of}
 use Rattle.merge_plan.specs.Plan.{Source, lanes_given, limits_of}
-use Rattle.merge_plan.specs.Records.{chapters_of, tags_of}
-use Rattle.mkv_merge.specs.Merge.{document_in, merge_verdict, sources_of, verdict_of}
-use Rattle.mkv_merge.specs.Merge as merge
-use Rattle.mkv_merge.specs.Records.{HaveRecords}
-use Rattle.mkv_merge.proofs.WritingLemmas.{record-id}
+use Rattle.mkv_merge.specs.Merge.{merge_verdict, outputs_of, sources_of, verdict_of}
+use Rattle.mkv_merge.specs.Read.{is_split}
+use Rattle.mkv_merge.specs.Records.{HaveRecords, IsFilled}
 use Rattle.mkv_merge.specs.declared.refusal.Refusal.{Refusal}
 use Rattle.mkv_lines.specs.Seen.{Seen}
 use Rattle.mkv_lines.specs.Verdict.{IsDone}
 use Rattle.mkv_lines.specs.declared.status.Status.{Status}
 use Rattle.mkv_lines.specs.declared.status.Status.TheVariants as status
-use Rattle.merged_outputs.specs.Merge.{HoldsMerge, IsMerged, lanes_selected}
-use Rattle.merge_words.specs.Texts.{AreTexts}
+use Rattle.merged_outputs.specs.Merge.{Holds, HoldsLanes, IsMerged, lanes_selected, named}
 use Rattle.merged_outputs.specs.Sources.{AreSources, HoldsOctets}
-use Rattle.merged_outputs.proofs.DocumentLemmas.{document-plain, document-scale, document-sound}
+use Rattle.merged_outputs.proofs.DocumentLemmas.{document-ids, document-plain, document-scale, document-sound, document_with}
 use Rattle.merged_outputs.proofs.LaneLemmas.{lanes-free}
+use Rattle.merged_outputs.proofs.OutputLemmas.{IsPartOf, output_with, outputs-hold}
 use Rattle.merged_outputs.proofs.SourceLemmas.{sources-read}
-use Rattle.std.proofs.lemmas.List.{length-map}
+
+-- ---- lists of outputs
+
+abbrev layouts : List PlannedOutput → List (List ℕ)
+layouts outputs = map (λ (o : PlannedOutput). layout o.document) outputs
+
+-- what holds of each output with the octets of its document
+zip-layouts : (R : PlannedOutput → List ℕ → Type 0) (outputs : List PlannedOutput) → All (λ (o : PlannedOutput). R o (layout o.document)) outputs → AllZip R outputs (layouts outputs)
+zip-layouts R [] each = tt
+zip-layouts R (o ∷ os) each =
+    (All-head (λ (x : PlannedOutput). R x (layout x.document)) o os each, zip-layouts R os (All-tail (λ (x : PlannedOutput). R x (layout x.document)) o os each))
+
+-- the draft of an output becomes these
+abbrev Becomes : PlannedOutput → Type 0
+Becomes o = patched (opened o.document) (draft_of o.name o.document).patches ≡ layout o.document
+
+drafts-named : (outputs : List PlannedOutput) → All Becomes outputs → outputs_of_drafts (drafts_of outputs) ≡ named outputs (layouts outputs)
+drafts-named [] become = refl
+drafts-named (o ∷ os) become =
+    ap₂ (λ (content : List ℕ) (others : List Output). record { name = o.name; content = content } ∷ others) (All-head Becomes o os become) (drafts-named os (All-tail Becomes o os become))
+
+-- ---- what is written
 
 module _ (words : MergeWords) (sources : List Source) (sound : IsSoundMerge words) (texts : AreTexts words) (are : AreSources words sources) (have : HaveRecords sources) where
-  -- What is written of it holds the merge.
-  pub layout-holds : length (layout (document_in words sources)) ≤ LONGEST_FILE → HoldsMerge words sources (layout (document_in words sources))
-  layout-holds short =
-      let d : Document = document_in words sources in
-      let is = document-sound words sources sound texts are have short in
-      let scale = document-scale words sources sound texts are in
-      let events = file_events false (layout d) (header_of_segment d) in
-      let lanes = lanes_selected words sources in
-      let as_many : length lanes ≡ length (lanes_given sources) = length-map (lanes_given sources) (lane_blocks words.scale) in
-      record {
-        document = layout-read d is;
-        plain = document-plain words sources sound texts are;
-        order = ap (λ s. blocks_read s events) (sym scale) ∙ order-again d (limits_of words) (merge.blocks_of words sources) is refl;
-        lanes = ap (λ s. lanes_read s 1 (length (lanes_given sources)) events) (sym scale) ∙ ap (λ n. lanes_read (scale_of d.front.info) 1 n events) (sym as_many)
-            ∙ lanes-again d (limits_of words) lanes is refl (lanes-free words.scale sources are.each);
-      }
+  module _ (number : ℕ) (files : List Node) (part : Part) (filled : All IsFilled files) (is : IsPartOf words sources part) where
+    abbrev document : Document
+    document = document_with words sources files part
 
-  -- its draft becomes it
-  pub becomes : patched (opened (document_in words sources)) (draft_of words.output (document_in words sources)).patches ≡ layout (document_in words sources)
-  becomes = draft-layout words.output (document_in words sources) (length-area_of (document_in words sources) (record { info = refl; tracks = refl; chapters = record-id CHAPTERS (chapters_of (reads_of sources)) have.chapters; tags = record-id TAGS (tags_of (reads_of sources)) have.tags }))
+    sound-one : length (layout document) ≤ LONGEST_FILE → IsSoundDocument document
+    sound-one = document-sound words sources sound texts are files part have filled is.blocks
+
+    holds-one : Holds words (output_with words sources number files part) (layout document)
+    holds-one short =
+        let good = sound-one short in
+        let events = file_events false (layout document) (header_of_segment document) in
+        record {
+          document = layout-read document good;
+          plain = document-plain words sources sound texts are;
+          order = ap (λ s. blocks_read s events) (sym (document-scale words sources sound texts are)) ∙ order-again document (limits_of words) part.blocks good refl;
+        }
+
+    lanes-one : HoldsLanes words sources (output_with words sources number files part) (layout document)
+    lanes-one whole short =
+        let scale = document-scale words sources sound texts are in
+        let events = file_events false (layout document) (header_of_segment document) in
+        let lanes = lanes_selected words sources in
+        let as_many : length lanes ≡ length (lanes_given sources) = length-map (lanes_given sources) (lane_blocks words.scale) in
+        ap (λ s. lanes_read s 1 (length (lanes_given sources)) events) (sym scale) ∙ ap (λ n. lanes_read (scale_of document.front.info) 1 n events) (sym as_many)
+        ∙ lanes-again document (limits_of words) lanes (sound-one short) (ap (clusters (limits_of words)) (is.whole whole)) (lanes-free words.scale sources are.each)
+
+    becomes-one : Becomes (output_with words sources number files part)
+    becomes-one = draft-layout (name_of (is_split words) words.output number) document (length-area_of document (document-ids words sources files part have))
+
+  -- The document of each output can be written.
+  pub documents-sound : All (λ (o : PlannedOutput). length (layout o.document) ≤ LONGEST_FILE → IsSoundDocument o.document) (outputs_of words sources)
+  documents-sound = outputs-hold words sources sound are (λ (o : PlannedOutput). length (layout o.document) ≤ LONGEST_FILE → IsSoundDocument o.document) have sound-one
+
+  -- What is written of it holds the output,
+  pub layouts-hold : All (λ (o : PlannedOutput). Holds words o (layout o.document)) (outputs_of words sources)
+  layouts-hold = outputs-hold words sources sound are (λ (o : PlannedOutput). Holds words o (layout o.document)) have holds-one
+
+  -- and where nothing is split, all lanes.
+  layouts-hold_lanes : All (λ (o : PlannedOutput). HoldsLanes words sources o (layout o.document)) (outputs_of words sources)
+  layouts-hold_lanes = outputs-hold words sources sound are (λ (o : PlannedOutput). HoldsLanes words sources o (layout o.document)) have lanes-one
+
+  drafts-become : outputs_of_drafts (drafts_of (outputs_of words sources)) ≡ named (outputs_of words sources) (layouts (outputs_of words sources))
+  drafts-become = drafts-named (outputs_of words sources) (outputs-hold words sources sound are Becomes have becomes-one)
 
 -- ---- a verdict that was reached
 
@@ -76,15 +126,16 @@ verdict-merged world words old new s told holds sound texts found other = split 
     split : (found : Result (List Source) Refusal) → sources_of world words ≡ found → IfOk found HaveRecords → s ≡ (verdict_of words found).status → IsDone old new (verdict_of words found) → IsMerged world words new.names
     split (Err why) is have same done = absurd (other same)
     split (Ok sources) is have same done =
-        let d : Document = document_in words sources in
+        let outputs : List PlannedOutput = outputs_of words sources in
         let are = sources-read words sources sound texts world holds is in
         record {
           sources = sources;
           taken = is;
-          content = layout d;
-          written = done.names ∙ ap (λ names. with_content names words.output (patched (opened d) (draft_of words.output d).patches)) told
-              ∙ ap (with_content (Some world) words.output) (becomes words sources sound texts are have);
-          holds = layout-holds words sources sound texts are have;
+          contents = layouts outputs;
+          written = done.names ∙ ap (λ names. with_outputs names (outputs_of_drafts (drafts_of outputs))) told
+              ∙ ap (with_outputs (Some world)) (drafts-become words sources sound texts are have);
+          holds = zip-layouts (Holds words) outputs (layouts-hold words sources sound texts are have);
+          lanes = zip-layouts (HoldsLanes words sources) outputs (layouts-hold_lanes words sources sound texts are have);
         }
 
 -- So has a run whose words ask for it.

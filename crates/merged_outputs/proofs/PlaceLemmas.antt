@@ -1,29 +1,24 @@
 -- Sources that stand in place aren't later than a lane's link may be.
-use Rattle.std.proofs.Common.{◌≡◌, ◌≤◌, ◌<◌, ℕ, suc, ◌+◌, ◌*◌, ◌^◌, ◌==◌, max, List, [], ◌∷◌, length, map, filter, Option, Some, None, IfSome, nat_abs, refl, sym, ap, subst, ◌∙◌, arith}
+use Rattle.std.proofs.Common.{◌≡◌, ◌≤◌, ◌<◌, ℕ, suc, ◌+◌, ◌*◌, ◌^◌, List, [], ◌∷◌, length, Option, Some, None, IfSome, nat_abs, refl, arith}
 use Rattle.std.specs.Prelude.{ℤ, pos, negsuc, ◌+ℤ◌}
 use Rattle.std.specs.List.{All}
 use Rattle.std.specs.Option.{option_map, unwrap_or}
 use Rattle.std.proofs.lemmas.Int.{ints}
 use Rattle.std.proofs.lemmas.List.{length-map}
 use Rattle.std.proofs.lemmas.Nat.{mul-le}
-use Rattle.std.proofs.lemmas.List.Elements.{All-nil, All-cons, All-head, All-tail, All-filter}
+use Rattle.std.proofs.lemmas.List.Elements.{All-nil, All-cons, All-head, All-tail}
 use Rattle.block_format.specs.Block.{Block}
-use Rattle.block_format.specs.Events.{Event, blocks_of}
 use Rattle.block_format.specs.declared.limits.TheConstants.{TOO_LARGE_TIME}
-use Rattle.track_records.specs.declared.track.Track.{Track}
 use Rattle.merge_model.specs.Ends.{block_end, end_at, file_end, last_end, lasting}
-use Rattle.merge_model.specs.Links.{Placing, delayed}
+use Rattle.merge_model.specs.Links.{Given, Placing, delayed}
 use Rattle.merge_model.specs.Ticks.{since_start}
 use Rattle.merge_model.specs.declared.limits.TheConstants.{MOST_LINKS, MOST_SHIFT}
 use Rattle.file_survey.specs.declared.found.TheConstants.{MOST_END}
-use Rattle.merge_laws.specs.Read.{IsReadBlock}
-use Rattle.merge_laws.proofs.KindLemmas.{all-read}
-use Rattle.merge_inputs.specs.Input.{events_in}
-use Rattle.merge_inputs.specs.Taken.{IsTaken}
-use Rattle.merge_inputs.specs.declared.taken.TakenTrack.{TakenTrack}
+use Rattle.merge_laws.specs.Read.{IsPlacing, IsReadBlock}
 use Rattle.merge_plan.specs.Places.{begun_at, end_of, in_place, in_place_from}
-use Rattle.merge_plan.specs.Plan.{Source, given_for, given_of, later_by, placing_for}
-use Rattle.merged_outputs.specs.Sources.{IsReadSource, IsReadTrack}
+use Rattle.merge_plan.specs.Plan.{Source, given_of}
+use Rattle.merged_outputs.specs.Sources.{IsReadSource}
+use Rattle.merged_outputs.proofs.GivenLemmas.{CanBePlaced, given-placed}
 
 -- ---- where a block ends
 
@@ -44,37 +39,34 @@ lasts-small (Some d) default n small short few = omega arith
 lasts-small None None n small short few = frames-small n 0 few (omega arith)
 lasts-small None (Some d) n small short few = frames-small n d few short
 
-block-small : (shift : ℕ) (t : TakenTrack) (b : Block) → IsTaken t → IsReadBlock b → block_end (placing_for shift t) b ≤ MOST_END
-block-small shift t b taken read = split (delayed (placing_for shift t) b) refl
+block-small : (p : Placing) (b : Block) → IsPlacing p → IfSome p.default_duration (λ (d : ℕ). d < 2 ^ 48) → IsReadBlock b → block_end p b ≤ MOST_END
+block-small p b placing default read = split (delayed p b) refl
   where
     frames : length b.frames ≤ 256
     frames = omega (arith, length-map b.frames (λ (frame : List ℕ). length frame), read.small.frames.most)
 
-    default : IfSome t.track.default_duration (λ d. d < 2 ^ 48)
-    default = subst (λ (o : Option ℕ). IfSome o (λ d. d < 2 ^ 48)) (sym (ap (λ (track : Track). track.default_duration) taken.said)) taken.track.duration
+    lasts : lasting p b ≤ 2 ^ 56
+    lasts = lasts-small b.duration p.default_duration (length b.frames) read.small.duration default frames
 
-    lasts : lasting (placing_for shift t) b ≤ 2 ^ 56
-    lasts = lasts-small b.duration t.track.default_duration (length b.frames) read.small.duration default frames
-
-    split : (o : Option ℕ) → delayed (placing_for shift t) b ≡ o → end_at (placing_for shift t) b o ≤ MOST_END
+    split : (o : Option ℕ) → delayed p b ≡ o → end_at p b o ≤ MOST_END
     split None is = omega arith
-    split (Some time) is = omega (arith, lasts, starts-small b.time t.delay time read.small.time taken.near is)
+    split (Some time) is = omega (arith, lasts, starts-small b.time p.delay time read.small.time placing.delay is)
 
 -- ---- where a source ends
 
-last-small : (shift : ℕ) (t : TakenTrack) (bs : List Block) → IsTaken t → All IsReadBlock bs → last_end (placing_for shift t) bs ≤ MOST_END
-last-small shift t [] taken read = omega arith
-last-small shift t (b ∷ bs) taken read =
-    omega (arith, block-small shift t b taken (All-head IsReadBlock b bs read), last-small shift t bs taken (All-tail IsReadBlock b bs read))
+last-small : (p : Placing) (bs : List Block) → IsPlacing p → IfSome p.default_duration (λ (d : ℕ). d < 2 ^ 48) → All IsReadBlock bs → last_end p bs ≤ MOST_END
+last-small p [] placing default read = omega arith
+last-small p (b ∷ bs) placing default read =
+    omega (arith, block-small p b placing default (All-head IsReadBlock b bs read), last-small p bs placing default (All-tail IsReadBlock b bs read))
 
-tracks-small : (shift : ℕ) (events : List Event) (ts : List TakenTrack) → All IsReadTrack ts → All IsReadBlock (blocks_of events) → file_end (map (given_for shift events) ts) ≤ MOST_END
-tracks-small shift events [] tracks read = omega arith
-tracks-small shift events (t ∷ ts) tracks read =
-    let own = last-small shift t (filter (λ (b : Block). b.track == t.track.number) (blocks_of events)) (All-head IsReadTrack t ts tracks).taken (All-filter (λ (b : Block). b.track == t.track.number) IsReadBlock (blocks_of events) read) in
-    omega (arith, own, tracks-small shift events ts (All-tail IsReadTrack t ts tracks) read)
+ends-small : (gs : List Given) → All CanBePlaced gs → file_end gs ≤ MOST_END
+ends-small [] can = omega arith
+ends-small (g ∷ gs) can =
+    let own = All-head CanBePlaced g gs can in
+    omega (arith, last-small g.placing g.blocks own.placing own.default own.blocks, ends-small gs (All-tail CanBePlaced g gs can))
 
 source-small : (s : Source) → IsReadSource s → file_end (given_of s) ≤ MOST_END
-source-small s is = tracks-small (later_by s.1) (events_in s.1 s.0) s.1.taken is.tracks (all-read s.1.scale s.0 s.1.segment is.octets)
+source-small s is = ends-small (given_of s) (given-placed s is)
 
 -- ---- where sources begin
 
@@ -85,6 +77,7 @@ begun-later time (Some before) = omega arith
 begun-read : (time : ℕ) (s : Source) → time ≤ MOST_SHIFT → IsReadSource s → IsReadSource (begun_at time s)
 begun-read time s fits is = record {
   octets = is.octets;
+  entries = is.entries;
   title = is.title;
   tracks = is.tracks;
   place = omega (arith, begun-later time s.1.shift);

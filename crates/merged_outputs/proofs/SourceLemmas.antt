@@ -41,13 +41,21 @@ use Rattle.file_records.proofs.RecordsLemmas.{AreRead-made}
 use Rattle.record_changes.specs.Entry.{IsWholeEntry}
 use Rattle.record_laws.proofs.WholeLemmas.{read-entries-whole}
 use Rattle.output_records.proofs.RecordLemmas.{title-in}
+use Rattle.text_entries.specs.declared.Entry.{Entry}
+use Rattle.text_files.specs.ChapterFile.{chapter_file}
+use Rattle.text_files.specs.TextFile.{srt_text}
+use Rattle.text_files.specs.declared.chapter_file.ChapterFile.{ChapterFile}
+use Rattle.text_files.specs.declared.chapter_file.ChapterFile.TheVariants as file
+use Rattle.text_files.specs.declared.refusal.TextRefusal.{TextRefusal}
+use Rattle.text_tracks.specs.Names.{is_srt}
+use Rattle.text_tracks.specs.Track.{text_entry}
 use Rattle.merge_model.specs.declared.limits.TheConstants.{MOST_SHIFT}
 use Rattle.merge_words.specs.declared.files.FileWords.{FileWords}
 use Rattle.merge_words.specs.declared.output.MergeWords.{MergeWords}
 use Rattle.merge_words.specs.Sound.{IsSoundFile, IsSoundMerge}
 use Rattle.input_files.specs.Inputs.{file_names, first_missing}
-use Rattle.merge_inputs.specs.Input.{InputRead, found_then, input_of, input_with, refusal_of, unless_refused}
-use Rattle.merge_inputs.specs.Select.{is_taken, kept_one}
+use Rattle.merge_inputs.specs.Input.{InputRead, file_read, found_then, input_of, input_with, refusal_of, text_read, text_then, text_with, unless_refused}
+use Rattle.merge_inputs.specs.Select.{is_taken, kept_one, unmoved}
 use Rattle.merge_inputs.specs.Taken.{first_unusable, taken_from, taken_one, taken_track, value_for}
 use Rattle.merge_inputs.specs.Title.{title_of_info}
 use Rattle.merge_inputs.specs.declared.taken.TakenTrack.{TakenTrack}
@@ -63,16 +71,14 @@ use Rattle.merge_plan.specs.declared.refusal.PlanRefusal.{PlanRefusal}
 use Rattle.mkv_merge.specs.Merge as merge
 use Rattle.mkv_merge.specs.Merge.{sources_beside, sources_of, sources_read, sources_settled, sources_with}
 use Rattle.mkv_merge.specs.Chapters.{chaptered, chapters_refusal, first_with, with_chapters}
-use Rattle.mkv_merge.specs.Read.{begun_refusal, contents_of, inputs_from, inputs_of, inputs_with, numbered, unless_missing, writes_input}
-use Rattle.text_files.specs.ChapterFile.{chapter_file}
-use Rattle.text_files.specs.declared.chapter_file.ChapterFile.{ChapterFile}
-use Rattle.text_files.specs.declared.chapter_file.ChapterFile.TheVariants as file
+use Rattle.mkv_merge.specs.Read.{begun_refusal, contents_of, first_written, inputs_from, inputs_of, inputs_with, numbered, unless_missing}
 use Rattle.mkv_merge.specs.Refused as refused
 use Rattle.mkv_merge.specs.declared.refusal.Refusal.{Refusal}
 use Rattle.mkv_merge.specs.declared.refusal.Refusal.TheVariants.{Differs, OutputIsInput, Plan}
 use Rattle.merge_words.specs.Texts.{HasTexts, AreTexts}
-use Rattle.merged_outputs.specs.Sources.{HoldsOctets, IsReadSource, AreSources}
+use Rattle.merged_outputs.specs.Sources.{HoldsOctets, IsReadSource, IsReadTrack, AreSources}
 use Rattle.merged_outputs.proofs.PlaceLemmas.{placed-read}
+use Rattle.merged_outputs.proofs.TextLemmas.{entries-within, text-read, text-uids, text-usable}
 use Rattle.merged_outputs.proofs.TreeLemmas.{HasChildrenRead, tree_of-children, entries-octets, uid-small, IsOfOctets}
 
 -- ---- an Element that was read as a tree
@@ -227,29 +233,56 @@ no-unusable : (o : Option Damage) → option_map Damaged o ≡ None → o ≡ No
 no-unusable None is = refl
 no-unusable (Some d) is = absurd (cc)
 
-input-read : (words : FileWords) (webm : Bool) (held : ℕ) (bytes : List ℕ) (read : InputRead) → AreOctets bytes → IsSoundFile words → HasTexts words → input_of words webm held bytes ≡ Ok read → IsReadSource (bytes, read)
-input-read words webm held bytes read octets sound has is =
-    let outline = found-ok (outline_of held bytes) _ read is in
-    let o = outline.0 in
-    let records = found-ok (file_records bytes o.segment) _ read outline.1.1 in
-    let r : FileRecords = records.0 in
-    let taken : List TakenTrack = taken_from words 0 r.tracks in
-    let made = unrefused-ok (refusal_of taken) (input_with words webm o r) read records.1.1 in
-    let found = records-read bytes o.segment r octets records.1.0 in
-    let usable : first_unusable taken ≡ None = no-unusable (first_unusable taken) made.0 in
-    let good = AreTaken-read words r.tracks taken refl found.tracks.read sound usable in
-    let uids = taken-tracks (λ (t : Track). t.uid < 2 ^ 64) words r.tracks found.tracks.uids in
-    let texts = taken-texts words 0 r.tracks has in
-    subst (λ (i : InputRead). IsReadSource (bytes, i)) made.1 (record {
-      octets = octets;
-      title = found.title;
-      tracks = λ k d below. record { taken = good k d below; uid = uids k d below; name = (texts k d below).name; language = (texts k d below).language };
-      place = of words.appended;
-    })
+-- one that isn't later yet isn't too late
+unmoved-place : (words : FileWords) → unwrap_or (unmoved words) 0 ≤ MOST_SHIFT
+unmoved-place words = of words.appended
   where
     of : (b : Bool) → unwrap_or (if b then Some 0 else None) 0 ≤ MOST_SHIFT
     of true = omega arith
     of false = omega arith
+
+-- tracks that were read, and those that are taken of them
+taken-read : (words : FileWords) (list : List Track) → IsSoundFile words → HasTexts words → AreReadTracks list → first_unusable (taken_from words 0 list) ≡ None → All IsReadTrack (taken_from words 0 list)
+taken-read words list sound has tracks usable =
+    let taken : List TakenTrack = taken_from words 0 list in
+    let good = AreTaken-read words list taken refl tracks.read sound usable in
+    let uids = taken-tracks (λ (t : Track). t.uid < 2 ^ 64) words list tracks.uids in
+    let texts = taken-texts words 0 list has in
+    λ k d below. record { taken = good k d below; uid = uids k d below; name = (texts k d below).name; language = (texts k d below).language }
+
+file-read : (words : FileWords) (webm : Bool) (held : ℕ) (bytes : List ℕ) (read : InputRead) → AreOctets bytes → IsSoundFile words → HasTexts words → file_read words webm held bytes ≡ Ok read → IsReadSource (bytes, read)
+file-read words webm held bytes read octets sound has is =
+    let outline = found-ok (outline_of held bytes) _ read is in
+    let o = outline.0 in
+    let records = found-ok (file_records bytes o.segment) _ read outline.1.1 in
+    let r : FileRecords = records.0 in
+    let made = unrefused-ok (refusal_of (taken_from words 0 r.tracks)) (input_with words webm o r) read records.1.1 in
+    let found = records-read bytes o.segment r octets records.1.0 in
+    let usable : first_unusable (taken_from words 0 r.tracks) ≡ None = no-unusable (first_unusable (taken_from words 0 r.tracks)) made.0 in
+    subst (λ (i : InputRead). IsReadSource (bytes, i)) made.1
+    (record { octets = octets; entries = tt; title = found.title; tracks = taken-read words r.tracks sound has found.tracks usable; place = unmoved-place words })
+
+text-ok : (found : Result (List Entry) TextRefusal) (more : List Entry → InputRead) (read : InputRead) → text_then found more ≡ Ok read → (entries : List Entry) × ((found ≡ Ok entries) × (more entries ≡ read))
+text-ok (Ok entries) more read is = (entries, (refl, cc))
+text-ok (Err why) more read is = absurd (cc)
+
+srt-read : (words : FileWords) (bytes : List ℕ) (read : InputRead) → AreOctets bytes → IsSoundFile words → HasTexts words → text_read words bytes ≡ Ok read → IsReadSource (bytes, read)
+srt-read words bytes read octets sound has is =
+    let found = text-ok (srt_text bytes) (text_with words) read is in
+    subst (λ (i : InputRead). IsReadSource (bytes, i)) found.1.1 (record {
+      octets = octets;
+      entries = entries-within bytes found.0 found.1.0;
+      title = IsUtf8-nil;
+      tracks = taken-read words (track_of text_entry ∷ []) sound has (record { read = text-read; uids = text-uids }) (text-usable words);
+      place = unmoved-place words;
+    })
+
+input-read : (words : FileWords) (webm : Bool) (held : ℕ) (bytes : List ℕ) (read : InputRead) → AreOctets bytes → IsSoundFile words → HasTexts words → input_of words webm held bytes ≡ Ok read → IsReadSource (bytes, read)
+input-read words webm held bytes read octets sound has = of (is_srt words.name bytes)
+  where
+    of : (text : Bool) → (if text then text_read words bytes else file_read words webm held bytes) ≡ Ok read → IsReadSource (bytes, read)
+    of true is = srt-read words bytes read octets sound has is
+    of false is = file-read words webm held bytes read octets sound has is
 
 -- ---- all inputs
 
@@ -281,7 +314,7 @@ inputs-read webm k held (f ∷ fs) (c ∷ cs) reads same octets sound has is =
 -- ---- the Chapters of a chapter file
 
 chapters-source : (bytes : List ℕ) (read : InputRead) (chapters : Option Node) → IsReadSource (bytes, read) → IsReadSource (bytes, with_chapters chapters read)
-chapters-source bytes read chapters is = record { octets = is.octets; title = is.title; tracks = is.tracks; place = is.place }
+chapters-source bytes read chapters is = record { octets = is.octets; entries = is.entries; title = is.title; tracks = is.tracks; place = is.place }
 
 others-chaptered : (contents : List (List ℕ)) (reads : List InputRead) → All IsReadSource (zip contents reads) → All IsReadSource (zip contents (map (with_chapters None) reads))
 others-chaptered [] [] each = each
@@ -357,7 +390,13 @@ module _ (words : MergeWords) (sources : List Source) (sound : IsSoundMerge word
 
   -- The sources of a merge can be written.
   pub sources-read : (world : List ℕ → Option (List ℕ)) → HoldsOctets world → sources_of world words ≡ Ok sources → AreSources words sources
-  sources-read world holds is = split (writes_input words) is
+  sources-read world holds is =
+      let begun = then-ok (refused.unless (option_map OutputIsInput (first_written words)) (chapter_file world words.chapters)) (sources_beside world words) sources is in
+      let chapters : ChapterFile = begun.0 in
+      let there = then-ok (contents_of world words.files) (sources_settled world words chapters) sources begun.1.1 in
+      let same = there-ok (first_missing world names) contents there.0 there.1.0 in
+      with-contents chapters contents many (contents-octets world names holds)
+      (settled-ok chapters (begun_refusal world words chapters) contents (ap (sources_settled world words chapters) same ∙ there.1.1))
     where
       names : List (List ℕ)
       names = file_names words.files
@@ -367,17 +406,3 @@ module _ (words : MergeWords) (sources : List Source) (sound : IsSoundMerge word
 
       many : length contents ≡ length words.files
       many = length-map names (λ (name : List ℕ). unwrap_or (world name) []) ∙ length-map words.files (λ (w : FileWords). w.name)
-
-      chapters : ChapterFile
-      chapters = chapter_file world words.chapters
-
-      of-contents : sources_beside world words chapters ≡ Ok sources → AreSources words sources
-      of-contents found =
-          let there = then-ok (contents_of world words.files) (sources_settled world words chapters) sources found in
-          let same = there-ok (first_missing world names) contents there.0 there.1.0 in
-          with-contents chapters contents many (contents-octets world names holds)
-          (settled-ok chapters (begun_refusal world words chapters) contents (ap (sources_settled world words chapters) same ∙ there.1.1))
-
-      split : (t : Bool) → (if t then Err OutputIsInput else sources_beside world words chapters) ≡ Ok sources → AreSources words sources
-      split true found = absurd (cc)
-      split false found = of-contents found

@@ -1,14 +1,16 @@
 -- What is written of a merge can be read, and holds it.
-use Rattle.std.specs.Prelude.{◌≡◌, ◌≤◌, ℕ, List, Option, Ok, length, All}
+use Rattle.std.specs.Prelude.{◌≡◌, ◌≤◌, ℕ, List, [], ◌∷◌, Option, None, Ok, length, map, All}
 use Rattle.mkv_values.specs.declared.outside.TheConstants.{LONGEST_FILE}
 use Rattle.output_model.specs.Document.{layout}
+use Rattle.output_model.specs.OutputBlock.{OutputBlock}
 use Rattle.output_model.specs.Sound.{IsSoundBlock, IsSoundDocument}
+use Rattle.remux_plan.specs.Parts.{PlannedOutput}
 use Rattle.merge_words.specs.declared.output.MergeWords.{MergeWords}
 use Rattle.merge_words.specs.Sound.{IsSoundMerge}
 use Rattle.merge_plan.specs.Plan.{Source}
-use Rattle.mkv_merge.specs.Merge.{document_in, sources_of}
+use Rattle.mkv_merge.specs.Merge.{blocks_of, outputs_of, sources_of}
 use Rattle.mkv_merge.specs.Records.{HaveRecords}
-use Rattle.merged_outputs.specs.Merge.{HoldsMerge, lanes_selected}
+use Rattle.merged_outputs.specs.Merge.{Holds, lanes_selected}
 use Rattle.merge_words.specs.Texts.{AreTexts}
 use Rattle.merged_outputs.specs.Sources.{AreSources, HoldsOctets}
 
@@ -23,14 +25,24 @@ abbrev pub SelectedBlocksAreSound : Type 0
 SelectedBlocksAreSound =
     (words : MergeWords) (sources : List Source) → IsSoundMerge words → AreSources words sources → All (All IsSoundBlock) (lanes_selected words sources)
 
--- The document of a merge can be written, where its records can and it has 2^48 octets at most.
+-- The document of each output can be written, where its records can and it has 2^48 octets at most.
 abbrev pub MergedDocumentsAreSound : Type 0
 MergedDocumentsAreSound =
     (words : MergeWords) (sources : List Source) → IsSoundMerge words → AreTexts words → AreSources words sources → HaveRecords sources
-    → length (layout (document_in words sources)) ≤ LONGEST_FILE → IsSoundDocument (document_in words sources)
+    → All (λ (o : PlannedOutput). length (layout o.document) ≤ LONGEST_FILE → IsSoundDocument o.document) (outputs_of words sources)
 
--- What is written of it holds the merge.
-abbrev pub LayoutsHoldMerges : Type 0
-LayoutsHoldMerges =
+-- What is written of each holds it.
+abbrev pub LayoutsHoldOutputs : Type 0
+LayoutsHoldOutputs =
     (words : MergeWords) (sources : List Source) → IsSoundMerge words → AreTexts words → AreSources words sources → HaveRecords sources
-    → length (layout (document_in words sources)) ≤ LONGEST_FILE → HoldsMerge words sources (layout (document_in words sources))
+    → All (λ (o : PlannedOutput). Holds words o (layout o.document)) (outputs_of words sources)
+
+-- the name of an output, and its blocks
+abbrev pub name_and_blocks : PlannedOutput → List ℕ × List OutputBlock
+name_and_blocks o = (o.name, o.blocks)
+
+-- What isn't split comes to one output, which has the merged list as it is.
+abbrev pub WholeMergesAreOne : Type 0
+WholeMergesAreOne =
+    (words : MergeWords) (sources : List Source) → words.split ≡ None
+    → map name_and_blocks (outputs_of words sources) ≡ (words.output, blocks_of words sources) ∷ []

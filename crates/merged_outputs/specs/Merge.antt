@@ -1,8 +1,10 @@
--- A content that holds a merge.
+-- Contents that hold a merge.
 use Rattle.std.specs.Prelude.{◌≡◌, ◌≤◌, ⊤, ℕ, false, List, All, Option, None, Some, Ok, length, map}
+use Rattle.std.specs.List.{AllZip, zip}
 use Rattle.mkv_values.specs.declared.outside.TheConstants.{LONGEST_FILE}
-use Rattle.mkv_io.specs.Names.{Names, with_content}
+use Rattle.mkv_io.specs.Names.{Names}
 use Rattle.mkv_io.specs.Told.{Told}
+use Rattle.mkv_outputs.specs.Outputs.{Output, with_outputs}
 use Rattle.mkv_schema.specs.declared.ids.TheConstants.{CONTENT_ENCODINGS}
 use Rattle.tree_format.specs.Node.{Node}
 use Rattle.tree_format.specs.Values.{first_child}
@@ -13,12 +15,12 @@ use Rattle.output_model.specs.OutputBlock.{OutputBlock}
 use Rattle.layout_laws.specs.Reading.{header_of_segment, IsReadAs}
 use Rattle.merge_model.specs.Lanes.{lane_blocks}
 use Rattle.merge_laws.specs.Lanes.{blocks_read, lanes_read}
+use Rattle.remux_plan.specs.Parts.{PlannedOutput}
 use Rattle.merge_words.specs.declared.output.MergeWords.{MergeWords}
 use Rattle.merge_plan.specs.Plan.{Source, lanes_given}
 use Rattle.mkv_args.specs.Words.{command}
 use Rattle.mkv_args.specs.declared.command.Command.TheVariants.{Merge}
-use Rattle.mkv_merge.specs.Merge as merge
-use Rattle.mkv_merge.specs.Merge.{document_in, sources_of}
+use Rattle.mkv_merge.specs.Merge.{outputs_of, sources_of}
 use Rattle.mkv_lines.specs.declared.status.Status.{Status}
 use Rattle.mkv_lines.specs.declared.status.Status.TheVariants.{Done, Warned}
 use Rattle.merged_outputs.specs.Sources.{HoldsOctets}
@@ -30,9 +32,9 @@ use Rattle.merged_outputs.specs.Sources.{HoldsOctets}
 abbrev pub lanes_selected : MergeWords → List Source → List (List OutputBlock)
 lanes_selected words sources = map (lane_blocks words.scale) (lanes_given sources)
 
--- the blocks and damages that are read of a content, without a reader's limits, in the Segment that a merge's document has
-abbrev pub events_read : MergeWords → List Source → List ℕ → List Event
-events_read words sources bytes = file_events false bytes (header_of_segment (document_in words sources))
+-- the blocks and damages that are read of a content, without a reader's limits, in the Segment that an output's document has
+abbrev pub events_read : PlannedOutput → List ℕ → List Event
+events_read o bytes = file_events false bytes (header_of_segment o.document)
 
 -- no ContentEncodings stand in an entry, so the frames of its track are as they stand
 abbrev pub IsPlain : Node → Type 0
@@ -40,24 +42,36 @@ IsPlain entry = first_child CONTENT_ENCODINGS entry ≡ None
 
 -- ---- the merge
 
--- A content holds the merge of these sources. Read by the format's definition, without a reader's limits, it is the document of
--- the merge: undamaged, with its scale, its records, its Seeks, and its cue points, each at its block. The frames of its tracks are as
--- they stand. The blocks that it has are the merged list, each once and in its order; and lane by lane they are those that were
--- selected.
-pub record HoldsMerge (words : MergeWords) (sources : List Source) (bytes : List ℕ) : Type 0 where
-  pub document : IsReadAs (document_in words sources) bytes
-  pub plain : All IsPlain (entries_of (document_in words sources).front.tracks)
-  pub order : blocks_read words.scale (events_read words sources bytes) ≡ merge.blocks_of words sources
-  pub lanes : lanes_read words.scale 1 (length (lanes_given sources)) (events_read words sources bytes) ≡ lanes_selected words sources
+-- A content holds an output. Read by the format's definition, without a reader's limits, it is the output's document: undamaged,
+-- with its scale, its records, its Seeks, and its cue points, each at its block. The frames of its tracks are as they stand. The
+-- blocks that it has are the output's, each once and in its order.
+pub record HoldsOutput (words : MergeWords) (o : PlannedOutput) (bytes : List ℕ) : Type 0 where
+  pub document : IsReadAs o.document bytes
+  pub plain : All IsPlain (entries_of o.document.front.tracks)
+  pub order : blocks_read words.scale (events_read o bytes) ≡ o.blocks
 
--- A merge was written in a world of names: its output has a content that holds it, where it has 2^48 octets at most, and every other
--- name has what it had before.
+-- So it is of a content of 2^48 octets at most.
+abbrev pub Holds : MergeWords → PlannedOutput → List ℕ → Type 0
+Holds words o bytes = length bytes ≤ LONGEST_FILE → HoldsOutput words o bytes
+
+-- Of a merge that isn't split a content has, lane by lane, the blocks that were selected.
+abbrev pub HoldsLanes : MergeWords → List Source → PlannedOutput → List ℕ → Type 0
+HoldsLanes words sources o bytes =
+    words.split ≡ None → length bytes ≤ LONGEST_FILE → lanes_read words.scale 1 (length (lanes_given sources)) (events_read o bytes) ≡ lanes_selected words sources
+
+-- outputs with these contents, under their names
+abbrev pub named : List PlannedOutput → List (List ℕ) → List Output
+named outputs contents = map (λ (each : PlannedOutput × List ℕ). record { name = each.0.name; content = each.1 }) (zip outputs contents)
+
+-- A merge was written in a world of names: each of its outputs, the parts of its merged list, has a content that holds it; one that isn't
+-- split holds all lanes; and every other name has what it had before.
 pub record IsMerged (world : List ℕ → Option (List ℕ)) (words : MergeWords) (new : Names) : Type 0 where
   pub sources : List Source
   pub taken : sources_of world words ≡ Ok sources
-  pub content : List ℕ
-  pub written : new ≡ with_content (Some world) words.output content
-  pub holds : length content ≤ LONGEST_FILE → HoldsMerge words sources content
+  pub contents : List (List ℕ)
+  pub written : new ≡ with_outputs (Some world) (named (outputs_of words sources) contents)
+  pub holds : AllZip (Holds words) (outputs_of words sources) contents
+  pub lanes : AllZip (HoldsLanes words sources) (outputs_of words sources) contents
 
 -- ---- a run
 

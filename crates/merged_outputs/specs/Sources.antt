@@ -1,9 +1,12 @@
 -- What a merge is made of, as far as it can be written: RFC 9559, section 5.1.4 (Tracks Element).
-use Rattle.std.specs.Prelude.{◌≡◌, ◌<◌, ◌≤◌, ◌^◌, ℕ, List, Option, None, Some, All, IfSome}
+use Rattle.std.specs.Prelude.{◌≡◌, ◌<◌, ◌≤◌, ◌^◌, ⊤, ℕ, List, Option, None, Some, All, IfSome}
 use Rattle.std.specs.Str.{IsUtf8}
 use Rattle.ebml_format.specs.Number.{AreOctets}
 use Rattle.merge_model.specs.declared.limits.TheConstants.{MOST_SHIFT}
+use Rattle.srt_texts.specs.Reading.{IsEntryWithin}
+use Rattle.text_files.specs.declared.limits.TheConstants.{MOST_OF_SRT}
 use Rattle.merge_words.specs.declared.output.MergeWords.{MergeWords}
+use Rattle.merge_inputs.specs.Input.{BlocksRead, Clusters, Entries}
 use Rattle.merge_inputs.specs.Taken.{IsTaken}
 use Rattle.merge_inputs.specs.declared.taken.TakenTrack.{TakenTrack}
 use Rattle.merge_plan.specs.Front.{reads_of}
@@ -23,9 +26,16 @@ pub record IsReadTrack (t : TakenTrack) : Type 0 where
   pub name : IfSome t.name IsUtf8
   pub language : IfSome t.language IsUtf8
 
--- A source of octets, whose title is a text and whose tracks can be written, and which isn't later than a lane's link may be.
+-- Each entry of a text ends within 10,000 hours and is no longer than a text may be.
+abbrev pub HasEntriesWithin : BlocksRead → Type 0
+HasEntriesWithin (Clusters segment scale) = ⊤
+HasEntriesWithin (Entries entries) = All (IsEntryWithin MOST_OF_SRT) entries
+
+-- A source of octets, whose title is a text and whose entries, if it is a SubRip text, are within its limits; its tracks can be
+-- written, and it isn't later than a lane's link may be.
 pub record IsReadSource (s : Source) : Type 0 where
   pub octets : AreOctets s.0
+  pub entries : HasEntriesWithin s.1.blocks
   pub title : IsUtf8 s.1.title
   pub tracks : All IsReadTrack s.1.taken
   pub place : later_by s.1 ≤ MOST_SHIFT

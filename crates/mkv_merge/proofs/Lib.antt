@@ -3,5 +3,7 @@ pub mod NamesLemmas
 pub mod PreparingLemmas
 pub mod SummaryLemmas
 pub mod TellingLemmas
+pub mod OutputsLemmas
+pub mod VerdictLemmas
 pub mod WritingLemmas
 pub mod ChaptersLemmas

@@ -1,6 +1,6 @@
 -- Inputs that are all there: their contents, and how much is read of them.
-use Rattle.std.proofs.Common.{◌≡◌, ℕ, suc, ◌+◌, ◌*◌, ◌≤◌, cond, true, false, List, [], ◌∷◌, length, map, Option, Some, None, Result, Ok, Err, refl, sym, ◌∙◌, ap, subst, arith}
-use Rattle.std.specs.Prelude.{Bool, if◌then◌else◌, is_none, unwrap_or}
+use Rattle.std.proofs.Common.{◌≡◌, ℕ, suc, ◌+◌, ◌*◌, ◌≤◌, cond, true, List, [], ◌∷◌, length, map, Option, Some, None, Result, Ok, refl, sym, ◌∙◌, ap, subst, arith}
+use Rattle.std.specs.Prelude.{Bool, is_none, option_map, unwrap_or}
 use Rattle.std.specs.List.{position_from}
 use Rattle.std.proofs.lemmas.List.Sums.{sum_by-cons}
 use Rattle.mkv_values.specs.declared.outside.FileId.{FileId}
@@ -18,7 +18,7 @@ use Rattle.merge_plan.specs.Plan.{Source, lanes_given}
 use Rattle.mkv_merge.specs.Bound.{contents_length, files_size, most_beside, most_looked, most_of, most_read}
 use Rattle.mkv_merge.specs.Merge.{sources_beside, sources_of, sources_settled, sources_with}
 use Rattle.mkv_merge.specs.Prepared.{AreTold}
-use Rattle.mkv_merge.specs.Read.{begun_refusal, unless_missing, writes_input}
+use Rattle.mkv_merge.specs.Read.{begun_refusal, first_written, unless_missing}
 use Rattle.mkv_merge.specs.Refused.{and_then, unless}
 use Rattle.mkv_merge.specs.declared.refusal.Refusal.{Refusal}
 use Rattle.mkv_merge.specs.declared.refusal.Refusal.TheVariants.{OutputIsInput}
@@ -44,10 +44,10 @@ opened-sources world words chapters files same there =
     ap (λ (missing : Option ℕ). and_then (unless_missing missing (map (λ name. unwrap_or (world name) []) (file_names words.files))) (sources_settled world words chapters))
     (ap (λ (each : List FileWords). first_missing world (file_names each)) (sym same) ∙ there)
 
--- where the output is none of the files that are read, the chapter file counts as it was read
-pub chaptered-sources : (world : List ℕ → Option (List ℕ)) (words : MergeWords) (chapters : ChapterFile) → writes_input words ≡ false → chapters ≡ chapter_file world words.chapters → sources_of world words ≡ sources_beside world words chapters
+-- where no output is one of the files that are read, the chapter file counts as it was read
+pub chaptered-sources : (world : List ℕ → Option (List ℕ)) (words : MergeWords) (chapters : ChapterFile) → first_written words ≡ None → chapters ≡ chapter_file world words.chapters → sources_of world words ≡ sources_beside world words chapters
 chaptered-sources world words chapters apart is =
-    ap (λ (b : Bool). if b then Err OutputIsInput else sources_beside world words (chapter_file world words.chapters)) apart
+    ap (λ (name : Option (List ℕ)). and_then (unless (option_map OutputIsInput name) (chapter_file world words.chapters)) (sources_beside world words)) apart
     ∙ ap (sources_beside world words) (sym is)
 
 -- and the files that were opened tell the contents of their names
@@ -73,13 +73,13 @@ size-told f sized world (w ∷ files) (id ∷ ids) told =
     omega (arith, one, rest, left, right)
 
 -- what is read before the blocks, what each lane reads and what is copied are no more than what may be read
-pub reads-both : (found : Result (List Source) Refusal) (sources : List Source) (lanes old mid new size now copied : ℕ) → found ≡ Ok sources → lanes ≡ length (lanes_given sources) → now ≡ size → copied ≡ attached_length (reads_of sources) → mid ≤ old + 30 * size → new ≤ mid + (6 * (lanes * now) + copied) → new ≤ old + most_of found size
+pub reads-both : (found : Result (List Source) Refusal) (sources : List Source) (lanes old mid new size now copied : ℕ) → found ≡ Ok sources → lanes ≡ length (lanes_given sources) → now ≡ size → copied ≡ attached_length (reads_of sources) → mid ≤ old + 31 * size → new ≤ mid + (6 * (lanes * now) + copied) → new ≤ old + most_of found size
 reads-both found sources lanes old mid new size now copied is count same copied_is first second =
     subst (λ (r : Result (List Source) Refusal). new ≤ old + most_of r size) (sym is)
     (fits (length (lanes_given sources)) (attached_length (reads_of sources))
     (subst (λ (d : ℕ). new ≤ mid + (6 * (length (lanes_given sources) * size) + d)) copied_is (subst (λ (n : ℕ). new ≤ mid + (6 * (n * size) + copied)) count (subst (λ (s : ℕ). new ≤ mid + (6 * (lanes * s) + copied)) same second))))
   where
-    fits : (n d : ℕ) → new ≤ mid + (6 * (n * size) + d) → new ≤ old + (30 * size + (6 * (n * size) + d))
+    fits : (n d : ℕ) → new ≤ mid + (6 * (n * size) + d) → new ≤ old + (31 * size + (6 * (n * size) + d))
     fits n d more = omega arith
 
 -- where nothing refuses them before, sidecars and then inputs are read

@@ -141,12 +141,12 @@ read-place file w i is = let none : later_by (read_in i) ≡ 0 = ap (λ (o : Opt
 -- ---- how much is read
 
 -- what was read of one file more is paid by its length
-pub pays-more : (f : LiveFiles) (list : List FileId) (k : ℕ) (file : FileId) (start mid now size : ℕ) → k < length list → size ≡ f.size (get_or list k file).n → mid ≤ start + 24 * files_size f (take k list) → now ≤ mid + 24 * size → now ≤ start + 24 * files_size f (take (k + 1) list)
+pub pays-more : (f : LiveFiles) (list : List FileId) (k : ℕ) (file : FileId) (start mid now size : ℕ) → k < length list → size ≡ f.size (get_or list k file).n → mid ≤ start + 25 * files_size f (take k list) → now ≤ mid + 25 * size → now ≤ start + 25 * files_size f (take (k + 1) list)
 pays-more f list k file start mid now size below is before more =
     omega (arith, sum_by_more (λ (each : FileId). f.size each.n) list k file below)
 
 -- the first files are no longer than all
-pub pays-all : (f : LiveFiles) (list : List FileId) (k start now : ℕ) → now ≤ start + 24 * files_size f (take k list) → now ≤ start + 24 * files_size f list
+pub pays-all : (f : LiveFiles) (list : List FileId) (k start now : ℕ) → now ≤ start + 25 * files_size f (take k list) → now ≤ start + 25 * files_size f list
 pays-all f list k start now paid = omega (arith, sum_by-take-le (λ (each : FileId). f.size each.n) list k)
 
 -- ---- inputs whose files are told
@@ -223,7 +223,7 @@ reads-planned f words chapters ids contents inputs o of told read is =
 -- ---- how much is read before the blocks
 
 -- inputs are read, and then walked over
-pub pays-both : (f : LiveFiles) (ids : List FileId) (inputs : List Input) (start mid now : ℕ) → map (λ (i : Input). i.file) inputs ≡ ids → mid ≤ start + 24 * files_size f ids → now ≤ mid + 6 * walked_length f inputs → now ≤ start + 30 * files_size f ids
+pub pays-both : (f : LiveFiles) (ids : List FileId) (inputs : List Input) (start mid now : ℕ) → map (λ (i : Input). i.file) inputs ≡ ids → mid ≤ start + 25 * files_size f ids → now ≤ mid + 6 * walked_length f inputs → now ≤ start + 31 * files_size f ids
 pays-both f ids inputs start mid now of read walked =
     let long : sum_by (λ (i : Input). f.size i.file.n) inputs ≡ files_size f ids = inputs-size f inputs ∙ ap (files_size f) of in
     omega (arith, long, walked-within f 0 inputs)

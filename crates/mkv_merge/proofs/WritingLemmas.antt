@@ -1,29 +1,22 @@
--- A merge that was prepared can be written, and comes to its verdict.
-use Rattle.std.proofs.Common.{◌≡◌, ◌≢◌, ℕ, ◌+◌, ◌*◌, ◌<◌, ◌≤◌, Bool, false, ◌||◌, List, [], ◌∷◌, ◌++◌, length, map, get_or, Option, Some, None, Result, Ok, Err, IfOk, IfSome, refl, sym, ◌∙◌, ap, subst, arith}
-use Rattle.std.specs.List.{All, flat_map, sum_by, zip}
+-- A merge that was prepared can be written, and is that of its sources.
+use Rattle.std.proofs.Common.{◌≡◌, ◌≢◌, ℕ, ◌+◌, ◌*◌, ◌<◌, ◌≤◌, Bool, true, false, List, [], ◌∷◌, length, map, get_or, Option, Some, None, Result, Ok, Err, IfSome, refl, sym, ◌∙◌, ap, subst, arith}
+use Rattle.std.specs.List.{All, sum_by, zip}
 use Rattle.std.proofs.Math.ListN.{get_or-map}
 use Rattle.std.proofs.lemmas.List.{length-map}
 use Rattle.std.proofs.lemmas.List.Elements.{All-map}
 use Rattle.std.proofs.lemmas.List.Sums.{sum_by-le}
 use Rattle.mkv_values.specs.declared.outside.FileId.{FileId}
-use Rattle.mkv_io.specs.Faults.{counted}
-use Rattle.mkv_io.specs.Lines.{with_lines}
 use Rattle.mkv_io.specs.LiveFiles.{LiveFiles}
-use Rattle.mkv_io.specs.Names.{AreOthers, Names, with_content}
 use Rattle.mkv_io.specs.Sources.{IsLive, live_files}
 use Rattle.mkv_io.specs.declared.files.Files as writing
 use Rattle.mkv_io.specs.declared.reads.Reads.{Ghosts}
-use Rattle.mkv_outputs.specs.Drafts.{Draft, StandsInTurn, outputs_of}
-use Rattle.mkv_outputs.specs.Outputs.{Output, with_outputs}
-use Rattle.mkv_outputs.proofs.DraftsLemmas.{StandsInTurn-whole}
 use Rattle.mkv_schema.specs.declared.ids.TheConstants.{CHAPTERS, TAGS}
 use Rattle.tree_format.specs.Node.{Node, id_of}
-use Rattle.segment_octets.specs.Front.{front_with}
 use Rattle.attachment_records.specs.Attached.{attached_file, data_of}
 use Rattle.attachment_records.specs.declared.attachment.Attachment.{Attachment}
 use Rattle.merged_records.specs.Inputs.{IsAttached}
 use Rattle.output_model.specs.Sound.{IsRecord}
-use Rattle.output_model.specs.Document.{Document, Front}
+use Rattle.output_model.specs.Document.{Front}
 use Rattle.output_model.specs.OutputBlock.{OutputBlock}
 use Rattle.output_model.specs.declared.heads.ClusterLimits.{ClusterLimits}
 use Rattle.merge_model.specs.Lanes.{lane_blocks}
@@ -32,52 +25,52 @@ use Rattle.merge_model.specs.Merged.{merged}
 use Rattle.lane_blocks.specs.Links.{given_in, IsOpenLink, IsSmallLink, IsToldLink}
 use Rattle.lane_blocks.specs.declared.link.Link.{Link}
 use Rattle.lanes.specs.Walks as walks
-use Rattle.time_merge.specs.Laws.{IsApartLink, lanes_over}
-use Rattle.cluster_runs.specs.Cued.{document_of}
-use Rattle.cluster_runs.specs.declared.rule.CueRule.{CueRule}
-use Rattle.cues_seekhead.specs.Draft.{draft_of}
+use Rattle.time_merge.specs.Laws.{lanes_over}
 use Rattle.cues_seekhead.specs.OpenOutput.{CanAttach}
 use Rattle.remux_plan.specs.Plan as planned
-use Rattle.remux_plan.specs.Plan.{links_of, rules_of}
-use Rattle.remux_plan.specs.Summary.{IsSummary, count_to, damages_of}
-use Rattle.remux_plan.specs.declared.TheConstants.{MOST_INPUTS}
+use Rattle.remux_plan.specs.Plan.{links_of}
+use Rattle.remux_plan.specs.declared.TheConstants.{MOST_INPUTS, MOST_SCALE}
 use Rattle.remux_plan.specs.declared.plan.MergePlan.{MergePlan}
 use Rattle.remux_plan.specs.declared.plan.PlannedLane.{PlannedLane}
-use Rattle.remux_plan.specs.declared.summary.Summary.{Summary}
-use Rattle.remux_plan.specs.declared.summary.Written.{Written}
-use Rattle.remuxer.specs.Plan.{IsPlan, IsToldPlan, WritesLayout, data_length, inputs_length}
-use Rattle.merge_words.specs.Sound.{IsSoundMerge}
+use Rattle.remuxer.specs.Plan.{IsPlan, IsToldPlan, data_length, inputs_length}
 use Rattle.merge_words.specs.declared.files.FileWords.{FileWords}
 use Rattle.merge_words.specs.declared.output.MergeWords.{MergeWords}
 use Rattle.input_files.specs.Inputs.{AreInputs, file_names}
-use Rattle.merge_inputs.specs.Input.{InputRead, IsInput, read_in}
+use Rattle.merge_inputs.specs.Input.{CanBeGiven, InputRead, IsInput, read_in, total_in}
+use Rattle.merge_inputs.specs.declared.input.Blocks.{Blocks}
+use Rattle.merge_inputs.specs.declared.input.Blocks.TheVariants as held_by
 use Rattle.merge_inputs.specs.declared.input.Input.{Input}
 use Rattle.merge_inputs.specs.declared.taken.TakenTrack.{TakenTrack}
-use Rattle.merge_plan.specs.Plan.{Source, inputs_given, lanes_given, limits_of, numbers_of, rules_given}
-use Rattle.merge_plan.specs.Planned.{CanBeWritten, IsFileOf, IsPlanOf, IsToldInput, source_in}
-use Rattle.merge_plan.specs.Front.{attached_length, attachments_of, front_of, reads_of}
+use Rattle.merge_plan.specs.Plan.{Source, inputs_given, lanes_given, numbers_of}
+use Rattle.merge_plan.specs.Planned.{CanBeWritten, IsFileOf, IsSparedLink, IsPlanOf, IsToldInput, source_in}
+use Rattle.merge_plan.specs.Front.{attached_length, attachments_of, reads_of}
 use Rattle.merge_plan.specs.Records.{chapters_of, is_appended, tags_of}
 use Rattle.merge_plan.proofs.ChainLemmas.{numbers-below}
 use Rattle.merge_plan.proofs.FileLemmas.{reads-in}
-use Rattle.mkv_lines.specs.Line.{wrote_blocks_line}
-use Rattle.mkv_lines.specs.Said.{ReportLines, Says, SaysPart}
-use Rattle.mkv_lines.specs.Seen.{Seen}
-use Rattle.mkv_lines.specs.Verdict.{Reaches, in_turn}
 use Rattle.mkv_lines.specs.declared.status.Status.{Status}
 use Rattle.mkv_lines.specs.declared.status.Stop.{Stop}
-use Rattle.mkv_lines.proofs.SaidLemmas.{SaysPart-all, SaysPart-before, SaysPart-behind, Says-then}
-use Rattle.mkv_lines.proofs.VerdictLemmas.{Leaves-same}
 use Rattle.mkv_merge.specs.Bound.{files_size}
-use Rattle.mkv_merge.specs.Merge.{blocks_of, document_in, has_absent, has_damage, lines_before, lines_behind, merged_verdict, status_of}
+use Rattle.mkv_merge.specs.Merge.{blocks_of}
 use Rattle.mkv_merge.specs.Prepared.{AreTold, IsPrepared, reads_in}
-use Rattle.mkv_merge.specs.Read.{writes_input}
 use Rattle.mkv_merge.specs.Records.{EndsWithRecords, HaveRecords, IsFilled}
-use Rattle.mkv_merge.specs.Told.{is_warned, warnings_from}
 use Rattle.mkv_merge.specs.declared.preparing.Prepared.{Prepared}
 use Rattle.mkv_merge.specs.declared.refusal.Refusal.{Refusal}
-use Rattle.mkv_merge.proofs.NamesLemmas.{others-held}
 use Rattle.mkv_merge.proofs.PreparingLemmas.{each-told, inputs-size, sources-told, told-contents}
-use Rattle.mkv_merge.proofs.SummaryLemmas.{AreLanesFor, Tells, damages-are, past-damages, some-told, warnings-told}
+use Rattle.mkv_merge.proofs.SummaryLemmas.{AreLanesFor}
+use Rattle.std.specs.Prelude.{is_some}
+use Rattle.splitter.specs.Words.{is_by_time, spec_of}
+use Rattle.word_values.specs.declared.lists.SplitWords.{SplitWords}
+use Rattle.word_values.specs.declared.lists.SplitWords.TheVariants as split_words
+use Rattle.remux_plan.specs.Parts.{may_be_written, name_of}
+use Rattle.remux_plan.specs.Parts.{is_split as planned_split}
+use Rattle.remuxer.specs.Output.{IsUnwrittenLink}
+use Rattle.remuxer.proofs.OutputsLemmas.{named-so}
+use Rattle.merge_plan.proofs.RecordLemmas.{read-record}
+use Rattle.merge_plan.specs.Plan.{starts_in}
+use Rattle.lane_blocks.specs.declared.link.Link.TheVariants.{Track, Entries}
+use Rattle.mkv_outputs.specs.Sinks.{holders_of}
+use Rattle.mkv_merge.specs.Read.{IsApartMerge, first_written, is_split}
+use Rattle.mkv_merge.proofs.NamesLemmas.{unwritten-held}
 
 -- ---- what is asked of the plan
 
@@ -102,48 +95,85 @@ pub record-id : (own : ℕ) (n : Option Node) → IfSome n (IsRecord own) → If
 record-id own None is = tt
 record-id own (Some m) is = is.id
 
--- an attached file stands in the live file of an input, which is none of the output's name
-file-good : {S : Type 0} (r : Ghosts S) (f : writing.Ghosts S) (files : S) (name : List ℕ) (inputs : List Input) (a : Attachment) → All (IsInput (live_files r files)) inputs → All (λ (i : Input). AreOthers (f.holder files i.file.n) (name ∷ [])) inputs → IsAttached a → IsFileOf inputs a → CanAttach r f files name a
-file-good r f files name inputs a good others entry is =
+-- what stands in the octets that an outline counts stands in its file
+inside-file : (size end : ℕ) (blocks : Blocks) → CanBeGiven size blocks → end ≤ total_in blocks → end ≤ size
+inside-file size end (held_by.Clusters outline scale) can within = let same : size ≡ outline.value.total = can.size in omega arith
+inside-file size end (held_by.Entries entries) can within = omega arith
+
+-- an attached file stands in the live file of an input, which wasn't opened under the name of the first output
+file-good : {S : Type 0} (r : Ghosts S) (f : writing.Ghosts S) (files : S) (split : Bool) (output : List ℕ) (inputs : List Input) (a : Attachment) → All (IsInput (live_files r files)) inputs → All (λ (i : Input). may_be_written split output (f.holder files i.file.n) ≡ false) inputs
+    → IsAttached a → IsFileOf inputs a → CanAttach r f files (name_of split output 1) a
+file-good r f files split output inputs a good others entry is =
     let now = live_files r files in
     let input : IsInput now is.input = subst (IsInput now) (sym is.is) (good is.number is.input is.inside) in
-    let other : AreOthers (f.holder files is.input.file.n) (name ∷ []) = subst (λ (i : Input). AreOthers (f.holder files i.file.n) (name ∷ [])) (sym is.is) (others is.number is.input is.inside) in
-    let within : a.at + a.len ≤ now.size is.input.file.n = subst (λ (n : ℕ). a.at + a.len ≤ n) (sym input.size) is.within in
+    let other : may_be_written split output (f.holder files is.input.file.n) ≡ false = subst (λ (i : Input). may_be_written split output (f.holder files i.file.n) ≡ false) (sym is.is) (others is.number is.input is.inside) in
+    let within : a.at + a.len ≤ now.size is.input.file.n = inside-file (now.size is.input.file.n) (a.at + a.len) is.input.blocks input.blocks is.within in
+    let first : may_be_written split output (name_of split output 1) ≡ true = named-so split output 1 (omega arith) in
     record {
       id = entry.is.id;
       master = entry.is.master;
       live = subst (λ (file : FileId). IsLive r files file) (sym is.same) input.live;
       inside = subst (λ (file : FileId). a.at + a.len ≤ now.size file.n) (sym is.same) within;
-      apart = subst (λ (file : FileId). f.holder files file.n ≢ name) (sym is.same) (λ same. other.0 (sym same));
+      apart = subst (λ (file : FileId). f.holder files file.n ≢ name_of split output 1) (sym is.same) (λ same. let may : may_be_written split output (f.holder files is.input.file.n) ≡ true = ap (may_be_written split output) same ∙ first in absurd (cc (may, other)));
     }
 
+-- no file of a link was opened under a name that may be written
+unwritten : (holder : ℕ → List ℕ) (split : Bool) (output : List ℕ) (link : Link) → IsSparedLink (λ file. may_be_written split output (holder file)) link → IsUnwrittenLink holder split output link
+unwritten holder split output (Track t) is = is
+unwritten holder split output (Entries e) is = tt
+
+-- a plan is split where the words are
+split-as : (words : Option SplitWords) (starts : List ℕ) → is_by_time words ≡ true → planned_split (spec_of words starts) ≡ is_some words
+split-as None starts by_time = refl
+split-as (Some (split_words.Duration by)) starts by_time = refl
+split-as (Some (split_words.Times at)) starts by_time = refl
+split-as (Some (split_words.Parts spans)) starts by_time = refl
+split-as (Some split_words.AllChapters) starts by_time = refl
+split-as (Some (split_words.Chapters numbers)) starts by_time = refl
+split-as (Some (split_words.Size limit)) starts by_time = absurd (cc)
+
+pub plan-split : (words : MergeWords) (inputs : List Input) (p : MergePlan) → is_by_time words.split ≡ true → IsPlanOf words inputs p → planned_split p.split ≡ is_split words
+plan-split words inputs p by_time plan = ap planned_split plan.split ∙ split-as words.split (starts_in (chapters_of (map read_in inputs))) by_time
+
+-- none of the inputs was opened under such a name
+inputs-unwritten : (holder : ℕ → List ℕ) (words : MergeWords) (ids : List FileId) (p : Prepared) → is_by_time words.split ≡ true → holders_of holder ids ≡ file_names words.files → first_written words ≡ None → map (λ (i : Input). i.file) p.inputs ≡ ids → IsPlanOf words p.inputs p.plan
+    → All (λ (i : Input). may_be_written (planned_split p.plan.split) p.plan.output (holder i.file.n) ≡ false) p.inputs
+inputs-unwritten holder words ids p by_time under apart of plan =
+    let P : Bool → List ℕ → FileId → Type 0 = λ split output file. may_be_written split output (holder file.n) ≡ false in
+    let held : All (P (is_split words) words.output) ids = unwritten-held holder ids words under apart in
+    let split : All (P (planned_split p.plan.split) words.output) ids = subst (λ (s : Bool). All (P s words.output) ids) (sym (plan-split words p.inputs p.plan by_time plan)) held in
+    let named : All (P (planned_split p.plan.split) p.plan.output) ids = subst (λ (output : List ℕ). All (P (planned_split p.plan.split) output) ids) (sym plan.output) split in
+    All-unmap (P (planned_split p.plan.split) p.plan.output) (λ (i : Input). i.file) p.inputs (subst (All (P (planned_split p.plan.split) p.plan.output)) (sym of) named)
+
 -- what was prepared can be carried out
-pub plan-good : {S : Type 0} (r : Ghosts S) (f : writing.Ghosts S) (files : S) (words : MergeWords) (ids : List FileId) (p : Prepared) → IsSoundMerge words → AreInputs r f (file_names words.files) files ids → writes_input words ≡ false → IsPrepared (live_files r files) words ids p → IsPlan r f files p.plan
-plan-good {S = S} r f files words ids p sound opened apart prepared =
+pub plan-good : {S : Type 0} (r : Ghosts S) (f : writing.Ghosts S) (files : S) (words : MergeWords) (ids : List FileId) (p : Prepared) → IsApartMerge words → AreInputs r f (file_names words.files) files ids → IsPrepared (live_files r files) words ids p → IsPlan r f files p.plan
+plan-good {S = S} r f files words ids p is opened prepared =
+    let sound = is.sound in
     let plan = prepared.plan in
     let written = prepared.written in
     let lanes : List PlannedLane = p.plan.lanes in
+    let split : Bool = planned_split p.plan.split in
     let many : length p.inputs ≡ length words.files = many-inputs r f files words ids p.inputs opened prepared.inputs.of in
-    let held : All (λ (file : FileId). AreOthers (f.holder files file.n) (p.plan.output ∷ [])) (map (λ (i : Input). i.file) p.inputs) =
-    subst (λ (name : List ℕ). All (λ (file : FileId). AreOthers (f.holder files file.n) (name ∷ [])) (map (λ (i : Input). i.file) p.inputs)) (sym plan.output)
-    (subst (All (λ (file : FileId). AreOthers (f.holder files file.n) (words.output ∷ []))) (sym prepared.inputs.of) (others-held (f.holder files) ids words opened.under apart)) in
-    let others : All (λ (i : Input). AreOthers (f.holder files i.file.n) (p.plan.output ∷ [])) p.inputs = All-unmap (λ (file : FileId). AreOthers (f.holder files file.n) (p.plan.output ∷ [])) (λ (i : Input). i.file) p.inputs held in
+    let test : ℕ → Bool = λ file. may_be_written split p.plan.output (f.holder files file) in
+    let others : All (λ (i : Input). test i.file.n ≡ false) p.inputs = inputs-unwritten (f.holder files) words ids p is.split opened.under is.apart prepared.inputs.of plan in
     record {
       scale = subst (λ (l : ClusterLimits). 1 ≤ l.scale) (sym plan.limits) (omega (arith, sound.scale.least));
+      scale_most = subst (λ (l : ClusterLimits). l.scale ≤ MOST_SCALE) (sym plan.limits) (omega (arith, sound.scale.most));
       few = written.few;
       lanes = λ k d below. record {
         few = omega (arith, (written.linked k d below).few, many, sound.files.most);
         small = All-unmap (All IsSmallLink) (λ (l : PlannedLane). l.spec.links) lanes written.small k d below;
         live = All-unmap (All (IsOpenLink (live_files r files))) (λ (l : PlannedLane). l.spec.links) lanes (written.is_open (live_files r files) prepared.inputs.good) k d below;
-        apart = All-unmap (All (IsApartLink (f.holder files) (p.plan.output ∷ []))) (λ (l : PlannedLane). l.spec.links) lanes (written.apart (f.holder files) (p.plan.output ∷ []) others) k d below;
+        apart = λ j e inside. unwritten (f.holder files) split p.plan.output (get_or (get_or lanes k d).spec.links j e)
+            (All-unmap (All (IsSparedLink test)) (λ (l : PlannedLane). l.spec.links) lanes (written.apart test others) k d below j e inside);
         numbered = (written.linked k d below).numbered;
         inputs = All-unmap (All (λ (i : ℕ). i < MOST_INPUTS)) (λ (l : PlannedLane). l.inputs) lanes (subst (All (All (λ (i : ℕ). i < MOST_INPUTS))) (sym plan.numbers) (numbers-small (map read_in p.inputs) (omega (arith, length-map p.inputs read_in, many, sound.files.most)))) k d below;
       };
       records = record {
         info = written.info.id;
         tracks = written.tracks.id;
-        attached = λ k d below. file-good r f files p.plan.output p.inputs (get_or p.plan.front.attachments k d) prepared.inputs.good others (written.attachments k d below) (written.files k d below);
-        chapters = record-id CHAPTERS p.plan.chapters written.chapters;
+        attached = λ k d below. file-good r f files split p.plan.output p.inputs (get_or p.plan.front.attachments k d) prepared.inputs.good others (written.attachments k d below) (written.files k d below);
+        chapters = read-record CHAPTERS p.plan.chapters written.chapters;
         tags = record-id TAGS p.plan.tags written.tags;
       };
     }
@@ -161,13 +191,15 @@ plan-told f words ids contents p prepared told =
 -- A plan is that of the words and of these sources, whose files are told.
 pub record IsMergeOf (f : LiveFiles) (words : MergeWords) (inputs : List Input) (p : MergePlan) (sources : List Source) : Type 0 where
   pub plan : IsPlanOf words inputs p
+  pub split : planned_split p.split ≡ is_split words
   pub from : map (source_in f) inputs ≡ sources
   pub many : length words.files ≡ length inputs
   pub told : All (IsToldInput f) inputs
 
-pub merge-is : (f : LiveFiles) (words : MergeWords) (ids : List FileId) (contents : List (List ℕ)) (p : Prepared) → IsPrepared f words ids p → AreTold f ids contents → length p.inputs ≡ length words.files → IsMergeOf f words p.inputs p.plan (zip contents (reads_in p.inputs))
-merge-is f words ids contents p prepared told many = record {
+pub merge-is : (f : LiveFiles) (words : MergeWords) (ids : List FileId) (contents : List (List ℕ)) (p : Prepared) → is_by_time words.split ≡ true → IsPrepared f words ids p → AreTold f ids contents → length p.inputs ≡ length words.files → IsMergeOf f words p.inputs p.plan (zip contents (reads_in p.inputs))
+merge-is f words ids contents p by_time prepared told many = record {
   plan = prepared.plan;
+  split = plan-split words p.inputs p.plan by_time prepared.plan;
   from = sources-told f p.inputs contents (told-contents f ids contents p.inputs prepared.inputs.of told);
   many = sym many;
   told = each-told f p.inputs contents (told-contents f ids contents p.inputs prepared.inputs.of told);
@@ -177,7 +209,7 @@ merge-is f words ids contents p prepared told many = record {
 pub reads-are : (f : LiveFiles) (words : MergeWords) (inputs : List Input) (p : MergePlan) (sources : List Source) → IsMergeOf f words inputs p sources → reads_of sources ≡ reads_in inputs
 reads-are f words inputs p sources is = ap reads_of (sym is.from) ∙ reads-in f inputs
 
-lanes-for : (f : LiveFiles) (words : MergeWords) (inputs : List Input) (p : MergePlan) (sources : List Source) → IsMergeOf f words inputs p sources → AreLanesFor f sources p.lanes
+pub lanes-for : (f : LiveFiles) (words : MergeWords) (inputs : List Input) (p : MergePlan) (sources : List Source) → IsMergeOf f words inputs p sources → AreLanesFor f sources p.lanes
 lanes-for f words inputs p sources is = record {
   numbers = is.plan.numbers ∙ ap (inputs_given 0) (sym (reads-are f words inputs p sources is));
   given = is.plan.lanes f ∙ ap lanes_given is.from;
@@ -187,21 +219,10 @@ lanes-over : (f : LiveFiles) (scale : ℕ) (specs : List (List Link)) → lanes_
 lanes-over f scale [] = refl
 lanes-over f scale (links ∷ specs) = ap (λ (rest : List (List OutputBlock)). lane_blocks scale (map (given_in f) links) ∷ rest) (lanes-over f scale specs)
 
-blocks-are : (f : LiveFiles) (words : MergeWords) (inputs : List Input) (p : MergePlan) (sources : List Source) → IsMergeOf f words inputs p sources → planned.blocks_of f p ≡ blocks_of words sources
+pub blocks-are : (f : LiveFiles) (words : MergeWords) (inputs : List Input) (p : MergePlan) (sources : List Source) → IsMergeOf f words inputs p sources → planned.blocks_of f p ≡ blocks_of words sources
 blocks-are f words inputs p sources is =
     ap (λ (l : ClusterLimits). merged (lanes_over f l.scale (links_of p.lanes))) is.plan.limits
     ∙ ap merged (lanes-over f words.scale (links_of p.lanes) ∙ ap (map (lane_blocks words.scale)) (lanes-for f words inputs p sources is).given)
-
-document-is : (f : LiveFiles) (words : MergeWords) (inputs : List Input) (p : MergePlan) (sources : List Source) → IsMergeOf f words inputs p sources → planned.document_in f p ≡ document_in words sources
-document-is f words inputs p sources is =
-    let reads = reads-are f words inputs p sources is in
-    let blocks = planned.blocks_of f p in
-    ap (λ (l : ClusterLimits). document_of l (rules_of p.lanes) (front_with f p.front) p.chapters p.tags blocks) is.plan.limits
-    ∙ ap (λ (rules : List CueRule). document_of (limits_of words) rules (front_with f p.front) p.chapters p.tags blocks) (is.plan.rules ∙ ap rules_given (sym reads))
-    ∙ ap (λ (front : Front). document_of (limits_of words) (rules_given (reads_of sources)) front p.chapters p.tags blocks) (is.plan.front f is.told ∙ ap (front_of words) is.from)
-    ∙ ap (λ (n : Option Node). document_of (limits_of words) (rules_given (reads_of sources)) (front_of words sources) n p.tags blocks) (is.plan.chapters ∙ ap chapters_of (sym reads))
-    ∙ ap (λ (n : Option Node). document_of (limits_of words) (rules_given (reads_of sources)) (front_of words sources) (chapters_of (reads_of sources)) n blocks) (is.plan.tags ∙ ap tags_of (sym reads))
-    ∙ ap (λ (bs : List OutputBlock). document_of (limits_of words) (rules_given (reads_of sources)) (front_of words sources) (chapters_of (reads_of sources)) (tags_of (reads_of sources)) bs) (blocks-are f words inputs p sources is)
 
 -- ---- its records are those of the sources
 
@@ -266,86 +287,3 @@ lanes-count f words inputs p sources is =
     sym (length-map p.lanes (λ (l : PlannedLane). l.spec.links))
     ∙ sym (length-map (links_of p.lanes) (map (given_in f)))
     ∙ ap (λ (given : List (List Given)). length given) (lanes-for f words inputs p sources is).given
-
--- ---- the summary is that of the sources
-
-tells-is : (f : LiveFiles) (p : MergePlan) (s : Summary) → IsSummary f p s → Tells (damages_of f p.lanes) (count_to (flat_map (λ (l : PlannedLane). l.inputs) p.lanes)) s
-tells-is f p s is = record { damages = is.damages; more = is.more; past = past-damages f p.lanes }
-
-behind-told : (f : LiveFiles) (words : MergeWords) (inputs : List Input) (p : MergePlan) (sources : List Source) (s : Summary) → IsMergeOf f words inputs p sources → IsSummary f p s
-    → map (λ (w : Written). wrote_blocks_line w.name w.blocks) s.outputs ++ warnings_from s 0 words.files ≡ lines_behind words sources
-behind-told f words inputs p sources s is sums =
-    ap (λ (ws : List Written). map (λ (w : Written). wrote_blocks_line w.name w.blocks) ws ++ warnings_from s 0 words.files) sums.outputs
-    ∙ ap (λ (name : List ℕ). wrote_blocks_line name (counted 0 (length (planned.blocks_of f p))) ∷ warnings_from s 0 words.files) is.plan.output
-    ∙ ap (λ (bs : List OutputBlock). wrote_blocks_line words.output (counted 0 (length bs)) ∷ warnings_from s 0 words.files) (blocks-are f words inputs p sources is)
-    ∙ ap (λ (lines : List (List ℕ)). wrote_blocks_line words.output (counted 0 (length (blocks_of words sources))) ∷ lines)
-    (warnings-told (damages_of f p.lanes) _ s words.files sources (tells-is f p s sums) (λ k. damages-are f sources p.lanes k (lanes-for f words inputs p sources is)))
-
-warned-told : (f : LiveFiles) (words : MergeWords) (inputs : List Input) (p : MergePlan) (sources : List Source) (s : Summary) → IsMergeOf f words inputs p sources → IsSummary f p s → (absent : Bool) → is_warned absent s ≡ (absent || has_damage sources)
-warned-told f words inputs p sources s is sums absent =
-    ap (λ (some : Bool). absent || some)
-    (some-told (damages_of f p.lanes) _ s sources (tells-is f p s sums) (λ k. damages-are f sources p.lanes k (lanes-for f words inputs p sources is)))
-
--- ---- the verdict
-
--- a warning of a track that isn't there couldn't be said
-pub merge-begun : (old new : Seen) (why : Stop) (f : LiveFiles) (words : MergeWords) (inputs : List Input) (p : MergePlan) (sources : List Source) → IsMergeOf f words inputs p sources → SaysPart old.lines new.lines (lines_before words (reads_in inputs)) → new.names ≡ old.names → Reaches old new (Err why) (merged_verdict words sources)
-merge-begun old new why f words inputs p sources is part names =
-    let reads = reads-are f words inputs p sources is in
-    record {
-      lines = SaysPart-before old.lines new.lines (lines_before words (reads_of sources)) (lines_behind words sources) (subst (λ (rs : List InputRead). SaysPart old.lines new.lines (lines_before words rs)) (sym reads) part);
-      names = Leaves-same old.names new.names (in_turn (draft_of words.output (document_in words sources) ∷ [])) names;
-    }
-
--- the output is that of the sources
-draft-is : (f : LiveFiles) (words : MergeWords) (inputs : List Input) (p : MergePlan) (sources : List Source) → IsMergeOf f words inputs p sources → draft_of p.output (planned.document_in f p) ≡ draft_of words.output (document_in words sources)
-draft-is f words inputs p sources is = ap (λ (name : List ℕ). draft_of name (planned.document_in f p)) is.plan.output ∙ ap (draft_of words.output) (document-is f words inputs p sources is)
-
--- all that isn't there was warned of, and the output couldn't be written
-pub merge-left : (old new : Seen) (why : Stop) (f : LiveFiles) (words : MergeWords) (inputs : List Input) (p : MergePlan) (sources : List Source) → IsMergeOf f words inputs p sources → new.lines ≡ with_lines old.lines (lines_before words (reads_in inputs)) → StandsInTurn old.names new.names (draft_of p.output (planned.document_in f p) ∷ []) → Reaches old new (Err why) (merged_verdict words sources)
-merge-left old new why f words inputs p sources is said stands =
-    let reads = reads-are f words inputs p sources is in
-    record {
-      lines = SaysPart-before old.lines new.lines (lines_before words (reads_of sources)) (lines_behind words sources)
-          (SaysPart-all old.lines new.lines (lines_before words (reads_of sources)) (said ∙ ap (λ (rs : List InputRead). with_lines old.lines (lines_before words rs)) (sym reads)));
-      names = subst (λ (d : Draft). StandsInTurn old.names new.names (d ∷ [])) (draft-is f words inputs p sources is) stands;
-    }
-
--- the output stands whole
-layout-whole : (old new : Names) (name : List ℕ) (d : Document) → WritesLayout old new name d → new ≡ with_outputs old (outputs_of (draft_of name d ∷ []))
-layout-whole old new name d writes = writes.names ∙ sym (ap (λ (o : Output). with_content old o.name o.content) writes.becomes)
-
--- and the rest is told
-pub merge-told : (old new : Seen) (mid : ReportLines) (r : Result Status Stop) (f : LiveFiles) (words : MergeWords) (inputs : List Input) (p : MergePlan) (sources : List Source) (s : Summary) (absent : Bool) → IsMergeOf f words inputs p sources → IsSummary f p s
-    → absent ≡ has_absent words (reads_in inputs) → mid ≡ with_lines old.lines (lines_before words (reads_in inputs))
-    → Says mid new.lines (map (λ (w : Written). wrote_blocks_line w.name w.blocks) s.outputs ++ warnings_from s 0 words.files) r → IfOk r (λ (status : Status). status ≡ status_of (is_warned absent s))
-    → WritesLayout old.names new.names p.output (planned.document_in f p) → Reaches old new r (merged_verdict words sources)
-merge-told old new mid r f words inputs p sources s absent is sums missing before says status writes =
-    step r (subst (λ (lines : List (List ℕ)). Says mid new.lines lines r) (behind-told f words inputs p sources s is sums) says) status
-  where
-    reads : reads_in inputs ≡ reads_of sources
-    reads = sym (reads-are f words inputs p sources is)
-
-    first : mid ≡ with_lines old.lines (lines_before words (reads_of sources))
-    first = before ∙ ap (λ (rs : List InputRead). with_lines old.lines (lines_before words rs)) reads
-
-    whole : new.names ≡ with_outputs old.names (outputs_of (draft_of words.output (document_in words sources) ∷ []))
-    whole =
-        layout-whole old.names new.names p.output (planned.document_in f p) writes
-        ∙ ap (λ (d : Draft). with_outputs old.names (outputs_of (d ∷ []))) (draft-is f words inputs p sources is)
-
-    warned : is_warned absent s ≡ (has_absent words (reads_of sources) || has_damage sources)
-    warned = warned-told f words inputs p sources s is sums absent ∙ ap (λ (some : Bool). some || has_damage sources) (missing ∙ ap (has_absent words) reads)
-
-    step : (r : Result Status Stop) → Says mid new.lines (lines_behind words sources) r → IfOk r (λ (status : Status). status ≡ status_of (is_warned absent s)) → Reaches old new r (merged_verdict words sources)
-    step (Ok done) says status = (
-      status ∙ ap status_of warned,
-      record {
-        lines = Says-then old.lines mid new.lines (lines_before words (reads_of sources)) (lines_behind words sources) (Ok done) first says;
-        names = whole;
-      },
-    )
-    step (Err why) says status = record {
-      lines = SaysPart-behind old.lines mid new.lines (lines_before words (reads_of sources)) (lines_behind words sources) first says;
-      names = StandsInTurn-whole old.names new.names (draft_of words.output (document_in words sources) ∷ []) [] whole;
-    }

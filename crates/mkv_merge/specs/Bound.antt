@@ -29,10 +29,10 @@ abbrev pub data_count : Result (List Source) Refusal → ℕ
 data_count (Ok sources) = attached_length (reads_of sources)
 data_count (Err why) = 0
 
--- what may be read of inputs of so many octets: all 24 times before the blocks, and six times to see where they end; six times for
+-- what may be read of inputs of so many octets: all 25 times before the blocks, and six times to see where they end; six times for
 -- each lane, and the data of their attached files
 abbrev pub most_of : Result (List Source) Refusal → ℕ → ℕ
-most_of sources octets = 30 * octets + (6 * (lane_count sources * octets) + data_count sources)
+most_of sources octets = 31 * octets + (6 * (lane_count sources * octets) + data_count sources)
 
 -- what may be read to see whether an edit of an input or of the output is pending: what each sidecar begins with
 abbrev pub most_looked : MergeWords → ℕ

@@ -6,19 +6,23 @@ use Rattle.mkv_values.specs.declared.damage.Damage.{Damage}
 use Rattle.mkv_io.specs.Faults.{counted}
 use Rattle.cluster_reader.specs.ToldDamages.{ToldDamages, told_damages}
 use Rattle.output_model.specs.OutputBlock.{OutputBlock}
-use Rattle.output_model.specs.Document.{Document}
+use Rattle.tree_format.specs.Node.{Node}
+use Rattle.output_model.specs.Document.{Document, Front}
 use Rattle.merge_model.specs.Lanes.{lane_blocks, lane_damages}
 use Rattle.merge_model.specs.Links.{Given}
 use Rattle.merge_model.specs.Merged.{merged}
 use Rattle.cluster_runs.specs.Cued.{document_of}
-use Rattle.cues_seekhead.specs.Draft.{draft_of}
+use Rattle.splitter.specs.Sections.{Part, Split, parts}
+use Rattle.remux_plan.specs.Parts.{PlannedOutput, drives_by, name_of, stretch_of}
+use Rattle.remux_plan.specs.Parts.{chapters_of as chapters_within}
+use Rattle.remuxer.specs.Output.{drafts_of}
 use Rattle.text_files.specs.ChapterFile.{chapter_file}
 use Rattle.text_files.specs.declared.chapter_file.ChapterFile.{ChapterFile}
 use Rattle.merge_words.specs.declared.files.FileWords.{FileWords}
 use Rattle.merge_words.specs.declared.output.MergeWords.{MergeWords}
 use Rattle.merge_inputs.specs.Input.{InputRead}
 use Rattle.merge_plan.specs.Appending.{append_refusal}
-use Rattle.merge_plan.specs.Plan.{Source, inputs_given, lanes_given, limits_of, rules_given}
+use Rattle.merge_plan.specs.Plan.{Source, drives_given, inputs_given, lanes_given, limits_of, rules_given, split_given}
 use Rattle.merge_plan.specs.Front.{front_of, reads_of}
 use Rattle.merge_plan.specs.Places.{in_place}
 use Rattle.merge_plan.specs.Records.{chapters_of, tags_of}
@@ -27,7 +31,7 @@ use Rattle.mkv_lines.specs.Line.{damage_lines, no_track_line, wrote_blocks_line}
 use Rattle.mkv_lines.specs.Verdict.{Verdict, in_turn, refused}
 use Rattle.mkv_lines.specs.declared.status.Status.{Status}
 use Rattle.mkv_lines.specs.declared.status.Status.TheVariants.{Done, Warned}
-use Rattle.mkv_merge.specs.Read.{begun_refusal, contents_of, inputs_with, writes_input}
+use Rattle.mkv_merge.specs.Read.{begun_refusal, contents_of, first_written, inputs_with, is_split}
 use Rattle.mkv_merge.specs.Refused.{and_then, line_of, unless}
 use Rattle.mkv_merge.specs.declared.refusal.Refusal.{Refusal}
 use Rattle.mkv_merge.specs.declared.refusal.Refusal.TheVariants.{Differs, OutputIsInput, Plan}
@@ -58,20 +62,45 @@ sources_settled world words chapters contents = and_then (unless (begun_refusal 
 abbrev pub sources_beside : (List ℕ → Option (List ℕ)) → MergeWords → ChapterFile → Result (List Source) Refusal
 sources_beside world words chapters = and_then (contents_of world words.files) (sources_settled world words chapters)
 
--- the sources of a merge in a world of names, or the first thing that refuses it: the output's name, an input or a chapter file
+-- the sources of a merge in a world of names, or the first thing that refuses it: an output's name, an input or a chapter file
 -- that isn't there, an edit that is pending, and then what they hold
 abbrev pub sources_of : (List ℕ → Option (List ℕ)) → MergeWords → Result (List Source) Refusal
-sources_of world words = if writes_input words then Err OutputIsInput else sources_beside world words (chapter_file world words.chapters)
+sources_of world words = and_then (unless (option_map OutputIsInput (first_written words)) (chapter_file world words.chapters)) (sources_beside world words)
 
--- ---- the output
+-- ---- the outputs
 
 -- the merged list of the tracks that are taken
 abbrev pub blocks_of : MergeWords → List Source → List OutputBlock
 blocks_of words sources = merged (map (lane_blocks words.scale) (lanes_given sources))
 
-abbrev pub document_in : MergeWords → List Source → Document
-document_in words sources =
-    document_of (limits_of words) (rules_given (reads_of sources)) (front_of words sources) (chapters_of (reads_of sources)) (tags_of (reads_of sources)) (blocks_of words sources)
+-- how it is split, in ticks of the output
+abbrev pub split_of : MergeWords → List Source → Split
+split_of words sources = record { spec = split_given words (reads_of sources); scale = words.scale; drives = drives_by (drives_given (reads_of sources)) }
+
+-- its parts; what isn't split is one part
+abbrev pub parts_of : MergeWords → List Source → List Part
+parts_of words sources = parts (split_of words sources) (blocks_of words sources)
+
+-- what stands in front of the Clusters of the part of a number, from 1 on: attached files go to the first one alone
+abbrev pub front_at : MergeWords → List Source → ℕ → Front
+front_at words sources number = if number == 1 then front_of words sources else record (front_of words sources) { attachments = [] }
+
+-- what of the Chapters goes into a part: those in its stretch of time, and all where nothing is split
+abbrev pub chapters_in : MergeWords → List Source → Part → Option Node
+chapters_in words sources part = chapters_within (is_split words) (chapters_of (reads_of sources)) (stretch_of words.scale part.start part.end)
+
+-- a part in Clusters, with what stands around them
+abbrev pub document_at : MergeWords → List Source → ℕ × Part → Document
+document_at words sources each =
+    document_of (limits_of words) (rules_given (reads_of sources)) (front_at words sources each.0) (chapters_in words sources each.1) (tags_of (reads_of sources)) each.1.blocks
+
+-- the output of a part: its name, its blocks, and what it is to be
+abbrev pub output_at : MergeWords → List Source → ℕ × Part → PlannedOutput
+output_at words sources each = record { name = name_of (is_split words) words.output each.0; blocks = each.1.blocks; document = document_at words sources each }
+
+-- All outputs, in the order in which they are written.
+abbrev pub outputs_of : MergeWords → List Source → List PlannedOutput
+outputs_of words sources = map (output_at words sources) (enumerate_from 1 (parts_of words sources))
 
 -- ---- what is warned of
 
@@ -122,20 +151,22 @@ abbrev pub status_of : Bool → Status
 status_of true = Warned
 status_of false = Done
 
--- the lines before the output, and behind it
+-- the lines before the outputs, that of each output, and the lines behind them
 abbrev pub lines_before : MergeWords → List InputRead → List (List ℕ)
 lines_before words reads = flat_map absent_lines (zip words.files reads)
 
-abbrev pub lines_behind : MergeWords → List Source → List (List ℕ)
-lines_behind words sources =
-    wrote_blocks_line words.output (counted 0 (length (blocks_of words sources))) ∷ flat_map (warnings sources) (enumerate_from 0 words.files)
+abbrev pub output_line : PlannedOutput → List ℕ
+output_line o = wrote_blocks_line o.name (counted 0 (length o.blocks))
 
--- the tracks that aren't there, the output, and what is wrong with the inputs
+abbrev pub lines_behind : MergeWords → List Source → List (List ℕ)
+lines_behind words sources = map output_line (outputs_of words sources) ++ flat_map (warnings sources) (enumerate_from 0 words.files)
+
+-- the tracks that aren't there, the outputs, and what is wrong with the inputs
 abbrev pub merged_verdict : MergeWords → List Source → Verdict
 merged_verdict words sources = record {
   status = status_of (has_absent words (reads_of sources) || has_damage sources);
   lines = lines_before words (reads_of sources) ++ lines_behind words sources;
-  outputs = in_turn (draft_of words.output (document_in words sources) ∷ []);
+  outputs = in_turn (drafts_of (outputs_of words sources));
 }
 
 abbrev pub verdict_of : MergeWords → Result (List Source) Refusal → Verdict

@@ -1,14 +1,17 @@
 -- What is read of the inputs of a merge, and what refuses them.
-use Rattle.std.specs.Prelude.{ℕ, suc, Bool, true, false, ◌||◌, List, [], ◌∷◌, map, Option, Some, None, unwrap_or, Result, Ok, Err}
-use Rattle.std.specs.List.{list_any, zip}
-use Rattle.std.specs.Option.{option_or}
+use Rattle.std.specs.Prelude.{◌≡◌, ℕ, suc, Bool, true, false, ◌&&◌, List, [], ◌∷◌, ◌++◌, map, find, Option, Some, None, is_none, is_some, unwrap_or, Result, Ok, Err}
+use Rattle.std.specs.List.{zip}
+use Rattle.std.specs.Option.{option_or, option_to_list}
 use Rattle.std.specs.Str.{bytes_eq}
 use Rattle.mkv_io.specs.Faults.{counted}
 use Rattle.sidecar_format.specs.Name.{sidecar_of}
 use Rattle.pending_edits.specs.Pending.{is_pending}
 use Rattle.text_files.specs.declared.chapter_file.ChapterFile.{ChapterFile}
+use Rattle.splitter.specs.Names.{is_part_name}
+use Rattle.splitter.specs.Words.{is_by_time}
 use Rattle.merge_words.specs.declared.files.FileWords.{FileWords}
 use Rattle.merge_words.specs.declared.output.MergeWords.{MergeWords}
+use Rattle.merge_words.specs.Sound.{IsSoundMerge}
 use Rattle.input_files.specs.Inputs.{file_names, first_missing, first_pending}
 use Rattle.merge_inputs.specs.Input.{InputRead, input_of}
 use Rattle.merge_inputs.specs.declared.input.InputRefusal.{InputRefusal}
@@ -17,19 +20,34 @@ use Rattle.mkv_merge.specs.Refused.{and_then}
 use Rattle.mkv_merge.specs.declared.refusal.Refusal.{Refusal}
 use Rattle.mkv_merge.specs.declared.refusal.Refusal.TheVariants.{Missing, PendingInput, PendingOutput, Input}
 
--- ---- the output's name
+-- ---- the names
 
--- the output has the name of an input, or of its sidecar
-abbrev pub is_read : List ℕ → FileWords → Bool
-is_read output file = bytes_eq file.name output || bytes_eq (sidecar_of file.name) output
+-- the names of the files that a merge reads, in the order in which they are looked at: those of its inputs, of its chapter file, and of
+-- its inputs' sidecars
+abbrev pub read_names : MergeWords → List (List ℕ)
+read_names words = file_names words.files ++ (option_to_list words.chapters ++ map sidecar_of (file_names words.files))
 
--- the output has the name of the chapter file
-abbrev pub is_chapter_file : List ℕ → Option (List ℕ) → Bool
-is_chapter_file output None = false
-is_chapter_file output (Some name) = bytes_eq name output
+abbrev pub is_split : MergeWords → Bool
+is_split words = is_some words.split
 
-abbrev pub writes_input : MergeWords → Bool
-writes_input words = list_any (is_read words.output) words.files || is_chapter_file words.output words.chapters
+-- a name is the output's, as the words have it
+abbrev pub is_output : MergeWords → List ℕ → Bool
+is_output words name = bytes_eq name words.output
+
+-- a name is that of a part
+abbrev pub is_part : MergeWords → List ℕ → Bool
+is_part words name = is_split words && is_part_name words.output name
+
+-- the first of the names that are read which an output has: the name of the words, with a split too, or else a part
+abbrev pub first_written : MergeWords → Option (List ℕ)
+first_written words = option_or (find (is_output words) (read_names words)) (find (is_part words) (read_names words))
+
+-- Words of a merge that keep their limits, whose output isn't split by octets, and none of whose files is read under a name that may be
+-- written.
+pub record IsApartMerge (words : MergeWords) : Type 0 where
+  pub sound : IsSoundMerge words
+  pub split : is_by_time words.split ≡ true
+  pub apart : first_written words ≡ None
 
 -- ---- the contents
 
@@ -49,9 +67,9 @@ pending_refusal (Some input) output = Some (PendingInput input)
 pending_refusal None true = Some PendingOutput
 pending_refusal None false = None
 
--- what refuses a merge of files of which an edit is pending: the first of the inputs, and then the output
+-- what refuses a merge of files of which an edit is pending: the first of the inputs, and then the output, where it isn't split
 abbrev pub pending_of : (List ℕ → Option (List ℕ)) → MergeWords → Option Refusal
-pending_of world words = pending_refusal (first_pending world (file_names words.files)) (is_pending world words.output)
+pending_of world words = pending_refusal (first_pending world (file_names words.files)) (is_none words.split && is_pending world words.output)
 
 -- what refuses a merge whose inputs are there before they are read: a chapter file that isn't there, or an edit that is pending
 abbrev pub begun_refusal : (List ℕ → Option (List ℕ)) → MergeWords → ChapterFile → Option Refusal

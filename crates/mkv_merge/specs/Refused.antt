@@ -7,7 +7,7 @@ use Rattle.text_files.specs.declared.refusal.TextRefusal.TheVariants.{TooLarge, 
 use Rattle.merge_words.specs.declared.files.FileWords.{FileWords}
 use Rattle.merge_words.specs.declared.output.MergeWords.{MergeWords}
 use Rattle.merge_inputs.specs.declared.input.InputRefusal.{InputRefusal}
-use Rattle.merge_inputs.specs.declared.input.InputRefusal.TheVariants.{Damaged}
+use Rattle.merge_inputs.specs.declared.input.InputRefusal.TheVariants.{Damaged, Text}
 use Rattle.merge_plan.specs.declared.refusal.PlanRefusal.{PlanRefusal}
 use Rattle.merge_plan.specs.declared.refusal.PlanRefusal.TheVariants.{NoLane, TooManyLanes, NotWebm, HeaderTooLarge}
 use Rattle.mkv_lines.specs.Line.{append_differs_line, bad_text_line, missing_line, no_lane_line, not_webm_line, output_is_input_line, pending_edit_line, refusal_line, text_too_large_line, too_large_line, too_many_lanes_line}
@@ -32,9 +32,6 @@ unless (Some why) x = Err why
 abbrev pub name_of : MergeWords → ℕ → List ℕ
 name_of words input = option_map_or (λ (file : FileWords). file.name) (slice_get words.files input) []
 
-abbrev pub input_line : List ℕ → InputRefusal → List ℕ
-input_line name (Damaged damage) = refusal_line name damage
-
 abbrev pub plan_line : List ℕ → PlanRefusal → List ℕ
 plan_line output NoLane = no_lane_line
 plan_line output TooManyLanes = too_many_lanes_line
@@ -49,9 +46,13 @@ abbrev pub text_line : List ℕ → TextRefusal → List ℕ
 text_line name TooLarge = text_too_large_line name
 text_line name (Bad line) = bad_text_line name line
 
+abbrev pub input_line : List ℕ → InputRefusal → List ℕ
+input_line name (Damaged damage) = refusal_line name damage
+input_line name (Text why) = text_line name why
+
 -- the line of a refusal
 abbrev pub line_of : MergeWords → Refusal → List ℕ
-line_of words OutputIsInput = output_is_input_line words.output
+line_of words (OutputIsInput name) = output_is_input_line name
 line_of words (Missing input) = missing_line (name_of words input)
 line_of words MissingChapters = missing_line (chapters_name words)
 line_of words (PendingInput input) = pending_edit_line (name_of words input)

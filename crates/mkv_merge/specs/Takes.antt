@@ -1,6 +1,7 @@
--- Which merges are built: whole outputs of Matroska and WebM files, side by side or one behind the other.
-use Rattle.std.specs.Prelude.{Bool, not, ◌&&◌, ◌==◌, length, is_none}
+-- Which merges are built: outputs of Matroska and WebM files, side by side or one behind the other, whole or split by times.
+use Rattle.std.specs.Prelude.{Bool, not, ◌&&◌, ◌==◌, length}
 use Rattle.std.specs.List.{list_all}
+use Rattle.splitter.specs.Words.{is_by_time}
 use Rattle.merge_words.specs.declared.files.FileWords.{FileWords}
 use Rattle.merge_words.specs.declared.output.MergeWords.{MergeWords}
 
@@ -8,7 +9,7 @@ use Rattle.merge_words.specs.declared.output.MergeWords.{MergeWords}
 abbrev pub is_plain : FileWords → Bool
 is_plain file = length file.times == 0
 
--- no parts, no identifiers, and plain files
+-- no split by octets, no identifiers, and plain files
 abbrev pub takes : MergeWords → Bool
 takes words =
-    is_none words.split && (length words.uuids == 0 && not words.link) && list_all is_plain words.files
+    is_by_time words.split && (length words.uuids == 0 && not words.link) && list_all is_plain words.files

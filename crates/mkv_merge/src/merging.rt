@@ -1,10 +1,10 @@
 //! Files are opened, merged and closed.
 
-ghost use Rattle.std.specs.Prelude.{◌≡◌, ◌+◌, ◌≤◌, false, ℕ, List, [], ◌∷◌, IfOk};
+ghost use Rattle.std.specs.Prelude.{◌≡◌, ◌+◌, ◌≤◌, true, ℕ, List, IfOk};
 ghost use Rattle.mkv_io.specs.Sources.{live_files};
 ghost use Rattle.mkv_io.specs.Told.{Told};
-ghost use Rattle.mkv_io.specs.Writing.{KeepsOthers};
 ghost use Rattle.text_files.specs.ChapterFile.{CanBeWritten};
+ghost use Rattle.splitter.specs.Words.{is_by_time};
 ghost use Rattle.merge_words.specs.Sound.{IsSoundMerge};
 ghost use Rattle.input_files.specs.Inputs.{AreInputs, file_names};
 ghost use Rattle.mkv_lines.specs.Faults.{HasStopCause};
@@ -14,10 +14,10 @@ ghost use Rattle.mkv_lines.specs.Verdict.{Reaches};
 ghost use Rattle.mkv_merge.specs.Bound.{files_size, most_beside, most_looked, most_of, most_read};
 ghost use Rattle.mkv_merge.specs.Merge.{merge_verdict, sources_beside, sources_of, sources_settled, sources_with, verdict_of};
 ghost use Rattle.mkv_merge.specs.Prepared.{AreTold};
-ghost use Rattle.mkv_merge.specs.Read.{writes_input};
+ghost use Rattle.mkv_merge.specs.Read.{IsApartMerge};
 ghost use Rattle.mkv_merge.specs.Records.{EndsWithRecords};
 
-use crate::names::writes_input;
+use crate::names::first_written;
 use crate::pending::begun_refusal;
 use crate::preparing::prepare;
 use crate::refusal::{MergeEnd, Refusal};
@@ -28,7 +28,7 @@ use merge_words::MergeWords;
 use mkv_io::{Files, Report};
 use mkv_lines::{Status, Stop};
 use mkv_values::FileId;
-use std::alloc::Global;
+use std::alloc::{AllocError, Global};
 use text_files::{ChapterFile, read_chapter_file};
 
 /// Merges live files, the inputs of these words.
@@ -40,16 +40,15 @@ fn merge_opened<F: Files, P: Report>(
     files: &mut F,
     report: &mut P,
 ) -> Result<Status, Stop>
-    requires sound { IsSoundMerge words.now }
+    requires words { IsApartMerge words.now }
     requires inputs { AreInputs F.Reads F.Files.own (file_names words.now.files) files.old ids.now }
-    requires apart { writes_input words.now ≡ false }
     requires chapters { CanBeWritten chapters }
     ensures verdict { (contents : List (List ℕ)) → AreTold (live_files F.Reads files.old) ids.now contents → Reaches
         (seen F.Reads F.writing_faults F.names P.Report files.old report.old)
         (seen F.Reads F.writing_faults F.names P.Report files.new report.new)
         result (verdict_of words.now (sources_with words.now chapters contents)) }
-    ensures kept { KeepsOthers F.Reads F.Files.own (words.now.output ∷ []) files.old files.new }
     ensures ordinary { IfOk result IsOrdinary }
+    ensures live { (file : ℕ) → (live_files F.Reads files.new).live file ≡ (live_files F.Reads files.old).live file }
     ensures cause { HasStopCause
         (seen F.Reads F.writing_faults F.names P.Report files.old report.old).counts
         (seen F.Reads F.writing_faults F.names P.Report files.new report.new).counts result }
@@ -74,16 +73,15 @@ fn merge_settled<F: Files, P: Report>(
     files: &mut F,
     report: &mut P,
 ) -> Result<Status, Stop>
-    requires sound { IsSoundMerge words.now }
+    requires words { IsApartMerge words.now }
     requires inputs { AreInputs F.Reads F.Files.own (file_names words.now.files) files.old ids.now }
-    requires apart { writes_input words.now ≡ false }
     requires chapters { CanBeWritten chapters }
     ensures verdict { Told (F.names files.old) (λ world. (contents : List (List ℕ)) → AreTold (live_files F.Reads files.old) ids.now contents → Reaches
         (seen F.Reads F.writing_faults F.names P.Report files.old report.old)
         (seen F.Reads F.writing_faults F.names P.Report files.new report.new)
         result (verdict_of words.now (sources_settled world words.now chapters contents))) }
-    ensures kept { KeepsOthers F.Reads F.Files.own (words.now.output ∷ []) files.old files.new }
     ensures ordinary { IfOk result IsOrdinary }
+    ensures live { (file : ℕ) → (live_files F.Reads files.new).live file ≡ (live_files F.Reads files.old).live file }
     ensures cause { HasStopCause
         (seen F.Reads F.writing_faults F.names P.Report files.old report.old).counts
         (seen F.Reads F.writing_faults F.names P.Report files.new report.new).counts result }
@@ -108,8 +106,7 @@ fn merge_beside<F: Files, P: Report>(
     files: &mut F,
     report: &mut P,
 ) -> Result<Status, Stop>
-    requires sound { IsSoundMerge words.now }
-    requires apart { writes_input words.now ≡ false }
+    requires words { IsApartMerge words.now }
     requires chapters { CanBeWritten chapters }
     ensures verdict { Told (F.names files.old) (λ world. Reaches
         (seen F.Reads F.writing_faults F.names P.Report files.old report.old)
@@ -137,15 +134,16 @@ fn merge_beside<F: Files, P: Report>(
     ended
 }
 
-/// Writes one file of several, as the words say: the tracks that they take of each, with the Chapters of a chapter file
-/// where they name one.
+/// Writes one file of several, or that in parts, as the words say: the tracks that they take of each, with the Chapters of a
+/// chapter file where they name one. What is split by octets isn't built.
 pub fn merge_of<F: Files, P: Report>(
     alloc: Global,
     words: &MergeWords,
     files: &mut F,
     report: &mut P,
 ) -> Result<Status, Stop>
-    requires { IsSoundMerge words.now }
+    requires sound { IsSoundMerge words.now }
+    requires split { is_by_time words.now.split ≡ true }
     ensures verdict { Told (F.names files.old) (λ world. Reaches
         (seen F.Reads F.writing_faults F.names P.Report files.old report.old)
         (seen F.Reads F.writing_faults F.names P.Report files.new report.new)
@@ -160,8 +158,12 @@ pub fn merge_of<F: Files, P: Report>(
     ensures records { Told (F.names files.old) (λ world. EndsWithRecords (sources_of world words.now) result) }
     ensures octets { Told (F.names files.old) (λ world. F.octets_read files.new ≤ F.octets_read files.old + most_read world words.now) }
 {
-    if writes_input(words) {
-        return refuse(alloc, words, &Refusal::OutputIsInput, report);
+    match first_written(alloc, words) {
+        Ok(None) => {}
+        Ok(Some(name)) => {
+            return refuse(alloc, words, &Refusal::OutputIsInput { name }, report);
+        }
+        Err(AllocError) => return Err(Stop::Memory),
     }
     match read_chapter_file(alloc, &words.chapters, files) {
         Ok(chapters) => merge_beside(alloc, words, chapters, files, report),

@@ -1,47 +1,94 @@
-//! The name of the output of a merge, and those of the files that it is made of.
+//! The names of the outputs of a merge, and those of the files that it reads.
 
-ghost use Rattle.std.specs.Prelude.{◌≡◌};
-ghost use Rattle.std.specs.List.{list_any};
-ghost use Rattle.mkv_merge.specs.Read.{is_chapter_file, is_read, writes_input};
+ghost use Rattle.std.specs.Prelude.{◌≡◌, ◌++◌, find, map, IfOk, OnOk};
+ghost use Rattle.std.specs.Option.{option_copied, option_to_list};
+ghost use Rattle.sidecar_format.specs.Name.{sidecar_of};
+ghost use Rattle.input_files.specs.Inputs.{file_names};
+ghost use Rattle.mkv_merge.specs.Read.{first_written, is_output, is_part, read_names};
 
 use merge_words::{FileWords, MergeWords};
-use mkv_values::Text;
-use sidecar_format::SUFFIX;
+use mkv_values::{List, Text};
+use sidecar_format::sidecar_name;
+use splitter::is_part_name;
+use std::alloc::{AllocError, Global};
 
-/// Whether an output has the name of an input, or of the file beside it in which an edit is kept until it is done.
-fn is_read(output: &str, file: &FileWords) -> bool
-    ensures { result ≡ is_read output.now file.now }
+/// Adds the names of files.
+fn add_names(files: &[FileWords], names: &mut List<Text>) -> Result<(), AllocError>
+    ensures { OnOk result (names.new ≡ names.old ++ file_names files.now) }
 {
-    match output
-        .as_bytes()
-        .strip_prefix(file.name.as_str().as_bytes())
-    {
-        Some(rest) => rest.is_empty() || rest == SUFFIX.as_bytes(),
-        None => false,
+    for file in files {
+        names.push(file.name.clone()?)?;
     }
+    Ok(())
 }
 
-/// The same of some input.
-fn is_some_read(output: &str, files: &[FileWords]) -> bool
-    ensures { result ≡ list_any (is_read output.now) files.now }
-{
-    files.iter().any(|file| is_read(output, file))
-}
-
-/// Whether an output has the name of the chapter file.
-fn is_chapter_file(output: &str, chapters: &Option<Text>) -> bool
-    ensures { result ≡ is_chapter_file output.now chapters.now }
+/// Adds the name of the chapter file, if there is one.
+fn add_chapters(chapters: &Option<Text>, names: &mut List<Text>) -> Result<(), AllocError>
+    ensures { OnOk result (names.new ≡ names.old ++ option_to_list chapters.now) }
 {
     match chapters {
-        Some(name) => name.as_str() == output,
-        None => false,
+        Some(name) => names.push(name.clone()?),
+        None => Ok(()),
     }
 }
 
-/// Whether the output is some input or the file beside it, or the chapter file.
-pub fn writes_input(words: &MergeWords) -> bool
-    ensures { result ≡ writes_input words.now }
+/// Adds the names of the files beside these, in which an edit is kept until it is done.
+fn add_sidecars(
+    alloc: Global,
+    files: &[FileWords],
+    names: &mut List<Text>,
+) -> Result<(), AllocError>
+    ensures { OnOk result (names.new ≡ names.old ++ map sidecar_of (file_names files.now)) }
+{
+    for file in files {
+        names.push(sidecar_name(alloc, file.name.as_str())?)?;
+    }
+    Ok(())
+}
+
+/// The names of the files that a merge reads, in the order in which they are looked at: those of its inputs, of its chapter
+/// file, and of its inputs' sidecars.
+fn read_names(alloc: Global, words: &MergeWords) -> Result<List<Text>, AllocError>
+    ensures { IfOk result (λ names. names ≡ read_names words.now) }
+{
+    let files = words.files.as_slice();
+    let mut names = List::new(alloc);
+    add_names(files, &mut names)?;
+    add_chapters(&words.chapters, &mut names)?;
+    add_sidecars(alloc, files, &mut names)?;
+    Ok(names)
+}
+
+/// Whether a name is that of a part.
+fn is_part(words: &MergeWords, name: &str) -> bool
+    ensures { result ≡ is_part words.now name.now }
+{
+    words.split.is_some() && is_part_name(words.output.as_str(), name)
+}
+
+/// The first of these names that is the output's.
+fn output_among<'a>(words: &MergeWords, names: &'a [Text]) -> Option<&'a Text>
+    ensures { option_copied result ≡ find (is_output words.now) names.now }
 {
     let output = words.output.as_str();
-    is_some_read(output, words.files.as_slice()) || is_chapter_file(output, &words.chapters)
+    names.iter().find(|name| name.as_str() == output)
+}
+
+/// The first of these names that is that of a part.
+fn part_among<'a>(words: &MergeWords, names: &'a [Text]) -> Option<&'a Text>
+    ensures { option_copied result ≡ find (is_part words.now) names.now }
+{
+    names.iter().find(|name| is_part(words, name.as_str()))
+}
+
+/// The first of the names that are read which an output has: the name of the words, with a split too, or else a part.
+pub fn first_written(alloc: Global, words: &MergeWords) -> Result<Option<Text>, AllocError>
+    ensures { IfOk result (λ name. name ≡ first_written words.now) }
+{
+    let names = read_names(alloc, words)?;
+    let names = names.as_slice();
+    match output_among(words, names).or(part_among(words, names)) {
+        Some(name) => Ok(Some(name.clone()?)),
+        None => Ok(None),
+    }
 }

@@ -17,7 +17,7 @@ use std::alloc::Global;
 use text_files::ChapterFile;
 
 /// What refuses a merge of files of which an edit is pending: the first of the inputs, in the order of the words, and
-/// then the file that lies at the output's name.
+/// then the file that lies at the output's name, where the output isn't split.
 fn pending_of<F: Files>(
     alloc: Global,
     words: &MergeWords,
@@ -31,7 +31,7 @@ fn pending_of<F: Files>(
     if let Some(input) = first_pending(alloc, words.files.as_slice(), files)? {
         return Ok(Some(Refusal::PendingInput { input }));
     }
-    if is_pending(alloc, words.output.as_str(), files)? {
+    if words.split.is_none() && is_pending(alloc, words.output.as_str(), files)? {
         return Ok(Some(Refusal::PendingOutput));
     }
     Ok(None)

@@ -1,13 +1,14 @@
 //! What stands before the blocks of the inputs, and what they come to.
 
-ghost use Rattle.std.specs.Prelude.{◌≡◌, ◌+◌, ◌*◌, ◌≤◌, List, ℕ, length, IfOk};
+ghost use Rattle.std.specs.Prelude.{◌≡◌, ◌+◌, ◌*◌, ◌≤◌, List, ℕ, length, true, IfOk};
 ghost use Rattle.std.specs.List.{All};
 ghost use Rattle.mkv_io.specs.Faults.{HasCause};
 ghost use Rattle.mkv_io.specs.Sources.{IfTold, IsLive, file_size, live_files};
 ghost use Rattle.mkv_outputs.specs.Sinks.{AreLive};
 ghost use Rattle.text_files.specs.ChapterFile.{CanBeWritten};
+ghost use Rattle.splitter.specs.Words.{is_by_time};
 ghost use Rattle.merge_words.specs.Sound.{IsSoundFile, IsSoundMerge};
-ghost use Rattle.merge_inputs.specs.Input.{IsInput, IsReadOf, input_of, read_in};
+ghost use Rattle.merge_inputs.specs.Input.{IsInput, IsReadOf, held_in, input_of, read_in};
 ghost use Rattle.mkv_merge.specs.Bound.{files_size};
 ghost use Rattle.mkv_merge.specs.Ends.{is_files_fault};
 ghost use Rattle.mkv_merge.specs.Prepared.{AreInputsOf, AreTold, IsPrepared, Prepares, ReadsAs, ReadsInPlace, reads_in};
@@ -16,7 +17,7 @@ ghost use Rattle.mkv_merge.specs.Read.{inputs_of, inputs_with, numbered};
 use crate::chapters::with_file;
 use crate::refusal::{MergeEnd, Refusal};
 use appended_inputs::set_in_place;
-use merge_inputs::{Input, InputEnd, read_input};
+use merge_inputs::{Blocks, Input, InputEnd, read_input};
 use merge_plan::{PlanEnd, append_refusal, plan_of};
 use merge_words::{FileWords, MergeWords};
 use mkv_io::Reads;
@@ -50,13 +51,23 @@ fn read_one<R: Reads>(
     ensures file { IfOk result (IsReadOf file words.now) }
     ensures standing { R.standing src.new ≡ R.standing src.old }
     ensures cause { HasCause is_files_fault (R.reading_faults src.old) (R.reading_faults src.new) result }
-    ensures octets { R.octets_read src.new ≤ R.octets_read src.old + 24 * file_size R.Reads src.old file }
+    ensures octets { R.octets_read src.new ≤ R.octets_read src.old + 25 * file_size R.Reads src.old file }
 {
     match read_input(alloc, words, webm, held, src, file) {
         Ok(read) => Ok(read),
         Err(InputEnd::Refused(why)) => Err(MergeEnd::Refused(Refusal::Input { input, why })),
         Err(InputEnd::ReadFault) => Err(MergeEnd::Stopped(ReadEnd::ReadFault)),
         Err(InputEnd::Memory) => Err(MergeEnd::Stopped(ReadEnd::Memory)),
+    }
+}
+
+/// How many octets of Info, Tracks, Chapters and Tags an input has, by what holds its blocks.
+fn held_by(blocks: &Blocks) -> u64
+    ensures { result ≡ held_in blocks.now }
+{
+    match blocks {
+        Blocks::Clusters { outline, .. } => outline.held(),
+        Blocks::Entries { .. } => 0,
     }
 }
 
@@ -75,14 +86,14 @@ fn read_inputs<R: Reads>(
     ensures inputs { IfOk result (AreInputsOf (live_files R.Reads src.new) files.now) }
     ensures standing { R.standing src.new ≡ R.standing src.old }
     ensures cause { HasCause is_files_fault (R.reading_faults src.old) (R.reading_faults src.new) result }
-    ensures octets { R.octets_read src.new ≤ R.octets_read src.old + 24 * files_size (live_files R.Reads src.old) files.now }
+    ensures octets { R.octets_read src.new ≤ R.octets_read src.old + 25 * files_size (live_files R.Reads src.old) files.now }
 {
     let mut inputs = List::new(alloc);
     let mut held: u64 = 0;
     for (input, file) in files.iter().enumerate() {
         let file_words = &words.files.as_slice()[input];
         let read = read_one(alloc, file_words, words.webm, input, held, src, *file)?;
-        held = held.saturating_add(read.outline.held());
+        held = held.saturating_add(held_by(&read.blocks));
         inputs.push(read)?;
     }
     Ok(inputs)
@@ -105,7 +116,7 @@ fn read_all<R: Reads>(
     ensures inputs { IfOk result (AreInputsOf (live_files R.Reads src.new) files.now) }
     ensures standing { R.standing src.new ≡ R.standing src.old }
     ensures cause { HasCause is_files_fault (R.reading_faults src.old) (R.reading_faults src.new) result }
-    ensures octets { R.octets_read src.new ≤ R.octets_read src.old + 24 * files_size (live_files R.Reads src.old) files.now }
+    ensures octets { R.octets_read src.new ≤ R.octets_read src.old + 25 * files_size (live_files R.Reads src.old) files.now }
 {
     let inputs = read_inputs(alloc, words, src, files)?;
     with_file(alloc, words.webm, chapters, inputs)
@@ -129,7 +140,7 @@ fn inputs_in_place<R: Reads>(
     ensures inputs { IfOk result (AreInputsOf (live_files R.Reads src.new) files.now) }
     ensures standing { R.standing src.new ≡ R.standing src.old }
     ensures cause { HasCause is_files_fault (R.reading_faults src.old) (R.reading_faults src.new) result }
-    ensures octets { R.octets_read src.new ≤ R.octets_read src.old + 30 * files_size (live_files R.Reads src.old) files.now }
+    ensures octets { R.octets_read src.new ≤ R.octets_read src.old + 31 * files_size (live_files R.Reads src.old) files.now }
 {
     let inputs = read_all(alloc, words, chapters, src, files)?;
     if let Some(differs) = append_refusal(inputs.as_slice()) {
@@ -150,11 +161,12 @@ pub fn prepare<R: Reads>(
     requires chapters { CanBeWritten chapters }
     requires live { AreLive (live_files R.Reads src.old).live files.now }
     requires each { length files.now ≡ length words.now.files }
+    requires split { is_by_time words.now.split ≡ true }
     ensures exact { (contents : List (List ℕ)) → AreTold (live_files R.Reads src.old) files.now contents → Prepares words.now chapters contents result }
     ensures prepared { IfOk result (IsPrepared (live_files R.Reads src.new) words.now files.now) }
     ensures standing { R.standing src.new ≡ R.standing src.old }
     ensures cause { HasCause is_files_fault (R.reading_faults src.old) (R.reading_faults src.new) result }
-    ensures octets { R.octets_read src.new ≤ R.octets_read src.old + 30 * files_size (live_files R.Reads src.old) files.now }
+    ensures octets { R.octets_read src.new ≤ R.octets_read src.old + 31 * files_size (live_files R.Reads src.old) files.now }
 {
     let inputs = inputs_in_place(alloc, words, chapters, src, files)?;
     match plan_of(alloc, words, inputs.as_slice()) {

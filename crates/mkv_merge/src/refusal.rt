@@ -6,15 +6,16 @@ ghost use Rattle.mkv_merge.specs.declared.refusal.MergeEnd.TheVariants as merge_
 
 use merge_inputs::InputRefusal;
 use merge_plan::{AppendDiffers, PlanRefusal};
-use mkv_values::ReadEnd;
+use mkv_values::{ReadEnd, Text};
 use std::alloc::AllocError;
 use text_files::TextRefusal;
 
 /// Why nothing is merged. Inputs count from 0, in the order of the words.
 #[derive(Debug, Drop)]
 pub enum Refusal {
-    /// The output has the name of an input, of the file beside an input in which an edit is kept, or of the chapter file.
-    OutputIsInput,
+    /// This is a name of an input, of the file beside an input in which an edit is kept, or of the chapter file, and an output
+    /// has it, or could have it as one of its parts.
+    OutputIsInput { name: Text },
     /// There is no file of this input's name.
     Missing { input: usize },
     /// There is no file of the chapter file's name.

@@ -32,11 +32,24 @@ fn name_of(words: &MergeWords, input: usize) -> &str
     }
 }
 
+fn text_line<'a>(name: &'a str, why: &TextRefusal) -> Line<'a>
+    ensures { text_of result ≡ text_line name.now why.now }
+{
+    match *why {
+        TextRefusal::TooLarge => Line::TextTooLarge { name },
+        TextRefusal::Bad { line } => Line::BadText { name, line },
+    }
+}
+
 fn input_line<'a>(name: &'a str, why: &InputRefusal) -> Line<'a>
     ensures { text_of result ≡ input_line name.now why.now }
 {
-    match *why {
-        InputRefusal::Damaged(damage) => Line::Refused { name, damage },
+    match why {
+        InputRefusal::Damaged(damage) => Line::Refused {
+            name,
+            damage: *damage,
+        },
+        InputRefusal::Text(why) => text_line(name, why),
     }
 }
 
@@ -63,22 +76,15 @@ fn chapters_name(words: &MergeWords) -> &str
     }
 }
 
-fn text_line<'a>(name: &'a str, why: &TextRefusal) -> Line<'a>
-    ensures { text_of result ≡ text_line name.now why.now }
-{
-    match *why {
-        TextRefusal::TooLarge => Line::TextTooLarge { name },
-        TextRefusal::Bad { line } => Line::BadText { name, line },
-    }
-}
-
 /// The line of a refusal.
 fn line_of<'a>(words: &'a MergeWords, why: &'a Refusal) -> Line<'a>
     ensures { text_of result ≡ line_of words.now why.now }
 {
     let output = words.output.as_str();
     match why {
-        Refusal::OutputIsInput => Line::OutputIsInput { name: output },
+        Refusal::OutputIsInput { name } => Line::OutputIsInput {
+            name: name.as_str(),
+        },
         Refusal::Missing { input } => Line::Missing {
             name: name_of(words, *input),
         },

@@ -1,10 +1,8 @@
 //! What was prepared is written, and told of.
 
-ghost use Rattle.std.specs.Prelude.{◌≡◌, ◌+◌, ◌*◌, ◌≤◌, false, ℕ, List, [], ◌∷◌, ◌++◌, length, map, IfOk};
+ghost use Rattle.std.specs.Prelude.{◌≡◌, ◌+◌, ◌*◌, ◌≤◌, ℕ, List, ◌++◌, length, map, IfOk};
 ghost use Rattle.std.specs.List.{zip};
 ghost use Rattle.mkv_io.specs.Sources.{live_files};
-ghost use Rattle.mkv_io.specs.Writing.{KeepsOthers};
-ghost use Rattle.merge_words.specs.Sound.{IsSoundMerge};
 ghost use Rattle.input_files.specs.Inputs.{AreInputs, file_names};
 ghost use Rattle.mkv_lines.specs.Faults.{HasStopCause};
 ghost use Rattle.mkv_lines.specs.Line.{wrote_blocks_line};
@@ -18,7 +16,7 @@ ghost use Rattle.mkv_merge.specs.Bound.{files_size};
 ghost use Rattle.mkv_merge.specs.Ends.{stop_of};
 ghost use Rattle.mkv_merge.specs.Merge.{merged_verdict, status_of};
 ghost use Rattle.mkv_merge.specs.Prepared.{AreTold, IsPrepared, reads_in};
-ghost use Rattle.mkv_merge.specs.Read.{writes_input};
+ghost use Rattle.mkv_merge.specs.Read.{IsApartMerge};
 ghost use Rattle.mkv_merge.specs.Told.{is_warned, warnings_from};
 
 use crate::preparing::Prepared;
@@ -86,16 +84,15 @@ pub fn write<F: Files, P: Report>(
     files: &mut F,
     report: &mut P,
 ) -> Result<Status, Stop>
-    requires sound { IsSoundMerge words.now }
+    requires words { IsApartMerge words.now }
     requires inputs { AreInputs F.Reads F.Files.own (file_names words.now.files) files.old ids.now }
-    requires apart { writes_input words.now ≡ false }
     requires prepared { IsPrepared (live_files F.Reads files.old) words.now ids.now prepared }
     ensures verdict { (contents : List (List ℕ)) → AreTold (live_files F.Reads files.old) ids.now contents → Reaches
         (seen F.Reads F.writing_faults F.names P.Report files.old report.old)
         (seen F.Reads F.writing_faults F.names P.Report files.new report.new)
         result (merged_verdict words.now (zip contents (reads_in prepared.inputs))) }
-    ensures kept { KeepsOthers F.Reads F.Files.own (words.now.output ∷ []) files.old files.new }
     ensures ordinary { IfOk result IsOrdinary }
+    ensures live { (file : ℕ) → (live_files F.Reads files.new).live file ≡ (live_files F.Reads files.old).live file }
     ensures cause { HasStopCause
         (seen F.Reads F.writing_faults F.names P.Report files.old report.old).counts
         (seen F.Reads F.writing_faults F.names P.Report files.new report.new).counts result }

@@ -1,10 +1,10 @@
-use Rattle.std.proofs.Common.{◌≡◌, false, List, Result, refl, sym, ◌∙◌, ap, subst}
+use Rattle.std.proofs.Common.{◌≡◌, List, None, Result, refl, sym, ◌∙◌, ap, subst}
 use Rattle.merge_plan.specs.Plan.{Source}
 use Rattle.mkv_lines.specs.Seen.{Seen, seen}
 use Rattle.mkv_lines.specs.Verdict.{Reaches, Verdict}
 use Rattle.mkv_lines.proofs.VerdictLemmas.{IsStopped-before}
 use Rattle.mkv_merge.specs.Merge.{merge_verdict, sources_beside, verdict_of}
-use Rattle.mkv_merge.specs.Read.{writes_input}
+use Rattle.mkv_merge.specs.Read.{first_written}
 use Rattle.mkv_merge.specs.Records.{EndsWithRecords}
 use Rattle.mkv_merge.specs.declared.refusal.Refusal.{Refusal}
 use Rattle.mkv_merge.proofs.MergingLemmas.{chaptered-sources, reads-chaptered}
@@ -17,7 +17,7 @@ returns-in-Ok-clause-verdict g c = λ world told.
     let old = c.args.files.now in
     let mid = c.read_chapter_file.new.files in
     let looks = c.read_chapter_file.ensures.looks in
-    let apart : writes_input words ≡ false = sym c.writes_input.ensures ∙ c.if-writes_input.false in
+    let apart : first_written words ≡ None = sym c.in-Ok-None.ensures ∙ c.in-Ok-None.field-0-is in
     let sources = chaptered-sources world words c.in-Ok.chapters apart (c.in-Ok.ensures.exact world told) in
     let reading : g.F.Reads.reading_faults mid ≡ g.F.Reads.reading_faults old = c.in-Ok.ensures.cause in
     let was = seen g.F.Reads g.F.Files.writing_faults g.F.Files.names g.P.Report old c.args.report.now in
@@ -36,8 +36,8 @@ pub returns-in-Ok-clause-live : goal.returns-in-Ok-clause-live
 returns-in-Ok-clause-live g c = λ file. c.merge_beside.ensures.live file ∙ c.read_chapter_file.ensures.looks.kept.live file
 
 -- the chapter file couldn't be looked into
-pub returns-in-Err-clause-verdict : goal.returns-in-Err-clause-verdict
-returns-in-Err-clause-verdict g c = λ world told.
+pub returns-in-Err-read_chapter_file-clause-verdict : goal.returns-in-Err-read_chapter_file-clause-verdict
+returns-in-Err-read_chapter_file-clause-verdict g c = λ world told.
     IsStopped-before (seen g.F.Reads g.F.Files.writing_faults g.F.Files.names g.P.Report c.args.files.now c.args.report.now)
     (seen g.F.Reads g.F.Files.writing_faults g.F.Files.names g.P.Report c.read_chapter_file.new.files c.args.report.now)
     (merge_verdict world c.args.words.now) refl c.read_chapter_file.ensures.looks.names
@@ -47,7 +47,7 @@ returns-in-Err-clause-verdict g c = λ world told.
 pub returns-in-Ok-clause-octets : goal.returns-in-Ok-clause-octets
 returns-in-Ok-clause-octets g c = λ world told.
     let words = c.args.words.now in
-    let apart : writes_input words ≡ false = sym c.writes_input.ensures ∙ c.if-writes_input.false in
+    let apart : first_written words ≡ None = sym c.in-Ok-None.ensures ∙ c.in-Ok-None.field-0-is in
     reads-chaptered world words (sources_beside world words c.in-Ok.chapters) (g.F.Reads.octets_read c.args.files.now) (g.F.Reads.octets_read c.read_chapter_file.new.files) (g.F.Reads.octets_read c.merge_beside.new.files)
     (chaptered-sources world words c.in-Ok.chapters apart (c.in-Ok.ensures.exact world told))
     (c.read_chapter_file.ensures.octets world told) (c.merge_beside.ensures.octets world (c.read_chapter_file.ensures.looks.names ∙ told))
@@ -57,7 +57,7 @@ returns-in-Ok-clause-octets g c = λ world told.
 pub returns-in-Ok-clause-records : goal.returns-in-Ok-clause-records
 returns-in-Ok-clause-records g c = λ world told.
     let words = c.args.words.now in
-    let apart : writes_input words ≡ false = sym c.writes_input.ensures ∙ c.if-writes_input.false in
+    let apart : first_written words ≡ None = sym c.in-Ok-None.ensures ∙ c.in-Ok-None.field-0-is in
     subst (λ (found : Result (List Source) Refusal). EndsWithRecords found c.merge_beside.result)
     (sym (chaptered-sources world words c.in-Ok.chapters apart (c.in-Ok.ensures.exact world told)))
     (c.merge_beside.ensures.records world (c.read_chapter_file.ensures.looks.names ∙ told))

@@ -1,10 +1,11 @@
-use Rattle.std.proofs.Common.{◌≡◌, length, sym, ap, subst}
+use Rattle.std.proofs.Common.{◌≡◌, length, refl, sym, ap, subst}
 use Rattle.std.specs.List.{zip}
 use Rattle.mkv_io.specs.LiveFiles.{LiveFiles}
 use Rattle.mkv_io.specs.Sources.{live_files}
 use Rattle.remuxer.specs.Plan.{data_length}
 use Rattle.mkv_lines.specs.Seen.{Seen, seen}
 use Rattle.mkv_lines.specs.Verdict.{Reaches, Verdict}
+use Rattle.mkv_lines.proofs.VerdictLemmas.{IsStopped-before}
 use Rattle.mkv_merge.specs.Merge.{sources_with, verdict_of}
 use Rattle.mkv_merge.specs.Bound.{files_size}
 use Rattle.mkv_merge.specs.Prepared.{AreTold, reads_in}
@@ -34,6 +35,16 @@ returns-in-Ok-clause-verdict g c = λ contents told.
     (subst (λ (v : Verdict). Reaches read now c.write.result v) (ap (verdict_of c.args.words.now) (sym (c.in-Ok.ensures.exact contents told)))
     (c.write.ensures.verdict contents (subst (λ (f : LiveFiles). AreTold f c.args.ids.now contents) (sym same) told)))
 
+-- an input couldn't be read
+pub returns-in-Err-Stopped-clause-verdict : goal.returns-in-Err-Stopped-clause-verdict
+returns-in-Err-Stopped-clause-verdict g c = λ contents told.
+    let words = c.args.words.now in
+    let old = c.args.files.now in
+    let mid = c.prepare.new.src in
+    IsStopped-before (seen g.F.Reads g.F.Files.writing_faults g.F.Files.names g.P.Report old c.args.report.now)
+    (seen g.F.Reads g.F.Files.writing_faults g.F.Files.names g.P.Report mid c.args.report.now)
+    (verdict_of words (sources_with words c.args.chapters contents)) refl (g.met.F.Files.names_stand mid old c.in-Err-Stopped.ensures.standing)
+
 -- ---- how much is read
 
 pub returns-in-Ok-clause-octets : goal.returns-in-Ok-clause-octets
@@ -47,7 +58,7 @@ returns-in-Ok-clause-octets g c = λ contents told.
     let same : now ≡ live_files g.F.Reads old = ap g.F.Reads.files c.in-Ok.ensures.standing in
     let sources = zip contents (reads_in p.inputs) in
     let many = many-inputs g.F.Reads g.F.Files old words ids p.inputs c.requires.inputs c.in-Ok.ensures.prepared.inputs.of in
-    let is = merge-is now words ids contents p c.in-Ok.ensures.prepared (subst (λ (f : LiveFiles). AreTold f ids contents) (sym same) told) many in
+    let is = merge-is now words ids contents p c.requires.words.split c.in-Ok.ensures.prepared (subst (λ (f : LiveFiles). AreTold f ids contents) (sym same) told) many in
     reads-both (sources_with words c.args.chapters contents) sources (length p.plan.lanes) (g.F.Reads.octets_read old) (g.F.Reads.octets_read mid) (g.F.Reads.octets_read c.write.new.files) (files_size (live_files g.F.Reads old) ids) (files_size now ids) (data_length p.plan)
     (c.in-Ok.ensures.exact contents told) (lanes-count now words p.inputs p.plan sources is) (ap (λ (f : LiveFiles). files_size f ids) same) (data-counted now words p.inputs p.plan sources is) c.prepare.ensures.octets c.write.ensures.octets
 
@@ -63,7 +74,7 @@ returns-in-Ok-clause-records g c = λ contents told.
     let same : now ≡ live_files g.F.Reads old = ap g.F.Reads.files c.in-Ok.ensures.standing in
     let sources = zip contents (reads_in p.inputs) in
     let many = many-inputs g.F.Reads g.F.Files old words ids p.inputs c.requires.inputs c.in-Ok.ensures.prepared.inputs.of in
-    let is = merge-is now words ids contents p c.in-Ok.ensures.prepared (subst (λ (f : LiveFiles). AreTold f ids contents) (sym same) told) many in
+    let is = merge-is now words ids contents p c.requires.words.split c.in-Ok.ensures.prepared (subst (λ (f : LiveFiles). AreTold f ids contents) (sym same) told) many in
     records-found (sources_with words c.args.chapters contents) sources c.write.result (c.in-Ok.ensures.exact contents told)
     (records-are now words p.inputs p.plan sources is c.in-Ok.ensures.prepared.written)
 

@@ -1,6 +1,5 @@
-use Rattle.std.proofs.Common.{◌≡◌, List, [], ◌∷◌, Option, Some, None, Result, refl, sym, ◌∙◌, ap, subst}
+use Rattle.std.proofs.Common.{◌≡◌, List, [], Option, Some, None, Result, refl, sym, ◌∙◌, ap, subst}
 use Rattle.mkv_io.specs.Sources.{live_files}
-use Rattle.mkv_io.proofs.WritingLemmas.{KeepsOthers-more, KeepsOthers-then}
 use Rattle.merge_plan.specs.Plan.{Source}
 use Rattle.input_files.specs.Inputs.{file_names}
 use Rattle.input_files.proofs.InputsLemmas.{stand-over}
@@ -50,12 +49,6 @@ returns-in-Ok-None-clause-verdict g c = λ world told contents held.
     (subst (λ (v : Verdict). Reaches read now c.merge_opened.result v) (ap (verdict_of words) (sym settled))
     (c.merge_opened.ensures.verdict contents mid-told))
 
-pub returns-in-Ok-None-clause-kept : goal.returns-in-Ok-None-clause-kept
-returns-in-Ok-None-clause-kept g c =
-    KeepsOthers-then g.F.Reads g.F.Files (c.args.words.now.output ∷ []) c.args.files.now c.begun_refusal.new.files c.merge_opened.new.files
-    (KeepsOthers-more g.F.Reads g.F.Files [] (c.args.words.now.output ∷ []) c.args.files.now c.begun_refusal.new.files (λ name other. tt) c.begun_refusal.ensures.looks.kept)
-    c.merge_opened.ensures.kept
-
 -- one is, or there is no chapter file: the merge is refused
 pub returns-in-Ok-Some-clause-verdict : goal.returns-in-Ok-Some-clause-verdict
 returns-in-Ok-Some-clause-verdict g c = λ world told contents held.
@@ -70,20 +63,12 @@ returns-in-Ok-Some-clause-verdict g c = λ world told contents held.
     subst (λ (v : Verdict). Reaches was now c.refuse.result v) (sym verdict)
     (Reaches-lines was now c.refuse.result (refused (line_of words why)) c.refuse.ensures.verdict refl c.begun_refusal.ensures.looks.names)
 
-pub returns-in-Ok-Some-clause-kept : goal.returns-in-Ok-Some-clause-kept
-returns-in-Ok-Some-clause-kept g c =
-    KeepsOthers-more g.F.Reads g.F.Files [] (c.args.words.now.output ∷ []) c.args.files.now c.begun_refusal.new.files (λ name other. tt) c.begun_refusal.ensures.looks.kept
-
 -- a sidecar couldn't be looked into
 pub returns-in-Err-clause-verdict : goal.returns-in-Err-clause-verdict
 returns-in-Err-clause-verdict g c = λ world told contents held.
     IsStopped-before (seen g.F.Reads g.F.Files.writing_faults g.F.Files.names g.P.Report c.args.files.now c.args.report.now)
     (seen g.F.Reads g.F.Files.writing_faults g.F.Files.names g.P.Report c.begun_refusal.new.files c.args.report.now)
     (verdict_of c.args.words.now (sources_settled world c.args.words.now c.args.chapters contents)) refl c.begun_refusal.ensures.looks.names
-
-pub returns-in-Err-clause-kept : goal.returns-in-Err-clause-kept
-returns-in-Err-clause-kept g c =
-    KeepsOthers-more g.F.Reads g.F.Files [] (c.args.words.now.output ∷ []) c.args.files.now c.begun_refusal.new.files (λ name other. tt) c.begun_refusal.ensures.looks.kept
 
 -- ---- how much is read
 

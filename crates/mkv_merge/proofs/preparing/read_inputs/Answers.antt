@@ -71,7 +71,7 @@ loop-input-preserved g c = record {
       subst (GoesOn c.args.words.now contents (c.loop-input.input + 1) c.saturating_add-held.result)
       (sym (ap reads_in c.in_ok-push.ensures.ok ∙ map-append read_in c.loop-input.inputs (read ∷ [])))
       (subst (λ (held : ℕ). GoesOn c.args.words.now contents (c.loop-input.input + 1) held (reads_in c.loop-input.inputs ++ read_in read ∷ []))
-      (sym (c.saturating_add-held.ensures ∙ ap (counted c.loop-input.held) (c.held.ensures ∙ ap (λ o. o.held) c.deref.ensures)))
+      (sym (c.saturating_add-held.ensures ∙ ap (counted c.loop-input.held) c.held_by.ensures))
       (read-at (live_files g.R.Reads c.args.src.now) c.args.words.now c.args.files.now contents c.loop-input.input c.loop-input.held (reads_in c.loop-input.inputs) w (record { n = 0 }) (read_in read)
       c.requires.each c.loop-input-test.true
       (c.index-as_slice-input.is ∙ ap (λ (files : List FileWords). get_or files c.loop-input.input w) c.as_slice.ensures) told

@@ -18,5 +18,5 @@ invariant-loop-input g l = record {
   goes_on : (contents : List (List ℕ)) → AreTold (live_files g.R.Reads l.initial.src) l.files contents → GoesOn l.words contents l.input l.held (reads_in l.inputs);
   standing : g.R.Reads.standing l.src ≡ g.R.Reads.standing l.initial.src;
   faults : g.R.Reads.reading_faults l.src ≡ g.R.Reads.reading_faults l.initial.src;
-  octets : g.R.Reads.octets_read l.src ≤ g.R.Reads.octets_read l.initial.src + 24 * files_size (live_files g.R.Reads l.initial.src) (take l.input l.files);
+  octets : g.R.Reads.octets_read l.src ≤ g.R.Reads.octets_read l.initial.src + 25 * files_size (live_files g.R.Reads l.initial.src) (take l.input l.files);
 }

@@ -8,7 +8,8 @@ use Rattle.mkv_lines.specs.Said.{SaysPart}
 use Rattle.mkv_lines.specs.Seen.{seen}
 use Rattle.mkv_merge.specs.Merge.{has_absent, lines_before}
 use Rattle.mkv_merge.specs.Prepared.{reads_in}
-use Rattle.mkv_merge.proofs.WritingLemmas.{many-inputs, merge-begun, merge-is, merge-left, merge-told, plan-good, plan-reads, plan-told}
+use Rattle.mkv_merge.proofs.VerdictLemmas.{merge-begun, merge-left, merge-told}
+use Rattle.mkv_merge.proofs.WritingLemmas.{many-inputs, merge-is, plan-good, plan-reads, plan-told}
 use Rattle.mkv_merge.proofs.writing.write.Goals as goal
 
 -- a warning of a track that isn't there couldn't be said
@@ -24,12 +25,12 @@ returns-in_err-say_absent-clause-verdict g c = λ contents told.
     let many = many-inputs g.F.Reads g.F.Files old words c.args.ids.now prepared.inputs c.requires.inputs c.requires.prepared.inputs.of in
     let part = subst (λ (inputs : List Input). SaysPart (g.P.Report.lines c.args.report.now) (g.P.Report.lines c.say_absent.new.report) (lines_before words (reads_in inputs))) c.as_slice.ensures c.in_err-say_absent.ensures.said in
     rw p.1
-    (merge-begun was now p.0 f words prepared.inputs prepared.plan (zip contents (reads_in prepared.inputs)) (merge-is f words c.args.ids.now contents prepared c.requires.prepared told many) part refl)
+    (merge-begun was now p.0 f words prepared.inputs prepared.plan (zip contents (reads_in prepared.inputs)) (merge-is f words c.args.ids.now contents prepared c.requires.words.split c.requires.prepared told many) part refl)
 
 pub remux-requires : goal.remux-requires
-remux-requires g c = plan-good g.F.Reads g.F.Files c.args.files.now c.args.words.now c.args.ids.now c.args.prepared c.requires.sound c.requires.inputs c.requires.apart c.requires.prepared
+remux-requires g c = plan-good g.F.Reads g.F.Files c.args.files.now c.args.words.now c.args.ids.now c.args.prepared c.requires.words c.requires.inputs c.requires.prepared
 
--- the output couldn't be written
+-- an output couldn't be written
 pub returns-in-Err-clause-verdict : goal.returns-in-Err-clause-verdict
 returns-in-Err-clause-verdict g c = λ contents told.
     let words = c.args.words.now in
@@ -40,10 +41,10 @@ returns-in-Err-clause-verdict g c = λ contents told.
     let now = seen g.F.Reads g.F.Files.writing_faults g.F.Files.names g.P.Report c.remux.new.files c.say_absent.new.report in
     let many = many-inputs g.F.Reads g.F.Files old words c.args.ids.now prepared.inputs c.requires.inputs c.requires.prepared.inputs.of in
     let said = c.in_ok-say_absent.ensures.said ∙ ap (λ (inputs : List Input). with_lines (g.P.Report.lines c.args.report.now) (lines_before words (reads_in inputs))) c.as_slice.ensures in
-    merge-left was now c.stop_of.result f words prepared.inputs prepared.plan (zip contents (reads_in prepared.inputs)) (merge-is f words c.args.ids.now contents prepared c.requires.prepared told many) said
+    merge-left was now c.stop_of.result f words prepared.inputs prepared.plan (zip contents (reads_in prepared.inputs)) (merge-is f words c.args.ids.now contents prepared c.requires.words.split c.requires.prepared told many) said
     (c.in-Err.ensures.output (plan-told f words c.args.ids.now contents prepared c.requires.prepared told))
 
--- the output stands, and the rest is told
+-- the outputs stand, and the rest is told
 pub returns-clause-verdict : goal.returns-clause-verdict
 returns-clause-verdict g c = λ contents told.
     let words = c.args.words.now in
@@ -57,7 +58,7 @@ returns-clause-verdict g c = λ contents told.
     let missing = c.has_absent-absent.ensures ∙ ap (λ (inputs : List Input). has_absent words (reads_in inputs)) c.as_slice-2.ensures in
     let planned = plan-told f words c.args.ids.now contents prepared c.requires.prepared told in
     merge-told was now (g.P.Report.lines c.say_absent.new.report) c.tell.result f words prepared.inputs prepared.plan (zip contents (reads_in prepared.inputs)) c.in-Ok.summary c.has_absent-absent.result
-    (merge-is f words c.args.ids.now contents prepared c.requires.prepared told many)
+    (merge-is f words c.args.ids.now contents prepared c.requires.words.split c.requires.prepared told many)
     (c.in-Ok.ensures.summary planned) missing said c.tell.ensures.said c.tell.ensures.status (c.in-Ok.ensures.output planned)
 
 -- ---- how much is read
