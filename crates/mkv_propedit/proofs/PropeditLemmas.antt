@@ -1,5 +1,5 @@
 -- What edits leave, and how they are told.
-use Rattle.std.proofs.Common.{◌≡◌, ◌∙◌, inl, inr, ⊎_elim, ℕ, IsTrue, Bool, true, false, not, ◌||◌, nat_le, nat_lt, if◌then◌else◌, List, [], ◌∷◌, length, slice_index, Option, Some, None, option_map, Result, Ok, Err, refl, ap, sym, subst, arith, eq-eqb}
+use Rattle.std.proofs.Common.{◌≡◌, ◌∙◌, inl, inr, ⊎_elim, ℕ, ◌+◌, ◌≤◌, IsTrue, Bool, true, false, not, ◌||◌, nat_le, nat_lt, if◌then◌else◌, List, [], ◌∷◌, length, slice_index, Option, Some, None, option_map, Result, Ok, Err, refl, ap, sym, subst, arith, eq-eqb}
 use Rattle.std.specs.Prelude.{◌==◌, OnOk}
 use Rattle.std.proofs.lemmas.List.{get_or-take}
 use Rattle.std.proofs.lemmas.Bool.Decides.{nat_tests}
@@ -14,12 +14,13 @@ use Rattle.mkv_disk.proofs.MomentsLemmas.{joined, same, stays, weaker}
 use Rattle.mkv_disk.proofs.WritingLemmas.{IsLeft}
 use Rattle.mkv_jobs.specs.declared.edit.Edit.{Edit}
 use Rattle.mkv_lines.specs.Code.{status_of}
-use Rattle.mkv_lines.specs.Said.{ReportLines}
+use Rattle.mkv_lines.specs.Said.{HasSayCause, ReportLines, SaysPart}
 use Rattle.mkv_lines.specs.Verdict.{SaysVerdict, Verdict, done, nothing, refused}
 use Rattle.mkv_lines.specs.declared.status.Status.{Status}
 use Rattle.mkv_lines.specs.declared.status.Status.TheVariants as status
 use Rattle.mkv_lines.specs.declared.status.Stop.{Stop}
 use Rattle.mkv_lines.specs.declared.status.Stop.TheVariants as stop
+use Rattle.mkv_lines.proofs.SaidLemmas.{SaysPart-none}
 use Rattle.mkv_recover.specs.Recover.{DiskWorld, disk_world}
 use Rattle.mkv_recover.specs.Recovery.{HasDiskStop}
 use Rattle.mkv_recover.proofs.RecoverLemmas.{said-stop}
@@ -37,8 +38,8 @@ use Rattle.edit_format.specs.Change.{and_then}
 use Rattle.edit_format.specs.Plan.{edited, plan_of, recorded as record_for}
 use Rattle.edit_plan.specs.Record.{record_of}
 use Rattle.edit_plan.proofs.RecordLemmas.{writes_of-recorded}
-use Rattle.mkv_propedit.specs.Left.{HasMadeCause, IsEdit, IsPropediting, IsUnderway, LeavesEdited, LeavesPlanned}
-use Rattle.mkv_propedit.specs.Propedit.{propedit_on, propedit_verdict, told, unless_begun}
+use Rattle.mkv_propedit.specs.Left.{HasMadeCause, IsEdit, IsPropediting, IsUnderway, LeavesEdited, LeavesPlanned, StaysOpen}
+use Rattle.mkv_propedit.specs.Propedit.{SaysLast, propedit_on, propedit_verdict, told, unless_begun}
 
 -- ---- a quiet sidecar
 
@@ -130,6 +131,10 @@ module _ {D : Type 0} (r : reads.Ghosts D) (d : Ghosts D) where
   pub reads-moment : (old new : D) → IsLeft r d old new → ((m s : List ℕ) → d.left_since old (d.moment old) m s → IsPairImage (d.pair old) m s) → LeavesOnly d.moment d.left_since old new (IsPairImage (d.pair old))
   reads-moment old new left only = same d.moment d.left_since old new (IsPairImage (d.pair old)) left.moment left.back left.forth only
 
+  -- what is read in front of a call that leaves the pair open
+  pub stays-then : (old mid new : D) (n more : ℕ) → IsLeft r d old mid → r.octets_read mid ≤ r.octets_read old + n → StaysOpen r d mid new more → StaysOpen r d old new (n + more)
+  stays-then old mid new n more left read later = record { opened = later.opened ∙ left.opened; octets = omega arith }
+
 module _ {D : Type 0} (d : Ghosts D) (edits : List Edit) where
   abbrev pub Edits : D → D → Type 0
   Edits old new = LeavesOnly d.moment d.left_since old new (IsPropediting edits (d.pair old).media.reads (d.pair old).sidecar.reads)
@@ -171,9 +176,26 @@ module _ {D : Type 0} (d : Ghosts D) (edits : List Edit) where
 
 -- ---- what was carried out is told
 
+module _ (old new : ReportLines) where
+  -- what only says lines isn't stopped by the disk
+  pub says-last : (before now : ℕ) (result : Result Status Stop) (v : Verdict) → SaysVerdict old new result v → HasSayCause before now result → SaysLast old new result v
+  says-last before now (Ok s) v says cause = says
+  says-last before now (Err stop.Memory) v says cause = says
+  says-last before now (Err stop.Files) v says cause = says
+  says-last before now (Err stop.Disk) v says cause = absurd cause
+  says-last before now (Err stop.Report) v says cause = says
+
+  -- none is a first part of them
+  pub last-says : (result : Result Status Stop) (v : Verdict) → SaysLast old new result v → SaysVerdict old new result v
+  last-says (Ok s) v says = says
+  last-says (Err stop.Memory) v says = says
+  last-says (Err stop.Files) v says = says
+  last-says (Err stop.Disk) v same = subst (λ (lines : ReportLines). SaysPart old lines v.lines) (sym same) (SaysPart-none old v.lines)
+  last-says (Err stop.Report) v says = says
+
 module _ {A E : Type 0} (before now : ℕ) where
   pub made-left : (p : Planned) (M S : List ℕ) (q : Pair) (line : List ℕ) (old new : ReportLines) (made : Result A E) (result : Result Status Stop) → OnOk made (q ≡ both (applied M (writes_of p)) (0 ∷ []))
-      → HasMadeCause made before now result → SaysVerdict old new result (done (line ∷ [])) → LeavesPlanned (status_of result) p M S q
+      → HasMadeCause made before now result → SaysLast old new result (done (line ∷ [])) → LeavesPlanned (status_of result) p M S q
   made-left p M S q line old new (Ok u) (Ok s) is cause says = subst (λ (t : Status). LeavesPlanned t p M S q) (sym says.0) is
   made-left p M S q line old new (Ok u) (Err stop.Memory) is cause says = absurd (cause.1 refl)
   made-left p M S q line old new (Ok u) (Err stop.Files) is cause says = tt

@@ -1,5 +1,5 @@
 -- What `propedit` leaves of the disk.
-use Rattle.std.specs.Prelude.{◌≡◌, ◌≢◌, ◌⊎◌, ◌≤◌, ℕ, List, [], ◌∷◌, length, Some, Result, Ok, Err}
+use Rattle.std.specs.Prelude.{◌≡◌, ◌≢◌, ◌⊎◌, ◌≤◌, ◌+◌, ℕ, List, [], ◌∷◌, length, Some, Result, Ok, Err}
 use Rattle.mkv_io.specs.declared.reads.Reads as reads
 use Rattle.mkv_disk.specs.Calls.{AnyMoment, OfReads}
 use Rattle.mkv_disk.specs.Pair.{Pair, both}
@@ -64,6 +64,11 @@ pub record IsEdit {D : Type 0} (d : Ghosts D) (edits : List Edit) (old new : D) 
 pub record IsEditOf {D : Type 0} (r : reads.Ghosts D) (d : Ghosts D) (name : List ℕ) (edits : List Edit) (old new : D) (s : Status) : Type 0 where
   pub leaves : IsEdit d edits old new s
   pub opened : (d.opened new ≡ Some name) ⊎ IsUnopened r d name old new s
+
+-- The pair stays open under its name, and at most so many octets are read.
+pub record StaysOpen {D : Type 0} (r : reads.Ghosts D) (d : Ghosts D) (old new : D) (most : ℕ) : Type 0 where
+  pub opened : d.opened new ≡ d.opened old
+  pub octets : r.octets_read new ≤ r.octets_read old + most
 
 -- ---- a plan that is carried out
 

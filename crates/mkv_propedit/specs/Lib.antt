@@ -1,2 +1,3 @@
-pub mod Propedit
+pub mod Bound
 pub mod Left
+pub mod Propedit

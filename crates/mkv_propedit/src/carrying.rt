@@ -1,6 +1,6 @@
 //! Edits that are planned are carried out.
 
-ghost use Rattle.std.specs.Prelude.{◌≡◌, ◌≤◌, true, [], ◌∷◌, length, IfOk};
+ghost use Rattle.std.specs.Prelude.{◌≤◌, true, [], ◌∷◌, length, IfOk};
 ghost use Rattle.mkv_io.specs.Faults.{HasCause};
 ghost use Rattle.mkv_disk.specs.Pair.{both};
 ghost use Rattle.mkv_disk.specs.Calls.{AnyMoment, IsReady, Makes, OfReads};
@@ -8,12 +8,13 @@ ghost use Rattle.mkv_disk.specs.Writing.{OnlyWrites};
 ghost use Rattle.mkv_lines.specs.Code.{status_of};
 ghost use Rattle.mkv_lines.specs.Line.{edited_line};
 ghost use Rattle.mkv_lines.specs.Ordinary.{IsOrdinary};
-ghost use Rattle.mkv_lines.specs.Verdict.{SaysVerdict, done};
+ghost use Rattle.mkv_lines.specs.Verdict.{done};
 ghost use Rattle.mkv_recover.specs.Recovery.{HasDiskStop};
 ghost use Rattle.sidecar_format.specs.Fields.{writes_of};
 ghost use Rattle.sidecar_format.specs.Writes.{applied};
 ghost use Rattle.sidecar_edit.specs.Leaves.{IsEditing};
 ghost use Rattle.mkv_propedit.specs.Left.{IsPlannedFor, LeavesPlanned};
+ghost use Rattle.mkv_propedit.specs.Propedit.{SaysLast};
 
 use crate::telling::{edited_text, tell};
 use mkv_disk::Disk;
@@ -34,11 +35,11 @@ pub fn edit_planned<D: Disk, R: Report>(
     requires ready { IsReady D.Reads D.Disk.own disk.old }
     requires some { 1 ≤ length plan.now.head.places }
     requires planned { OfReads D.Disk.own disk.old (IsPlannedFor plan.now) }
-    ensures verdict { SaysVerdict (R.lines report.old) (R.lines report.new) result (done (edited_line name.now ∷ [])) }
+    ensures verdict { SaysLast (R.lines report.old) (R.lines report.new) result (done (edited_line name.now ∷ [])) }
     ensures ordinary { IfOk result IsOrdinary }
     ensures pair { OfReads D.Disk.own disk.old (λ M S. LeavesPlanned (status_of result) plan.now M S (D.pair disk.new)) }
     ensures any_moment { AnyMoment D.Disk.own disk.old disk.new (λ M S m s. IsEditing plan.now M m s) }
-    ensures opened { D.opened disk.new ≡ D.opened disk.old }
+    ensures only { OnlyWrites D.Reads D.Disk.own disk.old disk.new }
     ensures cause { HasDiskStop D.Reads D.Disk.own disk.old disk.new (R.faults report.old) (R.faults report.new) result }
 {
     let Ok(edited) = edited_text(alloc, name) else {

@@ -1,18 +1,23 @@
-use Rattle.std.proofs.Common.{◌≡◌, ◌∙◌, IsTrue, refl, inl, sym, subst}
+use Rattle.std.proofs.Common.{◌≡◌, ◌∙◌, ◌+◌, ◌≤◌, IsTrue, refl, inl, sym, subst, arith}
+use Rattle.mkv_io.specs.Sources.{file_size}
+use Rattle.mkv_disk.specs.declared.disk.TheConstants.{MEDIA}
 use Rattle.mkv_disk.specs.Moments.{LeavesOnly}
 use Rattle.mkv_disk.specs.Pair.{IsPairImage, Pair}
 use Rattle.mkv_disk.proofs.WritingLemmas.{IsLeft, left-ready}
 use Rattle.mkv_lines.specs.Code.{status_of}
 use Rattle.mkv_lines.specs.Line.{bad_sidecar_line, pending_edit_line}
-use Rattle.mkv_lines.specs.Verdict.{SaysVerdict}
+use Rattle.mkv_lines.specs.Verdict.{refused}
 use Rattle.mkv_lines.specs.declared.status.Status.TheVariants as status
 use Rattle.mkv_recover.proofs.RecoverLemmas.{said-stop, stop-then}
 use Rattle.sidecar_format.specs.declared.gate.Gate.{Gate}
 use Rattle.sidecar_format.specs.declared.gate.Gate.TheVariants.{Quiet}
+use Rattle.sidecar_format.specs.declared.place.TheConstants.{HEAD}
 use Rattle.sidecar_format.specs.Gate.{state}
 use Rattle.edit_format.specs.Plan.{edited}
-use Rattle.mkv_propedit.specs.Propedit.{told, unless_begun}
-use Rattle.mkv_propedit.proofs.PropeditLemmas.{edit-none, edit-then, reads-moment, refused-left}
+use Rattle.mkv_propedit.specs.Bound.{most_to_edit, most_to_plan}
+use Rattle.mkv_propedit.specs.Left.{StaysOpen}
+use Rattle.mkv_propedit.specs.Propedit.{SaysLast, told, unless_begun}
+use Rattle.mkv_propedit.proofs.PropeditLemmas.{edit-none, edit-then, reads-moment, refused-left, says-last, stays-then}
 use Rattle.mkv_propedit.proofs.editing.edit_open.Given.{Over}
 use Rattle.mkv_propedit.proofs.editing.edit_open.Goals as goal
 
@@ -31,6 +36,10 @@ stands g old new same = record {
 -- and a crash behind it leaves what is read
 reads : (g : Over) (old new : g.row.D.Denot) → g.D.Reads.standing new ≡ g.D.Reads.standing old → IsTrue g.D.Disk.told → LeavesOnly g.D.Disk.moment g.D.Disk.left_since old new (IsPairImage (g.D.Disk.pair old))
 reads g old new same told = reads-moment g.D.Reads g.D.Disk old new (stands g old new same) (λ m s left. g.met.D.Disk.only_now old m s told left)
+
+-- no more than the sidecar's first octets was read
+looked : (g : Over) (old new : g.row.D.Denot) → g.D.Reads.standing new ≡ g.D.Reads.standing old → g.D.Reads.octets_read new ≤ g.D.Reads.octets_read old + HEAD → StaysOpen g.D.Reads g.D.Disk old new (most_to_edit (file_size g.D.Reads old MEDIA))
+looked g old new same read = record { opened = (stands g old new same).opened; octets = omega arith }
 
 -- ---- no edit is pending
 
@@ -51,16 +60,19 @@ returns-in-Ok-Quiet-clause-verdict g c = λ tells.
     let name = c.args.name.now in let edits = c.args.edits.now in
     let was = g.R.Report.lines c.args.report.now in let now = g.R.Report.lines c.edit_quiet.new.report in
     let is = c.in-Ok-Quiet.ensures.ok (g.D.Disk.pair a).sidecar.reads (g.met.D.Disk.contents a tells).1 in
-    let says = subst (λ (p : Pair). SaysVerdict was now c.edit_quiet.result (told name (edited p.media.reads edits))) left.pair (c.edit_quiet.ensures.verdict tells) in
-    subst (λ (gate : Gate). SaysVerdict was now c.edit_quiet.result (unless_begun name gate (told name (edited (g.D.Disk.pair a).media.reads edits)))) (sym c.in-Ok-Quiet.field-0-is ∙ is) says
+    let says = subst (λ (p : Pair). SaysLast was now c.edit_quiet.result (told name (edited p.media.reads edits))) left.pair (c.edit_quiet.ensures.verdict tells) in
+    subst (λ (gate : Gate). SaysLast was now c.edit_quiet.result (unless_begun name gate (told name (edited (g.D.Disk.pair a).media.reads edits)))) (sym c.in-Ok-Quiet.field-0-is ∙ is) says
 
 pub returns-in-Ok-Quiet-clause-edit : goal.returns-in-Ok-Quiet-clause-edit
 returns-in-Ok-Quiet-clause-edit g c =
     let a = c.args.disk.now in let b = c.state.new.src in let same = c.state.ensures.only.standing in
     edit-then g.D.Disk c.args.edits.now a b c.edit_quiet.new.disk (status_of c.edit_quiet.result) c.requires.at_rest (λ tells. (stands g a b same).pair) (reads g a b same) c.edit_quiet.ensures.edit
 
-pub returns-in-Ok-Quiet-clause-opened : goal.returns-in-Ok-Quiet-clause-opened
-returns-in-Ok-Quiet-clause-opened g c = c.edit_quiet.ensures.opened ∙ (stands g c.args.disk.now c.state.new.src c.state.ensures.only.standing).opened
+pub returns-in-Ok-Quiet-clause-stays : goal.returns-in-Ok-Quiet-clause-stays
+returns-in-Ok-Quiet-clause-stays g c =
+    let a = c.args.disk.now in let b = c.state.new.src in let new = c.edit_quiet.new.disk in let same = c.state.ensures.only.standing in
+    let later = subst (λ s. StaysOpen g.D.Reads g.D.Disk b new (most_to_plan ((g.D.Reads.files s).size 0))) same c.edit_quiet.ensures.stays in
+    stays-then g.D.Reads g.D.Disk a b new HEAD _ (stands g a b same) c.state.ensures.octets later
 
 pub returns-in-Ok-Quiet-clause-cause : goal.returns-in-Ok-Quiet-clause-cause
 returns-in-Ok-Quiet-clause-cause g c =
@@ -75,7 +87,8 @@ returns-in-Ok-Live-clause-verdict g c = λ tells.
     let a = c.args.disk.now in let name = c.args.name.now in
     let was = g.R.Report.lines c.args.report.now in let now = g.R.Report.lines c.refuse.new.report in
     let is = c.in-Ok-Live.ensures.ok (g.D.Disk.pair a).sidecar.reads (g.met.D.Disk.contents a tells).1 in
-    subst (λ (gate : Gate). SaysVerdict was now c.refuse.result (unless_begun name gate (told name (edited (g.D.Disk.pair a).media.reads c.args.edits.now)))) (sym c.in-Ok-Live.field-0-is ∙ is) c.refuse.ensures.verdict
+    subst (λ (gate : Gate). SaysLast was now c.refuse.result (unless_begun name gate (told name (edited (g.D.Disk.pair a).media.reads c.args.edits.now)))) (sym c.in-Ok-Live.field-0-is ∙ is)
+    (says-last was now (g.R.Report.faults c.args.report.now) (g.R.Report.faults c.refuse.new.report) c.refuse.result (refused (pending_edit_line name)) c.refuse.ensures.verdict c.refuse.ensures.cause)
 
 pub returns-in-Ok-Live-clause-edit : goal.returns-in-Ok-Live-clause-edit
 returns-in-Ok-Live-clause-edit g c =
@@ -83,8 +96,8 @@ returns-in-Ok-Live-clause-edit g c =
     edit-none g.D.Disk edits a b (status_of c.refuse.result) c.requires.at_rest (refused-left g.D.Disk edits (pending_edit_line c.args.name.now) (g.R.Report.lines c.args.report.now) (g.R.Report.lines c.refuse.new.report) c.refuse.result c.refuse.ensures.verdict)
     (λ tells. (stands g a b same).pair) (reads g a b same)
 
-pub returns-in-Ok-Live-clause-opened : goal.returns-in-Ok-Live-clause-opened
-returns-in-Ok-Live-clause-opened g c = (stands g c.args.disk.now c.state.new.src c.state.ensures.only.standing).opened
+pub returns-in-Ok-Live-clause-stays : goal.returns-in-Ok-Live-clause-stays
+returns-in-Ok-Live-clause-stays g c = looked g c.args.disk.now c.state.new.src c.state.ensures.only.standing c.state.ensures.octets
 
 pub returns-in-Ok-Live-clause-cause : goal.returns-in-Ok-Live-clause-cause
 returns-in-Ok-Live-clause-cause g c =
@@ -97,7 +110,8 @@ returns-in-Ok-Bad-clause-verdict g c = λ tells.
     let a = c.args.disk.now in let name = c.args.name.now in
     let was = g.R.Report.lines c.args.report.now in let now = g.R.Report.lines c.refuse-in-Ok-Bad.new.report in
     let is = c.in-Ok-Bad.ensures.ok (g.D.Disk.pair a).sidecar.reads (g.met.D.Disk.contents a tells).1 in
-    subst (λ (gate : Gate). SaysVerdict was now c.refuse-in-Ok-Bad.result (unless_begun name gate (told name (edited (g.D.Disk.pair a).media.reads c.args.edits.now)))) (sym c.in-Ok-Bad.field-0-is ∙ is) c.refuse-in-Ok-Bad.ensures.verdict
+    subst (λ (gate : Gate). SaysLast was now c.refuse-in-Ok-Bad.result (unless_begun name gate (told name (edited (g.D.Disk.pair a).media.reads c.args.edits.now)))) (sym c.in-Ok-Bad.field-0-is ∙ is)
+    (says-last was now (g.R.Report.faults c.args.report.now) (g.R.Report.faults c.refuse-in-Ok-Bad.new.report) c.refuse-in-Ok-Bad.result (refused (bad_sidecar_line name c.in-Ok-Bad.offset)) c.refuse-in-Ok-Bad.ensures.verdict c.refuse-in-Ok-Bad.ensures.cause)
 
 pub returns-in-Ok-Bad-clause-edit : goal.returns-in-Ok-Bad-clause-edit
 returns-in-Ok-Bad-clause-edit g c =
@@ -105,8 +119,8 @@ returns-in-Ok-Bad-clause-edit g c =
     edit-none g.D.Disk edits a b (status_of c.refuse-in-Ok-Bad.result) c.requires.at_rest (refused-left g.D.Disk edits (bad_sidecar_line c.args.name.now c.in-Ok-Bad.offset) (g.R.Report.lines c.args.report.now) (g.R.Report.lines c.refuse-in-Ok-Bad.new.report) c.refuse-in-Ok-Bad.result c.refuse-in-Ok-Bad.ensures.verdict)
     (λ tells. (stands g a b same).pair) (reads g a b same)
 
-pub returns-in-Ok-Bad-clause-opened : goal.returns-in-Ok-Bad-clause-opened
-returns-in-Ok-Bad-clause-opened g c = (stands g c.args.disk.now c.state.new.src c.state.ensures.only.standing).opened
+pub returns-in-Ok-Bad-clause-stays : goal.returns-in-Ok-Bad-clause-stays
+returns-in-Ok-Bad-clause-stays g c = looked g c.args.disk.now c.state.new.src c.state.ensures.only.standing c.state.ensures.octets
 
 pub returns-in-Ok-Bad-clause-cause : goal.returns-in-Ok-Bad-clause-cause
 returns-in-Ok-Bad-clause-cause g c =
@@ -121,8 +135,8 @@ returns-in-Err-clause-edit g c =
     let a = c.args.disk.now in let b = c.state.new.src in let same = c.state.ensures.only.standing in
     edit-none g.D.Disk c.args.edits.now a b status.Outside c.requires.at_rest (λ M S p is. tt) (λ tells. (stands g a b same).pair) (reads g a b same)
 
-pub returns-in-Err-clause-opened : goal.returns-in-Err-clause-opened
-returns-in-Err-clause-opened g c = (stands g c.args.disk.now c.state.new.src c.state.ensures.only.standing).opened
+pub returns-in-Err-clause-stays : goal.returns-in-Err-clause-stays
+returns-in-Err-clause-stays g c = looked g c.args.disk.now c.state.new.src c.state.ensures.only.standing c.state.ensures.octets
 
 pub returns-in-Err-clause-cause : goal.returns-in-Err-clause-cause
 returns-in-Err-clause-cause g c = (inl (c.in-Err.ensures.cause, (stands g c.args.disk.now c.state.new.src c.state.ensures.only.standing).writing), refl)

@@ -1,4 +1,4 @@
-use Rattle.std.proofs.Common.{◌≡◌, ◌∙◌, IsTrue, Result, Ok, Err, List, ℕ, inr, sym, subst}
+use Rattle.std.proofs.Common.{◌≡◌, ◌∙◌, IsTrue, Result, Ok, Err, List, ℕ, inr, sym, subst, arith}
 use Rattle.mkv_disk.specs.Moments.{LeavesOnly}
 use Rattle.mkv_disk.specs.Pair.{IsPairImage, Pair}
 use Rattle.mkv_disk.proofs.MomentsLemmas.{weaker}
@@ -12,8 +12,8 @@ use Rattle.sidecar_format.specs.Gate.{state}
 use Rattle.edit_format.specs.declared.refusal.Refusal.{Refusal}
 use Rattle.edit_plan.specs.Record.{record_of}
 use Rattle.mkv_propedit.specs.Left.{IsPlannedFor, IsPropediting}
-use Rattle.mkv_propedit.specs.Propedit.{told}
-use Rattle.mkv_propedit.proofs.PropeditLemmas.{edit-none, edit-then, leaves-planned, quiet-state, reads-moment, record-edited, record-made, record-refused, refused-left, underway}
+use Rattle.mkv_propedit.specs.Propedit.{SaysLast, told}
+use Rattle.mkv_propedit.proofs.PropeditLemmas.{edit-none, edit-then, leaves-planned, quiet-state, reads-moment, record-edited, record-made, record-refused, refused-left, says-last, underway}
 use Rattle.mkv_propedit.proofs.editing.edit_quiet.Given.{Over}
 use Rattle.mkv_propedit.proofs.editing.edit_quiet.Goals as goal
 
@@ -54,7 +54,7 @@ pub returns-in-Ok-clause-verdict : goal.returns-in-Ok-clause-verdict
 returns-in-Ok-clause-verdict g c = λ tells.
     let M = (g.D.Disk.pair c.args.disk.now).media.reads in let edits = c.args.edits.now in
     let was = g.R.Report.lines c.args.report.now in let now = g.R.Report.lines c.edit_planned.new.report in
-    subst (λ (r : Result (List ℕ) Refusal). SaysVerdict was now c.edit_planned.result (told c.args.name.now r)) (sym (record-edited M edits c.in-Ok.plan (c.in-Ok.ensures.exact tells))) c.edit_planned.ensures.verdict
+    subst (λ (r : Result (List ℕ) Refusal). SaysLast was now c.edit_planned.result (told c.args.name.now r)) (sym (record-edited M edits c.in-Ok.plan (c.in-Ok.ensures.exact tells))) c.edit_planned.ensures.verdict
 
 pub returns-in-Ok-clause-edit : goal.returns-in-Ok-clause-edit
 returns-in-Ok-clause-edit g c =
@@ -69,8 +69,10 @@ returns-in-Ok-clause-edit g c =
           weaker d.moment d.left_since b new _ (IsPropediting edits M S) (λ m s editing. inr (underway M edits S m s plan (quiet tells) (is tells) editing)) (c.edit_planned.ensures.any_moment tells);
     })
 
-pub returns-in-Ok-clause-opened : goal.returns-in-Ok-clause-opened
-returns-in-Ok-clause-opened g c = c.edit_planned.ensures.opened ∙ (stands g c.args.disk.now c.plan.new.disk c.plan.ensures.standing).opened
+pub returns-in-Ok-clause-stays : goal.returns-in-Ok-clause-stays
+returns-in-Ok-clause-stays g c =
+    let only = c.edit_planned.ensures.only in
+    record { opened = only.opened ∙ (stands g c.args.disk.now c.plan.new.disk c.plan.ensures.standing).opened; octets = omega arith }
 
 pub returns-in-Ok-clause-cause : goal.returns-in-Ok-clause-cause
 returns-in-Ok-clause-cause g c =
@@ -87,7 +89,8 @@ returns-in-Err-Refused-clause-verdict g c = λ tells.
     let why = c.in-Err-Refused.why in
     let gives : record_of M edits ≡ Err why = rw c.in-Err-Refused.field-0-is at (c.in-Err-Refused.ensures.exact tells) in
     let says = subst (λ (line : List ℕ). SaysVerdict was now c.refuse.result (refused line)) c.refusal_line.ensures c.refuse.ensures.verdict in
-    subst (λ (r : Result (List ℕ) Refusal). SaysVerdict was now c.refuse.result (told c.args.name.now r)) (sym (record-refused M edits why gives)) says
+    subst (λ (r : Result (List ℕ) Refusal). SaysLast was now c.refuse.result (told c.args.name.now r)) (sym (record-refused M edits why gives))
+    (says-last was now (g.R.Report.faults c.args.report.now) (g.R.Report.faults c.refuse.new.report) c.refuse.result (told c.args.name.now (Err why)) says c.refuse.ensures.cause)
 
 pub returns-in-Err-Refused-clause-edit : goal.returns-in-Err-Refused-clause-edit
 returns-in-Err-Refused-clause-edit g c =
@@ -112,11 +115,11 @@ returns-in-Err-Memory-clause-edit g c =
     let a = c.args.disk.now in let b = c.plan.new.disk in let same = c.plan.ensures.standing in
     edit-none g.D.Disk c.args.edits.now a b status.NoMemory c.requires.ready.at_rest (λ M S p is. is) (λ tells. (stands g a b same).pair) (reads g a b same)
 
-pub returns-in-Err-ReadFault-clause-opened : goal.returns-in-Err-ReadFault-clause-opened
-returns-in-Err-ReadFault-clause-opened g c = (stands g c.args.disk.now c.plan.new.disk c.plan.ensures.standing).opened
+pub returns-in-Err-ReadFault-clause-stays : goal.returns-in-Err-ReadFault-clause-stays
+returns-in-Err-ReadFault-clause-stays g c = record { opened = (stands g c.args.disk.now c.plan.new.disk c.plan.ensures.standing).opened; octets = c.plan.ensures.octets }
 
-pub returns-in-Err-Memory-clause-opened : goal.returns-in-Err-Memory-clause-opened
-returns-in-Err-Memory-clause-opened g c = (stands g c.args.disk.now c.plan.new.disk c.plan.ensures.standing).opened
+pub returns-in-Err-Memory-clause-stays : goal.returns-in-Err-Memory-clause-stays
+returns-in-Err-Memory-clause-stays g c = record { opened = (stands g c.args.disk.now c.plan.new.disk c.plan.ensures.standing).opened; octets = c.plan.ensures.octets }
 
-pub returns-in-Err-Refused-clause-opened : goal.returns-in-Err-Refused-clause-opened
-returns-in-Err-Refused-clause-opened g c = (stands g c.args.disk.now c.plan.new.disk c.plan.ensures.standing).opened
+pub returns-in-Err-Refused-clause-stays : goal.returns-in-Err-Refused-clause-stays
+returns-in-Err-Refused-clause-stays g c = record { opened = (stands g c.args.disk.now c.plan.new.disk c.plan.ensures.standing).opened; octets = c.plan.ensures.octets }

@@ -1,14 +1,14 @@
-use Rattle.std.proofs.Common.{◌∙◌, inl, inr, sym, subst}
+use Rattle.std.proofs.Common.{◌≡◌, ◌∙◌, false, length, inl, inr, ap, sym, subst, arith}
 use Rattle.mkv_disk.specs.Pair.{IsSynced, Pair}
 use Rattle.mkv_lines.specs.Code.{status_of}
 use Rattle.mkv_lines.specs.Line.{missing_line}
 use Rattle.mkv_lines.specs.declared.status.Status.TheVariants as status
-use Rattle.mkv_lines.specs.Verdict.{SaysVerdict}
+use Rattle.mkv_lines.specs.Verdict.{refused}
 use Rattle.mkv_recover.proofs.RecoverLemmas.{refused-status, stop-then, there}
 use Rattle.sidecar_format.specs.Gate.{state}
 use Rattle.edit_format.specs.Plan.{edited}
-use Rattle.mkv_propedit.specs.Propedit.{propedit_verdict, told, unless_begun}
-use Rattle.mkv_propedit.proofs.PropeditLemmas.{edit-none, edit-then, refused-left}
+use Rattle.mkv_propedit.specs.Propedit.{SaysLast, propedit_verdict, told, unless_begun}
+use Rattle.mkv_propedit.proofs.PropeditLemmas.{edit-none, edit-then, refused-left, says-last}
 use Rattle.mkv_propedit.proofs.editing.propedit_of.Goals as goal
 
 -- ---- the pair is open
@@ -25,14 +25,21 @@ returns-in-Ok-clause-verdict g c = λ tells.
     let a = c.args.disk.now in let name = c.args.name.now in let edits = c.args.edits.now in
     let was = g.R.Report.lines c.args.report.now in let now = g.R.Report.lines c.edit_open.new.report in
     let is_there = there (g.D.Disk.is_there a name) (λ none. let refused = (c.open_pair.ensures.missing tells).1 none in absurd (cc)) in
-    let says = subst (λ (p : Pair). SaysVerdict was now c.edit_open.result (unless_begun name (state p.sidecar.reads) (told name (edited p.media.reads edits)))) (c.open_pair.ensures.pair tells) (c.edit_open.ensures.verdict tells) in
-    subst (λ there. SaysVerdict was now c.edit_open.result (propedit_verdict there name edits (g.D.Disk.pair a).media.reads (g.D.Disk.pair a).sidecar.reads)) (sym is_there) says
+    let says = subst (λ (p : Pair). SaysLast was now c.edit_open.result (unless_begun name (state p.sidecar.reads) (told name (edited p.media.reads edits)))) (c.open_pair.ensures.pair tells) (c.edit_open.ensures.verdict tells) in
+    subst (λ there. SaysLast was now c.edit_open.result (propedit_verdict there name edits (g.D.Disk.pair a).media.reads (g.D.Disk.pair a).sidecar.reads)) (sym is_there) says
 
 pub returns-in-Ok-clause-edit : goal.returns-in-Ok-clause-edit
 returns-in-Ok-clause-edit g c = record {
   leaves = edit-then g.D.Disk c.args.edits.now c.args.disk.now c.open_pair.new.self c.edit_open.new.disk (status_of c.edit_open.result) c.requires c.open_pair.ensures.pair c.open_pair.ensures.any_moment c.edit_open.ensures.edit;
-  opened = inl (c.edit_open.ensures.opened ∙ c.in-Ok.ensures.opened);
+  opened = inl (c.edit_open.ensures.stays.opened ∙ c.in-Ok.ensures.opened);
 }
+
+pub returns-in-Ok-clause-octets : goal.returns-in-Ok-clause-octets
+returns-in-Ok-clause-octets g c = λ tells.
+    let b = c.open_pair.new.self in
+    let size = g.met.D.Reads.told_size (g.D.Reads.standing b) 0 (g.D.Disk.pair b).media.reads (g.met.D.Disk.contents b tells).0 in
+    let same = ap (λ (p : Pair). length p.media.reads) (c.open_pair.ensures.pair tells) in
+    omega (arith, c.edit_open.ensures.stays.octets, c.open_pair.ensures.octets)
 
 pub returns-in-Ok-clause-cause : goal.returns-in-Ok-clause-cause
 returns-in-Ok-clause-cause g c =
@@ -40,6 +47,14 @@ returns-in-Ok-clause-cause g c =
     (record { reading = c.in-Ok.ensures.cause; writing = c.open_pair.ensures.writing }) c.edit_open.ensures.cause
 
 -- ---- it isn't
+
+pub returns-in-Err-Missing-clause-verdict : goal.returns-in-Err-Missing-clause-verdict
+returns-in-Err-Missing-clause-verdict g c = λ tells.
+    let a = c.args.disk.now in let name = c.args.name.now in let edits = c.args.edits.now in
+    let was = g.R.Report.lines c.args.report.now in let now = g.R.Report.lines c.refuse.new.report in
+    let isnt : g.D.Disk.is_there a name ≡ false = (c.open_pair.ensures.missing tells).0 (cc) in
+    subst (λ there. SaysLast was now c.refuse.result (propedit_verdict there name edits (g.D.Disk.pair a).media.reads (g.D.Disk.pair a).sidecar.reads)) (sym isnt)
+    (says-last was now (g.R.Report.faults c.args.report.now) (g.R.Report.faults c.refuse.new.report) c.refuse.result (refused (missing_line name)) c.refuse.ensures.verdict c.refuse.ensures.cause)
 
 pub returns-in-Err-Missing-clause-edit : goal.returns-in-Err-Missing-clause-edit
 returns-in-Err-Missing-clause-edit g c =

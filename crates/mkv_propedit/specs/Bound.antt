@@ -1,0 +1,11 @@
+-- How many octets `propedit` may read.
+use Rattle.std.specs.Prelude.{ℕ, ◌+◌, ◌*◌}
+use Rattle.sidecar_format.specs.declared.place.TheConstants.{HEAD, KEPT}
+
+-- what may be read to plan edits of a file of so many octets: the file 25 times over, and the first octets that are kept of it
+abbrev pub most_to_plan : ℕ → ℕ
+most_to_plan octets = 25 * octets + KEPT
+
+-- what may be read to edit it in place: besides, what its sidecar begins with
+abbrev pub most_to_edit : ℕ → ℕ
+most_to_edit octets = HEAD + most_to_plan octets
