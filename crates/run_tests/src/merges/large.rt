@@ -1,7 +1,7 @@
 //! A merge that reads later blocks while earlier ones are written.
 
-use crate::runs::Outside;
-use crate::spelled::{E, Spelled, TR, octets_of, written};
+use crate::merges::runs::Outside;
+use crate::merges::spelled::{E, Spelled, TR, octets_of, written};
 use mkv_lines::Status;
 use std::process::Abort;
 use std::test::Fail;

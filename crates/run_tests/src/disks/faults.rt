@@ -1,7 +1,7 @@
 //! What `recover` says where a call of the disk fails.
 
-use crate::data::{EDITED, FILE, RECORD};
-use crate::running::{failing, recover_on, recovered};
+use crate::disks::data::{EDITED, FILE, RECORD};
+use crate::disks::running::{failing, recover_on, recovered};
 use mkv_lines::Status;
 use mkv_memory::MemReport;
 use std::alloc::Global;

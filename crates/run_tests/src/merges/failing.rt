@@ -1,7 +1,7 @@
 //! What stands of a merge where a call fails.
 
-use crate::runs::{LINE, Outside, TWO_BLOCKS};
-use crate::spelled::{
+use crate::merges::runs::{LINE, Outside, TWO_BLOCKS};
+use crate::merges::spelled::{
     CL, CUT, E, H, INFO, JOINED, LIVE, S1, SEEKS, TR, VOID_2, VOID_3, merged, merged_first,
     octets_of,
 };
@@ -10,25 +10,25 @@ use std::process::Abort;
 use std::test::Fail;
 
 /// A Segment whose size isn't known.
-const SEGMENT: &str = "18538067 01FFFFFFFFFFFFFF";
+pub const SEGMENT: &str = "18538067 01FFFFFFFFFFFFFF";
 
 /// The Void in the place of the SeekHead.
-const VOID: &str = "EC01000000000000F7 00*247";
+pub const VOID: &str = "EC01000000000000F7 00*247";
 
 /// A merge, and its output: before the SeekHead and then the size are written over, between these two, and whole.
 #[derive(Drop)]
-struct Case<'a> {
-    line: &'a str,
-    inputs: &'a [&'a [u8]],
-    lines: &'a str,
-    open: Vec<u8>,
-    without_size: Vec<u8>,
-    whole: Vec<u8>,
+pub struct Case<'a> {
+    pub line: &'a str,
+    pub inputs: &'a [&'a [u8]],
+    pub lines: &'a str,
+    pub open: Vec<u8>,
+    pub without_size: Vec<u8>,
+    pub whole: Vec<u8>,
 }
 
 impl Case<'_> {
     /// Whether an output is as it was, or has a first part of its octets, or all of them but for what comes last.
-    fn is_left(&self, stands: &[u8]) -> bool {
+    pub fn is_left(&self, stands: &[u8]) -> bool {
         stands == b"before".as_slice()
             || self.open.starts_with(stands)
             || stands == self.without_size.as_slice()

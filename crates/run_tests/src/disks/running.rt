@@ -6,7 +6,7 @@ ghost use Rattle.mkv_disk.specs.Pair.{IsSynced};
 ghost use Rattle.memory_disk.specs.DiskIn.{seen};
 ghost use Rattle.memory_disk.specs.SeenDisk.{pair_in};
 
-use crate::calls::{octets, open};
+use crate::disks::calls::{octets, open};
 use memory_disk::MemDisk;
 use mkv_disk::{Disk, MEDIA};
 use mkv_lines::Status;

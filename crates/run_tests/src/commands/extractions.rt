@@ -1,6 +1,6 @@
 //! Extractions over files and a report in memory: what a failure leaves.
 
-use crate::running::{run_over, words_of};
+use crate::commands::running::{run_over, words_of};
 use mkv_lines::Status;
 use mkv_memory::{MemFiles, MemReport};
 use std::alloc::{AllocError, Global};

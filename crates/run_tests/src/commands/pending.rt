@@ -1,7 +1,7 @@
 //! A file of which an edit was begun and isn't done, where its sidecar can't be read.
 
-use crate::extractions::TWO_BLOCKS;
-use crate::running::{run_over, words_of};
+use crate::commands::extractions::TWO_BLOCKS;
+use crate::commands::running::{run_over, words_of};
 use mkv_lines::Status;
 use mkv_memory::{MemFiles, MemReport};
 use std::test::Fail;

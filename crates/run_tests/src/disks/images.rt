@@ -2,8 +2,8 @@
 
 ghost use Rattle.mkv_io.specs.Sources.{IsLive};
 
-use crate::calls::{cut, open, sync, write};
-use crate::running::octets_of;
+use crate::disks::calls::{cut, open, sync, write};
+use crate::disks::running::octets_of;
 use memory_disk::MemDisk;
 use mkv_disk::{Disk, MEDIA, SIDECAR};
 use mkv_values::Failed;

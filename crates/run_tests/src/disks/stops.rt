@@ -1,7 +1,7 @@
 //! An edit by `propedit` is stopped at each call of the disk, recovered with a stop at each call, and recovered again.
 
-use crate::data::{EDITED, FILE};
-use crate::running::{edit_on, failing, recover_on, recovered, stopped, stopped_copy};
+use crate::disks::data::{EDITED, FILE};
+use crate::disks::running::{edit_on, failing, recover_on, recovered, stopped, stopped_copy};
 use memory_disk::MemDisk;
 use mkv_lines::Status;
 use mkv_memory::MemReport;

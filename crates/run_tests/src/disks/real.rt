@@ -1,6 +1,6 @@
 //! A file of the system and its sidecar.
 
-use crate::calls::{cut, open, read, sync, write};
+use crate::disks::calls::{cut, open, read, sync, write};
 use mkv_disk::{Disk, MEDIA, SIDECAR};
 use mkv_host_disk::RealDisk;
 use mkv_io::Reads;

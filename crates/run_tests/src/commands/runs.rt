@@ -1,6 +1,6 @@
 //! Runs over files and a report in memory of which a call fails.
 
-use crate::running::{run_over, words_of};
+use crate::commands::running::{run_over, words_of};
 use mkv_lines::Status;
 use mkv_memory::{MemFiles, MemReport};
 use std::alloc::{AllocError, Global};
