@@ -1,5 +1,5 @@
 -- How an extraction comes to its verdict.
-use Rattle.std.proofs.Common.{◌≡◌, ◌+◌, ◌≤◌, ℕ, zero, suc, nat_lt, if◌then◌else◌, slice_get, arith, List, [], ◌∷◌, ◌++◌, length, Bool, true, false, ◌||◌, map, Option, Some, None, IsSome, Result, Ok, Err, IfOk, refl, sym, ◌∙◌, ap, subst}
+use Rattle.std.proofs.Common.{◌≡◌, ◌+◌, ◌≤◌, ℕ, zero, suc, nat_lt, if◌then◌else◌, slice_get, arith, List, [], ◌∷◌, ◌++◌, length, Bool, true, false, ◌||◌, map, Option, Some, None, IsSome, Result, Ok, Err, IfOk, inl, refl, sym, ◌∙◌, ap, subst}
 use Rattle.std.specs.List.{All}
 use Rattle.std.specs.Str.{bytes_eq}
 use Rattle.std.proofs.lemmas.Bool.{le-ltb, lt-ltb}
@@ -92,43 +92,19 @@ taken-names (Some kind) targets entries some = written-names kind targets entrie
 
 -- ---- lines and outputs
 
--- the first lines couldn't be said
-reaches-begun : (old new : Seen) (why : Stop) (v : Verdict) (first rest : List (List ℕ)) → v.lines ≡ first ++ rest → SaysPart old.lines new.lines first → new.names ≡ old.names → Reaches old new (Err why) v
-reaches-begun old new why v first rest lines part names = record {
-  lines = subst (SaysPart old.lines new.lines) (sym lines) (SaysPart-before old.lines new.lines first rest part);
-  names = Leaves-same old.names new.names v.outputs names;
-}
-
--- the outputs stand whole, and the others are said
-pub reaches-told : (old new : Seen) (mid : ReportLines) (r : Result Status Stop) (v : Verdict) (first rest : List (List ℕ)) (outputs : List Output) → v.lines ≡ first ++ rest → v.outputs ≡ at_once outputs → mid ≡ with_lines old.lines first → Says mid new.lines rest r → IfOk r (λ s. s ≡ v.status) → new.names ≡ with_outputs old.names outputs → Reaches old new r v
-reaches-told old new mid (Ok s) v first rest outputs lines writes said says status names = (
-  status,
-  record {
-    lines = Says-then old.lines mid new.lines first rest (Ok s) said says ∙ ap (with_lines old.lines) (sym lines);
-    names = names ∙ ap (λ o. with_outputs old.names (list_of o)) (sym writes);
-  },
-)
-reaches-told old new mid (Err why) v first rest outputs lines writes said says status names = record {
-  lines = subst (SaysPart old.lines new.lines) (sym lines) (SaysPart-behind old.lines mid new.lines first rest said says);
-  names = subst (Leaves old.names new.names) (sym writes) (StandsInPart-whole old.names new.names outputs names);
-}
-
 -- a warning of an absent track couldn't be said
 pub taken-begun : (old new : Seen) (why : Stop) (name : List ℕ) (job : Job) (tracks : List Track) (events : List Event) (targets : List Target) (count : ℕ) → targets ≡ targets_of job → count ≡ length tracks → SaysPart old.lines new.lines (map (no_track_line name) (absent count targets)) → new.names ≡ old.names → Reaches old new (Err why) (taken_verdict name job tracks events)
 taken-begun old new why name job tracks events targets count is counted part names =
-    reaches-begun old new why (taken_verdict name job tracks events) (map (no_track_line name) (absent (length tracks) (targets_of job)))
-    (map wrote_line (names_of (outputs_of (job_outputs job (map entry_in tracks)) (blocks_of events))) ++ told_lines name (told_damages (damages_of events)))
-    refl
-    (subst (λ (n : ℕ). SaysPart old.lines new.lines (map (no_track_line name) (absent n (targets_of job)))) counted
-    (subst (λ (ts : List Target). SaysPart old.lines new.lines (map (no_track_line name) (absent count ts))) is part))
-    names
+    inl (
+      subst (λ (n : ℕ). SaysPart old.lines new.lines (map (no_track_line name) (absent n (targets_of job)))) counted
+          (subst (λ (ts : List Target). SaysPart old.lines new.lines (map (no_track_line name) (absent count ts))) is part),
+      Leaves-same old.names new.names (taken_verdict name job tracks events).outputs names,
+    )
 
 -- all that isn't there was warned of, and the outputs stand whole
 pub taken-told : (old new : Seen) (mid : ReportLines) (r : Result Status Stop) (name : List ℕ) (job : Job) (tracks : List Track) (events : List Event) (targets : List Target) (count : ℕ) (damages : ToldDamages) → IsSome (taken_of job) → targets ≡ targets_of job → count ≡ length tracks → damages ≡ told_damages (damages_of events) → mid ≡ with_lines old.lines (map (no_track_line name) (absent count targets)) → Says mid new.lines (map wrote_line (written count targets) ++ told_lines name damages) r → IfOk r (λ s. s ≡ status_of (has_absent count targets) (damages_of events)) → new.names ≡ with_outputs old.names (outputs_of (job_outputs job (map entry_in tracks)) (blocks_of events)) → Reaches old new r (taken_verdict name job tracks events)
 taken-told old new mid r name job tracks events targets count damages takes is counted whole said says status names =
-    reaches-told old new mid r (taken_verdict name job tracks events) (map (no_track_line name) (absent (length tracks) (targets_of job)))
-    (map wrote_line (names_of outputs) ++ told_lines name (told_damages (damages_of events)))
-    outputs refl refl
+    Reaches-behind old new mid r (taken_verdict name job tracks events) (map wrote_line (names_of outputs) ++ told_lines name (told_damages (damages_of events))) refl
     (said ∙ ap (λ (n : ℕ). with_lines old.lines (map (no_track_line name) (absent n targets))) counted ∙ ap (λ (ts : List Target). with_lines old.lines (map (no_track_line name) (absent (length tracks) ts))) is)
     (subst (λ (d : ToldDamages). Says mid new.lines (map wrote_line (names_of outputs) ++ told_lines name d) r) whole
     (subst (λ (names : List (List ℕ)). Says mid new.lines (map wrote_line names ++ told_lines name damages) r) named says))
@@ -183,23 +159,17 @@ cues-names scale cues (t ∷ ts) entries = each (slice_get entries t.id) refl (c
 -- a warning of what isn't there couldn't be said
 pub targets-begun : (old new : Seen) (why : Stop) (name : List ℕ) (line : ℕ → List ℕ) (most count : ℕ) (targets : List Target) (outputs : List Output) (damage : Option Damage) → count ≡ most → SaysPart old.lines new.lines (map line (absent count targets)) → new.names ≡ old.names → Reaches old new (Err why) (targets_verdict name line most targets outputs damage)
 targets-begun old new why name line most count targets outputs damage is part names =
-    reaches-begun old new why (targets_verdict name line most targets outputs damage) (map line (absent most targets))
-    (map wrote_line (names_of outputs) ++ outline_lines name damage) refl
-    (subst (λ (n : ℕ). SaysPart old.lines new.lines (map line (absent n targets))) is part) names
+    inl (subst (λ (n : ℕ). SaysPart old.lines new.lines (map line (absent n targets))) is part, Leaves-same old.names new.names (at_once outputs) names)
 
 -- an output wasn't written
 pub targets-stopped : (old new : Seen) (why : Stop) (name : List ℕ) (line : ℕ → List ℕ) (most count : ℕ) (targets : List Target) (outputs : List Output) (damage : Option Damage) → count ≡ most → new.lines ≡ with_lines old.lines (map line (absent count targets)) → StandsInPart old.names new.names outputs → Reaches old new (Err why) (targets_verdict name line most targets outputs damage)
-targets-stopped old new why name line most count targets outputs damage is said part = record {
-  lines = SaysPart-before old.lines new.lines (map line (absent most targets)) (map wrote_line (names_of outputs) ++ outline_lines name damage)
-      (SaysPart-all old.lines new.lines _ (said ∙ ap (λ (n : ℕ). with_lines old.lines (map line (absent n targets))) is));
-  names = part;
-}
+targets-stopped old new why name line most count targets outputs damage is said part =
+    inl (SaysPart-all old.lines new.lines (map line (absent most targets)) (said ∙ ap (λ (n : ℕ). with_lines old.lines (map line (absent n targets))) is), part)
 
 -- all that isn't there was warned of, and the outputs stand whole
 pub targets-told : (old new : Seen) (mid : ReportLines) (r : Result Status Stop) (name : List ℕ) (line : ℕ → List ℕ) (most count : ℕ) (targets : List Target) (outputs : List Output) (damage : Option Damage) → names_of outputs ≡ written most targets → count ≡ most → mid ≡ with_lines old.lines (map line (absent count targets)) → Says mid new.lines (map wrote_line (written count targets) ++ outline_lines name damage) r → IfOk r (λ s. s ≡ held_status (has_absent count targets) damage) → new.names ≡ with_outputs old.names outputs → Reaches old new r (targets_verdict name line most targets outputs damage)
 targets-told old new mid r name line most count targets outputs damage named is said says status names =
-    reaches-told old new mid r (targets_verdict name line most targets outputs damage) (map line (absent most targets))
-    (map wrote_line (names_of outputs) ++ outline_lines name damage) outputs refl refl
+    Reaches-behind old new mid r (targets_verdict name line most targets outputs damage) (map wrote_line (names_of outputs) ++ outline_lines name damage) refl
     (said ∙ ap (λ (n : ℕ). with_lines old.lines (map line (absent n targets))) is)
     (subst (λ (told : List (List ℕ)). Says mid new.lines (map wrote_line told ++ outline_lines name damage) r) (ap (λ (n : ℕ). written n targets) is ∙ sym named) says)
     (subst (λ (n : ℕ). IfOk r (λ s. s ≡ held_status (has_absent n targets) damage)) is status)

@@ -60,6 +60,7 @@ abbrev pub extracted : List ℕ → List Target → ℕ → List Output → List
 extracted name targets count outputs damages = record {
   status = status_of (has_absent count targets) damages;
   lines = map (no_track_line name) (absent count targets) ++ (map wrote_line (names_of outputs) ++ told_lines name (told_damages damages));
+  before = map (no_track_line name) (absent count targets);
   outputs = at_once outputs;
 }
 
@@ -94,6 +95,7 @@ abbrev pub held_verdict : List ℕ → Bool → List (List ℕ) → List Output 
 held_verdict name is_missing missing outputs damage = record {
   status = held_status is_missing damage;
   lines = missing ++ (map wrote_line (names_of outputs) ++ outline_lines name damage);
+  before = missing;
   outputs = at_once outputs;
 }
 

@@ -3,17 +3,13 @@ use Rattle.std.specs.Prelude.{ℕ, List, ◌∷◌, Result, Ok, Err}
 use Rattle.mkv_values.specs.declared.damage.Damage.{Damage}
 use Rattle.identification.specs.Identification.{identification_line}
 use Rattle.mkv_lines.specs.Line.{refusal_line}
-use Rattle.mkv_lines.specs.Verdict.{Verdict, nothing, refused}
+use Rattle.mkv_lines.specs.Verdict.{Verdict, only_said, refused}
 use Rattle.mkv_info.specs.Listed.{status_with, warnings}
 use Rattle.mkv_info.specs.Read.{Described, read_of}
 
 -- the identification, and then a warning of what is damaged at level 1; a file that is refused isn't identified
 abbrev pub identified : List ℕ → Result Described Damage → Verdict
-identified name (Ok file) = record {
-  status = status_with file.damage;
-  lines = identification_line name file.records ∷ warnings name file.damage;
-  outputs = nothing;
-}
+identified name (Ok file) = only_said (status_with file.damage) (identification_line name file.records ∷ warnings name file.damage)
 identified name (Err d) = refused (refusal_line name d)
 
 -- what is told of a content that bears a name, as JSON

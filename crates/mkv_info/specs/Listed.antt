@@ -5,7 +5,7 @@ use Rattle.matroska_format.specs.Outline.{Outlined, outline_of, segment_run}
 use Rattle.element_reader.specs.Outline.{FileOutline}
 use Rattle.track_records.specs.declared.track.Track.{Track}
 use Rattle.mkv_lines.specs.Line.{level_0_line, level_1_line, refusal_line, warning_line}
-use Rattle.mkv_lines.specs.Verdict.{Verdict, nothing, refused}
+use Rattle.mkv_lines.specs.Verdict.{Verdict, only_said, refused}
 use Rattle.mkv_lines.specs.declared.status.Status.{Status}
 use Rattle.mkv_lines.specs.declared.status.Status.TheVariants.{Done, Warned}
 use Rattle.mkv_info.specs.Tracks.{file_tracks, track_lines}
@@ -29,11 +29,7 @@ status_with (Some d) = Warned
 
 -- the Elements, then the tracks, then the warning
 abbrev pub listed : List ℕ → Outlined → List Track → Verdict
-listed name o tracks = record {
-  status = status_with o.damage;
-  lines = element_lines o ++ (track_lines 0 tracks ++ warnings name o.damage);
-  outputs = nothing;
-}
+listed name o tracks = only_said (status_with o.damage) (element_lines o ++ (track_lines 0 tracks ++ warnings name o.damage))
 
 -- a file whose tracks are refused isn't listed
 abbrev pub with_tracks : List ℕ → Outlined → Result (List Track) Damage → Verdict

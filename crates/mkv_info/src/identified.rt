@@ -15,7 +15,7 @@ use crate::reading::{FileRead, read_file};
 use element_reader::OutlineEnd;
 use identification::identify;
 use mkv_io::{Reads, Report};
-use mkv_lines::{Line, Status, Stop, say, say_text};
+use mkv_lines::{Line, Status, Stop, refuse, say_text};
 use mkv_values::FileId;
 use std::alloc::Global;
 
@@ -38,8 +38,7 @@ pub fn identify_file<R: Reads, P: Report>(
     match read_file(alloc, src, file) {
         Ok(read) => tell(alloc, name, &read, report),
         Err(OutlineEnd::Refused(damage)) => {
-            say(alloc, report, &Line::Refused { name, damage })?;
-            Ok(Status::Refused)
+            refuse(alloc, &Line::Refused { name, damage }, report)
         }
         Err(OutlineEnd::ReadFault) => Err(Stop::Files),
         Err(OutlineEnd::Memory) => Err(Stop::Memory),

@@ -13,7 +13,7 @@ ghost use Rattle.mkv_info.specs.Info.{content_verdict, info_verdict};
 use crate::identified::identify_file;
 use crate::list::list_file;
 use mkv_io::{Files, Report};
-use mkv_lines::{Line, Status, Stop, say};
+use mkv_lines::{Line, Status, Stop, refuse};
 use mkv_values::{FileId, OpenFault};
 use pending_edits::is_pending;
 use std::alloc::Global;
@@ -48,10 +48,7 @@ pub fn info_of<F: Files, P: Report>(
 {
     let file = match files.open_file(name) {
         Ok(file) => file,
-        Err(OpenFault::Missing) => {
-            say(alloc, report, &Line::Missing { name })?;
-            return Ok(Status::Refused);
-        }
+        Err(OpenFault::Missing) => return refuse(alloc, &Line::Missing { name }, report),
         Err(OpenFault::Failed) => return Err(Stop::Files),
         Err(OpenFault::Memory) => return Err(Stop::Memory),
     };
@@ -77,8 +74,7 @@ fn tell_settled<F: Files, P: Report>(
     ensures cause { HasReadStop (F.reading_faults files.old) (F.reading_faults files.new) (P.faults report.old) (P.faults report.new) result }
 {
     if is_pending(alloc, name, files)? {
-        say(alloc, report, &Line::PendingEdit { name })?;
-        return Ok(Status::Refused);
+        return refuse(alloc, &Line::PendingEdit { name }, report);
     }
     match form {
         Form::Lines => list_file(alloc, name, files, file, report),

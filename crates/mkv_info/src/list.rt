@@ -1,9 +1,8 @@
 //! A file's Elements, a line for each.
 
-ghost use Rattle.std.specs.Prelude.{◌≡◌, ◌++◌, ◌∷◌, [], ℕ, List, Ok, length, map, IfOk, IsTrue};
-ghost use Rattle.mkv_io.specs.Faults.{HasRisen};
-ghost use Rattle.mkv_io.specs.Sources.{IfTold, IsLive, file_size, live_files};
-ghost use Rattle.matroska_format.specs.Outline.{outline_of, segment_run};
+ghost use Rattle.std.specs.Prelude.{◌≡◌, Ok, map, IfOk};
+ghost use Rattle.mkv_io.specs.Sources.{IfTold, IsLive, file_size};
+ghost use Rattle.matroska_format.specs.Outline.{segment_run};
 ghost use Rattle.element_window.specs.Window.{nothing_at};
 ghost use Rattle.element_reader.specs.Outline.{outline_in};
 ghost use Rattle.mkv_lines.specs.Faults.{HasReadStop};
@@ -14,10 +13,10 @@ ghost use Rattle.mkv_lines.specs.Verdict.{SaysVerdict};
 ghost use Rattle.mkv_info.specs.Listed.{listed_verdict, shown_lines, status_with, warnings};
 
 use crate::tracks::{say_tracks, tracks_of};
-use element_reader::{Header, Outline, OutlineEnd, Window, segment_bound};
+use element_reader::{Outline, OutlineEnd, Window, segment_bound};
 use element_walks::{Level1Step, next_of_segment};
 use mkv_io::{Reads, Report};
-use mkv_lines::{Line, Status, Stop, say};
+use mkv_lines::{Line, Status, Stop, refuse, say};
 use mkv_values::{Damage, FileId};
 use std::alloc::Global;
 
@@ -39,8 +38,7 @@ pub fn list_file<R: Reads, P: Report>(
     match Outline::read(alloc, src, file) {
         Ok(outline) => list_outline(alloc, name, &outline, src, file, report),
         Err(OutlineEnd::Refused(damage)) => {
-            say(alloc, report, &Line::Refused { name, damage })?;
-            Ok(Status::Refused)
+            refuse(alloc, &Line::Refused { name, damage }, report)
         }
         Err(OutlineEnd::ReadFault) => Err(Stop::Files),
         Err(OutlineEnd::Memory) => Err(Stop::Memory),
@@ -70,10 +68,7 @@ fn list_outline<R: Reads, P: Report>(
             say_tracks(alloc, &tracks, report)?;
             warn(alloc, name, outline.damage(), report)
         }
-        Err(damage) => {
-            say(alloc, report, &Line::Refused { name, damage })?;
-            Ok(Status::Refused)
-        }
+        Err(damage) => refuse(alloc, &Line::Refused { name, damage }, report),
     }
 }
 

@@ -1,22 +1,14 @@
 -- What a command or a run leaves that has this verdict.
-use Rattle.std.proofs.Common.{◌≡◌, List, [], ◌∷◌, Result, Ok, Err, refl, sym, ◌∙◌, ap, subst}
+use Rattle.std.proofs.Common.{◌≡◌, ℕ, List, [], ◌++◌, Result, Ok, Err, IfOk, inl, inr, refl, sym, ◌∙◌, ap, subst}
+use Rattle.mkv_io.specs.Lines.{with_lines}
 use Rattle.mkv_io.specs.Names.{Names}
-use Rattle.mkv_outputs.specs.Outputs.{Output, with_outputs}
-use Rattle.mkv_outputs.specs.Starts.{AreBegun}
-use Rattle.mkv_lines.specs.Said.{ReportLines, SaysPart}
+use Rattle.mkv_outputs.specs.Outputs.{with_outputs}
+use Rattle.mkv_lines.specs.Said.{ReportLines, Says, SaysPart}
 use Rattle.mkv_lines.specs.Seen.{Seen}
 use Rattle.mkv_lines.specs.Verdict.{IsStopped, Leaves, Outputs, Reaches, SaysVerdict, Verdict, at_once, in_turn, list_of, nothing}
 use Rattle.mkv_lines.specs.declared.status.Status.{Status}
 use Rattle.mkv_lines.specs.declared.status.Stop.{Stop}
-use Rattle.mkv_lines.proofs.SaidLemmas.{SaysPart-none}
-
--- a command that writes nothing leaves every name
-pub Leaves-nothing : (old new : Names) → Leaves old new nothing → new ≡ old
-Leaves-nothing old new stands = stands.names ∙ step stands.stand stands.begun
-  where
-    step : (stand : List Output) → AreBegun stand [] → with_outputs old stand ≡ old
-    step [] begun = refl
-    step (o ∷ os) begun = absurd begun
+use Rattle.mkv_lines.proofs.SaidLemmas.{SaysPart-behind, SaysPart-none, Says-then}
 
 -- nothing was written yet
 pub Leaves-before : (names : Names) (outputs : Outputs) → Leaves names names outputs
@@ -29,13 +21,23 @@ Leaves-same old new outputs same = subst (λ (names : Names). Leaves old names o
 
 -- a command that was stopped before its first line
 pub IsStopped-before : (old new : Seen) (v : Verdict) → new.lines ≡ old.lines → new.names ≡ old.names → IsStopped old new v
-IsStopped-before old new v lines names = record {
-  lines = subst (λ (now : ReportLines). SaysPart old.lines now v.lines) (sym lines) (SaysPart-none old.lines v.lines);
-  names = Leaves-same old.names new.names v.outputs names;
-}
+IsStopped-before old new v lines names = inl (
+  subst (λ (now : ReportLines). SaysPart old.lines now v.before) (sym lines) (SaysPart-none old.lines v.before),
+  Leaves-same old.names new.names v.outputs names,
+)
+
+-- a command whose outputs stand whole, and that says the lines behind them, reaches its verdict or stops there
+pub Reaches-behind : (old new : Seen) (mid : ReportLines) (r : Result Status Stop) (v : Verdict) (behind : List (List ℕ)) → v.lines ≡ v.before ++ behind → mid ≡ with_lines old.lines v.before → Says mid new.lines behind r → IfOk r (λ s. s ≡ v.status) → new.names ≡ with_outputs old.names (list_of v.outputs) → Reaches old new r v
+Reaches-behind old new mid (Ok s) v behind whole said says status names = (
+  status,
+  record { lines = Says-then old.lines mid new.lines v.before behind (Ok s) said says ∙ ap (with_lines old.lines) (sym whole); names = names },
+)
+Reaches-behind old new mid (Err why) v behind whole said says status names =
+    inr (subst (SaysPart old.lines new.lines) (sym whole) (SaysPart-behind old.lines mid new.lines v.before behind said says), names)
 
 -- a command that has said its verdict and writes nothing has reached it
 pub Reaches-lines : (old new : Seen) (r : Result Status Stop) (v : Verdict) → SaysVerdict old.lines new.lines r v → v.outputs ≡ nothing → new.names ≡ old.names → Reaches old new r v
 Reaches-lines old new (Ok s) v says none same =
     (says.0, record { lines = says.1; names = same ∙ sym (ap (λ (outputs : Outputs). with_outputs old.names (list_of outputs)) none) })
-Reaches-lines old new (Err e) v says none same = record { lines = says; names = Leaves-same old.names new.names v.outputs same }
+Reaches-lines old new (Err e) v says none same =
+    inr (says, same ∙ sym (ap (λ (outputs : Outputs). with_outputs old.names (list_of outputs)) none))

@@ -1,5 +1,5 @@
 -- What a report holds after lines were said, where it tells.
-use Rattle.std.specs.Prelude.{◌≡◌, ℕ, ◌++◌, List, Option, Result, Ok, Err}
+use Rattle.std.specs.Prelude.{◌≡◌, ⊤, ℕ, ◌++◌, List, Option, Result, Ok, Err}
 use Rattle.mkv_io.specs.Faults.{HasRisen}
 use Rattle.mkv_io.specs.Lines.{with_lines}
 use Rattle.mkv_lines.specs.declared.status.Stop.{Stop}
@@ -26,6 +26,11 @@ pub record SaysUpTo (old new : ReportLines) (all left : List (List ℕ)) : Type 
 abbrev pub Says : {T : Type 0} → ReportLines → ReportLines → List (List ℕ) → Result T Stop → Type 0
 Says old new all (Ok _) = new ≡ with_lines old all
 Says old new all (Err _) = SaysPart old new all
+
+-- Lines that come last: where the disk stopped a call, none was said.
+abbrev pub SaysLast : {T : Type 0} → ReportLines → ReportLines → Result T Stop → Type 0
+SaysLast old new (Err stop.Disk) = new ≡ old
+SaysLast old new result = ⊤
 
 -- A call that only says lines is stopped by the report only where its count of faults rose; after every
 -- other answer the count stands.

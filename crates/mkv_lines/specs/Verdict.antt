@@ -1,5 +1,5 @@
 -- What a command comes to: its status, the lines that it says, and the outputs that it writes.
-use Rattle.std.specs.Prelude.{◌≡◌, ℕ, Bool, true, false, List, [], ◌∷◌, Result, Ok, Err}
+use Rattle.std.specs.Prelude.{◌≡◌, ◌⊎◌, ℕ, Bool, true, false, List, [], ◌∷◌, Result, Ok, Err}
 use Rattle.mkv_io.specs.Lines.{with_lines}
 use Rattle.mkv_io.specs.Names.{Names}
 use Rattle.mkv_outputs.specs.Drafts.{Draft, StandsInTurn, outputs_of}
@@ -24,18 +24,24 @@ list_of (in_turn all) = outputs_of all
 abbrev pub nothing : Outputs
 nothing = at_once []
 
+-- Its lines begin with those that are said before an output is begun; the others are said when all outputs stand whole.
 pub record Verdict : Type 0 where
   pub status : Status
   pub lines : List (List ℕ)
+  pub before : List (List ℕ)
   pub outputs : Outputs
 
--- all is done, these lines tell of it, and nothing is written
-abbrev pub done : List (List ℕ) → Verdict
-done lines = record { status = status.Done; lines = lines; outputs = nothing }
+-- nothing is written, and these lines are said
+abbrev pub only_said : Status → List (List ℕ) → Verdict
+only_said s lines = record { status = s; lines = lines; before = []; outputs = nothing }
 
--- a refusal is told by one line, and nothing is written
+-- all is done, and these lines tell of it
+abbrev pub done : List (List ℕ) → Verdict
+done lines = only_said status.Done lines
+
+-- a refusal is told by one line
 abbrev pub refused : List ℕ → Verdict
-refused line = record { status = status.Refused; lines = line ∷ []; outputs = nothing }
+refused line = only_said status.Refused (line ∷ [])
 
 -- a file of which an edit is pending is refused
 abbrev pub unless_pending : List ℕ → Bool → Verdict → Verdict
@@ -60,10 +66,13 @@ abbrev pub Leaves : Names → Names → Outputs → Type 0
 Leaves old new (at_once all) = StandsInPart old new all
 Leaves old new (in_turn all) = StandsInTurn old new all
 
--- A first part of the lines was said, and of the outputs stands what such a stop leaves.
-pub record IsStopped (old new : Seen) (v : Verdict) : Type 0 where
-  pub lines : SaysPart old.lines new.lines v.lines
-  pub names : Leaves old.names new.names v.outputs
+-- A command stops before its outputs stand whole, and has said so much of the lines before them; or behind, and so much of all its lines.
+abbrev pub StopsSaying : (List (List ℕ) → Type 0) → Names → Names → Verdict → Type 0
+StopsSaying says old new v = (says v.before × Leaves old new v.outputs) ⊎ (says v.lines × (new ≡ with_outputs old (list_of v.outputs)))
+
+-- It has said a first part of these.
+abbrev pub IsStopped : Seen → Seen → Verdict → Type 0
+IsStopped old new v = StopsSaying (SaysPart old.lines new.lines) old.names new.names v
 
 -- A command has reached its verdict, or it has stopped on the way.
 abbrev pub Reaches : Seen → Seen → Result Status Stop → Verdict → Type 0

@@ -9,6 +9,6 @@ mod shown_text;
 mod status;
 
 pub use line::Line;
-pub use saying::{say, say_disk_fault, say_files_fault, say_text};
+pub use saying::{refuse, say, say_disk_fault, say_files_fault, say_text};
 pub use shown::ShownTrack;
 pub use status::{Status, Stop};

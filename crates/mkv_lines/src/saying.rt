@@ -1,11 +1,13 @@
 //! Lines are said.
 
-ghost use Rattle.std.specs.Prelude.{◌≡◌, ◌∷◌, []};
+ghost use Rattle.std.specs.Prelude.{◌≡◌, ◌∷◌, [], IfOk};
 ghost use Rattle.mkv_lines.specs.Line.{disk_fault_line, files_fault_line, text_of};
-ghost use Rattle.mkv_lines.specs.Said.{HasSayCause, Says};
+ghost use Rattle.mkv_lines.specs.Ordinary.{IsOrdinary};
+ghost use Rattle.mkv_lines.specs.Said.{HasSayCause, Says, SaysLast};
+ghost use Rattle.mkv_lines.specs.Verdict.{SaysVerdict, refused};
 
 use crate::line::Line;
-use crate::status::Stop;
+use crate::status::{Status, Stop};
 use mkv_io::Report;
 use mkv_values::Failed;
 use std::alloc::Global;
@@ -34,6 +36,17 @@ pub fn say_text<R: Report>(report: &mut R, text: &str) -> Result<(), Stop>
         Ok(()) => Ok(()),
         Err(Failed) => Err(Stop::Report),
     }
+}
+
+/// Says why a command does nothing.
+pub fn refuse<R: Report>(alloc: Global, why: &Line, report: &mut R) -> Result<Status, Stop>
+    ensures verdict { SaysVerdict (R.lines report.old) (R.lines report.new) result (refused (text_of why.now)) }
+    ensures ordinary { IfOk result IsOrdinary }
+    ensures cause { HasSayCause (R.faults report.old) (R.faults report.new) result }
+    ensures last { SaysLast (R.lines report.old) (R.lines report.new) result }
+{
+    say(alloc, report, why)?;
+    Ok(Status::Refused)
 }
 
 /// Says that the files failed, which takes no memory.

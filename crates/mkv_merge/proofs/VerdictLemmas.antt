@@ -1,14 +1,13 @@
 -- A merge comes to its verdict.
-use Rattle.std.proofs.Common.{◌≡◌, ℕ, Bool, ◌||◌, List, [], ◌++◌, map, Result, Ok, Err, IfOk, append-nil, sym, ◌∙◌, ap, subst}
+use Rattle.std.proofs.Common.{◌≡◌, ℕ, Bool, ◌||◌, List, ◌++◌, map, Result, Err, IfOk, inl, refl, sym, ◌∙◌, ap, subst}
 use Rattle.std.specs.List.{flat_map}
 use mathlib.Core.List.{map-map}
 use Rattle.mkv_io.specs.Lines.{with_lines}
 use Rattle.mkv_io.specs.LiveFiles.{LiveFiles}
 use Rattle.mkv_io.specs.Names.{Names}
-use Rattle.mkv_outputs.specs.Drafts.{Draft, StandsInTurn}
+use Rattle.mkv_outputs.specs.Drafts.{StandsInTurn}
 use Rattle.mkv_outputs.specs.Drafts.{outputs_of as outputs_of_drafts}
 use Rattle.mkv_outputs.specs.Outputs.{with_outputs}
-use Rattle.mkv_outputs.proofs.DraftsLemmas.{StandsInTurn-whole}
 use Rattle.remux_plan.specs.Parts.{PlannedOutput, outputs_in}
 use Rattle.remux_plan.specs.Summary.{IsSummary, count_to, damages_of, written_of}
 use Rattle.remux_plan.specs.declared.plan.MergePlan.{MergePlan}
@@ -27,8 +26,8 @@ use Rattle.mkv_lines.specs.Seen.{Seen}
 use Rattle.mkv_lines.specs.Verdict.{Reaches, in_turn}
 use Rattle.mkv_lines.specs.declared.status.Status.{Status}
 use Rattle.mkv_lines.specs.declared.status.Stop.{Stop}
-use Rattle.mkv_lines.proofs.SaidLemmas.{SaysPart-all, SaysPart-before, SaysPart-behind, Says-then}
-use Rattle.mkv_lines.proofs.VerdictLemmas.{Leaves-same}
+use Rattle.mkv_lines.proofs.SaidLemmas.{SaysPart-all}
+use Rattle.mkv_lines.proofs.VerdictLemmas.{Leaves-same, Reaches-behind}
 use Rattle.mkv_merge.specs.Merge.{has_absent, has_damage, lines_before, lines_behind, merged_verdict, output_line, outputs_of, status_of}
 use Rattle.mkv_merge.specs.Prepared.{reads_in}
 use Rattle.mkv_merge.specs.Told.{is_warned, warnings_from}
@@ -59,21 +58,18 @@ warned-told f words inputs p sources s is sums absent =
 -- a warning of a track that isn't there couldn't be said
 pub merge-begun : (old new : Seen) (why : Stop) (f : LiveFiles) (words : MergeWords) (inputs : List Input) (p : MergePlan) (sources : List Source) → IsMergeOf f words inputs p sources → SaysPart old.lines new.lines (lines_before words (reads_in inputs)) → new.names ≡ old.names → Reaches old new (Err why) (merged_verdict words sources)
 merge-begun old new why f words inputs p sources is part names =
-    let reads = reads-are f words inputs p sources is in
-    record {
-      lines = SaysPart-before old.lines new.lines (lines_before words (reads_of sources)) (lines_behind words sources) (subst (λ (rs : List InputRead). SaysPart old.lines new.lines (lines_before words rs)) (sym reads) part);
-      names = Leaves-same old.names new.names (in_turn (drafts_of (outputs_of words sources))) names;
-    }
+    inl (
+      subst (λ (rs : List InputRead). SaysPart old.lines new.lines (lines_before words rs)) (sym (reads-are f words inputs p sources is)) part,
+      Leaves-same old.names new.names (in_turn (drafts_of (outputs_of words sources))) names,
+    )
 
 -- all that isn't there was warned of, and an output couldn't be written
 pub merge-left : (old new : Seen) (why : Stop) (f : LiveFiles) (words : MergeWords) (inputs : List Input) (p : MergePlan) (sources : List Source) → IsMergeOf f words inputs p sources → new.lines ≡ with_lines old.lines (lines_before words (reads_in inputs)) → StandsInTurn old.names new.names (drafts_of (outputs_in f p)) → Reaches old new (Err why) (merged_verdict words sources)
 merge-left old new why f words inputs p sources is said stands =
-    let reads = reads-are f words inputs p sources is in
-    record {
-      lines = SaysPart-before old.lines new.lines (lines_before words (reads_of sources)) (lines_behind words sources)
-          (SaysPart-all old.lines new.lines (lines_before words (reads_of sources)) (said ∙ ap (λ (rs : List InputRead). with_lines old.lines (lines_before words rs)) (sym reads)));
-      names = subst (λ (os : List PlannedOutput). StandsInTurn old.names new.names (drafts_of os)) (outputs-are f words inputs p sources is) stands;
-    }
+    inl (
+      SaysPart-all old.lines new.lines (lines_before words (reads_of sources)) (said ∙ ap (λ (rs : List InputRead). with_lines old.lines (lines_before words rs)) (sym (reads-are f words inputs p sources is))),
+      subst (λ (os : List PlannedOutput). StandsInTurn old.names new.names (drafts_of os)) (outputs-are f words inputs p sources is) stands,
+    )
 
 -- the outputs stand whole
 all-whole : (old new : Names) (outputs : List PlannedOutput) → WritesAll old new outputs → new ≡ with_outputs old (outputs_of_drafts (drafts_of outputs))
@@ -85,7 +81,10 @@ pub merge-told : (old new : Seen) (mid : ReportLines) (r : Result Status Stop) (
     → Says mid new.lines (map (λ (w : Written). wrote_blocks_line w.name w.blocks) s.outputs ++ warnings_from s 0 words.files) r → IfOk r (λ (status : Status). status ≡ status_of (is_warned absent s))
     → WritesAll old.names new.names (outputs_in f p) → Reaches old new r (merged_verdict words sources)
 merge-told old new mid r f words inputs p sources s absent is sums missing before says status writes =
-    step r (subst (λ (lines : List (List ℕ)). Says mid new.lines lines r) (behind-told f words inputs p sources s is sums) says) status
+    Reaches-behind old new mid r (merged_verdict words sources) (lines_behind words sources) refl first
+    (subst (λ (lines : List (List ℕ)). Says mid new.lines lines r) (behind-told f words inputs p sources s is sums) says)
+    (subst (λ (some : Bool). IfOk r (λ (status : Status). status ≡ status_of some)) warned status)
+    whole
   where
     reads : reads_in inputs ≡ reads_of sources
     reads = sym (reads-are f words inputs p sources is)
@@ -93,26 +92,10 @@ merge-told old new mid r f words inputs p sources s absent is sums missing befor
     first : mid ≡ with_lines old.lines (lines_before words (reads_of sources))
     first = before ∙ ap (λ (rs : List InputRead). with_lines old.lines (lines_before words rs)) reads
 
-    drafts : List Draft
-    drafts = drafts_of (outputs_of words sources)
-
-    whole : new.names ≡ with_outputs old.names (outputs_of_drafts drafts)
+    whole : new.names ≡ with_outputs old.names (outputs_of_drafts (drafts_of (outputs_of words sources)))
     whole =
         all-whole old.names new.names (outputs_in f p) writes
         ∙ ap (λ (os : List PlannedOutput). with_outputs old.names (outputs_of_drafts (drafts_of os))) (outputs-are f words inputs p sources is)
 
     warned : is_warned absent s ≡ (has_absent words (reads_of sources) || has_damage sources)
     warned = warned-told f words inputs p sources s is sums absent ∙ ap (λ (some : Bool). some || has_damage sources) (missing ∙ ap (has_absent words) reads)
-
-    step : (r : Result Status Stop) → Says mid new.lines (lines_behind words sources) r → IfOk r (λ (status : Status). status ≡ status_of (is_warned absent s)) → Reaches old new r (merged_verdict words sources)
-    step (Ok done) says status = (
-      status ∙ ap status_of warned,
-      record {
-        lines = Says-then old.lines mid new.lines (lines_before words (reads_of sources)) (lines_behind words sources) (Ok done) first says;
-        names = whole;
-      },
-    )
-    step (Err why) says status = record {
-      lines = SaysPart-behind old.lines mid new.lines (lines_before words (reads_of sources)) (lines_behind words sources) first says;
-      names = subst (StandsInTurn old.names new.names) (append-nil drafts) (StandsInTurn-whole old.names new.names drafts [] whole);
-    }

@@ -166,6 +166,7 @@ abbrev pub merged_verdict : MergeWords → List Source → Verdict
 merged_verdict words sources = record {
   status = status_of (has_absent words (reads_of sources) || has_damage sources);
   lines = lines_before words (reads_of sources) ++ lines_behind words sources;
+  before = lines_before words (reads_of sources);
   outputs = in_turn (drafts_of (outputs_of words sources));
 }
 

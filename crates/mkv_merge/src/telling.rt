@@ -116,8 +116,7 @@ pub fn refuse<P: Report>(
     ensures ordinary { IfOk result IsOrdinary }
     ensures cause { HasSayCause (P.faults report.old) (P.faults report.new) result }
 {
-    say(alloc, report, &line_of(words, why))?;
-    Ok(Status::Refused)
+    mkv_lines::refuse(alloc, &line_of(words, why), report)
 }
 
 /// Warns of the tracks that the words name of a file with so many tracks, and that it hasn't.

@@ -14,13 +14,12 @@ use Rattle.mkv_disk.proofs.MomentsLemmas.{joined, same, stays, weaker}
 use Rattle.mkv_disk.proofs.WritingLemmas.{IsLeft}
 use Rattle.mkv_jobs.specs.declared.edit.Edit.{Edit}
 use Rattle.mkv_lines.specs.Code.{status_of}
-use Rattle.mkv_lines.specs.Said.{HasSayCause, ReportLines, SaysPart}
+use Rattle.mkv_lines.specs.Said.{ReportLines}
 use Rattle.mkv_lines.specs.Verdict.{SaysVerdict, Verdict, done, nothing, refused}
 use Rattle.mkv_lines.specs.declared.status.Status.{Status}
 use Rattle.mkv_lines.specs.declared.status.Status.TheVariants as status
 use Rattle.mkv_lines.specs.declared.status.Stop.{Stop}
 use Rattle.mkv_lines.specs.declared.status.Stop.TheVariants as stop
-use Rattle.mkv_lines.proofs.SaidLemmas.{SaysPart-none}
 use Rattle.mkv_recover.specs.Recover.{DiskWorld, disk_world}
 use Rattle.mkv_recover.specs.Recovery.{HasDiskStop}
 use Rattle.mkv_recover.proofs.RecoverLemmas.{said-stop}
@@ -39,7 +38,7 @@ use Rattle.edit_format.specs.Plan.{edited, plan_of, recorded as record_for}
 use Rattle.edit_plan.specs.Record.{record_of}
 use Rattle.edit_plan.proofs.RecordLemmas.{writes_of-recorded}
 use Rattle.mkv_propedit.specs.Left.{HasMadeCause, IsEdit, IsPropediting, IsUnderway, LeavesEdited, LeavesPlanned, StaysOpen}
-use Rattle.mkv_propedit.specs.Propedit.{SaysLast, propedit_on, propedit_verdict, told, unless_begun}
+use Rattle.mkv_propedit.specs.Propedit.{propedit_on, propedit_verdict, told, unless_begun}
 
 -- ---- a quiet sidecar
 
@@ -176,26 +175,9 @@ module _ {D : Type 0} (d : Ghosts D) (edits : List Edit) where
 
 -- ---- what was carried out is told
 
-module _ (old new : ReportLines) where
-  -- what only says lines isn't stopped by the disk
-  pub says-last : (before now : ℕ) (result : Result Status Stop) (v : Verdict) → SaysVerdict old new result v → HasSayCause before now result → SaysLast old new result v
-  says-last before now (Ok s) v says cause = says
-  says-last before now (Err stop.Memory) v says cause = says
-  says-last before now (Err stop.Files) v says cause = says
-  says-last before now (Err stop.Disk) v says cause = absurd cause
-  says-last before now (Err stop.Report) v says cause = says
-
-  -- none is a first part of them
-  pub last-says : (result : Result Status Stop) (v : Verdict) → SaysLast old new result v → SaysVerdict old new result v
-  last-says (Ok s) v says = says
-  last-says (Err stop.Memory) v says = says
-  last-says (Err stop.Files) v says = says
-  last-says (Err stop.Disk) v same = subst (λ (lines : ReportLines). SaysPart old lines v.lines) (sym same) (SaysPart-none old v.lines)
-  last-says (Err stop.Report) v says = says
-
 module _ {A E : Type 0} (before now : ℕ) where
   pub made-left : (p : Planned) (M S : List ℕ) (q : Pair) (line : List ℕ) (old new : ReportLines) (made : Result A E) (result : Result Status Stop) → OnOk made (q ≡ both (applied M (writes_of p)) (0 ∷ []))
-      → HasMadeCause made before now result → SaysLast old new result (done (line ∷ [])) → LeavesPlanned (status_of result) p M S q
+      → HasMadeCause made before now result → SaysVerdict old new result (done (line ∷ [])) → LeavesPlanned (status_of result) p M S q
   made-left p M S q line old new (Ok u) (Ok s) is cause says = subst (λ (t : Status). LeavesPlanned t p M S q) (sym says.0) is
   made-left p M S q line old new (Ok u) (Err stop.Memory) is cause says = absurd (cause.1 refl)
   made-left p M S q line old new (Ok u) (Err stop.Files) is cause says = tt

@@ -1,12 +1,8 @@
 -- What `propedit` comes to: its status and its lines.
-use Rattle.std.specs.Prelude.{◌≡◌, ℕ, Bool, if◌then◌else◌, List, [], ◌∷◌, codes, Result, Ok, Err}
+use Rattle.std.specs.Prelude.{ℕ, Bool, if◌then◌else◌, List, [], ◌∷◌, codes, Result, Ok, Err}
 use Rattle.mkv_jobs.specs.declared.edit.Edit.{Edit}
 use Rattle.mkv_lines.specs.Line.{bad_sidecar_line, edit_refused_line, edit_too_large_line, edited_line, missing_line, no_room_line, pending_edit_line, refusal_line}
-use Rattle.mkv_lines.specs.Said.{ReportLines}
-use Rattle.mkv_lines.specs.Verdict.{SaysVerdict, Verdict, done, refused}
-use Rattle.mkv_lines.specs.declared.status.Status.{Status}
-use Rattle.mkv_lines.specs.declared.status.Stop.{Stop}
-use Rattle.mkv_lines.specs.declared.status.Stop.TheVariants as stop
+use Rattle.mkv_lines.specs.Verdict.{Verdict, done, refused}
 use Rattle.mkv_recover.specs.Recover.{DiskWorld}
 use Rattle.sidecar_format.specs.declared.gate.Gate.{Gate}
 use Rattle.sidecar_format.specs.declared.gate.Gate.TheVariants.{Bad, Live, Quiet}
@@ -62,11 +58,3 @@ propedit_verdict is_there name edits media sidecar =
 -- what it comes to over a disk that tells all
 abbrev pub propedit_on : DiskWorld → List ℕ → List Edit → Verdict
 propedit_on world name edits = propedit_verdict (world.is_there name) name edits world.media world.sidecar
-
--- ---- when it is said
-
--- The lines of its verdict are said, or a first part of them where the command stopped. They come last: where the disk stopped it, none
--- is said.
-abbrev pub SaysLast : ReportLines → ReportLines → Result Status Stop → Verdict → Type 0
-SaysLast old new (Err stop.Disk) v = new ≡ old
-SaysLast old new result v = SaysVerdict old new result v

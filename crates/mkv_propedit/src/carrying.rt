@@ -8,13 +8,13 @@ ghost use Rattle.mkv_disk.specs.Writing.{OnlyWrites};
 ghost use Rattle.mkv_lines.specs.Code.{status_of};
 ghost use Rattle.mkv_lines.specs.Line.{edited_line};
 ghost use Rattle.mkv_lines.specs.Ordinary.{IsOrdinary};
-ghost use Rattle.mkv_lines.specs.Verdict.{done};
+ghost use Rattle.mkv_lines.specs.Said.{SaysLast};
+ghost use Rattle.mkv_lines.specs.Verdict.{SaysVerdict, done};
 ghost use Rattle.mkv_recover.specs.Recovery.{HasDiskStop};
 ghost use Rattle.sidecar_format.specs.Fields.{writes_of};
 ghost use Rattle.sidecar_format.specs.Writes.{applied};
 ghost use Rattle.sidecar_edit.specs.Leaves.{IsEditing};
 ghost use Rattle.mkv_propedit.specs.Left.{IsPlannedFor, LeavesPlanned};
-ghost use Rattle.mkv_propedit.specs.Propedit.{SaysLast};
 
 use crate::telling::{edited_text, tell};
 use mkv_disk::Disk;
@@ -35,12 +35,13 @@ pub fn edit_planned<D: Disk, R: Report>(
     requires ready { IsReady D.Reads D.Disk.own disk.old }
     requires some { 1 ≤ length plan.now.head.places }
     requires planned { OfReads D.Disk.own disk.old (IsPlannedFor plan.now) }
-    ensures verdict { SaysLast (R.lines report.old) (R.lines report.new) result (done (edited_line name.now ∷ [])) }
+    ensures verdict { SaysVerdict (R.lines report.old) (R.lines report.new) result (done (edited_line name.now ∷ [])) }
     ensures ordinary { IfOk result IsOrdinary }
     ensures pair { OfReads D.Disk.own disk.old (λ M S. LeavesPlanned (status_of result) plan.now M S (D.pair disk.new)) }
     ensures any_moment { AnyMoment D.Disk.own disk.old disk.new (λ M S m s. IsEditing plan.now M m s) }
     ensures only { OnlyWrites D.Reads D.Disk.own disk.old disk.new }
     ensures cause { HasDiskStop D.Reads D.Disk.own disk.old disk.new (R.faults report.old) (R.faults report.new) result }
+    ensures last { SaysLast (R.lines report.old) (R.lines report.new) result }
 {
     let Ok(edited) = edited_text(alloc, name) else {
         return Err(Stop::Memory);

@@ -6,12 +6,14 @@ ghost use Rattle.mkv_disk.specs.Calls.{AtRest, IsReady, OfReads};
 ghost use Rattle.mkv_disk.specs.declared.disk.TheConstants.{MEDIA};
 ghost use Rattle.mkv_lines.specs.Code.{status_of};
 ghost use Rattle.mkv_lines.specs.Ordinary.{IsOrdinary};
+ghost use Rattle.mkv_lines.specs.Said.{SaysLast};
+ghost use Rattle.mkv_lines.specs.Verdict.{SaysVerdict};
 ghost use Rattle.mkv_recover.specs.Recovery.{HasDiskStop};
 ghost use Rattle.sidecar_format.specs.Gate.{state};
 ghost use Rattle.edit_format.specs.Plan.{edited};
 ghost use Rattle.mkv_propedit.specs.Bound.{most_to_edit, most_to_plan};
 ghost use Rattle.mkv_propedit.specs.Left.{IsEdit, IsEditOf, StaysOpen};
-ghost use Rattle.mkv_propedit.specs.Propedit.{SaysLast, propedit_verdict, told, unless_begun};
+ghost use Rattle.mkv_propedit.specs.Propedit.{propedit_verdict, told, unless_begun};
 
 use crate::carrying::edit_planned;
 use crate::telling::refusal_line;
@@ -19,8 +21,7 @@ use edit_plan::{PlanEnd, plan};
 use mkv_disk::{Disk, SIDECAR};
 use mkv_io::Report;
 use mkv_jobs::Edit;
-use mkv_lines::{Line, Status, Stop};
-use mkv_recover::refuse;
+use mkv_lines::{Line, Status, Stop, refuse};
 use mkv_values::{Failed, List, OpenFault};
 use sidecar_edit::state;
 use sidecar_format::Gate;
@@ -36,13 +37,14 @@ pub fn propedit_of<D: Disk, R: Report>(
     report: &mut R,
 ) -> Result<Status, Stop>
     requires { AtRest D.Disk.own disk.old }
-    ensures verdict { OfReads D.Disk.own disk.old (λ M S. SaysLast (R.lines report.old) (R.lines report.new) result
+    ensures verdict { OfReads D.Disk.own disk.old (λ M S. SaysVerdict (R.lines report.old) (R.lines report.new) result
         (propedit_verdict (D.is_there disk.old name.now) name.now edits.now M S)) }
     ensures ordinary { IfOk result IsOrdinary }
     ensures edit { IsEditOf D.Reads D.Disk.own name.now edits.now disk.old disk.new (status_of result) }
     ensures octets { OfReads D.Disk.own disk.old (λ M S.
         D.octets_read disk.new ≤ D.octets_read disk.old + most_to_edit (length M)) }
     ensures cause { HasDiskStop D.Reads D.Disk.own disk.old disk.new (R.faults report.old) (R.faults report.new) result }
+    ensures last { SaysLast (R.lines report.old) (R.lines report.new) result }
 {
     match disk.open_pair(name) {
         Ok(()) => edit_open(alloc, name, edits, disk, report),
@@ -61,12 +63,13 @@ fn edit_open<D: Disk, R: Report>(
     report: &mut R,
 ) -> Result<Status, Stop>
     requires { IsReady D.Reads D.Disk.own disk.old }
-    ensures verdict { OfReads D.Disk.own disk.old (λ M S. SaysLast (R.lines report.old) (R.lines report.new) result
+    ensures verdict { OfReads D.Disk.own disk.old (λ M S. SaysVerdict (R.lines report.old) (R.lines report.new) result
         (unless_begun name.now (state S) (told name.now (edited M edits.now)))) }
     ensures ordinary { IfOk result IsOrdinary }
     ensures edit { IsEdit D.Disk.own edits.now disk.old disk.new (status_of result) }
     ensures stays { StaysOpen D.Reads D.Disk.own disk.old disk.new (most_to_edit (file_size D.Reads disk.old MEDIA)) }
     ensures cause { HasDiskStop D.Reads D.Disk.own disk.old disk.new (R.faults report.old) (R.faults report.new) result }
+    ensures last { SaysLast (R.lines report.old) (R.lines report.new) result }
 {
     match state(disk, SIDECAR) {
         Ok(Gate::Quiet) => edit_quiet(alloc, name, edits, disk, report),
@@ -86,12 +89,13 @@ fn edit_quiet<D: Disk, R: Report>(
 ) -> Result<Status, Stop>
     requires ready { IsReady D.Reads D.Disk.own disk.old }
     requires quiet { OfReads D.Disk.own disk.old (λ M S. state S ≡ Gate.Quiet) }
-    ensures verdict { OfReads D.Disk.own disk.old (λ M S. SaysLast (R.lines report.old) (R.lines report.new) result
+    ensures verdict { OfReads D.Disk.own disk.old (λ M S. SaysVerdict (R.lines report.old) (R.lines report.new) result
         (told name.now (edited M edits.now))) }
     ensures ordinary { IfOk result IsOrdinary }
     ensures edit { IsEdit D.Disk.own edits.now disk.old disk.new (status_of result) }
     ensures stays { StaysOpen D.Reads D.Disk.own disk.old disk.new (most_to_plan (file_size D.Reads disk.old MEDIA)) }
     ensures cause { HasDiskStop D.Reads D.Disk.own disk.old disk.new (R.faults report.old) (R.faults report.new) result }
+    ensures last { SaysLast (R.lines report.old) (R.lines report.new) result }
 {
     match plan(alloc, disk, edits) {
         Ok(plan) => edit_planned(alloc, name, &plan, disk, report),

@@ -4,10 +4,10 @@ ghost use Rattle.std.specs.Prelude.{◌≡◌, [], ◌∷◌, IfOk};
 ghost use Rattle.std.specs.String.{string_bytes};
 ghost use Rattle.mkv_lines.specs.Line.{edited_line, text_of};
 ghost use Rattle.mkv_lines.specs.Ordinary.{IsOrdinary};
-ghost use Rattle.mkv_lines.specs.Verdict.{done};
+ghost use Rattle.mkv_lines.specs.Said.{SaysLast};
+ghost use Rattle.mkv_lines.specs.Verdict.{SaysVerdict, done};
 ghost use Rattle.mkv_propedit.specs.Left.{HasMadeCause};
 ghost use Rattle.mkv_propedit.specs.Propedit as spec;
-ghost use Rattle.mkv_propedit.specs.Propedit.{SaysLast};
 
 use edit_format::{Refusal, Room, Why};
 use mkv_io::Report;
@@ -29,9 +29,10 @@ pub fn tell<R: Report>(
     made: Result<(), DiskFault>,
     report: &mut R,
 ) -> Result<Status, Stop>
-    ensures verdict { SaysLast (R.lines report.old) (R.lines report.new) result (done (edited.now ∷ [])) }
+    ensures verdict { SaysVerdict (R.lines report.old) (R.lines report.new) result (done (edited.now ∷ [])) }
     ensures ordinary { IfOk result IsOrdinary }
     ensures cause { HasMadeCause made (R.faults report.old) (R.faults report.new) result }
+    ensures last { SaysLast (R.lines report.old) (R.lines report.new) result }
 {
     match made {
         Ok(()) => {

@@ -6,4 +6,3 @@ mod recovering;
 mod telling;
 
 pub use recovering::recover_of;
-pub use telling::refuse;

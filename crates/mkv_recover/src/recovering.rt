@@ -4,15 +4,16 @@ ghost use Rattle.std.specs.Prelude.{◌≡◌, IfOk};
 ghost use Rattle.mkv_disk.specs.Calls.{AtRest, IsReady, OfReads};
 ghost use Rattle.mkv_lines.specs.Code.{status_of};
 ghost use Rattle.mkv_lines.specs.Ordinary.{IsOrdinary};
+ghost use Rattle.mkv_lines.specs.Said.{SaysLast};
 ghost use Rattle.mkv_lines.specs.Verdict.{SaysVerdict};
 ghost use Rattle.sidecar_format.specs.Recovery.{recovery};
 ghost use Rattle.mkv_recover.specs.Recover.{recover_verdict, told};
 ghost use Rattle.mkv_recover.specs.Recovery.{HasDiskStop, IsRecovery, IsRecoveryOf};
 
-use crate::telling::{recovered_text, refuse, tell};
+use crate::telling::{recovered_text, tell};
 use mkv_disk::Disk;
 use mkv_io::Report;
-use mkv_lines::{Line, Status, Stop};
+use mkv_lines::{Line, Status, Stop, refuse};
 use mkv_values::OpenFault;
 use sidecar_edit::recover;
 use std::alloc::Global;
@@ -30,6 +31,7 @@ pub fn recover_of<D: Disk, R: Report>(
     ensures ordinary { IfOk result IsOrdinary }
     ensures recovery { IsRecoveryOf D.Reads D.Disk.own name.now disk.old disk.new (status_of result) }
     ensures cause { HasDiskStop D.Reads D.Disk.own disk.old disk.new (R.faults report.old) (R.faults report.new) result }
+    ensures last { SaysLast (R.lines report.old) (R.lines report.new) result }
 {
     match disk.open_pair(name) {
         Ok(()) => recover_open(alloc, name, disk, report),
@@ -52,6 +54,7 @@ fn recover_open<D: Disk, R: Report>(
     ensures recovery { IsRecovery D.Disk.own disk.old disk.new (status_of result) }
     ensures opened { D.opened disk.new ≡ D.opened disk.old }
     ensures cause { HasDiskStop D.Reads D.Disk.own disk.old disk.new (R.faults report.old) (R.faults report.new) result }
+    ensures last { SaysLast (R.lines report.old) (R.lines report.new) result }
 {
     let Ok(recovered) = recovered_text(alloc, name) else {
         return Err(Stop::Memory);

@@ -2,15 +2,15 @@
 
 ghost use Rattle.std.specs.Prelude.{◌≡◌, IfOk};
 ghost use Rattle.std.specs.String.{string_bytes};
-ghost use Rattle.mkv_lines.specs.Line.{recovered_line, text_of};
+ghost use Rattle.mkv_lines.specs.Line.{recovered_line};
 ghost use Rattle.mkv_lines.specs.Ordinary.{IsOrdinary};
-ghost use Rattle.mkv_lines.specs.Said.{HasSayCause};
-ghost use Rattle.mkv_lines.specs.Verdict.{SaysVerdict, refused};
+ghost use Rattle.mkv_lines.specs.Said.{SaysLast};
+ghost use Rattle.mkv_lines.specs.Verdict.{SaysVerdict};
 ghost use Rattle.mkv_recover.specs.Recover.{told};
 ghost use Rattle.mkv_recover.specs.Recovery.{HasTellCause};
 
 use mkv_io::Report;
-use mkv_lines::{Line, Status, Stop, say, say_text};
+use mkv_lines::{Line, Status, Stop, refuse, say, say_text};
 use sidecar_format::{RecoverEnd, Recovered};
 use std::alloc::{AllocError, Global};
 
@@ -35,6 +35,7 @@ pub fn tell<R: Report>(
     ensures verdict { SaysVerdict (R.lines report.old) (R.lines report.new) result (told name.now outcome) }
     ensures ordinary { IfOk result IsOrdinary }
     ensures cause { HasTellCause outcome (R.faults report.old) (R.faults report.new) result }
+    ensures last { SaysLast (R.lines report.old) (R.lines report.new) result }
 {
     match outcome {
         Ok(Recovered::Applied) => say_text(report, recovered)?,
@@ -54,14 +55,4 @@ pub fn tell<R: Report>(
         Err(RecoverEnd::DiskFault) => return Err(Stop::Disk),
     }
     Ok(Status::Done)
-}
-
-/// Says why nothing is done.
-pub fn refuse<R: Report>(alloc: Global, why: &Line, report: &mut R) -> Result<Status, Stop>
-    ensures verdict { SaysVerdict (R.lines report.old) (R.lines report.new) result (refused (text_of why.now)) }
-    ensures ordinary { IfOk result IsOrdinary }
-    ensures cause { HasSayCause (R.faults report.old) (R.faults report.new) result }
-{
-    say(alloc, report, why)?;
-    Ok(Status::Refused)
 }

@@ -11,8 +11,8 @@ use Rattle.mkv_disk.specs.Pair.{IsPairImage}
 use Rattle.mkv_disk.proofs.MomentsLemmas.{stays}
 use Rattle.mkv_disk.specs.declared.disk.Disk as disks
 use Rattle.mkv_lines.specs.Faults.{HasStopCause}
-use Rattle.mkv_lines.specs.Said.{HasSayCause, ReportLines, Says, SaysPart, SaysUpTo}
-use Rattle.mkv_lines.specs.Verdict.{Reaches, Verdict}
+use Rattle.mkv_lines.specs.Said.{HasSayCause, ReportLines, Says, SaysLast, SaysPart, SaysUpTo}
+use Rattle.mkv_lines.specs.Verdict.{Reaches, StopsSaying, Verdict}
 use Rattle.mkv_lines.specs.Ordinary.{IsOrdinary}
 use Rattle.sidecar_edit.proofs.GateLemmas.{both_image}
 use Rattle.mkv_jobs.specs.declared.edit.Edit.{Edit}
@@ -32,7 +32,7 @@ use Rattle.mkv_jobs.specs.declared.job.Job.{Job}
 use Rattle.mkv_jobs.specs.declared.job.Job.TheVariants as jobs
 use Rattle.mkv_args.specs.Sound.{IsSoundJob}
 use Rattle.extract_model.specs.Job.{CanBeDone}
-use Rattle.mkv_lines.proofs.SaidLemmas.{with_lines-both, with_lines-none}
+use Rattle.mkv_lines.proofs.SaidLemmas.{SaysPart-before, SaysPart-none, with_lines-both, with_lines-none}
 
 -- the line of the fault stands behind a first part of the lines
 fault_behind : (fault : List ℕ) (old mid new : ReportLines) (all : List (List ℕ)) → SaysPart old mid all → new ≡ with_lines mid (fault ∷ []) → SaysFault old new all fault
@@ -57,6 +57,11 @@ fault_or_not fault old mid new all (line ∷ lines) left part whole added =
     let rest : lines ≡ [] = last_alone lines left (cc) in
     inl (fault_behind fault old mid new all part (added ∙ ap (λ (l : List ℕ). with_lines mid (l ∷ lines)) first ∙ ap (λ (ls : List (List ℕ)). with_lines mid (fault ∷ ls)) rest))
 
+-- what is said of lines on the way is said of them at the end
+pub stops-saying : (P Q : List (List ℕ) → Type 0) (old new : Names) (v : Verdict) → ((all : List (List ℕ)) → P all → Q all) → StopsSaying P old new v → StopsSaying Q old new v
+stops-saying P Q old new v so stops =
+    elim stops [ inl within ↦ inl (so v.before within.0, within.1) | inr behind ↦ inr (so v.lines behind.0, behind.1) ]
+
 -- a fault is told behind the lines of the command, unless the report fails
 pub fault-told : {T : Type 0} (fault : List ℕ) (before now : ℕ) (old mid new : ReportLines) (all : List (List ℕ)) (r : Result T Stop) → SaysPart old mid all → Says mid new (fault ∷ []) r → HasSayCause before now r → (r ≡ Err stop.Memory → ⊥)
     → SaysFault old new all fault ⊎ (HasRisen before now × SaysPart old new all)
@@ -66,6 +71,18 @@ fault-told fault before now old mid new all (Err stop.Files) part says cause som
 fault-told fault before now old mid new all (Err stop.Disk) part says cause some = absurd cause
 fault-told fault before now old mid new all (Err stop.Report) part says cause some =
     elim (fault_or_not fault old mid new all says.said says.left part says.whole says.added) [ inl told ↦ inl told | inr untold ↦ inr (cause, untold) ]
+
+-- a fault before which nothing was said is told alone, unless the report fails
+pub fault-alone : {T : Type 0} (fault : List ℕ) (before now : ℕ) (old mid new : ReportLines) (all : List (List ℕ)) (r : Result T Stop) → mid ≡ old → Says mid new (fault ∷ []) r → HasSayCause before now r → (r ≡ Err stop.Memory → ⊥)
+    → (new ≡ with_lines old (fault ∷ [])) ⊎ (HasRisen before now × SaysPart old new all)
+fault-alone fault before now old mid new all r same says cause some =
+    elim (fault-told fault before now old mid new [] r none says cause some) [
+      | inl told ↦ inl (told.added ∙ ap (λ (said : List (List ℕ)). with_lines old (said ++ fault ∷ [])) (last_alone told.said told.left told.whole))
+      | inr untold ↦ inr (untold.0, SaysPart-before old new [] all untold.1)
+    ]
+  where
+    none : SaysPart old mid []
+    none = subst (λ (held : ReportLines). SaysPart old held []) (sym same) (SaysPart-none old [])
 
 -- a command that ended ends the run
 pub ends-done : (old new : RunSeen) (s : Status) (v : Verdict) → IsOrdinary s → Reaches old.seen new.seen (Ok s) v → Ends old new s v
@@ -99,21 +116,22 @@ module _ {D : Type 0} (r : reads.Ghosts D) (d : disks.Ghosts D) (a b : D) (readi
     disk = record { reading = r.reading_faults b; writing = d.writing_faults b };
   }
 
-  pub disk-stop : {T : Type 0} (result : Result T Stop) → HasDiskStop r d a b before now result → HasRunStop old new result
-  disk-stop (Ok x) cause = record {
+  pub disk-stop : {T : Type 0} (result : Result T Stop) → HasDiskStop r d a b before now result → SaysLast lines lines_now result → HasRunStop old new result
+  disk-stop (Ok x) cause last = record {
     counts = λ i. record { reading = reading; writing = writing; report = cause.1 i };
     disk = λ i. record { reading = cause.0.reading i; writing = cause.0.writing i };
   }
-  disk-stop (Err stop.Memory) cause = record {
+  disk-stop (Err stop.Memory) cause last = record {
     counts = λ i. record { reading = reading; writing = writing; report = cause.1 i };
     disk = λ i. record { reading = cause.0.reading i; writing = cause.0.writing i };
   }
-  disk-stop (Err stop.Files) cause = absurd cause
-  disk-stop (Err stop.Disk) cause = (
+  disk-stop (Err stop.Files) cause last = absurd cause
+  disk-stop (Err stop.Disk) cause last = (
     elim cause.0 [ inl reads ↦ inl reads.0 | inr writes ↦ inr writes.1 ],
     λ i. record { reading = reading; writing = writing; report = cause.1 i },
+    last,
   )
-  disk-stop (Err stop.Report) cause = (cause.1, refl, λ i. record { reading = cause.0.reading i; writing = cause.0.writing i })
+  disk-stop (Err stop.Report) cause last = (cause.1, refl, λ i. record { reading = cause.0.reading i; writing = cause.0.writing i })
 
 -- ---- what a crash leaves
 

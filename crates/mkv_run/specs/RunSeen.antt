@@ -38,13 +38,14 @@ pub record IsFaultless (old new : RunSeen) : Type 0 where
   pub counts : new.seen.counts ≡ old.seen.counts
   pub disk : new.disk ≡ old.disk
 
--- Why a command stops: a fault is told only where a count of its object rose, and no other count does.
+-- Why a command stops: a fault is told only where a count of its object rose, and no other count does. Where the disk failed, no line
+-- was said.
 abbrev pub HasRunStop : {T : Type 0} → RunSeen → RunSeen → Result T Stop → Type 0
 HasRunStop old new (Ok _) = IsFaultless old new
 HasRunStop old new (Err stop.Memory) = IsFaultless old new
 HasRunStop old new (Err stop.Files) =
     FilesRose old.seen.counts new.seen.counts × (new.seen.counts.report ≡ old.seen.counts.report) × (new.disk ≡ old.disk)
-HasRunStop old new (Err stop.Disk) = DiskRose old.disk new.disk × (new.seen.counts ≡ old.seen.counts)
+HasRunStop old new (Err stop.Disk) = DiskRose old.disk new.disk × (new.seen.counts ≡ old.seen.counts) × (new.seen.lines ≡ old.seen.lines)
 HasRunStop old new (Err stop.Report) =
     ReportRose old.seen.counts new.seen.counts × (new.seen.counts ≡ record old.seen.counts { report = new.seen.counts.report }) × (new.disk ≡ old.disk)
 

@@ -29,7 +29,7 @@ use mkv_disk::Disk;
 use mkv_extract::extract_of;
 use mkv_info::{Form, info_of};
 use mkv_io::{Files, Report};
-use mkv_lines::{Line, Status, Stop, say, say_disk_fault, say_files_fault};
+use mkv_lines::{Line, Status, Stop, say_disk_fault, say_files_fault};
 use mkv_merge::{merge_of, takes};
 use mkv_propedit::propedit_of;
 use mkv_recover::recover_of;
@@ -183,6 +183,5 @@ fn refuse<R: Report>(alloc: Global, word: usize, why: &str, report: &mut R) -> R
     ensures ordinary { IfOk result IsOrdinary }
     ensures cause { HasSayCause (R.faults report.old) (R.faults report.new) result }
 {
-    say(alloc, report, &Line::Word { word, why })?;
-    Ok(Status::Refused)
+    mkv_lines::refuse(alloc, &Line::Word { word, why }, report)
 }

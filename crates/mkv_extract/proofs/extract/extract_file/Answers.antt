@@ -1,13 +1,27 @@
-use Rattle.std.proofs.Common.{◌≡◌, Some, sym, ◌∙◌, ap, subst}
+use Rattle.std.proofs.Common.{◌≡◌, Some, refl, sym, ◌∙◌, ap, subst}
 use Rattle.mkv_values.specs.declared.outside.FileId.{FileId}
 use Rattle.mkv_io.specs.Sources.{live_files}
 use Rattle.extractors.specs.Source.{events_in}
 use Rattle.mkv_lines.specs.Faults.{Counts, HasStopCause}
 use Rattle.mkv_lines.specs.Seen.{Seen, seen}
 use Rattle.mkv_lines.specs.Verdict.{Reaches, Verdict}
+use Rattle.mkv_lines.proofs.VerdictLemmas.{IsStopped-before}
 use Rattle.mkv_extract.specs.Extract.{job_verdict, read_verdict}
-use Rattle.mkv_extract.specs.Read.{read_in}
+use Rattle.mkv_extract.specs.Read.{read_in, read_of}
 use Rattle.mkv_extract.proofs.extract.extract_file.Goals as goal
+
+-- the file couldn't be read
+pub returns-in-Err-ReadFault-clause-verdict : goal.returns-in-Err-ReadFault-clause-verdict
+returns-in-Err-ReadFault-clause-verdict g c = λ bytes told.
+    IsStopped-before (seen g.F.Reads g.F.Files.writing_faults g.F.Files.names g.P.Report c.args.files.now c.args.report.now)
+    (seen g.F.Reads g.F.Files.writing_faults g.F.Files.names g.P.Report c.read_source.new.src c.args.report.now)
+    (read_verdict c.args.name.now c.args.job.now bytes (read_of c.args.job.now bytes)) refl (g.met.F.Files.names_stand c.read_source.new.src c.args.files.now c.in-Err-ReadFault.ensures.standing)
+
+pub returns-in-Err-Memory-clause-verdict : goal.returns-in-Err-Memory-clause-verdict
+returns-in-Err-Memory-clause-verdict g c = λ bytes told.
+    IsStopped-before (seen g.F.Reads g.F.Files.writing_faults g.F.Files.names g.P.Report c.args.files.now c.args.report.now)
+    (seen g.F.Reads g.F.Files.writing_faults g.F.Files.names g.P.Report c.read_source.new.src c.args.report.now)
+    (read_verdict c.args.name.now c.args.job.now bytes (read_of c.args.job.now bytes)) refl (g.met.F.Files.names_stand c.read_source.new.src c.args.files.now c.in-Err-Memory.ensures.standing)
 
 -- reading leaves all as it was
 pub returns-in-Ok-clause-verdict : goal.returns-in-Ok-clause-verdict

@@ -1,6 +1,5 @@
-use Rattle.std.proofs.Common.{Err, Ok, refl, ◌∙◌, ap}
+use Rattle.std.proofs.Common.{◌∙◌, ap}
 use Rattle.std.proofs.lemmas.Result.{err_from_is_err_and}
-use Rattle.mkv_lines.specs.declared.status.Status.TheVariants.{Refused}
 use Rattle.mkv_info.proofs.ListedLemmas.{reaches-part, reaches-second, reaches-refused, reaches-warned}
 use Rattle.mkv_info.proofs.list.list_outline.Goals as goal
 
@@ -22,14 +21,6 @@ returns-in_err-say_tracks-in-Ok-clause-verdict g c = λ bytes told outline.
     (reaches-second (g.P.Report.lines c.args.report.now) (g.P.Report.lines c.say_elements.new.report) (g.P.Report.lines c.say_tracks.new.report) c.args.name.now bytes c.args.outline.now c.in_ok-tracks.field-0 c.in-Ok.tracks p.0
     outline (c.in_ok-tracks.ensures.ok bytes told outline) c.in-Ok.is (c.in_ok-say_elements-in-Ok.ensures.said bytes now) c.in_err-say_tracks-in-Ok.ensures.said)
 
--- the refusal couldn't
-pub returns-in_err-say-in-Err-clause-verdict : goal.returns-in_err-say-in-Err-clause-verdict
-returns-in_err-say-in-Err-clause-verdict g c = λ bytes told outline.
-    let p = err_from_is_err_and c.from_residual-in_err-say-in-Err.result c.from_residual-in_err-say-in-Err.ensures.1 in
-    rw p.1
-    (reaches-refused (g.P.Report.lines c.args.report.now) (g.P.Report.lines c.say.new.report) c.args.name.now bytes c.args.outline.now c.in_ok-tracks.field-0 c.in-Err.damage (Err p.0)
-    outline (c.in_ok-tracks.ensures.ok bytes told outline) c.in-Err.is c.in_err-say-in-Err.ensures.said)
-
 -- all was said
 pub returns-in_ok-say_tracks-in-Ok-clause-verdict : goal.returns-in_ok-say_tracks-in-Ok-clause-verdict
 returns-in_ok-say_tracks-in-Ok-clause-verdict g c = λ bytes told outline.
@@ -38,7 +29,7 @@ returns-in_ok-say_tracks-in-Ok-clause-verdict g c = λ bytes told outline.
     outline (c.in_ok-tracks.ensures.ok bytes told outline) c.in-Ok.is c.damage.ensures (c.in_ok-say_elements-in-Ok.ensures.said bytes now) c.in_ok-say_tracks-in-Ok.ensures.said c.warn.ensures.said c.warn.ensures.status
 
 -- the tracks refuse the file
-pub returns-in_ok-say-in-Err-clause-verdict : goal.returns-in_ok-say-in-Err-clause-verdict
-returns-in_ok-say-in-Err-clause-verdict g c = λ bytes told outline.
-    reaches-refused (g.P.Report.lines c.args.report.now) (g.P.Report.lines c.say.new.report) c.args.name.now bytes c.args.outline.now c.in_ok-tracks.field-0 c.in-Err.damage (Ok Refused)
-    outline (c.in_ok-tracks.ensures.ok bytes told outline) c.in-Err.is (refl, c.in_ok-say-in-Err.ensures.said)
+pub returns-in-Err-clause-verdict : goal.returns-in-Err-clause-verdict
+returns-in-Err-clause-verdict g c = λ bytes told outline.
+    reaches-refused (g.P.Report.lines c.args.report.now) (g.P.Report.lines c.refuse.new.report) c.args.name.now bytes c.args.outline.now c.in_ok-tracks.field-0 c.in-Err.damage c.refuse.result
+    outline (c.in_ok-tracks.ensures.ok bytes told outline) c.in-Err.is c.refuse.ensures.verdict

@@ -10,6 +10,12 @@ use Rattle.mkv_merge.specs.declared.refusal.Refusal.{Refusal}
 use Rattle.mkv_merge.proofs.MergingLemmas.{chaptered-sources, reads-chaptered}
 use Rattle.mkv_merge.proofs.merging.merge_of.Goals as goal
 
+-- there was no memory for the names of the outputs
+pub returns-in-Err-clause-verdict : goal.returns-in-Err-clause-verdict
+returns-in-Err-clause-verdict g c = λ world told.
+    let still = seen g.F.Reads g.F.Files.writing_faults g.F.Files.names g.P.Report c.args.files.now c.args.report.now in
+    IsStopped-before still still (merge_verdict world c.args.words.now) refl refl
+
 -- the chapter file was looked into, and nothing that is seen has changed
 pub returns-in-Ok-clause-verdict : goal.returns-in-Ok-clause-verdict
 returns-in-Ok-clause-verdict g c = λ world told.

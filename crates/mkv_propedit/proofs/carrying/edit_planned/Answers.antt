@@ -1,12 +1,11 @@
 use Rattle.std.proofs.Common.{◌∙◌, ℕ, List, [], ◌∷◌, sym, subst}
 use Rattle.mkv_disk.proofs.MomentsLemmas.{stays}
 use Rattle.mkv_lines.specs.Line.{edited_line}
-use Rattle.mkv_lines.specs.Verdict.{done}
+use Rattle.mkv_lines.specs.Verdict.{SaysVerdict, done}
 use Rattle.sidecar_format.specs.Recovery.{IsQuiet}
 use Rattle.sidecar_edit.specs.Leaves.{IsEditing}
 use Rattle.sidecar_edit.proofs.EditLemmas.{editing-before}
 use Rattle.sidecar_edit.proofs.GateLemmas.{both_image}
-use Rattle.mkv_propedit.specs.Propedit.{SaysLast}
 use Rattle.mkv_propedit.proofs.PropeditLemmas.{made-left, made-stop}
 use Rattle.mkv_propedit.proofs.carrying.edit_planned.Goals as goal
 
@@ -27,7 +26,7 @@ returns-clause-pair g c = λ told.
     let d = g.D.Disk in let a = c.args.disk.now in
     made-left (g.R.Report.faults c.args.report.now) (g.R.Report.faults c.tell.new.report) c.args.plan.now (d.pair a).media.reads (d.pair a).sidecar.reads (d.pair c.carry_out-made.new.disk) (edited_line c.args.name.now)
     (g.R.Report.lines c.args.report.now) (g.R.Report.lines c.tell.new.report) c.carry_out-made.result c.tell.result (c.carry_out-made.ensures.ok told) c.tell.ensures.cause
-    (subst (λ (line : List ℕ). SaysLast (g.R.Report.lines c.args.report.now) (g.R.Report.lines c.tell.new.report) c.tell.result (done (line ∷ []))) (c.deref.ensures ∙ c.in-Ok.ensures) c.tell.ensures.verdict)
+    (subst (λ (line : List ℕ). SaysVerdict (g.R.Report.lines c.args.report.now) (g.R.Report.lines c.tell.new.report) c.tell.result (done (line ∷ []))) (c.deref.ensures ∙ c.in-Ok.ensures) c.tell.ensures.verdict)
 
 pub returns-clause-cause : goal.returns-clause-cause
 returns-clause-cause g c =

@@ -6,7 +6,7 @@ use Rattle.mkv_disk.specs.Pair.{IsPairImage, Pair}
 use Rattle.mkv_disk.proofs.WritingLemmas.{IsLeft, left-ready}
 use Rattle.mkv_lines.specs.Code.{status_of}
 use Rattle.mkv_lines.specs.Line.{bad_sidecar_line, pending_edit_line}
-use Rattle.mkv_lines.specs.Verdict.{refused}
+use Rattle.mkv_lines.specs.Verdict.{SaysVerdict}
 use Rattle.mkv_lines.specs.declared.status.Status.TheVariants as status
 use Rattle.mkv_recover.proofs.RecoverLemmas.{said-stop, stop-then}
 use Rattle.sidecar_format.specs.declared.gate.Gate.{Gate}
@@ -16,8 +16,8 @@ use Rattle.sidecar_format.specs.Gate.{state}
 use Rattle.edit_format.specs.Plan.{edited}
 use Rattle.mkv_propedit.specs.Bound.{most_to_edit, most_to_plan}
 use Rattle.mkv_propedit.specs.Left.{StaysOpen}
-use Rattle.mkv_propedit.specs.Propedit.{SaysLast, told, unless_begun}
-use Rattle.mkv_propedit.proofs.PropeditLemmas.{edit-none, edit-then, reads-moment, refused-left, says-last, stays-then}
+use Rattle.mkv_propedit.specs.Propedit.{told, unless_begun}
+use Rattle.mkv_propedit.proofs.PropeditLemmas.{edit-none, edit-then, reads-moment, refused-left, stays-then}
 use Rattle.mkv_propedit.proofs.editing.edit_open.Given.{Over}
 use Rattle.mkv_propedit.proofs.editing.edit_open.Goals as goal
 
@@ -60,8 +60,8 @@ returns-in-Ok-Quiet-clause-verdict g c = λ tells.
     let name = c.args.name.now in let edits = c.args.edits.now in
     let was = g.R.Report.lines c.args.report.now in let now = g.R.Report.lines c.edit_quiet.new.report in
     let is = c.in-Ok-Quiet.ensures.ok (g.D.Disk.pair a).sidecar.reads (g.met.D.Disk.contents a tells).1 in
-    let says = subst (λ (p : Pair). SaysLast was now c.edit_quiet.result (told name (edited p.media.reads edits))) left.pair (c.edit_quiet.ensures.verdict tells) in
-    subst (λ (gate : Gate). SaysLast was now c.edit_quiet.result (unless_begun name gate (told name (edited (g.D.Disk.pair a).media.reads edits)))) (sym c.in-Ok-Quiet.field-0-is ∙ is) says
+    let says = subst (λ (p : Pair). SaysVerdict was now c.edit_quiet.result (told name (edited p.media.reads edits))) left.pair (c.edit_quiet.ensures.verdict tells) in
+    subst (λ (gate : Gate). SaysVerdict was now c.edit_quiet.result (unless_begun name gate (told name (edited (g.D.Disk.pair a).media.reads edits)))) (sym c.in-Ok-Quiet.field-0-is ∙ is) says
 
 pub returns-in-Ok-Quiet-clause-edit : goal.returns-in-Ok-Quiet-clause-edit
 returns-in-Ok-Quiet-clause-edit g c =
@@ -87,8 +87,8 @@ returns-in-Ok-Live-clause-verdict g c = λ tells.
     let a = c.args.disk.now in let name = c.args.name.now in
     let was = g.R.Report.lines c.args.report.now in let now = g.R.Report.lines c.refuse.new.report in
     let is = c.in-Ok-Live.ensures.ok (g.D.Disk.pair a).sidecar.reads (g.met.D.Disk.contents a tells).1 in
-    subst (λ (gate : Gate). SaysLast was now c.refuse.result (unless_begun name gate (told name (edited (g.D.Disk.pair a).media.reads c.args.edits.now)))) (sym c.in-Ok-Live.field-0-is ∙ is)
-    (says-last was now (g.R.Report.faults c.args.report.now) (g.R.Report.faults c.refuse.new.report) c.refuse.result (refused (pending_edit_line name)) c.refuse.ensures.verdict c.refuse.ensures.cause)
+    subst (λ (gate : Gate). SaysVerdict was now c.refuse.result (unless_begun name gate (told name (edited (g.D.Disk.pair a).media.reads c.args.edits.now)))) (sym c.in-Ok-Live.field-0-is ∙ is)
+    c.refuse.ensures.verdict
 
 pub returns-in-Ok-Live-clause-edit : goal.returns-in-Ok-Live-clause-edit
 returns-in-Ok-Live-clause-edit g c =
@@ -110,8 +110,8 @@ returns-in-Ok-Bad-clause-verdict g c = λ tells.
     let a = c.args.disk.now in let name = c.args.name.now in
     let was = g.R.Report.lines c.args.report.now in let now = g.R.Report.lines c.refuse-in-Ok-Bad.new.report in
     let is = c.in-Ok-Bad.ensures.ok (g.D.Disk.pair a).sidecar.reads (g.met.D.Disk.contents a tells).1 in
-    subst (λ (gate : Gate). SaysLast was now c.refuse-in-Ok-Bad.result (unless_begun name gate (told name (edited (g.D.Disk.pair a).media.reads c.args.edits.now)))) (sym c.in-Ok-Bad.field-0-is ∙ is)
-    (says-last was now (g.R.Report.faults c.args.report.now) (g.R.Report.faults c.refuse-in-Ok-Bad.new.report) c.refuse-in-Ok-Bad.result (refused (bad_sidecar_line name c.in-Ok-Bad.offset)) c.refuse-in-Ok-Bad.ensures.verdict c.refuse-in-Ok-Bad.ensures.cause)
+    subst (λ (gate : Gate). SaysVerdict was now c.refuse-in-Ok-Bad.result (unless_begun name gate (told name (edited (g.D.Disk.pair a).media.reads c.args.edits.now)))) (sym c.in-Ok-Bad.field-0-is ∙ is)
+    c.refuse-in-Ok-Bad.ensures.verdict
 
 pub returns-in-Ok-Bad-clause-edit : goal.returns-in-Ok-Bad-clause-edit
 returns-in-Ok-Bad-clause-edit g c =

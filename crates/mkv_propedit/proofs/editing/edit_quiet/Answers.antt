@@ -12,8 +12,8 @@ use Rattle.sidecar_format.specs.Gate.{state}
 use Rattle.edit_format.specs.declared.refusal.Refusal.{Refusal}
 use Rattle.edit_plan.specs.Record.{record_of}
 use Rattle.mkv_propedit.specs.Left.{IsPlannedFor, IsPropediting}
-use Rattle.mkv_propedit.specs.Propedit.{SaysLast, told}
-use Rattle.mkv_propedit.proofs.PropeditLemmas.{edit-none, edit-then, leaves-planned, quiet-state, reads-moment, record-edited, record-made, record-refused, refused-left, says-last, underway}
+use Rattle.mkv_propedit.specs.Propedit.{told}
+use Rattle.mkv_propedit.proofs.PropeditLemmas.{edit-none, edit-then, leaves-planned, quiet-state, reads-moment, record-edited, record-made, record-refused, refused-left, underway}
 use Rattle.mkv_propedit.proofs.editing.edit_quiet.Given.{Over}
 use Rattle.mkv_propedit.proofs.editing.edit_quiet.Goals as goal
 
@@ -54,7 +54,7 @@ pub returns-in-Ok-clause-verdict : goal.returns-in-Ok-clause-verdict
 returns-in-Ok-clause-verdict g c = λ tells.
     let M = (g.D.Disk.pair c.args.disk.now).media.reads in let edits = c.args.edits.now in
     let was = g.R.Report.lines c.args.report.now in let now = g.R.Report.lines c.edit_planned.new.report in
-    subst (λ (r : Result (List ℕ) Refusal). SaysLast was now c.edit_planned.result (told c.args.name.now r)) (sym (record-edited M edits c.in-Ok.plan (c.in-Ok.ensures.exact tells))) c.edit_planned.ensures.verdict
+    subst (λ (r : Result (List ℕ) Refusal). SaysVerdict was now c.edit_planned.result (told c.args.name.now r)) (sym (record-edited M edits c.in-Ok.plan (c.in-Ok.ensures.exact tells))) c.edit_planned.ensures.verdict
 
 pub returns-in-Ok-clause-edit : goal.returns-in-Ok-clause-edit
 returns-in-Ok-clause-edit g c =
@@ -89,8 +89,8 @@ returns-in-Err-Refused-clause-verdict g c = λ tells.
     let why = c.in-Err-Refused.why in
     let gives : record_of M edits ≡ Err why = rw c.in-Err-Refused.field-0-is at (c.in-Err-Refused.ensures.exact tells) in
     let says = subst (λ (line : List ℕ). SaysVerdict was now c.refuse.result (refused line)) c.refusal_line.ensures c.refuse.ensures.verdict in
-    subst (λ (r : Result (List ℕ) Refusal). SaysLast was now c.refuse.result (told c.args.name.now r)) (sym (record-refused M edits why gives))
-    (says-last was now (g.R.Report.faults c.args.report.now) (g.R.Report.faults c.refuse.new.report) c.refuse.result (told c.args.name.now (Err why)) says c.refuse.ensures.cause)
+    subst (λ (r : Result (List ℕ) Refusal). SaysVerdict was now c.refuse.result (told c.args.name.now r)) (sym (record-refused M edits why gives))
+    says
 
 pub returns-in-Err-Refused-clause-edit : goal.returns-in-Err-Refused-clause-edit
 returns-in-Err-Refused-clause-edit g c =

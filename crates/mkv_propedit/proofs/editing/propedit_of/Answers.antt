@@ -3,12 +3,12 @@ use Rattle.mkv_disk.specs.Pair.{IsSynced, Pair}
 use Rattle.mkv_lines.specs.Code.{status_of}
 use Rattle.mkv_lines.specs.Line.{missing_line}
 use Rattle.mkv_lines.specs.declared.status.Status.TheVariants as status
-use Rattle.mkv_lines.specs.Verdict.{refused}
+use Rattle.mkv_lines.specs.Verdict.{SaysVerdict}
 use Rattle.mkv_recover.proofs.RecoverLemmas.{refused-status, stop-then, there}
 use Rattle.sidecar_format.specs.Gate.{state}
 use Rattle.edit_format.specs.Plan.{edited}
-use Rattle.mkv_propedit.specs.Propedit.{SaysLast, propedit_verdict, told, unless_begun}
-use Rattle.mkv_propedit.proofs.PropeditLemmas.{edit-none, edit-then, refused-left, says-last}
+use Rattle.mkv_propedit.specs.Propedit.{propedit_verdict, told, unless_begun}
+use Rattle.mkv_propedit.proofs.PropeditLemmas.{edit-none, edit-then, refused-left}
 use Rattle.mkv_propedit.proofs.editing.propedit_of.Goals as goal
 
 -- ---- the pair is open
@@ -25,8 +25,8 @@ returns-in-Ok-clause-verdict g c = λ tells.
     let a = c.args.disk.now in let name = c.args.name.now in let edits = c.args.edits.now in
     let was = g.R.Report.lines c.args.report.now in let now = g.R.Report.lines c.edit_open.new.report in
     let is_there = there (g.D.Disk.is_there a name) (λ none. let refused = (c.open_pair.ensures.missing tells).1 none in absurd (cc)) in
-    let says = subst (λ (p : Pair). SaysLast was now c.edit_open.result (unless_begun name (state p.sidecar.reads) (told name (edited p.media.reads edits)))) (c.open_pair.ensures.pair tells) (c.edit_open.ensures.verdict tells) in
-    subst (λ there. SaysLast was now c.edit_open.result (propedit_verdict there name edits (g.D.Disk.pair a).media.reads (g.D.Disk.pair a).sidecar.reads)) (sym is_there) says
+    let says = subst (λ (p : Pair). SaysVerdict was now c.edit_open.result (unless_begun name (state p.sidecar.reads) (told name (edited p.media.reads edits)))) (c.open_pair.ensures.pair tells) (c.edit_open.ensures.verdict tells) in
+    subst (λ there. SaysVerdict was now c.edit_open.result (propedit_verdict there name edits (g.D.Disk.pair a).media.reads (g.D.Disk.pair a).sidecar.reads)) (sym is_there) says
 
 pub returns-in-Ok-clause-edit : goal.returns-in-Ok-clause-edit
 returns-in-Ok-clause-edit g c = record {
@@ -53,8 +53,8 @@ returns-in-Err-Missing-clause-verdict g c = λ tells.
     let a = c.args.disk.now in let name = c.args.name.now in let edits = c.args.edits.now in
     let was = g.R.Report.lines c.args.report.now in let now = g.R.Report.lines c.refuse.new.report in
     let isnt : g.D.Disk.is_there a name ≡ false = (c.open_pair.ensures.missing tells).0 (cc) in
-    subst (λ there. SaysLast was now c.refuse.result (propedit_verdict there name edits (g.D.Disk.pair a).media.reads (g.D.Disk.pair a).sidecar.reads)) (sym isnt)
-    (says-last was now (g.R.Report.faults c.args.report.now) (g.R.Report.faults c.refuse.new.report) c.refuse.result (refused (missing_line name)) c.refuse.ensures.verdict c.refuse.ensures.cause)
+    subst (λ there. SaysVerdict was now c.refuse.result (propedit_verdict there name edits (g.D.Disk.pair a).media.reads (g.D.Disk.pair a).sidecar.reads)) (sym isnt)
+    c.refuse.ensures.verdict
 
 pub returns-in-Err-Missing-clause-edit : goal.returns-in-Err-Missing-clause-edit
 returns-in-Err-Missing-clause-edit g c =

@@ -9,8 +9,8 @@ use Rattle.mkv_args.specs.Sound.{IsSound}
 use Rattle.mkv_args.specs.declared.command.Command.{Command}
 use Rattle.mkv_recover.specs.Recover.{disk_world, recover_verdict}
 use Rattle.mkv_recover.proofs.RecoverLemmas.{recover-outputs, verdict-told}
-use Rattle.mkv_propedit.specs.Propedit.{SaysLast, propedit_verdict}
-use Rattle.mkv_propedit.proofs.PropeditLemmas.{edit-told, last-says, propedit-outputs}
+use Rattle.mkv_propedit.specs.Propedit.{propedit_verdict}
+use Rattle.mkv_propedit.proofs.PropeditLemmas.{edit-told, propedit-outputs}
 use Rattle.mkv_run.specs.Run.{verdict_of}
 use Rattle.mkv_run.specs.Touched.{InPlace, Touches}
 use Rattle.mkv_run.proofs.RunLemmas.{edited-none, job-done}
@@ -33,10 +33,10 @@ returns-in-Propedit-clause-verdict g c =
     let old = seen g.F.Reads g.F.Files.writing_faults g.F.Files.names g.R.Report c.args.files.now c.args.report.now in
     let new = seen g.F.Reads g.F.Files.writing_faults g.F.Files.names g.R.Report c.args.files.now c.propedit_of.new.report in
     let M = (d.pair a).media.reads in let S = (d.pair a).sidecar.reads in
-    let says = subst (λ (name : List ℕ). OfReads d a (λ m s. SaysLast old.lines new.lines result (propedit_verdict (d.is_there a name) name edits m s))) c.as_str-in-Propedit.ensures.same c.propedit_of.ensures.verdict in
+    let says = subst (λ (name : List ℕ). OfReads d a (λ m s. SaysVerdict old.lines new.lines result (propedit_verdict (d.is_there a name) name edits m s))) c.as_str-in-Propedit.ensures.same c.propedit_of.ensures.verdict in
     let v = propedit_verdict (d.is_there a file) file edits M S in
     let reaches = edit-told d a file edits (λ v. Reaches old new result v)
-    (λ told. Reaches-lines old new result v (last-says old.lines new.lines result v (says told)) (propedit-outputs (d.is_there a file) file edits M S) refl) in
+    (λ told. Reaches-lines old new result v (says told) (propedit-outputs (d.is_there a file) file edits M S) refl) in
     subst (λ (asked : Command). Told (verdict_of (g.F.Files.names c.args.files.now) (disk_world d a) asked) (λ v. Reaches old new result v)) (sym c.in-Propedit.is) reaches
 
 pub returns-in_default-clause-touches : goal.returns-in_default-clause-touches
