@@ -1,5 +1,5 @@
 -- How many octets a merge may read.
-use Rattle.std.specs.Prelude.{ℕ, ◌+◌, ◌*◌, List, [], length, sum_by, Option, unwrap_or, Result, Ok, Err}
+use Rattle.std.specs.Prelude.{ℕ, ◌+◌, ◌*◌, if◌then◌else◌, List, [], length, sum_by, Option, is_none, unwrap_or, Result, Ok, Err}
 use Rattle.mkv_values.specs.declared.outside.FileId.{FileId}
 use Rattle.mkv_io.specs.LiveFiles.{LiveFiles}
 use Rattle.sidecar_format.specs.declared.place.TheConstants.{HEAD}
@@ -34,9 +34,13 @@ data_count (Err why) = 0
 abbrev pub most_of : Result (List Source) Refusal → ℕ → ℕ
 most_of sources octets = 31 * octets + (6 * (lane_count sources * octets) + data_count sources)
 
--- what may be read to see whether an edit of an input or of the output is pending: what each sidecar begins with
+-- whose sidecars are looked into to see whether an edit is pending: those of the inputs, and of the output where it isn't split
+abbrev pub looked_into : MergeWords → ℕ
+looked_into words = if is_none words.split then length words.files + 1 else length words.files
+
+-- what may be read to see it: what each of these begins with
 abbrev pub most_looked : MergeWords → ℕ
-most_looked words = HEAD * (length words.files + 1)
+most_looked words = HEAD * looked_into words
 
 -- what may be read of the sources of a merge, and of sidecars
 abbrev pub most_beside : (List ℕ → Option (List ℕ)) → MergeWords → Result (List Source) Refusal → ℕ

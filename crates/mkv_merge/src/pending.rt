@@ -1,10 +1,10 @@
 //! What keeps the files of a merge from being read.
 
-ghost use Rattle.std.specs.Prelude.{◌≡◌, ◌+◌, ◌*◌, ◌≤◌, length, IfOk};
+ghost use Rattle.std.specs.Prelude.{◌≡◌, ◌+◌, ◌≤◌, IfOk};
 ghost use Rattle.mkv_io.specs.Faults.{HasCause, is_read_fault};
 ghost use Rattle.mkv_io.specs.Told.{Told};
-ghost use Rattle.sidecar_format.specs.declared.place.TheConstants.{HEAD};
 ghost use Rattle.pending_edits.specs.Pending.{LooksOnly};
+ghost use Rattle.mkv_merge.specs.Bound.{most_looked};
 ghost use Rattle.mkv_merge.specs.Read.{begun_refusal, pending_of};
 
 use crate::refusal::Refusal;
@@ -26,7 +26,7 @@ fn pending_of<F: Files>(
     ensures exact { Told (F.names files.old) (λ world. IfOk result (λ why. why ≡ pending_of world words.now)) }
     ensures looks { LooksOnly F.Reads F.Files.own files.old files.new }
     ensures cause { HasCause is_read_fault (F.reading_faults files.old) (F.reading_faults files.new) result }
-    ensures octets { F.octets_read files.new ≤ F.octets_read files.old + HEAD * (length words.now.files + 1) }
+    ensures octets { F.octets_read files.new ≤ F.octets_read files.old + most_looked words.now }
 {
     if let Some(input) = first_pending(alloc, words.files.as_slice(), files)? {
         return Ok(Some(Refusal::PendingInput { input }));
@@ -48,7 +48,7 @@ pub fn begun_refusal<F: Files>(
     ensures exact { Told (F.names files.old) (λ world. IfOk result (λ why. why ≡ begun_refusal world words.now chapters.now)) }
     ensures looks { LooksOnly F.Reads F.Files.own files.old files.new }
     ensures cause { HasCause is_read_fault (F.reading_faults files.old) (F.reading_faults files.new) result }
-    ensures octets { F.octets_read files.new ≤ F.octets_read files.old + HEAD * (length words.now.files + 1) }
+    ensures octets { F.octets_read files.new ≤ F.octets_read files.old + most_looked words.now }
 {
     match chapters {
         ChapterFile::Missing => Ok(Some(Refusal::MissingChapters)),
