@@ -1,6 +1,6 @@
 -- How an extraction comes to its verdict.
-use Rattle.std.proofs.Common.{◌≡◌, ◌+◌, ◌≤◌, ℕ, zero, suc, nat_lt, if◌then◌else◌, slice_get, arith, List, [], ◌∷◌, ◌++◌, length, Bool, true, false, ◌||◌, map, Option, Some, None, IsSome, Result, Ok, Err, IfOk, inl, refl, sym, ◌∙◌, ap, subst}
-use Rattle.std.specs.List.{All}
+use Rattle.std.proofs.Common.{◌≡◌, ◌+◌, ◌≤◌, ℕ, zero, suc, nat_lt, if◌then◌else◌, slice_get, arith, List, [], ◌∷◌, ◌++◌, length, Bool, true, false, ◌||◌, map, cond, Option, Some, None, option_map, IsSome, Result, Err, IfOk, inl, refl, sym, ◌∙◌, ap, subst}
+use Rattle.std.specs.List.{All, find}
 use Rattle.std.specs.Str.{bytes_eq}
 use Rattle.std.proofs.lemmas.Bool.{le-ltb, lt-ltb}
 use Rattle.std.proofs.lemmas.List.{length-map}
@@ -11,9 +11,9 @@ use Rattle.mkv_jobs.specs.declared.job.Job.{Job}
 use Rattle.mkv_jobs.specs.declared.job.Job.TheVariants as form
 use Rattle.mkv_jobs.specs.declared.job.Form.TheVariants as raw
 use Rattle.mkv_jobs.specs.declared.job.Target.{Target}
+use Rattle.sidecar_format.specs.Name.{sidecar_of}
 use Rattle.mkv_outputs.specs.Outputs.{Output, names_of, with_outputs}
 use Rattle.mkv_outputs.specs.Starts.{StandsInPart}
-use Rattle.mkv_outputs.proofs.StartsLemmas.{StandsInPart-whole}
 use Rattle.file_records.specs.Attached.{AttachedFile}
 use Rattle.extractors.specs.Attached.{attached_at, attached_output, attached_outputs}
 use Rattle.extractors.specs.Cues.{cues_output, cues_outputs}
@@ -31,34 +31,42 @@ use Rattle.extractors.specs.Source.{entry_in}
 use Rattle.mkv_lines.specs.Line.{no_track_line, wrote_line}
 use Rattle.mkv_lines.specs.Said.{ReportLines, Says, SaysPart}
 use Rattle.mkv_lines.specs.Seen.{Seen}
-use Rattle.mkv_lines.specs.Verdict.{Leaves, Reaches, Verdict, at_once, list_of}
+use Rattle.mkv_lines.specs.Verdict.{Reaches, at_once}
 use Rattle.mkv_lines.specs.declared.status.Status.{Status}
 use Rattle.mkv_lines.specs.declared.status.Stop.{Stop}
-use Rattle.mkv_lines.proofs.SaidLemmas.{SaysPart-all, SaysPart-before, SaysPart-behind, Says-then}
-use Rattle.mkv_lines.proofs.VerdictLemmas.{Leaves-same}
-use Rattle.mkv_extract.specs.Extract.{absent, told_lines, fit_verdict, has_absent, held_status, is_among, is_input, job_verdict, outline_lines, status_of, taken_verdict, targets_verdict}
+use Rattle.mkv_lines.proofs.SaidLemmas.{SaysPart-all}
+use Rattle.mkv_lines.proofs.VerdictLemmas.{Leaves-same, Reaches-behind}
+use Rattle.mkv_extract.specs.Extract.{absent, told_lines, fit_verdict, has_absent, held_status, job_verdict, outline_lines, status_of, taken_verdict, targets_verdict}
+use Rattle.mkv_extract.specs.Names.{first_written, is_read}
 use Rattle.mkv_extract.specs.Read.{FileRead}
 use Rattle.mkv_extract.specs.Told.{written}
 use Rattle.mkv_extract.proofs.ToldLemmas.{slice_get-past, slice_get-within, written-names}
 
 -- ---- the names of the outputs
 
--- no output has the name of the file
-pub others-named : (name holder : List ℕ) (targets : List Target) → is_among name targets ≡ false → holder ≡ name → AreOthers holder (jobs.names_of targets)
+-- none of these names is that of a file which is read
+others-named : (name holder : List ℕ) (names : List (List ℕ)) → find (is_read name) names ≡ None → holder ≡ name → AreOthers holder names
 others-named name holder [] none same = tt
-others-named name holder (t ∷ ts) none same = (λ one. let yes : bytes_eq t.name name ≡ true = (bytes_eq-Decides t.name name).1 (one ∙ same) in let never : true ≡ false = sym (ap (λ (a : Bool). a || is_among name ts) yes) ∙ none in absurd (cc), others-named name holder ts (behind (bytes_eq t.name name) none) same)
+others-named name holder (out ∷ outs) none same = split (bytes_eq out name) (bytes_eq out (sidecar_of name)) refl (λ rest. others-named name holder outs rest same) none
   where
-    behind : (a : Bool) → (a || is_among name ts) ≡ false → is_among name ts ≡ false
-    behind true bad = absurd (cc)
-    behind false is = is
+    split : (own beside : Bool) → bytes_eq out name ≡ own → (find (is_read name) outs ≡ None → AreOthers holder outs) → cond (own || beside) (Some out) (find (is_read name) outs) ≡ None → AreOthers holder (out ∷ outs)
+    split true beside is behind never = absurd (cc)
+    split false true isnt behind never = absurd (cc)
+    split false false isnt behind none = (λ one. let yes : bytes_eq out name ≡ true = (bytes_eq-Decides out name).1 (one ∙ same) in absurd (cc), behind none)
 
--- the same of all that a job writes
-pub others-input : (name holder : List ℕ) (job : Job) → is_input name job ≡ false → holder ≡ name → AreOthers holder (names_for job)
-others-input name holder (form.Tracks f list) none same = others-named name holder list none same
-others-input name holder (form.Timestamps list) none same = others-named name holder list none same
-others-input name holder (form.Attachments list) none same = others-named name holder list none same
-others-input name holder (form.Cues list) none same = others-named name holder list none same
-others-input name holder (form.Chapters out) none same = (λ one. let yes : bytes_eq out name ≡ true = (bytes_eq-Decides out name).1 (one ∙ same) in let never : true ≡ false = sym yes ∙ none in absurd (cc), tt)
+-- the file is held under another name than each of the outputs
+pub others-input : (name holder : List ℕ) (job : Job) → first_written name job ≡ None → holder ≡ name → AreOthers holder (names_for job)
+others-input name holder job none same = others-named name holder (names_for job) none same
+
+-- the name of the first target that passes a test
+pub found-name : (test : List ℕ → Bool) (targets : List Target) → option_map (λ (t : Target). t.name) (find (λ (t : Target). test t.name) targets) ≡ find test (jobs.names_of targets)
+found-name test [] = refl
+found-name test (t ∷ ts) = split (test t.name) (found-name test ts)
+  where
+    split : (b : Bool) → option_map (λ (t : Target). t.name) (find (λ (t : Target). test t.name) ts) ≡ find test (jobs.names_of ts)
+        → option_map (λ (t : Target). t.name) (cond b (Some t) (find (λ (t : Target). test t.name) ts)) ≡ cond b (Some t.name) (find test (jobs.names_of ts))
+    split true rest = refl
+    split false rest = rest
 
 -- ---- a job that takes frames of tracks, or their times
 

@@ -1,7 +1,6 @@
 -- What `extract` comes to.
-use Rattle.std.specs.Prelude.{ℕ, ◌+◌, ◌==◌, nat_le, Bool, true, false, not, if◌then◌else◌, List, [], ◌∷◌, ◌++◌, length, map, filter, Option, Some, None, Result, Ok, Err}
+use Rattle.std.specs.Prelude.{ℕ, ◌+◌, ◌==◌, nat_le, Bool, true, false, not, List, [], ◌∷◌, ◌++◌, length, map, filter, Option, Some, None, Result, Ok, Err}
 use Rattle.std.specs.List.{list_any}
-use Rattle.std.specs.Str.{bytes_eq}
 use Rattle.mkv_values.specs.declared.damage.Damage.{Damage}
 use Rattle.mkv_jobs.specs.declared.job.Job.{Job}
 use Rattle.mkv_jobs.specs.declared.job.Job.TheVariants as jobs
@@ -24,6 +23,7 @@ use Rattle.mkv_lines.specs.Verdict.{Verdict, at_once, refused, unless_pending}
 use Rattle.mkv_lines.specs.declared.status.Status.{Status}
 use Rattle.mkv_lines.specs.declared.status.Status.TheVariants.{Done, Warned}
 use Rattle.pending_edits.specs.Pending.{is_pending}
+use Rattle.mkv_extract.specs.Names.{first_written}
 use Rattle.mkv_extract.specs.Read.{FileRead, read_of}
 
 -- ---- the tracks that a file hasn't
@@ -129,17 +129,11 @@ abbrev pub name_verdict : List ℕ → Job → Bool → Option (List ℕ) → Ve
 name_verdict name job pending None = refused (missing_line name)
 name_verdict name job pending (Some bytes) = unless_pending name pending (read_verdict name job bytes (read_of job bytes))
 
--- an output has the name of the file
-abbrev pub is_among : List ℕ → List Target → Bool
-is_among name targets = list_any (λ (t : Target). bytes_eq t.name name) targets
-
-abbrev pub is_input : List ℕ → Job → Bool
-is_input name (jobs.Tracks form list) = is_among name list
-is_input name (jobs.Timestamps list) = is_among name list
-is_input name (jobs.Attachments list) = is_among name list
-is_input name (jobs.Cues list) = is_among name list
-is_input name (jobs.Chapters out) = bytes_eq out name
+-- an output that has the name of a file which is read is refused
+abbrev pub unless_written : Option (List ℕ) → Verdict → Verdict
+unless_written None v = v
+unless_written (Some out) v = refused (output_is_input_line out)
 
 -- what `extract` comes to in a world of names
 abbrev pub extract_verdict : (List ℕ → Option (List ℕ)) → List ℕ → Job → Verdict
-extract_verdict world name job = if is_input name job then refused (output_is_input_line name) else name_verdict name job (is_pending world name) (world name)
+extract_verdict world name job = unless_written (first_written name job) (name_verdict name job (is_pending world name) (world name))

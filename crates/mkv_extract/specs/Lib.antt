@@ -1,4 +1,5 @@
 pub mod End
 pub mod Extract
+pub mod Names
 pub mod Read
 pub mod Told

@@ -1,6 +1,6 @@
 //! A file is opened, its tracks are taken out, and it is closed.
 
-ghost use Rattle.std.specs.Prelude.{◌≡◌, true, ℕ, IfOk, IsSome};
+ghost use Rattle.std.specs.Prelude.{◌≡◌, ℕ, IfOk, IsSome};
 ghost use Rattle.mkv_io.specs.Names.{AreApart, AreOthers};
 ghost use Rattle.mkv_io.specs.Sources.{IfTold, IsLive, live_files};
 ghost use Rattle.mkv_io.specs.Told.{Told};
@@ -8,28 +8,27 @@ ghost use Rattle.extract_model.specs.Job.{CanBeDone, names_for, names_of, taken_
 ghost use Rattle.extractors.specs.Source.{AreUsable, IsSource, events_in};
 ghost use Rattle.pending_edits.specs.Pending.{is_pending};
 ghost use Rattle.mkv_lines.specs.Faults.{HasStopCause};
-ghost use Rattle.mkv_lines.specs.Line.{no_extractor_line, refusal_line};
 ghost use Rattle.mkv_lines.specs.Ordinary.{IsOrdinary};
-ghost use Rattle.mkv_lines.specs.Said.{HasSayCause};
 ghost use Rattle.mkv_lines.specs.Seen.{seen};
-ghost use Rattle.mkv_lines.specs.Verdict.{Reaches, SaysVerdict, refused, unless_pending};
+ghost use Rattle.mkv_lines.specs.Verdict.{Reaches, unless_pending};
 ghost use Rattle.mkv_extract.specs.End.{stop_of};
-ghost use Rattle.mkv_extract.specs.Extract.{extract_verdict, fit_verdict, is_among, is_input, job_verdict, read_verdict, taken_verdict};
+ghost use Rattle.mkv_extract.specs.Extract.{extract_verdict, fit_verdict, job_verdict, read_verdict, taken_verdict};
 ghost use Rattle.mkv_extract.specs.Read.{read_in, read_of};
 
 use crate::attachments::extract_attachments;
 use crate::chapters::extract_chapters;
 use crate::cues::extract_cues;
+use crate::names::first_written;
 use crate::reading::read_source;
 use crate::telling::{Missing, say_absent, tell};
 use element_reader::OutlineEnd;
 use extractors::{Source, extract, job_unfit, targets_of};
 use mkv_io::{Files, Report};
-use mkv_jobs::{Job, RemuxEnd, Target};
-use mkv_lines::{Line, Status, Stop, say};
-use mkv_values::{Damage, FileId, OpenFault};
+use mkv_jobs::{Job, RemuxEnd};
+use mkv_lines::{Line, Status, Stop, refuse};
+use mkv_values::{FileId, OpenFault};
 use pending_edits::is_pending;
-use std::alloc::Global;
+use std::alloc::{AllocError, Global};
 
 /// Takes what a job asks for out of the file of a name, each target into a file of its own. No two of them have one name.
 pub fn extract_of<F: Files, P: Report>(
@@ -50,42 +49,23 @@ pub fn extract_of<F: Files, P: Report>(
         (seen F.Reads F.writing_faults F.names P.Report files.old report.old).counts
         (seen F.Reads F.writing_faults F.names P.Report files.new report.new).counts result }
 {
-    if is_input(name, job) {
-        say(alloc, report, &Line::OutputIsInput { name })?;
-        return Ok(Status::Refused);
+    match first_written(alloc, name, job) {
+        Ok(None) => {}
+        Ok(Some(out)) => {
+            let name = out.as_str();
+            return refuse(alloc, &Line::OutputIsInput { name }, report);
+        }
+        Err(AllocError) => return Err(Stop::Memory),
     }
     let file = match files.open_file(name) {
         Ok(file) => file,
-        Err(OpenFault::Missing) => {
-            say(alloc, report, &Line::Missing { name })?;
-            return Ok(Status::Refused);
-        }
+        Err(OpenFault::Missing) => return refuse(alloc, &Line::Missing { name }, report),
         Err(OpenFault::Failed) => return Err(Stop::Files),
         Err(OpenFault::Memory) => return Err(Stop::Memory),
     };
     let ended = extract_settled(alloc, name, job, files, file, report);
     files.close(file);
     ended
-}
-
-/// Whether an output has the name of the file.
-fn is_input(name: &str, job: &Job) -> bool
-    ensures { result ≡ is_input name.now job.now }
-{
-    match job {
-        Job::Tracks { list, .. }
-        | Job::Timestamps { list }
-        | Job::Attachments { list }
-        | Job::Cues { list } => is_among(name, list.as_slice()),
-        Job::Chapters { name: out } => out.as_str() == name,
-    }
-}
-
-/// Whether a target has this name.
-fn is_among(name: &str, targets: &[Target]) -> bool
-    ensures { result ≡ is_among name.now targets.now }
-{
-    targets.iter().any(|target| target.name.as_str() == name)
 }
 
 /// Takes what a job asks for out of a live file, unless an edit of the file of this name is pending, or something else
@@ -112,8 +92,7 @@ fn extract_settled<F: Files, P: Report>(
         (seen F.Reads F.writing_faults F.names P.Report files.new report.new).counts result }
 {
     if is_pending(alloc, name, files)? {
-        say(alloc, report, &Line::PendingEdit { name })?;
-        return Ok(Status::Refused);
+        return refuse(alloc, &Line::PendingEdit { name }, report);
     }
     extract_file(alloc, name, job, files, file, report)
 }
@@ -142,25 +121,12 @@ fn extract_file<F: Files, P: Report>(
 {
     match read_source(alloc, job, files, file) {
         Ok(source) => extract_job(alloc, name, job, &source, files, report),
-        Err(OutlineEnd::Refused(damage)) => refuse(alloc, name, damage, report),
+        Err(OutlineEnd::Refused(damage)) => {
+            refuse(alloc, &Line::Refused { name, damage }, report)
+        }
         Err(OutlineEnd::ReadFault) => Err(Stop::Files),
         Err(OutlineEnd::Memory) => Err(Stop::Memory),
     }
-}
-
-/// A file isn't taken.
-fn refuse<P: Report>(
-    alloc: Global,
-    name: &str,
-    damage: Damage,
-    report: &mut P,
-) -> Result<Status, Stop>
-    ensures verdict { SaysVerdict (P.lines report.old) (P.lines report.new) result (refused (refusal_line name.now damage)) }
-    ensures ordinary { IfOk result IsOrdinary }
-    ensures cause { HasSayCause (P.faults report.old) (P.faults report.new) result }
-{
-    say(alloc, report, &Line::Refused { name, damage })?;
-    Ok(Status::Refused)
 }
 
 /// Takes what a job asks for out of a source.
@@ -228,24 +194,9 @@ fn extract_fit<F: Files, P: Report>(
         (seen F.Reads F.writing_faults F.names P.Report files.new report.new).counts result }
 {
     if let Some(number) = job_unfit(job, source.tracks.as_slice()) {
-        return refuse_track(alloc, name, number, report);
+        return refuse(alloc, &Line::NoExtractor { name, number }, report);
     }
     extract_source(alloc, name, job, source, files, report)
-}
-
-/// A track can't be taken so.
-fn refuse_track<P: Report>(
-    alloc: Global,
-    name: &str,
-    number: u64,
-    report: &mut P,
-) -> Result<Status, Stop>
-    ensures verdict { SaysVerdict (P.lines report.old) (P.lines report.new) result (refused (no_extractor_line name.now number)) }
-    ensures ordinary { IfOk result IsOrdinary }
-    ensures cause { HasSayCause (P.faults report.old) (P.faults report.new) result }
-{
-    say(alloc, report, &Line::NoExtractor { name, number })?;
-    Ok(Status::Refused)
 }
 
 /// Takes what a job asks for out of a source, and tells of it.

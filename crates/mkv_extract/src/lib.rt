@@ -7,6 +7,7 @@ mod attachments;
 mod chapters;
 mod cues;
 mod extract;
+mod names;
 mod reading;
 mod telling;
 

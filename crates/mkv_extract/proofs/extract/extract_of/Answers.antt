@@ -1,4 +1,5 @@
-use Rattle.std.proofs.Common.{refl, sym, ◌∙◌}
+use Rattle.std.proofs.Common.{refl, sym, ◌∙◌, ap}
+use Rattle.std.specs.Option.{option_copied}
 use Rattle.mkv_lines.specs.Seen.{seen}
 use Rattle.mkv_lines.proofs.VerdictLemmas.{IsStopped-before}
 use Rattle.mkv_extract.specs.Extract.{extract_verdict}
@@ -8,7 +9,13 @@ use Rattle.mkv_extract.proofs.extract.extract_of.Goals as goal
 -- no output has the name of the file
 pub extract_settled-ended-requires-clause-other : goal.extract_settled-ended-requires-clause-other
 extract_settled-ended-requires-clause-other g c =
-    others-input c.args.name.now (g.F.Files.holder c.open_file.new.self c.in-Ok.file.n) c.args.job.now (sym c.is_input.ensures ∙ c.if-is_input.false) c.in-Ok.ensures.holder
+    others-input c.args.name.now (g.F.Files.holder c.open_file.new.self c.in-Ok.file.n) c.args.job.now (sym c.in-Ok-None.ensures ∙ ap option_copied c.in-Ok-None.field-0-is) c.in-Ok.ensures.holder
+
+-- the name of the sidecar couldn't be made
+pub returns-in-Err-clause-verdict : goal.returns-in-Err-clause-verdict
+returns-in-Err-clause-verdict g c = λ world told.
+    let still = seen g.F.Reads g.F.Files.writing_faults g.F.Files.names g.P.Report c.args.files.now c.args.report.now in
+    IsStopped-before still still (extract_verdict world c.args.name.now c.args.job.now) refl refl
 
 -- the file couldn't be opened
 pub returns-in-Err-Failed-clause-verdict : goal.returns-in-Err-Failed-clause-verdict

@@ -1,0 +1,15 @@
+-- The names of the outputs of an extraction, and those of the files that it reads.
+use Rattle.std.specs.Prelude.{ℕ, Bool, ◌||◌, List, Option}
+use Rattle.std.specs.List.{find}
+use Rattle.std.specs.Str.{bytes_eq}
+use Rattle.mkv_jobs.specs.declared.job.Job.{Job}
+use Rattle.sidecar_format.specs.Name.{sidecar_of}
+use Rattle.extract_model.specs.Job.{names_for}
+
+-- an extraction of the file of a name reads it, and its sidecar
+abbrev pub is_read : List ℕ → List ℕ → Bool
+is_read name out = bytes_eq out name || bytes_eq out (sidecar_of name)
+
+-- the first name of an output that is that of a file which is read
+abbrev pub first_written : List ℕ → Job → Option (List ℕ)
+first_written name job = find (is_read name) (names_for job)

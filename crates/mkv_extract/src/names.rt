@@ -1,0 +1,63 @@
+//! The names of the outputs of an extraction, and those of the files that it reads.
+
+ghost use Rattle.std.specs.Prelude.{◌≡◌, ◌||◌, IfOk};
+ghost use Rattle.std.specs.List.{find};
+ghost use Rattle.std.specs.Option.{option_copied};
+ghost use Rattle.std.specs.Str.{bytes_eq};
+ghost use Rattle.mkv_jobs.specs.declared.job.Target.{Target as TargetSeen};
+ghost use Rattle.sidecar_format.specs.Name.{sidecar_of};
+ghost use Rattle.extract_model.specs.Job.{names_of};
+ghost use Rattle.mkv_extract.specs.Names.{first_written, is_read};
+
+use mkv_jobs::{Job, Target};
+use mkv_values::Text;
+use sidecar_format::sidecar_name;
+use std::alloc::{AllocError, Global};
+
+/// Whether an output has the name of the file, or that of its sidecar.
+fn is_read(name: &str, sidecar: &str, out: &str) -> bool
+    ensures { result ≡ (bytes_eq out.now name.now || bytes_eq out.now sidecar.now) }
+{
+    out == name || out == sidecar
+}
+
+/// The first of these targets whose output has one of these names.
+fn target_among<'a>(name: &str, sidecar: &str, targets: &'a [Target]) -> Option<&'a Target>
+    ensures { option_copied result
+        ≡ find (λ (t : TargetSeen). bytes_eq t.name name.now || bytes_eq t.name sidecar.now) targets.now }
+{
+    targets
+        .iter()
+        .find(|target| is_read(name, sidecar, target.name.as_str()))
+}
+
+/// The name of the first of these targets that is that of a file which is read.
+fn written_among<'a>(name: &str, sidecar: &str, targets: &'a [Target]) -> Option<&'a Text>
+    requires { sidecar.now ≡ sidecar_of name.now }
+    ensures { option_copied result ≡ find (is_read name.now) (names_of targets.now) }
+{
+    match target_among(name, sidecar, targets) {
+        Some(target) => Some(&target.name),
+        None => None,
+    }
+}
+
+/// The name of the first output that is that of a file which is read.
+pub fn first_written<'a>(
+    alloc: Global,
+    name: &str,
+    job: &'a Job,
+) -> Result<Option<&'a Text>, AllocError>
+    ensures { IfOk result (λ out. option_copied out ≡ first_written name.now job.now) }
+{
+    let sidecar = sidecar_name(alloc, name)?;
+    let sidecar = sidecar.as_str();
+    match job {
+        Job::Tracks { list, .. }
+        | Job::Timestamps { list }
+        | Job::Attachments { list }
+        | Job::Cues { list } => Ok(written_among(name, sidecar, list.as_slice())),
+        Job::Chapters { name: out } if is_read(name, sidecar, out.as_str()) => Ok(Some(out)),
+        Job::Chapters { .. } => Ok(None),
+    }
+}
