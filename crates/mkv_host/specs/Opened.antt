@@ -34,10 +34,9 @@ live_in opened = record {
 abbrev pub holder_in : List (Option Opened) → ℕ → List ℕ
 holder_in opened file = name_of (opened_at opened file)
 
--- an open file is this one of the system
-abbrev pub is_node : Node → Option Opened → Bool
-is_node node None = false
-is_node node (Some opened) = (opened.node.device == node.device) && (opened.node.inode == node.inode)
+-- two files of the system are one
+abbrev pub is_node : Node → Node → Bool
+is_node node other = (other.device == node.device) && (other.inode == node.inode)
 
 -- ---- what follows at once
 

@@ -5,11 +5,14 @@
 
 mod open_files;
 mod opened;
+mod outputs;
 mod real_files;
 mod real_report;
 mod system;
 mod writer;
 
+pub use outputs::copy_access;
 pub use real_files::RealFiles;
 pub use real_report::RealReport;
+pub use system::{Node, above_streams, folder_of, is_missing, node_of};
 pub use writer::{WriteAt, write_from};

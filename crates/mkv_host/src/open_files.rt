@@ -11,29 +11,36 @@ use crate::system::Node;
 use mkv_values::{FileId, Text};
 use std::alloc::{AllocError, Global};
 
-/// The name of a file that is to be opened, and room for it.
+/// The name of a file that is to be opened, and room for it and for which file it is.
 pub fn prepare(
     opened: &mut Vec<Option<Opened>>,
+    seen: &mut Vec<Node>,
     alloc: Global,
     name: &str,
 ) -> Result<Text, AllocError>
     ensures same { opened.new.items ≡ opened.old.items }
+    ensures seen { seen.new.items ≡ seen.old.items }
     ensures room { OnOk result (length opened.new.items < vec_capacity opened.new) }
+    ensures seen_room { OnOk result (length seen.new.items < vec_capacity seen.new) }
     ensures name { IfOk result (λ holder. holder ≡ name.now) }
 {
     let mut holder = Text::new(alloc);
     holder.append(name)?;
     opened.reserve(1)?;
+    seen.reserve(1)?;
     Ok(holder)
 }
 
-/// Adds a file where there is room for it, and answers its number.
-pub fn add(opened: &mut Vec<Option<Opened>>, one: Opened) -> FileId
-    requires { length opened.old.items < vec_capacity opened.old }
+/// Adds a file where there is room for it, and answers its number. Which file it is stays known when it is closed.
+pub fn add(opened: &mut Vec<Option<Opened>>, seen: &mut Vec<Node>, one: Opened) -> FileId
+    requires room { length opened.old.items < vec_capacity opened.old }
+    requires seen_room { length seen.old.items < vec_capacity seen.old }
     ensures number { result.n ≡ length opened.old.items }
     ensures added { opened.new.items ≡ opened.old.items ++ Some one ∷ [] }
+    ensures seen { seen.new.items ≡ seen.old.items ++ one.node ∷ [] }
 {
     let number = opened.len() as u64;
+    seen.push(one.node).unwrap();
     opened.push(Some(one)).unwrap();
     FileId { n: number }
 }
@@ -49,11 +56,11 @@ pub fn open_at(opened: &Vec<Option<Opened>>, file: FileId) -> &Opened
     }
 }
 
-/// Whether a file of the system is open, under whatever name.
-pub fn is_open(opened: &Vec<Option<Opened>>, node: Node) -> bool
-    ensures { result ≡ list_any (is_node node) opened.now.items }
+/// Whether a file of the system was opened or made before, under whatever name.
+pub fn is_seen(seen: &Vec<Node>, node: Node) -> bool
+    ensures { result ≡ list_any (is_node node) seen.now.items }
 {
-    opened.iter().any(|place| place.as_ref().is_some_and(|open| open.node == node))
+    seen.iter().any(|one| *one == node)
 }
 
 /// Notes that an open file is longer by so many octets.

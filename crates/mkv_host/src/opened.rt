@@ -1,6 +1,7 @@
 //! A file of the system that is open.
 
-ghost use Rattle.std.specs.Prelude.{ℕ, ◌≤◌};
+ghost use Rattle.std.specs.Prelude.{ℕ, ◌≤◌, pos, ◌<ℤ◌};
+ghost use Rattle.std.specs.Fd.{file_raw_fd};
 ghost use Rattle.mkv_values.specs.declared.outside.TheConstants.{LONGEST_FILE};
 
 use crate::system::Node;
@@ -14,5 +15,6 @@ pub struct Opened {
     pub node: Node,
     pub name: Text,
     pub size: u64,
+    ghost above: { pos 2 <ℤ file_raw_fd file },
     ghost short: { size ≤ LONGEST_FILE },
 }

@@ -5,28 +5,32 @@ ghost use Rattle.mkv_io.specs.Faults.{HasRisen, counted, last_count};
 ghost use Rattle.mkv_host.specs.Opened.{holder_in, is_node, opened_at, size_at};
 ghost use Rattle.std.specs.List.{list_any};
 
-use crate::open_files::{add, is_open, lengthen, open_at, prepare};
+use crate::open_files::{add, is_seen, lengthen, open_at, prepare};
 use crate::opened::Opened;
-use crate::system::{Node, is_missing, open_to_read, open_to_write};
+use crate::outputs::{Output, open_or_make, replaced};
+use crate::system::{Node, is_missing, node_of, open_to_read};
 use crate::writer::write_from;
 use mkv_io::{Files, Reads};
 use mkv_values::{Failed, FileId, LONGEST_FILE, MakeFault, OpenFault};
 use std::alloc::Global;
 use std::fs::File;
 use std::io::ErrorKind;
-use std::os::unix::fs::FileExt;
+use std::os::unix::fs::{FileExt, MetadataExt};
 use std::{fs, io};
 
-/// The files of the system. A file that is opened is only read; one that is created is written too.
+/// The files of the system. A file that is opened is only read; one that is created is written too. Which files a run has
+/// opened or made stays known when they are closed.
 #[derive(Drop)]
 pub struct RealFiles<'a, R: fs::Files<File = File>> {
     alloc: Global,
     system: &'a R,
     opened: Vec<Option<Opened>>,
+    seen: Vec<Node>,
     reading_faults: u64,
     writing_faults: u64,
     octets_read: u64,
     ghost few: { length opened.items ≤ 2 ^ 64 - 1 },
+    ghost each: { length seen.items ≡ length opened.items },
 }
 
 impl<'a, R: fs::Files<File = File>> RealFiles<'a, R> {
@@ -38,6 +42,7 @@ impl<'a, R: fs::Files<File = File>> RealFiles<'a, R> {
             alloc,
             system,
             opened: Vec::new(alloc),
+            seen: Vec::new(alloc),
             reading_faults: 0,
             writing_faults: 0,
             octets_read: 0,
@@ -51,17 +56,28 @@ impl<'a, R: fs::Files<File = File>> RealFiles<'a, R> {
         self.opened.len() as u64 == u64::MAX
     }
 
-    /// Makes an empty file, or empties the one of that name. One that is open already is refused and keeps its
-    /// octets, under whatever name it was opened.
-    fn make(&self, name: &str) -> io::Result<(File, Node)>
-        ensures { IfOk result (λ made. list_any (is_node made.1) self.now.opened.items ≡ false) }
+    /// Makes an empty file, or puts one in the place of the file of that name. One that is there and that this run has opened
+    /// or made is refused and keeps its octets, under whatever name that was.
+    fn make(&self, name: &str) -> io::Result<Output>
+        ensures { IfOk result (λ made. made.is_new ≡ false → list_any (is_node made.node) self.now.seen.items ≡ false) }
     {
-        let (file, node) = open_to_write(self.system, name)?;
-        if is_open(&self.opened, node) {
+        let (file, is_new) = open_or_make(self.system, name)?;
+        let found = file.metadata()?;
+        let node = node_of(&found)?;
+        if !is_new && is_seen(&self.seen, node) {
             return Err(ErrorKind::ResourceBusy.into());
         }
-        file.set_len(0)?;
-        Ok((file, node))
+        let output = Output { file, node, is_new };
+        if found.len() == 0 && found.nlink() <= 1 {
+            return Ok(output);
+        }
+        match replaced(self.alloc, self.system, name, &found) {
+            Err(error) if error.kind() != ErrorKind::OutOfMemory => {
+                output.file.set_len(0)?;
+                Ok(output)
+            }
+            made => made,
+        }
     }
 }
 
@@ -146,10 +162,11 @@ impl<'a, R: fs::Files<File = File>> Files for RealFiles<'a, R> {
             note_failure(&mut self.reading_faults);
             return Err(OpenFault::Failed);
         }
-        let holder = prepare(&mut self.opened, self.alloc, name)?;
+        let holder = prepare(&mut self.opened, &mut self.seen, self.alloc, name)?;
         match open_to_read(self.system, name) {
             Ok((file, size, node)) => Ok(add(
                 &mut self.opened,
+                &mut self.seen,
                 Opened {
                     file,
                     node,
@@ -170,17 +187,19 @@ impl<'a, R: fs::Files<File = File>> Files for RealFiles<'a, R> {
             note_failure(&mut self.writing_faults);
             return Err(MakeFault::Failed);
         }
-        let holder = prepare(&mut self.opened, self.alloc, name)?;
+        let holder = prepare(&mut self.opened, &mut self.seen, self.alloc, name)?;
         match self.make(name) {
-            Ok((file, node)) => Ok(add(
+            Ok(made) => Ok(add(
                 &mut self.opened,
+                &mut self.seen,
                 Opened {
-                    file,
-                    node,
+                    file: made.file,
+                    node: made.node,
                     name: holder,
                     size: 0,
                 },
             )),
+            Err(error) if error.kind() == ErrorKind::OutOfMemory => Err(MakeFault::Memory),
             Err(_) => {
                 note_failure(&mut self.writing_faults);
                 Err(MakeFault::Failed)

@@ -1,14 +1,18 @@
 //! Calls of the system that open files.
 
-ghost use Rattle.std.specs.Prelude.{◌≡◌, ◌↔◌, ◌⊎◌, ℕ, ◌≤◌, IfOk, IsOk, IsTrue};
+ghost use Rattle.std.specs.Prelude.{◌≡◌, ◌↔◌, ◌⊎◌, ℕ, ◌≤◌, pos, ◌<ℤ◌, IfOk, IsOk, IsTrue};
+ghost use Rattle.std.specs.Fd.{file_raw_fd};
 ghost use Rattle.std.specs.IoError.{error_kind};
 ghost use Rattle.std.specs.Fs.{IsFile, file_type};
+ghost use Rattle.mkv_host.specs.Folders.{folder_in};
 ghost use Rattle.mkv_values.specs.declared.outside.TheConstants.{LONGEST_FILE};
 
 use mkv_values::LONGEST_FILE;
-use std::fs::{File, Metadata, OpenOptions};
+use std::fs::{File, Metadata};
 use std::io::ErrorKind;
+use std::os::fd::AsRawFd;
 use std::os::unix::fs::MetadataExt;
+use std::path::Path;
 use std::{fs, io};
 
 /// Which file of the system a file is, whatever its name.
@@ -18,15 +22,19 @@ pub struct Node {
     pub inode: u64,
 }
 
-/// Whether an error says that there is no file of a name: none has it, or its way leads through a file.
+/// Whether an error says that there is no file of a name: none has it, none can have it, since it is too long, or its
+/// way leads through a file.
 pub fn is_missing(error: &io::Error) -> bool
-    ensures { IsTrue result ↔ ((error_kind error.now ≡ ErrorKind.NotFound) ⊎ (error_kind error.now ≡ ErrorKind.NotADirectory)) }
+    ensures { IsTrue result ↔ ((error_kind error.now ≡ ErrorKind.NotFound) ⊎ ((error_kind error.now ≡ ErrorKind.NotADirectory) ⊎ (error_kind error.now ≡ ErrorKind.InvalidFilename))) }
 {
-    matches!(error.kind(), ErrorKind::NotFound | ErrorKind::NotADirectory)
+    matches!(
+        error.kind(),
+        ErrorKind::NotFound | ErrorKind::NotADirectory | ErrorKind::InvalidFilename
+    )
 }
 
-/// Which file this is. A folder, pipe, socket or device is refused, since it has no length.
-fn node_of(found: &Metadata) -> io::Result<Node>
+/// Which file this is. A folder, pipe, socket, device or link is refused, since it has no length.
+pub fn node_of(found: &Metadata) -> io::Result<Node>
     ensures { IsOk result ↔ IsFile (file_type found.now) }
 {
     if !found.is_file() {
@@ -38,39 +46,47 @@ fn node_of(found: &Metadata) -> io::Result<Node>
     })
 }
 
+/// The folder in which a file of this name stands.
+pub fn folder_of(name: &str) -> &str
+    ensures { result.now ≡ folder_in name.now }
+{
+    match Path::new(name).parent() {
+        Some(folder) if !folder.as_str().is_empty() => folder.as_str(),
+        _ => ".",
+    }
+}
+
+/// Moves a file above the descriptors of the standard streams. Where one of those was closed the system gives its number
+/// to the next file that is opened, and what is told to the stream would be written into that file.
+pub fn above_streams(file: File) -> io::Result<File>
+    ensures { IfOk result (λ moved. pos 2 <ℤ file_raw_fd moved) }
+{
+    if file.as_raw_fd() > 2 {
+        return Ok(file);
+    }
+    let moved = file.try_clone()?;
+    if moved.as_raw_fd() <= 2 {
+        return Err(ErrorKind::Other.into());
+    }
+    Ok(moved)
+}
+
 /// Opens a regular file to be read, and answers its length and which file it is. One that is too long is
 /// refused. What isn't regular isn't opened, since that may wait for ever.
 pub fn open_to_read<R: fs::Files<File = File>>(
     system: &R,
     name: &str,
 ) -> io::Result<(File, u64, Node)>
-    ensures { IfOk result (λ answer. answer.1 ≤ LONGEST_FILE) }
+    ensures size { IfOk result (λ answer. answer.1 ≤ LONGEST_FILE) }
+    ensures above { IfOk result (λ answer. pos 2 <ℤ file_raw_fd answer.0) }
 {
     node_of(&fs::metadata(system, name)?)?;
-    let file = File::open(system, name)?;
+    let file = above_streams(File::open(system, name)?)?;
     let found = file.metadata()?;
     let size = found.len();
     if size > LONGEST_FILE {
         return Err(ErrorKind::FileTooLarge.into());
     }
-    Ok((file, size, node_of(&found)?))
-}
-
-/// Opens a regular file to be written and read, and makes it where there is none. Its octets stay.
-pub fn open_to_write<R: fs::Files<File = File>>(
-    system: &R,
-    name: &str,
-) -> io::Result<(File, Node)> {
-    match fs::metadata(system, name) {
-        Ok(found) => drop(node_of(&found)?),
-        Err(error) if error.kind() == ErrorKind::NotFound => {}
-        Err(error) => return Err(error),
-    }
-    let file = OpenOptions::new()
-        .read(true)
-        .write(true)
-        .create(true)
-        .open(system, name)?;
-    let node = node_of(&file.metadata()?)?;
-    Ok((file, node))
+    let node = node_of(&found)?;
+    Ok((file, size, node))
 }

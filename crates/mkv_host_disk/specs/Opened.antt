@@ -26,7 +26,7 @@ live_in pair = record { live = is_live pair; size = size_in pair; content = λ _
 -- the name under which the pair was opened
 abbrev pub name_in : Option OpenPair → Option (List ℕ)
 name_in None = None
-name_in (Some pair) = Some pair.name
+name_in (Some pair) = Some pair.media.name
 
 -- ---- what follows at once
 

@@ -4,19 +4,22 @@ ghost use Rattle.std.specs.Prelude.{◌≡◌, ◌≢◌, ◌≤◌, ℕ, ◌+�
 ghost use Rattle.mkv_io.specs.Faults.{HasRisen, counted};
 ghost use Rattle.mkv_host_disk.specs.Opened.{is_live, name_in, size_in};
 ghost use Rattle.mkv_values.specs.declared.outside.TheConstants.{LONGEST_FILE};
+ghost use Rattle.sidecar_format.specs.Name.{sidecar_of};
 
 use crate::pair::{OpenFile, OpenPair};
-use crate::system::{is_missing, open_regular};
+use crate::system::{open_media, open_sidecar, settle, settle_folder};
 use mkv_disk::{Disk, MEDIA};
-use mkv_host::write_from;
+use mkv_host::{is_missing, write_from};
 use mkv_io::Reads;
 use mkv_values::{Failed, FileId, LONGEST_FILE, OpenFault, Text};
+use sidecar_format::sidecar_name;
 use std::alloc::{AllocError, Global};
 use std::fs;
 use std::fs::File;
 use std::os::unix::fs::FileExt;
 
-/// A file of the system and its sidecar. A sync makes sure of a file's octets and its length.
+/// A file of the system and its sidecar. A sync makes sure of a file's octets and its length. When a pair is opened both files
+/// are synced before anything is read, so that what is read stands on the disk.
 #[derive(Drop)]
 pub struct RealDisk<'a, R: fs::Files<File = File>> {
     alloc: Global,
@@ -63,6 +66,18 @@ fn file_of(pair: &Option<OpenPair>, file: FileId) -> &OpenFile
     }
 }
 
+/// Whether the medium has the length that it had when it was opened, or this run has changed it.
+fn is_as_opened(pair: &Option<OpenPair>) -> bool {
+    match pair {
+        Some(open) if !open.is_changed => open
+            .media
+            .file
+            .metadata()
+            .is_ok_and(|found| found.len() == open.media.size),
+        _ => true,
+    }
+}
+
 /// Notes how long one of the two files is.
 fn resize(pair: &mut Option<OpenPair>, file: FileId, size: u64)
     requires live { IsTrue (is_live pair.old file.n) }
@@ -75,6 +90,7 @@ fn resize(pair: &mut Option<OpenPair>, file: FileId, size: u64)
     if let Some(open) = pair {
         if file == MEDIA {
             open.media.size = size;
+            open.is_changed = true;
         } else {
             open.sidecar.size = size;
         }
@@ -83,37 +99,41 @@ fn resize(pair: &mut Option<OpenPair>, file: FileId, size: u64)
 
 /// The name of a medium, and that of its sidecar.
 fn names(alloc: Global, name: &str) -> Result<(Text, Text), AllocError>
-    ensures { IfOk result (λ names. names.0 ≡ name.now) }
+    ensures { IfOk result (λ names. (names.0 ≡ name.now) × (names.1 ≡ sidecar_of name.now)) }
 {
     let mut media = Text::new(alloc);
     media.append(name)?;
-    let mut sidecar = Text::new(alloc);
-    sidecar.append(name)?;
-    sidecar.append(".mkvedit")?;
-    Ok((media, sidecar))
+    Ok((media, sidecar_name(alloc, name)?))
 }
 
-/// Opens a medium and its sidecar, which is made where it isn't there.
+/// Opens a medium and its sidecar, which is made where it isn't there, and makes sure of both and of their folder.
 fn open_both<R: fs::Files<File = File>>(
     system: &R,
     name: Text,
-    sidecar: &str,
+    sidecar: Text,
 ) -> Result<OpenPair, OpenFault>
-    ensures { IfOk result (λ pair. pair.name ≡ name) }
+    requires { sidecar ≡ sidecar_of name }
+    ensures { IfOk result (λ pair. pair.media.name ≡ name) }
 {
-    let media = match open_regular(system, name.as_str(), false) {
-        Ok(open) => open,
+    let (media, found) = match open_media(system, name) {
+        Ok(answer) => answer,
         Err(error) if is_missing(&error) => return Err(OpenFault::Missing),
         Err(_) => return Err(OpenFault::Failed),
     };
-    match open_regular(system, sidecar, true) {
-        Ok(sidecar) => Ok(OpenPair {
-            name,
-            media,
-            sidecar,
-        }),
-        Err(_) => Err(OpenFault::Failed),
+    let Ok(sidecar) = open_sidecar(system, sidecar, &found) else {
+        return Err(OpenFault::Failed);
+    };
+    let is_sure = settle(&media.file).is_ok()
+        && settle(&sidecar.file).is_ok()
+        && settle_folder(system, media.name.as_str()).is_ok();
+    if !is_sure {
+        return Err(OpenFault::Failed);
     }
+    Ok(OpenPair {
+        media,
+        sidecar,
+        is_changed: false,
+    })
 }
 
 impl<'a, R: fs::Files<File = File>> Reads for RealDisk<'a, R> {
@@ -194,7 +214,7 @@ impl<'a, R: fs::Files<File = File>> Disk for RealDisk<'a, R> {
 
     fn open_pair(&mut self, name: &str) -> Result<(), OpenFault> {
         let (media, sidecar) = names(self.alloc, name)?;
-        match open_both(self.system, media, sidecar.as_str()) {
+        match open_both(self.system, media, sidecar) {
             Ok(pair) => {
                 self.pair = Some(pair);
                 Ok(())
@@ -210,7 +230,7 @@ impl<'a, R: fs::Files<File = File>> Disk for RealDisk<'a, R> {
     fn write_at(&mut self, file: FileId, at: u64, bytes: &[u8]) -> Result<(), Failed> {
         let open = file_of(&self.pair, file);
         let len = bytes.len() as u64;
-        if at > LONGEST_FILE || len > LONGEST_FILE - at {
+        if at > LONGEST_FILE || len > LONGEST_FILE - at || !is_as_opened(&self.pair) {
             note_failure(&mut self.writing_faults);
             return Err(Failed);
         }
@@ -224,7 +244,10 @@ impl<'a, R: fs::Files<File = File>> Disk for RealDisk<'a, R> {
     }
 
     fn cut(&mut self, file: FileId, len: u64) -> Result<(), Failed> {
-        if len > LONGEST_FILE || file_of(&self.pair, file).file.set_len(len).is_err() {
+        if len > LONGEST_FILE
+            || !is_as_opened(&self.pair)
+            || file_of(&self.pair, file).file.set_len(len).is_err()
+        {
             note_failure(&mut self.writing_faults);
             return Err(Failed);
         }

@@ -122,14 +122,40 @@ fn a_file_that_is_open_is_not_emptied(rt: HostRuntime) -> Result<(), Fail> {
         );
     }
 
-    // Where it isn't open any more, it is emptied.
+    // A later run makes it empty, and its other name keeps the octets.
     let mut later = RealFiles::new(rt.alloc(), &rt);
     assert!(rt; later.create("mkv_host_open/b.mkv").is_ok());
     assert_eq!(rt;
-        fs::read(&rt, "mkv_host_open/a.mkv")?.as_slice(),
+        fs::read(&rt, "mkv_host_open/b.mkv")?.as_slice(),
         b"".as_slice()
     );
+    assert_eq!(rt;
+        fs::read(&rt, "mkv_host_open/a.mkv")?.as_slice(),
+        b"kept".as_slice()
+    );
     fs::remove_dir_all(&rt, "mkv_host_open")?;
+    Ok(())
+}
+
+#[test]
+fn a_file_that_was_closed_is_not_emptied(rt: HostRuntime) -> Result<(), Fail> {
+    fresh_folder(&rt, "mkv_host_closed")?;
+    fs::write(&rt, "mkv_host_closed/a.txt", b"kept".as_slice())?;
+    let mut files = RealFiles::new(rt.alloc(), &rt);
+    let opened = files
+        .open_file("mkv_host_closed/a.txt")
+        .ok()
+        .ok_or("not opened")?;
+    files.close(opened);
+    assert_eq!(rt;
+        files.create("mkv_host_closed/./a.txt"),
+        Err(MakeFault::Failed)
+    );
+    assert_eq!(rt;
+        fs::read(&rt, "mkv_host_closed/a.txt")?.as_slice(),
+        b"kept".as_slice()
+    );
+    fs::remove_dir_all(&rt, "mkv_host_closed")?;
     Ok(())
 }
 

@@ -5,6 +5,7 @@ use mkv_disk::{Disk, MEDIA, SIDECAR};
 use mkv_host_disk::RealDisk;
 use mkv_io::Reads;
 use mkv_values::{Failed, OpenFault};
+use std::os::unix::fs::symlink;
 use std::test::Fail;
 use std::{fs, io};
 
@@ -67,5 +68,34 @@ fn a_pair_is_missing_or_cannot_be_opened(rt: HostRuntime) -> Result<(), Fail> {
     }
     assert!(rt; fs::metadata(&rt, "disk_test_names/none.mkv.mkvedit").is_err());
     fs::remove_dir_all(&rt, "disk_test_names")?;
+    Ok(())
+}
+
+#[test]
+fn a_pair_is_refused_where_another_file_could_be_lost(rt: HostRuntime) -> Result<(), Fail> {
+    fresh_folder(&rt, "disk_test_refused")?;
+    for name in ["a", "b", "c", "other"] {
+        let name = format!(in rt.alloc(); "disk_test_refused/{name}.mkv")?;
+        fs::write(&rt, name.as_str(), b"kept".as_slice())?;
+    }
+    symlink(&rt, "a.mkv", "disk_test_refused/a.mkv.mkvedit")?;
+    fs::hard_link(&rt, "disk_test_refused/other.mkv", "disk_test_refused/b.mkv.mkvedit")?;
+    symlink(&rt, "c.mkv", "disk_test_refused/link.mkv")?;
+    for name in ["a", "b", "link"] {
+        let name = format!(in rt.alloc(); "disk_test_refused/{name}.mkv")?;
+        let mut disk = RealDisk::new(rt.alloc(), &rt);
+        assert_eq!(rt; disk.open_pair(name.as_str()), Err(OpenFault::Failed), "{name}");
+    }
+
+    // A pair that is open can't be opened by another, and a file that has grown isn't written.
+    let mut first = RealDisk::new(rt.alloc(), &rt);
+    open(&mut first, "disk_test_refused/c.mkv")?;
+    let mut second = RealDisk::new(rt.alloc(), &rt);
+    assert_eq!(rt; second.open_pair("disk_test_refused/c.mkv"), Err(OpenFault::Failed));
+    fs::write(&rt, "disk_test_refused/c.mkv", b"grown".as_slice())?;
+    assert_eq!(rt; write(&mut first, SIDECAR, 0, b"x"), Err(Failed));
+    assert_eq!(rt; write(&mut first, MEDIA, 0, b"x"), Err(Failed));
+    assert!(rt; holds(&rt, "disk_test_refused/c.mkv", b"grown".as_slice())?);
+    fs::remove_dir_all(&rt, "disk_test_refused")?;
     Ok(())
 }

@@ -1,0 +1,150 @@
+//! Calls of the system that make outputs.
+
+ghost use Rattle.std.specs.Prelude.{◌≡◌, pos, ◌<ℤ◌, true, IfOk};
+ghost use Rattle.std.specs.Fd.{file_raw_fd};
+
+use crate::system::{Node, above_streams, folder_of, node_of};
+use std::alloc::Global;
+use std::fs::{File, Metadata, OpenOptions, Permissions};
+use std::io::ErrorKind;
+use std::os::unix::fs::{MetadataExt, OpenOptionsExt, PermissionsExt, fchown};
+use std::{fs, io};
+
+/// How many names are tried for a file that is to be put in the place of another.
+const MOST_TRIES: u32 = 100;
+
+/// An empty file that is to be written, and whether this run has made it.
+#[derive(Drop)]
+pub struct Output {
+    pub file: File,
+    pub node: Node,
+    pub is_new: bool,
+    ghost above: { pos 2 <ℤ file_raw_fd file },
+}
+
+/// Opens a regular file to be written and read, or makes it where there is none, and says whether it did. The octets of one
+/// that is there stay. What isn't regular isn't opened.
+pub fn open_or_make<R: fs::Files<File = File>>(system: &R, name: &str) -> io::Result<(File, bool)>
+    ensures { IfOk result (λ answer. pos 2 <ℤ file_raw_fd answer.0) }
+{
+    let (file, is_new) = match fs::metadata(system, name) {
+        Ok(found) => {
+            node_of(&found)?;
+            (open_again(system, name)?, false)
+        }
+        Err(error) if error.kind() == ErrorKind::NotFound => make_new(system, name)?,
+        Err(error) => return Err(error),
+    };
+    Ok((above_streams(file)?, is_new))
+}
+
+fn open_again<R: fs::Files<File = File>>(system: &R, name: &str) -> io::Result<File> {
+    OpenOptions::new().read(true).write(true).open(system, name)
+}
+
+/// Makes a file, and says whether it is new for sure. Where a link to a name that no file has stands there, that file is made.
+fn make_new<R: fs::Files<File = File>>(system: &R, name: &str) -> io::Result<(File, bool)> {
+    match File::create_new(system, name) {
+        Ok(file) => Ok((file, true)),
+        Err(error) if error.kind() == ErrorKind::AlreadyExists => {
+            let file = OpenOptions::new()
+                .read(true)
+                .write(true)
+                .create(true)
+                .open(system, name)?;
+            Ok((file, false))
+        }
+        Err(error) => Err(error),
+    }
+}
+
+/// Puts a new file in the place of a regular one that is there, with its mode and its owner, so that other names of that one
+/// keep its octets, and it isn't flushed when it is closed. Where this can't be done the old one still stands.
+pub fn replaced<R: fs::Files<File = File>>(
+    alloc: Global,
+    system: &R,
+    name: &str,
+    was: &Metadata,
+) -> io::Result<Output>
+    ensures { IfOk result (λ made. made.is_new ≡ true) }
+{
+    // A link is followed to the file that it leads to.
+    let place = system.canonicalize(alloc, name)?;
+    let place = place.as_str();
+    if node_of(&fs::symlink_metadata(system, place)?)? != node_of(was)? {
+        return Err(ErrorKind::ResourceBusy.into());
+    }
+    for number in 0..MOST_TRIES {
+        let beside = format!(in alloc; "{}/.mkvsuite-{number}.new", folder_of(place))?;
+        match make_beside(system, beside.as_str()) {
+            Ok(file) => return put_in_place(system, file, beside.as_str(), place, was),
+            Err(error) if error.kind() == ErrorKind::AlreadyExists => {}
+            Err(error) => return Err(error),
+        }
+    }
+    Err(ErrorKind::AlreadyExists.into())
+}
+
+/// Makes a file that none but its owner may read or write.
+fn make_beside<R: fs::Files<File = File>>(system: &R, name: &str) -> io::Result<File> {
+    OpenOptions::new()
+        .read(true)
+        .write(true)
+        .create_new(true)
+        .mode(0o600)
+        .open(system, name)
+}
+
+/// Gives a new file the mode and the owner of another, and then its name. Where that fails the new file is removed.
+fn put_in_place<R: fs::Files<File = File>>(
+    system: &R,
+    file: File,
+    beside: &str,
+    place: &str,
+    was: &Metadata,
+) -> io::Result<Output>
+    ensures { IfOk result (λ made. made.is_new ≡ true) }
+{
+    let outcome = dressed(file, was);
+    let moved = match outcome {
+        Ok(output) => fs::rename(system, beside, place).map(|()| output),
+        Err(error) => Err(error),
+    };
+    if moved.is_err() {
+        let _ = fs::remove_file(system, beside);
+    }
+    moved
+}
+
+/// Gives a new file the mode and the owner of another.
+fn dressed(file: File, was: &Metadata) -> io::Result<Output>
+    ensures { IfOk result (λ made. made.is_new ≡ true) }
+{
+    let file = above_streams(file)?;
+    copy_access(&file, was)?;
+    let found = file.metadata()?;
+    if (found.uid(), found.gid()) != (was.uid(), was.gid()) {
+        return Err(ErrorKind::PermissionDenied.into());
+    }
+    let node = node_of(&found)?;
+    Ok(Output {
+        file,
+        node,
+        is_new: true,
+    })
+}
+
+/// Gives a file the mode of another, and its owner and group where that may be set.
+pub fn copy_access(file: &File, was: &Metadata) -> io::Result<()> {
+    // Only root sets the owner, and a member of the group may still set that.
+    unless_denied(fchown(file, None, Some(was.gid())))?;
+    unless_denied(fchown(file, Some(was.uid()), None))?;
+    unless_denied(file.set_permissions(Permissions::from_mode(was.mode() & 0o7777)))
+}
+
+fn unless_denied(outcome: io::Result<()>) -> io::Result<()> {
+    match outcome {
+        Err(error) if error.kind() == ErrorKind::PermissionDenied => Ok(()),
+        other => other,
+    }
+}
