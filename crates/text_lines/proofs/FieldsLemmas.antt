@@ -26,11 +26,11 @@ digits_read least most word low high =
 pub ten_more : (v i d : ℕ) → v < 10 ^ i → d < 10 → v * 10 + d < 10 ^ (i + 1)
 ten_more v i d small digit = let power : 10 ^ (i + 1) ≡ 10 ^ i * 10 ^ 1 = pow-add 10 i 1 in omega (arith, power)
 
--- four digits are below 10000
-pub four_digits : (v i : ℕ) → v < 10 ^ i → i ≤ 4 → v < 10000
-four_digits v i small short =
+-- eighteen digits are below 10 ^ 18
+pub eighteen_digits : (v i : ℕ) → v < 10 ^ i → i ≤ 18 → v < 10 ^ 18
+eighteen_digits v i small short =
     let positive : 0 < 10 = omega arith in
-    let most : 10 ^ i ≤ 10 ^ 4 = pow-le-pow_right positive {i = i} {j = 4} short in
+    let most : 10 ^ i ≤ 10 ^ 18 = pow-le-pow_right positive {i = i} {j = 18} short in
     omega (arith, most)
 
 -- so many digits at most are below the power of ten of that number

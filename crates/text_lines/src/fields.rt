@@ -26,7 +26,7 @@ pub fn behind<'a>(front: &[u8], word: &'a [u8]) -> Option<&'a [u8]>
 /// The number that these decimal digits write, where there are so many of them.
 #[tactic(auto, unfolding(crate::specs::Fields::digits))]
 pub fn digits(least: usize, most: usize, word: &[u8]) -> Option<u64>
-    requires { most ≤ 4 }
+    requires { most ≤ 18 }
     ensures same { result ≡ spec.digits least most word.now }
     ensures small { IfSome result (λ n. n < 10 ^ most) }
 {
