@@ -8,7 +8,7 @@ use Rattle.mkv_schema.specs.declared.ids.TheConstants.{TITLE}
 use Rattle.tree_format.specs.Node.{Node}
 use Rattle.file_records.specs.Records.{FileRecords, scale_of_info}
 use Rattle.identification.specs.declared.tags.Scope.TheVariants.{Global}
-use Rattle.identification.specs.Json.{given, if_there, object_of, whole}
+use Rattle.identification.specs.Json.{Member, given, if_there, object_of, whole}
 use Rattle.identification.specs.Texts.{text_or_empty, unless_empty}
 use Rattle.identification.specs.Attachments.{attachments_value}
 use Rattle.identification.specs.Chapters.{chapter_count, entries_value}
@@ -35,8 +35,8 @@ container_value info = object_of (
     [])
 
 -- what a file of a name has, of which this was read
-unfoldable pub identification : List ℕ → FileRecords → Data
-identification name file = object_of (
+abbrev pub told_of : List ℕ → FileRecords → List Member
+told_of name file =
     given "attachments" (attachments_value file.attachments) ∷
     given "chapters" (entries_value (chapter_count file.chapters)) ∷
     given "container" (container_value file.info) ∷
@@ -44,7 +44,10 @@ identification name file = object_of (
     given "global_tags" (entries_value (tag_count Global file.tags)) ∷
     given "track_tags" (track_tags_value file.tags file.tracks) ∷
     given "tracks" (tracks_value file.tracks) ∷
-    [])
+    []
+
+unfoldable pub identification : List ℕ → FileRecords → Data
+identification name file = object_of (told_of name file)
 
 -- the line: the text of that value, with no blank between its parts
 abbrev pub identification_line : List ℕ → FileRecords → List ℕ

@@ -13,7 +13,7 @@ use crate::tags::{Scope, tag_count, track_tags_value};
 use crate::tracks::tracks_value;
 use file_records::Records;
 use mkv_values::Text;
-use serde_json::{Value, json};
+use serde_json::{Map, Value, put};
 use std::alloc::{AllocError, Global};
 
 /// The identification of a file of this name as one line of JSON, by what was read of the file.
@@ -31,19 +31,20 @@ fn identification(alloc: Global, name: &str, records: &Records) -> Result<Value,
     requires { CanBeTold records.now }
     ensures { IfOk result (λ value. view value ≡ identification name.now (described_by records.now)) }
 {
+    let mut object = Map::new(alloc);
     let attachments = attachments_value(alloc, records.attachments.as_slice())?;
+    put(&mut object, alloc, "attachments", attachments)?;
     let chapters = entries_value(alloc, chapter_count(&records.chapters)?)?;
+    put(&mut object, alloc, "chapters", chapters)?;
     let container = container_value(alloc, &records.info)?;
+    put(&mut object, alloc, "container", container)?;
+    let file_name = Value::try_from_str(alloc, name)?;
+    put(&mut object, alloc, "file_name", file_name)?;
     let global_tags = entries_value(alloc, tag_count(&records.tags, Scope::Global)?)?;
+    put(&mut object, alloc, "global_tags", global_tags)?;
     let track_tags = track_tags_value(alloc, &records.tags, records.tracks.as_slice())?;
+    put(&mut object, alloc, "track_tags", track_tags)?;
     let tracks = tracks_value(alloc, records.tracks.as_slice())?;
-    json!(in alloc; {
-        "attachments": attachments,
-        "chapters": chapters,
-        "container": container,
-        "file_name": name,
-        "global_tags": global_tags,
-        "track_tags": track_tags,
-        "tracks": tracks
-    })
+    put(&mut object, alloc, "tracks", tracks)?;
+    Ok(Value::Object(object))
 }

@@ -55,12 +55,8 @@ fn properties_of(alloc: Global, track: &Track) -> Result<Value, AllocError>
     ensures { IfOk result (λ value. view value ≡ object_of (properties_of track.now)) }
 {
     let entry = &track.entry;
-    let codec = Value::try_from_str(alloc, track.codec.as_str())?;
-    let language = Value::try_from_str(alloc, track.language.as_str())?;
-    let bcp47 = string_if(alloc, text_in(entry, LANGUAGE_BCP47))?;
-    let dimensions = dimensions_of(alloc, entry)?;
-    let name = string_if(alloc, unless_empty(text_or_empty(entry, NAME)))?;
     let mut properties = Map::new(alloc);
+    let codec = Value::try_from_str(alloc, track.codec.as_str())?;
     put(&mut properties, alloc, "codec_id", codec)?;
     put_if(
         &mut properties,
@@ -86,10 +82,14 @@ fn properties_of(alloc: Global, track: &Track) -> Result<Value, AllocError>
         "forced_track",
         flag(entry, FLAG_FORCED),
     )?;
+    let language = Value::try_from_str(alloc, track.language.as_str())?;
     put(&mut properties, alloc, "language", language)?;
+    let bcp47 = string_if(alloc, text_in(entry, LANGUAGE_BCP47))?;
     put_if(&mut properties, alloc, "language_ietf", bcp47)?;
     put(&mut properties, alloc, "number", Value::from(track.number))?;
+    let dimensions = dimensions_of(alloc, entry)?;
     put_if(&mut properties, alloc, "pixel_dimensions", dimensions)?;
+    let name = string_if(alloc, unless_empty(text_or_empty(entry, NAME)))?;
     put_if(&mut properties, alloc, "track_name", name)?;
     put(&mut properties, alloc, "uid", Value::from(track.uid))?;
     Ok(Value::Object(properties))

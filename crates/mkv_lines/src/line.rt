@@ -1,5 +1,10 @@
 //! The lines that a user is told.
 
+ghost use Rattle.std.specs.Prelude.{◌++◌, codes};
+ghost use Rattle.std.specs.Fmt.{WritesOnOk, decimal};
+ghost use Rattle.mkv_lines.specs.Shown.{damage_text, element_text, shown_text};
+ghost use Rattle.mkv_lines.specs.Line.{edit_refused_line, edit_too_large_line, foreign_line, level_0_line, level_1_line, more_damages_line, no_room_line, wrote_blocks_line};
+
 use crate::shown::{
     Level0Name, Level1Name, ShownDamage, ShownElement, ShownMark, ShownPlace, ShownTrack,
 };
@@ -156,135 +161,142 @@ impl fmt::Display for Line<'_> {
 
     fn fmt<W: fmt::Write>(&self, f: &mut fmt::Formatter<W>) -> fmt::Result {
         match *self {
-            Line::Level0(header) => {
-                let (name, place) = (Level0Name(header.id), ShownPlace(header));
-                write!(f, "{name}{place}")
-            }
-            Line::Level1(header) => {
-                let (name, place) = (Level1Name(header.id), ShownPlace(header));
-                write!(f, "  {name}{place}")
-            }
-            Line::Track(track) => write!(f, "{track}"),
-            Line::Refused { name, damage } => {
-                let (name, damage) = (ShownText(name), ShownDamage(damage));
-                write!(f, "error: {name}: {damage}")
-            }
-            Line::Warned { name, damage } => {
-                let (name, damage) = (ShownText(name), ShownDamage(damage));
-                write!(f, "warning: {name}: {damage}")
-            }
-            Line::MoreDamages { name, more } => {
-                let name = ShownText(name);
-                write!(f, "warning: {name}: {more} more damages")
-            }
-            Line::NoTrack { name, number } => {
-                let name = ShownText(name);
-                write!(f, "warning: {name}: no track {number}")
-            }
-            Line::NoAttachment { name, number } => {
-                let name = ShownText(name);
-                write!(f, "warning: {name}: no attachment {number}")
-            }
-            Line::NoExtractor { name, number } => {
-                let name = ShownText(name);
-                write!(f, "error: {name}: NoExtractor, track {number}")
-            }
-            Line::Missing { name } => {
-                let name = ShownText(name);
-                write!(f, "error: {name}: Missing")
-            }
-            Line::BadText { name, line } => {
-                let name = ShownText(name);
-                write!(f, "error: {name}: BadText, line {line}")
-            }
-            Line::TextTooLarge { name } => {
-                let name = ShownText(name);
-                write!(f, "error: {name}: TextTooLarge")
-            }
-            Line::PendingEdit { name } => {
-                let name = ShownText(name);
-                write!(f, "error: {name}: PendingEdit, run recover")
-            }
-            Line::OutputIsInput { name } => {
-                let name = ShownText(name);
-                write!(f, "error: {name}: OutputIsInput")
-            }
-            Line::AppendDiffers { name, id } => {
-                let (name, why, element) = (ShownText(name), "AppendDiffers", ShownElement(id));
-                write!(f, "error: {name}: {why}{element}")
-            }
+            Line::Level0(header) => level_0(f, header),
+            Line::Level1(header) => level_1(f, header),
+            Line::Track(track) => track.fmt(f),
+            Line::Refused { name, damage } => damaged(f, "error: ", name, damage),
+            Line::Warned { name, damage } => damaged(f, "warning: ", name, damage),
+            Line::MoreDamages { name, more } => more_damages(f, name, more),
+            Line::NoTrack { name, number } => numbered(f, "warning: ", name, ": no track ", number),
+            Line::NoAttachment { name, number } => numbered(f, "warning: ", name, ": no attachment ", number),
+            Line::NoExtractor { name, number } => numbered(f, "error: ", name, ": NoExtractor, track ", number),
+            Line::Missing { name } => named(f, "error: ", name, ": Missing"),
+            Line::BadText { name, line } => numbered(f, "error: ", name, ": BadText, line ", line),
+            Line::TextTooLarge { name } => named(f, "error: ", name, ": TextTooLarge"),
+            Line::PendingEdit { name } => named(f, "error: ", name, ": PendingEdit, run recover"),
+            Line::OutputIsInput { name } => named(f, "error: ", name, ": OutputIsInput"),
+            Line::AppendDiffers { name, id } => of_element(f, name, "AppendDiffers", id),
             Line::NoLane => f.write_str("error: NoLane"),
             Line::TooManyLanes => f.write_str("error: TooManyLanes"),
-            Line::NotWebm { codec } => {
-                let codec = ShownText(codec);
-                write!(f, "error: NotWebm, {codec}")
-            }
-            Line::TooLarge { name, id } => {
-                let (name, why, element) = (ShownText(name), "HeaderTooLarge", ShownElement(id));
-                write!(f, "error: {name}: {why}{element}")
-            }
-            Line::Wrote { name } => {
-                let name = ShownText(name);
-                write!(f, "wrote {name}")
-            }
-            Line::WroteBlocks { name, blocks } => {
-                let name = ShownText(name);
-                write!(f, "wrote {name}: {blocks} blocks")
-            }
-            Line::Edited { name } => {
-                let name = ShownText(name);
-                write!(f, "edited {name}")
-            }
-            Line::EditRefused { name, why, edit } => {
-                let name = ShownText(name);
-                write!(f, "error: {name}: {why}, edit {edit}")
-            }
+            Line::NotWebm { codec } => headed(f, "error: NotWebm, ", codec),
+            Line::TooLarge { name, id } => of_element(f, name, "HeaderTooLarge", id),
+            Line::Wrote { name } => headed(f, "wrote ", name),
+            Line::WroteBlocks { name, blocks } => wrote_blocks(f, name, blocks),
+            Line::Edited { name } => headed(f, "edited ", name),
+            Line::EditRefused { name, why, edit } => edit_refused(f, name, why, edit),
             Line::NoRoom {
                 name,
                 why,
                 need,
                 have,
-            } => {
-                let name = ShownText(name);
-                write!(f, "error: {name}: NoRoom, {why}, need {need}, have {have}")
-            }
+            } => no_room(f, name, why, need, have),
             Line::EditTooLarge {
                 name,
                 length,
                 nodes,
-            } => {
-                let name = ShownText(name);
-                write!(
-                    f,
-                    "error: {name}: EditTooLarge, length {length}, nodes {nodes}"
-                )
-            }
-            Line::Recovered { name } => {
-                let name = ShownText(name);
-                write!(f, "recovered {name}")
-            }
-            Line::NothingToRecover { name } => {
-                let name = ShownText(name);
-                write!(f, "nothing to recover in {name}")
-            }
-            Line::BadSidecar { name, offset } => {
-                let name = ShownText(name);
-                write!(f, "error: {name}: BadSidecar, offset {offset}")
-            }
+            } => edit_too_large(f, name, length, nodes),
+            Line::Recovered { name } => headed(f, "recovered ", name),
+            Line::NothingToRecover { name } => headed(f, "nothing to recover in ", name),
+            Line::BadSidecar { name, offset } => numbered(f, "error: ", name, ": BadSidecar, offset ", offset),
             Line::Foreign {
                 name,
                 mark,
                 kept,
                 found,
-            } => {
-                let (name, mark) = (ShownText(name), ShownMark(mark));
-                write!(
-                    f,
-                    "error: {name}: Foreign, {mark}, kept {kept}, found {found}"
-                )
-            }
+            } => foreign(f, name, mark, kept, found),
             Line::Word { word, why } => write!(f, "error: word {word}: {why}"),
             Line::FilesFault => f.write_str("fault: files"),
         }
     }
+}
+
+fn level_0<W: fmt::Write>(f: &mut fmt::Formatter<W>, header: Header) -> fmt::Result
+    ensures { WritesOnOk W.write_str_gives f.old result (level_0_line header) f.new }
+{
+    let (name, place) = (Level0Name(header.id), ShownPlace(header));
+    write!(f, "{name}{place}")
+}
+
+fn level_1<W: fmt::Write>(f: &mut fmt::Formatter<W>, header: Header) -> fmt::Result
+    ensures { WritesOnOk W.write_str_gives f.old result (level_1_line header) f.new }
+{
+    let (name, place) = (Level1Name(header.id), ShownPlace(header));
+    write!(f, "  {name}{place}")
+}
+
+fn damaged<W: fmt::Write>(f: &mut fmt::Formatter<W>, head: &str, name: &str, damage: Damage) -> fmt::Result
+    ensures { WritesOnOk W.write_str_gives f.old result (head.now ++ (shown_text name.now ++ (codes ": " ++ damage_text damage))) f.new }
+{
+    let (name, damage) = (ShownText(name), ShownDamage(damage));
+    write!(f, "{head}{name}: {damage}")
+}
+
+fn more_damages<W: fmt::Write>(f: &mut fmt::Formatter<W>, name: &str, more: u64) -> fmt::Result
+    ensures { WritesOnOk W.write_str_gives f.old result (more_damages_line name.now more) f.new }
+{
+    let name = ShownText(name);
+    write!(f, "warning: {name}: {more} more damages")
+}
+
+fn numbered<W: fmt::Write>(f: &mut fmt::Formatter<W>, head: &str, name: &str, what: &str, number: u64) -> fmt::Result
+    ensures { WritesOnOk W.write_str_gives f.old result (head.now ++ (shown_text name.now ++ (what.now ++ decimal number))) f.new }
+{
+    let name = ShownText(name);
+    write!(f, "{head}{name}{what}{number}")
+}
+
+fn named<W: fmt::Write>(f: &mut fmt::Formatter<W>, head: &str, name: &str, tail: &str) -> fmt::Result
+    ensures { WritesOnOk W.write_str_gives f.old result (head.now ++ (shown_text name.now ++ tail.now)) f.new }
+{
+    let name = ShownText(name);
+    write!(f, "{head}{name}{tail}")
+}
+
+fn headed<W: fmt::Write>(f: &mut fmt::Formatter<W>, head: &str, name: &str) -> fmt::Result
+    ensures { WritesOnOk W.write_str_gives f.old result (head.now ++ shown_text name.now) f.new }
+{
+    let name = ShownText(name);
+    write!(f, "{head}{name}")
+}
+
+fn of_element<W: fmt::Write>(f: &mut fmt::Formatter<W>, name: &str, why: &str, id: u32) -> fmt::Result
+    ensures { WritesOnOk W.write_str_gives f.old result (codes "error: " ++ (shown_text name.now ++ (codes ": " ++ (why.now ++ element_text id)))) f.new }
+{
+    let (name, element) = (ShownText(name), ShownElement(id));
+    write!(f, "error: {name}: {why}{element}")
+}
+
+fn wrote_blocks<W: fmt::Write>(f: &mut fmt::Formatter<W>, name: &str, blocks: u64) -> fmt::Result
+    ensures { WritesOnOk W.write_str_gives f.old result (wrote_blocks_line name.now blocks) f.new }
+{
+    let name = ShownText(name);
+    write!(f, "wrote {name}: {blocks} blocks")
+}
+
+fn edit_refused<W: fmt::Write>(f: &mut fmt::Formatter<W>, name: &str, why: &str, edit: u64) -> fmt::Result
+    ensures { WritesOnOk W.write_str_gives f.old result (edit_refused_line name.now why.now edit) f.new }
+{
+    let name = ShownText(name);
+    write!(f, "error: {name}: {why}, edit {edit}")
+}
+
+fn no_room<W: fmt::Write>(f: &mut fmt::Formatter<W>, name: &str, why: &str, need: u64, have: u64) -> fmt::Result
+    ensures { WritesOnOk W.write_str_gives f.old result (no_room_line name.now why.now need have) f.new }
+{
+    let name = ShownText(name);
+    write!(f, "error: {name}: NoRoom, {why}, need {need}, have {have}")
+}
+
+fn edit_too_large<W: fmt::Write>(f: &mut fmt::Formatter<W>, name: &str, length: u64, nodes: u64) -> fmt::Result
+    ensures { WritesOnOk W.write_str_gives f.old result (edit_too_large_line name.now length nodes) f.new }
+{
+    let name = ShownText(name);
+    write!(f, "error: {name}: EditTooLarge, length {length}, nodes {nodes}")
+}
+
+fn foreign<W: fmt::Write>(f: &mut fmt::Formatter<W>, name: &str, mark: Mark, kept: u64, found: u64) -> fmt::Result
+    ensures { WritesOnOk W.write_str_gives f.old result (foreign_line name.now mark kept found) f.new }
+{
+    let (name, mark) = (ShownText(name), ShownMark(mark));
+    write!(f, "error: {name}: Foreign, {mark}, kept {kept}, found {found}")
 }

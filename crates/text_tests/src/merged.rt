@@ -13,6 +13,7 @@ use mkv_schema::ids::{CHAPTERS, TAGS};
 use mkv_schema::is_master;
 use mkv_values::{Bytes, List};
 use std::alloc::{AllocError, Global};
+use std::process::Abort;
 use std::test::Fail;
 use tag_records::{UidMap, merge_tags};
 
@@ -204,15 +205,35 @@ fn numbers(alloc: Global) -> Result<UidMap, Fail> {
     })
 }
 
-#[test]
-fn tags_are_written(rt: HostRuntime) -> Result<(), Fail> {
-    let map = numbers(rt.alloc())?;
-    let tags = tree_of(rt.alloc(), TAGS, AIMED)?;
+// The octets of what is kept of the Tags.
+fn written(
+    alloc: Global,
+    tags: &Tree,
+    map: &UidMap,
+    tracks: bool,
+    global: bool,
+) -> Result<Bytes, TreeEnd>
+    requires { IsRead TAGS_ID tags.now }
+{
+    let kept = merge_tags(alloc, tags, map, TagKeep { tracks, global })?;
+    let mut out = Bytes::new(alloc);
+    kept.put(&mut out)?;
+    Ok(out)
+}
+
+fn are_written(rt: &impl Abort, alloc: Global, tags: &Tree, map: &UidMap) -> Result<(), Fail>
+    requires { IsRead TAGS_ID tags.now }
+{
     for (tracks, global, wanted) in KEPT {
-        let written = merge_tags(rt.alloc(), &tags, &map, TagKeep { tracks, global })?;
-        let mut out = Bytes::new(rt.alloc());
-        written.put(&mut out)?;
+        let out = written(alloc, tags, map, tracks, global)?;
         assert_eq!(rt; out.as_slice(), wanted);
     }
     Ok(())
+}
+
+#[test]
+fn tags_are_written(rt: HostRuntime) -> Result<(), Fail> {
+    let tags = tree_of(rt.alloc(), TAGS, AIMED)?;
+    let map = numbers(rt.alloc())?;
+    are_written(&rt, rt.alloc(), &tags, &map)
 }
