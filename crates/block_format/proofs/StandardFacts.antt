@@ -2,16 +2,16 @@
 use Rattle.std.proofs.Common.{◌≡◌, ℕ, ◌+◌, ◌-◌, ◌*◌, ◌/◌, ◌%◌, ◌^◌, true, false, List, [], ◌∷◌, ◌++◌, length, take, drop, slice_set, replicate, map, flat_map, Some, None, Result, Ok, Err, refl}
 use Rattle.std.specs.Prelude.{ℤ, pos, negsuc}
 use Rattle.std.specs.Int.Count.{count_leading_zeros}
-use Rattle.ebml_format.specs.declared.number.Size.{Size}
-use Rattle.ebml_format.specs.declared.number.Size.TheVariants.{Known, Unknown}
-use Rattle.ebml_format.specs.Number.{id_at, size_at}
+use Rattle.ebml_numbers.specs.declared.number.Size.{Size}
+use Rattle.ebml_numbers.specs.declared.number.Size.TheVariants.{Known, Unknown}
+use Rattle.ebml_numbers.specs.Number.{id_at, size_at}
 use Rattle.mkv_schema.specs.Table.{table}
 use Rattle.mkv_schema.specs.Schema.{entry_of}
-use Rattle.mkv_values.specs.declared.damage.Kind.{Kind}
-use Rattle.mkv_values.specs.declared.damage.Kind.TheVariants.{BadId, BadSize, TooLong, Truncated, BadValue, MissingChild, ShortBlock, BadLacing, BlockTooLarge, TimeTooLarge, NoTimestamp, TooMany, UnknownSize}
-use Rattle.matroska_format.specs.declared.element.Header.{Header}
-use Rattle.matroska_format.specs.Element.{element_in, damage}
-use Rattle.matroska_format.specs.Elements.{elements, elements_within}
+use Rattle.mkv_io.specs.declared.damage.Kind.{Kind}
+use Rattle.mkv_io.specs.declared.damage.Kind.TheVariants.{BadId, BadSize, TooLong, Truncated, BadValue, MissingChild, ShortBlock, BadLacing, BlockTooLarge, TimeTooLarge, NoTimestamp, TooMany, UnknownSize}
+use Rattle.mkv_schema.specs.declared.element.Header.{Header}
+use Rattle.mkv_schema.specs.Element.{element_in, damage}
+use Rattle.mkv_schema.specs.Elements.{elements, elements_within}
 use Rattle.lacing.specs.declared.kind.Lace.TheVariants as lace
 use Rattle.lacing.specs.Reading.{lace_in, sizes_in, size_in}
 use Rattle.block_format.specs.Content.{Content, content_in, is_key, is_invisible, is_discardable, lace_of}

@@ -1,11 +1,11 @@
 -- What the octets of a Block or a SimpleBlock spell: RFC 9559, sections 10.1 (Block Structure), 10.2 (SimpleBlock Structure) and 10.3 (Block Lacing).
 use Rattle.std.specs.Prelude.{ℕ, ◌+◌, ◌==◌, nat_lt, Bool, not, ◌||◌, if◌then◌else◌, ℤ, List, [], ◌∷◌, length, take, drop, slice_index, bit_and, Option, Some, None, Result, Ok, Err}
-use Rattle.ebml_format.specs.Number.{announced, vint_data, int_of}
+use Rattle.ebml_numbers.specs.Number.{announced, vint_data, int_of}
 use Rattle.lacing.specs.declared.kind.Lace.{Lace}
 use Rattle.lacing.specs.declared.kind.Lace.TheVariants as lace
 use Rattle.lacing.specs.Reading.{lace_in}
-use Rattle.mkv_values.specs.declared.damage.Kind.{Kind}
-use Rattle.mkv_values.specs.declared.damage.Kind.TheVariants.{ShortBlock, BadLacing}
+use Rattle.mkv_io.specs.declared.damage.Kind.{Kind}
+use Rattle.mkv_io.specs.declared.damage.Kind.TheVariants.{ShortBlock, BadLacing}
 
 -- ---- the header
 

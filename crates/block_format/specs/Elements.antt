@@ -2,16 +2,16 @@
 use Rattle.std.specs.Prelude.{ℕ, ◌*◌, ◌==◌, nat_lt, Bool, true, false, not, ◌&&◌, if◌then◌else◌, ℤ, List, [], ◌∷◌, length, map, filter, slice_get, flat_map, Option, Some, None, Result, Ok, Err}
 use Rattle.std.specs.List.{list_any}
 use Rattle.std.specs.Option.{option_map}
-use Rattle.ebml_format.specs.Number.{uint_of, int_of}
+use Rattle.ebml_numbers.specs.Number.{uint_of, int_of}
 use Rattle.mkv_schema.specs.declared.ids.TheConstants.{BLOCK_GROUP, BLOCK, BLOCK_DURATION, REFERENCE_BLOCK, VOID, CRC_32}
-use Rattle.mkv_values.specs.declared.damage.Damage.{Damage}
-use Rattle.mkv_values.specs.declared.damage.Kind.{Kind}
-use Rattle.mkv_values.specs.declared.damage.Kind.TheVariants.{MissingChild, BlockTooLarge, TimeTooLarge, NoTimestamp, TooMany}
-use Rattle.matroska_format.specs.declared.element.Header.{Header}
-use Rattle.matroska_format.specs.Element.{in_master, octets_between, known, stated_end, damage}
-use Rattle.matroska_format.specs.Elements.{Run, children_in}
-use Rattle.matroska_format.specs.Value.{body_of, first_of}
-use Rattle.matroska_format.specs.Outline.{first_damage, unless, and_then, where_it, bad_value}
+use Rattle.mkv_io.specs.declared.damage.Damage.{Damage}
+use Rattle.mkv_io.specs.declared.damage.Kind.{Kind}
+use Rattle.mkv_io.specs.declared.damage.Kind.TheVariants.{MissingChild, BlockTooLarge, TimeTooLarge, NoTimestamp, TooMany}
+use Rattle.mkv_schema.specs.declared.element.Header.{Header}
+use Rattle.mkv_schema.specs.Element.{in_master, octets_between, known, stated_end, damage}
+use Rattle.mkv_schema.specs.Elements.{Run, children_in}
+use Rattle.mkv_schema.specs.Value.{body_of, first_of}
+use Rattle.mkv_schema.specs.Outline.{first_damage, unless, and_then, where_it, bad_value}
 use Rattle.block_format.specs.declared.limits.TheConstants.{SLICES, MOST_OF_BLOCK, MOST_REFERENCES}
 use Rattle.block_format.specs.Content.{Content, content_in, is_invisible, lace_of}
 use Rattle.block_format.specs.Block.{Block, nanoseconds, time_of, has_too_large_time, simple_block_with}

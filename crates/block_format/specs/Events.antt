@@ -1,14 +1,14 @@
 -- The blocks and the damages of a file: RFC 9559, sections 5.1 (Segment Element) and 5.1.3 (Cluster Element).
 use Rattle.std.specs.Prelude.{ℕ, ◌==◌, nat_lt, nat_le, Bool, not, ◌&&◌, if◌then◌else◌, List, [], ◌∷◌, ◌++◌, length, flat_map, slice_get, Option, Some, None, Result, Ok, Err}
-use Rattle.ebml_format.specs.Number.{uint_of}
+use Rattle.ebml_numbers.specs.Number.{uint_of}
 use Rattle.mkv_schema.specs.declared.ids.TheConstants.{CLUSTER, TIMESTAMP, SIMPLE_BLOCK, BLOCK_GROUP}
-use Rattle.mkv_values.specs.declared.damage.Damage.{Damage}
-use Rattle.mkv_values.specs.declared.damage.Kind.TheVariants.{BadValue}
-use Rattle.matroska_format.specs.declared.element.Header.{Header}
-use Rattle.matroska_format.specs.Element.{in_master, is_unknown, known, stated_end, end_in, damage}
-use Rattle.matroska_format.specs.Elements.{Run, children_in, open_cluster}
-use Rattle.matroska_format.specs.Value.{body_of}
-use Rattle.matroska_format.specs.Outline.{segment_bound, segment_run}
+use Rattle.mkv_io.specs.declared.damage.Damage.{Damage}
+use Rattle.mkv_io.specs.declared.damage.Kind.TheVariants.{BadValue}
+use Rattle.mkv_schema.specs.declared.element.Header.{Header}
+use Rattle.mkv_schema.specs.Element.{in_master, is_unknown, known, stated_end, end_in, damage}
+use Rattle.mkv_schema.specs.Elements.{Run, children_in, open_cluster}
+use Rattle.mkv_schema.specs.Value.{body_of}
+use Rattle.mkv_schema.specs.Outline.{segment_bound, segment_run}
 use Rattle.block_format.specs.declared.limits.TheConstants.{MOST_TIMESTAMP}
 use Rattle.block_format.specs.Block.{Block}
 use Rattle.block_format.specs.Elements.{Rules, simple_block, block_group}

@@ -3,16 +3,16 @@ use Rattle.std.proofs.Common.{◌≡◌, ℕ, ◌+◌, ◌-◌, ◌≤◌, nat_l
 use Rattle.std.proofs.lemmas.Bool.Decides.{nat_tests}
 use Rattle.std.proofs.lemmas.List.{drop-drop, drop-take}
 use Rattle.mkv_schema.specs.declared.ids.TheConstants.{BLOCK}
-use Rattle.mkv_values.specs.declared.damage.Damage.{Damage}
-use Rattle.mkv_values.specs.declared.damage.Kind.{Kind}
-use Rattle.mkv_values.specs.declared.damage.Kind.TheVariants.{BlockTooLarge, MissingChild}
-use Rattle.matroska_format.specs.declared.element.Header.{Header}
-use Rattle.matroska_format.specs.Element.{in_master, known, stated_end, damage, octets_between}
-use Rattle.matroska_format.specs.Elements.{children_in}
-use Rattle.matroska_format.specs.Outline.{and_then, unless, where_it}
-use Rattle.matroska_format.specs.Value.{body_of, first_of}
-use Rattle.element_bodies.specs.Body.{IsBody}
-use Rattle.element_bodies.proofs.BodyLemmas.{IsBody-part}
+use Rattle.mkv_io.specs.declared.damage.Damage.{Damage}
+use Rattle.mkv_io.specs.declared.damage.Kind.{Kind}
+use Rattle.mkv_io.specs.declared.damage.Kind.TheVariants.{BlockTooLarge, MissingChild}
+use Rattle.mkv_schema.specs.declared.element.Header.{Header}
+use Rattle.mkv_schema.specs.Element.{in_master, known, stated_end, damage, octets_between}
+use Rattle.mkv_schema.specs.Elements.{children_in}
+use Rattle.mkv_schema.specs.Outline.{and_then, unless, where_it}
+use Rattle.mkv_schema.specs.Value.{body_of, first_of}
+use Rattle.elements.specs.Body.{IsBody}
+use Rattle.elements.proofs.BodyLemmas.{IsBody-part}
 use Rattle.block_format.specs.declared.limits.TheConstants.{MOST_OF_BLOCK}
 use Rattle.block_format.specs.Content.{Content, content_in, frames_cut}
 use Rattle.block_format.specs.Block.{Block, simple_block_with}

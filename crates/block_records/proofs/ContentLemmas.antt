@@ -3,14 +3,14 @@ use Rattle.std.proofs.Common.{◌≡◌, ℕ, ℤ, ◌+◌, ◌-◌, ◌<◌, �
 use Rattle.std.proofs.lemmas.Bool.{cond-true, cond-false}
 use Rattle.std.proofs.lemmas.List.{length-drop, drop-drop}
 use Rattle.std.proofs.lemmas.Bool.Decides.{nat_tests}
-use Rattle.ebml_format.specs.declared.number.NumFault.{NumFault}
-use Rattle.ebml_format.specs.declared.number.NumFault.TheVariants as fault
-use Rattle.ebml_format.specs.declared.number.Size.{Size}
-use Rattle.ebml_format.specs.declared.number.SizeRead.{SizeRead}
-use Rattle.ebml_format.specs.Number.{announced, vint_data, size_at, int_of}
-use Rattle.ebml_format.proofs.NumberLemmas.{size_at-more, size_at-zero, size_at-is_zero, size_at-reads}
-use Rattle.mkv_values.specs.declared.damage.Kind.{Kind}
-use Rattle.mkv_values.specs.declared.damage.Kind.TheVariants.{ShortBlock}
+use Rattle.ebml_numbers.specs.declared.number.NumFault.{NumFault}
+use Rattle.ebml_numbers.specs.declared.number.NumFault.TheVariants as fault
+use Rattle.ebml_numbers.specs.declared.number.Size.{Size}
+use Rattle.ebml_numbers.specs.declared.number.SizeRead.{SizeRead}
+use Rattle.ebml_numbers.specs.Number.{announced, vint_data, size_at, int_of}
+use Rattle.ebml_numbers.proofs.NumberLemmas.{size_at-more, size_at-zero, size_at-is_zero, size_at-reads}
+use Rattle.mkv_io.specs.declared.damage.Kind.{Kind}
+use Rattle.mkv_io.specs.declared.damage.Kind.TheVariants.{ShortBlock}
 use Rattle.lacing.specs.declared.kind.Lace.{Lace}
 use Rattle.lacing.specs.Reading.{data_of}
 use Rattle.lacing.proofs.LaceLemmas.{data_of-size}

@@ -9,12 +9,12 @@ use Rattle.std.proofs.lemmas.Grind.{flat_map-append}
 use Rattle.std.proofs.lemmas.Option.{slice_get_past}
 use Rattle.std.proofs.lemmas.Bool.Decides.{nat_tests}
 use Rattle.std.proofs.lemmas.Bool.{false≢true, cond-true, cond-false}
-use Rattle.ebml_format.specs.Number.{uint_of, int_of}
+use Rattle.ebml_numbers.specs.Number.{uint_of, int_of}
 use Rattle.mkv_schema.specs.Schema.{entry_of}
 use Rattle.mkv_schema.specs.Table.{table}
 use Rattle.mkv_schema.specs.declared.ids.TheConstants.{BLOCK_GROUP, BLOCK, BLOCK_DURATION, REFERENCE_BLOCK, VOID, CRC_32}
-use Rattle.matroska_format.specs.declared.element.Header.{Header}
-use Rattle.matroska_format.specs.Value.{body_of, first_of, is_known_value}
+use Rattle.mkv_schema.specs.declared.element.Header.{Header}
+use Rattle.mkv_schema.specs.Value.{body_of, first_of, is_known_value}
 use Rattle.block_format.specs.declared.limits.TheConstants.{SLICES, MOST_REFERENCES}
 use Rattle.block_format.specs.Elements.{references_among, is_kept, kept_of, element_octets}
 use Rattle.block_records.specs.declared.gathered.Gathered.{Gathered}

@@ -4,15 +4,15 @@ use Rattle.std.specs.List.{list_any, slice_get}
 use Rattle.std.specs.Option.{option_map, option_map_or}
 use Rattle.std.proofs.lemmas.List.{length-map, take_all}
 use Rattle.std.proofs.lemmas.Bool.{cases_lt}
-use Rattle.ebml_format.specs.Number.{uint_of, int_of}
+use Rattle.ebml_numbers.specs.Number.{uint_of, int_of}
 use Rattle.mkv_schema.specs.declared.ids.TheConstants.{BLOCK, BLOCK_DURATION}
 use Rattle.lacing.specs.declared.kind.Lace.{Lace}
-use Rattle.mkv_values.specs.declared.damage.Damage.{Damage}
-use Rattle.mkv_values.specs.declared.damage.Kind.TheVariants.{TimeTooLarge, TooMany}
-use Rattle.matroska_format.specs.declared.element.Header.{Header}
-use Rattle.matroska_format.specs.Element.{damage}
-use Rattle.matroska_format.specs.Outline.{and_then, unless, where_it}
-use Rattle.matroska_format.specs.Value.{body_of, first_of}
+use Rattle.mkv_io.specs.declared.damage.Damage.{Damage}
+use Rattle.mkv_io.specs.declared.damage.Kind.TheVariants.{TimeTooLarge, TooMany}
+use Rattle.mkv_schema.specs.declared.element.Header.{Header}
+use Rattle.mkv_schema.specs.Element.{damage}
+use Rattle.mkv_schema.specs.Outline.{and_then, unless, where_it}
+use Rattle.mkv_schema.specs.Value.{body_of, first_of}
 use Rattle.block_format.specs.declared.limits.TheConstants.{MOST_REFERENCES}
 use Rattle.block_format.specs.Content.{is_invisible, lace_of}
 use Rattle.block_format.specs.Block.{Block, nanoseconds, is_too_large, has_too_large_time}

@@ -2,15 +2,15 @@
 use Rattle.std.proofs.Common.{◌≡◌, ◌⊎◌, inl, inr, ℕ, ◌+◌, ◌-◌, ◌<◌, ◌≤◌, true, false, List, [], ◌∷◌, ◌++◌, append-nil, append_assoc, length, take, drop, Option, Some, None, IfSome, Result, Ok, Err, refl, sym, ◌∙◌, ap, subst, arith}
 use Rattle.std.proofs.lemmas.List.{drop-take, take-take}
 use Rattle.mkv_schema.specs.declared.ids.TheConstants.{BLOCK_GROUP}
-use Rattle.mkv_values.specs.declared.damage.Damage.{Damage}
-use Rattle.mkv_values.specs.declared.damage.Kind.TheVariants.{BadValue}
-use Rattle.matroska_format.specs.declared.element.Header.{Header}
-use Rattle.matroska_format.specs.Element.{in_master, element_at, stated_end, end_in, damage}
-use Rattle.matroska_format.specs.Elements.{Run, children_in, step, in_front, ends_at, never}
-use Rattle.matroska_format.specs.Value.{body_of, is_known_value}
-use Rattle.matroska_format.proofs.ElementsLemmas.{elements-end, elements-more, Advances-known}
-use Rattle.element_bodies.specs.Body.{IsBody}
-use Rattle.element_bodies.proofs.BodyLemmas.{IsBody-rest}
+use Rattle.mkv_io.specs.declared.damage.Damage.{Damage}
+use Rattle.mkv_io.specs.declared.damage.Kind.TheVariants.{BadValue}
+use Rattle.mkv_schema.specs.declared.element.Header.{Header}
+use Rattle.mkv_schema.specs.Element.{in_master, element_at, stated_end, end_in, damage}
+use Rattle.mkv_schema.specs.Elements.{Run, children_in, step, in_front, ends_at, never}
+use Rattle.mkv_schema.specs.Value.{body_of, is_known_value}
+use Rattle.mkv_schema.proofs.ElementsLemmas.{elements-end, elements-more, Advances-known}
+use Rattle.elements.specs.Body.{IsBody}
+use Rattle.elements.proofs.BodyLemmas.{IsBody-rest}
 use Rattle.block_format.specs.Elements.{group_refusal, element_octets}
 use Rattle.block_records.specs.declared.gathered.Gathered.{Gathered}
 use Rattle.block_records.specs.Group.{Gathers, IsInside}

@@ -1,6 +1,6 @@
 -- What a buffer holds of a block.
 use Rattle.std.specs.Prelude.{◌≡◌, ℕ, ℤ, List, Result, Ok, Err}
-use Rattle.mkv_values.specs.declared.damage.Damage.{Damage}
+use Rattle.mkv_io.specs.declared.damage.Damage.{Damage}
 use Rattle.block_format.specs.Content.{frames_cut}
 use Rattle.block_format.specs.Block.{Block}
 use Rattle.block_records.specs.declared.head.BlockHead.{BlockHead}

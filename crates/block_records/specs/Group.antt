@@ -1,13 +1,13 @@
 -- What is gathered of the children of a BlockGroup.
 use Rattle.std.specs.Prelude.{◌≡◌, ◌≤◌, ◌⊎◌, ℕ, true, List, map, take, slice_get, Some, None, Result, Ok, Err}
 use Rattle.std.specs.Option.{option_map}
-use Rattle.ebml_format.specs.Number.{uint_of, int_of}
+use Rattle.ebml_numbers.specs.Number.{uint_of, int_of}
 use Rattle.mkv_schema.specs.declared.ids.TheConstants.{BLOCK, BLOCK_DURATION, REFERENCE_BLOCK, VOID, CRC_32}
-use Rattle.mkv_values.specs.declared.damage.Damage.{Damage}
-use Rattle.matroska_format.specs.declared.element.Header.{Header}
-use Rattle.matroska_format.specs.Element.{stated_end}
-use Rattle.matroska_format.specs.Elements.{Run}
-use Rattle.matroska_format.specs.Value.{body_of, first_of}
+use Rattle.mkv_io.specs.declared.damage.Damage.{Damage}
+use Rattle.mkv_schema.specs.declared.element.Header.{Header}
+use Rattle.mkv_schema.specs.Element.{stated_end}
+use Rattle.mkv_schema.specs.Elements.{Run}
+use Rattle.mkv_schema.specs.Value.{body_of, first_of}
 use Rattle.block_format.specs.declared.limits.TheConstants.{SLICES, MOST_REFERENCES}
 use Rattle.block_format.specs.Elements.{group_refusal, references_among, is_kept, kept_of}
 use Rattle.block_records.specs.declared.gathered.Gathered.{Gathered}

@@ -2,7 +2,7 @@
 use Rattle.std.specs.Prelude.{◌≡◌, ℕ, ◌*◌, ℤ, pos, Bool, false, ◌||◌, List, length, map, ◌≤◌, Option, Result, Ok, Err}
 use Rattle.std.specs.List.{list_any}
 use Rattle.std.specs.Option.{option_map, option_map_or}
-use Rattle.mkv_values.specs.declared.damage.Damage.{Damage}
+use Rattle.mkv_io.specs.declared.damage.Damage.{Damage}
 use Rattle.block_format.specs.declared.limits.TheConstants.{MOST_REFERENCES}
 use Rattle.block_format.specs.Block.{Block, nanoseconds, is_too_large}
 use Rattle.block_records.specs.declared.gathered.Gathered.{Gathered}

@@ -2,7 +2,7 @@
 use Rattle.std.specs.Prelude.{◌≡◌, ◌≤◌, ℕ, ◌+◌, if◌then◌else◌, List, length, drop, sum, Option, Some, None, Result, Ok, Err}
 use Rattle.lacing.specs.declared.kind.Lace.{Lace}
 use Rattle.lacing.specs.Writing.{FitsKind}
-use Rattle.mkv_values.specs.declared.damage.Kind.{Kind}
+use Rattle.mkv_io.specs.declared.damage.Kind.{Kind}
 use Rattle.block_format.specs.Content.{Content, has_no_header, track_in, relative_in, flags_in, header_len, lace_of, frames_cut, content_in}
 use Rattle.block_records.specs.declared.content.BlockHeader.{BlockHeader}
 use Rattle.block_records.specs.declared.content.Spelled.{Spelled}

@@ -3,8 +3,8 @@
 
 ghost use Rattle.std.specs.Prelude.{◌≡◌, pos, ◌+ℤ◌, ◌*◌, true, ℕ, ℤ, List, [], IfOk, MatchOption};
 ghost use Rattle.mkv_schema.specs.declared.ids.TheConstants.{BLOCK as BLOCK_ID};
-ghost use Rattle.matroska_format.specs.declared.element.Header.{Header as HeaderRecord};
-ghost use Rattle.matroska_format.specs.Outline.{and_then, unless};
+ghost use Rattle.mkv_schema.specs.declared.element.Header.{Header as HeaderRecord};
+ghost use Rattle.mkv_schema.specs.Outline.{and_then, unless};
 ghost use Rattle.block_format.specs.Block.{simple_block_with};
 ghost use Rattle.block_format.specs.Elements.{group_with, in_time, with_limits, too_many_references};
 ghost use Rattle.block_records.specs.Spelled.{content_of};
@@ -16,9 +16,10 @@ use crate::content::{Spelled, has_flag, lace_of};
 use crate::gathered::Gathered;
 use crate::head::BlockHead;
 use crate::time::{block_time, scale_all, scaled_duration};
-use element_headers::{Header, damage};
+use elements::damage;
+use mkv_io::{Damage, Kind};
+use mkv_schema::Header;
 use mkv_schema::ids::BLOCK;
-use mkv_values::{Damage, Kind};
 
 const KEY: u8 = 0x80;
 

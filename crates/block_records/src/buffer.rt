@@ -4,26 +4,24 @@ ghost use Rattle.std.specs.Prelude.{◌≡◌, ◌+◌, ◌≤◌, ◌⊎◌, []
 ghost use Rattle.std.specs.List.{All};
 ghost use Rattle.mkv_io.specs.Faults.{HasCause, is_read_fault};
 ghost use Rattle.mkv_io.specs.Sources.{IfTold, IsLive, file_size};
-ghost use Rattle.matroska_format.specs.Element.{is_unknown, known, stated_end};
-ghost use Rattle.matroska_format.specs.Value.{body_of};
-ghost use Rattle.element_window.specs.Window.{Holds};
+ghost use Rattle.mkv_schema.specs.Element.{is_unknown, known, stated_end};
+ghost use Rattle.mkv_schema.specs.Value.{body_of};
+ghost use Rattle.elements.specs.Window.{Holds};
 ghost use Rattle.lacing.specs.Writing.{FitsKind};
 ghost use Rattle.block_format.specs.Elements.{with_limits, simple_block, block_group};
 ghost use Rattle.block_records.specs.Buffered.{Makes};
 ghost use Rattle.block_records.specs.Lendable.{HasSmallTimes, IsLendable, LendsNothing};
 ghost use Rattle.block_records.specs.Time.{IsSmallTime};
-ghost use Rattle.mkv_values.specs.declared.outside.TheConstants.{LONGEST_FILE};
+ghost use Rattle.mkv_io.specs.declared.outside.TheConstants.{LONGEST_FILE};
 ghost use Rattle.block_format.specs.declared.limits.TheConstants.{MOST_REFERENCES};
 
 use crate::body::read_body;
 use crate::head::BlockHead;
 use crate::parts::{Found, Parts};
 use block_format::MOST_OF_BLOCK;
-use element_bodies::known;
-use element_headers::Header;
-use element_window::Window;
-use mkv_io::Reads;
-use mkv_values::{FileId, ReadEnd};
+use elements::{Window, known};
+use mkv_io::{FileId, ReadEnd, Reads};
+use mkv_schema::Header;
 use std::alloc::Global;
 use std::marker::Model;
 

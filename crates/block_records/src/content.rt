@@ -7,10 +7,9 @@ ghost use Rattle.lacing.specs.Reading.{data_of};
 ghost use Rattle.block_records.specs.Spelled.{header_in, Cuts, Spells};
 
 use block_format::MOST_OF_BLOCK;
-use ebml_format::Size;
-use ebml_numbers::{read_int, read_size};
+use ebml_numbers::{Size, read_int, read_size};
 use lacing::{Lace, LaceEnd, split};
-use mkv_values::Kind;
+use mkv_io::Kind;
 use smallvec::SmallVec;
 use std::alloc::{AllocError, Global};
 

@@ -1,24 +1,24 @@
 //! The children of a BlockGroup: RFC 9559, section 5.1.3 (Cluster Element).
 
 ghost use Rattle.std.specs.Prelude.{◌≡◌, ◌+◌, ◌-◌, ◌≤◌, ◌⊎◌, ℕ, List, [], ◌∷◌, ◌++◌, length, true, None, Some, IfOk, IfSome, OnOk, OnErr};
-ghost use Rattle.ebml_format.specs.Number.{int_of};
+ghost use Rattle.ebml_numbers.specs.Number.{int_of};
 ghost use Rattle.mkv_schema.specs.declared.ids.TheConstants.{BLOCK_GROUP as GROUP_ID};
-ghost use Rattle.matroska_format.specs.declared.element.Header.{Header as HeaderRecord};
-ghost use Rattle.matroska_format.specs.Element.{in_master, stated_end};
-ghost use Rattle.matroska_format.specs.Elements.{children_in};
-ghost use Rattle.matroska_format.specs.Value.{body_of, is_known_value};
-ghost use Rattle.element_bodies.specs.Body.{IsBody};
+ghost use Rattle.mkv_schema.specs.declared.element.Header.{Header as HeaderRecord};
+ghost use Rattle.mkv_schema.specs.Element.{in_master, stated_end};
+ghost use Rattle.mkv_schema.specs.Elements.{children_in};
+ghost use Rattle.mkv_schema.specs.Value.{body_of, is_known_value};
+ghost use Rattle.elements.specs.Body.{IsBody};
 ghost use Rattle.block_format.specs.Elements.{element_octets};
 ghost use Rattle.block_records.specs.Group.{Gathers, GathersRun, IsInside, IsPart};
-ghost use Rattle.mkv_values.specs.declared.outside.TheConstants.{LONGEST_FILE};
+ghost use Rattle.mkv_io.specs.declared.outside.TheConstants.{LONGEST_FILE};
 
 use arrayvec::ArrayVec;
 use block_format::SLICES;
 use ebml_numbers::{read_int, read_uint};
-use element_bodies::{body_in, child_at, is_known_value, known};
-use element_headers::{Header, Parent, damage};
+use elements::{Parent, body_in, child_at, damage, is_known_value, known};
+use mkv_io::{Damage, Kind};
+use mkv_schema::Header;
 use mkv_schema::ids::{BLOCK, BLOCK_DURATION, BLOCK_GROUP, CRC_32, REFERENCE_BLOCK, VOID};
-use mkv_values::{Damage, Kind};
 use std::alloc::{AllocError, Global};
 
 /// What is gathered of the children of a BlockGroup.

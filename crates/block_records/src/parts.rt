@@ -2,23 +2,23 @@
 //! (Block Structure) and 10.2 (SimpleBlock Structure).
 
 ghost use Rattle.std.specs.Prelude.{◌≡◌, ◌≤◌, ℕ, List, length, Some, IfOk, OnOk, OnErr, MatchResult};
-ghost use Rattle.matroska_format.specs.Element.{known, stated_end};
-ghost use Rattle.matroska_format.specs.Value.{body_of};
+ghost use Rattle.mkv_schema.specs.Element.{known, stated_end};
+ghost use Rattle.mkv_schema.specs.Value.{body_of};
 ghost use Rattle.block_format.specs.Elements.{with_limits, simple_block, block_group};
 ghost use Rattle.block_records.specs.Buffered.{Makes};
 ghost use Rattle.block_records.specs.Lendable.{HasSmallTimes, IsBlock, IsEmpty, lent};
-ghost use Rattle.mkv_values.specs.declared.outside.TheConstants.{LONGEST_FILE};
+ghost use Rattle.mkv_io.specs.declared.outside.TheConstants.{LONGEST_FILE};
 
 use crate::block::{group_head, simple_head};
 use crate::content::spell;
 use crate::gathered::Gathered;
 use crate::head::BlockHead;
 use block_format::MOST_OF_BLOCK;
-use element_bodies::known;
-use element_headers::{Header, damage};
+use elements::{damage, known};
 use lacing::Lace;
+use mkv_io::{Damage, Kind};
+use mkv_schema::Header;
 use mkv_schema::ids::BLOCK;
-use mkv_values::{Damage, Kind};
 use smallvec::SmallVec;
 use std::alloc::{AllocError, Global};
 

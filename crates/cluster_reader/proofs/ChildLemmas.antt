@@ -4,13 +4,13 @@ use Rattle.std.proofs.lemmas.Bool.{cond-true, cond-false}
 use Rattle.std.proofs.lemmas.Bool.Decides.{nat_tests}
 use Rattle.std.proofs.lemmas.List.{drop-take}
 use Rattle.mkv_schema.specs.declared.ids.TheConstants.{TIMESTAMP, SIMPLE_BLOCK, BLOCK_GROUP}
-use Rattle.mkv_values.specs.declared.damage.Damage.{Damage}
-use Rattle.mkv_values.specs.declared.damage.Kind.TheVariants.{BadValue}
+use Rattle.mkv_io.specs.declared.damage.Damage.{Damage}
+use Rattle.mkv_io.specs.declared.damage.Kind.TheVariants.{BadValue}
 use Rattle.mkv_io.specs.Contents.{octets_from}
-use Rattle.matroska_format.specs.declared.element.Header.{Header}
-use Rattle.matroska_format.specs.Element.{known, damage}
-use Rattle.matroska_format.specs.Value.{body_of}
-use Rattle.matroska_format.specs.Outline.{unless, and_then}
+use Rattle.mkv_schema.specs.declared.element.Header.{Header}
+use Rattle.mkv_schema.specs.Element.{known, damage}
+use Rattle.mkv_schema.specs.Value.{body_of}
+use Rattle.mkv_schema.specs.Outline.{unless, and_then}
 use Rattle.block_format.specs.declared.limits.TheConstants.{MOST_TIMESTAMP}
 use Rattle.block_format.specs.Block.{Block}
 use Rattle.block_format.specs.Elements.{Rules, too_long, timestamp_or, timestamp_for, simple_block, block_group}

@@ -3,12 +3,12 @@ use Rattle.std.proofs.Common.{eq-eqb, ◌≡◌, ℕ, ◌<◌, ◌≤◌, ◌==�
 use Rattle.std.proofs.lemmas.Bool.{cond-true, cond-false}
 use Rattle.std.proofs.lemmas.Bool.Decides.{nat_tests}
 use Rattle.mkv_schema.specs.declared.ids.TheConstants.{CLUSTER, TIMESTAMP}
-use Rattle.mkv_values.specs.declared.damage.Damage.{Damage}
-use Rattle.matroska_format.specs.declared.element.Header.{Header}
-use Rattle.matroska_format.specs.Element.{in_segment, in_master, element_at, end_in, stated_end, is_unknown}
-use Rattle.matroska_format.specs.Elements.{Run, ends_at, breaks_at, in_front, step, id_of, ends_segment, ends_cluster, end_of_run, behind_in_segment, children_in, open_cluster, level_1}
-use Rattle.matroska_format.proofs.ElementsLemmas.{elements-end, elements-more, Advances-known}
-use Rattle.element_walks.proofs.LevelOneLemmas.{level_1-end, level_1-stops, level_1-breaks, level_1-goes_on}
+use Rattle.mkv_io.specs.declared.damage.Damage.{Damage}
+use Rattle.mkv_schema.specs.declared.element.Header.{Header}
+use Rattle.mkv_schema.specs.Element.{in_segment, in_master, element_at, end_in, stated_end, is_unknown}
+use Rattle.mkv_schema.specs.Elements.{Run, ends_at, breaks_at, in_front, step, id_of, ends_segment, ends_cluster, end_of_run, behind_in_segment, children_in, open_cluster, level_1}
+use Rattle.mkv_schema.proofs.ElementsLemmas.{elements-end, elements-more, Advances-known}
+use Rattle.elements.proofs.LevelOneLemmas.{level_1-end, level_1-stops, level_1-breaks, level_1-goes_on}
 use Rattle.block_format.specs.Block.{Block}
 use Rattle.block_format.specs.Elements.{Rules}
 use Rattle.block_format.specs.Events.{Event, Found, block, damaged, stopped, found_at, found_among, found_in_run, found_behind, timestamp_behind, is_closed, events_then, events_in_run}

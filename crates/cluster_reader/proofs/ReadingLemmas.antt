@@ -2,7 +2,7 @@
 use Rattle.std.proofs.Common.{◌≡◌, ◌≤◌, ℕ, List, [], Option, sym, ◌∙◌, subst}
 use Rattle.mkv_io.specs.LiveFiles.{LiveFiles, IsSameFile}
 use Rattle.mkv_io.specs.Told.{Told}
-use Rattle.element_window.specs.Window.{Holds, HasNotPassed}
+use Rattle.elements.specs.Window.{Holds, HasNotPassed}
 use Rattle.block_format.specs.Elements.{with_limits}
 use Rattle.cluster_reader.specs.Reading.{Reading, CanRead, IsAtEnd, IsFull, left_of}
 use Rattle.cluster_reader.proofs.LeftLemmas.{left-end}

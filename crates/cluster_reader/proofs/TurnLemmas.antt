@@ -1,10 +1,10 @@
 -- What one turn of a walk leaves of a file's blocks and damages.
 use Rattle.std.proofs.Common.{◌≡◌, ℕ, ◌<◌, Bool, true, false, not, List, [], ◌∷◌, length, Some, None, Result, Ok, Err, refl, sym, ◌∙◌, ap, arith}
 use Rattle.std.proofs.lemmas.Bool.{cond-true, cond-false}
-use Rattle.mkv_values.specs.declared.damage.Damage.{Damage}
-use Rattle.matroska_format.specs.declared.element.Header.{Header}
-use Rattle.matroska_format.specs.Element.{in_master, element_at}
-use Rattle.matroska_format.specs.Elements.{id_of, ends_cluster}
+use Rattle.mkv_io.specs.declared.damage.Damage.{Damage}
+use Rattle.mkv_schema.specs.declared.element.Header.{Header}
+use Rattle.mkv_schema.specs.Element.{in_master, element_at}
+use Rattle.mkv_schema.specs.Elements.{id_of, ends_cluster}
 use Rattle.block_format.specs.Elements.{Rules}
 use Rattle.block_format.specs.Events.{damaged, stopped, found_at, events_of}
 use Rattle.cluster_reader.specs.Left.{left, left_in, ends_children}

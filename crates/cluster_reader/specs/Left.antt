@@ -1,8 +1,8 @@
 -- The blocks and the damages that are left of a file, from a place on.
 use Rattle.std.specs.Prelude.{ℕ, Bool, true, false, if◌then◌else◌, List, Option, Some, None, Ok}
-use Rattle.ebml_format.specs.declared.number.Size.{Size}
-use Rattle.matroska_format.specs.Element.{in_master, end_in}
-use Rattle.matroska_format.specs.Elements.{Run, elements, never, ends_cluster, level_1}
+use Rattle.ebml_numbers.specs.declared.number.Size.{Size}
+use Rattle.mkv_schema.specs.Element.{in_master, end_in}
+use Rattle.mkv_schema.specs.Elements.{Run, elements, never, ends_cluster, level_1}
 use Rattle.block_format.specs.Elements.{Rules}
 use Rattle.block_format.specs.Events.{Event, found_in_run, events_then, events_in_run}
 use Rattle.cluster_reader.specs.declared.place.Place.{Place}

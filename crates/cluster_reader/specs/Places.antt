@@ -1,7 +1,7 @@
 -- Places among the Elements of a Segment, and how a walk over them moves.
 use Rattle.std.specs.Prelude.{◌≡◌, ◌≤◌, ⊤, ℕ, ◌+◌, ◌*◌, ◌-◌, true, false, if◌then◌else◌, Option, Some, None}
-use Rattle.matroska_format.specs.declared.element.Header.{Header}
-use Rattle.matroska_format.specs.Element.{end_in, is_unknown}
+use Rattle.mkv_schema.specs.declared.element.Header.{Header}
+use Rattle.mkv_schema.specs.Element.{end_in, is_unknown}
 use Rattle.block_format.specs.Events.{is_closed}
 use Rattle.cluster_reader.specs.declared.place.Place.{Place}
 use Rattle.cluster_reader.specs.declared.place.Inside.{Inside}

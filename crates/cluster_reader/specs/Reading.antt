@@ -1,13 +1,13 @@
 -- A file's blocks as they are read, one after the other.
 use Rattle.std.specs.Prelude.{◌≡◌, ◌<◌, ◌≤◌, ◌⊎◌, ⊤, ℕ, ◌+◌, ◌*◌, true, false, Bool, List, [], ◌∷◌, length, None, Result, Ok, Err, IfOk}
-use Rattle.mkv_values.specs.declared.outside.FileId.{FileId}
-use Rattle.mkv_values.specs.declared.outside.ReadEnd.{ReadEnd}
-use Rattle.mkv_values.specs.declared.damage.Damage.{Damage}
+use Rattle.mkv_io.specs.declared.outside.FileId.{FileId}
+use Rattle.mkv_io.specs.declared.outside.ReadEnd.{ReadEnd}
+use Rattle.mkv_io.specs.declared.damage.Damage.{Damage}
 use Rattle.mkv_io.specs.Faults.{counted}
 use Rattle.mkv_io.specs.LiveFiles.{LiveFiles}
 use Rattle.mkv_io.specs.Told.{Told}
-use Rattle.matroska_format.specs.declared.element.Header.{Header}
-use Rattle.element_window.specs.Window.{ReadAhead, Holds, HasNotPassed, cost_of, end_ahead}
+use Rattle.mkv_schema.specs.declared.element.Header.{Header}
+use Rattle.elements.specs.Window.{ReadAhead, Holds, HasNotPassed, cost_of, end_ahead}
 use Rattle.block_format.specs.Elements.{with_limits}
 use Rattle.block_format.specs.Events.{Event, block, damaged, stopped}
 use Rattle.block_records.specs.Buffered.{Buffered, block_of}

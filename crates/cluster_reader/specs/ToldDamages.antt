@@ -1,7 +1,7 @@
 -- The damages of a file that are told one by one, and the number of the others.
 use Rattle.std.specs.Prelude.{◌≡◌, ℕ, ◌-◌, nat_lt, min, if◌then◌else◌, List, [], ◌∷◌, ◌++◌, length, take}
 use Rattle.mkv_io.specs.Faults.{counted, last_count}
-use Rattle.mkv_values.specs.declared.damage.Damage.{Damage}
+use Rattle.mkv_io.specs.declared.damage.Damage.{Damage}
 use Rattle.cluster_reader.specs.declared.damages.TheConstants.{MOST_TOLD}
 
 -- the damages that are told one by one, and how many others there are

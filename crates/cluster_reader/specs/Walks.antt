@@ -1,10 +1,10 @@
 -- A walk over the Elements of a file, one turn after the other.
 use Rattle.std.specs.Prelude.{◌≡◌, ◌≤◌, ◌<◌, ⊤, ℕ, ◌==◌, Bool, ◌||◌, ◌&&◌, is_none, if◌then◌else◌, List, [], ◌∷◌, Option, Result, Ok, Err, IfOk}
-use Rattle.mkv_values.specs.declared.outside.ReadEnd.{ReadEnd}
+use Rattle.mkv_io.specs.declared.outside.ReadEnd.{ReadEnd}
 use Rattle.mkv_schema.specs.declared.ids.TheConstants.{SIMPLE_BLOCK, BLOCK_GROUP, TIMESTAMP}
 use Rattle.mkv_io.specs.LiveFiles.{LiveFiles}
-use Rattle.matroska_format.specs.declared.element.Header.{Header}
-use Rattle.matroska_format.specs.Element.{known}
+use Rattle.mkv_schema.specs.declared.element.Header.{Header}
+use Rattle.mkv_schema.specs.Element.{known}
 use Rattle.block_format.specs.Elements.{Rules, with_limits, simple_block, block_group}
 use Rattle.block_format.specs.Events.{Found, found_at, timestamp_behind}
 use Rattle.block_records.specs.Buffered.{Buffered, block_of}

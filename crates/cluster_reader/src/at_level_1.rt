@@ -8,11 +8,9 @@ ghost use Rattle.cluster_reader.specs.Walks.{IsReady, PaysFor, TakesTurn, Turns}
 use crate::step::Step;
 use crate::turn::Turn;
 use crate::walk::Walk;
-use element_headers::Parent;
-use element_walks::{ends_segment, id_of};
-use mkv_io::Reads;
+use elements::{Parent, ends_segment, id_of};
+use mkv_io::{ReadEnd, Reads};
 use mkv_schema::ids::CLUSTER;
-use mkv_values::ReadEnd;
 
 /// What the Element of level 1 at the place makes of a walk.
 pub fn turn_at_level_1<R: Reads>(walk: &mut Walk, src: &mut R) -> Result<Turn, ReadEnd>

@@ -3,7 +3,7 @@
 ghost use Rattle.std.specs.Prelude.{◌≡◌, ◌≤◌, ◌+◌, ℕ, List, length, false, IfOk, OnOk, IsTrue};
 ghost use Rattle.mkv_io.specs.Faults.{HasCause, is_read_fault};
 ghost use Rattle.mkv_io.specs.Sources.{IfTold, live_files};
-ghost use Rattle.matroska_format.specs.Element.{is_unknown, known, stated_end};
+ghost use Rattle.mkv_schema.specs.Element.{is_unknown, known, stated_end};
 ghost use Rattle.block_format.specs.Elements.{timestamp_for, with_limits};
 ghost use Rattle.block_records.specs.Buffered.{Makes};
 ghost use Rattle.block_records.specs.Lendable.{IsLendable};
@@ -13,11 +13,10 @@ use crate::timestamp::read_timestamp;
 use crate::turn::Child;
 use crate::walk::Walk;
 use block_format::{MOST_OF_BLOCK, MOST_TIMESTAMP};
-use element_bodies::known;
-use element_headers::{Header, damage_at};
-use mkv_io::Reads;
+use elements::{damage_at, known};
+use mkv_io::{Damage, Kind, ReadEnd, Reads};
+use mkv_schema::Header;
 use mkv_schema::ids::{BLOCK_GROUP, SIMPLE_BLOCK, TIMESTAMP};
-use mkv_values::{Damage, Kind, ReadEnd};
 
 /// What a child of a Cluster gives, before which this Timestamp stands. The walk stays where it is.
 pub fn read_child<R: Reads>(

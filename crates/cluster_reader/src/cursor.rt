@@ -18,10 +18,8 @@ use crate::place::Place;
 use crate::step::Step;
 use crate::walk::Walk;
 use block_records::{BlockBuffer, BlockHead, MOST_OF_BLOCK};
-use element_walks::HasSegment;
-use element_window::Window;
-use mkv_io::Reads;
-use mkv_values::{FileId, ReadEnd};
+use elements::{HasSegment, Window};
+use mkv_io::{FileId, ReadEnd, Reads};
 use std::alloc::{AllocError, Global};
 use std::marker::Model;
 

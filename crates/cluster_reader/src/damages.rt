@@ -3,7 +3,7 @@
 ghost use Rattle.std.specs.Prelude.{[], ◌≡◌, IfOk};
 ghost use Rattle.cluster_reader.specs.ToldDamages.{told_damages, with_damage};
 
-use mkv_values::Damage;
+use mkv_io::Damage;
 use std::alloc::{AllocError, Global};
 use std::marker::Model;
 

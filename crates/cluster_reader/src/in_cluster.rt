@@ -3,7 +3,7 @@
 ghost use Rattle.std.specs.Prelude.{◌≡◌, ◌≤◌, ◌<◌, Some, Ok, false, IfOk};
 ghost use Rattle.mkv_io.specs.Faults.{HasCause, is_read_fault};
 ghost use Rattle.mkv_io.specs.Sources.{IfTold, file_size, live_files};
-ghost use Rattle.matroska_format.specs.Element.{element_at, in_master, is_unknown, stated_end};
+ghost use Rattle.mkv_schema.specs.Element.{element_at, in_master, is_unknown, stated_end};
 ghost use Rattle.cluster_reader.specs.Left.{ends_children};
 ghost use Rattle.cluster_reader.specs.Walks.{IsReady, PaysFor, TakesTurn, Turns};
 
@@ -12,10 +12,9 @@ use crate::place::Inside;
 use crate::step::Step;
 use crate::turn::{Child, Turn};
 use crate::walk::Walk;
-use element_headers::{Header, Parent};
-use element_walks::{ends_cluster, id_of};
-use mkv_io::Reads;
-use mkv_values::ReadEnd;
+use elements::{Parent, ends_cluster, id_of};
+use mkv_io::{ReadEnd, Reads};
+use mkv_schema::Header;
 
 // Whether the children of a Cluster end before an Element of this ID.
 fn ends_children(unknown: bool, id: u32) -> bool

@@ -11,8 +11,7 @@ use crate::in_cluster::turn_in_cluster;
 use crate::step::Step;
 use crate::turn::Turn;
 use crate::walk::Walk;
-use mkv_io::Reads;
-use mkv_values::ReadEnd;
+use mkv_io::{ReadEnd, Reads};
 
 /// The next block or damage, up to which a walk goes on.
 pub fn next_step<R: Reads>(walk: &mut Walk, src: &mut R) -> Result<Step, ReadEnd>

@@ -1,14 +1,14 @@
 //! A place among the Elements of a file.
 
 ghost use Rattle.std.specs.Prelude.{◌≡◌, ◌≤◌, Some, None};
-ghost use Rattle.matroska_format.specs.Element.{end_in};
+ghost use Rattle.mkv_schema.specs.Element.{end_in};
 ghost use Rattle.block_format.specs.Events.{is_closed};
 ghost use Rattle.cluster_reader.specs.Places.{bound_in, cluster_in, first_place};
-ghost use Rattle.mkv_values.specs.declared.outside.TheConstants.{LONGEST_FILE};
+ghost use Rattle.mkv_io.specs.declared.outside.TheConstants.{LONGEST_FILE};
 
-use ebml_format::Size;
-use element_headers::Header;
-use element_walks::end_in;
+use ebml_numbers::Size;
+use elements::end_in;
+use mkv_schema::Header;
 
 /// A place among the Elements of a Segment, in octets from the start of the file.
 #[derive(Clone, Copy)]

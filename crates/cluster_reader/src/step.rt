@@ -1,6 +1,6 @@
 //! What a cursor gives.
 
-use mkv_values::Damage;
+use mkv_io::Damage;
 
 /// What a cursor gives.
 #[derive(Clone, Copy, Debug, PartialEq, Eq)]

@@ -3,18 +3,16 @@
 ghost use Rattle.std.specs.Prelude.{◌≡◌, ◌≤◌, ◌+◌, false, IfOk, IsTrue};
 ghost use Rattle.mkv_io.specs.Faults.{HasCause, is_failure};
 ghost use Rattle.mkv_io.specs.Sources.{IfTold, IsLive, file_size};
-ghost use Rattle.ebml_format.specs.Number.{uint_of};
-ghost use Rattle.matroska_format.specs.Element.{known, stated_end};
-ghost use Rattle.matroska_format.specs.Value.{body_of};
-ghost use Rattle.element_window.specs.Window.{Holds};
+ghost use Rattle.ebml_numbers.specs.Number.{uint_of};
+ghost use Rattle.mkv_schema.specs.Element.{known, stated_end};
+ghost use Rattle.mkv_schema.specs.Value.{body_of};
+ghost use Rattle.elements.specs.Window.{Holds};
 
 use block_format::MOST_TIMESTAMP;
 use ebml_numbers::read_uint;
-use element_bodies::known;
-use element_headers::Header;
-use element_window::Window;
-use mkv_io::Reads;
-use mkv_values::{Failed, FileId};
+use elements::{Window, known};
+use mkv_io::{Failed, FileId, Reads};
+use mkv_schema::Header;
 
 /// The ticks of a Timestamp, from what a window holds or from the file.
 pub fn read_timestamp<R: Reads>(

@@ -1,7 +1,7 @@
 //! What one Element makes of a walk.
 
 use crate::step::Step;
-use mkv_values::Damage;
+use mkv_io::Damage;
 
 /// What one Element makes of a walk.
 #[derive(Clone, Copy)]

@@ -3,18 +3,17 @@
 ghost use Rattle.std.specs.Prelude.{◌≡◌, ◌≤◌, ◌<◌, true, not, None, IfOk};
 ghost use Rattle.mkv_io.specs.Faults.{HasCause, is_read_fault};
 ghost use Rattle.mkv_io.specs.Sources.{IfTold, file_size, live_files};
-ghost use Rattle.matroska_format.specs.Element.{element_at};
-ghost use Rattle.matroska_format.specs.Placed.{StandsAt, IsWhole};
-ghost use Rattle.element_headers.specs.Parent.{setting_of};
+ghost use Rattle.mkv_schema.specs.Element.{element_at};
+ghost use Rattle.mkv_schema.specs.Placed.{StandsAt, IsWhole};
+ghost use Rattle.elements.specs.Parent.{setting_of};
 ghost use Rattle.cluster_reader.specs.Places.{behind_damage};
 ghost use Rattle.cluster_reader.specs.Walks.{IsReady, PaysFor};
 
 use crate::place::{Inside, Place};
 use block_records::BlockBuffer;
-use element_headers::{Header, Parent};
-use element_window::{Lookahead, Window};
-use mkv_io::Reads;
-use mkv_values::{Damage, Failed, FileId, ReadEnd};
+use elements::{Lookahead, Parent, Window};
+use mkv_io::{Damage, Failed, FileId, ReadEnd, Reads};
+use mkv_schema::Header;
 
 /// A walk over the Elements of a Segment, into its Clusters.
 #[derive(Drop)]

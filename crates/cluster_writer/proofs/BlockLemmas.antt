@@ -3,7 +3,7 @@ use Rattle.std.proofs.Common.{◌≡◌, ◌≤◌, ◌<◌, ℕ, ℤ, pos, ◌+
 use Rattle.std.specs.List.{concat}
 use Rattle.std.proofs.lemmas.List.{length-append, at_drop_more, at_drop_all}
 use Rattle.block_format.specs.Content.{frames_cut}
-use Rattle.element_octets.specs.Element.{Element, joined, octets_of}
+use Rattle.output_model.specs.Element.{Element, joined, octets_of}
 use Rattle.output_model.specs.OutputBlock.{prefixed}
 use Rattle.output_model.specs.Block.{block_header, block_octets, lace_octets, reference_element}
 use Rattle.cluster_writer.specs.declared.lent.LentBlock.{LentBlock}

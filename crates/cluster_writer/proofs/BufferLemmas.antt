@@ -3,7 +3,7 @@ use Rattle.std.proofs.Common.{◌≡◌, ◌≤◌, ℕ, ◌+◌, ◌^◌, List,
 use Rattle.std.proofs.lemmas.List.{length-append, length-take-le, drop_all, map-append, length_push}
 use Rattle.std.proofs.lemmas.List.Concat.{flat_map-append}
 use Rattle.std.proofs.lemmas.Bool.Decides.{nat_tests}
-use Rattle.element_octets.specs.Element.{Element, octets_of, joined}
+use Rattle.output_model.specs.Element.{Element, octets_of, joined}
 use Rattle.output_model.specs.declared.heads.ClusterLimits.{ClusterLimits}
 use Rattle.output_model.specs.OutputBlock.{OutputBlock}
 use Rattle.output_model.specs.Block.{block_element}

@@ -4,8 +4,8 @@ use Rattle.std.specs.List.{concat}
 use Rattle.std.proofs.lemmas.List.{length-append}
 use Rattle.std.proofs.lemmas.List.Concat.{flat_map-append}
 use Rattle.std.proofs.lemmas.List.Elements.{All-head, All-tail, All-from_recursion}
-use Rattle.ebml_format.specs.Number.{all_ones, int_fits, least_width, uint_width, int_width, uint_octets, int_octets, int_octets_in, least_size_width}
-use Rattle.ebml_format.proofs.NumberLemmas.{length-uint_octets, length-int_octets}
+use Rattle.ebml_numbers.specs.Number.{all_ones, int_fits, least_width, uint_width, int_width, uint_octets, int_octets, int_octets_in, least_size_width}
+use Rattle.ebml_numbers.proofs.NumberLemmas.{length-uint_octets, length-int_octets}
 use Rattle.lacing.specs.declared.kind.Lace.{Lace}
 use Rattle.lacing.specs.declared.kind.Lace.TheVariants as lace
 use Rattle.lacing.specs.Writing.{CanLace}
@@ -14,7 +14,7 @@ use Rattle.mkv_schema.specs.declared.ids.TheConstants.{SIMPLE_BLOCK, BLOCK_GROUP
 use Rattle.tree_format.specs.NormalForm.{header_octets}
 use Rattle.tree_format.proofs.WrittenLemmas.{length-header_octets}
 use Rattle.block_format.specs.Content.{frames_cut}
-use Rattle.element_octets.specs.Element.{Element, element, octets_of, joined}
+use Rattle.output_model.specs.Element.{Element, element, octets_of, joined}
 use Rattle.output_model.specs.OutputBlock.{OutputBlock, Lent, IsLent, lent_block, prefixed}
 use Rattle.output_model.specs.Block.{lace_octets, frame_octets, relative_to, flags_of, block_header, block_octets, duration_elements, reference_element, group_octets, block_element}
 use Rattle.cluster_writer.specs.Lengths.{prefixed_sizes, block_len, duration_len, references_len, whole_len, group_len, taken_len}

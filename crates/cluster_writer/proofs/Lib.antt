@@ -2,3 +2,4 @@ pub mod FramesLemmas
 pub mod LengthLemmas
 pub mod BlockLemmas
 pub mod BufferLemmas
+pub mod RoomLemmas

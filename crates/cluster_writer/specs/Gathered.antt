@@ -1,7 +1,7 @@
 -- What a Cluster's buffer holds.
 use Rattle.std.specs.Prelude.{◌≡◌, ◌≤◌, ◌<◌, ℕ, ◌+◌, Bool, true, List, [], ◌++◌, length, Option, Some, None, unwrap_or}
 use Rattle.mkv_schema.specs.declared.ids.TheConstants.{CLUSTER}
-use Rattle.element_octets.specs.Element.{element, octets_of, joined}
+use Rattle.output_model.specs.Element.{element, octets_of, joined}
 use Rattle.output_model.specs.declared.heads.ClusterLimits.{ClusterLimits}
 use Rattle.output_model.specs.OutputBlock.{OutputBlock, Lent, IsLent}
 use Rattle.output_model.specs.Block.{block_element}

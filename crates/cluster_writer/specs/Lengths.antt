@@ -3,7 +3,7 @@ use Rattle.std.specs.Prelude.{ℕ, ℤ, ◌+◌, if◌then◌else◌, List, ◌+
 use Rattle.lacing.specs.declared.kind.Lace.{Lace}
 use Rattle.mkv_schema.specs.declared.ids.TheConstants.{SIMPLE_BLOCK, BLOCK_GROUP, BLOCK}
 use Rattle.tree_format.specs.NormalForm.{header_octets}
-use Rattle.element_octets.specs.Element.{octets_of, joined}
+use Rattle.output_model.specs.Element.{octets_of, joined}
 use Rattle.output_model.specs.declared.heads.OutHead.{OutHead}
 use Rattle.output_model.specs.OutputBlock.{OutputBlock}
 use Rattle.output_model.specs.Block.{lace_octets, duration_elements, reference_element, block_element}

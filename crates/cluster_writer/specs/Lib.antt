@@ -2,3 +2,4 @@ pub mod Lent
 pub mod Lengths
 pub mod Gathered
 pub mod Buffer
+pub mod Room

@@ -2,8 +2,8 @@
 
 ghost use Rattle.std.specs.Prelude.{◌≡◌, ◌+◌, ◌^◌, ◌≤◌, ◌++◌, length, drop, true, Some};
 ghost use Rattle.std.specs.Vec.{vec_capacity};
-ghost use Rattle.element_octets.specs.Element.{octets_of};
-ghost use Rattle.element_writer.specs.Room.{HasRoom};
+ghost use Rattle.output_model.specs.Element.{octets_of};
+ghost use Rattle.cluster_writer.specs.Room.{HasRoom};
 ghost use Rattle.output_model.specs.Block.{block_element};
 ghost use Rattle.output_model.specs.Cluster.{is_near};
 ghost use Rattle.cluster_writer.specs.Lent.{CanBePut, block_of};

@@ -2,20 +2,20 @@
 
 ghost use Rattle.std.specs.Prelude.{◌≡◌, ◌+◌, ◌-ℤ◌, ◌^◌, ◌≤◌, ◌<◌, ◌++◌, pos, true, length, sum, IsTrue};
 ghost use Rattle.byteorder.specs.Endian.{big_bytes};
-ghost use Rattle.ebml_format.specs.Number.{int_octets_in, is_id};
+ghost use Rattle.ebml_numbers.specs.Number.{int_octets_in, is_id};
 ghost use Rattle.lacing.specs.Writing.{CanLace};
 ghost use Rattle.tree_format.specs.NormalForm.{header_octets};
-ghost use Rattle.element_octets.specs.Element.{element, octets_of};
-ghost use Rattle.element_writer.specs.Room.{Adds, HasRoom};
+ghost use Rattle.output_model.specs.Element.{element, octets_of};
+ghost use Rattle.cluster_writer.specs.Room.{Adds, HasRoom};
 ghost use Rattle.output_model.specs.Block.{flag, lace_bits, block_flags, simple_block_flags, flags_of, block_header, block_octets, group_octets, block_element};
 ghost use Rattle.output_model.specs.Cluster.{is_near};
 ghost use Rattle.cluster_writer.specs.Lent.{CanBePut, CanStand, block_of, alone_len, grouped_len};
 ghost use Rattle.cluster_writer.specs.Lengths.{octets_taken, block_len};
 
+use crate::element::{add, add_header};
 use crate::group::{add_behind, group_len};
 use crate::lace::{add_frames, add_lace, lace_octets_len};
 use crate::lent::{LentBlock, prefixed_sizes};
-use element_writer::{add, add_header};
 use lacing::Lace;
 use mkv_schema::ids::{BLOCK, BLOCK_GROUP, SIMPLE_BLOCK};
 use output_model::OutHead;
@@ -126,7 +126,7 @@ fn add_block_element(
     add_block(out, timestamp, block, sizes);
 }
 
-#[tactic(auto, unfolding(ebml_format::specs::Number::is_id))]
+#[tactic(auto, unfolding(ebml_numbers::specs::Number::is_id))]
 fn add_group(out: &mut Vec<u8>, timestamp: u64, block: &LentBlock<'_>, sizes: &[u32])
     requires block { CanStand timestamp block.now sizes.now }
     requires room { HasRoom out.old (grouped_len block.now sizes.now) }
@@ -143,7 +143,7 @@ fn add_group(out: &mut Vec<u8>, timestamp: u64, block: &LentBlock<'_>, sizes: &[
 }
 
 /// Adds a block's Element. It takes no memory.
-#[tactic(auto, unfolding(ebml_format::specs::Number::is_id))]
+#[tactic(auto, unfolding(ebml_numbers::specs::Number::is_id))]
 pub(crate) fn add_element(out: &mut Vec<u8>, timestamp: u64, block: &LentBlock<'_>)
     requires block { CanBePut block.now }
     requires near { is_near timestamp block.now.tick ≡ true }

@@ -1,7 +1,7 @@
 //! The buffer of a Cluster.
 
 ghost use Rattle.std.specs.Prelude.{◌≡◌, ◌^◌, ◌≤◌, Some, None, OnOk, IfOk};
-ghost use Rattle.element_octets.specs.Element.{octets_of};
+ghost use Rattle.output_model.specs.Element.{octets_of};
 ghost use Rattle.output_model.specs.Cluster.{OutputCluster, cluster_element};
 ghost use Rattle.cluster_writer.specs.Lent.{block_of, block_put, lent, lent_of};
 ghost use Rattle.cluster_writer.specs.Gathered.{AddsBlock, CanPut, Holds, HoldsNext, HoldsSame, TellsJoining, cluster_with, has_place, place_in, size_with};

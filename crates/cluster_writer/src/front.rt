@@ -1,12 +1,12 @@
 //! What stands in front of a Cluster's blocks: its header, which is known last, and the Timestamp.
 
 ghost use Rattle.std.specs.Prelude.{◌≡◌, ◌+◌, ◌^◌, ◌≤◌, ◌++◌, ℕ, length, drop, Some};
-ghost use Rattle.element_octets.specs.Element.{octets_of};
+ghost use Rattle.output_model.specs.Element.{octets_of};
 ghost use Rattle.output_model.specs.Cluster.{timestamp_element};
 ghost use Rattle.cluster_writer.specs.Gathered.{cluster_with};
 
+use crate::element::uint_len;
 use ebml_numbers::{put_id, put_size, put_uint, size_width};
-use element_writer::uint_len;
 use mkv_schema::ids::{CLUSTER, TIMESTAMP};
 
 /// So many octets are enough for what stands in front of the blocks.
@@ -26,7 +26,7 @@ fn put_before(octets: &mut [u8], at: usize, part: &[u8]) -> usize
 }
 
 /// How many octets a Timestamp has.
-#[tactic(auto, unfolding(ebml_format::specs::Number::is_id))]
+#[tactic(auto, unfolding(ebml_numbers::specs::Number::is_id))]
 pub(crate) fn timestamp_len(timestamp: u64) -> u64
     ensures exact { result ≡ length (octets_of (timestamp_element timestamp)) }
     ensures most { result ≤ 24 }
@@ -35,7 +35,7 @@ pub(crate) fn timestamp_len(timestamp: u64) -> u64
 }
 
 // Writes a Timestamp in front of the blocks, and answers where it begins.
-#[tactic(auto, unfolding(ebml_format::specs::Number::is_id))]
+#[tactic(auto, unfolding(ebml_numbers::specs::Number::is_id))]
 fn put_timestamp(octets: &mut [u8], timestamp: u64) -> usize
     requires { FRONT ≤ length octets.old }
     ensures place { FRONT ≤ result + 24 }
@@ -51,7 +51,7 @@ fn put_timestamp(octets: &mut [u8], timestamp: u64) -> usize
 }
 
 /// Writes the header of a Cluster and its Timestamp in front of its blocks, and answers where it begins.
-#[tactic(auto, unfolding(ebml_format::specs::Number::is_id))]
+#[tactic(auto, unfolding(ebml_numbers::specs::Number::is_id))]
 pub(crate) fn put_front(octets: &mut [u8], timestamp: u64) -> usize
     requires front { FRONT ≤ length octets.old }
     requires most { length octets.old ≤ 2 ^ 29 }

@@ -1,20 +1,20 @@
 //! What a BlockGroup holds besides its Block: RFC 9559, section 5.1.3 (Cluster Element).
 
 ghost use Rattle.std.specs.Prelude.{◌≡◌, ◌+◌, ◌*◌, ◌^◌, ◌<◌, ◌≤◌, ◌++◌, length, map};
-ghost use Rattle.element_octets.specs.Element.{joined, octets_of};
-ghost use Rattle.element_writer.specs.Room.{Adds, HasRoom};
+ghost use Rattle.output_model.specs.Element.{joined, octets_of};
+ghost use Rattle.cluster_writer.specs.Room.{Adds, HasRoom};
 ghost use Rattle.output_model.specs.Block.{duration_elements, reference_element};
 ghost use Rattle.cluster_writer.specs.Lent.{block_of};
 ghost use Rattle.cluster_writer.specs.Lengths.{duration_len, references_len, behind_len, group_len, behind_octets};
 
+use crate::element::{add, add_header, add_uint, element_len, uint_len};
 use crate::lent::LentBlock;
 use ebml_numbers::put_int;
-use element_writer::{add, add_header, add_uint, element_len, uint_len};
 use mkv_schema::ids::{BLOCK, BLOCK_DURATION, REFERENCE_BLOCK};
 use output_model::OutHead;
 
 /// How many octets stand behind the header of a group whose Block has so many.
-#[tactic(auto, unfolding(ebml_format::specs::Number::is_id))]
+#[tactic(auto, unfolding(ebml_numbers::specs::Number::is_id))]
 pub(crate) fn group_len(head: &OutHead, block: u64, references: &[i64], kept: u64) -> u64
     requires block { block ≤ 2 ^ 26 + 2 ^ 21 }
     requires references { length references.now ≤ 64 }
@@ -25,7 +25,7 @@ pub(crate) fn group_len(head: &OutHead, block: u64, references: &[i64], kept: u6
     element_len(BLOCK, block) + duration_len(head.duration) + references_len(references) + kept
 }
 
-#[tactic(auto, unfolding(ebml_format::specs::Number::is_id))]
+#[tactic(auto, unfolding(ebml_numbers::specs::Number::is_id))]
 fn duration_len(duration: Option<u64>) -> u64
     ensures exact { result ≡ duration_len duration }
     ensures most { result ≤ 24 }
@@ -47,7 +47,7 @@ pub(crate) fn add_behind(out: &mut Vec<u8>, block: &LentBlock<'_>)
 }
 
 // Adds the BlockDuration, where there is one.
-#[tactic(auto, unfolding(ebml_format::specs::Number::is_id))]
+#[tactic(auto, unfolding(ebml_numbers::specs::Number::is_id))]
 fn add_duration(out: &mut Vec<u8>, duration: Option<u64>)
     requires { HasRoom out.old (duration_len duration) }
     ensures { Adds out.old out.new (joined (duration_elements duration)) }
@@ -57,7 +57,7 @@ fn add_duration(out: &mut Vec<u8>, duration: Option<u64>)
     }
 }
 
-#[tactic(auto, unfolding(ebml_format::specs::Number::is_id))]
+#[tactic(auto, unfolding(ebml_numbers::specs::Number::is_id))]
 fn reference_len(ticks: i64) -> u64
     ensures exact { result ≡ length (octets_of (reference_element ticks)) }
     ensures most { result ≤ 24 }
@@ -65,7 +65,7 @@ fn reference_len(ticks: i64) -> u64
     element_len(REFERENCE_BLOCK, u64::from(put_int(ticks).len))
 }
 
-#[tactic(auto, unfolding(ebml_format::specs::Number::is_id))]
+#[tactic(auto, unfolding(ebml_numbers::specs::Number::is_id))]
 fn add_reference(out: &mut Vec<u8>, ticks: i64)
     requires { HasRoom out.old (length (octets_of (reference_element ticks))) }
     ensures { Adds out.old out.new (octets_of (reference_element ticks)) }

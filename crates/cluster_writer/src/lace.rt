@@ -4,11 +4,11 @@ ghost use Rattle.std.specs.Prelude.{◌≡◌, ◌+◌, ◌^◌, ◌≤◌, ◌+
 ghost use Rattle.std.specs.List.{concat};
 ghost use Rattle.lacing.specs.Writing.{CanLace, lace_head};
 ghost use Rattle.block_format.specs.Content.{frames_cut};
-ghost use Rattle.element_writer.specs.Room.{Adds, HasRoom};
+ghost use Rattle.cluster_writer.specs.Room.{Adds, HasRoom};
 ghost use Rattle.output_model.specs.OutputBlock.{prefixed};
 ghost use Rattle.output_model.specs.Block.{lace_octets, count_and_head};
 
-use element_writer::add;
+use crate::element::add;
 use lacing::{Lace, lace_len, put_lace};
 
 /// How many octets stand in front of frames of these sizes.

@@ -6,9 +6,9 @@ ghost use Rattle.cluster_writer.specs.Lent.{Measures, block_of, lent_of};
 ghost use Rattle.cluster_writer.specs.Lengths.{octets_taken, taken_len, prefixed_sizes};
 
 use crate::block::block_len;
+use crate::element::element_len as whole_len;
 use crate::group::group_len;
 use arrayvec::ArrayVec;
-use element_writer::element_len as whole_len;
 use mkv_schema::ids::{BLOCK_GROUP, SIMPLE_BLOCK};
 use output_model::OutHead;
 
@@ -55,7 +55,7 @@ pub fn element_len(head: &OutHead, prefix: usize, sizes: &[u32], refs: &[i64], e
     taken_len(head, prefix, sizes, refs, extra)
 }
 
-#[tactic(auto, unfolding(ebml_format::specs::Number::is_id))]
+#[tactic(auto, unfolding(ebml_numbers::specs::Number::is_id))]
 fn taken_len(head: &OutHead, prefix: usize, sizes: &[u32], references: &[i64], kept: usize) -> u64
     requires { CanBeLent head.now.lace prefix sizes.now (length references.now) kept }
     ensures exact { result ≡ taken_len head.now prefix sizes.now references.now kept }

@@ -5,6 +5,7 @@
 mod adding;
 mod block;
 mod buffer;
+mod element;
 mod front;
 mod group;
 mod joining;

@@ -3,9 +3,9 @@ use Rattle.std.proofs.Common.{◌≡◌, ◌≢◌, ◌≤◌, ◌<◌, ℕ, ◌
 use Rattle.std.proofs.lemmas.List.{take-append-drop, drop-drop, drop-take, take-take, replicate-append-replicate, length-replicate, length-take-le, length-drop, length-append, take_more, map-append}
 use Rattle.std.proofs.lemmas.List.Concat.{flat_map-append}
 use Rattle.std.proofs.lemmas.List.Sums.{sum_by_push}
-use Rattle.mkv_values.specs.declared.outside.FileId.{FileId}
-use Rattle.mkv_values.specs.declared.outside.MakeFault.{MakeFault}
-use Rattle.mkv_values.specs.declared.outside.MakeFault.TheVariants as make_fault
+use Rattle.mkv_io.specs.declared.outside.FileId.{FileId}
+use Rattle.mkv_io.specs.declared.outside.MakeFault.{MakeFault}
+use Rattle.mkv_io.specs.declared.outside.MakeFault.TheVariants as make_fault
 use Rattle.mkv_io.specs.Contents.{octets_from, with_appended}
 use Rattle.mkv_io.specs.Faults.{HasCause, HasRisen, is_make_failure}
 use Rattle.mkv_io.specs.LiveFiles.{LiveFiles, AppendsPart}
@@ -17,16 +17,16 @@ use Rattle.mkv_io.specs.declared.reads.Reads.{Ghosts}
 use Rattle.mkv_io.specs.declared.files.Files as writing
 use Rattle.mkv_io.proofs.NamesLemmas.{with_change-more, with_change-none}
 use Rattle.mkv_io.proofs.WritingLemmas.{KeepsOthers-none, KeepsOthers-then, KeepsOthers-read}
-use Rattle.mkv_jobs.specs.Ends.{HasRemuxCause, is_remux_read_fault, is_remux_write_fault}
-use Rattle.mkv_jobs.specs.RemuxEnd.{end_of_make}
-use Rattle.mkv_jobs.specs.declared.remux_end.RemuxEnd.{RemuxEnd}
-use Rattle.mkv_jobs.specs.declared.remux_end.RemuxEnd.TheVariants as remux_end
+use Rattle.mkv_io.specs.Ends.{HasRemuxCause, is_remux_read_fault, is_remux_write_fault}
+use Rattle.mkv_io.specs.RemuxEnd.{end_of_make}
+use Rattle.mkv_io.specs.declared.remux_end.RemuxEnd.{RemuxEnd}
+use Rattle.mkv_io.specs.declared.remux_end.RemuxEnd.TheVariants as remux_end
 use Rattle.mkv_outputs.specs.Written.{PassesSome}
 use Rattle.mkv_outputs.proofs.FilesLemmas.{OnOk-map}
-use Rattle.element_octets.specs.Element.{joined, octets_of}
+use Rattle.output_model.specs.Element.{joined, octets_of}
 use Rattle.output_model.specs.Document.{tree_element}
-use Rattle.attachment_records.specs.declared.attachment.Attachment.{Attachment}
-use Rattle.attachment_records.specs.Attached.{octets_told, attached_file, with_data}
+use Rattle.output_model.specs.declared.attachment.Attachment.{Attachment}
+use Rattle.output_model.specs.Attached.{octets_told, attached_file, with_data}
 use Rattle.cues_seekhead.specs.Appending.{IsAppended, AppendsOnly}
 use Rattle.cues_seekhead.specs.OpenOutput.{CanAttach}
 

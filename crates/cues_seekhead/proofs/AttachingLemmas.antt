@@ -3,20 +3,20 @@ use Rattle.std.proofs.Common.{◌≡◌, ◌≤◌, ℕ, suc, ◌+◌, List, [],
 use Rattle.std.proofs.lemmas.List.{take-append-drop, map-append}
 use Rattle.std.proofs.lemmas.List.Concat.{flat_map-append}
 use Rattle.std.proofs.lemmas.List.Sums.{sum_by-append}
-use Rattle.mkv_values.specs.declared.outside.FileId.{FileId}
+use Rattle.mkv_io.specs.declared.outside.FileId.{FileId}
 use Rattle.mkv_io.specs.LiveFiles.{LiveFiles}
 use Rattle.mkv_io.specs.Sources.{live_files, file_size}
 use Rattle.mkv_io.specs.Told.{Told}
 use Rattle.mkv_io.specs.Writing.{KeepsOthers}
 use Rattle.mkv_io.specs.declared.reads.Reads.{Ghosts}
 use Rattle.mkv_io.specs.declared.files.Files as writing
-use Rattle.mkv_jobs.specs.declared.remux_end.RemuxEnd.{RemuxEnd}
-use Rattle.element_octets.specs.Element.{joined, octets_of}
+use Rattle.mkv_io.specs.declared.remux_end.RemuxEnd.{RemuxEnd}
+use Rattle.output_model.specs.Element.{joined, octets_of}
 use Rattle.output_model.specs.Document.{tree_element}
-use Rattle.attachment_records.specs.declared.attachment.Attachment.{Attachment}
-use Rattle.attachment_records.specs.Attached.{octets_told, attached_file, data_of}
-use Rattle.segment_octets.specs.Attached.{before_data, behind_data}
-use Rattle.segment_octets.proofs.AttachedLemmas.{attached-parts}
+use Rattle.output_model.specs.declared.attachment.Attachment.{Attachment}
+use Rattle.output_model.specs.Attached.{octets_told, attached_file, data_of}
+use Rattle.cues_seekhead.specs.Attached.{before_data, behind_data}
+use Rattle.cues_seekhead.proofs.AttachedLemmas.{attached-parts}
 use Rattle.cues_seekhead.specs.Appending.{AppendsOnly}
 use Rattle.cues_seekhead.specs.OpenOutput.{CanAttach}
 use Rattle.cues_seekhead.proofs.AppendingLemmas.{AppendsOnly-then, AppendsOnly-more, AppendsOnly-same, KeepsOthers-content, attached_file-kept, length-octets_told}

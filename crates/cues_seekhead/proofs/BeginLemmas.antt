@@ -1,6 +1,6 @@
 -- An output that is begun, and one that ends.
 use Rattle.std.proofs.Common.{◌≡◌, ◌≢◌, ◌≤◌, ◌<◌, ℕ, zero, suc, List, [], ◌∷◌, ◌++◌, length, map, All, get_or, true, false, ◌⊎◌, inl, inr, refl, sym, ap, ◌∙◌, arith}
-use Rattle.mkv_values.specs.declared.outside.FileId.{FileId}
+use Rattle.mkv_io.specs.declared.outside.FileId.{FileId}
 use Rattle.mkv_io.specs.Contents.{with_appended}
 use Rattle.mkv_io.specs.LiveFiles.{LiveFiles, KeepsFiles, KeepsHolders}
 use Rattle.mkv_io.specs.Names.{Names, with_change, with_content}
@@ -15,13 +15,14 @@ use Rattle.mkv_outputs.specs.Written.{PassesSome}
 use Rattle.tree_format.specs.Node.{id_of, IsMaster}
 use Rattle.mkv_schema.specs.declared.ids.TheConstants.{ATTACHED_FILE}
 use Rattle.output_model.specs.Document.{opened_with}
-use Rattle.attachment_records.specs.declared.attachment.Attachment.{Attachment}
-use Rattle.attachment_records.specs.Attached.{octets_told, attached_file, with_data}
-use Rattle.segment_octets.specs.declared.front.Front.{Front}
-use Rattle.segment_octets.specs.declared.front.Opening.{Opening}
-use Rattle.segment_octets.specs.Attached.{HaveData}
-use Rattle.segment_octets.specs.Front.{front_with, IsOpening}
-use Rattle.segment_octets.proofs.FrontLemmas.{opening-octets, opening-seeks, opening-long}
+use Rattle.output_model.specs.declared.attachment.Attachment.{Attachment}
+use Rattle.output_model.specs.Attached.{octets_told, attached_file, with_data}
+use Rattle.output_model.specs.declared.front.Front.{Front}
+use Rattle.cues_seekhead.specs.declared.front.Opening.{Opening}
+use Rattle.cues_seekhead.specs.Attached.{HaveData}
+use Rattle.cues_seekhead.specs.Front.{IsOpening}
+use Rattle.output_model.specs.Front.{front_with}
+use Rattle.cues_seekhead.proofs.FrontLemmas.{opening-octets, opening-seeks, opening-long}
 use Rattle.cues_seekhead.specs.Made.{MakesFile}
 use Rattle.cues_seekhead.specs.OpenOutput.{OpenOutput, CanAttach, Knows}
 use Rattle.cues_seekhead.proofs.AppendingLemmas.{length-octets_told}

@@ -3,16 +3,16 @@ use Rattle.std.proofs.Common.{◌≡◌, ◌≤◌, ℕ, suc, ◌+◌, List, [],
 use Rattle.std.proofs.lemmas.List.{length-append}
 use Rattle.std.proofs.lemmas.List.Elements.{All-from_recursion, All-append}
 use Rattle.std.specs.List.{AllByRecursion}
-use Rattle.ebml_format.specs.Number.{is_id}
+use Rattle.ebml_numbers.specs.Number.{is_id}
 use Rattle.mkv_schema.specs.declared.ids.TheConstants.{CHAPTERS, TAGS}
 use Rattle.tree_format.specs.Node.{Node, id_of}
-use Rattle.element_octets.specs.Element.{Element, octets_of}
+use Rattle.output_model.specs.Element.{Element, octets_of}
 use Rattle.output_model.specs.declared.places.CuePoint.{CuePoint}
 use Rattle.output_model.specs.declared.places.Seek.{Seek}
 use Rattle.output_model.specs.Cues.{cues_elements}
 use Rattle.output_model.specs.SeekHead.{seeks_from}
 use Rattle.output_model.specs.Document.{tree_elements, back_with}
-use Rattle.segment_octets.specs.Places.{Adds, AreIds}
+use Rattle.cues_seekhead.specs.Places.{Adds, AreIds}
 
 abbrev HaveIds : List Element → Type 0
 HaveIds [] = Unit {0}

@@ -1,21 +1,21 @@
 -- An output that has all its Clusters becomes its layout.
 use Rattle.std.proofs.Common.{◌≡◌, ◌≤◌, ℕ, ◌+◌, List, ◌++◌, length, Result, Ok, Err, Option, refl, sym, ap, subst, ◌∙◌, arith}
 use Rattle.std.proofs.lemmas.List.{length-append}
-use Rattle.ebml_format.specs.Number.{size_octets}
+use Rattle.ebml_numbers.specs.Number.{size_octets}
 use Rattle.mkv_io.specs.Faults.{HasCause}
 use Rattle.mkv_io.specs.Names.{Names, with_content}
 use Rattle.mkv_io.specs.declared.reads.Reads.{Ghosts}
 use Rattle.mkv_io.specs.declared.files.Files as writing
-use Rattle.mkv_jobs.specs.Ends.{HasRemuxCause, is_remux_read_fault, is_remux_write_fault}
-use Rattle.mkv_jobs.specs.declared.remux_end.RemuxEnd.{RemuxEnd}
+use Rattle.mkv_io.specs.Ends.{HasRemuxCause, is_remux_read_fault, is_remux_write_fault}
+use Rattle.mkv_io.specs.declared.remux_end.RemuxEnd.{RemuxEnd}
 use Rattle.mkv_outputs.specs.Drafts.{Draft, patched}
 use Rattle.tree_format.specs.Node.{Node}
-use Rattle.element_octets.specs.Element.{Element, joined}
+use Rattle.output_model.specs.Element.{Element, joined}
 use Rattle.output_model.specs.declared.places.CuePoint.{CuePoint}
 use Rattle.output_model.specs.declared.places.Seek.{Seek}
 use Rattle.output_model.specs.SeekHead.{area_elements, seeks_from}
 use Rattle.output_model.specs.Document.{Document, back_with, back_elements, back_at, front_elements, clusters_elements, clusters_at, elements_behind_area, opened_with, opened, seeks_of}
-use Rattle.segment_octets.specs.Front.{body_start}
+use Rattle.cues_seekhead.specs.Front.{body_start}
 use Rattle.cues_seekhead.specs.Draft.{StandsDrafted, draft_of, patches_at}
 use Rattle.cues_seekhead.specs.Ending.{IsEnding}
 use Rattle.cues_seekhead.specs.Finished.{Finishes, HoldsLayout, IsReady}

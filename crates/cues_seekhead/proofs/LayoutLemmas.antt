@@ -2,16 +2,16 @@
 use Rattle.std.proofs.Common.{◌≡◌, ℕ, ◌+◌, ◌-◌, Bool, true, false, List, ◌++◌, length, drop, refl, sym, ap, append_assoc, ◌∙◌, arith}
 use Rattle.std.proofs.lemmas.List.{length-append, take_at, drop_at, drop-drop}
 use Rattle.std.proofs.lemmas.List.Concat.{flat_map-append}
-use Rattle.ebml_format.specs.Number.{all_ones, id_octets, uint_width, least_size_width}
-use Rattle.ebml_format.proofs.NumberLemmas.{length-size_octets}
+use Rattle.ebml_numbers.specs.Number.{all_ones, id_octets, uint_width, least_size_width}
+use Rattle.ebml_numbers.proofs.NumberLemmas.{length-size_octets}
 use Rattle.mkv_schema.specs.declared.ids.TheConstants.{SEGMENT}
 use Rattle.mkv_io.specs.Contents.{overwritten}
 use Rattle.mkv_outputs.specs.Drafts.{patched}
-use Rattle.element_octets.specs.Element.{joined, octets_of}
+use Rattle.output_model.specs.Element.{joined, octets_of}
 use Rattle.output_model.specs.SeekHead.{open_area, area_elements}
 use Rattle.output_model.specs.Document.{Front, Document, ebml_element, front_elements, back_elements, clusters_elements, clusters_at, elements_behind_area, segment_size, seeks_of, unknown_size, opened_with, opened, layout}
-use Rattle.segment_octets.specs.Front.{body_start}
-use Rattle.segment_octets.proofs.FrontLemmas.{file_with-append}
+use Rattle.cues_seekhead.specs.Front.{body_start}
+use Rattle.cues_seekhead.proofs.FrontLemmas.{file_with-append}
 use Rattle.cues_seekhead.specs.Draft.{draft_of}
 
 -- ---- at the end

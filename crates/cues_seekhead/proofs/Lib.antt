@@ -7,3 +7,6 @@ pub mod FinishLemmas
 pub mod LayoutLemmas
 pub mod MadeLemmas
 pub mod OpenLemmas
+pub mod AttachedLemmas
+pub mod FrontLemmas
+pub mod PlacesLemmas

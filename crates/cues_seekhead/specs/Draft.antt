@@ -1,14 +1,14 @@
 -- What stands of an output whose last writes may be refused.
 use Rattle.std.specs.Prelude.{◌≡◌, ◌≤◌, ℕ, ◌-◌, List, [], ◌∷◌, ◌++◌, length, Result, Ok, Err}
-use Rattle.mkv_values.specs.declared.outside.FileId.{FileId}
+use Rattle.mkv_io.specs.declared.outside.FileId.{FileId}
 use Rattle.mkv_io.specs.Names.{Names, with_content}
 use Rattle.mkv_io.specs.declared.files.Files.{Ghosts}
 use Rattle.mkv_outputs.specs.Outputs.{Output}
 use Rattle.mkv_outputs.specs.Drafts.{Draft, Patch, IsDrafted, patched}
-use Rattle.element_octets.specs.Element.{joined}
+use Rattle.output_model.specs.Element.{joined}
 use Rattle.output_model.specs.SeekHead.{area_elements}
 use Rattle.output_model.specs.Document.{Document, seeks_of, elements_behind_area, segment_size, opened}
-use Rattle.segment_octets.specs.Front.{body_start}
+use Rattle.cues_seekhead.specs.Front.{body_start}
 
 -- Under the name of a draft stands what becomes of it on the way, and every other name has what it had before.
 pub record StandsDrafted (before now : Names) (d : Draft) : Type 0 where

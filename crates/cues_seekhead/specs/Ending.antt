@@ -1,7 +1,7 @@
 -- The octets of an output's last writes.
 use Rattle.std.specs.Prelude.{◌≡◌, ◌≤◌, ℕ, ◌+◌, List, ◌++◌, length}
 use Rattle.tree_format.specs.NormalForm.{longest}
-use Rattle.element_octets.specs.Element.{Element, joined}
+use Rattle.output_model.specs.Element.{Element, joined}
 use Rattle.output_model.specs.declared.TheConstants.{AREA}
 use Rattle.output_model.specs.declared.places.Seek.{Seek}
 use Rattle.output_model.specs.SeekHead.{area_elements, seeks_from}

@@ -3,10 +3,10 @@ use Rattle.std.specs.Prelude.{◌≡◌, ℕ, List, length, Option, Result, Ok, 
 use Rattle.mkv_io.specs.Names.{Names, with_content}
 use Rattle.mkv_io.specs.declared.reads.Reads.{Ghosts}
 use Rattle.mkv_io.specs.declared.files.Files as writing
-use Rattle.mkv_jobs.specs.declared.remux_end.RemuxEnd.{RemuxEnd}
+use Rattle.mkv_io.specs.declared.remux_end.RemuxEnd.{RemuxEnd}
 use Rattle.mkv_outputs.specs.Drafts.{output_of}
 use Rattle.tree_format.specs.Node.{Node}
-use Rattle.element_octets.specs.Element.{joined}
+use Rattle.output_model.specs.Element.{joined}
 use Rattle.output_model.specs.Document.{Document, clusters_elements, layout}
 use Rattle.cues_seekhead.specs.OpenOutput.{OpenOutput, StandsOpen}
 use Rattle.cues_seekhead.specs.Draft.{StandsDrafted, draft_of}

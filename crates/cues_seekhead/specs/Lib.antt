@@ -4,3 +4,6 @@ pub mod OpenOutput
 pub mod Draft
 pub mod Ending
 pub mod Finished
+pub mod Attached
+pub mod Front
+pub mod Places

@@ -1,13 +1,13 @@
 -- A file that is made, written and ended.
 use Rattle.std.specs.Prelude.{◌≡◌, ◌≢◌, ◌≤◌, ℕ, List, [], ◌∷◌, true, Result, Ok, Err}
-use Rattle.mkv_values.specs.declared.outside.FileId.{FileId}
+use Rattle.mkv_io.specs.declared.outside.FileId.{FileId}
 use Rattle.mkv_io.specs.LiveFiles.{KeepsFiles, KeepsHolders}
 use Rattle.mkv_io.specs.Names.{AreOthers}
 use Rattle.mkv_io.specs.Sources.{live_files}
 use Rattle.mkv_io.specs.Writing.{KeepsOthers, WritesOnly}
 use Rattle.mkv_io.specs.declared.reads.Reads.{Ghosts}
 use Rattle.mkv_io.specs.declared.files.Files as writing
-use Rattle.mkv_jobs.specs.declared.remux_end.RemuxEnd.{RemuxEnd}
+use Rattle.mkv_io.specs.declared.remux_end.RemuxEnd.{RemuxEnd}
 use Rattle.mkv_outputs.specs.Sinks.{EndsOnly}
 use Rattle.cues_seekhead.specs.OpenOutput.{OpenOutput}
 

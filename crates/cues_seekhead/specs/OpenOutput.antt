@@ -1,20 +1,20 @@
 -- An output that is being written.
 use Rattle.std.specs.Prelude.{◌≡◌, ◌≢◌, ◌≤◌, ℕ, ◌+◌, Bool, List, [], ◌∷◌, ◌++◌, length}
-use Rattle.mkv_values.specs.declared.outside.FileId.{FileId}
+use Rattle.mkv_io.specs.declared.outside.FileId.{FileId}
 use Rattle.mkv_io.specs.Names.{Names, with_content}
 use Rattle.mkv_io.specs.Sources.{IsLive, file_size}
 use Rattle.mkv_io.specs.declared.reads.Reads.{Ghosts}
 use Rattle.mkv_io.specs.declared.files.Files as writing
 use Rattle.mkv_schema.specs.declared.ids.TheConstants.{ATTACHED_FILE}
 use Rattle.tree_format.specs.Node.{id_of, IsMaster}
-use Rattle.attachment_records.specs.declared.attachment.Attachment.{Attachment}
+use Rattle.output_model.specs.declared.attachment.Attachment.{Attachment}
 use Rattle.output_model.specs.declared.TheConstants.{AREA, MOST_CUES}
 use Rattle.output_model.specs.declared.places.CuePoint.{CuePoint}
 use Rattle.output_model.specs.declared.places.Seek.{Seek}
 use Rattle.output_model.specs.SeekHead.{seeks_from}
 use Rattle.output_model.specs.Document.{Front, front_elements, clusters_at, opened_with}
-use Rattle.segment_octets.specs.Front.{body_start}
-use Rattle.segment_octets.specs.Places.{AreIds}
+use Rattle.cues_seekhead.specs.Front.{body_start}
+use Rattle.cues_seekhead.specs.Places.{AreIds}
 
 -- The file; whether it is WebM; how many octets the Segment's body has so far; where the Elements in front of the
 -- Clusters stand; and the cue points so far.

@@ -2,19 +2,17 @@
 
 ghost use Rattle.std.specs.Prelude.{◌≤◌, All, length, map, sum_by};
 ghost use Rattle.mkv_io.specs.Sources.{IsLive, live_files};
-ghost use Rattle.attachment_records.specs.declared.attachment.Attachment.{Attachment as AttachmentSeen};
-ghost use Rattle.attachment_records.specs.Attached.{attached_file};
-ghost use Rattle.element_octets.specs.Element.{joined, octets_of};
+ghost use Rattle.output_model.specs.declared.attachment.Attachment.{Attachment as AttachmentSeen};
+ghost use Rattle.output_model.specs.Attached.{attached_file};
+ghost use Rattle.output_model.specs.Element.{joined, octets_of};
 ghost use Rattle.output_model.specs.Document.{tree_element};
 ghost use Rattle.cues_seekhead.specs.Appending.{AppendsOnly};
 ghost use Rattle.cues_seekhead.specs.OpenOutput.{CanAttach};
 
-use crate::OutEnd;
+use crate::attached::{octets_before_data, octets_behind_data};
 use crate::copying::{append, copy_data};
-use attachment_records::Attachment;
-use mkv_io::{Files, Reads};
-use mkv_values::FileId;
-use segment_octets::{octets_before_data, octets_behind_data};
+use mkv_io::{FileId, Files, Reads, RemuxEnd as OutEnd};
+use output_model::Attachment;
 use std::alloc::Global;
 
 // So many octets of data are copied at once.

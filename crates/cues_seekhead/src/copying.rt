@@ -2,12 +2,10 @@
 
 ghost use Rattle.std.specs.Prelude.{◌≢◌, ◌+◌, ◌≤◌, length};
 ghost use Rattle.mkv_io.specs.Sources.{IsLive, file_size, live_files};
-ghost use Rattle.attachment_records.specs.Attached.{octets_told};
+ghost use Rattle.output_model.specs.Attached.{octets_told};
 ghost use Rattle.cues_seekhead.specs.Appending.{AppendsOnly};
 
-use crate::OutEnd;
-use mkv_io::{Files, Reads};
-use mkv_values::FileId;
+use mkv_io::{FileId, Files, Reads, RemuxEnd as OutEnd};
 
 /// Adds octets at the end of a file.
 pub fn append<F: Files>(files: &mut F, file: FileId, octets: &[u8]) -> Result<(), OutEnd>

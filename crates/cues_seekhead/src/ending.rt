@@ -1,28 +1,28 @@
 //! The last writes of an output.
 
 ghost use Rattle.std.specs.Prelude.{◌≡◌, ◌+◌, ◌≤◌, [], ◌∷◌, length, IfOk, IfSome};
-ghost use Rattle.ebml_format.specs.Number.{size_octets};
+ghost use Rattle.ebml_numbers.specs.Number.{size_octets};
 ghost use Rattle.mkv_io.specs.Sources.{IsLive, file_size};
 ghost use Rattle.mkv_io.specs.Writing.{WritesOnly};
-ghost use Rattle.mkv_jobs.specs.Ends.{HasRemuxCause};
+ghost use Rattle.mkv_io.specs.Ends.{HasRemuxCause};
 ghost use Rattle.mkv_schema.specs.declared.ids.TheConstants.{CHAPTERS, TAGS};
 ghost use Rattle.tree_format.specs.Node.{id_of};
 ghost use Rattle.tree_format.specs.NormalForm.{longest};
-ghost use Rattle.element_octets.specs.Element.{joined};
+ghost use Rattle.output_model.specs.Element.{joined};
 ghost use Rattle.output_model.specs.declared.TheConstants.{AREA, MOST_CUES};
 ghost use Rattle.output_model.specs.SeekHead.{area_elements, seeks_from};
 ghost use Rattle.output_model.specs.Document.{back_with};
-ghost use Rattle.segment_octets.specs.Places.{AreIds};
+ghost use Rattle.cues_seekhead.specs.Places.{AreIds};
 ghost use Rattle.cues_seekhead.specs.Draft.{Drafts, patches_at};
 ghost use Rattle.cues_seekhead.specs.Ending.{IsEnding};
 
-use crate::OutEnd;
+use crate::area::area_octets;
+use crate::back::back_octets;
+use crate::places::sized;
 use ebml_numbers::put_size;
 use ebml_tree::Tree;
-use mkv_io::{Files, Reads};
-use mkv_values::{Bytes, FileId};
+use mkv_io::{Bytes, FileId, Files, Reads, RemuxEnd as OutEnd};
 use output_model::{CuePoint, Seek};
-use segment_octets::{area_octets, back_octets, sized};
 use std::alloc::{AllocError, Global};
 
 /// The octets of an output's last writes.

@@ -4,14 +4,21 @@
 //! then the Clusters one by one, and behind them Cues, Chapters and Tags. The SeekHead and the Segment's
 //! size are written last, over what was reserved for them.
 
+mod area;
+mod attached;
 mod attaching;
+mod back;
 mod copying;
+mod cues;
 mod ending;
+mod front;
 mod out;
+mod places;
+mod written;
 
-pub use attachment_records::Attachment;
+pub use area::put_seeks;
+pub use attached::attached_len;
 pub use copying::{append, copy_data};
-pub use mkv_jobs::RemuxEnd as OutEnd;
+pub use mkv_io::RemuxEnd as OutEnd;
 pub use out::OutFile;
-pub use output_model::{CuePoint, Seek};
-pub use segment_octets::Front;
+pub use output_model::{Attachment, CuePoint, Front, Seek};

@@ -1,1 +1,5 @@
 pub mod SignLemmas
+pub mod NumberLemmas
+pub mod SpelledLemmas
+pub mod StandardFacts
+pub mod WidthLemmas

@@ -5,8 +5,8 @@ use Rattle.std.proofs.Math.Pow.{pow_mono, pow-add}
 use Rattle.std.proofs.lemmas.Nat.{pow_pos, and_mask, shr_high, mod_low}
 use Rattle.std.proofs.lemmas.Int.{ints}
 use Rattle.byteorder.specs.Endian.{big_bytes, low_bytes}
-use Rattle.ebml_format.specs.Number.{magnitude, int_octets_in}
-use Rattle.ebml_format.proofs.WidthLemmas.{pow256}
+use Rattle.ebml_numbers.specs.Number.{magnitude, int_octets_in}
+use Rattle.ebml_numbers.proofs.WidthLemmas.{pow256}
 
 -- a product less s, the last of the factors apart
 product_less : (a b s : ℕ) → 1 ≤ a → s ≤ b → (a - 1) * b + (b - s) ≡ a * b - s

@@ -1,14 +1,17 @@
 #![tactic(auto)]
 
-//! The numbers of EBML, read and written: RFC 8794, sections 4 (Variable-Size Integer) to 7 (EBML
-//! Element Types). Nothing here takes memory. The definitions stand in `ebml_format`.
+//! The numbers of EBML, read and written: RFC 8794, sections 4 (Variable-Size Integer) to 7 (EBML Element Types). Nothing
+//! here takes memory. The definitions stand in `specs/Number.antt`, and the laws of what is written and read in
+//! `specs/Laws.antt`.
 
+pub mod laws;
+mod number;
 mod octets;
 mod reading;
 mod vint;
 mod writing;
 
-pub use ebml_format::{IdRead, NumFault, Size, SizeRead};
+pub use number::{IdRead, NumFault, Size, SizeRead};
 pub use octets::Octets;
 pub use reading::{read_id, read_int, read_size, read_uint};
 pub use writing::{put_id, put_int, put_size, put_uint, size_width};

@@ -1,11 +1,11 @@
 //! Numbers read from the front of octets: RFC 8794, sections 4 to 7.
 ghost use Rattle.std.specs.Prelude.{◌≡◌, ℕ, ◌%◌, ◌≤◌, ◌<◌, ◌↔◌, ◌++◌, List, Err, ◌^◌, length, IfOk};
 ghost use Rattle.byteorder.specs.Endian.{big_number};
-ghost use Rattle.ebml_format.specs.Number.{IsCut, IsSettled, IsIdWithin, IsSizeWithin, StartsWithZero, width, marker, all_ones, is_id_data, id_of_width, id_at, size_of_data, size_at, uint_of, int_of};
+ghost use Rattle.ebml_numbers.specs.Number.{IsCut, IsSettled, IsIdWithin, IsSizeWithin, StartsWithZero, width, marker, all_ones, is_id_data, id_of_width, id_at, size_of_data, size_at, uint_of, int_of};
 
+use crate::number::{IdRead, NumFault, Size, SizeRead};
 use crate::vint::all_ones;
 use byteorder::{BigEndian, ByteOrder};
-use ebml_format::{IdRead, NumFault, Size, SizeRead};
 
 /// The Element ID at the front: RFC 8794, section 5 (Element ID).
 pub fn read_id(bytes: &[u8]) -> Result<IdRead, NumFault>
@@ -60,7 +60,7 @@ pub fn read_int(bytes: &[u8]) -> i64
     }
 }
 
-#[tactic(auto, unfolding(ebml_format::specs::Number::id_at))]
+#[tactic(auto, unfolding(crate::specs::Number::id_at))]
 fn first_id(bytes: &[u8]) -> Result<IdRead, NumFault>
     ensures { result ≡ id_at bytes.now }
 {
@@ -77,7 +77,7 @@ fn first_id(bytes: &[u8]) -> Result<IdRead, NumFault>
     id_of_width(bytes, width)
 }
 
-#[tactic(auto, unfolding(ebml_format::specs::Number::size_at))]
+#[tactic(auto, unfolding(crate::specs::Number::size_at))]
 fn first_size(bytes: &[u8]) -> Result<SizeRead, NumFault>
     ensures { result ≡ size_at bytes.now }
 {

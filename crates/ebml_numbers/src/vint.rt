@@ -1,6 +1,6 @@
 //! The marker of a variable-size integer: RFC 8794, section 4 (Variable-Size Integer).
 ghost use Rattle.std.specs.Prelude.{◌≡◌, ◌≤◌};
-ghost use Rattle.ebml_format.specs.Number.{all_ones, marker};
+ghost use Rattle.ebml_numbers.specs.Number.{all_ones, marker};
 
 // The marker bit of a number of so many octets.
 pub(crate) fn marker(width: u8) -> u64

@@ -2,12 +2,12 @@
 ghost use Rattle.std.specs.Prelude.{◌≡◌, ℕ, ◌+◌, ◌*◌, ◌^◌, ◌≤◌, ◌<◌, ◌-◌, ◌++◌, List, Ok, IsTrue};
 ghost use Rattle.std.specs.Int.{w64};
 ghost use Rattle.byteorder.specs.Endian.{low_bytes};
-ghost use Rattle.ebml_format.specs.Number.{IsLeastWidth, all_ones, least_size_width, size_octets, size_at, is_id, is_written_id, id_octets, id_at, uint_width, uint_octets, uint_of, magnitude, int_width, int_octets, int_of};
+ghost use Rattle.ebml_numbers.specs.Number.{IsLeastWidth, all_ones, least_size_width, size_octets, size_at, is_id, is_written_id, id_octets, id_at, uint_width, uint_octets, uint_of, magnitude, int_width, int_octets, int_of};
 ghost use Rattle.ebml_numbers.specs.Octets.{octets_of};
 
+use crate::number::Size;
 use crate::octets::Octets;
 use crate::vint::marker;
-use ebml_format::Size;
 
 /// The fewest octets that hold a known size: 1 to 8.
 pub fn size_width(value: u64) -> u8

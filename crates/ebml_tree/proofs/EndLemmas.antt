@@ -1,13 +1,13 @@
 -- What follows from a refusal, and from an ID.
 use Rattle.std.proofs.Common.{◌≡◌, ◌≢◌, ℕ, ◌==◌, ◌||◌, Bool, true, false, List, [], ◌∷◌, length, Option, Some, None, IsSome, IsTrue, Result, Ok, Err, IfOk, refl, arith}
 use Rattle.std.proofs.lemmas.Bool.Decides.{nat_tests}
-use Rattle.ebml_format.specs.Number.{is_id, is_written_id}
+use Rattle.ebml_numbers.specs.Number.{is_id, is_written_id}
 use Rattle.mkv_schema.specs.declared.ids.TheConstants.{CHAPTER_DISPLAY}
 use Rattle.mkv_schema.specs.declared.kind.ElementKind.{ElementKind}
 use Rattle.mkv_schema.specs.declared.kind.ElementKind.TheVariants.{Master}
 use Rattle.mkv_schema.specs.Schema.{is_master, kind_of}
 use Rattle.mkv_schema.proofs.SchemaLemmas.{is_id-kind_of, is_master-kind_of}
-use Rattle.mkv_values.specs.declared.damage.Damage.{Damage as Harm}
+use Rattle.mkv_io.specs.declared.damage.Damage.{Damage as Harm}
 use Rattle.tree_format.specs.Node.{Node}
 use Rattle.ebml_tree.specs.declared.end.TreeEnd.{TreeEnd}
 use Rattle.ebml_tree.specs.declared.end.TreeEnd.TheVariants.{Damage, Memory}

@@ -1,6 +1,6 @@
 -- What the crate's calls answer.
 use Rattle.std.specs.Prelude.{◌≡◌, Result, Ok, Err}
-use Rattle.mkv_values.specs.declared.damage.Damage.{Damage as Harm}
+use Rattle.mkv_io.specs.declared.damage.Damage.{Damage as Harm}
 use Rattle.tree_format.specs.Node.{Node}
 use Rattle.ebml_tree.specs.declared.end.TreeEnd.{TreeEnd}
 use Rattle.ebml_tree.specs.declared.end.TreeEnd.TheVariants.{Damage, Memory}

@@ -1,6 +1,6 @@
 -- What a tree's fields are, as the tree of the definitions.
 use Rattle.std.specs.Prelude.{◌≡◌, ◌≤◌, ℕ, ◌+◌, [], true, List, length, flat_map}
-use Rattle.ebml_format.specs.Number.{is_written_id}
+use Rattle.ebml_numbers.specs.Number.{is_written_id}
 use Rattle.tree_format.specs.Node.{Node, leaf, master, nodes_of, depth_all, deepest}
 use Rattle.tree_format.specs.NormalForm.{octets, longest}
 use Rattle.ebml_tree.specs.declared.tree.content.Content.{Content}

@@ -3,7 +3,7 @@
 ghost use Rattle.std.specs.Prelude.{◌≡◌};
 ghost use Rattle.ebml_tree.specs.declared.end.TreeEnd.TheVariants as tree_end;
 
-use mkv_values::Damage;
+use mkv_io::Damage;
 use std::alloc::{AllocError, AllocFailed};
 use thiserror::Error;
 

@@ -5,8 +5,14 @@
 //! and CRC-32 left out, other octets as they are.
 
 mod end;
+mod leaves;
+mod masters;
 mod tree;
+mod values;
 
 pub use end::TreeEnd;
+pub use leaves::{text_leaf, uint_leaf};
+pub use masters::empty;
 pub use tree::Tree;
 pub use tree_format::MOST_NODES;
+pub use values::{integer_in, text_in, text_of, uint_in};

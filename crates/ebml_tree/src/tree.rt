@@ -4,9 +4,9 @@ ghost use Rattle.std.specs.Prelude.{◌≡◌, ◌≤◌, ◌<◌, ◌+◌, ◌^
 ghost use Rattle.std.specs.Option.{option_copied};
 
 use ebml_numbers::{read_int, read_uint};
-use element_bodies::text_of;
+use elements::text_of;
+use mkv_io::Bytes;
 use mkv_schema::uint_default;
-use mkv_values::Bytes;
 use std::alloc::{AllocError, Global};
 use std::marker::Model;
 use std::mem;
@@ -64,8 +64,8 @@ impl Tree {
     ghost use Rattle.tree_format.specs.Standing.{IsSound, StandsIn, IsReadAgain, IsReadWithoutLimits, kept, placed_in};
     ghost use Rattle.tree_format.specs.Text.{HasNoZero};
     ghost use Rattle.tree_format.specs.Changes.{with_child, without, HasChild, AreTooLong};
-    ghost use Rattle.ebml_format.specs.Number.{is_id, uint_octets, int_of, int_octets, magnitude};
-    ghost use Rattle.matroska_format.specs.Value.{uint_value, text_of};
+    ghost use Rattle.ebml_numbers.specs.Number.{is_id, uint_octets, int_of, int_octets, magnitude};
+    ghost use Rattle.mkv_schema.specs.Value.{uint_value, text_of};
 
     /// A leaf with these octets, at the place 0.
     #[tactic(auto, using(tree_format::proofs::ValueLemmas::values))]

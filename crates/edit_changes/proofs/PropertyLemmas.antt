@@ -3,14 +3,14 @@ use Rattle.std.proofs.Common.{◌≡◌, inl, inr, ℕ, Bool, true, false, List,
 use Rattle.std.specs.Bool.{⊤}
 use Rattle.std.specs.Option.{option_map}
 use Rattle.std.specs.Str.{bytes_eq}
-use Rattle.ebml_format.specs.Number.{is_id}
+use Rattle.ebml_numbers.specs.Number.{is_id}
 use Rattle.mkv_schema.specs.Table.{table}
 use Rattle.mkv_schema.specs.Schema.{entry_of, may_stand, kind_of}
 use Rattle.mkv_schema.specs.declared.kind.ElementKind.TheVariants.{Uint, Ascii, Utf8}
 use Rattle.mkv_schema.specs.declared.ids.TheConstants.{INFO, TRACK_ENTRY}
-use Rattle.tree_building.specs.Leaves.{IsTextIn, IsUintIn}
-use Rattle.edit_format.specs.declared.property.Property.{Property}
-use Rattle.edit_format.specs.Property.{Row, in_table, info_table, track_table, property_of}
+use Rattle.ebml_tree.specs.Leaves.{IsTextIn, IsUintIn}
+use Rattle.edit_changes.specs.declared.property.Property.{Property}
+use Rattle.edit_changes.specs.Property.{Row, in_table, info_table, track_table, property_of}
 use Rattle.edit_changes.specs.Properties.{IsPropertyOf, section_of}
 
 -- each row's property has this

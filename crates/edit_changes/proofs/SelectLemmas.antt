@@ -1,8 +1,8 @@
 -- A TrackEntry that stands in Tracks: what is read of it, and that it is changed.
 use Rattle.std.proofs.Common.{◌≡◌, ◌==◌, ℕ, suc, ◌+◌, ◌-◌, Bool, true, false, List, [], ◌∷◌, Some, slice_get, refl, sym, ◌∙◌, ap, arith}
 use Rattle.std.proofs.lemmas.Bool.Decides.{nat_tests}
-use Rattle.mkv_jobs.specs.declared.edit.Selector.{Selector}
-use Rattle.mkv_jobs.specs.declared.edit.Selector.TheVariants.{Info, Nth, Typed, Uid, Number}
+use Rattle.word_values.specs.declared.edit.Selector.{Selector}
+use Rattle.word_values.specs.declared.edit.Selector.TheVariants.{Info, Nth, Typed, Uid, Number}
 use Rattle.mkv_schema.specs.Table.{table}
 use Rattle.mkv_schema.specs.Schema.{entry_of}
 use Rattle.mkv_schema.specs.declared.ids.TheConstants.{TRACKS, TRACK_ENTRY, TRACK_NUMBER, TRACK_UID, TRACK_TYPE}
@@ -10,7 +10,7 @@ use Rattle.tree_format.specs.Node.{Node, leaf, master, id_of, IsMaster}
 use Rattle.tree_format.specs.Reading.{is_master_in}
 use Rattle.tree_format.specs.Standing.{StandsIn, IsSound, IsSoundOf}
 use Rattle.tree_format.specs.Values.{HasUint}
-use Rattle.edit_format.specs.Change.{fits, turn_of, nth_place, place_of}
+use Rattle.edit_changes.specs.Change.{fits, turn_of, nth_place, place_of}
 use Rattle.edit_changes.specs.Trees.{IsEntryAt}
 
 pub number : HasUint TRACK_ENTRY TRACK_NUMBER

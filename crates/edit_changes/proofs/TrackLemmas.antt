@@ -4,12 +4,12 @@ use Rattle.std.specs.List.{All}
 use Rattle.std.proofs.lemmas.List.Elements.{All-set}
 use Rattle.std.proofs.lemmas.Option.{slice_get_within}
 use Rattle.mkv_schema.specs.declared.ids.TheConstants.{TRACKS, TRACK_ENTRY}
-use Rattle.mkv_jobs.specs.declared.edit.Edit.{Edit}
+use Rattle.word_values.specs.declared.edit.Edit.{Edit}
 use Rattle.tree_format.specs.Node.{Node, id_of}
 use Rattle.tree_format.specs.Standing.{StandsIn}
-use Rattle.tree_building.specs.Building.{IsRead}
-use Rattle.edit_format.specs.declared.refusal.Why.{Why}
-use Rattle.edit_format.specs.Change.{and_then, edited_node, place_of}
+use Rattle.ebml_tree.specs.Building.{IsRead}
+use Rattle.edit_changes.specs.declared.refusal.Why.{Why}
+use Rattle.edit_changes.specs.Change.{and_then, edited_node, place_of}
 use Rattle.edit_changes.specs.declared.change.EditEnd.{EditEnd}
 use Rattle.edit_changes.specs.declared.change.EditEnd.TheVariants.{Refused, Memory}
 use Rattle.edit_changes.specs.Made.{Makes}

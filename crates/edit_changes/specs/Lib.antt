@@ -1,3 +1,11 @@
 pub mod Properties
 pub mod Made
 pub mod Trees
+pub mod Property
+pub mod Change
+pub mod Span
+pub mod SeekHead
+pub mod Records
+pub mod Plan
+pub mod Written
+pub mod Ends

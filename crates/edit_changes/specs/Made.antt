@@ -2,7 +2,7 @@
 use Rattle.std.specs.Prelude.{◌≡◌, Result, Ok, Err}
 use Rattle.tree_format.specs.Node.{Node, IsMaster, id_of}
 use Rattle.tree_format.specs.Standing.{IsSound}
-use Rattle.edit_format.specs.declared.refusal.Why.{Why}
+use Rattle.edit_changes.specs.declared.refusal.Why.{Why}
 use Rattle.edit_changes.specs.declared.change.EditEnd.{EditEnd}
 use Rattle.edit_changes.specs.declared.change.EditEnd.TheVariants.{Refused, Memory}
 

@@ -1,13 +1,13 @@
 -- The table of properties, as the code has it, and where its Elements stand.
 use Rattle.std.specs.Prelude.{◌≡◌, ℕ, Bool, true, if◌then◌else◌}
-use Rattle.ebml_format.specs.Number.{is_id}
+use Rattle.ebml_numbers.specs.Number.{is_id}
 use Rattle.mkv_schema.specs.declared.ids.TheConstants.{INFO, TRACK_ENTRY}
-use Rattle.tree_building.specs.Leaves.{IsTextIn, IsUintIn}
-use Rattle.edit_format.specs.declared.property.Property.{Property}
-use Rattle.edit_format.specs.declared.property.ValueKind.{ValueKind}
-use Rattle.edit_format.specs.declared.property.ValueKind.TheVariants.{Words, Language, LanguageTag, Codec, Duration, Flag}
-use Rattle.edit_format.specs.Property as spec
-use Rattle.edit_changes.specs.declared.property.Row.{Row}
+use Rattle.ebml_tree.specs.Leaves.{IsTextIn, IsUintIn}
+use Rattle.edit_changes.specs.declared.property.Property.{Property}
+use Rattle.edit_changes.specs.declared.property.ValueKind.{ValueKind}
+use Rattle.edit_changes.specs.declared.property.ValueKind.TheVariants.{Words, Language, LanguageTag, Codec, Duration, Flag}
+use Rattle.edit_changes.specs.Property as spec
+use Rattle.edit_changes.specs.declared.table.Row.{Row}
 
 -- a row of the code's table
 abbrev pub shown : Row → spec.Row

@@ -2,20 +2,20 @@
 use Rattle.std.specs.Prelude.{◌≡◌, ⊤, ℕ, ◌+◌, List, Option, Some, None, slice_get, slice_set, IfSome, Result, Ok, Err}
 use Rattle.std.specs.List.{All}
 use Rattle.mkv_schema.specs.declared.ids.TheConstants.{INFO, TRACKS, TRACK_ENTRY}
-use Rattle.mkv_jobs.specs.declared.edit.Edit.{Edit}
+use Rattle.word_values.specs.declared.edit.Edit.{Edit}
 use Rattle.tree_format.specs.Node.{Node, id_of}
 use Rattle.tree_format.specs.Standing.{StandsIn}
-use Rattle.tree_building.specs.Building.{IsRead}
-use Rattle.edit_format.specs.declared.trees.Trees.{Trees}
-use Rattle.edit_format.specs.declared.refusal.Refusal.{Refusal}
-use Rattle.edit_format.specs.declared.refusal.Refusal.TheVariants.{Edit as RefusedEdit}
-use Rattle.edit_format.specs.declared.refusal.Why.{Why}
-use Rattle.edit_format.specs.declared.refusal.Why.TheVariants.{NoInfo, NoSuchTrack}
-use Rattle.edit_format.specs.Change.{and_then, edited_node, place_of}
+use Rattle.ebml_tree.specs.Building.{IsRead}
+use Rattle.edit_changes.specs.declared.trees.Trees.{Trees}
+use Rattle.edit_changes.specs.declared.refusal.Refusal.{Refusal}
+use Rattle.edit_changes.specs.declared.refusal.Refusal.TheVariants.{Edit as RefusedEdit}
+use Rattle.edit_changes.specs.declared.refusal.Why.{Why}
+use Rattle.edit_changes.specs.declared.refusal.Why.TheVariants.{NoInfo, NoSuchTrack}
+use Rattle.edit_changes.specs.Change.{and_then, edited_node, place_of}
 use Rattle.edit_changes.specs.declared.change.EditEnd.{EditEnd}
 use Rattle.edit_changes.specs.declared.change.EditEnd.TheVariants as end
-use Rattle.edit_changes.specs.declared.trees.EditsEnd.{EditsEnd}
-use Rattle.edit_changes.specs.declared.trees.EditsEnd.TheVariants.{Refused, Memory}
+use Rattle.edit_changes.specs.declared.editing.EditsEnd.{EditsEnd}
+use Rattle.edit_changes.specs.declared.editing.EditsEnd.TheVariants.{Refused, Memory}
 use Rattle.edit_changes.specs.Made.{Makes, Sounds}
 
 -- An Info is one, and what stands in Tracks may stand there.

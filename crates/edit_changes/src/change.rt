@@ -3,19 +3,20 @@
 ghost use Rattle.std.specs.Prelude.{◌≡◌};
 ghost use Rattle.tree_format.specs.Node.{IsMaster, id_of};
 ghost use Rattle.tree_format.specs.Standing.{IsSound};
-ghost use Rattle.edit_format.specs.Change as spec;
-ghost use Rattle.edit_format.specs.Property.{is_info, value_of};
+ghost use Rattle.edit_changes.specs.Change as spec;
+ghost use Rattle.edit_changes.specs.Property.{is_info, value_of};
 ghost use Rattle.edit_changes.specs.Made.{Makes, Sounds};
 ghost use Rattle.edit_changes.specs.Properties.{IsPropertyOf, section_of};
 ghost use Rattle.edit_changes.specs.declared.change.EditEnd.TheVariants as end;
 
-use crate::property::property_of;
+use crate::property::Property;
+use crate::refusal::Why;
+use crate::table::property_of;
 use crate::value::leaf_of;
 use ebml_tree::Tree;
-use edit_format::{Property, Why};
-use mkv_jobs::{Change, Edit, Selector};
-use mkv_values::Text;
+use mkv_io::Text;
 use std::alloc::{AllocError, Global};
+use word_values::{Change, Edit, Selector};
 
 /// Why an edit isn't made.
 #[derive(Clone, Copy, Debug, PartialEq, Eq)]

@@ -1,13 +1,29 @@
 #![tactic(auto)]
 
-//! The edits of a file's properties, made on its Info and the children of its Tracks (RFC 9559, sections 5.1.2,
-//! Info Element, and 5.1.4, Tracks Element).
+//! Edits of a file's properties: what they come to, or what refuses them; the edits, made on its Info and the children of its
+//! Tracks; and the room that its Elements have (RFC 8794, section 11.3.2, Void Element, and RFC 9559, sections 5.1.1, SeekHead
+//! Element, 5.1.2, Info Element, and 5.1.4, Tracks Element).
 
 mod change;
+mod editing;
+mod fitting;
 mod property;
+mod refusal;
+mod refusals;
+mod seek_head;
+mod seeking;
 mod select;
+mod span;
+mod table;
 mod trees;
 mod value;
 
 pub use change::is_info;
-pub use trees::{EditsEnd, edited};
+pub use editing::{EditsEnd, edited};
+pub use fitting::{fit, in_place, shortest, void_header, whole};
+pub use refusal::{MOST_WRITTEN, Refusal, Room, Why};
+pub use refusals::{lacks, size_refusal, size_width, tail_refusal, twin_refusal};
+pub use seek_head::seek_head_body;
+pub use seeking::seeks;
+pub use span::{number_of, span_of};
+pub use trees::Trees;

@@ -5,13 +5,13 @@ ghost use Rattle.std.specs.List.{All};
 ghost use Rattle.mkv_schema.specs.declared.ids.TheConstants.{TRACKS, TRACK_ENTRY as ENTRY_ID};
 ghost use Rattle.tree_format.specs.Standing.{StandsIn, IsSoundOf};
 ghost use Rattle.tree_format.specs.Values.{uint_in, HasUint};
-ghost use Rattle.edit_format.specs.Change as spec;
+ghost use Rattle.edit_changes.specs.Change as spec;
 ghost use Rattle.edit_changes.specs.Trees.{IsEntryAt};
 
 use ebml_tree::Tree;
-use mkv_jobs::Selector;
 use mkv_schema::ids::{TRACK_ENTRY, TRACK_NUMBER, TRACK_TYPE, TRACK_UID};
 use mkv_schema::uint_default;
+use word_values::Selector;
 
 /// The unsigned integer of an ID in a TrackEntry, or the table's default, or 0.
 fn uint_in(entry: &Tree, id: u32) -> u64

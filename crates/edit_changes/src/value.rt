@@ -2,19 +2,18 @@
 
 ghost use Rattle.std.specs.Prelude.{◌≡◌, ℕ, IfOk, IfSome, IsTrue, option_map};
 ghost use Rattle.std.specs.List.{list_all};
-ghost use Rattle.ebml_format.specs.Number.{is_id};
+ghost use Rattle.ebml_numbers.specs.Number.{is_id};
 ghost use Rattle.tree_format.specs.Node.{leaf};
 ghost use Rattle.tree_format.specs.Standing.{StandsIn};
-ghost use Rattle.tree_building.specs.Leaves.{IsTextIn, IsUintIn};
+ghost use Rattle.ebml_tree.specs.Leaves.{IsTextIn, IsUintIn};
 ghost use Rattle.word_values.specs.Numbers as words;
-ghost use Rattle.edit_format.specs.Property as spec;
+ghost use Rattle.edit_changes.specs.Property as spec;
 ghost use Rattle.edit_changes.specs.Properties.{IsPropertyOf};
 
-use ebml_tree::Tree;
-use edit_format::{Property, ValueKind};
-use mkv_values::Text;
+use crate::property::{Property, ValueKind};
+use ebml_tree::{Tree, text_leaf, uint_leaf};
+use mkv_io::Text;
 use std::alloc::{AllocError, Global};
-use tree_building::{text_leaf, uint_leaf};
 use word_values::number;
 
 fn is_between(least: u64, most: u64, n: u64) -> bool

@@ -1,10 +1,10 @@
 -- What is written of Info and Tracks is read again, in its normal form.
 use Rattle.std.proofs.Common.{◌≡◌, ◌<◌, ◌≤◌, ℕ, ◌+◌, List, length, flat_map, Option, Some, Result, Ok, refl, sym, ◌∙◌, ap, arith}
 use Rattle.std.specs.Option.{option_map}
-use Rattle.mkv_values.specs.declared.damage.Damage.{Damage}
-use Rattle.matroska_format.specs.declared.element.Header.{Header}
-use Rattle.matroska_format.specs.Outline.{and_then}
-use Rattle.matroska_format.specs.Value.{body_of}
+use Rattle.mkv_io.specs.declared.damage.Damage.{Damage}
+use Rattle.mkv_schema.specs.declared.element.Header.{Header}
+use Rattle.mkv_schema.specs.Outline.{and_then}
+use Rattle.mkv_schema.specs.Value.{body_of}
 use Rattle.tree_format.specs.declared.limits.TheConstants.{MOST_NODES}
 use Rattle.tree_format.specs.Node.{Node, master, nodes_of, depth_all, deepest}
 use Rattle.tree_format.specs.NormalForm.{kept_octets, octets, octets_all, longest}
@@ -13,9 +13,9 @@ use Rattle.tree_format.specs.Standing.{AllStandIn, IsReadAgain, kept_all, placed
 use Rattle.tree_format.proofs.AgainLemmas.{sound-again}
 use Rattle.tree_format.proofs.NodeLemmas.{octets_all-flat}
 use Rattle.tree_format.proofs.PlacedLemmas.{octets_all-placed}
-use Rattle.element_octets.specs.Element.{Element, HoldsAt, octets_of, header_in_place}
-use Rattle.element_octets.proofs.ReadLemmas.{body_of-read}
-use Rattle.file_records.specs.Records.{tree_at}
+use Rattle.output_model.specs.Element.{Element, HoldsAt, octets_of, header_in_place}
+use Rattle.output_model.proofs.ReadLemmas.{body_of-read}
+use Rattle.meta_records.specs.Records.{tree_at}
 
 -- A master whose children can be written and read again.
 pub record CanBeRead (id : ℕ) (nodes : List Node) : Type 0 where

@@ -4,18 +4,18 @@ use Rattle.std.specs.Bool.{⊤}
 use Rattle.std.specs.Option.{is_some, option_map_or}
 use Rattle.std.proofs.lemmas.List.Elements.{All-head, All-tail, All-filter, All-weaker}
 use Rattle.mkv_schema.specs.declared.ids.TheConstants.{ATTACHED_FILE, FILE_DATA, FILE_UID}
-use Rattle.mkv_values.specs.declared.damage.Damage.{Damage}
-use Rattle.matroska_format.specs.declared.element.Header.{Header}
-use Rattle.mkv_values.specs.declared.damage.Kind.TheVariants.{MissingChild}
-use Rattle.matroska_format.specs.Element.{damage, known, stated_end}
-use Rattle.matroska_format.specs.Elements.{never}
-use Rattle.matroska_format.specs.Outline.{first_damage, first_refusal, unless, where_it}
-use Rattle.matroska_format.specs.Value.{first_of, is_known_value}
+use Rattle.mkv_io.specs.declared.damage.Damage.{Damage}
+use Rattle.mkv_schema.specs.declared.element.Header.{Header}
+use Rattle.mkv_io.specs.declared.damage.Kind.TheVariants.{MissingChild}
+use Rattle.mkv_schema.specs.Element.{damage, known, stated_end}
+use Rattle.mkv_schema.specs.Elements.{never}
+use Rattle.mkv_schema.specs.Outline.{first_damage, first_refusal, unless, where_it}
+use Rattle.mkv_schema.specs.Value.{first_of, is_known_value}
 use Rattle.tree_format.specs.Node.{Node, leaf, master, nodes_of}
 use Rattle.tree_format.specs.Changes.{with_child}
 use Rattle.tree_format.specs.Values.{uint_in}
-use Rattle.attachment_reading.specs.Attachments.{Met, children_of, part_of, is_attached, ended, met_in, at_part, parts_in, at_child, causes, refused_from, refused_in, data_in, missing_data, attached_in, too_many_files, leaf_of, entry_of}
-use Rattle.file_records.specs.Attached.{AttachedFile, file_at, files_at}
+use Rattle.meta_records.specs.Attachments.{Met, children_of, part_of, is_attached, ended, met_in, at_part, parts_in, at_child, causes, refused_from, refused_in, data_in, missing_data, attached_in, too_many_files, leaf_of, entry_of}
+use Rattle.meta_records.specs.Attached.{AttachedFile, file_at, files_at}
 use Rattle.edit_laws.proofs.RunLemmas.{AreAlikeRuns, runs-alike, run-inside, StandsInside}
 use Rattle.edit_laws.proofs.BlockLemmas.{IsHeld, shared-body, map-same}
 use Rattle.edit_laws.proofs.ClusterLemmas.{held-inside}

@@ -3,15 +3,15 @@ use Rattle.std.proofs.Common.{◌≡◌, ◌≤◌, ℕ, ◌*◌, ◌==◌, not,
 use Rattle.std.specs.Bool.{⊤}
 use Rattle.std.specs.Option.{is_some, option_map}
 use Rattle.std.proofs.lemmas.List.Elements.{All-head, All-tail, All-filter, All-weaker}
-use Rattle.ebml_format.specs.Number.{uint_of, int_of}
+use Rattle.ebml_numbers.specs.Number.{uint_of, int_of}
 use Rattle.mkv_schema.specs.declared.ids.TheConstants.{BLOCK_GROUP, BLOCK, BLOCK_DURATION, REFERENCE_BLOCK, SIMPLE_BLOCK, TIMESTAMP}
-use Rattle.mkv_values.specs.declared.damage.Damage.{Damage}
-use Rattle.mkv_values.specs.declared.damage.Kind.TheVariants.{BadValue}
-use Rattle.matroska_format.specs.declared.element.Header.{Header}
-use Rattle.matroska_format.specs.Element.{stated_end, damage}
-use Rattle.matroska_format.specs.Elements.{Run, never}
-use Rattle.matroska_format.specs.Value.{body_of, is_known_value, first_of}
-use Rattle.matroska_format.specs.Outline.{and_then, unless, first_damage, bad_value}
+use Rattle.mkv_io.specs.declared.damage.Damage.{Damage}
+use Rattle.mkv_io.specs.declared.damage.Kind.TheVariants.{BadValue}
+use Rattle.mkv_schema.specs.declared.element.Header.{Header}
+use Rattle.mkv_schema.specs.Element.{stated_end, damage}
+use Rattle.mkv_schema.specs.Elements.{Run, never}
+use Rattle.mkv_schema.specs.Value.{body_of, is_known_value, first_of}
+use Rattle.mkv_schema.specs.Outline.{and_then, unless, first_damage, bad_value}
 use Rattle.block_format.specs.Block.{nanoseconds, simple_block_with}
 use Rattle.block_format.specs.Content.{Content, content_in}
 use Rattle.block_format.specs.Elements.{Rules, timestamp_for, at_place, in_time, simple_block, group_run, group_refusal, group_children, block_or, references_among, too_many_references, duration_of, references_of, is_kept, element_octets, kept_of, group_with, group_among, block_group}

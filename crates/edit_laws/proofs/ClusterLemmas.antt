@@ -3,10 +3,10 @@ use Rattle.std.proofs.Common.{◌≡◌, ◌≤◌, ℕ, ◌==◌, Bool, true, f
 use Rattle.std.specs.Option.{is_some}
 use Rattle.std.proofs.lemmas.List.Elements.{All-head, All-tail, All-weaker}
 use Rattle.mkv_schema.specs.declared.ids.TheConstants.{TIMESTAMP, SIMPLE_BLOCK, BLOCK_GROUP}
-use Rattle.mkv_values.specs.declared.damage.Damage.{Damage}
-use Rattle.matroska_format.specs.declared.element.Header.{Header}
-use Rattle.matroska_format.specs.Element.{in_master, is_unknown, end_in}
-use Rattle.matroska_format.specs.Elements.{never, children_in, open_cluster}
+use Rattle.mkv_io.specs.declared.damage.Damage.{Damage}
+use Rattle.mkv_schema.specs.declared.element.Header.{Header}
+use Rattle.mkv_schema.specs.Element.{in_master, is_unknown, end_in}
+use Rattle.mkv_schema.specs.Elements.{never, children_in, open_cluster}
 use Rattle.block_format.specs.Elements.{Rules}
 use Rattle.block_format.specs.Events.{Found, Event, found_at, timestamp_behind, found_among, found_behind, found_in_run, found_in, events_then, blocks_of}
 use Rattle.edit_laws.proofs.SameLemmas.{AreSame}

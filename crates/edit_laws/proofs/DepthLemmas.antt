@@ -1,11 +1,11 @@
 -- A master that is read is no deeper than one may be.
 use Rattle.std.proofs.Common.{◌≡◌, ◌≤◌, ℕ, zero, suc, ◌-◌, ◌==◌, Bool, true, false, if◌then◌else◌, List, [], ◌∷◌, length, Ok, refl, sym, ◌∙◌, subst, arith}
-use Rattle.mkv_values.specs.declared.damage.Kind.TheVariants.{BadValue, TooMany}
-use Rattle.matroska_format.specs.declared.element.Header.{Header}
-use Rattle.matroska_format.specs.Element.{stated_end}
-use Rattle.matroska_format.specs.Outline.{and_then}
-use Rattle.matroska_format.specs.Value.{is_known_value}
-use Rattle.matroska_format.proofs.OutlineLemmas.{and_then-ok}
+use Rattle.mkv_io.specs.declared.damage.Kind.TheVariants.{BadValue, TooMany}
+use Rattle.mkv_schema.specs.declared.element.Header.{Header}
+use Rattle.mkv_schema.specs.Element.{stated_end}
+use Rattle.mkv_schema.specs.Outline.{and_then}
+use Rattle.mkv_schema.specs.Value.{is_known_value}
+use Rattle.mkv_schema.proofs.OutlineLemmas.{and_then-ok}
 use Rattle.std.proofs.lemmas.Bool.Decides.{nat_tests}
 use Rattle.tree_format.specs.Node.{Node, leaf, master, nodes_of, id_of, depth, depth_all, deepest, IsMaster}
 use Rattle.tree_format.specs.Reading.{Grove, Grown, header_at, inside, behind, is_master_in, refused, as_master, grown, with_first, first_then, grove, as_root, tree_of}

@@ -1,31 +1,31 @@
 -- Whatever edits write, the file holds what they make of it.
 use Rattle.std.proofs.Common.{◌≡◌, ◌≤◌, ◌+◌, ℕ, Bool, true, false, if◌then◌else◌, List, [], ◌∷◌, length, map, flat_map, All, Option, Some, None, Result, Ok, Err, refl, sym, ◌∙◌, ap, subst, arith}
 use Rattle.std.specs.List.{list_any}
-use Rattle.ebml_format.specs.Number.{AreOctets}
+use Rattle.ebml_numbers.specs.Number.{AreOctets}
 use Rattle.mkv_schema.specs.declared.ids.TheConstants.{SEEK_HEAD}
-use Rattle.mkv_values.specs.declared.damage.Damage.{Damage}
-use Rattle.mkv_values.specs.declared.outside.TheConstants.{LONGEST_FILE}
-use Rattle.mkv_jobs.specs.declared.edit.Edit.{Edit}
-use Rattle.matroska_format.specs.declared.element.Header.{Header}
-use Rattle.matroska_format.specs.Outline.{segment_run, unless as unless_damaged}
-use Rattle.matroska_format.specs.Value.{first_of}
-use Rattle.matroska_format.proofs.OutlineLemmas.{and_then-ok, unless-ok}
+use Rattle.mkv_io.specs.declared.damage.Damage.{Damage}
+use Rattle.mkv_io.specs.declared.outside.TheConstants.{LONGEST_FILE}
+use Rattle.word_values.specs.declared.edit.Edit.{Edit}
+use Rattle.mkv_schema.specs.declared.element.Header.{Header}
+use Rattle.mkv_schema.specs.Outline.{segment_run, unless as unless_damaged}
+use Rattle.mkv_schema.specs.Value.{first_of}
+use Rattle.mkv_schema.proofs.OutlineLemmas.{and_then-ok, unless-ok}
 use Rattle.element_reader.specs.Outline.{FileOutline, outline_in}
 use Rattle.element_reader.specs.Collected.{others_of}
-use Rattle.element_octets.specs.Element.{Element, octets_of}
-use Rattle.sidecar_format.specs.Fields.{AreInOrder}
-use Rattle.sidecar_format.specs.Writes.{Write, applied}
-use Rattle.edit_format.specs.declared.refusal.Refusal.{Refusal}
-use Rattle.edit_format.specs.declared.refusal.Room.TheVariants as room
-use Rattle.edit_format.specs.declared.trees.Trees.{Trees}
-use Rattle.edit_format.specs.Change.{and_then, edited_trees}
-use Rattle.edit_format.specs.Records.{EditableFile, editable, trees_of}
-use Rattle.edit_format.specs.SeekHead.{SeekHeadAt, seek_head_of}
-use Rattle.edit_format.specs.Span.{span_of}
-use Rattle.edit_format.specs.Plan.{Part, appended, ascending, elements_moving, if_editable, lacks, length_in_place, length_moving, moves, moving, moving_refusals, moving_writes, new_end, part_writes, parts, place, plan_of, seek_head, size_refusal, tail_refusal, too_large, twin_refusal, unless, writes_in_place, writes_moving, writes_of_parts, first_refusal}
+use Rattle.output_model.specs.Element.{Element, octets_of}
+use Rattle.sidecar_edit.specs.Fields.{AreInOrder}
+use Rattle.sidecar_edit.specs.Writes.{Write, applied}
+use Rattle.edit_changes.specs.declared.refusal.Refusal.{Refusal}
+use Rattle.edit_changes.specs.declared.refusal.Room.TheVariants as room
+use Rattle.edit_changes.specs.declared.trees.Trees.{Trees}
+use Rattle.edit_changes.specs.Change.{and_then, edited_trees}
+use Rattle.edit_changes.specs.Records.{EditableFile, editable, trees_of}
+use Rattle.edit_changes.specs.SeekHead.{SeekHeadAt, seek_head_of}
+use Rattle.edit_changes.specs.Span.{span_of}
+use Rattle.edit_changes.specs.Plan.{Part, appended, ascending, elements_moving, if_editable, lacks, length_in_place, length_moving, moves, moving, moving_refusals, moving_writes, new_end, part_writes, parts, place, plan_of, seek_head, size_refusal, tail_refusal, too_large, twin_refusal, unless, writes_in_place, writes_moving, writes_of_parts, first_refusal}
 use Rattle.edit_plan.proofs.PlanLemmas.{appended-some, editable-outline, first-none, head-first, lacks-none, plan_of-planned, unless-none}
 use Rattle.edit_plan.proofs.SitsLemmas.{element-some}
-use Rattle.ebml_format.proofs.NumberLemmas.{is_id-bounds}
+use Rattle.ebml_numbers.proofs.NumberLemmas.{is_id-bounds}
 use Rattle.edit_plan.proofs.PlanLemmas.{seek_head-valid}
 use Rattle.edit_laws.proofs.SameLemmas.{InOrder}
 use Rattle.edit_laws.specs.Laws.{EditsChangeNothingElse, HoldsEdited, IsOutside}

@@ -5,28 +5,28 @@ use Rattle.std.proofs.lemmas.Bool.{cases_lt}
 use Rattle.std.proofs.lemmas.List.Sums.{length-filter}
 use Rattle.std.proofs.lemmas.Bool.Decides.{nat_tests}
 use Rattle.std.proofs.lemmas.List.Elements.{All-nil, All-cons, All-head, All-tail, All-weaker}
-use Rattle.ebml_format.specs.declared.number.Size.{Size}
-use Rattle.ebml_format.specs.declared.number.Size.TheVariants.{Known, Unknown}
-use Rattle.ebml_format.specs.Number.{id_octets, size_octets}
-use Rattle.ebml_format.proofs.NumberLemmas.{length-size_octets}
+use Rattle.ebml_numbers.specs.declared.number.Size.{Size}
+use Rattle.ebml_numbers.specs.declared.number.Size.TheVariants.{Known, Unknown}
+use Rattle.ebml_numbers.specs.Number.{id_octets, size_octets}
+use Rattle.ebml_numbers.proofs.NumberLemmas.{length-size_octets}
 use Rattle.mkv_schema.specs.declared.ids.TheConstants.{CLUSTER, SEGMENT}
-use Rattle.matroska_format.specs.declared.element.Header.{Header}
-use Rattle.matroska_format.specs.Element.{in_segment, element_at, end_in, is_unknown, known, stated_end}
-use Rattle.matroska_format.specs.Elements.{ends_segment, ends_at, id_of}
-use Rattle.matroska_format.specs.Outline.{segment_bound, segment_end, segment_run}
-use Rattle.matroska_format.proofs.ElementLemmas.{element_at-placed}
+use Rattle.mkv_schema.specs.declared.element.Header.{Header}
+use Rattle.mkv_schema.specs.Element.{in_segment, element_at, end_in, is_unknown, known, stated_end}
+use Rattle.mkv_schema.specs.Elements.{ends_segment, ends_at, id_of}
+use Rattle.mkv_schema.specs.Outline.{segment_bound, segment_end, segment_run}
+use Rattle.mkv_schema.proofs.ElementLemmas.{element_at-placed}
 use Rattle.element_reader.specs.Collected.{last_of, others_of}
 use Rattle.element_reader.specs.Outline.{FileOutline}
-use Rattle.element_octets.specs.Element.{Element, octets_of, header_in_place, headers_in_place}
-use Rattle.sidecar_format.specs.Writes.{Write, end_of, extent, Touches}
-use Rattle.edit_format.specs.declared.refusal.Refusal.TheVariants as refusal
-use Rattle.edit_format.specs.declared.refusal.Room.TheVariants as room
-use Rattle.edit_format.specs.Plan.{Part, cluster_end, elements_moving, moves, moving, number_of, other_end, size_width, size_writes, tail_refusal, twin_of, twin_refusal, wrong_end, write}
+use Rattle.output_model.specs.Element.{Element, octets_of, header_in_place, headers_in_place}
+use Rattle.sidecar_edit.specs.Writes.{Write, end_of, extent, Touches}
+use Rattle.edit_changes.specs.declared.refusal.Refusal.TheVariants as refusal
+use Rattle.edit_changes.specs.declared.refusal.Room.TheVariants as room
+use Rattle.edit_changes.specs.Plan.{Part, cluster_end, elements_moving, moves, moving, number_of, other_end, size_width, size_writes, tail_refusal, twin_of, twin_refusal, wrong_end, write}
 use Rattle.edit_laws.proofs.SameLemmas.{InOrder}
 use Rattle.edit_laws.proofs.TileLemmas.{advances-level, end-stops, level, run_of, Stands, Tiles, tiled, whole, IsAhead}
 use Rattle.edit_laws.proofs.LevelLemmas.{level-within, next-known, whole-known}
-use Rattle.edit_format.specs.Span.{span_of}
-use Rattle.matroska_format.specs.Value.{first_of}
+use Rattle.edit_changes.specs.Span.{span_of}
+use Rattle.mkv_schema.specs.Value.{first_of}
 use Rattle.edit_laws.proofs.ItemLemmas.{IsItemIn, Item}
 use Rattle.edit_laws.proofs.OpenedLemmas.{IsOpened}
 use Rattle.edit_laws.proofs.RoomLemmas.{last-there}

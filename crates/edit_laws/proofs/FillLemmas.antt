@@ -6,15 +6,15 @@ use Rattle.std.proofs.lemmas.List.{length-append, length-replicate}
 use Rattle.std.proofs.lemmas.List.Elements.{All-nil, All-cons}
 use Rattle.std.proofs.lemmas.Bool.{cases_lt}
 use Rattle.std.proofs.lemmas.Bool.Decides.{nat_tests}
-use Rattle.ebml_format.specs.Number.{is_id, uint_width, all_ones, id_octets, size_octets, least_size_width}
-use Rattle.ebml_format.proofs.WidthLemmas.{least_size_width-IsLeast}
+use Rattle.ebml_numbers.specs.Number.{is_id, uint_width, all_ones, id_octets, size_octets, least_size_width}
+use Rattle.ebml_numbers.proofs.WidthLemmas.{least_size_width-IsLeast}
 use Rattle.mkv_schema.specs.declared.ids.TheConstants.{VOID}
-use Rattle.matroska_format.specs.Element.{octets_between}
-use Rattle.matroska_format.proofs.ElementLemmas.{length-octets_between}
-use Rattle.element_octets.specs.Element.{Element, IsElement, HoldsAt, header_of, octets_of, joined, element}
-use Rattle.element_octets.proofs.ReadLemmas.{length-header_of, length-octets_of}
-use Rattle.element_octets.proofs.HeldLemmas.{between-split, held-left, held-right}
-use Rattle.edit_format.specs.Span.{fitted, void_header, wider}
+use Rattle.mkv_schema.specs.Element.{octets_between}
+use Rattle.mkv_schema.proofs.ElementLemmas.{length-octets_between}
+use Rattle.output_model.specs.Element.{Element, IsElement, HoldsAt, header_of, octets_of, joined, element}
+use Rattle.output_model.proofs.ReadLemmas.{length-header_of, length-octets_of}
+use Rattle.output_model.proofs.HeldLemmas.{between-split, held-left, held-right}
+use Rattle.edit_changes.specs.Span.{fitted, void_header, wider}
 
 void-width : uint_width VOID ≡ 1
 unfolding uint_width count_leading_zeros

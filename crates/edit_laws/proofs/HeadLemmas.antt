@@ -4,28 +4,28 @@ use Rattle.std.specs.List.{starts_with}
 use Rattle.std.specs.Option.{option_map, option_map_or}
 use Rattle.std.proofs.lemmas.Bool.{cases_lt, le-ltb}
 use Rattle.std.proofs.lemmas.List.Elements.{All-head, All-tail, All-nil, All-cons, All-weaker}
-use Rattle.ebml_format.specs.declared.number.IdRead.{IdRead}
-use Rattle.ebml_format.specs.declared.number.NumFault.{NumFault}
-use Rattle.ebml_format.specs.declared.number.NumFault.TheVariants as fault
-use Rattle.ebml_format.specs.declared.number.SizeRead.{SizeRead}
-use Rattle.ebml_format.specs.Number.{announced, size_at, width}
+use Rattle.ebml_numbers.specs.declared.number.IdRead.{IdRead}
+use Rattle.ebml_numbers.specs.declared.number.NumFault.{NumFault}
+use Rattle.ebml_numbers.specs.declared.number.NumFault.TheVariants as fault
+use Rattle.ebml_numbers.specs.declared.number.SizeRead.{SizeRead}
+use Rattle.ebml_numbers.specs.Number.{announced, size_at, width}
 use Rattle.std.specs.Int.Count.{count_leading_zeros}
 use Rattle.std.proofs.lemmas.Bool.Decides.{nat_tests}
 use Rattle.std.proofs.lemmas.List.{take_all}
 use Rattle.mkv_schema.specs.declared.ids.TheConstants.{EBML, EBML_READ_VERSION, EBML_MAX_ID_LENGTH, EBML_MAX_SIZE_LENGTH, DOC_TYPE, DOC_TYPE_READ_VERSION}
 use Rattle.mkv_schema.specs.Schema.{text_default}
-use Rattle.mkv_values.specs.declared.damage.Damage.{Damage}
-use Rattle.mkv_values.specs.declared.damage.Kind.{Kind}
-use Rattle.mkv_values.specs.declared.damage.Kind.TheVariants.{BadValue, DocType, NotEbml, ReadVersion, MaxLengths, TooLong, Truncated, UnknownSize}
-use Rattle.matroska_format.specs.declared.element.Header.{Header}
-use Rattle.matroska_format.specs.declared.limits.TheConstants.{MOST_OF_HEADER}
-use Rattle.matroska_format.specs.Element.{at_level_0, in_tree, octets_between, id_in, with_size, with_id, body_damage, element_in, element_at, is_unknown, may_be_open, stated_end, end_in, damage}
-use Rattle.matroska_format.specs.Elements.{Run, never, in_front, step, children_in}
-use Rattle.matroska_format.specs.Outline.{and_then, unless, first_damage, where_it, ebml_mark, header_children, header_causes, over, bad_value, wrong_doc_type, is_doc_type, above, place_of, ebml_header}
-use Rattle.matroska_format.specs.Value.{body_of, is_known_value, uint_value, text_of, first_of}
-use Rattle.matroska_format.proofs.ElementLemmas.{element_at-placed, element_in-whole}
-use Rattle.matroska_format.proofs.OutlineLemmas.{unless-ok}
-use Rattle.matroska_format.proofs.ElementsLemmas.{Advances-known, elements-end, elements-more}
+use Rattle.mkv_io.specs.declared.damage.Damage.{Damage}
+use Rattle.mkv_io.specs.declared.damage.Kind.{Kind}
+use Rattle.mkv_io.specs.declared.damage.Kind.TheVariants.{BadValue, DocType, NotEbml, ReadVersion, MaxLengths, TooLong, Truncated, UnknownSize}
+use Rattle.mkv_schema.specs.declared.element.Header.{Header}
+use Rattle.mkv_schema.specs.declared.limits.TheConstants.{MOST_OF_HEADER}
+use Rattle.mkv_schema.specs.Element.{at_level_0, in_tree, octets_between, id_in, with_size, with_id, body_damage, element_in, element_at, is_unknown, may_be_open, stated_end, end_in, damage}
+use Rattle.mkv_schema.specs.Elements.{Run, never, in_front, step, children_in}
+use Rattle.mkv_schema.specs.Outline.{and_then, unless, first_damage, where_it, ebml_mark, header_children, header_causes, over, bad_value, wrong_doc_type, is_doc_type, above, place_of, ebml_header}
+use Rattle.mkv_schema.specs.Value.{body_of, is_known_value, uint_value, text_of, first_of}
+use Rattle.mkv_schema.proofs.ElementLemmas.{element_at-placed, element_in-whole}
+use Rattle.mkv_schema.proofs.OutlineLemmas.{unless-ok}
+use Rattle.mkv_schema.proofs.ElementsLemmas.{Advances-known, elements-end, elements-more}
 use Rattle.edit_laws.proofs.SameLemmas.{AreSame, same-part}
 use Rattle.edit_laws.proofs.HeaderLemmas.{announced-inside, outside, found-sound, found-same}
 use Rattle.edit_laws.proofs.RunLemmas.{StandsInside}

@@ -1,18 +1,18 @@
 -- An Element depends on the octets of its header, and on where its parent and the file end.
 use Rattle.std.proofs.Common.{◌≡◌, ◌≤◌, ℕ, ◌+◌, ◌-◌, Bool, false, List, length, take, drop, Option, Some, None, Result, Ok, Err, refl, sym, ◌∙◌, ap, arith}
 use Rattle.std.proofs.lemmas.List.{drop-take, take-take}
-use Rattle.ebml_format.specs.declared.number.IdRead.{IdRead}
-use Rattle.ebml_format.specs.declared.number.NumFault.{NumFault}
-use Rattle.ebml_format.specs.declared.number.NumFault.TheVariants as fault
-use Rattle.ebml_format.specs.declared.number.SizeRead.{SizeRead}
-use Rattle.ebml_format.specs.Number.{announced, id_at, size_at}
-use Rattle.ebml_format.proofs.NumberLemmas.{id_at-front, id_at-reads, size_at-front}
-use Rattle.mkv_values.specs.declared.damage.Kind.{Kind}
-use Rattle.matroska_format.specs.declared.element.Header.{Header}
-use Rattle.matroska_format.specs.Element.{Setting, octets_between, with_body, with_size, with_id, body_damage, element_in, element_at}
-use Rattle.matroska_format.specs.Elements.{id_of}
-use Rattle.matroska_format.proofs.ElementLemmas.{element_at-placed}
-use Rattle.element_octets.proofs.HeldLemmas.{between-take}
+use Rattle.ebml_numbers.specs.declared.number.IdRead.{IdRead}
+use Rattle.ebml_numbers.specs.declared.number.NumFault.{NumFault}
+use Rattle.ebml_numbers.specs.declared.number.NumFault.TheVariants as fault
+use Rattle.ebml_numbers.specs.declared.number.SizeRead.{SizeRead}
+use Rattle.ebml_numbers.specs.Number.{announced, id_at, size_at}
+use Rattle.ebml_numbers.proofs.NumberLemmas.{id_at-front, id_at-reads, size_at-front}
+use Rattle.mkv_io.specs.declared.damage.Kind.{Kind}
+use Rattle.mkv_schema.specs.declared.element.Header.{Header}
+use Rattle.mkv_schema.specs.Element.{Setting, octets_between, with_body, with_size, with_id, body_damage, element_in, element_at}
+use Rattle.mkv_schema.specs.Elements.{id_of}
+use Rattle.mkv_schema.proofs.ElementLemmas.{element_at-placed}
+use Rattle.output_model.proofs.HeldLemmas.{between-take}
 use Rattle.edit_laws.proofs.SameLemmas.{AreSame}
 
 -- a place outside of the masters that are read whole, where these IDs may be open

@@ -6,20 +6,20 @@ use Rattle.std.proofs.lemmas.List.Elements.{All-head, All-tail}
 use Rattle.mkv_schema.specs.Schema.{entry_of}
 use Rattle.mkv_schema.specs.Table.{table}
 use Rattle.mkv_schema.specs.declared.ids.TheConstants.{ATTACHMENTS, CHAPTERS, CLUSTER, TAGS, VOID}
-use Rattle.matroska_format.specs.declared.element.Header.{Header}
-use Rattle.matroska_format.specs.Elements.{Run, ends_cluster}
-use Rattle.matroska_format.specs.Outline.{and_then, segment_bound, segment_run}
-use Rattle.matroska_format.specs.Value.{first_of}
-use Rattle.element_octets.specs.Element.{Element, HoldsAt, octets_of, joined, header_in_place, headers_in_place}
-use Rattle.element_octets.proofs.HeldLemmas.{held-left, held-right}
+use Rattle.mkv_schema.specs.declared.element.Header.{Header}
+use Rattle.mkv_schema.specs.Elements.{Run, ends_cluster}
+use Rattle.mkv_schema.specs.Outline.{and_then, segment_bound, segment_run}
+use Rattle.mkv_schema.specs.Value.{first_of}
+use Rattle.output_model.specs.Element.{Element, HoldsAt, octets_of, joined, header_in_place, headers_in_place}
+use Rattle.output_model.proofs.HeldLemmas.{held-left, held-right}
 use Rattle.tree_format.specs.declared.limits.TheConstants.{MOST_NODES}
 use Rattle.tree_format.specs.Node.{Node, master, nodes_of}
 use Rattle.tree_format.specs.NormalForm.{octets}
 use Rattle.tree_format.specs.Reading.{tree_of}
 use Rattle.block_format.specs.Elements.{Rules}
 use Rattle.block_format.specs.Events.{blocks_of, events_among, events_in_run, events_of}
-use Rattle.file_records.specs.Attached.{AttachedFile, files_at, first_attached}
-use Rattle.file_records.specs.Records.{first_tree, tree_at}
+use Rattle.meta_records.specs.Attached.{AttachedFile, files_at, first_attached}
+use Rattle.meta_records.specs.Records.{first_tree, tree_at}
 use Rattle.edit_laws.proofs.BlockLemmas.{IsHeld, shared-body}
 use Rattle.edit_laws.proofs.AttachedLemmas.{files-same}
 use Rattle.edit_laws.proofs.TileLemmas.{run_of, whole}

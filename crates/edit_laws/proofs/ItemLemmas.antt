@@ -4,25 +4,25 @@ use Rattle.std.specs.Bool.{⊤}
 use Rattle.std.specs.Option.{unwrap_or}
 use Rattle.std.proofs.lemmas.Bool.Decides.{nat_tests}
 use Rattle.std.proofs.lemmas.List.Elements.{All-head, All-tail, All-nil, All-cons, All-weaker}
-use Rattle.ebml_format.specs.declared.number.Size.{Size}
-use Rattle.ebml_format.specs.declared.number.Size.TheVariants.{Known, Unknown}
+use Rattle.ebml_numbers.specs.declared.number.Size.{Size}
+use Rattle.ebml_numbers.specs.declared.number.Size.TheVariants.{Known, Unknown}
 use Rattle.mkv_schema.specs.Schema.{entry_of, is_level0}
 use Rattle.mkv_schema.specs.Table.{table}
 use Rattle.mkv_schema.specs.declared.ids.TheConstants.{CLUSTER, VOID}
-use Rattle.mkv_values.specs.declared.outside.TheConstants.{LONGEST_FILE}
-use Rattle.matroska_format.specs.declared.element.Header.{Header}
-use Rattle.matroska_format.specs.Element.{in_segment, is_unknown, stated_end, end_in, body_damage}
-use Rattle.matroska_format.specs.Elements.{ends_segment, ends_cluster, ends_at}
-use Rattle.matroska_format.specs.Value.{first_of}
-use Rattle.matroska_format.proofs.ElementLemmas.{element_at-placed}
+use Rattle.mkv_io.specs.declared.outside.TheConstants.{LONGEST_FILE}
+use Rattle.mkv_schema.specs.declared.element.Header.{Header}
+use Rattle.mkv_schema.specs.Element.{in_segment, is_unknown, stated_end, end_in, body_damage}
+use Rattle.mkv_schema.specs.Elements.{ends_segment, ends_cluster, ends_at}
+use Rattle.mkv_schema.specs.Value.{first_of}
+use Rattle.mkv_schema.proofs.ElementLemmas.{element_at-placed}
 use Rattle.element_reader.specs.Collected.{others_of}
 use Rattle.element_reader.proofs.OutlineLemmas.{first_in-others}
-use Rattle.element_octets.specs.Element.{Element, octets_of}
+use Rattle.output_model.specs.Element.{Element, octets_of}
 use Rattle.block_format.specs.Events.{is_closed}
-use Rattle.sidecar_format.specs.Writes.{Write, applied, extent, Touches}
-use Rattle.sidecar_format.proofs.RedoLemmas.{length-applied, extent_grows}
-use Rattle.edit_format.specs.Span.{behind_voids, fitted, span_of, void_header}
-use Rattle.edit_format.specs.Plan.{write}
+use Rattle.sidecar_edit.specs.Writes.{Write, applied, extent, Touches}
+use Rattle.sidecar_edit.proofs.RedoLemmas.{length-applied, extent_grows}
+use Rattle.edit_changes.specs.Span.{behind_voids, fitted, span_of, void_header}
+use Rattle.edit_changes.specs.Plan.{write}
 use Rattle.edit_plan.proofs.LevelLemmas.{Stand}
 use Rattle.edit_plan.proofs.PartLemmas.{first-own}
 use Rattle.edit_plan.proofs.VoidLemmas.{first-room, span-end, voids-least}

@@ -3,20 +3,20 @@ use Rattle.std.proofs.Common.{inl, inr, ◌≡◌, ◌⊎◌, ◌<◌, ◌≤◌
 use Rattle.std.proofs.lemmas.Bool.{cases_lt, le-ltb, cond-false}
 use Rattle.std.proofs.lemmas.Bool.Decides.{nat_tests}
 use Rattle.std.proofs.lemmas.List.Elements.{All-head, All-tail, All-nil, All-cons}
-use Rattle.ebml_format.specs.declared.number.Size.{Size}
+use Rattle.ebml_numbers.specs.declared.number.Size.{Size}
 use Rattle.mkv_schema.specs.declared.ids.TheConstants.{CLUSTER, VOID, TIMESTAMP, SIMPLE_BLOCK, BLOCK_GROUP}
 use Rattle.mkv_schema.specs.Schema.{entry_of}
 use Rattle.mkv_schema.specs.Table.{table}
-use Rattle.mkv_values.specs.declared.damage.Damage.{Damage}
-use Rattle.matroska_format.specs.declared.element.Header.{Header}
-use Rattle.matroska_format.specs.Element.{in_segment, in_master, octets_between, element_at, end_in, is_unknown, stated_end, body_damage}
-use Rattle.matroska_format.specs.Elements.{Run, in_front, ends_at, id_of, ends_segment, ends_cluster, open_cluster, end_of_run, behind_in_segment}
-use Rattle.matroska_format.specs.Placed.{StandsAt}
-use Rattle.matroska_format.proofs.ElementLemmas.{element_at-placed, element_in-whole}
-use Rattle.matroska_format.proofs.ElementsLemmas.{elements-end_of}
-use Rattle.element_octets.specs.Element.{Element, IsElement, HoldsAt, octets_of, joined, header_in_place, headers_in_place, all_in_front}
-use Rattle.element_octets.proofs.ReadLemmas.{element_at-read, elements-read, elements-read_one, Lists}
-use Rattle.element_octets.proofs.HeldLemmas.{held-left}
+use Rattle.mkv_io.specs.declared.damage.Damage.{Damage}
+use Rattle.mkv_schema.specs.declared.element.Header.{Header}
+use Rattle.mkv_schema.specs.Element.{in_segment, in_master, octets_between, element_at, end_in, is_unknown, stated_end, body_damage}
+use Rattle.mkv_schema.specs.Elements.{Run, in_front, ends_at, id_of, ends_segment, ends_cluster, open_cluster, end_of_run, behind_in_segment}
+use Rattle.mkv_schema.specs.Placed.{StandsAt}
+use Rattle.mkv_schema.proofs.ElementLemmas.{element_at-placed, element_in-whole}
+use Rattle.mkv_schema.proofs.ElementsLemmas.{elements-end_of}
+use Rattle.output_model.specs.Element.{Element, IsElement, HoldsAt, octets_of, joined, header_in_place, headers_in_place, all_in_front}
+use Rattle.output_model.proofs.ReadLemmas.{element_at-read, elements-read, elements-read_one, Lists}
+use Rattle.output_model.proofs.HeldLemmas.{held-left}
 use Rattle.block_format.specs.Elements.{Rules}
 use Rattle.block_format.specs.Events.{found_in, is_closed}
 use Rattle.edit_laws.proofs.SameLemmas.{AreSame, same-part}

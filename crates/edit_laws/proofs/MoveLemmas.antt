@@ -3,18 +3,18 @@ use Rattle.std.proofs.Common.{◌≡◌, ◌⊎◌, ◌<◌, ◌≤◌, ℕ, ◌
 use Rattle.std.specs.Bool.{⊤}
 use Rattle.std.proofs.lemmas.Bool.Decides.{nat_tests}
 use Rattle.std.proofs.lemmas.List.Elements.{All-head}
-use Rattle.ebml_format.specs.declared.number.Size.{Size}
-use Rattle.mkv_values.specs.declared.outside.TheConstants.{LONGEST_FILE}
-use Rattle.matroska_format.specs.declared.element.Header.{Header}
-use Rattle.matroska_format.specs.Element.{in_segment, in_master, element_at, is_unknown, stated_end}
-use Rattle.matroska_format.specs.Elements.{Run, id_of, ends_segment, ends_cluster, ends_at, behind_in_segment}
-use Rattle.matroska_format.proofs.ElementsLemmas.{elements-end}
+use Rattle.ebml_numbers.specs.declared.number.Size.{Size}
+use Rattle.mkv_io.specs.declared.outside.TheConstants.{LONGEST_FILE}
+use Rattle.mkv_schema.specs.declared.element.Header.{Header}
+use Rattle.mkv_schema.specs.Element.{in_segment, in_master, element_at, is_unknown, stated_end}
+use Rattle.mkv_schema.specs.Elements.{Run, id_of, ends_segment, ends_cluster, ends_at, behind_in_segment}
+use Rattle.mkv_schema.proofs.ElementsLemmas.{elements-end}
 use Rattle.element_reader.specs.Collected.{others_of}
-use Rattle.element_octets.specs.Element.{Element, IsElement, HoldsAt, octets_of, joined, header_in_place, headers_in_place, all_in_front}
-use Rattle.element_octets.proofs.ReadLemmas.{element_at-read, elements-read, octets_of-some}
-use Rattle.element_octets.proofs.HeldLemmas.{held-left}
-use Rattle.sidecar_format.specs.Writes.{Write, applied, Touches}
-use Rattle.edit_format.specs.Span.{span_of}
+use Rattle.output_model.specs.Element.{Element, IsElement, HoldsAt, octets_of, joined, header_in_place, headers_in_place, all_in_front}
+use Rattle.output_model.proofs.ReadLemmas.{element_at-read, elements-read, octets_of-some}
+use Rattle.output_model.proofs.HeldLemmas.{held-left}
+use Rattle.sidecar_edit.specs.Writes.{Write, applied, Touches}
+use Rattle.edit_changes.specs.Span.{span_of}
 use Rattle.edit_laws.proofs.SameLemmas.{InOrder, IsOneOf}
 use Rattle.edit_laws.proofs.HeaderLemmas.{found-sound}
 use Rattle.edit_laws.proofs.HeadLemmas.{sound-longer}

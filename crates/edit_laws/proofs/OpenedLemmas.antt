@@ -1,7 +1,7 @@
 -- What an outline says of the file that it was read from.
 use Rattle.std.proofs.Common.{◌≡◌, ℕ, List, [], length, Ok, refl, sym, subst}
-use Rattle.matroska_format.specs.Outline.{Outlined, ebml_header, limits_from, outline_of, outlined, segment_end, segment_of, segment_run}
-use Rattle.matroska_format.proofs.OutlineLemmas.{and_then-ok, unless-ok}
+use Rattle.mkv_schema.specs.Outline.{Outlined, ebml_header, limits_from, outline_of, outlined, segment_end, segment_of, segment_run}
+use Rattle.mkv_schema.proofs.OutlineLemmas.{and_then-ok, unless-ok}
 use Rattle.element_reader.specs.Collected.{last_of, others_of}
 use Rattle.element_reader.specs.Outline.{FileOutline, outline_in, shown}
 use Rattle.element_reader.proofs.OutlineLemmas.{Outlines-shown}

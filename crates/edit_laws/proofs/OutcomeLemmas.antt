@@ -5,52 +5,52 @@ use Rattle.std.specs.List.{list_any}
 use Rattle.std.specs.Option.{option_map, option_map_or}
 use Rattle.std.proofs.lemmas.Bool.Decides.{nat_tests}
 use Rattle.std.proofs.lemmas.List.Elements.{All-nil, All-cons, All-head, All-tail, All-append, All-weaker}
-use Rattle.ebml_format.specs.declared.number.Size.{Size}
-use Rattle.ebml_format.specs.declared.number.Size.TheVariants.{Known, Unknown}
-use Rattle.ebml_format.specs.Number.{AreOctets, all_ones, id_octets, is_id, size_octets, uint_width}
-use Rattle.ebml_format.proofs.NumberLemmas.{length-size_octets, length-uint_octets}
+use Rattle.ebml_numbers.specs.declared.number.Size.{Size}
+use Rattle.ebml_numbers.specs.declared.number.Size.TheVariants.{Known, Unknown}
+use Rattle.ebml_numbers.specs.Number.{AreOctets, all_ones, id_octets, is_id, size_octets, uint_width}
+use Rattle.ebml_numbers.proofs.NumberLemmas.{length-size_octets, length-uint_octets}
 use Rattle.mkv_schema.specs.Schema.{entry_of}
 use Rattle.mkv_schema.specs.Table.{table}
 use Rattle.mkv_schema.specs.declared.ids.TheConstants.{ATTACHMENTS, CHAPTERS, CLUSTER, INFO, SEEK_HEAD, SEGMENT, TAGS, TRACKS}
-use Rattle.mkv_values.specs.declared.damage.Damage.{Damage}
-use Rattle.mkv_values.specs.declared.outside.TheConstants.{LONGEST_FILE}
-use Rattle.mkv_jobs.specs.declared.edit.Edit.{Edit}
-use Rattle.matroska_format.specs.declared.element.Header.{Header}
-use Rattle.matroska_format.specs.Element.{at_level_0, body_damage, element_at, end_in, is_unknown, known, octets_between, stated_end}
-use Rattle.matroska_format.specs.Elements.{ends_cluster, ends_segment, level_1}
-use Rattle.matroska_format.specs.Outline.{and_then, segment_bound, segment_run}
-use Rattle.matroska_format.specs.Value.{body_of, first_of}
-use Rattle.matroska_format.proofs.OutlineLemmas.{and_then-ok}
+use Rattle.mkv_io.specs.declared.damage.Damage.{Damage}
+use Rattle.mkv_io.specs.declared.outside.TheConstants.{LONGEST_FILE}
+use Rattle.word_values.specs.declared.edit.Edit.{Edit}
+use Rattle.mkv_schema.specs.declared.element.Header.{Header}
+use Rattle.mkv_schema.specs.Element.{at_level_0, body_damage, element_at, end_in, is_unknown, known, octets_between, stated_end}
+use Rattle.mkv_schema.specs.Elements.{ends_cluster, ends_segment, level_1}
+use Rattle.mkv_schema.specs.Outline.{and_then, segment_bound, segment_run}
+use Rattle.mkv_schema.specs.Value.{body_of, first_of}
+use Rattle.mkv_schema.proofs.OutlineLemmas.{and_then-ok}
 use Rattle.tree_format.specs.Reading.{tree_of}
-use Rattle.matroska_format.proofs.ElementLemmas.{element_at-placed, length-octets_between}
+use Rattle.mkv_schema.proofs.ElementLemmas.{element_at-placed, length-octets_between}
 use Rattle.element_reader.specs.Collected.{others_of}
 use Rattle.element_reader.proofs.OutlineLemmas.{first_in-others}
-use Rattle.element_octets.specs.Element.{Element, HoldsAt, IsElement, element, header_in_place, header_of, headers_in_place, joined, octets_of}
-use Rattle.element_octets.proofs.ReadLemmas.{element_at-read, length-header_of, length-octets_of}
-use Rattle.element_octets.proofs.HeldLemmas.{between-split, held-left}
+use Rattle.output_model.specs.Element.{Element, HoldsAt, IsElement, element, header_in_place, header_of, headers_in_place, joined, octets_of}
+use Rattle.output_model.proofs.ReadLemmas.{element_at-read, length-header_of, length-octets_of}
+use Rattle.output_model.proofs.HeldLemmas.{between-split, held-left}
 use Rattle.tree_format.specs.declared.limits.TheConstants.{MOST_NODES}
 use Rattle.tree_format.specs.Node.{Node, children, master, nodes_of, deepest, depth_all}
 use Rattle.tree_format.specs.NormalForm.{octets}
 use Rattle.tree_format.specs.Standing.{AllStandIn, kept_all}
-use Rattle.file_records.specs.Records.{first_tree, tree_at}
+use Rattle.meta_records.specs.Records.{first_tree, tree_at}
 use Rattle.block_format.specs.Elements.{Rules}
 use Rattle.block_format.specs.Events.{events_among}
-use Rattle.sidecar_format.specs.Writes.{Write, applied, extent, Touches}
-use Rattle.sidecar_format.proofs.RedoLemmas.{length-applied}
-use Rattle.edit_format.specs.declared.trees.Trees.{Trees}
-use Rattle.edit_format.specs.declared.refusal.TheConstants.{MOST_WRITTEN}
-use Rattle.edit_format.specs.Change.{are_of_info, are_of_tracks, edited_from}
-use Rattle.edit_format.specs.Records.{EditableFile}
-use Rattle.edit_format.specs.Plan.{Part, appended, ascending, elements_moving, info_nodes, length_in_place, length_moving, most_nodes, moves, moving, moving_writes, new_end, number_of, part, part_of, part_writes, parts, seek_head, size_refusal, size_width, size_writes, too_large, twin_refusal, write}
+use Rattle.sidecar_edit.specs.Writes.{Write, applied, extent, Touches}
+use Rattle.sidecar_edit.proofs.RedoLemmas.{length-applied}
+use Rattle.edit_changes.specs.declared.trees.Trees.{Trees}
+use Rattle.edit_changes.specs.declared.refusal.TheConstants.{MOST_WRITTEN}
+use Rattle.edit_changes.specs.Change.{are_of_info, are_of_tracks, edited_from}
+use Rattle.edit_changes.specs.Records.{EditableFile}
+use Rattle.edit_changes.specs.Plan.{Part, appended, ascending, elements_moving, info_nodes, length_in_place, length_moving, most_nodes, moves, moving, moving_writes, new_end, number_of, part, part_of, part_writes, parts, seek_head, size_refusal, size_width, size_writes, too_large, twin_refusal, write}
 use Rattle.edit_plan.proofs.PartLemmas.{first-own}
-use Rattle.edit_format.specs.declared.refusal.Refusal.TheVariants as refusal
+use Rattle.edit_changes.specs.declared.refusal.Refusal.TheVariants as refusal
 use Rattle.edit_plan.proofs.PlanLemmas.{appended-cons, bound-most, info-valid, large-none, seek_head-valid, tracks-valid}
 use Rattle.edit_plan.proofs.LevelLemmas.{Stand}
 use Rattle.edit_plan.proofs.VoidLemmas.{first-room}
 use Rattle.edit_plan.proofs.FitLemmas.{fitted-same}
-use Rattle.edit_format.specs.SeekHead.{SeekHeadAt}
+use Rattle.edit_changes.specs.SeekHead.{SeekHeadAt}
 use Rattle.edit_plan.proofs.SizeLemmas.{HasSize, has-size}
-use Rattle.element_octets.proofs.WrittenLemmas.{Written, element-written}
+use Rattle.output_model.proofs.WrittenLemmas.{Written, element-written}
 use Rattle.std.specs.Option.{unwrap_or}
 use Rattle.edit_laws.proofs.SameLemmas.{AreSame, InOrder, IsOneOf, order-fits, order-held, same-clear, same-part}
 use Rattle.edit_laws.proofs.HeaderLemmas.{found-same, found-sound}
@@ -66,7 +66,7 @@ use Rattle.edit_laws.proofs.FillLemmas.{small-widen}
 use Rattle.edit_laws.proofs.HeldLemmas.{at-end, attached-same, first-tree, first-written, in-place, level-chapters, level-tags, now-whole, same-blocks, written-again}
 use Rattle.edit_laws.proofs.ItemLemmas.{AreDistinct, IsItem, IsItemIn, IsName, Item, IsInside, goes-on, write_of}
 use Rattle.edit_laws.proofs.OpenedLemmas.{IsOpened}
-use Rattle.edit_format.specs.Span.{fitted, span_of, void_header}
+use Rattle.edit_changes.specs.Span.{fitted, span_of, void_header}
 use Rattle.edit_laws.proofs.EndLemmas.{CanGrow, alone-first, bound-total, ends-total, extent-last, last-total, moves-found, moving-all, touches-size, twin-of, twins-none}
 use Rattle.edit_laws.proofs.MoveLemmas.{moved, moved-edit, moved-ids, moved-in, moved-listed, moved-single}
 use Rattle.edit_laws.proofs.RoomLemmas.{tiles-stand}

@@ -3,10 +3,10 @@ use Rattle.std.proofs.Common.{inl, inr, ◌≡◌, ◌⊎◌, ℕ, ◌+◌, ◌=
 use Rattle.std.proofs.lemmas.Bool.Decides.{nat_tests}
 use Rattle.std.proofs.lemmas.List.Elements.{All-head, All-tail, All-cons, All-weaker}
 use Rattle.mkv_schema.specs.declared.ids.TheConstants.{CLUSTER, VOID}
-use Rattle.matroska_format.specs.declared.element.Header.{Header}
-use Rattle.matroska_format.specs.Elements.{ends_cluster}
-use Rattle.matroska_format.specs.Value.{first_of}
-use Rattle.element_octets.specs.Element.{Element, octets_of, header_in_place, headers_in_place}
+use Rattle.mkv_schema.specs.declared.element.Header.{Header}
+use Rattle.mkv_schema.specs.Elements.{ends_cluster}
+use Rattle.mkv_schema.specs.Value.{first_of}
+use Rattle.output_model.specs.Element.{Element, octets_of, header_in_place, headers_in_place}
 use Rattle.block_format.specs.Elements.{Rules}
 use Rattle.block_format.specs.Events.{found_in, is_closed, events_then, events_among, blocks_of}
 use Rattle.edit_laws.proofs.BlockLemmas.{IsHeld}

@@ -2,15 +2,15 @@
 use Rattle.std.proofs.Common.{inl, inr, ◌≡◌, ◌<◌, ◌≤◌, ℕ, ◌==◌, ◌&&◌, not, Bool, true, false, if◌then◌else◌, List, [], ◌∷◌, Option, Some, Ok, refl, sym, ◌∙◌, ap, subst, arith}
 use Rattle.std.proofs.lemmas.Bool.{cases_lt}
 use Rattle.std.proofs.lemmas.Bool.Decides.{nat_tests}
-use Rattle.ebml_format.specs.declared.number.Size.{Size}
+use Rattle.ebml_numbers.specs.declared.number.Size.{Size}
 use Rattle.mkv_schema.specs.declared.ids.TheConstants.{CLUSTER, VOID}
-use Rattle.matroska_format.specs.declared.element.Header.{Header}
-use Rattle.matroska_format.specs.Element.{stated_end}
-use Rattle.matroska_format.specs.Value.{first_of}
+use Rattle.mkv_schema.specs.declared.element.Header.{Header}
+use Rattle.mkv_schema.specs.Element.{stated_end}
+use Rattle.mkv_schema.specs.Value.{first_of}
 use Rattle.std.specs.List.{last_or}
-use Rattle.matroska_format.specs.Elements.{behind_in_segment}
+use Rattle.mkv_schema.specs.Elements.{behind_in_segment}
 use Rattle.element_reader.specs.Collected.{others_of}
-use Rattle.edit_format.specs.Span.{behind_voids}
+use Rattle.edit_changes.specs.Span.{behind_voids}
 use Rattle.edit_plan.proofs.LevelLemmas.{Stand, Stand-later, element_at-header}
 use Rattle.edit_plan.proofs.VoidLemmas.{voids-least}
 use Rattle.edit_laws.proofs.TileLemmas.{level, advances-level, Stands, Tiles, stands-placed, tiles-end, IsAhead, ahead-later}

@@ -4,19 +4,19 @@ use Rattle.std.specs.Option.{is_some}
 use Rattle.std.proofs.lemmas.Bool.{cases_lt, le-ltb}
 use Rattle.std.proofs.lemmas.Bool.Decides.{nat_tests}
 use Rattle.std.proofs.lemmas.List.Elements.{All-nil, All-cons, All-weaker}
-use Rattle.ebml_format.specs.declared.number.IdRead.{IdRead}
-use Rattle.ebml_format.specs.declared.number.NumFault.{NumFault}
-use Rattle.ebml_format.specs.declared.number.NumFault.TheVariants as fault
-use Rattle.ebml_format.specs.declared.number.SizeRead.{SizeRead}
-use Rattle.ebml_format.specs.Number.{size_at}
-use Rattle.mkv_values.specs.declared.damage.Damage.{Damage}
-use Rattle.mkv_values.specs.declared.damage.Kind.{Kind}
-use Rattle.mkv_values.specs.declared.damage.Kind.TheVariants.{TooLong, Truncated, UnknownSize}
-use Rattle.matroska_format.specs.declared.element.Header.{Header}
-use Rattle.matroska_format.specs.Element.{in_master, octets_between, id_in, cut_header, with_body, with_size, with_id, body_damage, element_in, element_at, is_unknown, stated_end, end_in, may_be_open}
-use Rattle.matroska_format.specs.Elements.{Run, ends_at, in_front, id_of, step, elements}
-use Rattle.matroska_format.proofs.ElementLemmas.{element_at-placed, element_in-whole}
-use Rattle.matroska_format.proofs.ElementsLemmas.{Advances-known, elements-end, elements-more}
+use Rattle.ebml_numbers.specs.declared.number.IdRead.{IdRead}
+use Rattle.ebml_numbers.specs.declared.number.NumFault.{NumFault}
+use Rattle.ebml_numbers.specs.declared.number.NumFault.TheVariants as fault
+use Rattle.ebml_numbers.specs.declared.number.SizeRead.{SizeRead}
+use Rattle.ebml_numbers.specs.Number.{size_at}
+use Rattle.mkv_io.specs.declared.damage.Damage.{Damage}
+use Rattle.mkv_io.specs.declared.damage.Kind.{Kind}
+use Rattle.mkv_io.specs.declared.damage.Kind.TheVariants.{TooLong, Truncated, UnknownSize}
+use Rattle.mkv_schema.specs.declared.element.Header.{Header}
+use Rattle.mkv_schema.specs.Element.{in_master, octets_between, id_in, cut_header, with_body, with_size, with_id, body_damage, element_in, element_at, is_unknown, stated_end, end_in, may_be_open}
+use Rattle.mkv_schema.specs.Elements.{Run, ends_at, in_front, id_of, step, elements}
+use Rattle.mkv_schema.proofs.ElementLemmas.{element_at-placed, element_in-whole}
+use Rattle.mkv_schema.proofs.ElementsLemmas.{Advances-known, elements-end, elements-more}
 use Rattle.edit_laws.proofs.SameLemmas.{AreSame, same-part}
 
 -- ---- one Element

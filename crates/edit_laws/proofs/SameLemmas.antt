@@ -3,12 +3,12 @@ use Rattle.std.proofs.Common.{inl, inr, ◌≡◌, ◌⊎◌, ◌<◌, ◌≤◌
 use Rattle.std.specs.Bool.{⊤}
 use Rattle.std.proofs.lemmas.List.{ext_get_or, get_or-take, get_or-drop}
 use Rattle.mkv_io.specs.Contents.{overwritten}
-use Rattle.matroska_format.specs.Element.{octets_between}
-use Rattle.matroska_format.proofs.ElementLemmas.{length-octets_between}
-use Rattle.element_octets.specs.Element.{HoldsAt}
-use Rattle.element_octets.proofs.HeldLemmas.{between-take, between-drop}
-use Rattle.sidecar_format.specs.Writes.{Write, end_of, applied, extent, Fits, Touches}
-use Rattle.sidecar_format.proofs.RedoLemmas.{applied_elsewhere, length-applied, extent_grows, length-overwritten, overwritten_inside}
+use Rattle.mkv_schema.specs.Element.{octets_between}
+use Rattle.mkv_schema.proofs.ElementLemmas.{length-octets_between}
+use Rattle.output_model.specs.Element.{HoldsAt}
+use Rattle.output_model.proofs.HeldLemmas.{between-take, between-drop}
+use Rattle.sidecar_edit.specs.Writes.{Write, end_of, applied, extent, Fits, Touches}
+use Rattle.sidecar_edit.proofs.RedoLemmas.{applied_elsewhere, length-applied, extent_grows, length-overwritten, overwritten_inside}
 
 -- two contents have the same octets from a place up to another
 abbrev pub AreSame : List ℕ → List ℕ → ℕ → ℕ → Type 0

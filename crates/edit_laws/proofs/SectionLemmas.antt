@@ -3,15 +3,15 @@ use Rattle.std.proofs.Common.{◌≡◌, ◌<◌, ◌≤◌, ℕ, ◌+◌, ◌==
 use Rattle.std.specs.Bool.{⊤}
 use Rattle.std.proofs.lemmas.Bool.Decides.{nat_tests}
 use Rattle.std.proofs.lemmas.List.Elements.{All-nil, All-cons, All-head, All-tail}
-use Rattle.ebml_format.specs.Number.{AreOctets}
-use Rattle.ebml_format.proofs.SpelledLemmas.{AreOctets-take, AreOctets-drop}
+use Rattle.ebml_numbers.specs.Number.{AreOctets}
+use Rattle.ebml_numbers.proofs.SpelledLemmas.{AreOctets-take, AreOctets-drop}
 use Rattle.mkv_schema.specs.declared.ids.TheConstants.{CHAPTERS, INFO, TAGS, TRACKS}
-use Rattle.mkv_jobs.specs.declared.edit.Edit.{Edit}
-use Rattle.matroska_format.specs.declared.element.Header.{Header}
-use Rattle.matroska_format.specs.Element.{stated_end}
-use Rattle.matroska_format.specs.Outline.{and_then, segment_run}
-use Rattle.matroska_format.specs.Value.{body_of, first_of}
-use Rattle.matroska_format.proofs.OutlineLemmas.{and_then-ok, unless-ok}
+use Rattle.word_values.specs.declared.edit.Edit.{Edit}
+use Rattle.mkv_schema.specs.declared.element.Header.{Header}
+use Rattle.mkv_schema.specs.Element.{stated_end}
+use Rattle.mkv_schema.specs.Outline.{and_then, segment_run}
+use Rattle.mkv_schema.specs.Value.{body_of, first_of}
+use Rattle.mkv_schema.proofs.OutlineLemmas.{and_then-ok, unless-ok}
 use Rattle.tree_format.specs.declared.limits.TheConstants.{MOST_NODES}
 use Rattle.tree_format.specs.Node.{Node, Nodes, leaf, master, none, node, nodes_of, list_of, children, depth, depth_all, deepest}
 use Rattle.tree_format.specs.NormalForm.{octets}
@@ -19,14 +19,14 @@ use Rattle.tree_format.specs.Reading.{tree_of}
 use Rattle.tree_format.specs.Standing.{AllStandIn, StandsIn}
 use Rattle.tree_format.proofs.FoundLemmas.{tree_of-sound}
 use Rattle.tree_format.proofs.NodeLemmas.{nodes-list}
-use Rattle.track_format.specs.Refusal.{refusal_of}
-use Rattle.file_records.specs.Attached.{AttachedFile, first_attached}
-use Rattle.file_records.specs.Records.{first_tree, good_info, tree_at}
-use Rattle.meta_format.specs.Info.{info_refusal}
-use Rattle.edit_format.specs.declared.trees.Trees.{Trees}
-use Rattle.edit_format.specs.Property.{is_info}
-use Rattle.edit_format.specs.Change.{edited_from, edited_node, edited_once, in_entry, in_info, in_tracks, numbered, place_of}
-use Rattle.edit_format.specs.Records.{good_tracks, trees_of}
+use Rattle.file_format.specs.Refusal.{refusal_of}
+use Rattle.meta_records.specs.Attached.{AttachedFile, first_attached}
+use Rattle.meta_records.specs.Records.{first_tree, good_info, tree_at}
+use Rattle.file_format.specs.Info.{info_refusal}
+use Rattle.edit_changes.specs.declared.trees.Trees.{Trees}
+use Rattle.edit_changes.specs.Property.{is_info}
+use Rattle.edit_changes.specs.Change.{edited_from, edited_node, edited_once, in_entry, in_info, in_tracks, numbered, place_of}
+use Rattle.edit_changes.specs.Records.{good_tracks, trees_of}
 use Rattle.edit_laws.proofs.DepthLemmas.{tree_of-deep}
 use Rattle.edit_laws.proofs.TreeLemmas.{AreFit, IsFit, numbered-ok, then-ok}
 

@@ -2,15 +2,15 @@
 use Rattle.std.proofs.Common.{◌≡◌, ◌<◌, ◌≤◌, ℕ, nat_lt, min, ◌==◌, Bool, true, false, if◌then◌else◌, List, [], ◌∷◌, append-nil, length, Option, Some, None, Ok, Err, refl, sym, ◌∙◌, ap, subst, arith}
 use Rattle.std.proofs.lemmas.Bool.Decides.{nat_tests}
 use Rattle.mkv_schema.specs.declared.ids.TheConstants.{SEGMENT}
-use Rattle.mkv_values.specs.declared.damage.Damage.{Damage}
-use Rattle.mkv_values.specs.declared.damage.Kind.TheVariants.{NoSegment}
-use Rattle.matroska_format.specs.declared.element.Header.{Header}
-use Rattle.matroska_format.specs.Element.{at_level_0, octets_between, element_at, stated_end, end_in, damage}
-use Rattle.matroska_format.specs.Elements.{Run, ends_at, id_of}
-use Rattle.matroska_format.specs.Outline.{and_then, unless, before_segment, segment_behind, segment_of}
-use Rattle.matroska_format.proofs.ElementLemmas.{element_at-placed, element_in-whole}
-use Rattle.matroska_format.proofs.ElementsLemmas.{Advances-known}
-use Rattle.element_octets.specs.Element.{all_in_front}
+use Rattle.mkv_io.specs.declared.damage.Damage.{Damage}
+use Rattle.mkv_io.specs.declared.damage.Kind.TheVariants.{NoSegment}
+use Rattle.mkv_schema.specs.declared.element.Header.{Header}
+use Rattle.mkv_schema.specs.Element.{at_level_0, octets_between, element_at, stated_end, end_in, damage}
+use Rattle.mkv_schema.specs.Elements.{Run, ends_at, id_of}
+use Rattle.mkv_schema.specs.Outline.{and_then, unless, before_segment, segment_behind, segment_of}
+use Rattle.mkv_schema.proofs.ElementLemmas.{element_at-placed, element_in-whole}
+use Rattle.mkv_schema.proofs.ElementsLemmas.{Advances-known}
+use Rattle.output_model.specs.Element.{all_in_front}
 use Rattle.edit_laws.proofs.SameLemmas.{AreSame, same-part}
 use Rattle.edit_laws.proofs.HeaderLemmas.{found-sound, found-same}
 use Rattle.edit_laws.proofs.HeadLemmas.{sound-longer}

@@ -1,17 +1,17 @@
 -- Edits of which nothing moves: the new content is as long as the old one, and its Segment ends where it did.
 use Rattle.std.proofs.Common.{inl, inr, ◌≡◌, ◌⊎◌, ◌<◌, ◌≤◌, ℕ, Bool, false, List, [], ◌∷◌, length, All, refl, sym, ◌∙◌, ap, ap₂, arith}
 use Rattle.std.proofs.lemmas.List.Elements.{All-head, All-tail}
-use Rattle.ebml_format.specs.declared.number.Size.{Size}
-use Rattle.mkv_values.specs.declared.outside.TheConstants.{LONGEST_FILE}
-use Rattle.matroska_format.specs.declared.element.Header.{Header}
-use Rattle.matroska_format.specs.Element.{in_segment, body_damage, element_in, element_at}
-use Rattle.matroska_format.specs.Elements.{Run, ends_cluster, ends_at}
+use Rattle.ebml_numbers.specs.declared.number.Size.{Size}
+use Rattle.mkv_io.specs.declared.outside.TheConstants.{LONGEST_FILE}
+use Rattle.mkv_schema.specs.declared.element.Header.{Header}
+use Rattle.mkv_schema.specs.Element.{in_segment, body_damage, element_in, element_at}
+use Rattle.mkv_schema.specs.Elements.{Run, ends_cluster, ends_at}
 use Rattle.element_reader.specs.Collected.{others_of}
-use Rattle.element_octets.specs.Element.{octets_of}
+use Rattle.output_model.specs.Element.{octets_of}
 use Rattle.block_format.specs.Events.{is_closed}
-use Rattle.sidecar_format.specs.Writes.{Write, applied, Touches}
-use Rattle.sidecar_format.proofs.RedoLemmas.{length-applied}
-use Rattle.edit_format.specs.Span.{span_of}
+use Rattle.sidecar_edit.specs.Writes.{Write, applied, Touches}
+use Rattle.sidecar_edit.proofs.RedoLemmas.{length-applied}
+use Rattle.edit_changes.specs.Span.{span_of}
 use Rattle.edit_plan.proofs.LevelLemmas.{Stand}
 use Rattle.edit_plan.proofs.VoidLemmas.{first-room}
 use Rattle.edit_laws.proofs.SameLemmas.{AreSame, same-clear, InOrder, order-fits, IsOneOf}

@@ -1,14 +1,14 @@
 -- Elements that stand one behind the other.
 use Rattle.std.proofs.Common.{inl, inr, ◌≡◌, ◌⊎◌, ◌<◌, ◌≤◌, ℕ, Bool, true, false, if◌then◌else◌, List, [], ◌∷◌, Some, None, Result, Ok, Err, refl, sym, ◌∙◌, ap, subst, arith}
 use Rattle.std.proofs.lemmas.Bool.{cases_lt}
-use Rattle.ebml_format.specs.declared.number.Size.{Size}
-use Rattle.mkv_values.specs.declared.damage.Damage.{Damage}
-use Rattle.matroska_format.specs.declared.element.Header.{Header}
-use Rattle.matroska_format.specs.Element.{Setting, in_segment, in_master, element_at, end_in}
-use Rattle.matroska_format.specs.Elements.{Run, Next, in_front, behind, step, ends_at, id_of, elements, ends_segment, ends_cluster, behind_in_segment}
-use Rattle.matroska_format.proofs.ElementLemmas.{element_at-placed}
-use Rattle.matroska_format.proofs.ElementsLemmas.{Advances, Advances-known, Advances-segment, elements-more, elements-end}
-use Rattle.element_octets.specs.Element.{all_in_front}
+use Rattle.ebml_numbers.specs.declared.number.Size.{Size}
+use Rattle.mkv_io.specs.declared.damage.Damage.{Damage}
+use Rattle.mkv_schema.specs.declared.element.Header.{Header}
+use Rattle.mkv_schema.specs.Element.{Setting, in_segment, in_master, element_at, end_in}
+use Rattle.mkv_schema.specs.Elements.{Run, Next, in_front, behind, step, ends_at, id_of, elements, ends_segment, ends_cluster, behind_in_segment}
+use Rattle.mkv_schema.proofs.ElementLemmas.{element_at-placed}
+use Rattle.mkv_schema.proofs.ElementsLemmas.{Advances, Advances-known, Advances-segment, elements-more, elements-end}
+use Rattle.output_model.specs.Element.{all_in_front}
 
 -- How Elements are listed: where they stand, which IDs end them, where the next one begins, the content, and the end.
 pub record Way : Type 0 where

@@ -3,14 +3,14 @@ use Rattle.std.proofs.Common.{◌≡◌, ◌<◌, ◌≤◌, ℕ, zero, suc, ◌
 use Rattle.std.specs.List.{All, list_all}
 use Rattle.std.specs.Str.{is_utf8, IsUtf8, IsAscii}
 use Rattle.std.proofs.lemmas.Str.{IsUtf8-from_is_utf8, IsUtf8-from_ascii}
-use Rattle.ebml_format.specs.Number.{uint_octets}
+use Rattle.ebml_numbers.specs.Number.{uint_octets}
 use Rattle.std.proofs.lemmas.Bool.Decides.{nat_tests}
 use Rattle.std.proofs.lemmas.Option.{slice_get_within}
 use Rattle.std.proofs.lemmas.List.Elements.{All-set}
 use Rattle.mkv_schema.specs.declared.ids.TheConstants.{INFO, TRACKS, TRACK_ENTRY}
-use Rattle.mkv_jobs.specs.declared.edit.Edit.{Edit}
-use Rattle.mkv_jobs.specs.declared.edit.Change.{Change}
-use Rattle.mkv_jobs.specs.declared.edit.Change.TheVariants.{Set, Add, Delete}
+use Rattle.word_values.specs.declared.edit.Edit.{Edit}
+use Rattle.word_values.specs.declared.edit.Change.{Change}
+use Rattle.word_values.specs.declared.edit.Change.TheVariants.{Set, Add, Delete}
 use Rattle.word_values.specs.Numbers.{number}
 use Rattle.tree_format.specs.Node.{Node, leaf, master, nodes_of, list_of, id_of, children, with_children, depth, depth_all, deepest, IsMaster}
 use Rattle.tree_format.specs.Changes.{with_child, without}
@@ -18,16 +18,16 @@ use Rattle.tree_format.specs.Standing.{IsSound, StandsIn}
 use Rattle.tree_format.proofs.ChangeLemmas.{deep-with_child, deep-without, deep-push}
 use Rattle.tree_format.proofs.NodeLemmas.{nodes-list}
 use Rattle.tree_format.proofs.StandingLemmas.{sound-set, sound-push, sound-remove}
-use Rattle.tree_building.specs.Leaves.{IsTextIn, IsUintIn}
-use Rattle.tree_building.proofs.LeafLemmas.{text-stands, uint-stands}
-use Rattle.edit_format.specs.declared.property.Property.{Property}
-use Rattle.edit_format.specs.declared.property.ValueKind.{ValueKind}
-use Rattle.edit_format.specs.declared.property.ValueKind.TheVariants.{Words, Language, LanguageTag, Codec, Duration, Flag}
-use Rattle.edit_format.specs.declared.refusal.Why.{Why}
-use Rattle.edit_format.specs.declared.refusal.Why.TheVariants as why
-use Rattle.edit_format.specs.declared.trees.Trees.{Trees}
-use Rattle.edit_format.specs.Property.{is_between, is_info, is_in_tag, is_language, is_lower, is_not_zero, is_printable, is_short, is_words, property_of, value_of, where_text, where_number}
-use Rattle.edit_format.specs.Change.{and_then, are_of_info, are_of_tracks, added, added_to, changed, edited_from, edited_node, edited_once, has, in_entry, in_info, in_tracks, named, numbered, place_of, set}
+use Rattle.ebml_tree.specs.Leaves.{IsTextIn, IsUintIn}
+use Rattle.ebml_tree.proofs.LeafLemmas.{text-stands, uint-stands}
+use Rattle.edit_changes.specs.declared.property.Property.{Property}
+use Rattle.edit_changes.specs.declared.property.ValueKind.{ValueKind}
+use Rattle.edit_changes.specs.declared.property.ValueKind.TheVariants.{Words, Language, LanguageTag, Codec, Duration, Flag}
+use Rattle.edit_changes.specs.declared.refusal.Why.{Why}
+use Rattle.edit_changes.specs.declared.refusal.Why.TheVariants as why
+use Rattle.edit_changes.specs.declared.trees.Trees.{Trees}
+use Rattle.edit_changes.specs.Property.{is_between, is_info, is_in_tag, is_language, is_lower, is_not_zero, is_printable, is_short, is_words, property_of, value_of, where_text, where_number}
+use Rattle.edit_changes.specs.Change.{and_then, are_of_info, are_of_tracks, added, added_to, changed, edited_from, edited_node, edited_once, has, in_entry, in_info, in_tracks, named, numbered, place_of, set}
 use Rattle.edit_changes.specs.Properties.{IsOfKind, IsPropertyOf, section_of}
 use Rattle.edit_changes.specs.Trees.{IsEntryAt}
 use Rattle.edit_changes.proofs.PropertyLemmas.{property-stands}

@@ -7,17 +7,17 @@ use Rattle.std.proofs.lemmas.List.{length-append}
 use Rattle.std.proofs.lemmas.List.Elements.{All-head, All-tail, All-nil, All-cons, All-weaker}
 use Rattle.std.proofs.lemmas.List.Sums.{sum_by-cons}
 use Rattle.std.proofs.lemmas.Bool.Decides.{nat_tests}
-use Rattle.ebml_format.specs.Number.{is_id}
-use Rattle.ebml_format.proofs.NumberLemmas.{is_id-bounds}
-use Rattle.matroska_format.specs.declared.element.Header.{Header}
-use Rattle.matroska_format.specs.Value.{first_of}
+use Rattle.ebml_numbers.specs.Number.{is_id}
+use Rattle.ebml_numbers.proofs.NumberLemmas.{is_id-bounds}
+use Rattle.mkv_schema.specs.declared.element.Header.{Header}
+use Rattle.mkv_schema.specs.Value.{first_of}
 use Rattle.tree_format.specs.Node.{Node}
 use Rattle.tree_format.specs.NormalForm.{octets}
-use Rattle.element_octets.specs.Element.{Element, octets_of, element}
-use Rattle.element_octets.proofs.ReadLemmas.{length-octets_of, length-header_of}
-use Rattle.sidecar_format.specs.Writes.{Write, end_of, extent, Touches}
-use Rattle.edit_format.specs.Span.{fitted, span_of, void_header, wider}
-use Rattle.edit_format.specs.Plan.{Part, appended, ascending, in_place, inserted, length_in_place, moves, moving, part, part_of, part_writes, write}
+use Rattle.output_model.specs.Element.{Element, octets_of, element}
+use Rattle.output_model.proofs.ReadLemmas.{length-octets_of, length-header_of}
+use Rattle.sidecar_edit.specs.Writes.{Write, end_of, extent, Touches}
+use Rattle.edit_changes.specs.Span.{fitted, span_of, void_header, wider}
+use Rattle.edit_changes.specs.Plan.{Part, appended, ascending, in_place, inserted, length_in_place, moves, moving, part, part_of, part_writes, write}
 use Rattle.edit_plan.proofs.LevelLemmas.{Stand}
 use Rattle.edit_plan.proofs.VoidLemmas.{first-room}
 use Rattle.edit_plan.proofs.PartLemmas.{first-own}

@@ -2,23 +2,23 @@
 use Rattle.std.specs.Prelude.{◌≡◌, ◌≤◌, ℕ, ◌==◌, false, List, length, Option, Some, None, Result, Ok}
 use Rattle.std.specs.List.{All}
 use Rattle.std.specs.Option.{option_map}
-use Rattle.ebml_format.specs.Number.{AreOctets}
+use Rattle.ebml_numbers.specs.Number.{AreOctets}
 use Rattle.mkv_schema.specs.declared.ids.TheConstants.{INFO, TRACKS, CHAPTERS, TAGS, TIMESTAMP, SIMPLE_BLOCK, BLOCK_GROUP}
-use Rattle.mkv_values.specs.declared.damage.Damage.{Damage}
-use Rattle.mkv_values.specs.declared.outside.TheConstants.{LONGEST_FILE}
-use Rattle.mkv_jobs.specs.declared.edit.Edit.{Edit}
-use Rattle.matroska_format.specs.declared.element.Header.{Header}
-use Rattle.matroska_format.specs.Outline.{and_then, ebml_header, segment_of, segment_run}
+use Rattle.mkv_io.specs.declared.damage.Damage.{Damage}
+use Rattle.mkv_io.specs.declared.outside.TheConstants.{LONGEST_FILE}
+use Rattle.word_values.specs.declared.edit.Edit.{Edit}
+use Rattle.mkv_schema.specs.declared.element.Header.{Header}
+use Rattle.mkv_schema.specs.Outline.{and_then, ebml_header, segment_of, segment_run}
 use Rattle.tree_format.specs.Node.{Node, master, nodes_of}
 use Rattle.tree_format.specs.NormalForm.{octets}
 use Rattle.block_format.specs.Elements.{Rules}
 use Rattle.block_format.specs.Events.{blocks_of, events_of}
-use Rattle.file_records.specs.Attached.{first_attached}
-use Rattle.file_records.specs.Records.{first_tree}
-use Rattle.edit_format.specs.declared.trees.Trees.{Trees}
-use Rattle.edit_format.specs.Change.{edited_trees}
-use Rattle.edit_format.specs.Records.{EditableFile, editable}
-use Rattle.edit_format.specs.Plan.{edited}
+use Rattle.meta_records.specs.Attached.{first_attached}
+use Rattle.meta_records.specs.Records.{first_tree}
+use Rattle.edit_changes.specs.declared.trees.Trees.{Trees}
+use Rattle.edit_changes.specs.Change.{edited_trees}
+use Rattle.edit_changes.specs.Records.{EditableFile, editable}
+use Rattle.edit_changes.specs.Plan.{edited}
 
 -- the first Element of level 1 of an ID, in its normal form, or the damage inside it
 abbrev pub normal_form : ℕ → List ℕ → Header → Result (Option (List ℕ)) Damage

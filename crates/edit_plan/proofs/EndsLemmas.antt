@@ -4,24 +4,24 @@ use Rattle.std.specs.Bool.{⊤}
 use Rattle.std.specs.Int.Count.{count_leading_zeros}
 use Rattle.std.specs.List.{last_or}
 use Rattle.std.proofs.lemmas.Bool.{cases_lt}
-use Rattle.ebml_format.specs.declared.number.Size.{Size}
-use Rattle.ebml_format.specs.Number.{uint_width}
-use Rattle.ebml_format.proofs.NumberLemmas.{length-uint_octets}
+use Rattle.ebml_numbers.specs.declared.number.Size.{Size}
+use Rattle.ebml_numbers.specs.Number.{uint_width}
+use Rattle.ebml_numbers.proofs.NumberLemmas.{length-uint_octets}
 use Rattle.mkv_schema.specs.declared.ids.TheConstants.{SEGMENT}
-use Rattle.mkv_values.specs.declared.damage.Damage.{Damage}
-use Rattle.mkv_values.specs.declared.damage.Kind.TheVariants.{NoSegment}
-use Rattle.mkv_values.specs.declared.outside.TheConstants.{LONGEST_FILE}
-use Rattle.matroska_format.specs.declared.element.Header.{Header}
-use Rattle.matroska_format.specs.Element.{at_level_0, damage, in_segment, element_at, known, stated_end}
-use Rattle.matroska_format.specs.Elements.{Run, behind, behind_in_segment, ends_at, ends_segment, id_of, level_1, step}
-use Rattle.matroska_format.specs.Outline.{Outlined, before_segment, ebml_header, limits_from, outline_of, outlined, segment_behind, segment_bound, segment_of, segment_run, unless}
-use Rattle.matroska_format.proofs.ElementLemmas.{element_at-placed}
-use Rattle.matroska_format.proofs.ElementsLemmas.{Advances, Advances-segment, elements-end, elements-more}
-use Rattle.matroska_format.proofs.OutlineLemmas.{and_then-ok, unless-ok}
+use Rattle.mkv_io.specs.declared.damage.Damage.{Damage}
+use Rattle.mkv_io.specs.declared.damage.Kind.TheVariants.{NoSegment}
+use Rattle.mkv_io.specs.declared.outside.TheConstants.{LONGEST_FILE}
+use Rattle.mkv_schema.specs.declared.element.Header.{Header}
+use Rattle.mkv_schema.specs.Element.{at_level_0, damage, in_segment, element_at, known, stated_end}
+use Rattle.mkv_schema.specs.Elements.{Run, behind, behind_in_segment, ends_at, ends_segment, id_of, level_1, step}
+use Rattle.mkv_schema.specs.Outline.{Outlined, before_segment, ebml_header, limits_from, outline_of, outlined, segment_behind, segment_bound, segment_of, segment_run, unless}
+use Rattle.mkv_schema.proofs.ElementLemmas.{element_at-placed}
+use Rattle.mkv_schema.proofs.ElementsLemmas.{Advances, Advances-segment, elements-end, elements-more}
+use Rattle.mkv_schema.proofs.OutlineLemmas.{and_then-ok, unless-ok}
 use Rattle.element_reader.specs.Collected.{last_of}
 use Rattle.element_reader.specs.Outline.{FileOutline, outline_in}
 use Rattle.element_reader.proofs.OutlineLemmas.{Outlines-shown}
-use Rattle.edit_format.specs.Plan.{size_width}
+use Rattle.edit_changes.specs.Plan.{size_width}
 use Rattle.edit_plan.specs.Moving.{CanMove}
 use Rattle.edit_plan.proofs.LevelLemmas.{HasHeader, element_at-header, header-at}
 use Rattle.edit_plan.proofs.PlanLemmas.{bound-most}

@@ -4,11 +4,11 @@ use Rattle.std.specs.Option.{unwrap_or}
 use Rattle.std.specs.Int.Count.{count_leading_zeros}
 use Rattle.std.proofs.lemmas.List.{length-append}
 use Rattle.std.proofs.lemmas.Bool.Decides.{nat_tests}
-use Rattle.ebml_format.specs.Number.{uint_width}
+use Rattle.ebml_numbers.specs.Number.{uint_width}
 use Rattle.mkv_schema.specs.declared.ids.TheConstants.{VOID}
-use Rattle.element_octets.specs.Element.{Element, octets_of, header_of}
-use Rattle.element_octets.proofs.ReadLemmas.{length-header_of, length-octets_of}
-use Rattle.edit_format.specs.Span.{fitted, void_header, wider}
+use Rattle.output_model.specs.Element.{Element, octets_of, header_of}
+use Rattle.output_model.proofs.ReadLemmas.{length-header_of, length-octets_of}
+use Rattle.edit_changes.specs.Span.{fitted, void_header, wider}
 
 void-width : uint_width VOID ≡ 1
 unfolding uint_width count_leading_zeros

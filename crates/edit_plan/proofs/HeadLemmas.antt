@@ -1,13 +1,13 @@
 -- The Seeks of the new SeekHead are of valid IDs.
 use Rattle.std.proofs.Common.{◌≡◌, ℕ, zero, suc, true, List, [], ◌∷◌, ◌++◌, Option, Some, None, refl, ◌∙◌, ap, arith}
 use Rattle.std.proofs.lemmas.List.Elements.{All-append}
-use Rattle.ebml_format.specs.Number.{is_id}
+use Rattle.ebml_numbers.specs.Number.{is_id}
 use Rattle.mkv_schema.specs.declared.ids.TheConstants.{INFO, TRACKS}
-use Rattle.matroska_format.specs.declared.element.Header.{Header}
-use Rattle.matroska_format.specs.Value.{first_of}
+use Rattle.mkv_schema.specs.declared.element.Header.{Header}
+use Rattle.mkv_schema.specs.Value.{first_of}
 use Rattle.output_model.specs.declared.places.Seek.{Seek}
-use Rattle.segment_octets.specs.Places.{AreIds}
-use Rattle.edit_format.specs.Plan.{position_in, seek_to}
+use Rattle.cues_seekhead.specs.Places.{AreIds}
+use Rattle.edit_changes.specs.Plan.{position_in, seek_to}
 use Rattle.edit_plan.proofs.PartLemmas.{first-own}
 
 info-valid : is_id INFO ≡ true

@@ -2,22 +2,22 @@
 use Rattle.std.proofs.Common.{inl, inr, ◌≡◌, ℕ, zero, suc, ◌+◌, ◌-◌, ◌<◌, ◌≤◌, ◌==◌, ◌^◌, ◌&&◌, slice_index, not, Bool, true, false, if◌then◌else◌, List, [], ◌∷◌, length, Option, Some, None, Result, Ok, Err, refl, sym, ap, ◌∙◌, subst, arith}
 use Rattle.std.specs.Bool.{⊤}
 use Rattle.std.proofs.lemmas.Bool.{cases_lt}
-use Rattle.ebml_format.specs.declared.number.IdRead.{IdRead}
-use Rattle.ebml_format.specs.declared.number.NumFault.{NumFault}
-use Rattle.ebml_format.specs.declared.number.NumFault.TheVariants as fault
-use Rattle.ebml_format.specs.declared.number.Size.{Size}
-use Rattle.ebml_format.specs.declared.number.Size.TheVariants.{Known, Unknown}
-use Rattle.ebml_format.specs.declared.number.SizeRead.{SizeRead}
-use Rattle.ebml_format.specs.Number.{IsKnownBelow, id_at, size_at}
-use Rattle.ebml_format.proofs.NumberLemmas.{size_at-within, id_at-reads, announced-pos}
+use Rattle.ebml_numbers.specs.declared.number.IdRead.{IdRead}
+use Rattle.ebml_numbers.specs.declared.number.NumFault.{NumFault}
+use Rattle.ebml_numbers.specs.declared.number.NumFault.TheVariants as fault
+use Rattle.ebml_numbers.specs.declared.number.Size.{Size}
+use Rattle.ebml_numbers.specs.declared.number.Size.TheVariants.{Known, Unknown}
+use Rattle.ebml_numbers.specs.declared.number.SizeRead.{SizeRead}
+use Rattle.ebml_numbers.specs.Number.{IsKnownBelow, id_at, size_at}
+use Rattle.ebml_numbers.proofs.NumberLemmas.{size_at-within, id_at-reads, announced-pos}
 use Rattle.mkv_schema.specs.declared.ids.TheConstants.{CHAPTER_DISPLAY, CLUSTER}
-use Rattle.mkv_values.specs.declared.damage.Damage.{Damage}
-use Rattle.mkv_values.specs.declared.damage.Kind.{Kind}
-use Rattle.matroska_format.specs.declared.element.Header.{Header}
-use Rattle.matroska_format.specs.Element.{Setting, display_read, in_segment, known, octets_between, element_at, element_in, with_id, with_size, with_body, body_damage, end_in, is_unknown, stated_end}
-use Rattle.matroska_format.specs.Elements.{id_of, step, behind, ends_at, ends_segment, behind_in_segment, level_1, open_cluster, end_of_run}
-use Rattle.matroska_format.proofs.ElementLemmas.{element_at-placed, element_in-whole}
-use Rattle.matroska_format.proofs.ElementsLemmas.{Advances, Advances-segment, elements-end, elements-more}
+use Rattle.mkv_io.specs.declared.damage.Damage.{Damage}
+use Rattle.mkv_io.specs.declared.damage.Kind.{Kind}
+use Rattle.mkv_schema.specs.declared.element.Header.{Header}
+use Rattle.mkv_schema.specs.Element.{Setting, display_read, in_segment, known, octets_between, element_at, element_in, with_id, with_size, with_body, body_damage, end_in, is_unknown, stated_end}
+use Rattle.mkv_schema.specs.Elements.{id_of, step, behind, ends_at, ends_segment, behind_in_segment, level_1, open_cluster, end_of_run}
+use Rattle.mkv_schema.proofs.ElementLemmas.{element_at-placed, element_in-whole}
+use Rattle.mkv_schema.proofs.ElementsLemmas.{Advances, Advances-segment, elements-end, elements-more}
 use Rattle.element_reader.specs.Collected.{others_of}
 
 -- ---- a header has two octets at least

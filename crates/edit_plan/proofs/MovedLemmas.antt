@@ -1,16 +1,16 @@
 -- What is written where something moves.
 use Rattle.std.proofs.Common.{◌≡◌, ℕ, ◌+◌, ◌≤◌, if◌then◌else◌, List, [], ◌∷◌, ◌++◌, length, Option, Some, None, Ok, Err, sym, ◌∙◌, ap, arith}
 use Rattle.std.specs.Option.{unwrap_or}
-use Rattle.ebml_format.proofs.NumberLemmas.{is_id-bounds}
+use Rattle.ebml_numbers.proofs.NumberLemmas.{is_id-bounds}
 use Rattle.mkv_schema.specs.declared.ids.TheConstants.{SEEK_HEAD}
-use Rattle.matroska_format.specs.Element.{is_unknown}
-use Rattle.element_octets.specs.Element.{Element, element, octets_of}
+use Rattle.mkv_schema.specs.Element.{is_unknown}
+use Rattle.output_model.specs.Element.{Element, element, octets_of}
 use Rattle.element_reader.specs.Outline.{FileOutline}
-use Rattle.sidecar_format.specs.Writes as disk
-use Rattle.edit_format.specs.declared.refusal.Refusal.{Refusal}
-use Rattle.edit_format.specs.SeekHead.{SeekHeadAt}
-use Rattle.edit_format.specs.Span.{fitted}
-use Rattle.edit_format.specs.Plan.{Part, appended, ascending, first_refusal, length_moving, moving_refusals, moving_writes, part_writes, place_of, room_of, seek_head, size_width, size_writes, unless, write, writes_moving}
+use Rattle.sidecar_edit.specs.Writes as disk
+use Rattle.edit_changes.specs.declared.refusal.Refusal.{Refusal}
+use Rattle.edit_changes.specs.SeekHead.{SeekHeadAt}
+use Rattle.edit_changes.specs.Span.{fitted}
+use Rattle.edit_changes.specs.Plan.{Part, appended, ascending, first_refusal, length_moving, moving_refusals, moving_writes, part_writes, place_of, room_of, seek_head, size_width, size_writes, unless, write, writes_moving}
 use Rattle.edit_plan.specs.Moving.{refused}
 use Rattle.edit_plan.proofs.FitLemmas.{fitted-same}
 use Rattle.edit_plan.proofs.OrderLemmas.{bytes_in}

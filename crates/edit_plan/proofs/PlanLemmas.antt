@@ -5,38 +5,38 @@ use Rattle.std.specs.Option.{option_and_then, unwrap_or}
 use Rattle.std.proofs.lemmas.List.{length-append, length-map, length-take, map-append}
 use Rattle.std.proofs.lemmas.List.Sums.{sum_by-append}
 use Rattle.std.proofs.lemmas.Bool.Decides.{nat_tests}
-use Rattle.ebml_format.specs.Number.{id_octets, is_id, size_octets}
-use Rattle.ebml_format.proofs.NumberLemmas.{length-size_octets, is_id-bounds}
-use Rattle.ebml_format.proofs.WidthLemmas.{least_size_width-IsLeast}
+use Rattle.ebml_numbers.specs.Number.{id_octets, is_id, size_octets}
+use Rattle.ebml_numbers.proofs.NumberLemmas.{length-size_octets, is_id-bounds}
+use Rattle.ebml_numbers.proofs.WidthLemmas.{least_size_width-IsLeast}
 use Rattle.mkv_schema.specs.declared.ids.TheConstants.{INFO, TRACKS, SEEK_HEAD, SEGMENT}
-use Rattle.mkv_values.specs.declared.damage.Damage.{Damage}
-use Rattle.mkv_values.specs.declared.outside.TheConstants.{LONGEST_FILE}
-use Rattle.mkv_jobs.specs.declared.edit.Edit.{Edit}
-use Rattle.matroska_format.specs.declared.element.Header.{Header}
-use Rattle.matroska_format.specs.Element.{end_in, is_unknown, known, stated_end}
-use Rattle.matroska_format.specs.Outline.{segment_bound, unless as unless_damaged}
-use Rattle.matroska_format.proofs.OutlineLemmas.{and_then-ok, unless-ok}
-use Rattle.matroska_format.specs.Value.{body_of, first_of}
+use Rattle.mkv_io.specs.declared.damage.Damage.{Damage}
+use Rattle.mkv_io.specs.declared.outside.TheConstants.{LONGEST_FILE}
+use Rattle.word_values.specs.declared.edit.Edit.{Edit}
+use Rattle.mkv_schema.specs.declared.element.Header.{Header}
+use Rattle.mkv_schema.specs.Element.{end_in, is_unknown, known, stated_end}
+use Rattle.mkv_schema.specs.Outline.{segment_bound, unless as unless_damaged}
+use Rattle.mkv_schema.proofs.OutlineLemmas.{and_then-ok, unless-ok}
+use Rattle.mkv_schema.specs.Value.{body_of, first_of}
 use Rattle.element_reader.specs.Collected.{others_of}
 use Rattle.element_reader.specs.Outline.{FileOutline, outline_in}
 use Rattle.element_reader.proofs.OutlineLemmas.{Outlines-shown}
 use Rattle.tree_format.specs.Node.{Node, children}
 use Rattle.tree_format.specs.Reading.{tree_of}
-use Rattle.element_octets.specs.Element.{Element, octets_of}
-use Rattle.sidecar_format.specs.declared.place.TheConstants.{KEPT, MOST_OCTETS, MOST_WRITES}
-use Rattle.sidecar_format.specs.Fields.{AreInOrder, IsPlan}
-use Rattle.sidecar_format.specs.Writes.{Write}
-use Rattle.edit_format.specs.declared.refusal.Refusal.{Refusal}
-use Rattle.edit_format.specs.declared.refusal.Refusal.TheVariants as refusal
-use Rattle.edit_format.specs.declared.refusal.Room.{Room}
-use Rattle.edit_format.specs.declared.refusal.Room.TheVariants as room
-use Rattle.edit_format.specs.declared.refusal.TheConstants.{MOST_WRITTEN}
-use Rattle.edit_format.specs.declared.trees.Trees.{Trees}
-use Rattle.edit_format.specs.Change.{are_of_info, are_of_tracks, edited_trees, and_then as edits_then}
-use Rattle.edit_format.specs.Records.{EditableFile, editable, trees_of}
-use Rattle.edit_format.specs.SeekHead.{SeekHeadAt, before_clusters, if_read, if_sound, seek_head_of}
-use Rattle.edit_format.specs.Span.{fitted, span_of}
-use Rattle.edit_format.specs.Plan.{if_editable, plan_of, Part, part_of, part_writes, parts, in_place, info_nodes, place, write, recorded, ascending, moves, moving, appended, elements_moving, length_in_place, length_moving, most_nodes, too_large, unless, first_refusal, lacks, size_refusal, size_need, size_width, size_writes, new_end, tail_refusal, twin_refusal, moving_refusals, moving_writes, writes_moving, writes_in_place, writes_of_parts, seek_head}
+use Rattle.output_model.specs.Element.{Element, octets_of}
+use Rattle.sidecar_edit.specs.declared.place.TheConstants.{KEPT, MOST_OCTETS, MOST_WRITES}
+use Rattle.sidecar_edit.specs.Fields.{AreInOrder, IsPlan}
+use Rattle.sidecar_edit.specs.Writes.{Write}
+use Rattle.edit_changes.specs.declared.refusal.Refusal.{Refusal}
+use Rattle.edit_changes.specs.declared.refusal.Refusal.TheVariants as refusal
+use Rattle.edit_changes.specs.declared.refusal.Room.{Room}
+use Rattle.edit_changes.specs.declared.refusal.Room.TheVariants as room
+use Rattle.edit_changes.specs.declared.refusal.TheConstants.{MOST_WRITTEN}
+use Rattle.edit_changes.specs.declared.trees.Trees.{Trees}
+use Rattle.edit_changes.specs.Change.{are_of_info, are_of_tracks, edited_trees, and_then as edits_then}
+use Rattle.edit_changes.specs.Records.{EditableFile, editable, trees_of}
+use Rattle.edit_changes.specs.SeekHead.{SeekHeadAt, before_clusters, if_read, if_sound, seek_head_of}
+use Rattle.edit_changes.specs.Span.{fitted, span_of}
+use Rattle.edit_changes.specs.Plan.{if_editable, plan_of, Part, part_of, part_writes, parts, in_place, info_nodes, place, write, recorded, ascending, moves, moving, appended, elements_moving, length_in_place, length_moving, most_nodes, too_large, unless, first_refusal, lacks, size_refusal, size_need, size_width, size_writes, new_end, tail_refusal, twin_refusal, moving_refusals, moving_writes, writes_moving, writes_in_place, writes_of_parts, seek_head}
 use Rattle.edit_plan.proofs.LevelLemmas.{Stand, Stand-later, level-stands}
 use Rattle.edit_plan.proofs.VoidLemmas.{first-room}
 use Rattle.edit_plan.proofs.OrderLemmas.{AreApart, Between, between-append, between-last, between-order, order-extent, ascending-between, ascending-bytes, ascending-length, bytes_in, bytes_in-cons, places-bytes}

@@ -2,15 +2,15 @@
 use Rattle.std.proofs.Common.{◌≡◌, ℕ, ◌+◌, max, List, [], ◌∷◌, length, map, take, flat_map, Result, Ok, Err, refl, sym, ◌∙◌, ap, ap₂, subst, arith}
 use Rattle.std.proofs.Math.Seq.{drop-append_seam, take-append_seam}
 use Rattle.std.proofs.lemmas.List.{length-append}
-use Rattle.mkv_jobs.specs.declared.edit.Edit.{Edit}
-use Rattle.sidecar_format.specs.declared.place.TheConstants.{KEPT}
-use Rattle.sidecar_format.specs.Fields.{AreInOrder, Planned, cut_up, last_end, sum_of, writes_of}
-use Rattle.sidecar_format.specs.Plan.{planned}
-use Rattle.sidecar_format.specs.Writes.{Write, extent}
-use Rattle.sidecar_format.specs.declared.place.Place.{Place}
-use Rattle.edit_format.specs.declared.refusal.Refusal.{Refusal}
-use Rattle.edit_format.specs.Change.{and_then}
-use Rattle.edit_format.specs.Plan.{place, plan_of, recorded}
+use Rattle.word_values.specs.declared.edit.Edit.{Edit}
+use Rattle.sidecar_edit.specs.declared.place.TheConstants.{KEPT}
+use Rattle.sidecar_edit.specs.Fields.{AreInOrder, Planned, cut_up, last_end, sum_of, writes_of}
+use Rattle.sidecar_edit.specs.Plan.{planned}
+use Rattle.sidecar_edit.specs.Writes.{Write, extent}
+use Rattle.sidecar_edit.specs.declared.place.Place.{Place}
+use Rattle.edit_changes.specs.declared.refusal.Refusal.{Refusal}
+use Rattle.edit_changes.specs.Change.{and_then}
+use Rattle.edit_changes.specs.Plan.{place, plan_of, recorded}
 use Rattle.edit_plan.specs.Answer.{Answers, Gives}
 use Rattle.edit_plan.specs.Record.{record_of, record_over}
 use Rattle.edit_plan.specs.declared.plan_end.PlanEnd.{PlanEnd}

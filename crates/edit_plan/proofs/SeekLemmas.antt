@@ -4,19 +4,19 @@ use Rattle.std.specs.Option.{option_and_then, option_map_or}
 use Rattle.mkv_schema.specs.Schema.{entry_of, is_master}
 use Rattle.mkv_schema.specs.Table.{table}
 use Rattle.mkv_schema.specs.declared.ids.TheConstants.{SEEK_HEAD}
-use Rattle.mkv_values.specs.declared.damage.Damage.{Damage}
-use Rattle.mkv_values.specs.declared.damage.Kind.TheVariants.{HeaderTooLarge}
-use Rattle.matroska_format.specs.declared.element.Header.{Header}
-use Rattle.matroska_format.specs.declared.limits.TheConstants.{MOST_OF_ONE}
-use Rattle.matroska_format.specs.Element.{known}
-use Rattle.matroska_format.specs.Outline.{over}
-use Rattle.matroska_format.specs.Value.{body_of, first_of}
+use Rattle.mkv_io.specs.declared.damage.Damage.{Damage}
+use Rattle.mkv_io.specs.declared.damage.Kind.TheVariants.{HeaderTooLarge}
+use Rattle.mkv_schema.specs.declared.element.Header.{Header}
+use Rattle.mkv_schema.specs.declared.limits.TheConstants.{MOST_OF_ONE}
+use Rattle.mkv_schema.specs.Element.{known}
+use Rattle.mkv_schema.specs.Outline.{over}
+use Rattle.mkv_schema.specs.Value.{body_of, first_of}
 use Rattle.element_reader.specs.Load.{limit_of, too_large}
 use Rattle.element_reader.specs.Outline.{FileOutline}
 use Rattle.tree_format.specs.declared.limits.TheConstants.{MOST_NODES}
 use Rattle.tree_format.specs.Node.{Node}
 use Rattle.tree_format.specs.Reading.{tree_of}
-use Rattle.edit_format.specs.SeekHead.{before_clusters, if_read, if_sound, seek_head_of}
+use Rattle.edit_changes.specs.SeekHead.{before_clusters, if_read, if_sound, seek_head_of}
 use Rattle.edit_plan.proofs.PartLemmas.{first-own}
 
 pub seek_head-master : is_master SEEK_HEAD ≡ true

@@ -3,17 +3,17 @@ use Rattle.std.proofs.Common.{inl, inr, ◌≡◌, ℕ, ◌+◌, ◌≤◌, ◌=
 use Rattle.std.specs.Bool.{⊤}
 use Rattle.std.specs.Option.{option_map_or}
 use Rattle.std.proofs.lemmas.List.Sums.{sum_by-cons}
-use Rattle.ebml_format.specs.Number.{uint_width}
+use Rattle.ebml_numbers.specs.Number.{uint_width}
 use Rattle.mkv_schema.specs.declared.ids.TheConstants.{INFO, TRACKS, SEEK_HEAD, VOID}
-use Rattle.matroska_format.specs.declared.element.Header.{Header}
-use Rattle.matroska_format.specs.Value.{first_of}
+use Rattle.mkv_schema.specs.declared.element.Header.{Header}
+use Rattle.mkv_schema.specs.Value.{first_of}
 use Rattle.tree_format.specs.Node.{Node}
 use Rattle.tree_format.specs.NormalForm.{octets}
-use Rattle.element_octets.specs.Element.{element, octets_of}
-use Rattle.element_octets.proofs.ReadLemmas.{length-header_of, length-octets_of}
-use Rattle.sidecar_format.specs.Writes.{Write, end_of}
-use Rattle.edit_format.specs.Span.{span_of}
-use Rattle.edit_format.specs.Plan.{Part, part, part_of, part_writes, in_place, write, length_in_place}
+use Rattle.output_model.specs.Element.{element, octets_of}
+use Rattle.output_model.proofs.ReadLemmas.{length-header_of, length-octets_of}
+use Rattle.sidecar_edit.specs.Writes.{Write, end_of}
+use Rattle.edit_changes.specs.Span.{span_of}
+use Rattle.edit_changes.specs.Plan.{Part, part, part_of, part_writes, in_place, write, length_in_place}
 use Rattle.edit_plan.proofs.LevelLemmas.{Stand}
 use Rattle.edit_plan.proofs.VoidLemmas.{first-found, first-room, rooms-apart}
 use Rattle.edit_plan.proofs.OrderLemmas.{IsApart, IsApartFrom, AreApart, apart-append, bytes_in, bytes_in-cons}

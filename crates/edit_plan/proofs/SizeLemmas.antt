@@ -1,12 +1,12 @@
 -- The Segment's new size has room in the old one's place.
 use Rattle.std.proofs.Common.{◌≡◌, ℕ, ◌+◌, ◌-◌, ◌*◌, ◌^◌, ◌<◌, ◌≤◌, min, false, length, None, ap, arith, pow_mono}
-use Rattle.ebml_format.specs.declared.number.Size.TheVariants.{Known}
-use Rattle.ebml_format.specs.Number.{all_ones, id_octets, least_size_width}
-use Rattle.ebml_format.proofs.WidthLemmas.{least_size_width-IsLeast}
+use Rattle.ebml_numbers.specs.declared.number.Size.TheVariants.{Known}
+use Rattle.ebml_numbers.specs.Number.{all_ones, id_octets, least_size_width}
+use Rattle.ebml_numbers.proofs.WidthLemmas.{least_size_width-IsLeast}
 use Rattle.mkv_schema.specs.declared.ids.TheConstants.{SEGMENT}
-use Rattle.matroska_format.specs.declared.element.Header.{Header}
-use Rattle.matroska_format.specs.Element.{is_unknown}
-use Rattle.edit_format.specs.Plan.{size_refusal, size_width}
+use Rattle.mkv_schema.specs.declared.element.Header.{Header}
+use Rattle.mkv_schema.specs.Element.{is_unknown}
+use Rattle.edit_changes.specs.Plan.{size_refusal, size_width}
 use Rattle.edit_plan.proofs.PlanLemmas.{size-none}
 
 -- what is known of a size that is written anew

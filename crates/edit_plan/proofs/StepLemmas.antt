@@ -1,16 +1,16 @@
 -- What edits write, one step after the other.
 use Rattle.std.proofs.Common.{◌≡◌, ℕ, List, Option, Some, None, Result, Ok, Err, refl, sym, ap, ◌∙◌}
-use Rattle.mkv_values.specs.declared.damage.Damage.{Damage}
-use Rattle.mkv_jobs.specs.declared.edit.Edit.{Edit}
-use Rattle.matroska_format.specs.Outline.{and_then, unless}
+use Rattle.mkv_io.specs.declared.damage.Damage.{Damage}
+use Rattle.word_values.specs.declared.edit.Edit.{Edit}
+use Rattle.mkv_schema.specs.Outline.{and_then, unless}
 use Rattle.element_reader.specs.Outline.{FileOutline, outline_in}
-use Rattle.sidecar_format.specs.Writes.{Write}
-use Rattle.edit_format.specs.declared.refusal.Refusal.{Refusal}
-use Rattle.edit_format.specs.declared.refusal.Refusal.TheVariants.{Damaged}
-use Rattle.edit_format.specs.declared.trees.Trees.{Trees}
-use Rattle.edit_format.specs.Change.{edited_trees, and_then as edits_then}
-use Rattle.edit_format.specs.Records.{EditableFile, trees_of}
-use Rattle.edit_format.specs.Plan.{if_editable, parts, plan_of, writes_of_parts}
+use Rattle.sidecar_edit.specs.Writes.{Write}
+use Rattle.edit_changes.specs.declared.refusal.Refusal.{Refusal}
+use Rattle.edit_changes.specs.declared.refusal.Refusal.TheVariants.{Damaged}
+use Rattle.edit_changes.specs.declared.trees.Trees.{Trees}
+use Rattle.edit_changes.specs.Change.{edited_trees, and_then as edits_then}
+use Rattle.edit_changes.specs.Records.{EditableFile, trees_of}
+use Rattle.edit_changes.specs.Plan.{if_editable, parts, plan_of, writes_of_parts}
 use Rattle.edit_plan.specs.Answer.{Answers, Gives}
 use Rattle.edit_plan.specs.Opening.{opening}
 use Rattle.edit_plan.specs.declared.plan_end.PlanEnd.{PlanEnd}

@@ -4,14 +4,14 @@ use Rattle.std.specs.List.{All}
 use Rattle.mkv_schema.specs.declared.ids.TheConstants.{CHAPTERS, INFO, TAGS, TRACKS}
 use Rattle.tree_format.specs.Node.{Node, Nodes, leaf, master, none, node, list_of, children}
 use Rattle.tree_format.specs.Standing.{StandsIn, AllStandIn}
-use Rattle.tree_building.specs.Building.{IsRead}
-use Rattle.file_records.specs.Records.{IsHeld, good_info}
-use Rattle.file_records.proofs.RecordsLemmas.{held}
-use Rattle.meta_format.specs.Info.{info_refusal}
-use Rattle.mkv_values.specs.declared.damage.Damage.{Damage}
-use Rattle.matroska_format.specs.Outline.{unless}
-use Rattle.track_format.specs.Entry.{entries_of}
-use Rattle.track_format.specs.Refusal.{refusal_of}
+use Rattle.ebml_tree.specs.Building.{IsRead}
+use Rattle.meta_records.specs.Records.{IsHeld, good_info}
+use Rattle.meta_records.proofs.RecordsLemmas.{held}
+use Rattle.file_format.specs.Info.{info_refusal}
+use Rattle.mkv_io.specs.declared.damage.Damage.{Damage}
+use Rattle.mkv_schema.specs.Outline.{unless}
+use Rattle.file_format.specs.Entry.{entries_of}
+use Rattle.file_format.specs.Refusal.{refusal_of}
 use Rattle.track_records.specs.Track.{track_of, tracks_of}
 
 pub held-info : IsHeld INFO

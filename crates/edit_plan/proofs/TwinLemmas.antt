@@ -2,9 +2,9 @@
 use Rattle.std.proofs.Common.{◌≡◌, ℕ, ◌+◌, ◌<◌, Bool, true, false, if◌then◌else◌, List, ◌∷◌, length, get_or, drop, map, Some, None, refl, sym, ap, ◌∙◌, add-one}
 use Rattle.std.specs.Option.{option_or}
 use Rattle.std.proofs.Math.Seq.{drop-cons}
-use Rattle.matroska_format.specs.declared.element.Header.{Header}
-use Rattle.edit_format.specs.declared.refusal.Refusal.{Refusal}
-use Rattle.edit_format.specs.Plan.{moves, moving, twin_of, twin_refusal}
+use Rattle.mkv_schema.specs.declared.element.Header.{Header}
+use Rattle.edit_changes.specs.declared.refusal.Refusal.{Refusal}
+use Rattle.edit_changes.specs.Plan.{moves, moving, twin_of, twin_refusal}
 use Rattle.edit_plan.specs.Shown.{shown}
 use Rattle.edit_plan.specs.declared.part.Part.{Part}
 

@@ -2,10 +2,10 @@
 use Rattle.std.proofs.Common.{◌≡◌, ◌⊎◌, inl, inr, ℕ, ◌+◌, ◌<◌, ◌≤◌, ◌==◌, Bool, true, false, if◌then◌else◌, ◌&&◌, List, [], ◌∷◌, Some, refl, ◌∙◌, ap, subst, arith}
 use Rattle.std.proofs.lemmas.Bool.Decides.{nat_tests}
 use Rattle.mkv_schema.specs.declared.ids.TheConstants.{VOID}
-use Rattle.matroska_format.specs.declared.element.Header.{Header}
-use Rattle.matroska_format.specs.Element.{stated_end}
-use Rattle.matroska_format.specs.Value.{first_of}
-use Rattle.edit_format.specs.Span.{behind_voids, span_of}
+use Rattle.mkv_schema.specs.declared.element.Header.{Header}
+use Rattle.mkv_schema.specs.Element.{stated_end}
+use Rattle.mkv_schema.specs.Value.{first_of}
+use Rattle.edit_changes.specs.Span.{behind_voids, span_of}
 use Rattle.edit_plan.proofs.LevelLemmas.{Stand}
 
 -- no Void stands in front of all of them

@@ -2,8 +2,8 @@
 use Rattle.std.specs.Prelude.{◌≡◌, ⊤, Bool, true, false, List, map, Result, Ok, Err}
 use Rattle.std.specs.declared.alloc.Global.{Global}
 use Rattle.std.specs.declared.vec.Vec.{Vec}
-use Rattle.sidecar_format.specs.Writes as disk
-use Rattle.edit_format.specs.declared.refusal.Refusal.{Refusal}
+use Rattle.sidecar_edit.specs.Writes as disk
+use Rattle.edit_changes.specs.declared.refusal.Refusal.{Refusal}
 use Rattle.edit_plan.specs.declared.plan_end.PlanEnd.{PlanEnd}
 use Rattle.edit_plan.specs.declared.plan_end.PlanEnd.TheVariants as end
 use Rattle.edit_plan.specs.declared.write.Write.{Write}

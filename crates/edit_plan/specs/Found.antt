@@ -1,5 +1,5 @@
 -- A SeekHead as the definitions of edits have it.
-use Rattle.edit_format.specs.SeekHead as spec
+use Rattle.edit_changes.specs.SeekHead as spec
 use Rattle.edit_plan.specs.declared.found.SeekHead.{SeekHead}
 
 abbrev pub found : SeekHead → spec.SeekHeadAt

@@ -1,10 +1,10 @@
 -- What refuses what moves, and what is written of it.
 use Rattle.std.specs.Prelude.{◌≤◌, ℕ, ◌+◌, List, [], ◌∷◌, Option}
 use Rattle.element_reader.specs.Outline.{FileOutline}
-use Rattle.edit_format.specs.declared.refusal.Refusal.{Refusal}
-use Rattle.edit_format.specs.declared.refusal.Room.TheVariants.{SeekHead}
-use Rattle.edit_format.specs.Plan.{Part, first_refusal, lacks, moving, size_refusal, size_width, tail_refusal, too_large, twin_refusal}
-use Rattle.edit_room.specs.Ends.{EndsFit}
+use Rattle.edit_changes.specs.declared.refusal.Refusal.{Refusal}
+use Rattle.edit_changes.specs.declared.refusal.Room.TheVariants.{SeekHead}
+use Rattle.edit_changes.specs.Plan.{Part, first_refusal, lacks, moving, size_refusal, size_width, tail_refusal, too_large, twin_refusal}
+use Rattle.edit_changes.specs.Ends.{EndsFit}
 
 -- the first that refuses it, where so many octets are written, so many are added to the file, and the SeekHead needs and has so many
 abbrev pub refused : FileOutline → List Part → ℕ → ℕ → ℕ → ℕ → Option Refusal

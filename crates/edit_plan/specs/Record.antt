@@ -1,12 +1,12 @@
 -- The record of what edits write.
 use Rattle.std.specs.Prelude.{ℕ, List, map, flat_map, Result, Ok}
-use Rattle.mkv_jobs.specs.declared.edit.Edit.{Edit}
-use Rattle.sidecar_format.specs.Fields.{Planned}
-use Rattle.sidecar_format.specs.Plan.{planned}
-use Rattle.sidecar_format.specs.Writes.{Write, extent}
-use Rattle.edit_format.specs.declared.refusal.Refusal.{Refusal}
-use Rattle.edit_format.specs.Change.{and_then}
-use Rattle.edit_format.specs.Plan.{place, plan_of, recorded}
+use Rattle.word_values.specs.declared.edit.Edit.{Edit}
+use Rattle.sidecar_edit.specs.Fields.{Planned}
+use Rattle.sidecar_edit.specs.Plan.{planned}
+use Rattle.sidecar_edit.specs.Writes.{Write, extent}
+use Rattle.edit_changes.specs.declared.refusal.Refusal.{Refusal}
+use Rattle.edit_changes.specs.Change.{and_then}
+use Rattle.edit_changes.specs.Plan.{place, plan_of, recorded}
 
 -- of some writes over a file of so many octets that begins with these
 abbrev pub record_over : ℕ → List ℕ → List Write → Planned

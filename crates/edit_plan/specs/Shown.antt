@@ -1,7 +1,7 @@
 -- Parts and writes as the definitions of edits have them.
-use Rattle.element_octets.specs.Element.{element}
-use Rattle.sidecar_format.specs.Writes as disk
-use Rattle.edit_format.specs.Plan as spec
+use Rattle.output_model.specs.Element.{element}
+use Rattle.sidecar_edit.specs.Writes as disk
+use Rattle.edit_changes.specs.Plan as spec
 use Rattle.edit_plan.specs.declared.part.Part.{Part}
 use Rattle.edit_plan.specs.declared.write.Write.{Write}
 

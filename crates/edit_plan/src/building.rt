@@ -1,26 +1,24 @@
 //! What is written anew.
 
 ghost use Rattle.std.specs.Prelude.{◌≡◌, ◌≤◌, ◌<◌, ◌^◌, ◌++◌, true, false, ◌==◌, IfOk, OnOk, IsTrue, length, map, flat_map};
-ghost use Rattle.ebml_format.specs.Number.{is_id};
+ghost use Rattle.ebml_numbers.specs.Number.{is_id};
 ghost use Rattle.mkv_schema.specs.declared.ids.TheConstants.{CLUSTER};
 ghost use Rattle.tree_format.specs.NormalForm.{octets};
-ghost use Rattle.element_octets.specs.Element.{element, octets_of};
+ghost use Rattle.output_model.specs.Element.{element, octets_of};
 ghost use Rattle.element_reader.specs.Collected.{IsInFile};
-ghost use Rattle.edit_format.specs.Change as change;
-ghost use Rattle.edit_format.specs.Plan as spec;
+ghost use Rattle.edit_changes.specs.Change as change;
+ghost use Rattle.edit_changes.specs.Plan as spec;
 ghost use Rattle.edit_plan.specs.Shown.{shown};
 
 use crate::counting::{kept_all, sum};
 use crate::part::Part;
 use ebml_tree::Tree;
-use edit_changes::is_info;
-use edit_format::Trees;
-use edit_room::{shortest, span_of};
+use edit_changes::{Trees, is_info, shortest, span_of};
 use element_reader::{Header, Outline};
-use mkv_jobs::Edit;
+use mkv_io::{Bytes, LONGEST_FILE, List};
 use mkv_schema::ids::{INFO, TRACKS};
-use mkv_values::{Bytes, LONGEST_FILE, List};
 use std::alloc::{AllocError, Global};
+use word_values::Edit;
 
 /// What is written of these Elements, one behind the other. More than a file can have can't be held.
 fn body_of(alloc: Global, nodes: &[Tree]) -> Result<Bytes, AllocError>
@@ -106,7 +104,7 @@ fn are_of_tracks(edits: &List<Edit>) -> bool
 }
 
 /// The Info and the Tracks that edits are about, with what the edits make of them.
-#[tactic(auto, unfolding(ebml_format::specs::Number::is_id))]
+#[tactic(auto, unfolding(ebml_numbers::specs::Number::is_id))]
 pub fn parts(
     alloc: Global,
     outline: &Outline,

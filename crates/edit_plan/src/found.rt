@@ -2,7 +2,7 @@
 
 use ebml_tree::Tree;
 use element_reader::Header;
-use mkv_values::List;
+use mkv_io::List;
 
 /// A SeekHead, RFC 9559, section 5.1.1 (SeekHead Element): its header, and what stands in it.
 #[derive(Drop)]

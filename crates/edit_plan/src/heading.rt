@@ -2,13 +2,13 @@
 
 ghost use Rattle.std.specs.Prelude.{◌≡◌, ◌≤◌, ◌^◌, ◌+◌, [], None, IfOk, IfSome, IsTrue, if◌then◌else◌, length, map, option_map, unwrap_or};
 ghost use Rattle.std.specs.Option.{option_map_or};
-ghost use Rattle.ebml_format.specs.Number.{is_id};
+ghost use Rattle.ebml_numbers.specs.Number.{is_id};
 ghost use Rattle.mkv_schema.specs.declared.ids.TheConstants.{SEEK_HEAD as SEEK_HEAD_ID};
-ghost use Rattle.matroska_format.specs.Element.{is_unknown};
-ghost use Rattle.element_octets.specs.Element.{element, octets_of};
+ghost use Rattle.mkv_schema.specs.Element.{is_unknown};
+ghost use Rattle.output_model.specs.Element.{element, octets_of};
 ghost use Rattle.element_reader.specs.Collected.{IsInFile};
-ghost use Rattle.edit_format.specs.Plan as spec;
-ghost use Rattle.edit_format.specs.Span as span;
+ghost use Rattle.edit_changes.specs.Plan as spec;
+ghost use Rattle.edit_changes.specs.Span as span;
 ghost use Rattle.edit_plan.specs.Found.{found};
 ghost use Rattle.edit_plan.specs.Shown.{shown, written};
 
@@ -16,13 +16,12 @@ use crate::found::SeekHead;
 use crate::moving::moving_seeks;
 use crate::part::Part;
 use crate::write::Write;
-use ebml_format::Size;
-use ebml_numbers::{put_id, put_size};
+use ebml_numbers::{Size, put_id, put_size};
 use ebml_tree::Tree;
-use edit_room::{fit, seek_head_body, seeks, size_width, span_of, whole};
+use edit_changes::{fit, seek_head_body, seeks, size_width, span_of, whole};
 use element_reader::{Header, Outline};
+use mkv_io::{Bytes, LONGEST_FILE};
 use mkv_schema::ids::SEGMENT;
-use mkv_values::{Bytes, LONGEST_FILE};
 use std::alloc::{AllocError, Global};
 
 /// What stands in the old one.
@@ -109,7 +108,7 @@ pub fn size_len(segment: &Header) -> u64
 }
 
 /// The Segment's size, where it is known and the Segment then ends at a place.
-#[tactic(auto, unfolding(ebml_format::specs::Number::is_id), using(crate::proofs::SizeLemmas::sizes))]
+#[tactic(auto, unfolding(ebml_numbers::specs::Number::is_id), using(crate::proofs::SizeLemmas::sizes))]
 pub fn size_write(alloc: Global, segment: &Header, end: u64) -> Result<Vec<Write>, AllocError>
     requires end { end ≤ 2 ^ 50 }
     requires body { segment.now.body ≤ 2 ^ 48 }

@@ -1,9 +1,9 @@
 //! What is written where something moves.
 
 ghost use Rattle.std.specs.Prelude.{◌≡◌, ◌≤◌, ◌+◌, ◌++◌, ◌^◌, [], ◌∷◌, None, false, IfErr, IfOk, IfSome, OnOk, if◌then◌else◌, length, map, option_map, sum_by};
-ghost use Rattle.matroska_format.specs.Element.{is_unknown};
+ghost use Rattle.mkv_schema.specs.Element.{is_unknown};
 ghost use Rattle.element_reader.specs.Collected.{IsInFile};
-ghost use Rattle.edit_format.specs.Plan as spec;
+ghost use Rattle.edit_changes.specs.Plan as spec;
 ghost use Rattle.edit_plan.specs.Found.{found};
 ghost use Rattle.edit_plan.specs.Moving.{CanMove};
 ghost use Rattle.edit_plan.specs.Shown.{shown, written};
@@ -18,7 +18,7 @@ use crate::plan_end::PlanEnd;
 use crate::refusing::{moving_refusal, too_large};
 use crate::write::Write;
 use crate::writes::{ascending, part_writes, writes_len};
-use edit_room::shortest;
+use edit_changes::shortest;
 use element_reader::{Header, Outline};
 use mkv_schema::ids::SEEK_HEAD;
 use std::alloc::{AllocError, Global};

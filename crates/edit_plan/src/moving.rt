@@ -3,14 +3,13 @@
 ghost use Rattle.std.specs.Prelude.{◌≡◌, IfOk, map};
 ghost use Rattle.std.specs.List.{list_any};
 ghost use Rattle.output_model.specs.SeekHead.{seeks_from};
-ghost use Rattle.edit_format.specs.Plan as spec;
+ghost use Rattle.edit_changes.specs.Plan as spec;
 ghost use Rattle.edit_plan.specs.Shown.{shown};
 
 use crate::building::{moves, part_len};
 use crate::counting::sum;
 use crate::part::Part;
-use edit_format::Refusal;
-use edit_room::{twin_refusal, whole};
+use edit_changes::{Refusal, twin_refusal, whole};
 use element_reader::Outline;
 use output_model::Seek;
 use std::alloc::{AllocError, Global};

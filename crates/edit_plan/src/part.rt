@@ -1,9 +1,9 @@
 //! An Info or a Tracks that is written anew.
 
 ghost use Rattle.std.specs.Prelude.{◌≡◌, ◌≤◌, ◌^◌, true, length};
-ghost use Rattle.ebml_format.specs.Number.{is_id};
+ghost use Rattle.ebml_numbers.specs.Number.{is_id};
 
-use mkv_values::Bytes;
+use mkv_io::Bytes;
 
 /// An Info or a Tracks that is written anew: RFC 9559, sections 5.1.2 (Info Element) and 5.1.4 (Tracks Element).
 #[derive(Drop)]

@@ -3,8 +3,8 @@
 ghost use Rattle.std.specs.Prelude.{◌≡◌};
 ghost use Rattle.edit_plan.specs.declared.plan_end.PlanEnd.TheVariants as end;
 
-use edit_format::Refusal;
-use mkv_values::Failed;
+use edit_changes::Refusal;
+use mkv_io::Failed;
 use std::alloc::AllocError;
 
 /// Why edits have no plan.

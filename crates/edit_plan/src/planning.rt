@@ -4,9 +4,9 @@ ghost use Rattle.std.specs.Prelude.{◌≡◌, ◌≤◌, ◌+◌, ◌*◌, ◌^
 ghost use Rattle.mkv_io.specs.Faults.{HasCause};
 ghost use Rattle.mkv_io.specs.Sources.{IfTold, IsLive, file_size};
 ghost use Rattle.element_reader.specs.Outline.{outline_in};
-ghost use Rattle.edit_format.specs.Change as change;
-ghost use Rattle.edit_format.specs.Plan.{if_editable, plan_of};
-ghost use Rattle.edit_format.specs.Records.{trees_of};
+ghost use Rattle.edit_changes.specs.Change as change;
+ghost use Rattle.edit_changes.specs.Plan.{if_editable, plan_of};
+ghost use Rattle.edit_changes.specs.Records.{trees_of};
 ghost use Rattle.edit_changes.specs.Trees.{AreSound};
 ghost use Rattle.edit_plan.specs.Answer.{Answers, Gives, is_plan_fault};
 ghost use Rattle.edit_plan.specs.Opening.{opening};
@@ -16,13 +16,11 @@ use crate::plan_end::PlanEnd;
 use crate::reading::read_trees;
 use crate::write::Write;
 use crate::writing::parts_writes;
-use edit_changes::{EditsEnd, edited};
-use edit_format::{Refusal, Trees};
+use edit_changes::{EditsEnd, Refusal, Trees, edited};
 use element_reader::{Outline, OutlineEnd};
-use mkv_io::Reads;
-use mkv_jobs::Edit;
-use mkv_values::{FileId, List};
+use mkv_io::{FileId, List, Reads};
 use std::alloc::Global;
+use word_values::Edit;
 
 /// The outline of a file without damage at level 1.
 #[tactic(auto, using(crate::proofs::StepLemmas::opens))]

@@ -4,20 +4,19 @@ ghost use Rattle.std.specs.Prelude.{◌≡◌, ◌+◌, ◌*◌, ◌≤◌, fals
 ghost use Rattle.mkv_schema.specs.declared.ids.TheConstants.{TRACKS as TRACKS_ID};
 ghost use Rattle.mkv_io.specs.Faults.{HasCause};
 ghost use Rattle.mkv_io.specs.Sources.{IfTold, IsLive, file_size};
-ghost use Rattle.attachment_reading.specs.declared.limits.TheConstants.{MOST_OF_ATTACHMENTS};
+ghost use Rattle.meta_records.specs.declared.limits.TheConstants.{MOST_OF_ATTACHMENTS};
 ghost use Rattle.element_reader.specs.Outline.{is_outline_fault, outline_in};
-ghost use Rattle.tree_building.specs.Building.{IsRead};
-ghost use Rattle.file_records.specs.Records.{ReadsAs};
-ghost use Rattle.edit_format.specs.Records as spec;
+ghost use Rattle.ebml_tree.specs.Building.{IsRead};
+ghost use Rattle.meta_records.specs.Records.{ReadsAs};
+ghost use Rattle.edit_changes.specs.Records as spec;
 ghost use Rattle.edit_changes.specs.Trees.{AreSound};
 
 use ebml_tree::{Tree, TreeEnd};
-use edit_format::Trees;
+use edit_changes::Trees;
 use element_reader::{Header, Outline, OutlineEnd};
-use file_records::{first_attachments, first_tree, good_info};
-use mkv_io::Reads;
+use meta_records::{first_attachments, first_tree, good_info};
+use mkv_io::{Damage, FileId, Kind, List, Reads};
 use mkv_schema::ids::{CHAPTERS, INFO, TAGS, TRACKS};
-use mkv_values::{Damage, FileId, Kind, List};
 use std::alloc::Global;
 use track_records::read_tracks;
 

@@ -4,11 +4,11 @@ ghost use Rattle.std.specs.Prelude.{◌≡◌, ◌≤◌, ◌+◌, ◌*◌, min,
 ghost use Rattle.mkv_io.specs.Faults.{HasCause};
 ghost use Rattle.mkv_io.specs.Sources.{IsLive, file_size};
 ghost use Rattle.mkv_disk.specs.Calls.{OfReads};
-ghost use Rattle.mkv_values.specs.declared.outside.TheConstants.{LONGEST_FILE as LONGEST};
-ghost use Rattle.sidecar_format.specs.declared.place.TheConstants.{KEPT as KEPT_OCTETS, MOST_OCTETS as MOST};
-ghost use Rattle.sidecar_format.specs.Fields.{AreInOrder, IsPlan, last_end, sum_of};
-ghost use Rattle.sidecar_format.specs.Writes as disk;
-ghost use Rattle.edit_format.specs.Plan as spec;
+ghost use Rattle.mkv_io.specs.declared.outside.TheConstants.{LONGEST_FILE as LONGEST};
+ghost use Rattle.sidecar_edit.specs.declared.place.TheConstants.{KEPT as KEPT_OCTETS, MOST_OCTETS as MOST};
+ghost use Rattle.sidecar_edit.specs.Fields.{AreInOrder, IsPlan, last_end, sum_of};
+ghost use Rattle.sidecar_edit.specs.Writes as disk;
+ghost use Rattle.edit_changes.specs.Plan as spec;
 ghost use Rattle.edit_plan.specs.Answer.{Gives, is_plan_fault};
 ghost use Rattle.edit_plan.specs.Record.{record_of, record_over};
 ghost use Rattle.edit_plan.specs.Shown.{written};
@@ -17,11 +17,10 @@ use crate::plan_end::PlanEnd;
 use crate::planning::edit_writes;
 use crate::write::Write;
 use mkv_disk::{Disk, MEDIA};
-use mkv_jobs::Edit;
-use mkv_values::{Bytes, List};
-use sidecar_edit::read_first;
-use sidecar_format::{KEPT, MOST_OCTETS, MOST_WRITES, Place, Plan};
+use mkv_io::{Bytes, List};
+use sidecar_edit::{KEPT, MOST_OCTETS, MOST_WRITES, Place, Plan, read_first};
 use std::alloc::{AllocError, Global};
+use word_values::Edit;
 
 /// Where the writes go.
 fn places_of(alloc: Global, writes: &[Write]) -> Result<Vec<Place>, AllocError>

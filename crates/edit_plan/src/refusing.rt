@@ -1,17 +1,16 @@
 //! What refuses what moves.
 
 ghost use Rattle.std.specs.Prelude.{◌≡◌, ◌≤◌, ◌+◌, ◌^◌, None, map};
-ghost use Rattle.edit_format.specs.Plan as spec;
-ghost use Rattle.edit_format.specs.declared.refusal.TheConstants.{MOST_WRITTEN as MOST};
-ghost use Rattle.edit_room.specs.Ends.{EndsFit};
+ghost use Rattle.edit_changes.specs.Plan as spec;
+ghost use Rattle.edit_changes.specs.declared.refusal.TheConstants.{MOST_WRITTEN as MOST};
+ghost use Rattle.edit_changes.specs.Ends.{EndsFit};
 ghost use Rattle.edit_plan.specs.Moving.{refused};
 ghost use Rattle.edit_plan.specs.Shown.{shown};
 
 use crate::moving::{most_nodes, twins};
 use crate::part::Part;
 use ebml_tree::MOST_NODES;
-use edit_format::{MOST_WRITTEN, Refusal, Room};
-use edit_room::{lacks, size_refusal, tail_refusal};
+use edit_changes::{MOST_WRITTEN, Refusal, Room, lacks, size_refusal, tail_refusal};
 use element_reader::Outline;
 
 /// There are too many octets to write, or too many Elements in one.

@@ -3,19 +3,18 @@
 ghost use Rattle.std.specs.Prelude.{◌≡◌, ◌+◌, ◌≤◌, IfOk, IfSome, option_map};
 ghost use Rattle.std.specs.Option.{option_and_then};
 ghost use Rattle.mkv_schema.specs.declared.ids.TheConstants.{SEEK_HEAD as SEEK_HEAD_ID};
-ghost use Rattle.matroska_format.specs.Value.{first_of};
+ghost use Rattle.mkv_schema.specs.Value.{first_of};
 ghost use Rattle.mkv_io.specs.Faults.{HasCause, is_read_fault};
 ghost use Rattle.mkv_io.specs.Sources.{IfTold, IsLive, file_size};
 ghost use Rattle.element_reader.specs.Collected.{IsInFile};
-ghost use Rattle.edit_format.specs.SeekHead as spec;
+ghost use Rattle.edit_changes.specs.SeekHead as spec;
 ghost use Rattle.edit_plan.specs.Found.{found};
 
 use crate::found::SeekHead;
 use ebml_tree::{MOST_NODES, Tree, TreeEnd};
 use element_reader::{Header, LoadEnd, Outline, load};
-use mkv_io::Reads;
+use mkv_io::{FileId, List, ReadEnd, Reads};
 use mkv_schema::ids::SEEK_HEAD;
-use mkv_values::{FileId, List, ReadEnd};
 use std::alloc::Global;
 
 /// The first SeekHead of level 1, where it stands in front of the first Cluster.

@@ -3,7 +3,7 @@
 ghost use Rattle.std.specs.Prelude.{◌≡◌, ◌≤◌, ◌+◌, ◌^◌, map};
 ghost use Rattle.mkv_io.specs.Faults.{HasCause};
 ghost use Rattle.mkv_io.specs.Sources.{IfTold, IsLive, file_size};
-ghost use Rattle.edit_format.specs.Plan as spec;
+ghost use Rattle.edit_changes.specs.Plan as spec;
 ghost use Rattle.edit_plan.specs.Answer.{Answers, is_plan_fault};
 ghost use Rattle.edit_plan.specs.Moving.{CanMove};
 ghost use Rattle.edit_plan.specs.Shown.{shown};
@@ -15,8 +15,7 @@ use crate::plan_end::PlanEnd;
 use crate::seek_head::first_seek_head;
 use crate::write::Write;
 use element_reader::Outline;
-use mkv_io::Reads;
-use mkv_values::{FileId, ReadEnd};
+use mkv_io::{FileId, ReadEnd, Reads};
 use std::alloc::Global;
 
 /// What is written of an Info and a Tracks with new children, by ascending places, or the first that refuses it. Where

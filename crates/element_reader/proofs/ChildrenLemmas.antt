@@ -2,13 +2,13 @@
 use Rattle.std.proofs.Common.{eq-eqb, ◌≡◌, ℕ, ◌<◌, ◌≤◌, ◌==◌, true, false, List, Some, None, Result, Ok, Err, refl, sym, ◌∙◌, ap, arith}
 use Rattle.std.proofs.lemmas.Bool.Decides.{nat_tests}
 use Rattle.mkv_schema.specs.declared.ids.TheConstants.{EBML}
-use Rattle.mkv_values.specs.declared.damage.Damage.{Damage}
-use Rattle.mkv_values.specs.declared.damage.Kind.TheVariants.{BadValue}
-use Rattle.matroska_format.specs.declared.element.Header.{Header}
-use Rattle.matroska_format.specs.Element.{in_tree, element_at, damage, end_in}
-use Rattle.matroska_format.specs.Elements.{Run, step, ends_at, never}
-use Rattle.matroska_format.specs.Value.{body_of, is_known_value, first_of}
-use Rattle.matroska_format.proofs.ElementsLemmas.{elements-end, elements-more, Advances-known}
+use Rattle.mkv_io.specs.declared.damage.Damage.{Damage}
+use Rattle.mkv_io.specs.declared.damage.Kind.TheVariants.{BadValue}
+use Rattle.mkv_schema.specs.declared.element.Header.{Header}
+use Rattle.mkv_schema.specs.Element.{in_tree, element_at, damage, end_in}
+use Rattle.mkv_schema.specs.Elements.{Run, step, ends_at, never}
+use Rattle.mkv_schema.specs.Value.{body_of, is_known_value, first_of}
+use Rattle.mkv_schema.proofs.ElementsLemmas.{elements-end, elements-more, Advances-known}
 use Rattle.element_reader.specs.EbmlChildren.{children, child_refusal}
 
 -- at the body's end there are no more

@@ -6,13 +6,13 @@ use Rattle.std.proofs.lemmas.List.Elements.{All-append, filter-append}
 use Rattle.std.proofs.lemmas.List.Folds.{find-append}
 use Rattle.std.proofs.lemmas.List.Sums.{sum_by-append, length-filter}
 use Rattle.mkv_schema.specs.declared.ids.TheConstants.{CLUSTER}
-use Rattle.mkv_values.specs.declared.damage.Damage.{Damage}
-use Rattle.matroska_format.specs.declared.element.Header.{Header}
-use Rattle.matroska_format.specs.Element.{in_segment, known}
-use Rattle.matroska_format.specs.Placed.{IsWhole}
-use Rattle.matroska_format.specs.Value.{first_of}
-use Rattle.matroska_format.specs.declared.limits.TheConstants.{MOST_OF_ONE, MOST_OF_ALL, MOST_ELEMENTS}
-use Rattle.matroska_format.specs.Outline.{first_damage, where_it, is_described, described, others, passes_size, passes_count}
+use Rattle.mkv_io.specs.declared.damage.Damage.{Damage}
+use Rattle.mkv_schema.specs.declared.element.Header.{Header}
+use Rattle.mkv_schema.specs.Element.{in_segment, known}
+use Rattle.mkv_schema.specs.Placed.{IsWhole}
+use Rattle.mkv_schema.specs.Value.{first_of}
+use Rattle.mkv_schema.specs.declared.limits.TheConstants.{MOST_OF_ONE, MOST_OF_ALL, MOST_ELEMENTS}
+use Rattle.mkv_schema.specs.Outline.{first_damage, where_it, is_described, described, others, passes_size, passes_count}
 use Rattle.element_reader.specs.Collected.{IsInFile, Keeps, kept_of, others_of, described_octets}
 use Rattle.element_reader.specs.declared.collected.Collected.{Collected}
 

@@ -3,24 +3,24 @@ use Rattle.std.proofs.Common.{◌≡◌, ℕ, ◌+◌, ◌≤◌, nat_eq, nat_lt
 use Rattle.std.proofs.lemmas.Grind.{common_steps}
 use Rattle.std.proofs.lemmas.Bool.Decides.{Decides-eqb}
 use Rattle.std.proofs.lemmas.Slice.Eq.{starts_is}
-use Rattle.ebml_format.proofs.NumberLemmas.{id_at-take}
+use Rattle.ebml_numbers.proofs.NumberLemmas.{id_at-take}
 use Rattle.std.specs.Int.Count.{count_leading_zeros}
 use Rattle.std.specs.Cmp.Lexicographic.{pointwise}
 use Rattle.std.specs.List.{starts_with}
-use Rattle.ebml_format.specs.declared.number.IdRead.{IdRead}
-use Rattle.ebml_format.specs.declared.number.NumFault.{NumFault}
-use Rattle.ebml_format.specs.declared.number.NumFault.TheVariants as fault
-use Rattle.ebml_format.specs.declared.number.SizeRead.{SizeRead}
-use Rattle.ebml_format.specs.Number.{id_at, size_at}
-use Rattle.mkv_values.specs.declared.damage.Damage.{Damage}
-use Rattle.mkv_values.specs.declared.damage.Kind.TheVariants.{NotEbml, TooLong, Truncated, UnknownSize}
-use Rattle.matroska_format.specs.declared.element.Header.{Header}
-use Rattle.matroska_format.specs.Element.{at_level_0, has_unknown_size, is_truncated, is_too_long, with_body, with_size, with_id, element_at, element_in, damage, stated_end}
-use Rattle.matroska_format.specs.declared.limits.TheConstants.{MOST_OF_HEADER}
-use Rattle.matroska_format.specs.Outline.{ebml_mark, first_element, ebml_header, and_then, unless, over, first_damage, header_causes, header_children, children_causes}
+use Rattle.ebml_numbers.specs.declared.number.IdRead.{IdRead}
+use Rattle.ebml_numbers.specs.declared.number.NumFault.{NumFault}
+use Rattle.ebml_numbers.specs.declared.number.NumFault.TheVariants as fault
+use Rattle.ebml_numbers.specs.declared.number.SizeRead.{SizeRead}
+use Rattle.ebml_numbers.specs.Number.{id_at, size_at}
+use Rattle.mkv_io.specs.declared.damage.Damage.{Damage}
+use Rattle.mkv_io.specs.declared.damage.Kind.TheVariants.{NotEbml, TooLong, Truncated, UnknownSize}
+use Rattle.mkv_schema.specs.declared.element.Header.{Header}
+use Rattle.mkv_schema.specs.Element.{at_level_0, has_unknown_size, is_truncated, is_too_long, with_body, with_size, with_id, element_at, element_in, damage, stated_end}
+use Rattle.mkv_schema.specs.declared.limits.TheConstants.{MOST_OF_HEADER}
+use Rattle.mkv_schema.specs.Outline.{ebml_mark, first_element, ebml_header, and_then, unless, over, first_damage, header_causes, header_children, children_causes}
 use Rattle.mkv_schema.specs.declared.ids.TheConstants.{EBML}
 use Rattle.std.proofs.lemmas.List.{drop-take}
-use Rattle.element_bodies.specs.Body.{IsBody}
+use Rattle.elements.specs.Body.{IsBody}
 
 -- its ID, read from its octets
 abbrev pub mark_read : Result IdRead NumFault

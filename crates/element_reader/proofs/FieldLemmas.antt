@@ -4,18 +4,18 @@ use Rattle.std.specs.Option.{option_map, option_map_or, option_or}
 use Rattle.std.specs.List.{find}
 use Rattle.std.proofs.lemmas.Grind.{common_steps}
 use Rattle.std.proofs.lemmas.Bool.Decides.{nat_tests}
-use Rattle.ebml_format.specs.Number.{uint_of}
+use Rattle.ebml_numbers.specs.Number.{uint_of}
 use Rattle.mkv_schema.specs.declared.ids.TheConstants.{EBML, EBML_READ_VERSION, EBML_MAX_ID_LENGTH, EBML_MAX_SIZE_LENGTH, DOC_TYPE_READ_VERSION}
 use Rattle.mkv_schema.specs.Table.{table}
 use Rattle.mkv_schema.specs.Schema.{entry_of}
-use Rattle.mkv_values.specs.declared.damage.Damage.{Damage}
-use Rattle.mkv_values.specs.declared.damage.Kind.TheVariants.{BadValue, HeaderTooLarge}
-use Rattle.matroska_format.specs.declared.element.Header.{Header}
-use Rattle.matroska_format.specs.Element.{damage, known}
-use Rattle.matroska_format.specs.Elements.{Run}
-use Rattle.matroska_format.specs.Value.{body_of, is_known_value, first_of, uint_value, uint_in}
-use Rattle.matroska_format.specs.declared.limits.TheConstants.{MOST_OF_HEADER}
-use Rattle.matroska_format.specs.Outline.{first_damage, bad_value, over, where_it}
+use Rattle.mkv_io.specs.declared.damage.Damage.{Damage}
+use Rattle.mkv_io.specs.declared.damage.Kind.TheVariants.{BadValue, HeaderTooLarge}
+use Rattle.mkv_schema.specs.declared.element.Header.{Header}
+use Rattle.mkv_schema.specs.Element.{damage, known}
+use Rattle.mkv_schema.specs.Elements.{Run}
+use Rattle.mkv_schema.specs.Value.{body_of, is_known_value, first_of, uint_value, uint_in}
+use Rattle.mkv_schema.specs.declared.limits.TheConstants.{MOST_OF_HEADER}
+use Rattle.mkv_schema.specs.Outline.{first_damage, bad_value, over, where_it}
 use Rattle.element_reader.specs.EbmlChildren.{IsShort, child_refusal}
 
 -- where nothing refuses the children, none has a bad value

@@ -1,11 +1,11 @@
 -- The Elements of level 1, on the way through a Segment.
 use Rattle.std.proofs.Common.{◌≡◌, ℕ, if◌then◌else◌, List, [], ◌∷◌, ◌++◌, length, append-nil, Option, Some, None, refl, sym, ◌∙◌, ap, subst}
 use Rattle.std.specs.Option.{option_map_or}
-use Rattle.mkv_values.specs.declared.damage.Damage.{Damage}
-use Rattle.matroska_format.specs.declared.element.Header.{Header}
-use Rattle.matroska_format.specs.Element.{is_unknown, end_in}
-use Rattle.matroska_format.specs.Elements.{Run, in_front, level_1}
-use Rattle.matroska_format.specs.Outline.{first_damage, first_refusal, limit_causes, limits_from, segment_run}
+use Rattle.mkv_io.specs.declared.damage.Damage.{Damage}
+use Rattle.mkv_schema.specs.declared.element.Header.{Header}
+use Rattle.mkv_schema.specs.Element.{is_unknown, end_in}
+use Rattle.mkv_schema.specs.Elements.{Run, in_front, level_1}
+use Rattle.mkv_schema.specs.Outline.{first_damage, first_refusal, limit_causes, limits_from, segment_run}
 use Rattle.element_reader.specs.Collected.{Keeps}
 use Rattle.element_reader.specs.Level.{HasLevel, IsOnWay, all_in_front, nothing_left}
 use Rattle.element_reader.specs.declared.collected.Collected.{Collected}

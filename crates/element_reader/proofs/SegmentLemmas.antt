@@ -2,13 +2,13 @@
 use Rattle.std.proofs.lemmas.Bool.Decides.{nat_tests}
 use Rattle.std.proofs.Common.{eq-eqb, ◌≡◌, ℕ, ◌<◌, ◌≤◌, ◌==◌, nat_lt, Bool, true, false, if◌then◌else◌, List, ◌∷◌, length, Option, Some, None, Result, Ok, Err, refl, sym, ◌∙◌, ap, arith}
 use Rattle.mkv_schema.specs.declared.ids.TheConstants.{SEGMENT}
-use Rattle.mkv_values.specs.declared.damage.Damage.{Damage}
-use Rattle.mkv_values.specs.declared.damage.Kind.TheVariants.{NoSegment}
-use Rattle.matroska_format.specs.declared.element.Header.{Header}
-use Rattle.matroska_format.specs.Element.{at_level_0, element_at, damage, end_in}
-use Rattle.matroska_format.specs.Elements.{Run, ends_at, step, id_of}
-use Rattle.matroska_format.specs.Outline.{before_segment}
-use Rattle.matroska_format.proofs.ElementsLemmas.{elements-end, elements-more, Advances-known}
+use Rattle.mkv_io.specs.declared.damage.Damage.{Damage}
+use Rattle.mkv_io.specs.declared.damage.Kind.TheVariants.{NoSegment}
+use Rattle.mkv_schema.specs.declared.element.Header.{Header}
+use Rattle.mkv_schema.specs.Element.{at_level_0, element_at, damage, end_in}
+use Rattle.mkv_schema.specs.Elements.{Run, ends_at, step, id_of}
+use Rattle.mkv_schema.specs.Outline.{before_segment}
+use Rattle.mkv_schema.proofs.ElementsLemmas.{elements-end, elements-more, Advances-known}
 use Rattle.element_reader.specs.Segment.{found_behind, segment_from}
 
 -- at the end of the file there is none

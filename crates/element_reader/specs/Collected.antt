@@ -2,10 +2,10 @@
 use Rattle.std.specs.Prelude.{◌≡◌, ℕ, ◌+◌, ◌≤◌, ◌==◌, not, false, if◌then◌else◌, List, [], ◌∷◌, filter, Option, None}
 use Rattle.std.specs.List.{last_or}
 use Rattle.mkv_schema.specs.declared.ids.TheConstants.{CLUSTER}
-use Rattle.matroska_format.specs.declared.element.Header.{Header}
-use Rattle.matroska_format.specs.Element.{is_unknown, known, stated_end}
-use Rattle.matroska_format.specs.Value.{first_of}
-use Rattle.matroska_format.specs.Outline.{is_described, described}
+use Rattle.mkv_schema.specs.declared.element.Header.{Header}
+use Rattle.mkv_schema.specs.Element.{is_unknown, known, stated_end}
+use Rattle.mkv_schema.specs.Value.{first_of}
+use Rattle.mkv_schema.specs.Outline.{is_described, described}
 use Rattle.element_reader.specs.declared.collected.Collected.{Collected}
 
 -- the Elements other than Clusters

@@ -1,13 +1,13 @@
 -- The children of an EBML header, and what refuses them: RFC 8794, section 11.2 (EBML Header Elements).
 use Rattle.std.specs.Prelude.{◌≡◌, true, ℕ, ◌≤◌, List, [], ◌∷◌, length, Option}
 use Rattle.mkv_schema.specs.declared.ids.TheConstants.{EBML, EBML_READ_VERSION, DOC_TYPE_READ_VERSION, EBML_MAX_ID_LENGTH, EBML_MAX_SIZE_LENGTH}
-use Rattle.mkv_values.specs.declared.damage.Damage.{Damage}
-use Rattle.mkv_values.specs.declared.damage.Kind.TheVariants.{ReadVersion, MaxLengths}
-use Rattle.matroska_format.specs.declared.element.Header.{Header}
-use Rattle.matroska_format.specs.Element.{in_tree}
-use Rattle.matroska_format.specs.Elements.{Run, children_in}
-use Rattle.matroska_format.specs.Value.{is_known_value}
-use Rattle.matroska_format.specs.Outline.{first_damage, bad_value, wrong_doc_type, above}
+use Rattle.mkv_io.specs.declared.damage.Damage.{Damage}
+use Rattle.mkv_io.specs.declared.damage.Kind.TheVariants.{ReadVersion, MaxLengths}
+use Rattle.mkv_schema.specs.declared.element.Header.{Header}
+use Rattle.mkv_schema.specs.Element.{in_tree}
+use Rattle.mkv_schema.specs.Elements.{Run, children_in}
+use Rattle.mkv_schema.specs.Value.{is_known_value}
+use Rattle.mkv_schema.specs.Outline.{first_damage, bad_value, wrong_doc_type, above}
 
 -- the children of the EBML header, from a place on
 abbrev pub children : List ℕ → ℕ → ℕ → Run

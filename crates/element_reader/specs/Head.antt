@@ -1,7 +1,7 @@
 -- What a reader of a header answers.
 use Rattle.std.specs.Prelude.{◌≡◌, ⊤, Bool, true, false, Result, Ok, Err}
-use Rattle.mkv_values.specs.declared.damage.Damage.{Damage}
-use Rattle.matroska_format.specs.declared.element.Header.{Header}
+use Rattle.mkv_io.specs.declared.damage.Damage.{Damage}
+use Rattle.mkv_schema.specs.declared.element.Header.{Header}
 use Rattle.element_reader.specs.declared.head_end.HeadEnd.{HeadEnd}
 use Rattle.element_reader.specs.declared.head_end.HeadEnd.TheVariants as head_end
 

@@ -1,7 +1,7 @@
 -- What is known of a file that is read holds on while the file is the same.
 use Rattle.std.specs.Prelude.{◌≡◌, true, ℕ}
 use Rattle.mkv_io.specs.LiveFiles.{LiveFiles, IsSameFile}
-use Rattle.matroska_format.specs.declared.element.Header.{Header}
+use Rattle.mkv_schema.specs.declared.element.Header.{Header}
 use Rattle.element_reader.specs.Collected.{IsInFile}
 use Rattle.element_reader.specs.LevelOne.{Listing, CanRead}
 

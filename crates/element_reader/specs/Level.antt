@@ -1,9 +1,9 @@
 -- What is collected of the Elements of level 1 of a Segment.
 use Rattle.std.specs.Prelude.{◌≡◌, ℕ, List, [], ◌∷◌, Option, Some, None, Result, Ok, Err}
-use Rattle.mkv_values.specs.declared.damage.Damage.{Damage}
-use Rattle.matroska_format.specs.declared.element.Header.{Header}
-use Rattle.matroska_format.specs.Elements.{Run, in_front}
-use Rattle.matroska_format.specs.Outline.{limits_from, segment_run, segment_end}
+use Rattle.mkv_io.specs.declared.damage.Damage.{Damage}
+use Rattle.mkv_schema.specs.declared.element.Header.{Header}
+use Rattle.mkv_schema.specs.Elements.{Run, in_front}
+use Rattle.mkv_schema.specs.Outline.{limits_from, segment_run, segment_end}
 use Rattle.element_reader.specs.Collected.{Keeps}
 use Rattle.element_reader.specs.declared.collected.Collected.{Collected}
 use Rattle.element_reader.specs.declared.level.Level.{Level}

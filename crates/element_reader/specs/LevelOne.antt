@@ -1,13 +1,13 @@
 -- The Elements of level 1 of a Segment, given one after the other.
 use Rattle.std.specs.Prelude.{◌≡◌, true, ℕ, ◌<◌, ◌≤◌, if◌then◌else◌, List, [], ◌∷◌, Option, Some, None}
-use Rattle.ebml_format.specs.declared.number.Size.{Size}
-use Rattle.mkv_values.specs.declared.outside.FileId.{FileId}
+use Rattle.ebml_numbers.specs.declared.number.Size.{Size}
+use Rattle.mkv_io.specs.declared.outside.FileId.{FileId}
 use Rattle.mkv_io.specs.LiveFiles.{LiveFiles}
 use Rattle.mkv_io.specs.Told.{Told}
-use Rattle.matroska_format.specs.declared.element.Header.{Header}
-use Rattle.matroska_format.specs.Element.{end_in, is_unknown}
-use Rattle.matroska_format.specs.Elements.{level_1}
-use Rattle.element_window.specs.Window.{ReadAhead, Holds, nothing_at}
+use Rattle.mkv_schema.specs.declared.element.Header.{Header}
+use Rattle.mkv_schema.specs.Element.{end_in, is_unknown}
+use Rattle.mkv_schema.specs.Elements.{level_1}
+use Rattle.elements.specs.Window.{ReadAhead, Holds, nothing_at}
 
 -- A place among the Elements of level 1 of a Segment: its file, the size that the Segment states, the
 -- next Element's place, the place up to which the Segment may reach, and what is held of the file.

@@ -2,10 +2,10 @@
 use Rattle.std.specs.Prelude.{ℕ, Bool, true, false, ◌==◌, ◌||◌, if◌then◌else◌, Option, Some, None}
 use Rattle.std.specs.Option.{option_map_or}
 use Rattle.mkv_schema.specs.declared.ids.TheConstants.{EBML, SEEK_HEAD, CUES}
-use Rattle.mkv_values.specs.declared.damage.Damage.{Damage}
-use Rattle.matroska_format.specs.declared.element.Header.{Header}
-use Rattle.matroska_format.specs.declared.limits.TheConstants.{MOST_OF_HEADER, MOST_OF_ONE, MOST_OF_CUES}
-use Rattle.matroska_format.specs.Outline.{over, is_described}
+use Rattle.mkv_io.specs.declared.damage.Damage.{Damage}
+use Rattle.mkv_schema.specs.declared.element.Header.{Header}
+use Rattle.mkv_schema.specs.declared.limits.TheConstants.{MOST_OF_HEADER, MOST_OF_ONE, MOST_OF_CUES}
+use Rattle.mkv_schema.specs.Outline.{over, is_described}
 use Rattle.element_reader.specs.declared.loading.LoadEnd.{LoadEnd}
 use Rattle.element_reader.specs.declared.loading.LoadEnd.TheVariants as load_end
 

@@ -1,10 +1,10 @@
 -- What an `Outline` shows of the file from which it was read: RFC 9559, section 4.5 (Data Layout).
 use Rattle.std.specs.Prelude.{◌≡◌, ℕ, ⊤, Bool, true, false, ◌==◌, if◌then◌else◌, List, length, Option, Result, Ok, Err}
 use Rattle.mkv_schema.specs.declared.ids.TheConstants.{CLUSTER}
-use Rattle.mkv_values.specs.declared.damage.Damage.{Damage}
-use Rattle.matroska_format.specs.declared.element.Header.{Header}
-use Rattle.matroska_format.specs.Outline.{Outlined, and_then, described, outline_of}
-use Rattle.matroska_format.specs.Value.{first_of}
+use Rattle.mkv_io.specs.declared.damage.Damage.{Damage}
+use Rattle.mkv_schema.specs.declared.element.Header.{Header}
+use Rattle.mkv_schema.specs.Outline.{Outlined, and_then, described, outline_of}
+use Rattle.mkv_schema.specs.Value.{first_of}
 use Rattle.element_reader.specs.Collected.{last_of, others_of}
 use Rattle.element_reader.specs.declared.outline_end.OutlineEnd.{OutlineEnd}
 use Rattle.element_reader.specs.declared.outline_end.OutlineEnd.TheVariants as outline_end

@@ -1,9 +1,9 @@
 -- What was read through a window and past it.
 use Rattle.std.specs.Prelude.{ℕ, ◌+◌, Result, Ok, Err}
-use Rattle.mkv_values.specs.declared.outside.FileId.{FileId}
+use Rattle.mkv_io.specs.declared.outside.FileId.{FileId}
 use Rattle.mkv_io.specs.Sources.{file_size}
 use Rattle.mkv_io.specs.declared.reads.Reads.{Ghosts}
-use Rattle.element_window.specs.Window.{ReadAhead, HasNotPassed, MovesTo, Spends}
+use Rattle.elements.specs.Window.{ReadAhead, HasNotPassed, MovesTo, Spends}
 
 -- A window that had not passed a place has gone on, and that pays for what was read but so many octets.
 abbrev pub GoesBesides : {S T E : Type 0} → Ghosts S → FileId → ℕ → ℕ → (T → ℕ) → ReadAhead → ReadAhead → S → S → Result T E → Type 0

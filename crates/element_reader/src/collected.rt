@@ -1,17 +1,17 @@
 //! What is kept of the Elements of level 1.
 
 ghost use Rattle.std.specs.Prelude.{◌≡◌, ℕ, ◌+◌, ◌^◌, ◌<◌, ◌++◌, ◌∷◌, [], List, IfOk, false};
-ghost use Rattle.matroska_format.specs.declared.element.Header.{Header as Placed};
-ghost use Rattle.matroska_format.specs.Outline.{first_damage, is_described, limit_causes, passes_count, passes_size};
-ghost use Rattle.matroska_format.specs.Element.{known};
-ghost use Rattle.matroska_format.specs.Value.{first_of};
+ghost use Rattle.mkv_schema.specs.declared.element.Header.{Header as Placed};
+ghost use Rattle.mkv_schema.specs.Outline.{first_damage, is_described, limit_causes, passes_count, passes_size};
+ghost use Rattle.mkv_schema.specs.Element.{known};
+ghost use Rattle.mkv_schema.specs.Value.{first_of};
 ghost use Rattle.element_reader.specs.Collected.{described_octets};
 
-use element_bodies::known;
-use element_headers::{Header, damage_at};
-use matroska_format::limits::{MOST_ELEMENTS, MOST_OF_ALL, MOST_OF_ONE};
+use elements::{damage_at, known};
+use mkv_io::{Damage, Kind};
+use mkv_schema::Header;
 use mkv_schema::ids::{CHAPTERS, CLUSTER, INFO, TAGS, TRACKS};
-use mkv_values::{Damage, Kind};
+use mkv_schema::limits::{MOST_ELEMENTS, MOST_OF_ALL, MOST_OF_ONE};
 use std::alloc::{AllocError, Global};
 
 /// What is kept of the Elements of level 1 that were met.

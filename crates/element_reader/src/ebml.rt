@@ -3,27 +3,25 @@
 ghost use Rattle.std.specs.Prelude.{◌≡◌, ℕ, ◌+◌, ◌≤◌, List, length, None, IfOk, OnErr};
 ghost use Rattle.mkv_io.specs.Faults.{HasCause, is_failure, is_read_fault};
 ghost use Rattle.mkv_io.specs.Sources.{IfTold, IsLive, OnlyReads, file_size};
-ghost use Rattle.matroska_format.specs.Element.{known, stated_end};
-ghost use Rattle.matroska_format.specs.Outline.{ebml_header, first_damage, first_element, header_causes, header_children};
-ghost use Rattle.element_window.specs.Looks.{Goes};
-ghost use Rattle.element_window.specs.Window.{Holds, nothing_at};
-ghost use Rattle.element_bodies.specs.Body.{IsBody};
+ghost use Rattle.mkv_schema.specs.Element.{known, stated_end};
+ghost use Rattle.mkv_schema.specs.Outline.{ebml_header, first_damage, first_element, header_causes, header_children};
+ghost use Rattle.elements.specs.Looks.{Goes};
+ghost use Rattle.elements.specs.Window.{Holds, nothing_at};
+ghost use Rattle.elements.specs.Body.{IsBody};
 ghost use Rattle.element_reader.specs.EbmlChildren.{child_refusal, children, value_causes};
 ghost use Rattle.element_reader.specs.Ways.{GoesBesides};
-ghost use Rattle.mkv_values.specs.declared.outside.TheConstants.{LONGEST_FILE};
+ghost use Rattle.mkv_io.specs.declared.outside.TheConstants.{LONGEST_FILE};
 
 use crate::ebml_children::child_refusal;
 use crate::ebml_values::{above, wrong_doc_type};
 use crate::limits::over;
-use element_bodies::known;
-use element_headers::{Header, LONGEST_HEADER, Parent, damage, read_header};
-use element_window::Window;
-use matroska_format::limits::MOST_OF_HEADER;
-use mkv_io::Reads;
+use elements::{Parent, Window, damage, known, read_header};
+use mkv_io::{Damage, Failed, FileId, Kind, ReadEnd, Reads};
+use mkv_schema::Header;
 use mkv_schema::ids::{
     DOC_TYPE_READ_VERSION, EBML_MAX_ID_LENGTH, EBML_MAX_SIZE_LENGTH, EBML_READ_VERSION,
 };
-use mkv_values::{Damage, Failed, FileId, Kind, ReadEnd};
+use mkv_schema::limits::{LONGEST_HEADER, MOST_OF_HEADER};
 use std::alloc::Global;
 
 /// The octets of the EBML header's ID, with which a file begins.

@@ -1,19 +1,18 @@
 //! The children of the EBML header: RFC 8794, section 8.1 (EBML Header).
 
 ghost use Rattle.std.specs.Prelude.{◌≡◌, ℕ, ◌+◌, ◌<◌, ◌≤◌, List, length, IfOk, IfSome};
-ghost use Rattle.matroska_format.specs.Element.{element_at, in_tree, stated_end};
-ghost use Rattle.matroska_format.specs.Placed.{StandsAt};
-ghost use Rattle.matroska_format.specs.Value.{body_of, first_of};
+ghost use Rattle.mkv_schema.specs.Element.{element_at, in_tree, stated_end};
+ghost use Rattle.mkv_schema.specs.Placed.{StandsAt};
+ghost use Rattle.mkv_schema.specs.Value.{body_of, first_of};
 ghost use Rattle.mkv_schema.specs.declared.ids.TheConstants.{EBML as EBML_ID};
-ghost use Rattle.element_bodies.specs.Body.{IsBody};
+ghost use Rattle.elements.specs.Body.{IsBody};
 ghost use Rattle.element_reader.specs.EbmlChildren.{child_refusal, children};
-ghost use Rattle.mkv_values.specs.declared.outside.TheConstants.{LONGEST_FILE};
+ghost use Rattle.mkv_io.specs.declared.outside.TheConstants.{LONGEST_FILE};
 
-use element_bodies::{body_in, child_at, is_known_value};
-use element_headers::{Header, Parent, damage_at};
-use element_walks::end_in;
+use elements::{Parent, body_in, child_at, damage_at, end_in, is_known_value};
+use mkv_io::{Damage, Kind};
+use mkv_schema::Header;
 use mkv_schema::ids::EBML;
-use mkv_values::{Damage, Kind};
 
 /// What refuses the children of an EBML header whose body this is: the first that isn't a value of its
 /// kind, or the damage among them.

@@ -2,20 +2,19 @@
 
 ghost use Rattle.std.specs.Prelude.{◌≡◌, ℕ, ◌+◌, ◌≤◌, List, length, None};
 ghost use Rattle.std.specs.Option.{option_map};
-ghost use Rattle.matroska_format.specs.Outline.{above, is_doc_type, place_of, wrong_doc_type};
-ghost use Rattle.matroska_format.specs.Value.{text_in, uint_in};
+ghost use Rattle.mkv_schema.specs.Outline.{above, is_doc_type, place_of, wrong_doc_type};
+ghost use Rattle.mkv_schema.specs.Value.{text_in, uint_in};
 ghost use Rattle.mkv_schema.specs.declared.ids.TheConstants.{DOC_TYPE as DOC_TYPE_ID};
-ghost use Rattle.element_bodies.specs.Body.{IsBody};
+ghost use Rattle.elements.specs.Body.{IsBody};
 ghost use Rattle.element_reader.specs.EbmlChildren.{IsShort, child_refusal, children};
-ghost use Rattle.mkv_values.specs.declared.outside.TheConstants.{LONGEST_FILE};
+ghost use Rattle.mkv_io.specs.declared.outside.TheConstants.{LONGEST_FILE};
 
 use crate::ebml_children::first_child;
 use ebml_numbers::read_uint;
-use element_bodies::{body_in, text_of};
-use element_headers::damage;
+use elements::{body_in, damage, text_of};
+use mkv_io::{Damage, Kind};
 use mkv_schema::ids::DOC_TYPE;
 use mkv_schema::{text_default, uint_default};
-use mkv_values::{Damage, Kind};
 
 /// The unsigned integer of an ID in an EBML header whose body this is, or its default, or 0.
 pub fn uint_in(body: &[u8], base: u64, total: u64, id: u32) -> u64

@@ -3,14 +3,15 @@
 ghost use Rattle.std.specs.Prelude.{◌+◌, ◌≤◌, IfOk};
 ghost use Rattle.mkv_io.specs.Faults.{HasCause};
 ghost use Rattle.mkv_io.specs.Sources.{IfTold, IsLive, OnlyReads, file_size};
-ghost use Rattle.matroska_format.specs.Element.{anywhere, element_at};
-ghost use Rattle.element_window.specs.Looks.{IsFound};
+ghost use Rattle.mkv_schema.specs.Element.{anywhere, element_at};
+ghost use Rattle.elements.specs.Looks.{IsFound};
 ghost use Rattle.element_reader.specs.Head.{IsHead, is_head_fault};
 
 use crate::head_end::HeadEnd;
-use element_headers::{Header, LONGEST_HEADER, Parent, read_header};
-use mkv_io::Reads;
-use mkv_values::FileId;
+use elements::{Parent, read_header};
+use mkv_io::{FileId, Reads};
+use mkv_schema::Header;
+use mkv_schema::limits::LONGEST_HEADER;
 
 /// The header of the Element at `at` octets behind the start of a file, whose parent ends at `end`, as
 /// if every Segment and every Cluster stood where it may be open. It reads at most

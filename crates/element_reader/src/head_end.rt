@@ -1,6 +1,6 @@
 //! Why no header is read.
 
-use mkv_values::Damage;
+use mkv_io::Damage;
 
 /// Why no header is read.
 #[derive(Clone, Copy, Debug, PartialEq, Eq)]

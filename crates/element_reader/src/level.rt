@@ -4,20 +4,18 @@ ghost use Rattle.std.specs.Prelude.{All, ◌≡◌, ℕ, ◌≤◌, List, length
 ghost use Rattle.std.specs.Option.{option_map_or};
 ghost use Rattle.mkv_io.specs.Faults.{HasCause, is_read_fault};
 ghost use Rattle.mkv_io.specs.Sources.{IfTold, IsLive, OnlyReads, file_size};
-ghost use Rattle.matroska_format.specs.Element.{end_in, is_unknown};
-ghost use Rattle.matroska_format.specs.Outline.{segment_run};
-ghost use Rattle.element_window.specs.Looks.{Goes};
-ghost use Rattle.element_window.specs.Window.{Holds};
+ghost use Rattle.mkv_schema.specs.Element.{end_in, is_unknown};
+ghost use Rattle.mkv_schema.specs.Outline.{segment_run};
+ghost use Rattle.elements.specs.Looks.{Goes};
+ghost use Rattle.elements.specs.Window.{Holds};
 ghost use Rattle.element_reader.specs.Collected.{IsInFile};
 ghost use Rattle.element_reader.specs.Level.{HasLevel, IsLevel, IsOnWay, nothing_left};
 
 use crate::collected::Collected;
-use ebml_format::Size;
-use element_headers::Header;
-use element_walks::{Level1Step, end_in, next_of_segment};
-use element_window::Window;
-use mkv_io::Reads;
-use mkv_values::{Damage, FileId, ReadEnd};
+use ebml_numbers::Size;
+use elements::{Level1Step, Window, end_in, next_of_segment};
+use mkv_io::{Damage, FileId, ReadEnd, Reads};
+use mkv_schema::Header;
 use std::alloc::Global;
 
 /// The Elements of level 1 of a Segment.

@@ -3,19 +3,17 @@
 ghost use Rattle.std.specs.Prelude.{◌≡◌, ℕ, ◌≤◌, List, length, IfOk, OnErr};
 ghost use Rattle.mkv_io.specs.Faults.{HasCause, is_failure};
 ghost use Rattle.mkv_io.specs.Sources.{IfTold, OnlyReads, live_files};
-ghost use Rattle.matroska_format.specs.Outline.{segment_run};
-ghost use Rattle.element_window.specs.Looks.{Goes};
-ghost use Rattle.element_window.specs.Window.{nothing_at};
+ghost use Rattle.mkv_schema.specs.Outline.{segment_run};
+ghost use Rattle.elements.specs.Looks.{Goes};
+ghost use Rattle.elements.specs.Window.{nothing_at};
 ghost use Rattle.element_reader.specs.LevelOne.{GivesNext, GoesOn, CanRead, StandsOn, first_place, left};
 
 use crate::level::segment_bound;
 use crate::outline::Outline;
-use ebml_format::Size;
-use element_headers::Header;
-use element_walks::{Level1Step, next_of_segment};
-use element_window::SmallWindow;
-use mkv_io::Reads;
-use mkv_values::{Failed, FileId};
+use ebml_numbers::Size;
+use elements::{Level1Step, SmallWindow, next_of_segment};
+use mkv_io::{Failed, FileId, Reads};
+use mkv_schema::Header;
 use std::marker::Model;
 
 /// Gives the Elements of level 1 of a Segment, Clusters too, in the order of the file. It takes no memory.

@@ -17,12 +17,12 @@ mod outline;
 mod outline_end;
 mod segment;
 
-pub use element_headers::{Header, Parent};
-pub use element_window::Window;
+pub use elements::{Parent, Window};
 pub use head::header_at;
 pub use head_end::HeadEnd;
 pub use level::segment_bound;
 pub use level_one::LevelOne;
 pub use loading::{LoadEnd, load};
+pub use mkv_schema::Header;
 pub use outline::Outline;
 pub use outline_end::OutlineEnd;

@@ -1,11 +1,11 @@
 //! The limits of a reader.
 
 ghost use Rattle.std.specs.Prelude.{◌≡◌};
-ghost use Rattle.matroska_format.specs.Outline.{over};
+ghost use Rattle.mkv_schema.specs.Outline.{over};
 
-use element_bodies::known;
-use element_headers::{Header, damage_at};
-use mkv_values::{Damage, Kind};
+use elements::{damage_at, known};
+use mkv_io::{Damage, Kind};
+use mkv_schema::Header;
 
 /// The refusal of an Element whose body has more octets than the limit.
 pub fn over(limit: u64, header: &Header) -> Option<Damage>

@@ -3,18 +3,17 @@
 ghost use Rattle.std.specs.Prelude.{length, ◌≡◌, ◌+◌, ◌≤◌, ◌↔◌, false, Some, IfOk, IsErrOf};
 ghost use Rattle.mkv_io.specs.Faults.{HasCause};
 ghost use Rattle.mkv_io.specs.Sources.{IfTold, IsLive, OnlyReads, file_size};
-ghost use Rattle.matroska_format.specs.Element.{is_unknown, known, stated_end};
-ghost use Rattle.matroska_format.specs.Value.{body_of};
+ghost use Rattle.mkv_schema.specs.Element.{is_unknown, known, stated_end};
+ghost use Rattle.mkv_schema.specs.Value.{body_of};
 ghost use Rattle.element_reader.specs.Load.{is_load_fault, limit_of, too_large};
 
 use crate::collected::is_described;
 use crate::limits::over;
-use element_bodies::known;
-use element_headers::Header;
-use matroska_format::limits::{MOST_OF_CUES, MOST_OF_HEADER, MOST_OF_ONE};
-use mkv_io::Reads;
+use elements::known;
+use mkv_io::{Bytes, Damage, FileId, Reads};
+use mkv_schema::Header;
 use mkv_schema::ids::{CUES, EBML, SEEK_HEAD};
-use mkv_values::{Bytes, Damage, FileId};
+use mkv_schema::limits::{MOST_OF_CUES, MOST_OF_HEADER, MOST_OF_ONE};
 use std::alloc::Global;
 use thiserror::Error;
 

@@ -3,21 +3,18 @@
 ghost use Rattle.std.specs.Prelude.{◌≡◌, ℕ, ◌+◌, ◌*◌, ◌≤◌, ◌<◌, ◌≢◌, List, length, slice_get, IfOk, IfSome, IsTrue, option_map};
 ghost use Rattle.mkv_io.specs.Faults.{HasCause};
 ghost use Rattle.mkv_io.specs.Sources.{IfTold, IsLive, OnlyReads, file_size};
-ghost use Rattle.matroska_format.specs.Outline.{Outlined};
-ghost use Rattle.matroska_format.specs.Value.{first_of};
+ghost use Rattle.mkv_schema.specs.Outline.{Outlined};
+ghost use Rattle.mkv_schema.specs.Value.{first_of};
 
 use crate::collected::first_of;
 use crate::ebml::ebml_header;
 use crate::level::{Level, collect};
 use crate::outline_end::OutlineEnd;
 use crate::segment::find_segment;
-use element_bodies::known;
-use element_headers::Header;
-use element_walks::HasSegment;
-use element_window::Window;
-use mkv_io::Reads;
+use elements::{HasSegment, Window, known};
+use mkv_io::{Damage, FileId, Reads};
+use mkv_schema::Header;
 use mkv_schema::ids::CLUSTER;
-use mkv_values::{Damage, FileId};
 use std::alloc::Global;
 use std::marker::Model;
 

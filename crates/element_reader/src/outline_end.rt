@@ -3,7 +3,7 @@
 ghost use Rattle.std.specs.Prelude.{◌≡◌};
 ghost use Rattle.element_reader.specs.declared.outline_end.OutlineEnd.TheVariants as outline_end;
 
-use mkv_values::{Damage, Failed, ReadEnd};
+use mkv_io::{Damage, Failed, ReadEnd};
 use std::alloc::AllocError;
 use thiserror::Error;
 

@@ -3,16 +3,14 @@
 ghost use Rattle.std.specs.Prelude.{◌≡◌, ◌≤◌, ◌<◌, IfOk, OnErr};
 ghost use Rattle.mkv_io.specs.Faults.{HasCause, is_failure};
 ghost use Rattle.mkv_io.specs.Sources.{IfTold, IsLive, OnlyReads, file_size};
-ghost use Rattle.element_window.specs.Looks.{Goes};
-ghost use Rattle.element_window.specs.Window.{Holds, IsEmptyWithin};
+ghost use Rattle.elements.specs.Looks.{Goes};
+ghost use Rattle.elements.specs.Window.{Holds, IsEmptyWithin};
 ghost use Rattle.element_reader.specs.Segment.{segment_from, body_or};
 
-use element_headers::{Header, Parent, damage};
-use element_walks::{end_in, id_of};
-use element_window::{Lookahead, Window};
-use mkv_io::Reads;
+use elements::{Lookahead, Parent, Window, damage, end_in, id_of};
+use mkv_io::{Damage, Failed, FileId, Kind, Reads};
+use mkv_schema::Header;
 use mkv_schema::ids::SEGMENT;
-use mkv_values::{Damage, Failed, FileId, Kind};
 
 /// The Segment of a file of `total` octets, from a place of level 0 on, or what refuses the file on the way.
 #[tactic(auto, using(crate::proofs::SegmentLemmas::ways))]

@@ -11,10 +11,10 @@ use Rattle.mkv_outputs.specs.Sinks.{HaveBeenGiven}
 use Rattle.mkv_outputs.specs.Starts.{AreBegun, StandsInPart}
 use Rattle.mkv_outputs.specs.declared.sink.Sink.{Sink}
 use Rattle.mkv_outputs.proofs.StartsLemmas.{IsBegun-whole}
-use Rattle.extract_model.specs.Content.{counted, entries_from, output_of, outputs_of}
-use Rattle.extract_model.specs.Frames.{Frame, frames_for, frames_in, frames_of}
-use Rattle.extract_model.specs.declared.track_output.TrackOutput.{TrackOutput}
-use Rattle.extract_model.proofs.ContentLemmas.{output_of-more, outputs_of-begun}
+use Rattle.extractors.specs.Content.{counted, entries_from, output_of, outputs_of}
+use Rattle.extractors.specs.Frames.{Frame, frames_for, frames_in, frames_of}
+use Rattle.extractors.specs.declared.track_output.TrackOutput.{TrackOutput}
+use Rattle.extractors.proofs.ContentLemmas.{output_of-more, outputs_of-begun}
 use Rattle.extractors.specs.Walks.{GivesBlock, GivesBlocks, HaveBlocks, count_in, number_after, numbers_after, piece}
 
 -- a block of another track adds nothing

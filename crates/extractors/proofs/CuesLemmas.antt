@@ -2,11 +2,11 @@
 use Rattle.std.proofs.Common.{◌≡◌, ℕ, zero, suc, List, [], ◌∷◌, map, Option, Some, None, slice_get, sym, ◌∙◌, ap, subst, arith}
 use Rattle.std.specs.List.{All}
 use Rattle.std.specs.Option.{option_map}
-use Rattle.mkv_jobs.specs.declared.job.Target.{Target}
+use Rattle.word_values.specs.declared.job.Target.{Target}
 use Rattle.tree_format.specs.Node.{Node}
 use Rattle.track_records.specs.Track.{track_of}
 use Rattle.track_records.specs.declared.track.Track.{Track}
-use Rattle.whole_files.specs.Whole.{output}
+use Rattle.extractors.specs.Whole.{output}
 use Rattle.extractors.specs.Cues.{cues_output, cues_text}
 use Rattle.extractors.specs.Source.{entry_in}
 use Rattle.extractors.proofs.JobLemmas.{entry-at}

@@ -13,12 +13,12 @@ use Rattle.mkv_outputs.specs.declared.sink.Sink.{Sink}
 use Rattle.mkv_outputs.proofs.GivenLemmas.{HaveBeenGiven-part}
 use Rattle.mkv_outputs.proofs.OutputsLemmas.{with_more-none, with_more-twice}
 use Rattle.mkv_outputs.proofs.StartsLemmas.{StandsInPart-more}
-use Rattle.extract_model.specs.Content.{counted, entries_from, entry_of}
+use Rattle.extractors.specs.Content.{counted, entries_from, entry_of}
 use Rattle.block_records.specs.Buffered.{Buffered, block_of}
 use Rattle.block_records.specs.declared.head.BlockHead.{BlockHead}
-use Rattle.extract_model.specs.Frames.{Frame, frames_from, frames_in}
-use Rattle.extract_model.specs.declared.track_output.Format.{Format}
-use Rattle.extract_model.proofs.ContentLemmas.{entry_of-counted}
+use Rattle.extractors.specs.Frames.{Frame, frames_from, frames_in}
+use Rattle.extractors.specs.declared.track_output.Format.{Format}
+use Rattle.extractors.proofs.ContentLemmas.{entry_of-counted}
 
 -- a frame of these octets, this time and this duration
 abbrev pub framed : List ℕ → ℤ → ℕ → Frame

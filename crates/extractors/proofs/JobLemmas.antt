@@ -6,18 +6,18 @@ use Rattle.std.proofs.Math.Seq.{drop-cons, take-suc}
 use Rattle.std.proofs.lemmas.List.{drop_all}
 use Rattle.std.proofs.lemmas.Grind.{flat_map-append}
 use Rattle.mkv_io.specs.Names.{AreApart, AreOthers}
-use Rattle.mkv_jobs.specs.declared.job.Job.{Job}
-use Rattle.mkv_jobs.specs.declared.job.Target.{Target}
+use Rattle.word_values.specs.declared.job.Job.{Job}
+use Rattle.word_values.specs.declared.job.Target.{Target}
 use Rattle.tree_format.specs.Node.{Node}
-use Rattle.track_format.specs.Entry.{default_duration_of}
-use Rattle.track_format.specs.Refusal.{too_long}
-use Rattle.track_format.specs.Tracks.{IsTrack}
+use Rattle.file_format.specs.Entry.{default_duration_of}
+use Rattle.file_format.specs.Refusal.{too_long}
+use Rattle.file_format.specs.Tracks.{IsTrack}
 use Rattle.track_records.specs.declared.track.Track.{Track}
-use Rattle.file_records.specs.Records.{AreRead}
-use Rattle.extract_model.specs.Content.{names_in}
-use Rattle.extract_model.specs.Job.{first_unfit, is_unfit, job_outputs, names_of, output_for, outputs_for, outputs_taken, taken_of, targets_of, track_output}
-use Rattle.extract_model.specs.declared.taken.Taken.{Taken}
-use Rattle.extract_model.specs.declared.track_output.TrackOutput.{TrackOutput}
+use Rattle.meta_records.specs.Records.{AreRead}
+use Rattle.extractors.specs.Content.{names_in}
+use Rattle.extractors.specs.Job.{first_unfit, is_unfit, job_outputs, names_of, output_for, outputs_for, outputs_taken, taken_of, targets_of, track_output}
+use Rattle.extractors.specs.declared.taken.Taken.{Taken}
+use Rattle.extractors.specs.declared.track_output.TrackOutput.{TrackOutput}
 use Rattle.extractors.specs.Source.{AreUsableOf, IsUsable, entry_in}
 use Rattle.extractors.specs.Walks.{HasSmallStep}
 

@@ -5,3 +5,7 @@ pub mod JobLemmas
 pub mod MakeLemmas
 pub mod TargetLemmas
 pub mod WalkLemmas
+pub mod ContentLemmas
+pub mod WholeLemmas
+pub mod LinesLemmas
+pub mod ReadingLemmas

@@ -13,9 +13,9 @@ use Rattle.mkv_outputs.specs.declared.sink.Sink.{Sink}
 use Rattle.mkv_outputs.proofs.FilesLemmas.{MadeSince-kept}
 use Rattle.mkv_outputs.proofs.GivenLemmas.{HaveBeenGiven-apart, HaveBeenGiven-names, length_of_map}
 use Rattle.mkv_outputs.proofs.StartsLemmas.{AreBegun-then, IsBegun-whole}
-use Rattle.extract_model.specs.Content.{head_of, names_in, output_of, outputs_of}
-use Rattle.extract_model.specs.declared.track_output.TrackOutput.{TrackOutput}
-use Rattle.extract_model.proofs.ContentLemmas.{names_of-outputs, output_of-none}
+use Rattle.extractors.specs.Content.{head_of, names_in, output_of, outputs_of}
+use Rattle.extractors.specs.declared.track_output.TrackOutput.{TrackOutput}
+use Rattle.extractors.proofs.ContentLemmas.{names_of-outputs, output_of-none}
 use Rattle.extractors.specs.Walks.{Makes, Writes, WritesAndReads}
 
 -- a refusal leaves a part

@@ -8,12 +8,12 @@ use Rattle.mkv_io.specs.Names.{AreOthers, Names, with_content}
 use Rattle.mkv_io.specs.Writing.{KeepsOthers}
 use Rattle.mkv_io.specs.declared.reads.Reads.{Ghosts}
 use Rattle.mkv_io.specs.declared.files.Files as writing
-use Rattle.mkv_jobs.specs.declared.job.Target.{Target}
+use Rattle.word_values.specs.declared.job.Target.{Target}
 use Rattle.mkv_outputs.specs.Outputs.{Output, with_outputs}
 use Rattle.mkv_outputs.specs.Starts.{AreBegun, StandsInPart}
 use Rattle.mkv_outputs.proofs.StartsLemmas.{IsBegun-whole, StandsInPart-before}
-use Rattle.extract_model.specs.Job.{names_of}
-use Rattle.whole_files.specs.Whole.{AreWritten}
+use Rattle.extractors.specs.Job.{names_of}
+use Rattle.extractors.specs.Whole.{AreWritten}
 
 -- ---- one of several names
 

@@ -1,7 +1,7 @@
 -- A walk over the blocks of a file that is open while outputs are written.
 use Rattle.std.proofs.Common.{◌≡◌, ℕ, ◌+◌, ◌≤◌, List, [], ◌∷◌, ◌++◌, length, Bool, true, false, refl, sym, ◌∙◌, ap, subst, append_assoc, append-nil, arith}
 use Rattle.std.proofs.Math.ListN.{replicate}
-use Rattle.mkv_values.specs.declared.damage.Damage.{Damage}
+use Rattle.mkv_io.specs.declared.damage.Damage.{Damage}
 use Rattle.mkv_io.specs.Names.{AreOthers, Names}
 use Rattle.mkv_io.specs.Sources.{live_files}
 use Rattle.mkv_io.specs.Writing.{KeepsOthers}
@@ -20,9 +20,9 @@ use Rattle.mkv_outputs.specs.declared.sink.Sink.{Sink}
 use Rattle.mkv_outputs.proofs.FilesLemmas.{AreOpen-kept}
 use Rattle.mkv_outputs.proofs.GivenLemmas.{HaveBeenGiven-part, holders_of-kept}
 use Rattle.mkv_outputs.proofs.StartsLemmas.{StandsInPart-then}
-use Rattle.extract_model.specs.Content.{outputs_of}
-use Rattle.extract_model.specs.declared.track_output.TrackOutput.{TrackOutput}
-use Rattle.extract_model.proofs.ContentLemmas.{outputs_of-begun}
+use Rattle.extractors.specs.Content.{outputs_of}
+use Rattle.extractors.specs.declared.track_output.TrackOutput.{TrackOutput}
+use Rattle.extractors.proofs.ContentLemmas.{outputs_of-begun}
 use Rattle.extractors.specs.Walks.{HaveBlocks, WritesAndReads, numbers_after}
 
 -- ---- the events of a file

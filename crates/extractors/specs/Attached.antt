@@ -2,10 +2,10 @@
 use Rattle.std.specs.Prelude.{ℕ, suc, zero, List, [], ◌∷◌, Option, Some, None, slice_get}
 use Rattle.std.specs.List.{flat_map}
 use Rattle.mkv_io.specs.Contents.{octets_from}
-use Rattle.mkv_jobs.specs.declared.job.Target.{Target}
+use Rattle.word_values.specs.declared.job.Target.{Target}
 use Rattle.mkv_outputs.specs.Outputs.{Output}
-use Rattle.file_records.specs.Attached.{AttachedFile}
-use Rattle.whole_files.specs.Whole.{output}
+use Rattle.meta_records.specs.Attached.{AttachedFile}
+use Rattle.extractors.specs.Whole.{output}
 
 -- an attached file by its number, from 1
 abbrev pub attached_at : {A : Type 0} → List A → ℕ → Option A

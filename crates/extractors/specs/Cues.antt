@@ -1,12 +1,12 @@
 -- What an extraction of cue points writes: RFC 9559, section 5.1.5 (Cues Element).
 use Rattle.std.specs.Prelude.{ℕ, List, [], ◌∷◌, Option, Some, None, slice_get}
 use Rattle.std.specs.List.{flat_map}
-use Rattle.mkv_jobs.specs.declared.job.Target.{Target}
+use Rattle.word_values.specs.declared.job.Target.{Target}
 use Rattle.mkv_outputs.specs.Outputs.{Output}
 use Rattle.tree_format.specs.Node.{Node}
-use Rattle.track_format.specs.Entry.{number_of}
-use Rattle.cue_records.specs.Lines.{cue_lines}
-use Rattle.whole_files.specs.Whole.{output}
+use Rattle.file_format.specs.Entry.{number_of}
+use Rattle.extractors.specs.Lines.{cue_lines}
+use Rattle.extractors.specs.Whole.{output}
 
 -- the lines of the first Cues of a file that are of a track; without one there are none
 abbrev pub cues_text : ℕ → ℕ → Option Node → List ℕ

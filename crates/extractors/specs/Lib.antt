@@ -2,3 +2,11 @@ pub mod Attached
 pub mod Cues
 pub mod Source
 pub mod Walks
+pub mod Chapters
+pub mod Content
+pub mod Frames
+pub mod Job
+pub mod Times
+pub mod Whole
+pub mod Lines
+pub mod Reading

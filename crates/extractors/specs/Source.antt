@@ -4,19 +4,19 @@ use Rattle.std.specs.List.{All}
 use Rattle.mkv_io.specs.Sources.{IsLive, file_size}
 use Rattle.mkv_io.specs.declared.reads.Reads.{Ghosts}
 use Rattle.mkv_schema.specs.declared.ids.TheConstants.{CHAPTERS, CUES}
-use Rattle.mkv_jobs.specs.declared.job.Job.{Job}
-use Rattle.mkv_jobs.specs.declared.job.Target.{Target}
-use Rattle.matroska_format.specs.Outline.{first_damage}
+use Rattle.word_values.specs.declared.job.Job.{Job}
+use Rattle.word_values.specs.declared.job.Target.{Target}
+use Rattle.mkv_schema.specs.Outline.{first_damage}
 use Rattle.tree_format.specs.Node.{Node}
 use Rattle.tree_format.specs.Standing.{IsSoundOf}
-use Rattle.track_format.specs.Encoding.{usable_causes}
+use Rattle.file_format.specs.Encoding.{usable_causes}
 use Rattle.track_records.specs.declared.track.Track.{Track}
-use Rattle.attachment_reading.specs.Walk.{IsAttachedIn}
-use Rattle.file_records.specs.Records.{AreRead, IsGoodInfo, scale_of_info}
+use Rattle.meta_records.specs.Walk.{IsAttachedIn}
+use Rattle.meta_records.specs.Records.{AreRead, IsGoodInfo, scale_of_info}
 use Rattle.block_format.specs.Elements.{with_limits}
 use Rattle.block_format.specs.Events.{Event, events_of}
-use Rattle.extract_model.specs.Job.{job_outputs}
-use Rattle.extract_model.specs.declared.track_output.TrackOutput.{TrackOutput}
+use Rattle.extractors.specs.Job.{job_outputs}
+use Rattle.extractors.specs.declared.track_output.TrackOutput.{TrackOutput}
 use Rattle.extractors.specs.declared.source.Source.{Source}
 
 -- the entry of a track

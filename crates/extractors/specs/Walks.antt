@@ -10,9 +10,9 @@ use Rattle.mkv_outputs.specs.Outputs.{Output, with_outputs}
 use Rattle.mkv_outputs.specs.Sinks.{AreOpen, HaveBeenGiven, ids_of, names_under}
 use Rattle.mkv_outputs.specs.Starts.{StandsInPart}
 use Rattle.mkv_outputs.specs.declared.sink.Sink.{Sink}
-use Rattle.extract_model.specs.Content.{counted, entries_from, outputs_of}
-use Rattle.extract_model.specs.Frames.{Frame, frames_for, frames_of}
-use Rattle.extract_model.specs.declared.track_output.TrackOutput.{TrackOutput}
+use Rattle.extractors.specs.Content.{counted, entries_from, outputs_of}
+use Rattle.extractors.specs.Frames.{Frame, frames_for, frames_of}
+use Rattle.extractors.specs.declared.track_output.TrackOutput.{TrackOutput}
 use Rattle.extractors.specs.declared.frames.Framed.{Framed}
 
 -- ---- one block

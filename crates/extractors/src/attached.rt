@@ -4,20 +4,19 @@ ghost use Rattle.std.specs.Prelude.{◌≡◌, ◌+◌, ◌*◌, ◌≤◌, ◌�
 ghost use Rattle.mkv_io.specs.Names.{AreOthers};
 ghost use Rattle.mkv_io.specs.Sources.{IfTold, IsLive, file_size};
 ghost use Rattle.mkv_io.specs.Writing.{KeepsOthers};
-ghost use Rattle.mkv_jobs.specs.Ends.{HasRemuxCause};
-ghost use Rattle.attachment_reading.specs.Walk.{IsAttachedIn};
-ghost use Rattle.file_records.specs.Attached.{in_file};
-ghost use Rattle.extract_model.specs.Job.{names_of};
-ghost use Rattle.whole_files.specs.Whole.{AreWritten};
+ghost use Rattle.mkv_io.specs.Ends.{HasRemuxCause};
+ghost use Rattle.meta_records.specs.Walk.{IsAttachedIn};
+ghost use Rattle.meta_records.specs.Attached.{in_file};
+ghost use Rattle.extractors.specs.Job.{names_of};
+ghost use Rattle.extractors.specs.Whole.{AreWritten};
 ghost use Rattle.extractors.specs.Attached.{attached_at, attached_output, attached_outputs};
 
 use crate::source::Source;
-use attachment_reading::Attachment;
-use mkv_io::Files;
-use mkv_jobs::{RemuxEnd, Target};
-use mkv_values::List;
+use crate::whole::copy_file;
+use mkv_io::{Files, List, RemuxEnd};
+use output_model::Attachment;
 use std::alloc::Global;
-use whole_files::copy_file;
+use word_values::Target;
 
 /// So many octets of data are copied at once.
 const CHUNK: usize = 65_536;

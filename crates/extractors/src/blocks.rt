@@ -5,23 +5,21 @@ ghost use Rattle.std.specs.List.{All};
 ghost use Rattle.mkv_io.specs.Faults.{HasCause, is_make_failure};
 ghost use Rattle.mkv_io.specs.Names.{AreOthers};
 ghost use Rattle.mkv_io.specs.Sources.{IfTold, file_size, live_files};
-ghost use Rattle.mkv_jobs.specs.Ends.{HasRemuxCause};
+ghost use Rattle.mkv_io.specs.Ends.{HasRemuxCause};
 ghost use Rattle.block_format.specs.Events.{blocks_of, damages_of};
 ghost use Rattle.block_records.specs.Buffered.{block_of};
 ghost use Rattle.cluster_reader.specs.Reading.{CanRead, left_of};
 ghost use Rattle.cluster_reader.specs.ToldDamages.{told_damages};
-ghost use Rattle.extract_model.specs.Content.{counted};
+ghost use Rattle.extractors.specs.Content.{counted};
 ghost use Rattle.mkv_outputs.specs.Outputs.{with_more};
 ghost use Rattle.mkv_outputs.specs.Sinks.{AreOpen, Gives, WritesOutputs, names_under};
 ghost use Rattle.extractors.specs.Walks.{GivesBlock, GivesBlocks, HasSmallStep, ReadsFew, WritesAndReads, count_in, piece};
 
 use crate::frames::{Scratch, give_frames};
+use crate::track_output::TrackOutput;
 use cluster_reader::{Cursor, Damages, Step};
-use extract_model::TrackOutput;
-use mkv_io::Files;
-use mkv_jobs::RemuxEnd;
+use mkv_io::{Files, MakeFault, RemuxEnd};
 use mkv_outputs::Outputs;
-use mkv_values::MakeFault;
 use std::alloc::Global;
 
 /// Gives a block to the k-th output, whose next frame has this number, and answers the number of the one behind. It takes

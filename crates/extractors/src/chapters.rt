@@ -3,16 +3,14 @@
 ghost use Rattle.std.specs.Prelude.{IfSome};
 ghost use Rattle.mkv_schema.specs.declared.ids.TheConstants.{CHAPTERS as CHAPTERS_ID};
 ghost use Rattle.tree_format.specs.Standing.{IsSoundOf};
-ghost use Rattle.extract_model.specs.Chapters.{chapters_text};
-ghost use Rattle.whole_files.specs.Whole.{WritesFile};
+ghost use Rattle.extractors.specs.Chapters.{chapters_text};
+ghost use Rattle.extractors.specs.Whole.{WritesFile};
 
+use crate::whole::write_file;
 use ebml_tree::Tree;
-use mkv_io::Files;
-use mkv_jobs::RemuxEnd;
-use mkv_values::Bytes;
+use mkv_io::{Bytes, Files, RemuxEnd};
 use srt_chapters::put_simple;
 use std::alloc::Global;
-use whole_files::write_file;
 
 /// Makes the file of a name, whatever it was, with a file's first Chapters as simple chapters; without one it is empty. It
 /// is closed, whatever the answer.

@@ -3,23 +3,23 @@
 ghost use Rattle.std.specs.Prelude.{◌≡◌, ◌≤◌, ◌∷◌, [], slice_get, IfOk, IfSome};
 ghost use Rattle.std.specs.String.{string_bytes};
 ghost use Rattle.mkv_io.specs.Writing.{KeepsOthers};
-ghost use Rattle.mkv_jobs.specs.Ends.{HasRemuxCause};
+ghost use Rattle.mkv_io.specs.Ends.{HasRemuxCause};
 ghost use Rattle.mkv_schema.specs.declared.ids.TheConstants.{CUES as CUES_ID};
 ghost use Rattle.tree_format.specs.Standing.{IsSoundOf};
-ghost use Rattle.file_records.specs.Records.{AreRead, IsGoodInfo, scale_of_info};
-ghost use Rattle.extract_model.specs.Job.{names_of};
-ghost use Rattle.whole_files.specs.Whole.{AreWritten};
+ghost use Rattle.meta_records.specs.Records.{AreRead, IsGoodInfo, scale_of_info};
+ghost use Rattle.extractors.specs.Job.{names_of};
+ghost use Rattle.extractors.specs.Whole.{AreWritten};
 ghost use Rattle.extractors.specs.Cues.{cues_output, cues_outputs, cues_text};
 ghost use Rattle.extractors.specs.Source.{entries_in};
 
+use crate::lines::put_cues;
 use crate::source::Source;
-use cue_records::put_cues;
+use crate::whole::write_file;
 use ebml_tree::Tree;
-use file_records::scale_of;
-use mkv_io::Files;
-use mkv_jobs::{RemuxEnd, Target};
+use meta_records::scale_of;
+use mkv_io::{Files, RemuxEnd};
 use std::alloc::{AllocError, Global};
-use whole_files::write_file;
+use word_values::Target;
 
 /// The lines of a track in a file's first Cues, if it has one.
 fn cues_text(

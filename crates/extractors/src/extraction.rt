@@ -6,27 +6,26 @@ ghost use Rattle.mkv_io.specs.Faults.{HasCause, is_make_failure};
 ghost use Rattle.mkv_io.specs.Names.{AreApart, AreOthers};
 ghost use Rattle.mkv_io.specs.Sources.{IfTold, file_size, live_files};
 ghost use Rattle.mkv_io.specs.Writing.{KeepsOthers};
-ghost use Rattle.mkv_jobs.specs.Ends.{HasRemuxCause};
+ghost use Rattle.mkv_io.specs.Ends.{HasRemuxCause};
 ghost use Rattle.block_format.specs.Events.{blocks_of, damages_of};
 ghost use Rattle.cluster_reader.specs.Reading.{CanRead, left_of};
 ghost use Rattle.cluster_reader.specs.ToldDamages.{told_damages};
 ghost use Rattle.mkv_outputs.specs.Sinks.{AreOpen, HaveBeenGiven, MadeSince};
-ghost use Rattle.extract_model.specs.Content.{head_of, names_in, outputs_of};
-ghost use Rattle.extract_model.specs.Job.{names_of, taken_of, targets_of};
+ghost use Rattle.extractors.specs.Content.{head_of, names_in, outputs_of};
+ghost use Rattle.extractors.specs.Job.{names_of, taken_of, targets_of};
 ghost use Rattle.extractors.specs.Source.{AreUsable, IsSource, events_in, outputs_in};
 ghost use Rattle.extractors.specs.Walks.{HasSmallStep, Makes, ReadsFew, Writes};
 
 use crate::blocks::write_blocks;
 use crate::job::{taken_of, targets_of, track_outputs};
 use crate::source::Source;
+use crate::track_output::{Format, TrackOutput};
 use cluster_reader::{Cursor, Damages};
-use extract_model::{Format, TrackOutput};
-use file_records::scale_of;
-use mkv_io::Files;
-use mkv_jobs::{Job, RemuxEnd};
+use meta_records::scale_of;
+use mkv_io::{Files, MakeFault, RemuxEnd};
 use mkv_outputs::Outputs;
-use mkv_values::MakeFault;
 use std::alloc::Global;
+use word_values::Job;
 
 /// Takes frames of tracks, or their times, out of a file, each target into a file of its own, and answers what
 /// is wrong with the file that they are taken from. A target whose track the file hasn't makes no file.

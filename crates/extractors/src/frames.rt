@@ -5,17 +5,16 @@ ghost use Rattle.mkv_io.specs.Faults.{HasCause, is_make_failure};
 ghost use Rattle.block_records.specs.Buffered.{block_of};
 ghost use Rattle.mkv_outputs.specs.Outputs.{with_more};
 ghost use Rattle.mkv_outputs.specs.Sinks.{AreOpen, Gives, WritesOutputs};
-ghost use Rattle.extract_model.specs.Content.{counted, entries_from, entry_of};
-ghost use Rattle.extract_model.specs.Frames.{frames_in};
-ghost use Rattle.extract_model.specs.Times.{time_line};
+ghost use Rattle.extractors.specs.Content.{counted, entries_from, entry_of};
+ghost use Rattle.extractors.specs.Frames.{frames_in};
+ghost use Rattle.extractors.specs.Times.{time_line};
 ghost use Rattle.extractors.specs.Walks.{frame_of, text_entry};
 
 use crate::times::{frame_time, push_time};
+use crate::track_output::{Format, TrackOutput};
 use cluster_reader::Cursor;
-use extract_model::{Format, TrackOutput};
-use mkv_io::Files;
+use mkv_io::{Bytes, Files, MakeFault};
 use mkv_outputs::Outputs;
-use mkv_values::{Bytes, MakeFault};
 use srt_texts::put_srt;
 use std::alloc::{AllocError, Global};
 

@@ -2,19 +2,20 @@
 
 ghost use Rattle.std.specs.Prelude.{◌≡◌, map, Ok, IfOk, IfSome, slice_get};
 ghost use Rattle.std.specs.List.{All};
-ghost use Rattle.track_format.specs.Encoding.{prefix_of, usable_prefix};
+ghost use Rattle.file_format.specs.Encoding.{prefix_of, usable_prefix};
 ghost use Rattle.track_records.specs.Sound.{IsEntry};
 ghost use Rattle.track_records.specs.Track.{track_of};
-ghost use Rattle.extract_model.specs.Job.{first_unfit, fits, format_of, is_unfit, job_unfit, outputs_for, private_of, taken_of, targets_of, track_output};
-ghost use Rattle.file_records.specs.Records.{AreRead};
+ghost use Rattle.extractors.specs.Job.{first_unfit, fits, format_of, is_unfit, job_unfit, outputs_for, private_of, taken_of, targets_of, track_output};
+ghost use Rattle.meta_records.specs.Records.{AreRead};
 ghost use Rattle.extractors.specs.Source.{AreUsableOf, IsUsable, entry_in};
 
-use extract_model::{Format, Taken, TrackOutput};
-use mkv_jobs::{Form, Job, Target};
+use crate::taken::Taken;
+use crate::track_output::{Format, TrackOutput};
+use mkv_io::{Bytes, List, Text};
 use mkv_schema::ids::CODEC_PRIVATE;
-use mkv_values::{Bytes, List, Text};
 use std::alloc::{AllocError, Global};
 use track_records::{Track, usable};
+use word_values::{Form, Job, Target};
 
 /// What a job takes of tracks; None where it takes something else.
 pub fn taken_of(job: &Job) -> Option<Taken>

@@ -1,9 +1,9 @@
 //! A file of which something is taken.
 
-use attachment_reading::Attachment;
 use ebml_tree::Tree;
 use element_reader::Outline;
-use mkv_values::{FileId, List};
+use mkv_io::{FileId, List};
+use output_model::Attachment;
 use track_records::Track;
 
 /// A live file, and what was read of it before its blocks.

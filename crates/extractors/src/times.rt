@@ -3,7 +3,7 @@
 ghost use Rattle.std.specs.Prelude.{◌≡◌, ◌++◌, ◌<◌, ◌*◌, ◌^◌, pos, ◌+ℤ◌, OnOk};
 ghost use Rattle.std.specs.String.{string_bytes};
 ghost use Rattle.block_records.specs.Time.{IsSmallTime};
-ghost use Rattle.extract_model.specs.Times.{time_line};
+ghost use Rattle.extractors.specs.Times.{time_line};
 
 use cluster_reader::BlockHead;
 use std::alloc::AllocError;

@@ -6,9 +6,9 @@ ghost use Rattle.tree_format.specs.Standing.{IsSoundOf};
 
 use ebml_tree::{Tree, TreeEnd};
 use meta_records::{Info, read_info};
+use mkv_io::{Damage, Kind};
 use mkv_schema::ids::INFO;
 use mkv_schema::is_master;
-use mkv_values::{Damage, Kind};
 use std::alloc::Global;
 use std::test::Fail;
 

@@ -33,7 +33,7 @@ fn copied(bytes: &[u8]) -> Result<Octets, NumFault> {
 }
 
 #[test]
-#[tactic(auto, unfolding(ebml_format::specs::Number::is_id))]
+#[tactic(auto, unfolding(ebml_numbers::specs::Number::is_id))]
 fn the_headers_of_known_octets_are_read_and_written(rt: HostRuntime) -> Result<(), Fail> {
     for (at, id, size) in ELEMENTS {
         let (found, body) = header(HEADER.get(at..).unwrap_or_default())?;

@@ -4,9 +4,9 @@ ghost use Rattle.std.specs.Prelude.{IfOk};
 ghost use Rattle.tree_format.specs.Standing.{IsSound};
 
 use ebml_tree::{Tree, TreeEnd};
+use mkv_io::Kind;
 use mkv_schema::ids::TRACKS;
 use mkv_schema::is_master;
-use mkv_values::Kind;
 use std::alloc::{AllocError, Global};
 use std::test::Fail;
 use track_records::{Track, read_tracks, usable};

@@ -3,8 +3,8 @@ use Rattle.std.proofs.Common.{◌≡◌, ◌≢◌, ℕ, suc, ◌+◌, ◌<◌, 
 use Rattle.std.specs.List.{position_from}
 use Rattle.std.proofs.Math.Seq.{drop-cons, take-suc}
 use Rattle.std.proofs.lemmas.List.{map-append}
-use Rattle.mkv_values.specs.declared.outside.FileId.{FileId}
-use Rattle.pending_edits.specs.Pending.{is_pending}
+use Rattle.mkv_io.specs.declared.outside.FileId.{FileId}
+use Rattle.sidecar_edit.specs.Pending.{is_pending}
 use Rattle.merge_words.specs.declared.files.FileWords.{FileWords}
 use Rattle.mkv_outputs.specs.Sinks.{AreLive, holders_of}
 use Rattle.input_files.specs.Inputs.{contents_of, file_names}

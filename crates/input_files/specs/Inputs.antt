@@ -1,14 +1,14 @@
 -- The input files of a merge, as they are opened.
 use Rattle.std.specs.Prelude.{◌≡◌, ◌≤◌, ⊤, ℕ, Bool, true, false, List, map, Option, Some, None, is_none, Result, Ok, Err}
 use Rattle.std.specs.List.{All, position_from}
-use Rattle.mkv_values.specs.declared.outside.FileId.{FileId}
-use Rattle.mkv_values.specs.declared.outside.OpenFault.{OpenFault}
-use Rattle.mkv_values.specs.declared.outside.OpenFault.TheVariants as open_fault
+use Rattle.mkv_io.specs.declared.outside.FileId.{FileId}
+use Rattle.mkv_io.specs.declared.outside.OpenFault.{OpenFault}
+use Rattle.mkv_io.specs.declared.outside.OpenFault.TheVariants as open_fault
 use Rattle.mkv_io.specs.LiveFiles.{KeepsFiles, KeepsHolders}
 use Rattle.mkv_io.specs.Sources.{live_files}
 use Rattle.mkv_io.specs.declared.reads.Reads.{Ghosts}
 use Rattle.mkv_io.specs.declared.files.Files as writing
-use Rattle.pending_edits.specs.Pending.{is_pending}
+use Rattle.sidecar_edit.specs.Pending.{is_pending}
 use Rattle.merge_words.specs.declared.files.FileWords.{FileWords}
 use Rattle.mkv_outputs.specs.Sinks.{AreLive, AreRising, IsNoneOf, holders_of}
 use Rattle.input_files.specs.declared.inputs_end.InputsEnd.{InputsEnd}

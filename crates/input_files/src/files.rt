@@ -10,8 +10,7 @@ ghost use Rattle.input_files.specs.Inputs.{LeavesContents, OpensInputs, TellsMis
 
 use crate::inputs_end::InputsEnd;
 use merge_words::FileWords;
-use mkv_io::Files;
-use mkv_values::{FileId, List, OpenFault};
+use mkv_io::{FileId, Files, List, OpenFault};
 use std::alloc::Global;
 
 /// Opens the files of a merge's inputs, in the order of the words. After a refusal none of them stays open.

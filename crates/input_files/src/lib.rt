@@ -1,13 +1,26 @@
 #![tactic(auto)]
 
-//! The input files of a merge: all of them are opened, or none, and they are closed together; and the first of which an
-//! edit is pending.
+//! The input files of a merge: all of them are opened, or none, and they are closed together; the first of which an edit is
+//! pending; and the text files among them, read whole, SubRip as a track and entries, simple chapters as a Chapters Element
+//! (RFC 9559, sections 5.1.4, Tracks Element, and 5.1.7, Chapters Element).
 
+mod chapter_file;
 mod files;
 mod inputs_end;
 pub mod laws;
+mod limits;
+mod names;
 mod pending;
+mod reading;
+mod refusal;
+mod track;
 
+pub use chapter_file::{ChapterFile, read_chapter_file};
 pub use files::{close_all, open_all};
 pub use inputs_end::InputsEnd;
+pub use limits::{MOST_OF_CHAPTERS, MOST_OF_SRT};
+pub use names::{begins_ebml, is_srt_name};
 pub use pending::first_pending;
+pub use reading::{read_chapters, read_entries};
+pub use refusal::{TextFileEnd, TextRefusal};
+pub use track::text_tracks;

@@ -3,14 +3,13 @@
 ghost use Rattle.std.specs.Prelude.{◌≡◌, ◌+◌, ◌*◌, ◌≤◌, length, IfOk};
 ghost use Rattle.mkv_io.specs.Faults.{HasCause, is_read_fault};
 ghost use Rattle.mkv_io.specs.Told.{Told};
-ghost use Rattle.sidecar_format.specs.declared.place.TheConstants.{HEAD};
-ghost use Rattle.pending_edits.specs.Pending.{LooksOnly};
+ghost use Rattle.sidecar_edit.specs.declared.place.TheConstants.{HEAD};
+ghost use Rattle.sidecar_edit.specs.Pending.{LooksOnly};
 ghost use Rattle.input_files.specs.Inputs.{file_names, first_pending};
 
 use merge_words::FileWords;
-use mkv_io::Files;
-use mkv_values::ReadEnd;
-use pending_edits::is_pending;
+use mkv_io::{Files, ReadEnd};
+use sidecar_edit::is_pending;
 use std::alloc::Global;
 
 /// The first of a merge's inputs, from 0 in the order of the words, of which an edit is pending.

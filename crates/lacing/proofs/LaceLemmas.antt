@@ -10,17 +10,17 @@ use Rattle.std.proofs.lemmas.List.Sums.{sum_by-cons, sum_by_push}
 use Rattle.std.proofs.lemmas.Nat.{div-mul-add, mod-mul-add}
 use Rattle.std.proofs.lemmas.Bool.{cases_lt, cases_eq, cond-true, cond-false, lt-ltb, le-ltb, le-leb, leb-true, eq-eqb, eqb-true, ne_eqb}
 use Rattle.std.proofs.lemmas.Bool.Decides.{nat_tests}
-use Rattle.ebml_format.specs.declared.number.SizeRead.{SizeRead}
-use Rattle.ebml_format.specs.declared.number.Size.{Size}
-use Rattle.ebml_format.specs.declared.number.Size.TheVariants.{Known, Unknown}
-use Rattle.ebml_format.specs.declared.number.NumFault.{NumFault}
-use Rattle.ebml_format.specs.Number.{AreOctets, announced, vint_data, all_ones, size_at, size_of_data}
-use Rattle.ebml_format.proofs.NumberLemmas.{size_at-reads, size_at-read, size_at-front, size_at-alone}
+use Rattle.ebml_numbers.specs.declared.number.SizeRead.{SizeRead}
+use Rattle.ebml_numbers.specs.declared.number.Size.{Size}
+use Rattle.ebml_numbers.specs.declared.number.Size.TheVariants.{Known, Unknown}
+use Rattle.ebml_numbers.specs.declared.number.NumFault.{NumFault}
+use Rattle.ebml_numbers.specs.Number.{AreOctets, announced, vint_data, all_ones, size_at, size_of_data}
+use Rattle.ebml_numbers.proofs.NumberLemmas.{size_at-reads, size_at-read, size_at-front, size_at-alone}
 use Rattle.lacing.specs.declared.kind.Lace.{Lace}
 use Rattle.lacing.specs.declared.kind.Lace.TheVariants as lace
 use Rattle.lacing.specs.Lace.{xiph_octets, IsFirstSize, bias, IsDifference, IsSpelling, Spells, but_last, AreEqual, IsHead, IsLace, FindsLace, HasNoLace}
 use Rattle.lacing.specs.Reading.{xiph_size, known_size, first_size, data_of, next_size, any_size, fitting, size_in, with_size, size_then, sizes_in, with_last, frames_in, is_frame_count, lace_in}
-use Rattle.ebml_format.proofs.SpelledLemmas.{AreOctets-drop}
+use Rattle.ebml_numbers.proofs.SpelledLemmas.{AreOctets-drop}
 
 -- a pair that is there under a test
 if_some : {T : Type 0} (b : Bool) (x y : T) (m n : ℕ) → cond {A = Option (T × ℕ)} b (Some (x, m)) None ≡ Some (y, n) → (b ≡ true) × (x ≡ y) × (m ≡ n)

@@ -1,7 +1,7 @@
 -- Laces that the rules of RFC 9559, section 10.3 (Block Lacing), settle, computed, so that a wrong definition does not check. The sizes 800, 500 and 1000 are the standard's own.
 use Rattle.std.proofs.Common.{◌≡◌, ℕ, List, [], ◌∷◌, replicate, None, Some, refl}
 use Rattle.std.specs.Int.Count.{count_leading_zeros}
-use Rattle.ebml_format.specs.Number.{size_at, least_size_width}
+use Rattle.ebml_numbers.specs.Number.{size_at, least_size_width}
 use Rattle.lacing.specs.declared.kind.Lace.TheVariants as lace
 use Rattle.lacing.specs.Reading.{next_size, size_in, sizes_in, lace_in}
 use Rattle.lacing.specs.Writing.{difference_width, octets_of_sizes, lace_head}

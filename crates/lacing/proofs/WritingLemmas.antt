@@ -6,12 +6,12 @@ use Rattle.std.proofs.lemmas.List.{length-append, length-replicate, drop_more, d
 use Rattle.std.proofs.lemmas.List.Elements.{All-nil, All-cons, All-head, All-tail, All-weaker}
 use Rattle.std.proofs.lemmas.List.Sums.{sum_by-cons, sum_by_push}
 use Rattle.std.proofs.lemmas.Nat.{pow_pos}
-use Rattle.ebml_format.specs.declared.number.SizeRead.{SizeRead}
-use Rattle.ebml_format.specs.declared.number.Size.{Size}
-use Rattle.ebml_format.specs.declared.number.Size.TheVariants.{Known}
-use Rattle.ebml_format.specs.Number.{vint_data, marker, all_ones, size_at, size_octets, least_size_width, IsLeastWidth}
-use Rattle.ebml_format.proofs.WidthLemmas.{least_width-IsLeast, least_size_width-IsLeast}
-use Rattle.ebml_format.proofs.NumberLemmas.{size_at-reads, size_at-octets, length-size_octets}
+use Rattle.ebml_numbers.specs.declared.number.SizeRead.{SizeRead}
+use Rattle.ebml_numbers.specs.declared.number.Size.{Size}
+use Rattle.ebml_numbers.specs.declared.number.Size.TheVariants.{Known}
+use Rattle.ebml_numbers.specs.Number.{vint_data, marker, all_ones, size_at, size_octets, least_size_width, IsLeastWidth}
+use Rattle.ebml_numbers.proofs.WidthLemmas.{least_width-IsLeast, least_size_width-IsLeast}
+use Rattle.ebml_numbers.proofs.NumberLemmas.{size_at-reads, size_at-octets, length-size_octets}
 use Rattle.lacing.specs.declared.kind.Lace.{Lace}
 use Rattle.lacing.specs.declared.kind.Lace.TheVariants as lace
 use Rattle.lacing.specs.Lace.{IsFirstSize, bias, IsDifference, IsSpelling, Spells, but_last, IsHead, IsLace}

@@ -1,7 +1,7 @@
 -- Laces: RFC 9559, section 10.3 (Block Lacing).
 use Rattle.std.specs.Prelude.{◌≡◌, ℕ, ◌+◌, ◌-◌, ◌*◌, ◌/◌, ◌%◌, ◌^◌, ◌≤◌, ⊤, List, [], ◌∷◌, ◌++◌, length, take, sum, All, replicate, Option, None, Some, Ok}
-use Rattle.ebml_format.specs.declared.number.Size.TheVariants.{Known}
-use Rattle.ebml_format.specs.Number.{announced, vint_data, size_at}
+use Rattle.ebml_numbers.specs.declared.number.Size.TheVariants.{Known}
+use Rattle.ebml_numbers.specs.Number.{announced, vint_data, size_at}
 use Rattle.lacing.specs.declared.kind.Lace.{Lace}
 use Rattle.lacing.specs.declared.kind.Lace.TheVariants as lace
 

@@ -1,6 +1,6 @@
 -- A lace written: RFC 9559, section 10.3 (Block Lacing).
 use Rattle.std.specs.Prelude.{◌≡◌, ℕ, ◌+◌, ◌-◌, ◌^◌, ◌≤◌, nat_le, ⊤, List, [], ◌∷◌, ◌++◌, length, sum, Option, None, Some}
-use Rattle.ebml_format.specs.Number.{size_octets, least_size_width, least_width}
+use Rattle.ebml_numbers.specs.Number.{size_octets, least_size_width, least_width}
 use Rattle.lacing.specs.declared.kind.Lace.{Lace}
 use Rattle.lacing.specs.declared.kind.Lace.TheVariants as lace
 use Rattle.lacing.specs.Lace.{xiph_octets, bias, but_last, AreEqual}

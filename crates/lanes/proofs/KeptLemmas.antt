@@ -10,9 +10,9 @@ use Rattle.cluster_reader.specs.Reading.{Reading, left_of, paid}
 use Rattle.cluster_reader.proofs.ReadingLemmas.{CanRead-kept}
 use Rattle.merge_model.specs.Lanes.{lane_blocks, lane_damages}
 use Rattle.merge_model.specs.Merged.{ordered_from}
-use Rattle.lane_blocks.specs.Links.{IsOpenLink, IsToldLink, KeepsLink, given_in, octets_in, track_with}
-use Rattle.lane_blocks.specs.declared.link.Link.{Link}
-use Rattle.lane_blocks.specs.declared.link.Link.TheVariants.{Track, Entries}
+use Rattle.merge_model.specs.FileLinks.{IsOpenLink, IsToldLink, KeepsLink, given_in, octets_in, track_with}
+use Rattle.merge_model.specs.declared.link.Link.{Link}
+use Rattle.merge_model.specs.declared.link.Link.TheVariants.{Track, Entries}
 use Rattle.lanes.specs.Lane.{IsReady, KeepsLane, LaneSeen}
 use Rattle.lanes.specs.Laws.{StandsAmong}
 use Rattle.lanes.specs.Told.{with_all}

@@ -6,3 +6,7 @@ pub mod ToldLemmas
 pub mod TrackLemmas
 pub mod WalkLemmas
 pub mod WayLemmas
+pub mod PlaceLemmas
+pub mod TickLemmas
+pub mod EndLemmas
+pub mod SurveyLemmas

@@ -1,16 +1,16 @@
 -- What the first thing of an input gives to a lane.
 use Rattle.std.proofs.Common.{◌≡◌, ℕ, Bool, true, false, if◌then◌else◌, List, [], ◌∷◌, ◌++◌, filter, flat_map, refl}
 use Rattle.std.specs.Prelude.{◌||◌, ◌==◌}
-use Rattle.mkv_values.specs.declared.damage.Damage.{Damage}
+use Rattle.mkv_io.specs.declared.damage.Damage.{Damage}
 use Rattle.block_format.specs.Block.{Block}
 use Rattle.block_format.specs.Events.{Event, block, blocks_of}
 use Rattle.cluster_reader.specs.Reading.{damage_event}
 use Rattle.merge_model.specs.Links.{given_blocks, placed}
-use Rattle.text_entries.specs.declared.Entry.{Entry}
-use Rattle.lane_blocks.specs.Links.{placing_of, text_with}
-use Rattle.lane_blocks.specs.Placed.{entry_placed, track_placed}
-use Rattle.lane_blocks.specs.declared.link.TrackLink.{TrackLink}
-use Rattle.lane_blocks.specs.declared.link.TextLink.{TextLink}
+use Rattle.mkv_io.specs.declared.entry.Entry.{Entry}
+use Rattle.merge_model.specs.FileLinks.{placing_of, text_with}
+use Rattle.lanes.specs.Placed.{entry_placed, track_placed}
+use Rattle.merge_model.specs.declared.link.TrackLink.{TrackLink}
+use Rattle.merge_model.specs.declared.link.TextLink.{TextLink}
 use Rattle.lanes.specs.Walks.{track_behind}
 
 -- ---- a track

@@ -3,15 +3,15 @@ use Rattle.std.proofs.Common.{◌≡◌, ℕ, suc, ◌*◌, Bool, true, false, i
 use Rattle.std.specs.List.{All, slice_get}
 use Rattle.std.proofs.lemmas.List.{length-map, length-replicate}
 use Rattle.cluster_reader.specs.Reading.{Reading}
-use Rattle.mkv_values.specs.declared.damage.Damage.{Damage}
+use Rattle.mkv_io.specs.declared.damage.Damage.{Damage}
 use Rattle.mkv_io.specs.LiveFiles.{LiveFiles}
 use Rattle.cluster_reader.specs.ToldDamages.{told_damages}
 use Rattle.cluster_reader.proofs.ToldDamagesLemmas.{with_damage-told}
 use Rattle.merge_model.specs.Links.{Given}
 use Rattle.merge_model.specs.Lanes.{lane_blocks, lane_damages}
 use Rattle.merge_model.specs.Merged.{ordered_from}
-use Rattle.lane_blocks.specs.Links.{IsOpenLink, given_in}
-use Rattle.lane_blocks.specs.declared.link.Link.{Link}
+use Rattle.merge_model.specs.FileLinks.{IsOpenLink, given_in}
+use Rattle.merge_model.specs.declared.link.Link.{Link}
 use Rattle.lanes.specs.Begun.{Begins}
 use Rattle.lanes.specs.Lane.{LaneSeen, Starts}
 use Rattle.lanes.specs.Told.{with_all, with_damages}

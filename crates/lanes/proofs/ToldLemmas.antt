@@ -5,12 +5,12 @@ use Rattle.std.proofs.lemmas.List.{take-set, drop-set, take_all, length-map}
 use Rattle.std.proofs.lemmas.Option.{slice_get-map}
 use Rattle.std.proofs.Math.Seq.{drop-length}
 use Rattle.std.specs.List.{slice_get}
-use Rattle.mkv_values.specs.declared.damage.Damage.{Damage}
+use Rattle.mkv_io.specs.declared.damage.Damage.{Damage}
 use Rattle.mkv_io.specs.LiveFiles.{LiveFiles}
 use Rattle.cluster_reader.specs.ToldDamages.{ToldDamages, with_damage}
 use Rattle.merge_model.specs.Links.{Given}
 use Rattle.merge_model.specs.Lanes.{lane_damages}
-use Rattle.lane_blocks.specs.declared.link.Link.{Link}
+use Rattle.merge_model.specs.declared.link.Link.{Link}
 use Rattle.lanes.specs.Told.{damages_from, of_link, with_all, with_damages}
 use Rattle.lanes.specs.Walks.{links_left, told_in_all}
 use Rattle.lanes.specs.declared.walk.Walk.{Walk}

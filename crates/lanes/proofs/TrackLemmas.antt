@@ -6,27 +6,27 @@ use Rattle.std.specs.List.{All, slice_get}
 use Rattle.std.proofs.Math.ListN.{set}
 use Rattle.std.proofs.lemmas.List.Elements.{All-head, All-tail}
 use Rattle.std.proofs.lemmas.Option.{slice_get_within}
-use Rattle.mkv_values.specs.declared.damage.Damage.{Damage}
-use Rattle.mkv_values.specs.declared.outside.ReadEnd.{ReadEnd}
+use Rattle.mkv_io.specs.declared.damage.Damage.{Damage}
+use Rattle.mkv_io.specs.declared.outside.ReadEnd.{ReadEnd}
 use Rattle.mkv_io.specs.LiveFiles.{LiveFiles}
 use Rattle.mkv_io.specs.Told.{Told}
 use Rattle.block_format.specs.Block.{Block}
 use Rattle.block_format.specs.Events.{Event, block, events_of}
 use Rattle.block_format.specs.Elements.{with_limits}
-use Rattle.matroska_format.specs.declared.element.Header.{Header}
+use Rattle.mkv_schema.specs.declared.element.Header.{Header}
 use Rattle.cluster_reader.specs.Reading.{CanRead, Gives, Reading, damage_event, left_of, paid}
 use Rattle.cluster_reader.specs.ToldDamages.{ToldDamages, with_damage}
 use Rattle.cluster_reader.specs.declared.step.Step.{Step}
 use Rattle.output_model.specs.OutputBlock.{IsLent, Lent}
 use Rattle.merge_model.specs.Links.{given_blocks}
-use Rattle.text_entries.specs.declared.Entry.{Entry}
-use Rattle.lane_blocks.specs.Lent.{HasFewTicks, IsPlaced, lent_ordered}
-use Rattle.lane_blocks.specs.Links.{IsToldLink, given_in, octets_in, text_with, track_events}
-use Rattle.lane_blocks.specs.Placed.{entry_placed, text_lent, track_lent, track_placed}
-use Rattle.lane_blocks.specs.declared.link.Link.{Link}
-use Rattle.lane_blocks.specs.declared.link.Link.TheVariants.{Track, Entries}
-use Rattle.lane_blocks.specs.declared.link.TextLink.{TextLink}
-use Rattle.lane_blocks.specs.declared.link.TrackLink.{TrackLink}
+use Rattle.mkv_io.specs.declared.entry.Entry.{Entry}
+use Rattle.lanes.specs.Lent.{HasFewTicks, IsPlaced, lent_ordered}
+use Rattle.merge_model.specs.FileLinks.{IsToldLink, given_in, octets_in, text_with, track_events}
+use Rattle.lanes.specs.Placed.{entry_placed, text_lent, track_lent, track_placed}
+use Rattle.merge_model.specs.declared.link.Link.{Link}
+use Rattle.merge_model.specs.declared.link.Link.TheVariants.{Track, Entries}
+use Rattle.merge_model.specs.declared.link.TextLink.{TextLink}
+use Rattle.merge_model.specs.declared.link.TrackLink.{TrackLink}
 use Rattle.lanes.specs.Turns.{GivesFirst, LendsBlock, Pays, Turns}
 use Rattle.lanes.specs.Walks.{IsAt, IsReady, due, files_length, left, lent_by, lent_by_track, lent_in, links_left, text_of, told_in_all, track_behind, track_due, track_left, track_way, way}
 use Rattle.lanes.specs.declared.turn.Turn.{Turn}

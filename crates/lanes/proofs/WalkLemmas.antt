@@ -7,10 +7,10 @@ use Rattle.output_model.specs.OutputBlock.{Lent, OutputBlock, lent_block}
 use Rattle.merge_model.specs.Links.{Given, given_blocks}
 use Rattle.merge_model.specs.Lanes.{lane_blocks}
 use Rattle.merge_model.specs.Merged.{ordered_from}
-use Rattle.lane_blocks.specs.Lent.{lent_ordered}
-use Rattle.lane_blocks.specs.Links.{given_in}
-use Rattle.lane_blocks.specs.declared.link.Link.{Link}
-use Rattle.lane_blocks.specs.declared.link.Link.TheVariants.{Track, Entries}
+use Rattle.lanes.specs.Lent.{lent_ordered}
+use Rattle.merge_model.specs.FileLinks.{given_in}
+use Rattle.merge_model.specs.declared.link.Link.{Link}
+use Rattle.merge_model.specs.declared.link.Link.TheVariants.{Track, Entries}
 use Rattle.lanes.specs.Walks.{here_left, links_from, links_left, left, track_left}
 use Rattle.lanes.specs.declared.walk.Walk.{Walk}
 use Rattle.lanes.proofs.ListLemmas.{drop-at, drop-past}

@@ -3,8 +3,8 @@ use Rattle.std.proofs.Common.{◌≡◌, ℕ, suc, zero, ◌+◌, ◌-◌, ◌*�
 use Rattle.std.proofs.Math.Seq.{drop-length}
 use Rattle.std.specs.List.{slice_get}
 use Rattle.mkv_io.specs.LiveFiles.{LiveFiles}
-use Rattle.lane_blocks.specs.declared.link.Link.{Link}
-use Rattle.lane_blocks.specs.declared.link.Link.TheVariants.{Track, Entries}
+use Rattle.merge_model.specs.declared.link.Link.{Link}
+use Rattle.merge_model.specs.declared.link.Link.TheVariants.{Track, Entries}
 use Rattle.lanes.specs.Walks.{way, way_of, way_all, here_way, track_way, way_from, due, here_due, track_due, due_from, file_length, files_length}
 use Rattle.lanes.specs.declared.walk.Walk.{Walk}
 use Rattle.lanes.proofs.ListLemmas.{drop-at}

@@ -1,16 +1,16 @@
 -- A lane: its links, and the walk over them.
 use Rattle.std.specs.Prelude.{◌≡◌, ℕ, ◌+◌, ◌*◌, ◌<◌, ◌≤◌, ⊤, List, [], ◌∷◌, map, Result, Ok, Err}
 use Rattle.std.specs.List.{All}
-use Rattle.mkv_values.specs.declared.outside.ReadEnd.{ReadEnd}
+use Rattle.mkv_io.specs.declared.outside.ReadEnd.{ReadEnd}
 use Rattle.mkv_io.specs.Faults.{counted}
 use Rattle.mkv_io.specs.LiveFiles.{LiveFiles}
 use Rattle.cluster_reader.specs.ToldDamages.{ToldDamages, told_damages}
 use Rattle.output_model.specs.OutputBlock.{Lent}
 use Rattle.merge_model.specs.Lanes.{lane_blocks, lane_damages}
 use Rattle.merge_model.specs.Merged.{Ordered, ordered}
-use Rattle.lane_blocks.specs.Lent.{lent_ordered}
-use Rattle.lane_blocks.specs.Links.{IsOpenLink, IsToldLink, KeepsLink, given_in}
-use Rattle.lane_blocks.specs.declared.link.Link.{Link}
+use Rattle.lanes.specs.Lent.{lent_ordered}
+use Rattle.merge_model.specs.FileLinks.{IsOpenLink, IsToldLink, KeepsLink, given_in}
+use Rattle.merge_model.specs.declared.link.Link.{Link}
 use Rattle.lanes.specs.Turns.{LendsBlock}
 use Rattle.lanes.specs.Walks as walks
 use Rattle.lanes.specs.declared.lane.LaneStep.{LaneStep}

@@ -4,3 +4,9 @@ pub mod Laws
 pub mod Told
 pub mod Turns
 pub mod Walks
+pub mod Lent
+pub mod Placed
+pub mod Times
+pub mod Ends
+pub mod Survey
+pub mod Walked

@@ -1,11 +1,11 @@
 -- What a turn makes of a walk.
 use Rattle.std.specs.Prelude.{◌≡◌, ℕ, ◌+◌, ◌*◌, ◌<◌, ◌≤◌, ⊤, List, [], ◌∷◌, Result, Ok, Err}
-use Rattle.mkv_values.specs.declared.outside.ReadEnd.{ReadEnd}
+use Rattle.mkv_io.specs.declared.outside.ReadEnd.{ReadEnd}
 use Rattle.mkv_io.specs.LiveFiles.{LiveFiles}
 use Rattle.output_model.specs.OutputBlock.{IsLent, Lent}
 use Rattle.merge_model.specs.Merged.{Ordered}
-use Rattle.lane_blocks.specs.Lent.{HasFewTicks, lent_ordered}
-use Rattle.lane_blocks.specs.declared.link.Link.{Link}
+use Rattle.lanes.specs.Lent.{HasFewTicks, lent_ordered}
+use Rattle.merge_model.specs.declared.link.Link.{Link}
 use Rattle.lanes.specs.Walks.{IsEnded, due, files_length, left, lent_in, told_in_all, way}
 use Rattle.lanes.specs.declared.turn.Turn.{Turn}
 use Rattle.lanes.specs.declared.turn.Turn.TheVariants.{Passed, Gives, End}

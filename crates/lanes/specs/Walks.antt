@@ -9,13 +9,13 @@ use Rattle.output_model.specs.OutputBlock.{Lent}
 use Rattle.merge_model.specs.Links.{Given}
 use Rattle.merge_model.specs.Lanes.{lane_blocks, lane_damages}
 use Rattle.merge_model.specs.Merged.{Ordered, ordered_from}
-use Rattle.text_entries.specs.declared.Entry.{Entry}
-use Rattle.lane_blocks.specs.Links.{IsOpenLink, given_in, octets_in, text_with, track_with}
-use Rattle.lane_blocks.specs.Placed.{nothing_lent, text_lent, track_lent}
-use Rattle.lane_blocks.specs.declared.link.Link.{Link}
-use Rattle.lane_blocks.specs.declared.link.Link.TheVariants.{Track, Entries}
-use Rattle.lane_blocks.specs.declared.link.TrackLink.{TrackLink}
-use Rattle.lane_blocks.specs.declared.place.Placed.{Placed}
+use Rattle.mkv_io.specs.declared.entry.Entry.{Entry}
+use Rattle.merge_model.specs.FileLinks.{IsOpenLink, given_in, octets_in, text_with, track_with}
+use Rattle.lanes.specs.Placed.{nothing_lent, text_lent, track_lent}
+use Rattle.merge_model.specs.declared.link.Link.{Link}
+use Rattle.merge_model.specs.declared.link.Link.TheVariants.{Track, Entries}
+use Rattle.merge_model.specs.declared.link.TrackLink.{TrackLink}
+use Rattle.lanes.specs.declared.place.Placed.{Placed}
 use Rattle.lanes.specs.Told.{with_all}
 use Rattle.lanes.specs.declared.walk.Walk.{Walk}
 

@@ -9,7 +9,7 @@ ghost use Rattle.mkv_io.specs.Sources.{live_files};
 ghost use Rattle.block_format.specs.declared.limits.TheConstants.{MOST_OF_BLOCK, MOST_REFERENCES};
 ghost use Rattle.output_model.specs.declared.TheConstants.{MOST_OF_PREFIX};
 ghost use Rattle.merge_model.specs.declared.limits.TheConstants.{MOST_LINKS};
-ghost use Rattle.lane_blocks.specs.Links.{IsSmallEntry, IsSmallLink};
+ghost use Rattle.merge_model.specs.FileLinks.{IsSmallEntry, IsSmallLink};
 ghost use Rattle.lanes.specs.Lane.{Begins, Gives, IsReady, IsTold, Moves, Pays, Starts, lent};
 ghost use Rattle.lanes.specs.Told.{link_damages, more_of};
 ghost use Rattle.lanes.specs.Walks.{text_of};
@@ -18,9 +18,9 @@ use crate::told::{LinkDamage, damage_at, more_of};
 use crate::turn::{Turn, take_turn};
 use crate::walk::Walk;
 use cluster_reader::Damages;
-use lane_blocks::{LaneSpec, Link, OutHead, TextLink};
-use mkv_io::Reads;
-use mkv_values::ReadEnd;
+use merge_model::{LaneSpec, Link, TextLink};
+use mkv_io::{ReadEnd, Reads};
+use output_model::OutHead;
 use std::alloc::{AllocError, Global};
 use std::marker::Model;
 
@@ -57,7 +57,7 @@ pub struct Lane {
 impl Model for Lane {
     ghost use Rattle.std.specs.Prelude.{◌≤◌};
     ghost use Rattle.std.specs.List.{All};
-    ghost use Rattle.lane_blocks.specs.Links.{IsSmallLink};
+    ghost use Rattle.merge_model.specs.FileLinks.{IsSmallLink};
     ghost use Rattle.lanes.specs.Lane.{LaneSeen};
 
     ghost Value = { LaneSeen };

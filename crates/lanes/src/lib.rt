@@ -1,15 +1,24 @@
 #![tactic(auto)]
 
-//! A lane: one output track, whose blocks come from one input, or from one input after the other. It goes forwards,
-//! keeps one block, and lends what it has read.
+//! A lane: one output track, whose blocks come from one input, or from one input after the other. It goes forwards, keeps
+//! one block, and lends what it has read, placed in the output. And where a file ends, over all lanes that take blocks of it.
 
+mod ends;
+mod found;
 mod lane;
 mod laws;
+mod place;
+mod tick;
 mod told;
 mod turn;
 mod walk;
+mod walking;
 
+pub use found::{MOST_END, Survey};
 pub use lane::{Lane, LaneStep};
-pub use lane_blocks::{Entry, LaneSpec, Link, OutHead, TextLink, TrackLink};
 pub use laws::{ended_lanes_have_told_all, lanes_stand_over_writes};
+pub use merge_model::{LaneSpec, Link, TextLink, TrackLink};
+pub use mkv_io::Entry;
+pub use output_model::OutHead;
 pub use told::LinkDamage;
+pub use walking::survey;

@@ -5,7 +5,7 @@ ghost use Rattle.std.specs.List.{slice_get};
 ghost use Rattle.lanes.specs.Told.{link_damages, more_of};
 
 use cluster_reader::Damages;
-use mkv_values::Damage;
+use mkv_io::Damage;
 
 /// A damage of a link's file.
 #[derive(Clone, Copy, Debug, PartialEq, Eq)]

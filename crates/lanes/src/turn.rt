@@ -5,16 +5,16 @@ ghost use Rattle.std.specs.List.{All, slice_get};
 ghost use Rattle.mkv_io.specs.Faults.{HasCause, is_read_fault};
 ghost use Rattle.mkv_io.specs.LiveFiles.{LiveFiles};
 ghost use Rattle.mkv_io.specs.Sources.{live_files};
-ghost use Rattle.lane_blocks.specs.Links.{IsSmallLink, IsToldLink};
-ghost use Rattle.lane_blocks.specs.declared.link.Link.TheVariants.{Track as ATrack, Entries as AText};
+ghost use Rattle.merge_model.specs.FileLinks.{IsSmallLink, IsToldLink};
+ghost use Rattle.merge_model.specs.declared.link.Link.TheVariants.{Track as ATrack, Entries as AText};
 ghost use Rattle.lanes.specs.Walks.{IsReady, due};
 ghost use Rattle.lanes.specs.Turns.{Moves, Pays, Turns};
 
+use crate::place::{place_block, place_entry};
 use crate::walk::Walk;
 use cluster_reader::{Cursor, Step};
-use lane_blocks::{Link, TextLink, TrackLink, place_block, place_entry};
-use mkv_io::Reads;
-use mkv_values::ReadEnd;
+use merge_model::{Link, TextLink, TrackLink};
+use mkv_io::{ReadEnd, Reads};
 use std::alloc::Global;
 
 /// What a turn gives.

@@ -3,8 +3,8 @@
 ghost use Rattle.std.specs.Prelude.{◌≡◌, ◌+◌, ◌<◌, None, false, if◌then◌else◌, IfOk};
 ghost use Rattle.lanes.specs.Begun.{Begins};
 
+use crate::place::Placed;
 use cluster_reader::{Cursor, Damages};
-use lane_blocks::Placed;
 use std::alloc::{AllocError, Global};
 
 /// Where a lane stands among its links, and what it keeps of the block that it gave last.

@@ -1,15 +1,15 @@
 -- What is read of an input, and how it stands among other files.
 use Rattle.std.proofs.Common.{◌≡◌, ℕ, Bool, true, false, List, length, map, Option, Some, None, IfSome, Result, Ok, Err, refl, sym, ◌∙◌, ap, arith}
 use Rattle.std.specs.List.{All}
-use Rattle.mkv_values.specs.declared.damage.Damage.{Damage}
-use Rattle.matroska_format.specs.Outline.{Outlined}
+use Rattle.mkv_io.specs.declared.damage.Damage.{Damage}
+use Rattle.mkv_schema.specs.Outline.{Outlined}
 use Rattle.element_reader.specs.Outline.{FileOutline, outline_in}
 use Rattle.element_reader.proofs.OutlineLemmas.{Outlines-shown, outline_of-refused}
 use Rattle.tree_format.specs.Node.{Node}
-use Rattle.attachment_records.specs.declared.attachment.Attachment.{Attachment}
-use Rattle.tag_records.specs.declared.uid_map.TagKeep.{TagKeep}
-use Rattle.file_records.specs.Attached.{AttachedFile, in_file}
-use Rattle.file_records.specs.Records.{FileRecords, file_records, scale_of_info}
+use Rattle.output_model.specs.declared.attachment.Attachment.{Attachment}
+use Rattle.record_changes.specs.declared.uid_map.TagKeep.{TagKeep}
+use Rattle.meta_records.specs.Attached.{AttachedFile, in_file}
+use Rattle.meta_records.specs.Records.{FileRecords, file_records, scale_of_info}
 use Rattle.merge_words.specs.declared.files.FileWords.{FileWords}
 use Rattle.merge_inputs.specs.Input.{InputRead, Clusters, CanBeGiven, file_read, found_then, input_with, refusal_of, unless_refused}
 use Rattle.merge_inputs.specs.declared.input.Blocks.{Blocks}

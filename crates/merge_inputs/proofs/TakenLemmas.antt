@@ -3,16 +3,16 @@ use Rattle.std.proofs.Common.{◌≡◌, ◌<◌, ℕ, suc, ◌+◌, ◌^◌, �
 use Rattle.std.specs.List.{All}
 use Rattle.std.proofs.Math.Seq.{drop-cons}
 use Rattle.std.proofs.lemmas.List.Elements.{All-append, All-cons, All-head, All-nil, All-tail}
-use Rattle.mkv_values.specs.declared.damage.Damage.{Damage}
-use Rattle.matroska_format.specs.Outline.{first_damage}
+use Rattle.mkv_io.specs.declared.damage.Damage.{Damage}
+use Rattle.mkv_schema.specs.Outline.{first_damage}
 use Rattle.tree_format.specs.Node.{HasRoom}
-use Rattle.track_format.specs.Encoding.{usable_causes}
-use Rattle.track_format.specs.Tracks.{IsTrack}
+use Rattle.file_format.specs.Encoding.{usable_causes}
+use Rattle.file_format.specs.Tracks.{IsTrack}
 use Rattle.track_records.specs.Sound.{IsEntry}
 use Rattle.track_records.specs.Track.{track_of}
 use Rattle.track_records.specs.declared.track.Track.{Track}
-use Rattle.file_records.specs.Records.{AreRead}
-use Rattle.file_records.proofs.CausesLemmas.{first_damage-behind, first_damage-front, first_damage-some}
+use Rattle.meta_records.specs.Records.{AreRead}
+use Rattle.meta_records.proofs.CausesLemmas.{first_damage-behind, first_damage-front, first_damage-some}
 use Rattle.merge_words.specs.Sound.{IsSoundFile}
 use Rattle.merge_words.specs.declared.files.FileWords.{FileWords}
 use Rattle.merge_inputs.specs.Select.{is_taken}

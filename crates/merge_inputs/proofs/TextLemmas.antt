@@ -6,19 +6,19 @@ use Rattle.std.proofs.Math.Seq.{take-append_seam}
 use Rattle.std.proofs.lemmas.List.{append-nil, length-take, take_min}
 use Rattle.std.proofs.lemmas.List.Elements.{All-cons, All-nil, All-same, All-weaker}
 use Rattle.mkv_io.specs.Contents.{octets_from}
-use Rattle.matroska_format.specs.Outline.{first_damage}
-use Rattle.matroska_format.proofs.ElementLemmas.{take-take_min}
+use Rattle.mkv_schema.specs.Outline.{first_damage}
+use Rattle.mkv_schema.proofs.ElementLemmas.{take-take_min}
 use Rattle.tree_format.specs.Node.{HasRoom}
-use Rattle.record_changes.specs.Entry.{IsWholeEntry}
-use Rattle.track_format.specs.Encoding.{usable_causes}
-use Rattle.track_format.specs.Tracks.{IsTrack}
+use Rattle.track_records.specs.Entry.{IsWholeEntry}
+use Rattle.file_format.specs.Encoding.{usable_causes}
+use Rattle.file_format.specs.Tracks.{IsTrack}
 use Rattle.track_records.specs.Sound.{IsEntry}
 use Rattle.track_records.specs.Track.{track_of}
 use Rattle.track_records.specs.declared.track.Track.{Track}
-use Rattle.file_records.specs.Records.{AreRead}
-use Rattle.text_tracks.specs.Names.{begins_ebml}
-use Rattle.text_tracks.specs.Track.{text_entry}
-use Rattle.text_tracks.proofs.TextFacts.{is_usable}
+use Rattle.meta_records.specs.Records.{AreRead}
+use Rattle.input_files.specs.Names.{begins_ebml}
+use Rattle.input_files.specs.Track.{text_entry}
+use Rattle.input_files.proofs.TextFacts.{is_usable}
 use Rattle.merge_words.specs.declared.files.FileWords.{FileWords}
 use Rattle.merge_inputs.specs.Select.{is_taken}
 use Rattle.merge_inputs.specs.Taken.{first_unusable, taken_from, taken_track}

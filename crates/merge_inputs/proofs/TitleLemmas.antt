@@ -6,7 +6,7 @@ use Rattle.mkv_schema.specs.declared.ids.TheConstants.{INFO, TITLE}
 use Rattle.mkv_schema.specs.declared.kind.ElementKind.TheVariants.{Utf8}
 use Rattle.mkv_schema.specs.Table.{table}
 use Rattle.mkv_schema.specs.Schema.{entry_of, kind_of, may_stand}
-use Rattle.matroska_format.specs.Value.{text_of}
+use Rattle.mkv_schema.specs.Value.{text_of}
 use Rattle.tree_format.specs.Node.{Node, body_of}
 use Rattle.tree_format.specs.Standing.{IsSoundOf}
 use Rattle.tree_format.specs.Values.{first_child}

@@ -2,8 +2,8 @@
 use Rattle.std.specs.Prelude.{Bool, true, false}
 use Rattle.element_reader.specs.declared.outline_end.OutlineEnd.{OutlineEnd}
 use Rattle.element_reader.specs.declared.outline_end.OutlineEnd.TheVariants as outline_end
-use Rattle.text_files.specs.declared.refusal.TextFileEnd.{TextFileEnd}
-use Rattle.text_files.specs.declared.refusal.TextFileEnd.TheVariants as text_end
+use Rattle.input_files.specs.declared.refusal.TextFileEnd.{TextFileEnd}
+use Rattle.input_files.specs.declared.refusal.TextFileEnd.TheVariants as text_end
 use Rattle.merge_inputs.specs.declared.input.InputEnd.{InputEnd}
 use Rattle.merge_inputs.specs.declared.input.InputEnd.TheVariants as input_end
 use Rattle.merge_inputs.specs.declared.input.InputRefusal.TheVariants.{Damaged, Text}

@@ -2,29 +2,29 @@
 use Rattle.std.specs.Prelude.{◌≡◌, ◌≤◌, ⊤, true, ℕ, Bool, if◌then◌else◌, List, [], ◌∷◌, length, map, Option, Some, None, IfSome, option_map, Result, Ok, Err}
 use Rattle.std.specs.List.{All}
 use Rattle.mkv_schema.specs.declared.ids.TheConstants.{CHAPTERS, TAGS}
-use Rattle.mkv_values.specs.declared.damage.Damage.{Damage}
-use Rattle.mkv_values.specs.declared.outside.FileId.{FileId}
+use Rattle.mkv_io.specs.declared.damage.Damage.{Damage}
+use Rattle.mkv_io.specs.declared.outside.FileId.{FileId}
 use Rattle.mkv_io.specs.LiveFiles.{LiveFiles}
-use Rattle.matroska_format.specs.declared.element.Header.{Header}
-use Rattle.matroska_format.specs.Outline.{Outlined, described, outline_of}
+use Rattle.mkv_schema.specs.declared.element.Header.{Header}
+use Rattle.mkv_schema.specs.Outline.{Outlined, described, outline_of}
 use Rattle.tree_format.specs.Node.{Node}
-use Rattle.tree_building.specs.Building.{IsRead}
+use Rattle.ebml_tree.specs.Building.{IsRead}
 use Rattle.block_format.specs.Elements.{with_limits}
 use Rattle.block_format.specs.Events.{Event, events_of}
-use Rattle.file_blocks.specs.File.{file_events}
-use Rattle.attachment_reading.specs.Walk.{IsAttachedIn}
-use Rattle.tag_records.specs.declared.uid_map.TagKeep.{TagKeep}
+use Rattle.file_format.specs.FileBlocks.{file_events}
+use Rattle.meta_records.specs.Walk.{IsAttachedIn}
+use Rattle.record_changes.specs.declared.uid_map.TagKeep.{TagKeep}
 use Rattle.element_reader.specs.Outline.{FileOutline}
-use Rattle.text_entries.specs.declared.Entry.{Entry}
+use Rattle.mkv_io.specs.declared.entry.Entry.{Entry}
 use Rattle.srt_texts.specs.Reading.{AreWithin}
-use Rattle.text_files.specs.TextFile.{srt_text}
-use Rattle.text_files.specs.declared.limits.TheConstants.{MOST_OF_SRT}
-use Rattle.text_files.specs.declared.refusal.TextRefusal.{TextRefusal}
-use Rattle.text_tracks.specs.Names.{is_srt}
-use Rattle.text_tracks.specs.Track.{text_entry}
+use Rattle.input_files.specs.TextFile.{srt_text}
+use Rattle.input_files.specs.declared.limits.TheConstants.{MOST_OF_SRT}
+use Rattle.input_files.specs.declared.refusal.TextRefusal.{TextRefusal}
+use Rattle.input_files.specs.Names.{is_srt}
+use Rattle.input_files.specs.Track.{text_entry}
 use Rattle.track_records.specs.Track.{track_of}
-use Rattle.file_records.specs.Attached.{AttachedFile, in_file}
-use Rattle.file_records.specs.Records.{FileRecords, file_records, scale_of_info}
+use Rattle.meta_records.specs.Attached.{AttachedFile, in_file}
+use Rattle.meta_records.specs.Records.{FileRecords, file_records, scale_of_info}
 use Rattle.merge_words.specs.declared.files.FileWords.{FileWords}
 use Rattle.merge_inputs.specs.Select.{keep_of, keeps_attachments, keeps_chapters, keeps_tags, kept_list, kept_one, unmoved}
 use Rattle.merge_inputs.specs.Taken.{IsTaken, first_unusable, taken_from}

@@ -1,7 +1,7 @@
 -- Which tracks of a file the words of a merge take (RFC 9559, section 5.1.4, Tracks Element), and what they keep besides.
 use Rattle.std.specs.Prelude.{ℕ, ◌==◌, Bool, true, false, not, ◌&&◌, ◌||◌, if◌then◌else◌, List, [], Option, Some, None}
 use Rattle.std.specs.List.{list_any}
-use Rattle.tag_records.specs.declared.uid_map.TagKeep.{TagKeep}
+use Rattle.record_changes.specs.declared.uid_map.TagKeep.{TagKeep}
 use Rattle.word_values.specs.declared.lists.Select.{Select}
 use Rattle.word_values.specs.declared.lists.Select.TheVariants.{All, These, AllBut, Off}
 use Rattle.merge_words.specs.declared.files.FileWords.{FileWords}

@@ -2,7 +2,7 @@
 use Rattle.std.specs.Prelude.{ℕ, List, [], Option}
 use Rattle.std.specs.Option.{option_map_or}
 use Rattle.mkv_schema.specs.declared.ids.TheConstants.{TITLE}
-use Rattle.matroska_format.specs.Value.{text_of}
+use Rattle.mkv_schema.specs.Value.{text_of}
 use Rattle.tree_format.specs.Node.{Node, body_of}
 use Rattle.tree_format.specs.Values.{first_child}
 

@@ -4,15 +4,14 @@ ghost use Rattle.std.specs.Prelude.{◌≡◌};
 ghost use Rattle.merge_inputs.specs.declared.input.InputEnd.TheVariants as input_end;
 
 use crate::taken::TakenTrack;
-use attachment_reading::Attachment;
 use ebml_tree::Tree;
 use element_reader::{Outline, OutlineEnd};
-use mkv_values::{Damage, Failed, FileId, List, Text};
+use input_files::{TextFileEnd, TextRefusal};
+use mkv_io::{Damage, Entry, Failed, FileId, List, Text};
+use output_model::Attachment;
+use record_changes::TagKeep;
 use std::alloc::{AllocError, AllocFailed};
 use std::rc::Rc;
-use tag_records::TagKeep;
-use text_entries::Entry;
-use text_files::{TextFileEnd, TextRefusal};
 
 /// What holds the blocks of an input.
 #[derive(Drop)]

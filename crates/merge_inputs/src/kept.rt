@@ -3,9 +3,9 @@
 ghost use Rattle.std.specs.Prelude.{◌≡◌};
 ghost use Rattle.merge_inputs.specs.Select.{kept_list, kept_one};
 
-use attachment_reading::Attachment;
 use ebml_tree::Tree;
-use mkv_values::List;
+use mkv_io::List;
+use output_model::Attachment;
 use std::alloc::Global;
 
 /// Attached files, if they are kept.

@@ -4,7 +4,7 @@ ghost use Rattle.std.specs.Prelude.{◌≡◌, ◌+◌, ◌*◌, ◌≤◌, IfOk
 ghost use Rattle.mkv_io.specs.Faults.{HasCause, is_failure};
 ghost use Rattle.mkv_io.specs.Sources.{IfTold, IsLive, file_size, live_files};
 ghost use Rattle.merge_words.specs.Sound.{IsSoundFile};
-ghost use Rattle.text_tracks.specs.Names.{is_srt};
+ghost use Rattle.input_files.specs.Names.{is_srt};
 ghost use Rattle.merge_inputs.specs.End.{is_input_fault};
 ghost use Rattle.merge_inputs.specs.Input.{AreOwnEvents, IsInput, IsReadOf, ReadsInput, file_read, input_of, text_read};
 
@@ -14,14 +14,12 @@ use crate::select::{keep_of, keeps_attachments, keeps_chapters, keeps_tags, unmo
 use crate::taken::{first_unusable, taken_of};
 use crate::title::title_of;
 use element_reader::Outline;
-use file_records::{Records, read_records, scale_of};
+use input_files::{begins_ebml, is_srt_name, read_entries, text_tracks};
 use merge_words::FileWords;
-use mkv_io::Reads;
-use mkv_values::{Failed, FileId, List, Text};
+use meta_records::{Records, read_records, scale_of};
+use mkv_io::{Failed, FileId, List, Reads, Text};
 use std::alloc::Global;
 use std::rc::Rc;
-use text_files::read_entries;
-use text_tracks::{begins_ebml, is_srt_name, text_tracks};
 
 /// What is read of a live file with Clusters before these, or the first thing that refuses it: its outline, its records,
 /// and then the tracks that the words take, in their order. Earlier inputs have held so many octets of Info, Tracks,

@@ -5,7 +5,7 @@ ghost use Rattle.merge_inputs.specs.Select.{is_taken, keep_of, keeps_attachments
 
 use crate::track_type::{AUDIO_TRACK, SUBTITLE_TRACK, VIDEO_TRACK};
 use merge_words::FileWords;
-use tag_records::TagKeep;
+use record_changes::TagKeep;
 use word_values::Select;
 
 /// Whether the words take a track of this ID and this TrackType.

@@ -8,7 +8,7 @@ ghost use Rattle.merge_inputs.specs.Taken.{first_unusable, taken_from, taken_tra
 
 use crate::select::is_taken;
 use merge_words::FileWords;
-use mkv_values::{Damage, List, Text};
+use mkv_io::{Damage, List, Text};
 use std::alloc::{AllocError, Global};
 use track_records::{Track, usable};
 use word_values::CueWord;

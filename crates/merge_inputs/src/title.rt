@@ -1,14 +1,13 @@
 //! The title of a file: RFC 9559, section 5.1.2 (Info Element), Title.
 
 ghost use Rattle.std.specs.Prelude.{◌≡◌, IfOk, IfSome};
-ghost use Rattle.file_records.specs.Records.{IsGoodInfo};
+ghost use Rattle.meta_records.specs.Records.{IsGoodInfo};
 ghost use Rattle.merge_inputs.specs.Title.{title_of_info};
 
-use ebml_tree::Tree;
+use ebml_tree::{Tree, text_of};
+use mkv_io::Text;
 use mkv_schema::ids::TITLE;
-use mkv_values::Text;
 use std::alloc::{AllocError, Global};
-use tree_values::text_of;
 
 /// The title of a file whose first Info this is, empty where it has none.
 pub fn title_of(alloc: Global, info: &Option<Tree>) -> Result<Text, AllocError>

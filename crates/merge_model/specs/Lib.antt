@@ -4,3 +4,4 @@ pub mod Lanes
 pub mod Links
 pub mod Merged
 pub mod Ticks
+pub mod FileLinks

@@ -3,10 +3,10 @@ use Rattle.std.specs.Prelude.{ℕ, ◌+◌, ◌==◌, ℤ, pos, ◌+ℤ◌, Bool
 use Rattle.std.specs.Option.{option_map}
 use Rattle.lacing.specs.declared.kind.Lace.{Lace}
 use Rattle.lacing.specs.declared.kind.Lace.TheVariants as lace
-use Rattle.mkv_values.specs.declared.damage.Damage.{Damage}
+use Rattle.mkv_io.specs.declared.damage.Damage.{Damage}
 use Rattle.block_format.specs.Block.{Block}
 use Rattle.block_format.specs.Events.{Event, blocks_of, damages_of, last_of}
-use Rattle.text_entries.specs.declared.Entry.{Entry}
+use Rattle.mkv_io.specs.declared.entry.Entry.{Entry}
 use Rattle.output_model.specs.OutputBlock.{OutputBlock}
 use Rattle.merge_model.specs.Ticks.{since_start, tick_of, ticks_for, ticks_to}
 

@@ -5,5 +5,7 @@
 //! above cite, stand in `specs/`.
 
 mod limits;
+mod link;
 
 pub use limits::{MOST_LINKS, MOST_SHIFT, TOO_LARGE_DELAY};
+pub use link::{LaneSpec, Link, TextLink, TrackLink};

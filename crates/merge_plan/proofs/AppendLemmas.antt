@@ -2,7 +2,7 @@
 use Rattle.std.proofs.Common.{◌≡◌, ◌≤◌, ◌<◌, ℕ, ◌+◌, List, length, drop, map, get_or, Option, None, ap, ap₂, ◌∙◌, arith}
 use Rattle.std.specs.Option.{option_map, option_or}
 use Rattle.std.proofs.lemmas.List.{drop_all}
-use Rattle.record_changes.specs.Difference.{first_difference}
+use Rattle.track_records.specs.Difference.{first_difference}
 use Rattle.merge_inputs.specs.Input.{read_in}
 use Rattle.merge_inputs.specs.declared.input.Input.{Input}
 use Rattle.merge_inputs.specs.declared.taken.TakenTrack.{TakenTrack}

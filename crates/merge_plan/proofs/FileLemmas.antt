@@ -8,22 +8,22 @@ use Rattle.std.proofs.lemmas.List.Elements.{All-append}
 use Rattle.mkv_schema.specs.declared.ids.TheConstants.{CHAPTERS, TAGS, TAG_TRACK_UID, TAG_EDITION_UID, TAG_CHAPTER_UID, TAG_ATTACHMENT_UID}
 use Rattle.mkv_io.specs.LiveFiles.{LiveFiles}
 use Rattle.tree_format.specs.Node.{Node, master, nodes_of}
-use Rattle.identifier_format.specs.Identifiers.{renumbered}
-use Rattle.identifier_format.proofs.GivenLemmas.{length-from}
-use Rattle.attachment_records.specs.Attached.{attached_file, octets_told}
-use Rattle.attachment_records.specs.declared.attachment.Attachment.{Attachment}
-use Rattle.attachment_reading.specs.Walk.{IsAttachedIn}
-use Rattle.file_records.specs.Attached.{AttachedFile, in_file}
-use Rattle.chapter_changes.specs.Atoms.{edition_uids, chapter_uids}
-use Rattle.chapter_changes.specs.Identifiers.{with_identifiers}
-use Rattle.tag_records.specs.Tags.{written_tags}
+use Rattle.record_changes.specs.Identifiers.{renumbered}
+use Rattle.record_changes.proofs.GivenLemmas.{length-from}
+use Rattle.output_model.specs.Attached.{attached_file, octets_told}
+use Rattle.output_model.specs.declared.attachment.Attachment.{Attachment}
+use Rattle.meta_records.specs.Walk.{IsAttachedIn}
+use Rattle.meta_records.specs.Attached.{AttachedFile, in_file}
+use Rattle.record_changes.specs.Atoms.{edition_uids, chapter_uids}
+use Rattle.record_changes.specs.ChapterIdentifiers.{with_identifiers}
+use Rattle.record_changes.specs.Tags.{written_tags}
 use Rattle.merged_records.specs.Attachments as merged
 use Rattle.merged_records.specs.Attachments.{files_of, merged_attachments, with_uid, with_uids}
 use Rattle.merged_records.specs.Chapters.{chapter_numbers, chapters_in, edition_numbers, merged_chapters}
 use Rattle.merged_records.specs.Inputs.{children_in, uids_in, with_some}
 use Rattle.merged_records.specs.Tags.{all_uids, behind, joined_tags, merged_tags, number_of, numbers_of, tags_from, tags_in}
 use Rattle.merged_records.specs.declared.inputs.InputRecords.{InputRecords}
-use Rattle.lane_blocks.specs.Links.{octets_in}
+use Rattle.merge_model.specs.FileLinks.{octets_in}
 use Rattle.merge_inputs.specs.Input.{InputRead, read_in, total_in}
 use Rattle.merge_inputs.specs.declared.input.Input.{Input}
 use Rattle.merge_plan.specs.Front.{attached_from, attachments_of, attached_length, files_in, reads_of}

@@ -7,7 +7,7 @@ use Rattle.std.proofs.lemmas.Grind.{flat_map-append}
 use Rattle.std.proofs.lemmas.List.{get_or-map, length-append, length-map, map-append, map_push}
 use Rattle.std.proofs.lemmas.List.Elements.{All-drop, All-take}
 use Rattle.std.proofs.Math.ListN.{length-take}
-use Rattle.lane_blocks.specs.declared.link.Link.{Link}
+use Rattle.merge_model.specs.declared.link.Link.{Link}
 use Rattle.merge_inputs.specs.Input.{read_in}
 use Rattle.merge_inputs.specs.Taken.{IsTaken}
 use Rattle.merge_inputs.specs.declared.input.Input.{Input}

@@ -7,3 +7,5 @@ pub mod RefusalLemmas
 pub mod PlanLemmas
 pub mod FileLemmas
 pub mod SplitLemmas
+mod LinkLemmas
+pub mod PlaceLemmas

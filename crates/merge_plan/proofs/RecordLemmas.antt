@@ -6,9 +6,9 @@ use Rattle.std.proofs.lemmas.Grind.{flat_map-append}
 use Rattle.std.proofs.lemmas.List.{length-map, take_all, drop_all}
 use Rattle.std.proofs.lemmas.List.Elements.{All-append}
 use denote.Ref.{Bor}
-use Rattle.identifier_format.proofs.GivenLemmas.{length-from}
+use Rattle.record_changes.proofs.GivenLemmas.{length-from}
 use Rattle.tree_format.specs.Node.{Node}
-use Rattle.tree_building.specs.Building.{IsRead}
+use Rattle.ebml_tree.specs.Building.{IsRead}
 use Rattle.output_model.specs.Sound.{IsRecord}
 use Rattle.merge_inputs.specs.Input.{read_in}
 use Rattle.merge_inputs.specs.Taken.{IsTaken}

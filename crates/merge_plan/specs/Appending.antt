@@ -2,7 +2,7 @@
 use Rattle.std.specs.Prelude.{ℕ, ◌+◌, ◌==◌, if◌then◌else◌, List, [], ◌∷◌, length, Option, Some, None, option_map}
 use Rattle.std.specs.Option.{option_or}
 use Rattle.mkv_schema.specs.declared.ids.TheConstants.{TRACK_ENTRY}
-use Rattle.record_changes.specs.Difference.{first_difference}
+use Rattle.track_records.specs.Difference.{first_difference}
 use Rattle.merge_inputs.specs.Input.{InputRead}
 use Rattle.merge_inputs.specs.declared.taken.TakenTrack.{TakenTrack}
 use Rattle.merge_plan.specs.declared.appending.AppendDiffers.{AppendDiffers}

@@ -3,10 +3,10 @@ use Rattle.std.specs.Prelude.{ℕ, List, [], ◌∷◌, map, flat_map, sum_by}
 use Rattle.mkv_io.specs.Contents.{octets_from}
 use Rattle.mkv_schema.specs.declared.ids.TheConstants.{FILE_UID}
 use Rattle.tree_format.specs.Node.{Node}
-use Rattle.attachment_records.specs.Attached.{with_data}
-use Rattle.file_records.specs.Attached.{AttachedFile}
-use Rattle.identifier_format.specs.Identifiers.{renumbered}
-use Rattle.record_changes.specs.Children.{uint_leaf, set_in}
+use Rattle.output_model.specs.Attached.{with_data}
+use Rattle.meta_records.specs.Attached.{AttachedFile}
+use Rattle.record_changes.specs.Identifiers.{renumbered}
+use Rattle.tree_format.specs.Children.{uint_leaf, set_in}
 use Rattle.output_model.specs.Document.{Front}
 use Rattle.merge_words.specs.declared.output.MergeWords.{MergeWords}
 use Rattle.merge_inputs.specs.Input.{InputRead}

@@ -9,3 +9,5 @@ pub mod Spots
 pub mod Webm
 pub mod Refusal
 pub mod Planned
+pub mod Behind
+pub mod Placed

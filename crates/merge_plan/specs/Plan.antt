@@ -4,12 +4,12 @@ use Rattle.std.specs.List.{enumerate_from, range_with_len}
 use Rattle.std.specs.Option.{option_map_or}
 use Rattle.tree_format.specs.Node.{Node}
 use Rattle.block_format.specs.Events.{Event}
-use Rattle.track_format.specs.Encoding.{prefix_of}
+use Rattle.file_format.specs.Encoding.{prefix_of}
 use Rattle.output_model.specs.declared.heads.ClusterLimits.{ClusterLimits}
 use Rattle.merge_model.specs.Links.{Given, Placing, text_given, track_given}
-use Rattle.cluster_runs.specs.declared.rule.CueRule.{CueRule}
-use Rattle.cluster_runs.specs.declared.rule.CueRule.TheVariants as rule
-use Rattle.chapter_changes.specs.Starts.{top_starts}
+use Rattle.output_model.specs.declared.rule.CueRule.{CueRule}
+use Rattle.output_model.specs.declared.rule.CueRule.TheVariants as rule
+use Rattle.record_changes.specs.Starts.{top_starts}
 use Rattle.splitter.specs.Split.{is_driver}
 use Rattle.splitter.specs.Words.{spec_of}
 use Rattle.splitter.specs.declared.spec.SplitSpec.{SplitSpec}

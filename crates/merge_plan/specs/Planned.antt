@@ -4,14 +4,14 @@ use Rattle.std.specs.List.{All}
 use Rattle.mkv_io.specs.LiveFiles.{LiveFiles}
 use Rattle.mkv_schema.specs.declared.ids.TheConstants.{INFO, TRACKS, CHAPTERS, TAGS}
 use Rattle.output_model.specs.declared.TheConstants.{MOST_LANES}
-use Rattle.attachment_records.specs.Attached.{attached_file}
-use Rattle.attachment_records.specs.declared.attachment.Attachment.{Attachment}
+use Rattle.output_model.specs.Attached.{attached_file}
+use Rattle.output_model.specs.declared.attachment.Attachment.{Attachment}
 use Rattle.output_model.specs.Sound.{IsRecord}
 use Rattle.merged_records.specs.Inputs.{IsAttached}
-use Rattle.segment_octets.specs.Front.{front_with}
-use Rattle.lane_blocks.specs.Links.{octets_in, given_in, IsOpenLink, IsToldLink, IsSmallLink}
-use Rattle.lane_blocks.specs.declared.link.Link.{Link}
-use Rattle.lane_blocks.specs.declared.link.Link.TheVariants.{Track, Entries}
+use Rattle.output_model.specs.Front.{front_with}
+use Rattle.merge_model.specs.FileLinks.{octets_in, given_in, IsOpenLink, IsToldLink, IsSmallLink}
+use Rattle.merge_model.specs.declared.link.Link.{Link}
+use Rattle.merge_model.specs.declared.link.Link.TheVariants.{Track, Entries}
 use Rattle.lanes.specs.Walks.{files_length}
 use Rattle.remux_plan.specs.Parts.{drivers_of}
 use Rattle.remux_plan.specs.Plan.{links_of, rules_of}

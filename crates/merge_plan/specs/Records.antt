@@ -1,11 +1,11 @@
 -- The records of a merge: RFC 9559, sections 5.1.2 (Info Element), 5.1.4 (Tracks Element), 5.1.6 (Attachments Element), 5.1.7 (Chapters Element) and 5.1.8 (Tags Element). Which titles and identifiers an output gets is this project's.
 use Rattle.std.specs.Prelude.{ℕ, ◌+◌, Bool, if◌then◌else◌, List, [], ◌∷◌, length, take, drop, map, flat_map, Option, is_some, unwrap_or}
 use Rattle.tree_format.specs.Node.{Node}
-use Rattle.attachment_records.specs.declared.attachment.Attachment.{Attachment}
-use Rattle.file_records.specs.Attached.{AttachedFile}
-use Rattle.identifier_format.specs.Identifiers.{renumbered}
-use Rattle.record_changes.specs.Entry.{written_entry}
-use Rattle.record_changes.specs.declared.track_change.TrackChange.{TrackChange}
+use Rattle.output_model.specs.declared.attachment.Attachment.{Attachment}
+use Rattle.meta_records.specs.Attached.{AttachedFile}
+use Rattle.record_changes.specs.Identifiers.{renumbered}
+use Rattle.track_records.specs.Entry.{written_entry}
+use Rattle.track_records.specs.declared.track_change.TrackChange.{TrackChange}
 use Rattle.merge_words.specs.declared.output.MergeWords.{MergeWords}
 use Rattle.merge_inputs.specs.Input.{InputRead, read_in}
 use Rattle.merge_inputs.specs.declared.input.Input.{Input}
@@ -13,8 +13,8 @@ use Rattle.merge_inputs.specs.declared.taken.TakenTrack.{TakenTrack}
 use Rattle.merged_records.specs.Chapters.{merged_chapters}
 use Rattle.merged_records.specs.Tags.{merged_tags}
 use Rattle.merged_records.specs.declared.inputs.InputRecords.{InputRecords}
-use Rattle.output_records.specs.Info.{output_info}
-use Rattle.output_records.specs.Tracks.{output_tracks}
+use Rattle.merged_records.specs.Info.{output_info}
+use Rattle.merged_records.specs.Tracks.{output_tracks}
 
 -- an input goes on where the one before it ends
 abbrev pub is_appended : InputRead → Bool

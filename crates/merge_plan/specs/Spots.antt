@@ -3,21 +3,21 @@ use Rattle.std.specs.Prelude.{◌≡◌, ◌≤◌, ⊤, ℕ, Bool, List, [], �
 use Rattle.std.specs.List.{All, AllZip, enumerate_from, range_with_len}
 use Rattle.std.specs.Option.{option_to_list}
 use Rattle.mkv_schema.specs.declared.ids.TheConstants.{CHAPTERS, TAGS}
-use Rattle.tree_building.specs.Building.{IsRead}
-use Rattle.track_format.specs.Encoding.{prefix_of}
-use Rattle.attachment_reading.specs.Walk.{IsAttachedIn}
+use Rattle.ebml_tree.specs.Building.{IsRead}
+use Rattle.file_format.specs.Encoding.{prefix_of}
+use Rattle.meta_records.specs.Walk.{IsAttachedIn}
 use Rattle.element_reader.specs.Outline.{FileOutline}
-use Rattle.text_entries.specs.declared.Entry.{Entry}
+use Rattle.mkv_io.specs.declared.entry.Entry.{Entry}
 use Rattle.srt_texts.specs.Reading.{AreWithin}
-use Rattle.text_files.specs.declared.limits.TheConstants.{MOST_OF_SRT}
+use Rattle.input_files.specs.declared.limits.TheConstants.{MOST_OF_SRT}
 use Rattle.output_model.specs.declared.TheConstants.{MOST_OF_PREFIX}
 use Rattle.merge_model.specs.declared.limits.TheConstants.{MOST_SHIFT}
-use Rattle.cluster_runs.specs.declared.rule.CueRule.{CueRule}
-use Rattle.cluster_runs.specs.declared.rule.CueRule.TheVariants.{Never}
-use Rattle.lane_blocks.specs.declared.link.Link.{Link}
-use Rattle.lane_blocks.specs.declared.link.Link.TheVariants.{Track, Entries}
-use Rattle.lane_blocks.specs.declared.link.TextLink.{TextLink}
-use Rattle.lane_blocks.specs.declared.link.TrackLink.{TrackLink}
+use Rattle.output_model.specs.declared.rule.CueRule.{CueRule}
+use Rattle.output_model.specs.declared.rule.CueRule.TheVariants.{Never}
+use Rattle.merge_model.specs.declared.link.Link.{Link}
+use Rattle.merge_model.specs.declared.link.Link.TheVariants.{Track, Entries}
+use Rattle.merge_model.specs.declared.link.TextLink.{TextLink}
+use Rattle.merge_model.specs.declared.link.TrackLink.{TrackLink}
 use Rattle.splitter.specs.Split.{is_driver}
 use Rattle.remux_plan.specs.Parts.{drivers_of}
 use Rattle.remux_plan.specs.declared.plan.PlannedLane.{PlannedLane}

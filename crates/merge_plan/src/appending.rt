@@ -7,7 +7,7 @@ ghost use Rattle.merge_plan.specs.Appending.{append_refusal, difference_at, diff
 
 use merge_inputs::{Input, TakenTrack};
 use mkv_schema::ids::TRACK_ENTRY;
-use track_changes::differs;
+use track_records::differs;
 
 /// An appended input whose tracks can't go on in the lanes of the one before it.
 #[derive(Clone, Copy, Debug, PartialEq, Eq)]

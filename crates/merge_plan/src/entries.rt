@@ -2,18 +2,18 @@
 
 ghost use Rattle.std.specs.Prelude.{◌≡◌, map, IfOk};
 ghost use Rattle.std.specs.List.{All};
-ghost use Rattle.record_changes.specs.Entry.{IsWholeEntry};
+ghost use Rattle.track_records.specs.Entry.{IsWholeEntry};
 ghost use Rattle.merge_inputs.specs.Input.{read_in};
 ghost use Rattle.merge_inputs.specs.Taken.{IsTaken};
 ghost use Rattle.merge_plan.specs.Records.{entries_of, entry_of, tracks_begun, tracks_taken, uids_of};
 ghost use Rattle.merge_plan.specs.Lent.{lent};
 
 use ebml_tree::Tree;
-use identifiers::renumber;
 use merge_inputs::{Input, TakenTrack};
-use mkv_values::List;
+use mkv_io::List;
+use record_changes::renumber;
 use std::alloc::{AllocError, Global};
-use track_changes::{TrackChange, written};
+use track_records::{TrackChange, written};
 
 /// The tracks of an input that begin lanes: none where it is appended to another.
 pub(crate) fn tracks_begun(input: &Input) -> &[TakenTrack]

@@ -1,11 +1,12 @@
 #![tactic(auto)]
 
-//! The plan of a merge: what the inputs that were read, and the words, come to in one output, or what refuses them. No
-//! file is read or written here.
+//! The plan of a merge: what the inputs that were read, and the words, come to in one output, or what refuses them; and where
+//! its appended inputs begin, for which alone a file is walked. Nothing is written here.
 
 mod appending;
 mod entries;
 mod outputs;
+mod placing;
 mod plan;
 mod planned_lanes;
 mod records;
@@ -15,6 +16,7 @@ mod title;
 mod webm;
 
 pub use appending::{AppendDiffers, append_refusal};
+pub use placing::set_in_place;
 pub use plan::plan_of;
 pub use planned_lanes::links_of;
 pub use refusal::{PlanEnd, PlanRefusal};

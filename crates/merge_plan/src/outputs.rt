@@ -10,12 +10,11 @@ ghost use Rattle.merge_plan.specs.Spots.{HasRecords, HasTaken};
 
 use crate::entries::{entries_of, uids_of};
 use crate::records::records_of;
-use attachment_records::Attachment;
 use ebml_tree::Tree;
 use merge_inputs::{Input, TakenTrack};
-use merged_records::{MergedRecords, merge_records};
-use mkv_values::List;
-use output_records::tracks_of;
+use merged_records::{MergedRecords, merge_records, tracks_of};
+use mkv_io::List;
+use output_model::Attachment;
 use std::alloc::{AllocError, Global};
 
 /// What stands around the Clusters of an output, but for its Info.

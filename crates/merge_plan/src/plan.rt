@@ -18,12 +18,10 @@ use crate::title::title_of;
 use crate::webm::is_webm_codec;
 use merge_inputs::{Input, TakenTrack};
 use merge_words::MergeWords;
-use merged_records::first_too_large;
-use mkv_values::Text;
-use output_model::{ClusterLimits, MOST_LANES};
-use output_records::info_of;
+use merged_records::{first_too_large, info_of};
+use mkv_io::Text;
+use output_model::{ClusterLimits, Front, MOST_LANES};
 use remux_plan::MergePlan;
-use segment_octets::Front;
 use std::alloc::{AllocError, Global};
 
 /// The CodecID of the first track that a WebM output can't have.

@@ -2,7 +2,7 @@
 
 ghost use Rattle.std.specs.Prelude.{◌≡◌, ◌≤◌, ◌<◌, ◌+◌, ◌^◌, ◌∷◌, length, IfOk, OnOk};
 ghost use Rattle.std.specs.List.{All, take_while};
-ghost use Rattle.track_format.specs.Encoding.{prefix_of};
+ghost use Rattle.file_format.specs.Encoding.{prefix_of};
 ghost use Rattle.output_model.specs.declared.TheConstants.{MOST_OF_PREFIX};
 ghost use Rattle.merge_inputs.specs.Input.{read_in};
 ghost use Rattle.merge_inputs.specs.Taken.{IsTaken};
@@ -10,17 +10,16 @@ ghost use Rattle.merge_plan.specs.Plan.{later_by, rule_of, usual_rule};
 ghost use Rattle.merge_plan.specs.Spots.{AreDriven, AreLanesOf, AreLinksOf, GoesOn, HasTaken, IsLaneOf, IsLink, IsLinkOf, IsTextOf, goes_on, spot, spots_at, spots_behind};
 
 use crate::entries::tracks_begun;
-use cluster_runs::CueRule;
 use element_reader::Outline;
-use lane_blocks::{LaneSpec, Link, TextLink, TrackLink};
 use merge_inputs::track_type::{SUBTITLE_TRACK, VIDEO_TRACK};
 use merge_inputs::{Blocks, Input, TakenTrack};
-use mkv_values::{Bytes, List};
+use merge_model::{LaneSpec, Link, TextLink, TrackLink};
+use mkv_io::{Bytes, Entry, List};
+use output_model::CueRule;
 use remux_plan::PlannedLane;
 use splitter::is_driver;
 use std::alloc::{AllocError, Global};
 use std::rc::Rc;
-use text_entries::Entry;
 use track_records::usable;
 use word_values::CueWord;
 

@@ -7,11 +7,11 @@ ghost use Rattle.merge_inputs.specs.Input.{read_in};
 ghost use Rattle.merge_plan.specs.Records.{kept_in, records_from, records_in, uids_at, uids_behind};
 ghost use Rattle.merge_plan.specs.Spots.{HasRecords};
 
-use attachment_records::Attachment;
 use ebml_tree::Tree;
 use merge_inputs::Input;
 use merged_records::InputRecords;
-use mkv_values::List;
+use mkv_io::List;
+use output_model::Attachment;
 use std::alloc::{AllocError, Global};
 
 // Attached files again.

@@ -3,7 +3,7 @@
 ghost use Rattle.std.specs.Prelude.{◌≡◌};
 ghost use Rattle.merge_plan.specs.declared.refusal.PlanEnd.TheVariants as plan_end;
 
-use mkv_values::Text;
+use mkv_io::Text;
 use std::alloc::AllocError;
 
 /// What refuses a merge whose inputs were read.

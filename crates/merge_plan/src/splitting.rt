@@ -2,17 +2,17 @@
 
 ghost use Rattle.std.specs.Prelude.{◌≡◌, map, true, IfOk, IfSome};
 ghost use Rattle.mkv_schema.specs.declared.ids.TheConstants.{CHAPTERS};
-ghost use Rattle.tree_building.specs.Building.{IsRead};
+ghost use Rattle.ebml_tree.specs.Building.{IsRead};
 ghost use Rattle.splitter.specs.Words.{is_by_time, spec_of};
 ghost use Rattle.merge_plan.specs.Lent.{lent};
 ghost use Rattle.merge_plan.specs.Plan.{is_video, starts_in};
 
-use chapter_changes::top_starts;
 use ebml_tree::Tree;
 use merge_inputs::TakenTrack;
 use merge_inputs::track_type::VIDEO_TRACK;
 use merge_words::MergeWords;
-use mkv_values::List;
+use mkv_io::List;
+use record_changes::top_starts;
 use splitter::{SplitSpec, split_spec};
 use std::alloc::{AllocError, Global};
 

@@ -6,7 +6,7 @@ ghost use Rattle.merge_words.specs.Files as spec;
 use crate::item::{Item, stands, track_in};
 use crate::options::Subject;
 use crate::said::{numbers_copy, value_in};
-use mkv_values::{List, Text};
+use mkv_io::{List, Text};
 use std::alloc::{AllocError, Global};
 use word_values::{CueWord, Select, Value, name};
 

@@ -7,7 +7,7 @@ use crate::files::{FileWords, files};
 use crate::item::{Item, stands};
 use crate::options::Subject;
 use crate::said::{name_in, numbers_copy, value_in};
-use mkv_values::{List, Text};
+use mkv_io::{List, Text};
 use std::alloc::{AllocError, Global};
 use word_values::{SplitWords, Value};
 

@@ -6,7 +6,7 @@ ghost use Rattle.merge_words.specs.Said as spec;
 
 use crate::item::Item;
 use crate::options::Subject;
-use mkv_values::{List, Text};
+use mkv_io::{List, Text};
 use std::alloc::{AllocError, Global};
 use word_values::{Value, name};
 

@@ -3,8 +3,8 @@ use Rattle.std.proofs.Common.{◌≡◌, ◌≤◌, ℕ, zero, suc, ◌+◌, ◌
 use Rattle.std.specs.List.{range_with_len}
 use Rattle.std.proofs.lemmas.Bool.{le-leb}
 use Rattle.std.proofs.lemmas.Option.{IfSome_then}
-use Rattle.ebml_format.specs.Number.{uint_octets, uint_width}
-use Rattle.ebml_format.proofs.NumberLemmas.{length-uint_octets}
+use Rattle.ebml_numbers.specs.Number.{uint_octets, uint_width}
+use Rattle.ebml_numbers.proofs.NumberLemmas.{length-uint_octets}
 use Rattle.mkv_schema.specs.declared.ids.TheConstants.{CHAPTERS, EDITION_ENTRY, CHAPTER_ATOM, CHAPTER_TIME_START, CHAPTER_TIME_END}
 use Rattle.tree_format.specs.Node.{Node, Nodes, leaf, master, none, node, nodes_of, list_of, id_of, children, depth, depth_all, deepest}
 use Rattle.tree_format.specs.NormalForm.{content, longest}
@@ -14,15 +14,15 @@ use Rattle.tree_format.specs.Values.{integer_in}
 use Rattle.tree_format.proofs.NodeLemmas.{nodes-list}
 use Rattle.tree_format.proofs.StandingLemmas.{sound-set}
 use Rattle.output_model.specs.Sound.{IsRecord}
-use Rattle.record_changes.specs.Children.{uint_leaf, set_in, set_each}
-use Rattle.tree_building.specs.Building.{IsInPlace, IsRead}
-use Rattle.tree_building.specs.Leaves.{IsUintIn}
-use Rattle.tree_building.proofs.LeafLemmas.{uint-stands}
-use Rattle.chapter_changes.specs.declared.stretch.Stretch.{Stretch}
-use Rattle.chapter_changes.specs.Cut.{within, start_of, next_start, end_of, takes, end_within, times_within, cut_at, cut_among, cut_inside, has_atom, edition_within, unless_empty, cut}
-use Rattle.chapter_changes.specs.Standing.{MayReplace, SetsTimes}
-use Rattle.chapter_changes.proofs.TableFacts.{start, end}
-use Rattle.chapter_changes.proofs.CutLemmas.{may-sets, sets-none, sets-time}
+use Rattle.tree_format.specs.Children.{uint_leaf, set_in, set_each}
+use Rattle.ebml_tree.specs.Building.{IsInPlace, IsRead}
+use Rattle.ebml_tree.specs.Leaves.{IsUintIn}
+use Rattle.ebml_tree.proofs.LeafLemmas.{uint-stands}
+use Rattle.record_changes.specs.declared.stretch.Stretch.{Stretch}
+use Rattle.record_changes.specs.Cut.{within, start_of, next_start, end_of, takes, end_within, times_within, cut_at, cut_among, cut_inside, has_atom, edition_within, unless_empty, cut}
+use Rattle.record_changes.specs.Standing.{MayReplace, SetsTimes}
+use Rattle.record_changes.proofs.ChapterFacts.{start, end}
+use Rattle.record_changes.proofs.CutLemmas.{may-sets, sets-none, sets-time}
 use Rattle.remux_plan.specs.Parts.{chapters_of}
 use Rattle.merged_outputs.proofs.EntryLemmas.{master-with}
 

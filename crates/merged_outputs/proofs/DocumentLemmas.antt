@@ -7,9 +7,9 @@ use Rattle.std.proofs.lemmas.List.Concat.{flat_map-append}
 use Rattle.std.proofs.lemmas.Option.{IfSome_then}
 use Rattle.std.proofs.lemmas.Str.{IsUtf8-nil}
 use lib.Utf8.{encode}
-use Rattle.ebml_format.specs.Number.{id_octets}
+use Rattle.ebml_numbers.specs.Number.{id_octets}
 use Rattle.mkv_schema.specs.declared.ids.TheConstants.{ATTACHMENTS, CHAPTERS, INFO, TIMESTAMP_SCALE, TITLE, MUXING_APP, WRITING_APP, SEGMENT, ATTACHED_FILE, FILE_DATA}
-use Rattle.mkv_values.specs.declared.outside.TheConstants.{LONGEST_FILE}
+use Rattle.mkv_io.specs.declared.outside.TheConstants.{LONGEST_FILE}
 use Rattle.tree_format.specs.Node.{Node, leaf, master, nodes_of, list_of, depth_all}
 use Rattle.tree_format.specs.Changes.{part, with_child}
 use Rattle.tree_format.specs.NormalForm.{content, longest}
@@ -18,22 +18,22 @@ use Rattle.tree_format.proofs.ChangeLemmas.{deep-with_child}
 use Rattle.tree_format.proofs.NodeLemmas.{list-nodes, nodes-list}
 use Rattle.tree_format.proofs.PartLemmas.{part-set}
 use Rattle.tree_format.proofs.StandingLemmas.{sound-set}
-use Rattle.attachment_records.specs.Attached.{with_data}
-use Rattle.attachment_reading.proofs.TableFacts.{file_data-valid, file_data-value, no_master-in}
-use Rattle.meta_format.specs.Info.{scale_of}
-use Rattle.element_octets.specs.Element.{Element, header_of, octets_of, joined, master_element}
+use Rattle.output_model.specs.Attached.{with_data}
+use Rattle.meta_records.proofs.TableFacts.{file_data-valid, file_data-value, no_master-in}
+use Rattle.file_format.specs.Info.{scale_of}
+use Rattle.output_model.specs.Element.{Element, header_of, octets_of, joined, master_element}
 use Rattle.output_model.specs.declared.TheConstants.{MOST_LANES}
 use Rattle.output_model.specs.Cues.{cues_elements}
 use Rattle.output_model.specs.SeekHead.{area_elements}
 use Rattle.output_model.specs.Document.{Document, ebml_element, tree_element, tree_elements, attachments_elements, front_elements, clusters_elements, back_elements, elements_behind_area, seeks_of, segment_size, layout}
 use Rattle.output_model.specs.Sound.{IsRecord, IsAttachment, IsSoundCluster, IsSoundDocument}
-use Rattle.record_changes.specs.Children.{uint_leaf}
-use Rattle.output_records.specs.Info.{application, title_elements, output_info}
-use Rattle.output_records.proofs.RecordLemmas.{info-scale, scale-in, title-in, muxing-in, writing-in}
-use Rattle.tree_building.proofs.LeafLemmas.{uint-stands, text-stands}
-use Rattle.layout_laws.proofs.AreaLemmas.{HasIds}
-use Rattle.merge_laws.proofs.ClusterLemmas.{IsOf, clusters-sound}
-use Rattle.cluster_runs.specs.Cued.{document_of, is_cue}
+use Rattle.tree_format.specs.Children.{uint_leaf}
+use Rattle.merged_records.specs.Info.{application, title_elements, output_info}
+use Rattle.merged_records.proofs.OutputLemmas.{info-scale, scale-in, title-in, muxing-in, writing-in}
+use Rattle.ebml_tree.proofs.LeafLemmas.{uint-stands, text-stands}
+use Rattle.output_laws.proofs.AreaLemmas.{HasIds}
+use Rattle.output_laws.proofs.MergedClusterLemmas.{IsOf, clusters-sound}
+use Rattle.output_model.specs.Cued.{document_of, is_cue}
 use Rattle.splitter.specs.Sections.{Part}
 use Rattle.remux_plan.specs.Parts.{stretch_of}
 use Rattle.merge_words.specs.declared.output.MergeWords.{MergeWords}
@@ -46,7 +46,7 @@ use Rattle.mkv_merge.specs.Merge.{chapters_in}
 use Rattle.mkv_merge.specs.Read.{is_split}
 use Rattle.mkv_merge.specs.Records.{HaveRecords, IsFilled}
 use Rattle.merge_words.specs.Texts.{AreTexts}
-use Rattle.track_format.specs.Entry as tracks
+use Rattle.file_format.specs.Entry as tracks
 use Rattle.merged_outputs.specs.Merge.{IsPlain, lanes_selected}
 use Rattle.merged_outputs.specs.Sources.{AreSources, IsReadSource, IsReadTrack}
 use Rattle.merged_outputs.proofs.ChapterLemmas.{IsRecordIfShort, chapters-stand, record-short}

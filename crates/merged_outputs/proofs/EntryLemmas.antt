@@ -4,7 +4,7 @@ use Rattle.std.specs.List.{All, filter}
 use Rattle.std.specs.Option.{option_map}
 use Rattle.std.specs.Str.{IsUtf8}
 use Rattle.std.proofs.lemmas.List.Elements.{All-nil, All-cons, All-head, All-tail, All-append}
-use Rattle.ebml_format.specs.Number.{uint_octets}
+use Rattle.ebml_numbers.specs.Number.{uint_octets}
 use Rattle.mkv_schema.specs.declared.ids.TheConstants.{TRACK_ENTRY, TRACK_NUMBER, TRACK_UID, TRACK_TYPE, CODEC_ID, DEFAULT_DURATION, NAME, LANGUAGE, LANGUAGE_BCP47, FLAG_DEFAULT, FLAG_FORCED, CONTENT_ENCODINGS}
 use Rattle.mkv_schema.specs.Schema.{uint_default}
 use Rattle.tree_format.specs.Node.{Node, Nodes, leaf, master, id_of, list_of, children, with_children, IsMaster}
@@ -14,17 +14,17 @@ use Rattle.tree_format.specs.Values.{first_child, integer_of}
 use Rattle.tree_format.proofs.NodeLemmas.{list-nodes}
 use Rattle.tree_format.proofs.StandingLemmas.{sound-remove, sound-set}
 use Rattle.tree_format.proofs.ValueLemmas.{uint_value-octets}
-use Rattle.track_format.specs.Entry.{number_of}
-use Rattle.track_format.specs.Refusal.{too_long}
-use Rattle.track_format.specs.Tracks.{IsTrack}
-use Rattle.record_changes.specs.declared.track_change.TrackChange.{TrackChange}
-use Rattle.record_changes.specs.Children.{uint_leaf, set_in, set_each, removed_in, removed_each, given}
-use Rattle.record_changes.specs.Entry.{flag_leaf, children_set, ids_removed, written_entry, IsWholeEntry}
+use Rattle.file_format.specs.Entry.{number_of}
+use Rattle.file_format.specs.Refusal.{too_long}
+use Rattle.file_format.specs.Tracks.{IsTrack}
+use Rattle.track_records.specs.declared.track_change.TrackChange.{TrackChange}
+use Rattle.tree_format.specs.Children.{uint_leaf, set_in, set_each, removed_in, removed_each, given}
+use Rattle.track_records.specs.Entry.{flag_leaf, children_set, ids_removed, written_entry, IsWholeEntry}
 use Rattle.record_laws.proofs.EntryLemmas.{entry_list, written-master, part-number, part-encodings, part-others}
 use Rattle.record_laws.proofs.TrackLemmas.{first_in, find-filter}
-use Rattle.tree_building.proofs.LeafLemmas.{uint-stands, text-stands}
-use Rattle.track_changes.proofs.StandLemmas as row
-use Rattle.track_changes.proofs.StandLemmas.{whole-set, whole-removed}
+use Rattle.ebml_tree.proofs.LeafLemmas.{uint-stands, text-stands}
+use Rattle.track_records.proofs.StandLemmas as row
+use Rattle.track_records.proofs.StandLemmas.{whole-set, whole-removed}
 use Rattle.merge_inputs.specs.Taken.{IsTaken}
 use Rattle.merge_inputs.specs.declared.taken.TakenTrack.{TakenTrack}
 use Rattle.merged_outputs.specs.Merge.{IsPlain}

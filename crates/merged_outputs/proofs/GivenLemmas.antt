@@ -2,21 +2,21 @@
 use Rattle.std.proofs.Common.{◌<◌, ◌≤◌, ℕ, ◌^◌, ◌==◌, List, get_or, Option, IfSome, refl, sym, ap, subst, arith}
 use Rattle.std.specs.List.{All}
 use Rattle.std.proofs.lemmas.List.Elements.{All-filter, All-map, All-weaker}
-use Rattle.ebml_format.specs.Number.{AreOctets}
-use Rattle.matroska_format.specs.Outline.{first_damage}
-use Rattle.track_format.specs.Encoding.{prefix_of, usable_causes}
-use Rattle.track_format.proofs.EncodingLemmas.{usable-few}
+use Rattle.ebml_numbers.specs.Number.{AreOctets}
+use Rattle.mkv_schema.specs.Outline.{first_damage}
+use Rattle.file_format.specs.Encoding.{prefix_of, usable_causes}
+use Rattle.file_format.proofs.EncodingLemmas.{usable-few}
 use Rattle.track_records.specs.declared.track.Track.{Track}
 use Rattle.block_format.specs.Block.{Block}
 use Rattle.block_format.specs.Elements.{with_limits}
 use Rattle.block_format.specs.Events.{blocks_of, events_of}
-use Rattle.text_entries.specs.declared.Entry.{Entry}
+use Rattle.mkv_io.specs.declared.entry.Entry.{Entry}
 use Rattle.srt_texts.specs.Reading.{IsEntryWithin}
-use Rattle.text_files.specs.declared.limits.TheConstants.{MOST_OF_SRT}
+use Rattle.input_files.specs.declared.limits.TheConstants.{MOST_OF_SRT}
 use Rattle.merge_model.specs.Links.{Given, entry_block}
 use Rattle.merge_model.specs.declared.limits.TheConstants.{MOST_SHIFT}
-use Rattle.merge_laws.specs.Read.{IsPlacing, IsReadBlock}
-use Rattle.merge_laws.proofs.KindLemmas.{all-read}
+use Rattle.output_laws.specs.Read.{IsPlacing, IsReadBlock}
+use Rattle.output_laws.proofs.KindLemmas.{all-read}
 use Rattle.merge_inputs.specs.Input.{BlocksRead, Clusters, Entries}
 use Rattle.merge_inputs.specs.Taken.{IsTaken}
 use Rattle.merge_inputs.specs.declared.taken.TakenTrack.{TakenTrack}

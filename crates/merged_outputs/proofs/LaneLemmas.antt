@@ -8,9 +8,9 @@ use Rattle.output_model.specs.OutputBlock.{OutputBlock}
 use Rattle.output_model.specs.Sound.{IsSoundBlock}
 use Rattle.merge_model.specs.Links.{Given, Placing, delayed, output_block, placed, placed_at, given_blocks}
 use Rattle.merge_model.specs.Lanes.{lane_blocks}
-use Rattle.merge_laws.specs.Lanes.{HasNoLane}
-use Rattle.merge_laws.specs.Read.{IsReadBlock, IsPlacing, LEAST_SCALE}
-use Rattle.merge_laws.proofs.SoundLemmas.{placed-sound}
+use Rattle.output_laws.specs.Lanes.{HasNoLane}
+use Rattle.output_laws.specs.Read.{IsReadBlock, IsPlacing, LEAST_SCALE}
+use Rattle.output_laws.proofs.SoundLemmas.{placed-sound}
 use Rattle.merge_plan.specs.Front.{reads_of}
 use Rattle.merge_plan.specs.Plan.{Source, given_from, given_of, lanes_given, later_by}
 use Rattle.merge_plan.specs.Records.{is_appended, tracks_begun, tracks_taken}

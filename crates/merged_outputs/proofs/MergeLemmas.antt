@@ -4,25 +4,25 @@ use Rattle.std.specs.List.{All, AllZip}
 use Rattle.std.specs.Str.{IsUtf8}
 use Rattle.std.proofs.lemmas.List.{length-map}
 use Rattle.std.proofs.lemmas.List.Elements.{All-head, All-tail}
-use Rattle.mkv_values.specs.declared.outside.TheConstants.{LONGEST_FILE}
+use Rattle.mkv_io.specs.declared.outside.TheConstants.{LONGEST_FILE}
 use Rattle.mkv_outputs.specs.Drafts.{patched}
 use Rattle.mkv_outputs.specs.Drafts.{outputs_of as outputs_of_drafts}
 use Rattle.mkv_outputs.specs.Outputs.{Output, with_outputs}
 use Rattle.tree_format.specs.Node.{Node}
-use Rattle.meta_format.specs.Info.{scale_of}
-use Rattle.file_blocks.specs.File.{file_events}
+use Rattle.file_format.specs.Info.{scale_of}
+use Rattle.file_format.specs.FileBlocks.{file_events}
 use Rattle.output_model.specs.Cluster.{clusters}
 use Rattle.output_model.specs.Document.{Document, layout, opened}
 use Rattle.output_model.specs.Sound.{IsSoundDocument}
-use Rattle.layout_laws.specs.Reading.{header_of_segment}
-use Rattle.layout_laws.proofs.LayoutLemmas.{layout-read}
-use Rattle.layout_laws.proofs.AreaLemmas.{length-area_of}
+use Rattle.output_laws.specs.Reading.{header_of_segment}
+use Rattle.output_laws.proofs.LayoutLemmas.{layout-read}
+use Rattle.output_laws.proofs.AreaLemmas.{length-area_of}
 use Rattle.cues_seekhead.specs.Draft.{draft_of}
 use Rattle.cues_seekhead.proofs.LayoutLemmas.{draft-layout}
 use Rattle.merge_model.specs.Lanes.{lane_blocks}
-use Rattle.merge_laws.specs.Lanes.{blocks_read, lanes_read}
-use Rattle.merge_laws.proofs.AgainLemmas.{lanes-again}
-use Rattle.merge_laws.proofs.OrderLemmas.{order-again}
+use Rattle.output_laws.specs.Lanes.{blocks_read, lanes_read}
+use Rattle.output_laws.proofs.AgainLemmas.{lanes-again}
+use Rattle.output_laws.proofs.OrderLemmas.{order-again}
 use Rattle.splitter.specs.Sections.{Part}
 use Rattle.remux_plan.specs.Parts.{PlannedOutput, name_of}
 use Rattle.remuxer.specs.Output.{drafts_of}

@@ -3,8 +3,8 @@ use Rattle.std.proofs.Common.{◌≡◌, ℕ, ◌+◌, ◌==◌, Bool, true, fal
 use Rattle.std.specs.List.{All, enumerate_from}
 use Rattle.std.proofs.lemmas.List.Elements.{All-nil, All-cons, All-head, All-map, All-tail, All-weaker}
 use Rattle.tree_format.specs.Node.{Node}
-use Rattle.cluster_runs.specs.Cued.{document_of}
-use Rattle.merge_laws.proofs.ClusterLemmas.{IsOf, merged-of}
+use Rattle.output_model.specs.Cued.{document_of}
+use Rattle.output_laws.proofs.MergedClusterLemmas.{IsOf, merged-of}
 use Rattle.splitter.specs.Sections.{Part}
 use Rattle.splitter.specs.Words.{spec_of}
 use Rattle.splitter.proofs.SectionLemmas.{whole-part}

@@ -4,7 +4,7 @@ use Rattle.std.specs.List.{All}
 use Rattle.std.proofs.lemmas.List.{get_or-append-add, get_or_append_left}
 use Rattle.std.proofs.lemmas.List.Elements.{All-nil, All-cons, All-head, All-map, All-tail, All-weaker}
 use Rattle.output_model.specs.OutputBlock.{OutputBlock}
-use Rattle.merge_laws.proofs.ClusterLemmas.{IsOf, earlier-of}
+use Rattle.output_laws.proofs.MergedClusterLemmas.{IsOf, earlier-of}
 use Rattle.splitter.specs.Sections.{Part, Section, Split, in_part, is_written, next_start, part_of, parts, parts_in, sections}
 use Rattle.splitter.proofs.SectionLemmas.{sections-cut}
 

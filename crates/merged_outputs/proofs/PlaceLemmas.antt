@@ -13,8 +13,8 @@ use Rattle.merge_model.specs.Ends.{block_end, end_at, file_end, last_end, lastin
 use Rattle.merge_model.specs.Links.{Given, Placing, delayed}
 use Rattle.merge_model.specs.Ticks.{since_start}
 use Rattle.merge_model.specs.declared.limits.TheConstants.{MOST_LINKS, MOST_SHIFT}
-use Rattle.file_survey.specs.declared.found.TheConstants.{MOST_END}
-use Rattle.merge_laws.specs.Read.{IsPlacing, IsReadBlock}
+use Rattle.lanes.specs.declared.found.TheConstants.{MOST_END}
+use Rattle.output_laws.specs.Read.{IsPlacing, IsReadBlock}
 use Rattle.merge_plan.specs.Places.{begun_at, end_of, in_place, in_place_from}
 use Rattle.merge_plan.specs.Plan.{Source, given_of}
 use Rattle.merged_outputs.specs.Sources.{IsReadSource}

@@ -7,18 +7,18 @@ use Rattle.std.proofs.lemmas.List.{length-map}
 use Rattle.std.proofs.lemmas.List.Elements.{All-nil, All-cons, All-head, All-tail, All-append, All-map}
 use Rattle.std.proofs.lemmas.Slice.Zip.{length-zip}
 use Rattle.std.proofs.lemmas.Str.{IsUtf8-nil, IsUtf8-from_is_utf8}
-use Rattle.ebml_format.specs.Number.{AreOctets}
-use Rattle.ebml_format.proofs.SpelledLemmas.{AreOctets-take, AreOctets-drop}
+use Rattle.ebml_numbers.specs.Number.{AreOctets}
+use Rattle.ebml_numbers.proofs.SpelledLemmas.{AreOctets-take, AreOctets-drop}
 use Rattle.mkv_schema.specs.Schema.{may_stand, kind_of}
 use Rattle.mkv_schema.specs.declared.ids.TheConstants.{CHAPTERS, INFO, TAGS, TITLE, TRACKS, TRACK_ENTRY, TRACK_UID}
 use Rattle.mkv_schema.specs.declared.kind.ElementKind.TheVariants.{Ascii, Utf8}
-use Rattle.mkv_values.specs.declared.damage.Damage.{Damage}
+use Rattle.mkv_io.specs.declared.damage.Damage.{Damage}
 use Rattle.mkv_io.specs.Faults.{counted}
-use Rattle.matroska_format.specs.declared.element.Header.{Header}
-use Rattle.matroska_format.specs.Element.{stated_end}
-use Rattle.matroska_format.specs.Outline.{and_then, outline_of, segment_run}
-use Rattle.matroska_format.specs.Value.{body_of, first_of, text_of}
-use Rattle.matroska_format.proofs.OutlineLemmas.{and_then-ok, unless-ok}
+use Rattle.mkv_schema.specs.declared.element.Header.{Header}
+use Rattle.mkv_schema.specs.Element.{stated_end}
+use Rattle.mkv_schema.specs.Outline.{and_then, outline_of, segment_run}
+use Rattle.mkv_schema.specs.Value.{body_of, first_of, text_of}
+use Rattle.mkv_schema.proofs.OutlineLemmas.{and_then-ok, unless-ok}
 use Rattle.tree_format.specs.declared.limits.TheConstants.{MOST_NODES}
 use Rattle.tree_format.specs.Node.{Node, id_of, IsMaster, HasRoom}
 use Rattle.tree_format.specs.Node as tree
@@ -27,28 +27,28 @@ use Rattle.tree_format.specs.Standing.{IsSoundOf}
 use Rattle.tree_format.specs.Values.{first_child}
 use Rattle.tree_format.proofs.ChildLemmas.{first_child-value, HasUint-of}
 use Rattle.tree_format.proofs.FoundLemmas.{tree_of-sound, tree_of-root}
-use Rattle.track_format.specs.Entry.{entries_of, uid_of}
-use Rattle.track_format.specs.Refusal as tracks
-use Rattle.track_format.proofs.TracksLemmas.{refusal-none}
+use Rattle.file_format.specs.Entry.{entries_of, uid_of}
+use Rattle.file_format.specs.Refusal as tracks
+use Rattle.file_format.proofs.TracksLemmas.{refusal-none}
 use Rattle.track_records.specs.Sound.{IsEntry}
 use Rattle.track_records.specs.Track.{track_of, tracks_of}
 use Rattle.track_records.specs.declared.track.Track.{Track}
-use Rattle.track_changes.proofs.StandLemmas as row
-use Rattle.meta_format.specs.Info.{info_refusal}
-use Rattle.file_records.specs.Attached.{first_attached}
-use Rattle.file_records.specs.Records.{AreRead, FileRecords, file_records, first_tree, good_info, good_tracks, tree_at}
-use Rattle.file_records.proofs.RecordsLemmas.{AreRead-made}
-use Rattle.record_changes.specs.Entry.{IsWholeEntry}
+use Rattle.track_records.proofs.StandLemmas as row
+use Rattle.file_format.specs.Info.{info_refusal}
+use Rattle.meta_records.specs.Attached.{first_attached}
+use Rattle.meta_records.specs.Records.{AreRead, FileRecords, file_records, first_tree, good_info, good_tracks, tree_at}
+use Rattle.meta_records.proofs.RecordsLemmas.{AreRead-made}
+use Rattle.track_records.specs.Entry.{IsWholeEntry}
 use Rattle.record_laws.proofs.WholeLemmas.{read-entries-whole}
-use Rattle.output_records.proofs.RecordLemmas.{title-in}
-use Rattle.text_entries.specs.declared.Entry.{Entry}
-use Rattle.text_files.specs.ChapterFile.{chapter_file}
-use Rattle.text_files.specs.TextFile.{srt_text}
-use Rattle.text_files.specs.declared.chapter_file.ChapterFile.{ChapterFile}
-use Rattle.text_files.specs.declared.chapter_file.ChapterFile.TheVariants as file
-use Rattle.text_files.specs.declared.refusal.TextRefusal.{TextRefusal}
-use Rattle.text_tracks.specs.Names.{is_srt}
-use Rattle.text_tracks.specs.Track.{text_entry}
+use Rattle.merged_records.proofs.OutputLemmas.{title-in}
+use Rattle.mkv_io.specs.declared.entry.Entry.{Entry}
+use Rattle.input_files.specs.ChapterFile.{chapter_file}
+use Rattle.input_files.specs.TextFile.{srt_text}
+use Rattle.input_files.specs.declared.chapter_file.ChapterFile.{ChapterFile}
+use Rattle.input_files.specs.declared.chapter_file.ChapterFile.TheVariants as file
+use Rattle.input_files.specs.declared.refusal.TextRefusal.{TextRefusal}
+use Rattle.input_files.specs.Names.{is_srt}
+use Rattle.input_files.specs.Track.{text_entry}
 use Rattle.merge_model.specs.declared.limits.TheConstants.{MOST_SHIFT}
 use Rattle.merge_words.specs.declared.files.FileWords.{FileWords}
 use Rattle.merge_words.specs.declared.output.MergeWords.{MergeWords}

@@ -11,33 +11,33 @@ use Rattle.std.proofs.lemmas.Int.Digits.{digits_value-lt}
 use Rattle.std.proofs.lemmas.List.Elements.{All-cons, All-head, All-nil, All-tail}
 use lib.Utf8.{encode}
 use Rattle.mkv_schema.specs.declared.ids.TheConstants.{TRACK_ENTRY, TRACK_NUMBER, TRACK_UID, TRACK_TYPE, FLAG_LACING, LANGUAGE, CODEC_ID}
-use Rattle.matroska_format.specs.Outline.{first_damage}
+use Rattle.mkv_schema.specs.Outline.{first_damage}
 use Rattle.tree_format.specs.Node.{HasRoom}
-use Rattle.track_format.specs.Encoding.{usable_causes}
-use Rattle.track_format.specs.Tracks.{IsTrack}
+use Rattle.file_format.specs.Encoding.{usable_causes}
+use Rattle.file_format.specs.Tracks.{IsTrack}
 use Rattle.track_records.specs.Sound.{IsEntry}
 use Rattle.track_records.specs.Track.{track_of}
 use Rattle.track_records.specs.declared.track.Track.{Track}
-use Rattle.tree_building.proofs.LeafLemmas.{uint-stands, text-stands}
-use Rattle.file_records.specs.Records.{AreRead}
+use Rattle.ebml_tree.proofs.LeafLemmas.{uint-stands, text-stands}
+use Rattle.meta_records.specs.Records.{AreRead}
 use Rattle.output_model.specs.Sound.{IsKeptElement}
-use Rattle.text_lines.specs.Fields.{behind, cut, digits, sixtieth}
-use Rattle.text_lines.specs.Lines.{lines_of}
-use Rattle.text_lines.proofs.FieldsLemmas.{most_digits}
-use Rattle.text_entries.specs.declared.Entry.{Entry}
+use Rattle.srt_texts.specs.Fields.{behind, cut, digits, sixtieth}
+use Rattle.srt_texts.specs.Lines.{lines_of}
+use Rattle.srt_texts.proofs.FieldsLemmas.{most_digits}
+use Rattle.mkv_io.specs.declared.entry.Entry.{Entry}
 use Rattle.srt_texts.specs.Times.{clock, is_number, is_tail, latest, seconds, span, times}
 use Rattle.srt_texts.specs.Srt.{Front, before_head, by_start, entries, entry, first_bad, head, insert_by, onto_entries, sorted_by, srt}
 use Rattle.srt_texts.specs.Srt.{unless_bad as unless_bad_line}
 use Rattle.srt_texts.specs.Reading.{IsEntryWithin}
 use Rattle.srt_texts.proofs.LengthLemmas.{texts_short}
-use Rattle.text_files.specs.TextFile.{srt_text, unless_bad}
-use Rattle.text_files.specs.declared.limits.TheConstants.{MOST_OF_SRT}
-use Rattle.text_files.specs.declared.refusal.TextRefusal.TheVariants.{TooLarge}
-use Rattle.text_tracks.specs.Track.{text_entry}
-use Rattle.text_tracks.proofs.TextFacts.{is_track, is_usable, says}
-use Rattle.text_tracks.proofs.TrackLemmas.{codec-in, lacing-in, language-in, number-in, type-in, uid-in}
+use Rattle.input_files.specs.TextFile.{srt_text, unless_bad}
+use Rattle.input_files.specs.declared.limits.TheConstants.{MOST_OF_SRT}
+use Rattle.input_files.specs.declared.refusal.TextRefusal.TheVariants.{TooLarge}
+use Rattle.input_files.specs.Track.{text_entry}
+use Rattle.input_files.proofs.TextFacts.{is_track, is_usable, says}
+use Rattle.input_files.proofs.TrackLemmas.{codec-in, lacing-in, language-in, number-in, type-in, uid-in}
 use Rattle.merge_model.specs.Links.{entry_block}
-use Rattle.merge_laws.specs.Read.{IsReadBlock}
+use Rattle.output_laws.specs.Read.{IsReadBlock}
 use Rattle.merge_words.specs.declared.files.FileWords.{FileWords}
 use Rattle.merge_inputs.specs.Select.{is_taken}
 use Rattle.merge_inputs.specs.Taken.{first_unusable, taken_from, taken_track}

@@ -4,23 +4,23 @@ use Rattle.std.specs.List.{All, AllPairs}
 use Rattle.std.proofs.lemmas.List.{length-map}
 use Rattle.std.proofs.lemmas.List.Elements.{All-nil, All-cons, All-head, All-tail, All-map, All-weaker}
 use Rattle.mkv_schema.specs.declared.ids.TheConstants.{TRACKS, TRACK_ENTRY}
-use Rattle.matroska_format.specs.Outline.{unless}
+use Rattle.mkv_schema.specs.Outline.{unless}
 use Rattle.tree_format.specs.Node.{Node, nodes_of, id_of, depth_all, deepest}
 use Rattle.tree_format.specs.NormalForm.{content, longest}
 use Rattle.tree_format.specs.Standing.{AllStandIn}
 use Rattle.tree_format.proofs.NodeLemmas.{list-nodes}
-use Rattle.track_format.specs.Entry.{number_of}
-use Rattle.track_format.specs.Entry as track
-use Rattle.track_format.specs.Refusal.{refusal_of}
-use Rattle.track_format.specs.Tracks.{IsTrack, AreTracks}
-use Rattle.track_format.proofs.TracksLemmas.{refusal-none}
-use Rattle.identifier_format.proofs.GivenLemmas.{numbers-fit}
+use Rattle.file_format.specs.Entry.{number_of}
+use Rattle.file_format.specs.Entry as track
+use Rattle.file_format.specs.Refusal.{refusal_of}
+use Rattle.file_format.specs.Tracks.{IsTrack, AreTracks}
+use Rattle.file_format.proofs.TracksLemmas.{refusal-none}
+use Rattle.record_changes.proofs.GivenLemmas.{numbers-fit}
 use Rattle.output_model.specs.declared.TheConstants.{MOST_LANES}
 use Rattle.output_model.specs.Sound.{IsRecord, CountFrom}
 use Rattle.output_model.specs.Sound as output
-use Rattle.record_changes.specs.Entry.{IsWholeEntry}
-use Rattle.output_records.specs.Tracks.{output_tracks}
-use Rattle.output_records.proofs.RecordLemmas.{entry-stands}
+use Rattle.track_records.specs.Entry.{IsWholeEntry}
+use Rattle.merged_records.specs.Tracks.{output_tracks}
+use Rattle.merged_records.proofs.OutputLemmas.{entry-stands}
 use Rattle.merge_inputs.specs.declared.taken.TakenTrack.{TakenTrack}
 use Rattle.merge_plan.specs.Records.{change_of, entry_of, entries_from, entries_of, uids_of}
 use Rattle.merge_plan.proofs.RecordLemmas.{length-uids}

@@ -6,17 +6,17 @@ use Rattle.std.proofs.Math.Nat.{pow-le-pow_right}
 use Rattle.std.proofs.lemmas.Bool.Decides.{nat_tests}
 use Rattle.std.proofs.lemmas.List.Elements.{All-nil, All-cons, All-filter}
 use Rattle.byteorder.specs.Numbers.{big_from-lt}
-use Rattle.ebml_format.specs.Number.{AreOctets, uint_of}
-use Rattle.ebml_format.proofs.SpelledLemmas.{AreOctets-take, AreOctets-drop}
+use Rattle.ebml_numbers.specs.Number.{AreOctets, uint_of}
+use Rattle.ebml_numbers.proofs.SpelledLemmas.{AreOctets-take, AreOctets-drop}
 use Rattle.mkv_schema.specs.Schema.{entry_of, uint_default}
 use Rattle.mkv_schema.specs.Table.{table}
 use Rattle.mkv_schema.specs.declared.ids.TheConstants.{TRACK_ENTRY, TRACK_UID}
-use Rattle.mkv_values.specs.declared.damage.Kind.TheVariants.{TooMany, BadValue}
-use Rattle.matroska_format.specs.declared.element.Header.{Header}
-use Rattle.matroska_format.specs.Element.{stated_end}
-use Rattle.matroska_format.specs.Outline.{and_then}
-use Rattle.matroska_format.specs.Value.{is_known_value, uint_value}
-use Rattle.matroska_format.proofs.OutlineLemmas.{and_then-ok}
+use Rattle.mkv_io.specs.declared.damage.Kind.TheVariants.{TooMany, BadValue}
+use Rattle.mkv_schema.specs.declared.element.Header.{Header}
+use Rattle.mkv_schema.specs.Element.{stated_end}
+use Rattle.mkv_schema.specs.Outline.{and_then}
+use Rattle.mkv_schema.specs.Value.{is_known_value, uint_value}
+use Rattle.mkv_schema.proofs.OutlineLemmas.{and_then-ok}
 use Rattle.tree_format.specs.Node.{Node, Nodes, leaf, master, none, node, nodes_of, list_of, id_of, body_of, children, depth, depth_all, deepest}
 use Rattle.tree_format.specs.Reading.{Grove, Grown, header_at, inside, behind, is_master_in, refused, as_master, grown, with_first, first_then, grove, as_root, tree_of}
 use Rattle.tree_format.specs.Values.{first_child, integer_of, HasUint}
@@ -24,7 +24,7 @@ use Rattle.tree_format.specs.Standing.{IsSound}
 use Rattle.tree_format.proofs.NodeLemmas.{nodes-list, list-nodes}
 use Rattle.tree_format.proofs.ReadingLemmas.{grove-more, grove-end, header_at-fits, length-inside, length-behind}
 use Rattle.tree_format.proofs.ChildLemmas.{first_child-short, first_child-sound}
-use Rattle.track_format.specs.Entry.{entries_of, uid_of}
+use Rattle.file_format.specs.Entry.{entries_of, uid_of}
 
 -- ---- octets
 

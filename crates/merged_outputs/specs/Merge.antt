@@ -1,20 +1,20 @@
 -- Contents that hold a merge.
 use Rattle.std.specs.Prelude.{◌≡◌, ◌≤◌, ⊤, ℕ, false, List, All, Option, None, Some, Ok, length, map}
 use Rattle.std.specs.List.{AllZip, zip}
-use Rattle.mkv_values.specs.declared.outside.TheConstants.{LONGEST_FILE}
+use Rattle.mkv_io.specs.declared.outside.TheConstants.{LONGEST_FILE}
 use Rattle.mkv_io.specs.Names.{Names}
 use Rattle.mkv_io.specs.Told.{Told}
 use Rattle.mkv_outputs.specs.Outputs.{Output, with_outputs}
 use Rattle.mkv_schema.specs.declared.ids.TheConstants.{CONTENT_ENCODINGS}
 use Rattle.tree_format.specs.Node.{Node}
 use Rattle.tree_format.specs.Values.{first_child}
-use Rattle.track_format.specs.Entry.{entries_of}
+use Rattle.file_format.specs.Entry.{entries_of}
 use Rattle.block_format.specs.Events.{Event}
-use Rattle.file_blocks.specs.File.{file_events}
+use Rattle.file_format.specs.FileBlocks.{file_events}
 use Rattle.output_model.specs.OutputBlock.{OutputBlock}
-use Rattle.layout_laws.specs.Reading.{header_of_segment, IsReadAs}
+use Rattle.output_laws.specs.Reading.{header_of_segment, IsReadAs}
 use Rattle.merge_model.specs.Lanes.{lane_blocks}
-use Rattle.merge_laws.specs.Lanes.{blocks_read, lanes_read}
+use Rattle.output_laws.specs.Lanes.{blocks_read, lanes_read}
 use Rattle.remux_plan.specs.Parts.{PlannedOutput}
 use Rattle.merge_words.specs.declared.output.MergeWords.{MergeWords}
 use Rattle.merge_plan.specs.Plan.{Source, lanes_given}

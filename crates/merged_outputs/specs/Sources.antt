@@ -1,10 +1,10 @@
 -- What a merge is made of, as far as it can be written: RFC 9559, section 5.1.4 (Tracks Element).
 use Rattle.std.specs.Prelude.{◌≡◌, ◌<◌, ◌≤◌, ◌^◌, ⊤, ℕ, List, Option, None, Some, All, IfSome}
 use Rattle.std.specs.Str.{IsUtf8}
-use Rattle.ebml_format.specs.Number.{AreOctets}
+use Rattle.ebml_numbers.specs.Number.{AreOctets}
 use Rattle.merge_model.specs.declared.limits.TheConstants.{MOST_SHIFT}
 use Rattle.srt_texts.specs.Reading.{IsEntryWithin}
-use Rattle.text_files.specs.declared.limits.TheConstants.{MOST_OF_SRT}
+use Rattle.input_files.specs.declared.limits.TheConstants.{MOST_OF_SRT}
 use Rattle.merge_words.specs.declared.output.MergeWords.{MergeWords}
 use Rattle.merge_inputs.specs.Input.{BlocksRead, Clusters, Entries}
 use Rattle.merge_inputs.specs.Taken.{IsTaken}

@@ -3,7 +3,7 @@ use Rattle.std.proofs.Common.{◌≡◌, ◌≤◌, ◌<◌, ℕ, zero, suc, ◌
 use Rattle.std.specs.Prelude.{All}
 use Rattle.std.proofs.lemmas.Grind.{flat_map-append}
 use Rattle.std.proofs.lemmas.List.{take_more, map-append}
-use Rattle.attachment_records.specs.declared.attachment.Attachment.{Attachment}
+use Rattle.output_model.specs.declared.attachment.Attachment.{Attachment}
 use Rattle.merged_records.specs.declared.inputs.InputRecords.{InputRecords}
 use Rattle.merged_records.specs.Attachments.{files_of, file_uids, with_uid, with_uids}
 

@@ -3,19 +3,19 @@ use Rattle.std.proofs.Common.{◌≡◌, ◌<◌, ℕ, true, List, [], ◌∷◌
 use Rattle.mkv_schema.specs.declared.ids.TheConstants.{CHAPTERS, TAGS, ATTACHED_FILE, FILE_DATA, FILE_UID}
 use Rattle.mkv_schema.specs.Table.{table}
 use Rattle.mkv_schema.specs.Schema.{entry_of, is_master}
-use Rattle.ebml_format.specs.Number.{is_id}
+use Rattle.ebml_numbers.specs.Number.{is_id}
 use Rattle.tree_format.specs.Node.{Node, Nodes, leaf, master, nodes_of, list_of, id_of, offset_of, children, with_children, depth, depth_all, deepest, IsMaster}
 use Rattle.tree_format.specs.Changes.{AreTooLong, part, with_child}
 use Rattle.tree_format.specs.Standing.{StandsIn, AllStandIn, IsSound, KeepsLimits}
 use Rattle.tree_format.proofs.NodeLemmas.{nodes-list, list-nodes}
 use Rattle.tree_format.proofs.ChangeLemmas.{deep-with_child}
 use Rattle.tree_format.proofs.PartLemmas.{part-other}
-use Rattle.tree_building.specs.Building.{IsBuilt, IsRead}
-use Rattle.tree_building.specs.Leaves.{IsUintIn}
-use Rattle.tree_building.proofs.BuildLemmas.{built-limits}
+use Rattle.ebml_tree.specs.Building.{IsBuilt, IsRead}
+use Rattle.ebml_tree.specs.Leaves.{IsUintIn}
+use Rattle.ebml_tree.proofs.BuildLemmas.{built-limits}
 use Rattle.output_model.specs.Sound.{IsRecord, IsAttachment}
-use Rattle.output_records.proofs.KeptLemmas.{content-children}
-use Rattle.record_changes.specs.Children.{uint_leaf}
+use Rattle.merged_records.proofs.KeptLemmas.{content-children}
+use Rattle.tree_format.specs.Children.{uint_leaf}
 use Rattle.merged_records.specs.Inputs.{unless_empty, with_some}
 
 -- ---- the table

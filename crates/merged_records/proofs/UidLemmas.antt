@@ -7,12 +7,12 @@ use Rattle.std.proofs.lemmas.List.{length-map}
 use Rattle.std.proofs.lemmas.Map.{update_all_push}
 use Rattle.std.proofs.Math.Path.{fun_ext}
 use Rattle.indexmap.specs.IndexMap.{get}
-use Rattle.identifier_format.specs.Identifiers.{renumbered}
-use Rattle.identifier_format.proofs.GivenLemmas.{length-from}
+use Rattle.record_changes.specs.Identifiers.{renumbered}
+use Rattle.record_changes.proofs.GivenLemmas.{length-from}
 use Rattle.mkv_schema.specs.declared.ids.TheConstants.{TAG_TRACK_UID, TAG_EDITION_UID, TAG_CHAPTER_UID, TAG_ATTACHMENT_UID}
-use Rattle.attachment_records.specs.declared.attachment.Attachment.{Attachment}
-use Rattle.tag_records.specs.declared.uid_map.UidMap.{UidMap}
-use Rattle.tag_records.specs.Numbers.{numbers_in}
+use Rattle.output_model.specs.declared.attachment.Attachment.{Attachment}
+use Rattle.record_changes.specs.declared.uid_map.UidMap.{UidMap}
+use Rattle.record_changes.specs.Numbers.{numbers_in}
 use Rattle.merged_records.specs.declared.inputs.InputRecords.{InputRecords}
 use Rattle.merged_records.specs.declared.uids.Uids.{Uids}
 use Rattle.merged_records.specs.Attachments.{file_uids}

@@ -1,9 +1,9 @@
 -- The attached files of an output: RFC 9559, section 5.1.6 (Attachments Element). Which identifiers they get is this project's.
 use Rattle.std.specs.Prelude.{ℕ, List, [], ◌∷◌, map, flat_map}
 use Rattle.mkv_schema.specs.declared.ids.TheConstants.{FILE_UID}
-use Rattle.identifier_format.specs.Identifiers.{renumbered}
-use Rattle.record_changes.specs.Children.{uint_leaf, set_in}
-use Rattle.attachment_records.specs.declared.attachment.Attachment.{Attachment}
+use Rattle.record_changes.specs.Identifiers.{renumbered}
+use Rattle.tree_format.specs.Children.{uint_leaf, set_in}
+use Rattle.output_model.specs.declared.attachment.Attachment.{Attachment}
 use Rattle.merged_records.specs.declared.inputs.InputRecords.{InputRecords}
 
 -- the attached files of all inputs, one input behind the other

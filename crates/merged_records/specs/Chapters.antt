@@ -3,10 +3,10 @@ use Rattle.std.specs.Prelude.{ℕ, List, flat_map, Option, Some, None}
 use Rattle.std.specs.Option.{option_map}
 use Rattle.mkv_schema.specs.declared.ids.TheConstants.{CHAPTERS}
 use Rattle.tree_format.specs.Node.{Node, master, nodes_of}
-use Rattle.identifier_format.specs.Identifiers.{renumbered}
-use Rattle.chapter_changes.specs.Atoms.{edition_uids, chapter_uids}
-use Rattle.chapter_changes.specs.Identifiers.{with_identifiers}
-use Rattle.chapter_changes.specs.Shift.{shifted}
+use Rattle.record_changes.specs.Identifiers.{renumbered}
+use Rattle.record_changes.specs.Atoms.{edition_uids, chapter_uids}
+use Rattle.record_changes.specs.ChapterIdentifiers.{with_identifiers}
+use Rattle.record_changes.specs.Shift.{shifted}
 use Rattle.merged_records.specs.declared.inputs.InputRecords.{InputRecords}
 use Rattle.merged_records.specs.Inputs.{children_in, with_some}
 

@@ -2,8 +2,8 @@
 use Rattle.std.specs.Prelude.{List, [], ◌∷◌, All, Option, Some, None, IfSome}
 use Rattle.mkv_schema.specs.declared.ids.TheConstants.{CHAPTERS, TAGS}
 use Rattle.tree_format.specs.Node.{Node, children}
-use Rattle.tree_building.specs.Building.{IsRead}
-use Rattle.attachment_records.specs.declared.attachment.Attachment.{Attachment}
+use Rattle.ebml_tree.specs.Building.{IsRead}
+use Rattle.output_model.specs.declared.attachment.Attachment.{Attachment}
 use Rattle.output_model.specs.Sound.{IsAttachment}
 use Rattle.merged_records.specs.declared.inputs.InputRecords.{InputRecords}
 

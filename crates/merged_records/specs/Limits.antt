@@ -3,7 +3,7 @@ use Rattle.std.specs.Prelude.{ℕ, if◌then◌else◌, Option, Some, None}
 use Rattle.std.specs.Option.{option_or}
 use Rattle.mkv_schema.specs.declared.ids.TheConstants.{TRACKS, CHAPTERS, TAGS}
 use Rattle.tree_format.specs.Node.{Node}
-use Rattle.output_records.specs.Limits.{is_too_large}
+use Rattle.merged_records.specs.RecordLimits.{is_too_large}
 
 -- the ID of a record that is there, where it is too large
 abbrev pub too_large : ℕ → Option Node → Option ℕ

@@ -4,10 +4,10 @@ use Rattle.std.specs.Map.{lookup}
 use Rattle.std.specs.Option.{option_map}
 use Rattle.mkv_schema.specs.declared.ids.TheConstants.{TAGS, TAG_TRACK_UID, TAG_EDITION_UID, TAG_CHAPTER_UID, TAG_ATTACHMENT_UID}
 use Rattle.tree_format.specs.Node.{Node, master, nodes_of}
-use Rattle.chapter_changes.specs.Atoms.{edition_uids, chapter_uids}
-use Rattle.tag_records.specs.declared.uid_map.UidMap.{UidMap}
-use Rattle.tag_records.specs.Numbers.{numbers_in}
-use Rattle.tag_records.specs.Tags.{written_tags}
+use Rattle.record_changes.specs.Atoms.{edition_uids, chapter_uids}
+use Rattle.record_changes.specs.declared.uid_map.UidMap.{UidMap}
+use Rattle.record_changes.specs.Numbers.{numbers_in}
+use Rattle.record_changes.specs.Tags.{written_tags}
 use Rattle.merged_records.specs.declared.inputs.InputRecords.{InputRecords}
 use Rattle.merged_records.specs.declared.uids.Uids.{Uids}
 use Rattle.merged_records.specs.Inputs.{children_in, uids_in, with_some}

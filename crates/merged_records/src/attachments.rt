@@ -6,12 +6,12 @@ ghost use Rattle.merged_records.specs.Inputs.{IsAttached, IsInput};
 
 use crate::inputs::InputRecords;
 use crate::uids::push_file_uids;
-use attachment_records::Attachment;
-use identifiers::renumber;
+use ebml_tree::uint_leaf;
+use mkv_io::List;
 use mkv_schema::ids::FILE_UID;
-use mkv_values::List;
+use output_model::Attachment;
+use record_changes::renumber;
 use std::alloc::{AllocError, Global};
-use tree_building::uint_leaf;
 
 /// The FileUIDs that the attached files of all inputs get.
 pub(crate) fn file_numbers(alloc: Global, inputs: &[InputRecords]) -> Result<List<u64>, AllocError>

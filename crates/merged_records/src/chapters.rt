@@ -3,22 +3,20 @@
 ghost use Rattle.std.specs.Prelude.{◌≡◌, ◌++◌, All, IfOk, OnOk};
 ghost use Rattle.mkv_schema.specs.declared.ids.TheConstants.{CHAPTERS as CHAPTERS_ID};
 ghost use Rattle.tree_format.specs.Node.{children, with_children};
-ghost use Rattle.tree_building.specs.Building.{IsRead};
+ghost use Rattle.ebml_tree.specs.Building.{IsRead};
 ghost use Rattle.output_model.specs.Sound.{IsRecord};
-ghost use Rattle.identifier_format.specs.Identifiers.{renumbered};
-ghost use Rattle.chapter_changes.specs.Atoms.{edition_uids, chapter_uids};
+ghost use Rattle.record_changes.specs.Identifiers.{renumbered};
+ghost use Rattle.record_changes.specs.Atoms.{edition_uids, chapter_uids};
 ghost use Rattle.merged_records.specs.Chapters.{later, chapters_in, joined_chapters};
 ghost use Rattle.merged_records.specs.Inputs.{IsInput};
 
 use crate::inputs::InputRecords;
 use crate::records::push_all;
-use chapter_changes::{push_chapter_uids, push_edition_uids, shift};
-use ebml_tree::Tree;
-use identifiers::renumber;
+use ebml_tree::{Tree, empty};
+use mkv_io::List;
 use mkv_schema::ids::CHAPTERS;
-use mkv_values::List;
+use record_changes::{push_chapter_uids, push_edition_uids, renumber, shift};
 use std::alloc::{AllocError, Global};
-use tree_building::empty;
 
 // The Chapters of an input, later where it is appended.
 fn later(alloc: Global, chapters: &Tree, by: Option<u64>) -> Result<Tree, AllocError>

@@ -1,9 +1,9 @@
 //! What an input of a merge holds.
 
-use attachment_records::Attachment;
 use ebml_tree::Tree;
-use mkv_values::List;
-use tag_records::TagKeep;
+use mkv_io::List;
+use output_model::Attachment;
+use record_changes::TagKeep;
 
 /// What an input of a merge gives besides its tracks and blocks.
 #[derive(Drop)]

@@ -4,9 +4,9 @@ ghost use Rattle.std.specs.Prelude.{◌≡◌, IfSome};
 ghost use Rattle.tree_format.specs.Node.{IsMaster};
 ghost use Rattle.merged_records.specs.Limits.{too_large, first_too_large};
 
+use crate::record_limits::is_too_large;
 use ebml_tree::Tree;
 use mkv_schema::ids::{CHAPTERS, TAGS, TRACKS};
-use output_records::is_too_large;
 
 fn too_large(id: u32, tree: &Option<Tree>) -> Option<u32>
     requires { IfSome tree.now IsMaster }

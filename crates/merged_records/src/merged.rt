@@ -2,7 +2,7 @@
 
 ghost use Rattle.std.specs.Prelude.{◌≡◌, All, IfOk, IfSome};
 ghost use Rattle.mkv_schema.specs.declared.ids.TheConstants.{CHAPTERS, TAGS};
-ghost use Rattle.tree_building.specs.Building.{IsRead};
+ghost use Rattle.ebml_tree.specs.Building.{IsRead};
 ghost use Rattle.output_model.specs.Sound.{IsRecord};
 ghost use Rattle.merged_records.specs.Attachments.{merged_attachments};
 ghost use Rattle.merged_records.specs.Chapters.{joined_chapters, merged_chapters};
@@ -15,10 +15,10 @@ use crate::inputs::InputRecords;
 use crate::records::with_some;
 use crate::tags::joined_tags;
 use crate::uids::Uids;
-use attachment_records::Attachment;
-use chapter_changes::with_identifiers;
 use ebml_tree::Tree;
-use mkv_values::List;
+use mkv_io::List;
+use output_model::Attachment;
+use record_changes::with_identifiers;
 use std::alloc::{AllocError, Global};
 
 /// The Attachments, Chapters and Tags of an output.

@@ -2,7 +2,7 @@
 
 ghost use Rattle.std.specs.Prelude.{◌≡◌, ◌++◌, OnOk};
 ghost use Rattle.tree_format.specs.Node.{children, id_of, with_children};
-ghost use Rattle.tree_building.specs.Building.{IsRead};
+ghost use Rattle.ebml_tree.specs.Building.{IsRead};
 ghost use Rattle.output_model.specs.Sound.{IsRecord};
 ghost use Rattle.merged_records.specs.Inputs.{with_some};
 

@@ -11,11 +11,10 @@ ghost use Rattle.merged_records.specs.declared.uids.Uids.{Uids as UidsSeen};
 use crate::inputs::InputRecords;
 use crate::records::push_all;
 use crate::uids::{Uids, map_of, uids_of};
-use ebml_tree::Tree;
+use ebml_tree::{Tree, empty};
 use mkv_schema::ids::TAGS;
+use record_changes::{UidMap, merge_tags};
 use std::alloc::{AllocError, Global};
-use tag_records::{UidMap, merge_tags};
-use tree_building::empty;
 
 // Adds the Tags of an input that are written.
 fn push_tags(

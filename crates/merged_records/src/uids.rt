@@ -7,12 +7,11 @@ ghost use Rattle.merged_records.specs.Inputs.{IsInput};
 ghost use Rattle.merged_records.specs.Tags.{number_of, uids_of, all_uids, IsMapFor};
 
 use crate::inputs::InputRecords;
-use attachment_records::Attachment;
-use chapter_changes::{push_chapter_uids, push_edition_uids};
 use indexmap::IndexMap;
-use mkv_values::List;
+use mkv_io::List;
+use output_model::Attachment;
+use record_changes::{UidMap, push_chapter_uids, push_edition_uids};
 use std::alloc::{AllocError, Global};
-use tag_records::UidMap;
 
 /// Identifiers, or the numbers that they get, in the order in which they are written.
 #[derive(Drop)]

@@ -1,9 +1,9 @@
 -- An Info as values.
 use Rattle.std.specs.Prelude.{Result}
-use Rattle.mkv_values.specs.declared.damage.Damage.{Damage}
-use Rattle.matroska_format.specs.Outline.{unless}
+use Rattle.mkv_io.specs.declared.damage.Damage.{Damage}
+use Rattle.mkv_schema.specs.Outline.{unless}
 use Rattle.tree_format.specs.Node.{Node}
-use Rattle.meta_format.specs.Info.{scale_of, info_refusal}
+use Rattle.file_format.specs.Info.{scale_of, info_refusal}
 use Rattle.meta_records.specs.declared.info.Info.{Info}
 
 -- what an Info says of its file, unless something refuses it

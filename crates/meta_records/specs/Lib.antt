@@ -1,1 +1,6 @@
 pub mod Info
+pub mod Attachments
+pub mod End
+pub mod Walk
+pub mod Attached
+pub mod Records

@@ -2,15 +2,15 @@
 
 ghost use Rattle.std.specs.Prelude.{◌≡◌, ◌<◌, ℕ, List, Some, Ok, IfOk};
 ghost use Rattle.mkv_schema.specs.declared.ids.TheConstants.{INFO as INFO_ID};
-ghost use Rattle.matroska_format.specs.declared.element.Header.{Header};
+ghost use Rattle.mkv_schema.specs.declared.element.Header.{Header};
 ghost use Rattle.tree_format.specs.Standing.{IsSoundOf};
-ghost use Rattle.meta_format.specs.Info.{scale_of, info_refusal, first_info, info_tree, file_scale};
+ghost use Rattle.file_format.specs.Info.{scale_of, info_refusal, first_info, info_tree, file_scale};
 ghost use Rattle.meta_records.specs.Info.{info_of};
 
 use ebml_tree::Tree;
-use meta_format::DEFAULT_SCALE;
+use file_format::DEFAULT_SCALE;
+use mkv_io::{Damage, Kind};
 use mkv_schema::ids::TIMESTAMP_SCALE;
-use mkv_values::{Damage, Kind};
 
 /// What an Info says of its file (RFC 9559, section 5.1.2, Info Element).
 #[derive(Clone, Copy, Debug, PartialEq, Eq)]

@@ -1,9 +1,26 @@
 #![tactic(auto)]
 
-//! What describes a file: an Info that is held as a tree, as values, or what refuses it (RFC 9559, section
-//! 5.1.2, Info Element).
+//! What describes a file: the scale of its Info, its attached files, whose data is left where it stands, and all of this
+//! with its tracks, chapters and tags, read at once (RFC 9559, sections 5.1.2, Info Element, and 5.1.6, Attachments
+//! Element).
 
+mod attached;
+mod attachments;
+mod counts;
+mod end;
+mod first;
+mod first_attached;
+mod header;
 mod info;
+mod limits;
+mod part;
+mod records;
 
+pub use attachments::read_attachments;
+pub use end::AttachmentsEnd;
+pub use file_format::DEFAULT_SCALE;
+pub use first::first_tree;
+pub use first_attached::first_attachments;
 pub use info::{Info, read_info};
-pub use meta_format::DEFAULT_SCALE;
+pub use limits::{MOST_ATTACHED, MOST_OF_ATTACHMENTS};
+pub use records::{Records, good_info, read_records, scale_of};

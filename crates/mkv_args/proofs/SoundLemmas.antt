@@ -6,16 +6,16 @@ use Rattle.std.specs.Str.{bytes_eq}
 use Rattle.std.proofs.lemmas.Bool.Decides.{nat_tests}
 use Rattle.std.proofs.lemmas.Slice.Eq.{bytes_eq-Decides}
 use Rattle.std.proofs.lemmas.List.Elements.{All-nil, All-cons, All-append}
-use Rattle.mkv_jobs.specs.declared.job.Job.{Job}
-use Rattle.mkv_jobs.specs.declared.job.Job.TheVariants as jobs
-use Rattle.mkv_jobs.specs.declared.job.Form.{Form}
-use Rattle.mkv_jobs.specs.declared.job.Form.TheVariants as form
-use Rattle.mkv_jobs.specs.declared.job.Target.{Target}
-use Rattle.mkv_jobs.specs.declared.edit.Edit.{Edit}
-use Rattle.mkv_jobs.specs.declared.edit.Change.{Change}
-use Rattle.mkv_jobs.specs.declared.edit.Change.TheVariants.{Set, Add, Delete}
-use Rattle.mkv_jobs.specs.declared.edit.Selector.{Selector}
-use Rattle.mkv_jobs.specs.declared.edit.Selector.TheVariants as selector_is
+use Rattle.word_values.specs.declared.job.Job.{Job}
+use Rattle.word_values.specs.declared.job.Job.TheVariants as jobs
+use Rattle.word_values.specs.declared.job.Form.{Form}
+use Rattle.word_values.specs.declared.job.Form.TheVariants as form
+use Rattle.word_values.specs.declared.job.Target.{Target}
+use Rattle.word_values.specs.declared.edit.Edit.{Edit}
+use Rattle.word_values.specs.declared.edit.Change.{Change}
+use Rattle.word_values.specs.declared.edit.Change.TheVariants.{Set, Add, Delete}
+use Rattle.word_values.specs.declared.edit.Selector.{Selector}
+use Rattle.word_values.specs.declared.edit.Selector.TheVariants as selector_is
 use Rattle.word_values.specs.declared.usage.ArgsEnd.{ArgsEnd}
 use Rattle.word_values.specs.declared.usage.Why.TheVariants.{UnknownOption, BadValue, ExtraWord}
 use Rattle.word_values.specs.Answers.{Tells, wrong, ◌>>=◌}

@@ -2,11 +2,11 @@
 use Rattle.std.specs.Prelude.{ℕ, ◌+◌, ◌==◌, if◌then◌else◌, List, [], ◌∷◌, ◌++◌, length, drop, slice_index, codes, Option, Some, None, option_map, Result, Ok}
 use Rattle.std.specs.List.{starts_with}
 use Rattle.std.specs.Str.{bytes_eq}
-use Rattle.mkv_jobs.specs.declared.edit.Edit.{Edit}
-use Rattle.mkv_jobs.specs.declared.edit.Selector.{Selector}
-use Rattle.mkv_jobs.specs.declared.edit.Selector.TheVariants.{Info, Nth, Typed, Uid, Number}
-use Rattle.mkv_jobs.specs.declared.edit.Change.{Change}
-use Rattle.mkv_jobs.specs.declared.edit.Change.TheVariants.{Set, Add, Delete}
+use Rattle.word_values.specs.declared.edit.Edit.{Edit}
+use Rattle.word_values.specs.declared.edit.Selector.{Selector}
+use Rattle.word_values.specs.declared.edit.Selector.TheVariants.{Info, Nth, Typed, Uid, Number}
+use Rattle.word_values.specs.declared.edit.Change.{Change}
+use Rattle.word_values.specs.declared.edit.Change.TheVariants.{Set, Add, Delete}
 use Rattle.word_values.specs.declared.usage.Usage.{Usage}
 use Rattle.word_values.specs.declared.usage.Why.TheVariants.{MissingValue, UnknownOption, BadValue}
 use Rattle.mkv_args.specs.declared.propedit.Step.{Step}

@@ -1,12 +1,12 @@
 -- What a command keeps, whatever its words were: numbers stand within their limits, and no two outputs have one name.
 use Rattle.std.specs.Prelude.{◌<◌, ◌≤◌, ⊤, ℕ, List, length, map, All}
 use Rattle.mkv_io.specs.Names.{AreApart}
-use Rattle.mkv_jobs.specs.declared.job.Job.{Job}
-use Rattle.mkv_jobs.specs.declared.job.Job.TheVariants as jobs
-use Rattle.mkv_jobs.specs.declared.job.Target.{Target}
-use Rattle.mkv_jobs.specs.declared.edit.Edit.{Edit}
-use Rattle.mkv_jobs.specs.declared.edit.Selector.{Selector}
-use Rattle.mkv_jobs.specs.declared.edit.Selector.TheVariants as selector
+use Rattle.word_values.specs.declared.job.Job.{Job}
+use Rattle.word_values.specs.declared.job.Job.TheVariants as jobs
+use Rattle.word_values.specs.declared.job.Target.{Target}
+use Rattle.word_values.specs.declared.edit.Edit.{Edit}
+use Rattle.word_values.specs.declared.edit.Selector.{Selector}
+use Rattle.word_values.specs.declared.edit.Selector.TheVariants as selector
 use Rattle.word_values.specs.Sound.{IsWithin}
 use Rattle.merge_words.specs.Sound.{IsSoundMerge}
 use Rattle.mkv_args.specs.declared.command.Command.{Command}

@@ -2,8 +2,8 @@
 
 use crate::commands::Verb;
 use merge_words::MergeWords;
-use mkv_jobs::{Edit, Job};
-use mkv_values::{List, Text};
+use mkv_io::{List, Text};
+use word_values::{Edit, Job};
 
 /// One command with all that its words say.
 #[derive(Debug, Drop)]

@@ -8,11 +8,11 @@ ghost use Rattle.word_values.specs.Place.{texts};
 
 use crate::command::Command;
 use crate::entry::{Entry, meant};
-use mkv_jobs::{Form, Job, Target};
-use mkv_values::List;
+use mkv_io::List;
 use std::alloc::Global;
 use word_values::{
-    ArgsEnd, Why, due_at, end_at, file_at, is_option, name, refused, track_and_rest, word_at,
+    ArgsEnd, Form, Job, Target, Why, due_at, end_at, file_at, is_option, name, refused,
+    track_and_rest, word_at,
 };
 
 /// `extract FILE MODE ARGS`.

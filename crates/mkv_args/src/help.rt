@@ -11,7 +11,7 @@ use crate::entry::Entry;
 use crate::extract::modes;
 use crate::propedit::steps;
 use merge_words::{OptionRow, Scope, merge_options};
-use mkv_values::{List, Text};
+use mkv_io::{List, Text};
 use std::alloc::{AllocError, Global};
 use word_values::ValueForm;
 

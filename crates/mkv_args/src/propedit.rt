@@ -8,10 +8,11 @@ ghost use Rattle.word_values.specs.Place.{texts};
 
 use crate::command::Command;
 use crate::entry::{Entry, meant};
-use mkv_jobs::{Change, Edit, Selector};
-use mkv_values::{List, Text};
+use mkv_io::{List, Text};
 use std::alloc::Global;
-use word_values::{ArgsEnd, Why, cut_text, due_at, file_at, name, number, refused, word_at};
+use word_values::{
+    ArgsEnd, Change, Edit, Selector, Why, cut_text, due_at, file_at, name, number, refused, word_at,
+};
 
 /// What an option of `propedit` begins.
 #[derive(Clone, Copy, PartialEq, Eq)]

@@ -1,4 +1,4 @@
-pub use Rattle.mkv_values.specs.Kind
+pub use Rattle.mkv_io.specs.Kind
 pub use Rattle.mkv_io.specs.Contents
 pub use Rattle.mkv_io.specs.Faults
 pub use Rattle.mkv_io.specs.Lines

@@ -2,8 +2,7 @@
 
 //! The suite's program: `mkv_run` over the files and the output of the system.
 
-use mkv_host::{RealFiles, RealReport};
-use mkv_host_disk::RealDisk;
+use mkv_host::{RealDisk, RealFiles, RealReport};
 use mkv_run::{program, words_of};
 use std::process::ExitCode;
 

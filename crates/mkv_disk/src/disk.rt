@@ -6,8 +6,7 @@ ghost use Rattle.mkv_disk.specs.Image.{written_at, cut_to, all_synced};
 ghost use Rattle.mkv_disk.specs.Pair.{Pair, IsPairImage, file_of, on};
 ghost use Rattle.mkv_disk.specs.Moments.{ChangesOne, LeavesOnly};
 
-use mkv_io::Reads;
-use mkv_values::{Failed, FileId, OpenFault};
+use mkv_io::{Failed, FileId, OpenFault, Reads};
 
 /// The file that is edited.
 pub const MEDIA: FileId = FileId { n: 0 };

@@ -7,26 +7,26 @@ use Rattle.std.proofs.lemmas.List.{length-map}
 use Rattle.std.proofs.lemmas.Slice.Eq.{bytes_eq-Decides}
 use Rattle.mkv_io.specs.Lines.{with_lines}
 use Rattle.mkv_io.specs.Names.{AreOthers}
-use Rattle.mkv_jobs.specs.declared.job.Job.{Job}
-use Rattle.mkv_jobs.specs.declared.job.Job.TheVariants as form
-use Rattle.mkv_jobs.specs.declared.job.Form.TheVariants as raw
-use Rattle.mkv_jobs.specs.declared.job.Target.{Target}
-use Rattle.sidecar_format.specs.Name.{sidecar_of}
+use Rattle.word_values.specs.declared.job.Job.{Job}
+use Rattle.word_values.specs.declared.job.Job.TheVariants as form
+use Rattle.word_values.specs.declared.job.Form.TheVariants as raw
+use Rattle.word_values.specs.declared.job.Target.{Target}
+use Rattle.sidecar_edit.specs.Name.{sidecar_of}
 use Rattle.mkv_outputs.specs.Outputs.{Output, names_of, with_outputs}
 use Rattle.mkv_outputs.specs.Starts.{StandsInPart}
-use Rattle.file_records.specs.Attached.{AttachedFile}
+use Rattle.meta_records.specs.Attached.{AttachedFile}
 use Rattle.extractors.specs.Attached.{attached_at, attached_output, attached_outputs}
 use Rattle.extractors.specs.Cues.{cues_output, cues_outputs}
-use Rattle.mkv_values.specs.declared.damage.Damage.{Damage}
+use Rattle.mkv_io.specs.declared.damage.Damage.{Damage}
 use Rattle.tree_format.specs.Node.{Node}
 use Rattle.track_records.specs.declared.track.Track.{Track}
 use Rattle.block_format.specs.Events.{Event, blocks_of, damages_of}
 use Rattle.cluster_reader.specs.ToldDamages.{ToldDamages, told_damages}
-use Rattle.extract_model.specs.Content.{names_in, outputs_of}
-use Rattle.extract_model.specs.Job.{job_outputs, names_for, outputs_taken, taken_of, targets_of}
-use Rattle.extract_model.specs.Job as jobs
-use Rattle.extract_model.specs.declared.taken.Taken.{Taken}
-use Rattle.extract_model.proofs.ContentLemmas.{names_of-outputs}
+use Rattle.extractors.specs.Content.{names_in, outputs_of}
+use Rattle.extractors.specs.Job.{job_outputs, names_for, outputs_taken, taken_of, targets_of}
+use Rattle.extractors.specs.Job as jobs
+use Rattle.extractors.specs.declared.taken.Taken.{Taken}
+use Rattle.extractors.proofs.ContentLemmas.{names_of-outputs}
 use Rattle.extractors.specs.Source.{entry_in}
 use Rattle.mkv_lines.specs.Line.{no_track_line, wrote_line}
 use Rattle.mkv_lines.specs.Said.{ReportLines, Says, SaysPart}

@@ -2,17 +2,17 @@
 use Rattle.std.proofs.Common.{◌≡◌, ℕ, zero, suc, ◌+◌, ◌<◌, ◌≤◌, ◌==◌, Bool, true, false, ◌||◌, if◌then◌else◌, List, [], ◌∷◌, ◌++◌, length, drop, get_or, map, Some, None, IfSome, slice_get, Ok, refl, sym, ◌∙◌, ap, arith, eq-eqb}
 use Rattle.std.proofs.Math.Seq.{drop-cons}
 use Rattle.std.proofs.lemmas.List.{drop_all}
-use Rattle.mkv_values.specs.declared.damage.Damage.{Damage}
-use Rattle.mkv_jobs.specs.declared.job.Target.{Target}
-use Rattle.matroska_format.specs.declared.element.Header.{Header}
-use Rattle.matroska_format.specs.Outline.{first_damage}
+use Rattle.mkv_io.specs.declared.damage.Damage.{Damage}
+use Rattle.word_values.specs.declared.job.Target.{Target}
+use Rattle.mkv_schema.specs.declared.element.Header.{Header}
+use Rattle.mkv_schema.specs.Outline.{first_damage}
 use Rattle.block_format.specs.Elements.{with_limits}
 use Rattle.block_format.specs.Events.{events_of}
-use Rattle.file_blocks.specs.File.{file_events}
-use Rattle.file_records.specs.Records.{FileRecords, file_records, scale_of_info}
-use Rattle.file_records.proofs.CausesLemmas.{first_damage-behind, first_damage-front, first_damage-some}
-use Rattle.file_records.proofs.RecordsLemmas.{file_records-scale}
-use Rattle.track_format.specs.Encoding.{usable_causes}
+use Rattle.file_format.specs.FileBlocks.{file_events}
+use Rattle.meta_records.specs.Records.{FileRecords, file_records, scale_of_info}
+use Rattle.meta_records.proofs.CausesLemmas.{first_damage-behind, first_damage-front, first_damage-some}
+use Rattle.meta_records.proofs.RecordsLemmas.{file_records-scale}
+use Rattle.file_format.specs.Encoding.{usable_causes}
 use Rattle.track_records.specs.declared.track.Track.{Track}
 use Rattle.extractors.specs.Source.{AreUsableOf, IsUsable, entry_in}
 use Rattle.mkv_extract.specs.Read.{causes_from, causes_of, first_unusable, is_named}

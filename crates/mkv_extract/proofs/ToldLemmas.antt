@@ -4,14 +4,14 @@ use Rattle.std.proofs.Math.Seq.{drop-cons, take-suc}
 use Rattle.std.proofs.lemmas.Bool.{lt-ltb, le-ltb}
 use Rattle.std.proofs.lemmas.List.{drop_all}
 use Rattle.std.proofs.lemmas.List.Folds.{list_any-append}
-use Rattle.mkv_values.specs.declared.damage.Damage.{Damage}
-use Rattle.mkv_jobs.specs.declared.job.Target.{Target}
+use Rattle.mkv_io.specs.declared.damage.Damage.{Damage}
+use Rattle.word_values.specs.declared.job.Target.{Target}
 use Rattle.tree_format.specs.Node.{Node}
 use Rattle.mkv_lines.specs.Line.{warning_line, wrote_line}
 use Rattle.mkv_lines.specs.Said.{ReportLines, SaysUpTo}
-use Rattle.extract_model.specs.Content.{names_in}
-use Rattle.extract_model.specs.Job.{output_for, outputs_for}
-use Rattle.extract_model.specs.declared.taken.Taken.{Taken}
+use Rattle.extractors.specs.Content.{names_in}
+use Rattle.extractors.specs.Job.{output_for, outputs_for}
+use Rattle.extractors.specs.declared.taken.Taken.{Taken}
 use Rattle.mkv_extract.specs.Extract.{absent, once}
 use Rattle.mkv_extract.specs.Read.{is_named}
 use Rattle.mkv_extract.specs.Told.{written}

@@ -1,20 +1,20 @@
 -- What `extract` comes to.
 use Rattle.std.specs.Prelude.{ℕ, ◌+◌, ◌==◌, nat_le, Bool, true, false, not, List, [], ◌∷◌, ◌++◌, length, map, filter, Option, Some, None, Result, Ok, Err}
 use Rattle.std.specs.List.{list_any}
-use Rattle.mkv_values.specs.declared.damage.Damage.{Damage}
-use Rattle.mkv_jobs.specs.declared.job.Job.{Job}
-use Rattle.mkv_jobs.specs.declared.job.Job.TheVariants as jobs
-use Rattle.mkv_jobs.specs.declared.job.Target.{Target}
+use Rattle.mkv_io.specs.declared.damage.Damage.{Damage}
+use Rattle.word_values.specs.declared.job.Job.{Job}
+use Rattle.word_values.specs.declared.job.Job.TheVariants as jobs
+use Rattle.word_values.specs.declared.job.Target.{Target}
 use Rattle.track_records.specs.declared.track.Track.{Track}
 use Rattle.block_format.specs.Events.{Event, blocks_of, damages_of}
-use Rattle.file_blocks.specs.File.{file_events}
+use Rattle.file_format.specs.FileBlocks.{file_events}
 use Rattle.cluster_reader.specs.ToldDamages.{ToldDamages, told_damages}
 use Rattle.mkv_outputs.specs.Outputs.{Output, names_of}
-use Rattle.extract_model.specs.Chapters.{chapters_output}
-use Rattle.extract_model.specs.Content.{outputs_of}
-use Rattle.extract_model.specs.Job.{job_outputs, job_unfit, targets_of}
-use Rattle.file_records.specs.Attached.{AttachedFile}
-use Rattle.file_records.specs.Records.{scale_of_info}
+use Rattle.extractors.specs.Chapters.{chapters_output}
+use Rattle.extractors.specs.Content.{outputs_of}
+use Rattle.extractors.specs.Job.{job_outputs, job_unfit, targets_of}
+use Rattle.meta_records.specs.Attached.{AttachedFile}
+use Rattle.meta_records.specs.Records.{scale_of_info}
 use Rattle.extractors.specs.Attached.{attached_outputs}
 use Rattle.extractors.specs.Cues.{cues_outputs}
 use Rattle.extractors.specs.Source.{entry_in}
@@ -22,7 +22,7 @@ use Rattle.mkv_lines.specs.Line.{damage_lines, missing_line, no_attachment_line,
 use Rattle.mkv_lines.specs.Verdict.{Verdict, at_once, refused, unless_pending}
 use Rattle.mkv_lines.specs.declared.status.Status.{Status}
 use Rattle.mkv_lines.specs.declared.status.Status.TheVariants.{Done, Warned}
-use Rattle.pending_edits.specs.Pending.{is_pending}
+use Rattle.sidecar_edit.specs.Pending.{is_pending}
 use Rattle.mkv_extract.specs.Names.{first_written}
 use Rattle.mkv_extract.specs.Read.{FileRead, read_of}
 

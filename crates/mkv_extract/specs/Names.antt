@@ -2,9 +2,9 @@
 use Rattle.std.specs.Prelude.{ℕ, Bool, ◌||◌, List, Option}
 use Rattle.std.specs.List.{find}
 use Rattle.std.specs.Str.{bytes_eq}
-use Rattle.mkv_jobs.specs.declared.job.Job.{Job}
-use Rattle.sidecar_format.specs.Name.{sidecar_of}
-use Rattle.extract_model.specs.Job.{names_for}
+use Rattle.word_values.specs.declared.job.Job.{Job}
+use Rattle.sidecar_edit.specs.Name.{sidecar_of}
+use Rattle.extractors.specs.Job.{names_for}
 
 -- an extraction of the file of a name reads it, and its sidecar
 abbrev pub is_read : List ℕ → List ℕ → Bool

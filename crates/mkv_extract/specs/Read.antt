@@ -1,21 +1,21 @@
 -- What is read of a file before its blocks, for a job that takes something of it.
 use Rattle.std.specs.Prelude.{◌≡◌, ⊤, ℕ, ◌+◌, ◌==◌, Bool, if◌then◌else◌, List, [], ◌∷◌, ◌++◌, map, Option, None, Result, Ok, Err}
 use Rattle.std.specs.List.{list_any}
-use Rattle.mkv_values.specs.declared.damage.Damage.{Damage}
-use Rattle.mkv_jobs.specs.declared.job.Job.{Job}
-use Rattle.mkv_jobs.specs.declared.job.Job.TheVariants as jobs
-use Rattle.mkv_jobs.specs.declared.job.Target.{Target}
-use Rattle.matroska_format.specs.declared.element.Header.{Header}
-use Rattle.matroska_format.specs.Outline.{Outlined, and_then, first_damage, outline_of, unless}
+use Rattle.mkv_io.specs.declared.damage.Damage.{Damage}
+use Rattle.word_values.specs.declared.job.Job.{Job}
+use Rattle.word_values.specs.declared.job.Job.TheVariants as jobs
+use Rattle.word_values.specs.declared.job.Target.{Target}
+use Rattle.mkv_schema.specs.declared.element.Header.{Header}
+use Rattle.mkv_schema.specs.Outline.{Outlined, and_then, first_damage, outline_of, unless}
 use Rattle.element_reader.specs.declared.outline_end.OutlineEnd.{OutlineEnd}
 use Rattle.element_reader.specs.declared.outline_end.OutlineEnd.TheVariants as outline_end
 use Rattle.tree_format.specs.Node.{Node}
-use Rattle.track_format.specs.Encoding.{usable_causes}
+use Rattle.file_format.specs.Encoding.{usable_causes}
 use Rattle.track_records.specs.declared.track.Track.{Track}
-use Rattle.file_records.specs.Attached.{AttachedFile, in_file}
-use Rattle.file_records.specs.Records.{FileRecords, file_records}
-use Rattle.cue_records.specs.Reading.{first_cues}
-use Rattle.extract_model.specs.Job.{targets_of}
+use Rattle.meta_records.specs.Attached.{AttachedFile, in_file}
+use Rattle.meta_records.specs.Records.{FileRecords, file_records}
+use Rattle.extractors.specs.Reading.{first_cues}
+use Rattle.extractors.specs.Job.{targets_of}
 use Rattle.extractors.specs.declared.source.Source.{Source}
 
 -- a target names the track of this number, from 0

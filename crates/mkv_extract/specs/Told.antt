@@ -1,6 +1,6 @@
 -- What is told of targets.
 use Rattle.std.specs.Prelude.{ℕ, nat_lt, if◌then◌else◌, List, [], ◌∷◌, ◌++◌}
-use Rattle.mkv_jobs.specs.declared.job.Target.{Target}
+use Rattle.word_values.specs.declared.job.Target.{Target}
 use Rattle.mkv_lines.specs.Line.{no_attachment_line, no_track_line}
 use Rattle.mkv_extract.specs.declared.telling.Missing.{Missing}
 use Rattle.mkv_extract.specs.declared.telling.Missing.TheVariants as missing

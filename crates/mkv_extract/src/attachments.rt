@@ -3,9 +3,9 @@
 ghost use Rattle.std.specs.Prelude.{◌≡◌, ◌≤◌, ℕ, map, All, IfOk};
 ghost use Rattle.mkv_io.specs.Names.{AreOthers};
 ghost use Rattle.mkv_io.specs.Sources.{IfTold, live_files};
-ghost use Rattle.mkv_jobs.specs.declared.job.Target.{Target as TargetSeen};
-ghost use Rattle.file_records.specs.Attached.{in_file};
-ghost use Rattle.extract_model.specs.Job.{names_of};
+ghost use Rattle.word_values.specs.declared.job.Target.{Target as TargetSeen};
+ghost use Rattle.meta_records.specs.Attached.{in_file};
+ghost use Rattle.extractors.specs.Job.{names_of};
 ghost use Rattle.extractors.specs.Source.{IsSource};
 ghost use Rattle.mkv_lines.specs.Faults.{HasStopCause};
 ghost use Rattle.mkv_lines.specs.Ordinary.{IsOrdinary};
@@ -17,9 +17,9 @@ use crate::extract::stop_of;
 use crate::telling::{Missing, say_absent, tell_held};
 use extractors::{Source, write_attachments};
 use mkv_io::{Files, Report};
-use mkv_jobs::Target;
 use mkv_lines::{Status, Stop};
 use std::alloc::Global;
+use word_values::Target;
 
 /// Takes attached files out of a source, each into a file of its own, and tells of it. They are numbered from 1.
 pub fn extract_attachments<F: Files, P: Report>(

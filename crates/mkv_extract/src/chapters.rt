@@ -4,7 +4,7 @@ ghost use Rattle.std.specs.Prelude.{◌≡◌, ℕ, ◌∷◌, [], false, IfOk, 
 ghost use Rattle.mkv_io.specs.Sources.{live_files};
 ghost use Rattle.mkv_schema.specs.declared.ids.TheConstants.{CHAPTERS};
 ghost use Rattle.tree_format.specs.Standing.{IsSoundOf};
-ghost use Rattle.extract_model.specs.Chapters.{chapters_output};
+ghost use Rattle.extractors.specs.Chapters.{chapters_output};
 ghost use Rattle.mkv_lines.specs.Faults.{HasStopCause};
 ghost use Rattle.mkv_lines.specs.Line.{wrote_line};
 ghost use Rattle.mkv_lines.specs.Ordinary.{IsOrdinary};
@@ -16,9 +16,8 @@ ghost use Rattle.mkv_extract.specs.Extract.{held_status, held_verdict, outline_l
 use crate::extract::stop_of;
 use crate::telling::warn_outline;
 use extractors::{Source, write_chapters};
-use mkv_io::{Files, Report};
+use mkv_io::{Damage, Files, Report};
 use mkv_lines::{Line, Status, Stop, say};
-use mkv_values::Damage;
 use std::alloc::Global;
 
 /// Takes the chapters of a source out as text, into a file of their own, and tells of it.

@@ -14,9 +14,9 @@ use crate::extract::stop_of;
 use crate::telling::{Missing, say_absent, tell_held};
 use extractors::{Source, write_cues};
 use mkv_io::{Files, Report};
-use mkv_jobs::Target;
 use mkv_lines::{Status, Stop};
 use std::alloc::Global;
+use word_values::Target;
 
 /// Takes the cue points of tracks out of a source, each track's into a file of its own, and tells of it.
 pub fn extract_cues<F: Files, P: Report>(

@@ -4,9 +4,9 @@ ghost use Rattle.std.specs.Prelude.{◌≡◌, ℕ, IfOk, IsSome};
 ghost use Rattle.mkv_io.specs.Names.{AreApart, AreOthers};
 ghost use Rattle.mkv_io.specs.Sources.{IfTold, IsLive, live_files};
 ghost use Rattle.mkv_io.specs.Told.{Told};
-ghost use Rattle.extract_model.specs.Job.{CanBeDone, names_for, names_of, taken_of, targets_of};
+ghost use Rattle.extractors.specs.Job.{CanBeDone, names_for, names_of, taken_of, targets_of};
 ghost use Rattle.extractors.specs.Source.{AreUsable, IsSource, events_in};
-ghost use Rattle.pending_edits.specs.Pending.{is_pending};
+ghost use Rattle.sidecar_edit.specs.Pending.{is_pending};
 ghost use Rattle.mkv_lines.specs.Faults.{HasStopCause};
 ghost use Rattle.mkv_lines.specs.Ordinary.{IsOrdinary};
 ghost use Rattle.mkv_lines.specs.Seen.{seen};
@@ -23,12 +23,11 @@ use crate::reading::read_source;
 use crate::telling::{Missing, say_absent, tell};
 use element_reader::OutlineEnd;
 use extractors::{Source, extract, job_unfit, targets_of};
-use mkv_io::{Files, Report};
-use mkv_jobs::{Job, RemuxEnd};
+use mkv_io::{FileId, Files, OpenFault, RemuxEnd, Report};
 use mkv_lines::{Line, Status, Stop, refuse};
-use mkv_values::{FileId, OpenFault};
-use pending_edits::is_pending;
+use sidecar_edit::is_pending;
 use std::alloc::{AllocError, Global};
+use word_values::Job;
 
 /// Takes what a job asks for out of the file of a name, each target into a file of its own. No two of them have one name.
 pub fn extract_of<F: Files, P: Report>(

@@ -4,15 +4,15 @@ ghost use Rattle.std.specs.Prelude.{◌≡◌, ◌||◌, IfOk};
 ghost use Rattle.std.specs.List.{find};
 ghost use Rattle.std.specs.Option.{option_copied};
 ghost use Rattle.std.specs.Str.{bytes_eq};
-ghost use Rattle.mkv_jobs.specs.declared.job.Target.{Target as TargetSeen};
-ghost use Rattle.sidecar_format.specs.Name.{sidecar_of};
-ghost use Rattle.extract_model.specs.Job.{names_of};
+ghost use Rattle.word_values.specs.declared.job.Target.{Target as TargetSeen};
+ghost use Rattle.sidecar_edit.specs.Name.{sidecar_of};
+ghost use Rattle.extractors.specs.Job.{names_of};
 ghost use Rattle.mkv_extract.specs.Names.{first_written, is_read};
 
-use mkv_jobs::{Job, Target};
-use mkv_values::Text;
-use sidecar_format::sidecar_name;
+use mkv_io::Text;
+use sidecar_edit::sidecar_name;
 use std::alloc::{AllocError, Global};
+use word_values::{Job, Target};
 
 /// Whether an output has the name of the file, or that of its sidecar.
 fn is_read(name: &str, sidecar: &str, out: &str) -> bool

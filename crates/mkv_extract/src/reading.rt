@@ -6,24 +6,22 @@ ghost use Rattle.mkv_io.specs.Sources.{IfTold, IsLive, file_size};
 ghost use Rattle.mkv_schema.specs.declared.ids.TheConstants.{CUES};
 ghost use Rattle.tree_format.specs.Standing.{IsSoundOf};
 ghost use Rattle.element_reader.specs.Outline.{is_outline_fault, outline_in};
-ghost use Rattle.file_records.specs.Records.{AreRead, ReadsAs};
-ghost use Rattle.file_blocks.specs.File.{file_events};
-ghost use Rattle.extract_model.specs.Job.{targets_of};
+ghost use Rattle.meta_records.specs.Records.{AreRead, ReadsAs};
+ghost use Rattle.file_format.specs.FileBlocks.{file_events};
+ghost use Rattle.extractors.specs.Job.{targets_of};
 ghost use Rattle.extractors.specs.Source.{AreUsable, IsSource, events_in};
-ghost use Rattle.matroska_format.specs.Outline.{first_damage};
+ghost use Rattle.mkv_schema.specs.Outline.{first_damage};
 ghost use Rattle.track_records.specs.Sound.{IsEntry};
 ghost use Rattle.mkv_extract.specs.Read.{ReadsSource, causes_of, cues_for, first_unusable, is_named, read_of};
 
-use cue_records::first_cues;
 use ebml_tree::Tree;
 use element_reader::{Outline, OutlineEnd};
-use extractors::{Source, targets_of};
-use file_records::read_records;
-use mkv_io::Reads;
-use mkv_jobs::{Job, Target};
-use mkv_values::{Damage, FileId};
+use extractors::{Source, first_cues, targets_of};
+use meta_records::read_records;
+use mkv_io::{Damage, FileId, Reads};
 use std::alloc::Global;
 use track_records::{Track, usable};
+use word_values::{Job, Target};
 
 /// What is read of a live file before its blocks, or the first thing that refuses it: its outline, its records, for a job
 /// that takes it its first Cues, and then the tracks that the job names, in their order.

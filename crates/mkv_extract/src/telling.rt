@@ -1,7 +1,7 @@
 //! What is told of an extraction.
 
 ghost use Rattle.std.specs.Prelude.{◌≡◌, false, ◌&&◌, not, nat_le, ◌++◌, ◌∷◌, [], List, map, IfOk};
-ghost use Rattle.mkv_values.specs.declared.damage.Damage.{Damage};
+ghost use Rattle.mkv_io.specs.declared.damage.Damage.{Damage};
 ghost use Rattle.cluster_reader.specs.ToldDamages.{told_damages};
 ghost use Rattle.mkv_lines.specs.Line.{warning_line, wrote_line};
 ghost use Rattle.mkv_lines.specs.Ordinary.{IsOrdinary};
@@ -12,11 +12,10 @@ ghost use Rattle.mkv_extract.specs.Told.{line_of, written};
 
 use crate::reading::is_named;
 use cluster_reader::Damages;
-use mkv_io::Report;
-use mkv_jobs::Target;
+use mkv_io::{Damage, Report};
 use mkv_lines::{Line, Status, Stop, say};
-use mkv_values::Damage;
 use std::alloc::Global;
+use word_values::Target;
 
 /// What a file may not have of what targets name.
 #[derive(Clone, Copy)]

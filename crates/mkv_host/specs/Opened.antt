@@ -4,7 +4,7 @@ use Rattle.std.proofs.Common.{arith}
 use Rattle.mkv_io.specs.LiveFiles.{LiveFiles}
 use Rattle.mkv_host.specs.declared.opened.Opened.{Opened}
 use Rattle.mkv_host.specs.declared.system.Node.{Node}
-use Rattle.mkv_values.specs.declared.outside.TheConstants.{LONGEST_FILE}
+use Rattle.mkv_io.specs.declared.outside.TheConstants.{LONGEST_FILE}
 
 -- The file of a number, None where it was closed.
 abbrev pub opened_at : List (Option Opened) → ℕ → Option Opened

@@ -4,11 +4,11 @@
 ghost use Rattle.std.specs.Prelude.{◌≡◌, ◌≢◌, ℕ, ◌+◌, ◌<◌, ◌≤◌, [], ◌∷◌, ◌++◌, length, Some, is_some, vec_capacity, IfOk, OnOk, IsTrue};
 ghost use Rattle.mkv_host.specs.Opened.{holder_in, is_node, opened_at, size_at};
 ghost use Rattle.std.specs.List.{list_any};
-ghost use Rattle.mkv_values.specs.declared.outside.TheConstants.{LONGEST_FILE};
+ghost use Rattle.mkv_io.specs.declared.outside.TheConstants.{LONGEST_FILE};
 
 use crate::opened::Opened;
 use crate::system::Node;
-use mkv_values::{FileId, Text};
+use mkv_io::{FileId, Text};
 use std::alloc::{AllocError, Global};
 
 /// The name of a file that is to be opened, and room for it and for which file it is.

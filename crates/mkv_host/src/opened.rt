@@ -2,10 +2,10 @@
 
 ghost use Rattle.std.specs.Prelude.{ℕ, ◌≤◌, pos, ◌<ℤ◌};
 ghost use Rattle.std.specs.Fd.{file_raw_fd};
-ghost use Rattle.mkv_values.specs.declared.outside.TheConstants.{LONGEST_FILE};
+ghost use Rattle.mkv_io.specs.declared.outside.TheConstants.{LONGEST_FILE};
 
 use crate::system::Node;
-use mkv_values::Text;
+use mkv_io::Text;
 use std::fs::File;
 
 /// An open file, which it is, the name under which it was opened, and its length in octets.

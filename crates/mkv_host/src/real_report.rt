@@ -2,8 +2,7 @@
 
 ghost use Rattle.std.specs.Prelude.{◌≡◌, ℕ};
 
-use mkv_io::Report;
-use mkv_values::Failed;
+use mkv_io::{Failed, Report};
 use std::io::Print;
 
 /// The lines of standard output. It doesn't tell them, since what becomes of them isn't known.

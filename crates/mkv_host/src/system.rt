@@ -5,9 +5,9 @@ ghost use Rattle.std.specs.Fd.{file_raw_fd};
 ghost use Rattle.std.specs.IoError.{error_kind};
 ghost use Rattle.std.specs.Fs.{IsFile, file_type};
 ghost use Rattle.mkv_host.specs.Folders.{folder_in};
-ghost use Rattle.mkv_values.specs.declared.outside.TheConstants.{LONGEST_FILE};
+ghost use Rattle.mkv_io.specs.declared.outside.TheConstants.{LONGEST_FILE};
 
-use mkv_values::LONGEST_FILE;
+use mkv_io::LONGEST_FILE;
 use std::fs::{File, Metadata};
 use std::io::ErrorKind;
 use std::os::fd::AsRawFd;

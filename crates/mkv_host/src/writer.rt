@@ -3,7 +3,7 @@
 ghost use Rattle.std.specs.Prelude.{◌≡◌, ℕ, ◌≤◌, List, length, take, Option, Some, unwrap_or, IfOk, IfSome, OnErr};
 ghost use Rattle.mkv_io.specs.Contents.{overwritten, with_overwritten};
 ghost use Rattle.mkv_io.specs.Told.{Told};
-ghost use Rattle.mkv_values.specs.declared.outside.TheConstants.{LONGEST_FILE};
+ghost use Rattle.mkv_io.specs.declared.outside.TheConstants.{LONGEST_FILE};
 
 use std::fs::File;
 use std::io;

@@ -1,8 +1,8 @@
 -- A line of JSON, and then the warning.
 use Rattle.std.proofs.Common.{◌≡◌, ℕ, List, [], ◌∷◌, Result, Ok, Err, IfOk, refl}
 use Rattle.mkv_io.specs.Lines.{with_lines}
-use Rattle.mkv_values.specs.declared.damage.Damage.{Damage}
-use Rattle.identification.specs.Identification.{identification_line}
+use Rattle.mkv_io.specs.declared.damage.Damage.{Damage}
+use Rattle.mkv_info.specs.Identification.{identification_line}
 use Rattle.mkv_lines.specs.Said.{ReportLines, Says, SaysPart}
 use Rattle.mkv_lines.specs.Verdict.{SaysVerdict, nothing}
 use Rattle.mkv_lines.specs.declared.status.Status.{Status}

@@ -3,3 +3,7 @@ pub mod InfoLemmas
 pub mod ListedLemmas
 pub mod ReadLemmas
 pub mod TracksLemmas
+pub mod JsonLemmas
+pub mod ValueLemmas
+pub mod TagLemmas
+pub mod FloatLemmas

@@ -1,9 +1,9 @@
 -- The lines of a file, one part after the other.
 use Rattle.std.proofs.Common.{◌≡◌, ℕ, List, [], ◌∷◌, ◌++◌, map, Option, Result, Ok, Err, IfOk, refl, sym, ◌∙◌, ap, subst}
 use Rattle.mkv_io.specs.Lines.{with_lines}
-use Rattle.mkv_values.specs.declared.damage.Damage.{Damage}
-use Rattle.matroska_format.specs.declared.element.Header.{Header}
-use Rattle.matroska_format.specs.Outline.{Outlined, outline_of, segment_run}
+use Rattle.mkv_io.specs.declared.damage.Damage.{Damage}
+use Rattle.mkv_schema.specs.declared.element.Header.{Header}
+use Rattle.mkv_schema.specs.Outline.{Outlined, outline_of, segment_run}
 use Rattle.mkv_schema.specs.declared.ids.TheConstants.{TRACKS}
 use Rattle.element_reader.specs.Outline.{FileOutline, first_in, outline_in}
 use Rattle.element_reader.proofs.OutlineLemmas.{Outlines, Outlines-shown, first_in-others}

@@ -1,19 +1,19 @@
 -- What is read of a file to identify it.
 use Rattle.std.proofs.Common.{◌≡◌, ℕ, List, All, Option, Some, None, IfSome, Result, Ok, Err, sym, ◌∙◌, ap}
 use Rattle.mkv_schema.specs.declared.ids.TheConstants.{TAGS}
-use Rattle.mkv_values.specs.declared.damage.Damage.{Damage}
-use Rattle.mkv_values.specs.declared.outside.FileId.{FileId}
-use Rattle.matroska_format.specs.Outline.{Outlined, and_then}
+use Rattle.mkv_io.specs.declared.damage.Damage.{Damage}
+use Rattle.mkv_io.specs.declared.outside.FileId.{FileId}
+use Rattle.mkv_schema.specs.Outline.{Outlined, and_then}
 use Rattle.element_reader.specs.Outline.{FileOutline, outline_in}
 use Rattle.element_reader.proofs.OutlineLemmas.{Outlines-shown, outline_of-refused}
 use Rattle.tree_format.specs.Node.{Node}
 use Rattle.tree_format.specs.Standing.{IsSoundOf}
-use Rattle.tree_building.specs.Building.{IsRead}
-use Rattle.attachment_records.specs.declared.attachment.Attachment.{Attachment}
-use Rattle.attachment_reading.specs.Walk.{IsAttachedIn}
-use Rattle.file_records.specs.Records.{AreGood, FileRecords, file_records}
-use Rattle.file_records.specs.declared.records.Records.{Records}
-use Rattle.identification.specs.Sound.{CanBeTold, IsAttached}
+use Rattle.ebml_tree.specs.Building.{IsRead}
+use Rattle.output_model.specs.declared.attachment.Attachment.{Attachment}
+use Rattle.meta_records.specs.Walk.{IsAttachedIn}
+use Rattle.meta_records.specs.Records.{AreGood, FileRecords, file_records}
+use Rattle.meta_records.specs.declared.records.Records.{Records}
+use Rattle.mkv_info.specs.Sound.{CanBeTold, IsAttached}
 use Rattle.mkv_info.specs.Read.{Described, read_of}
 
 -- ---- the records that were read can be told

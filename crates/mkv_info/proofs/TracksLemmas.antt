@@ -5,13 +5,13 @@ use Rattle.std.proofs.lemmas.Bool.Decides.{nat_tests}
 use Rattle.mkv_schema.specs.Schema.{entry_of, is_master}
 use Rattle.mkv_schema.specs.Table.{table}
 use Rattle.mkv_schema.specs.declared.ids.TheConstants.{TRACKS}
-use Rattle.mkv_values.specs.declared.damage.Damage.{Damage}
-use Rattle.mkv_values.specs.declared.damage.Kind.TheVariants.{HeaderTooLarge}
-use Rattle.matroska_format.specs.declared.element.Header.{Header}
-use Rattle.matroska_format.specs.Element.{damage, known}
-use Rattle.matroska_format.specs.declared.limits.TheConstants.{MOST_OF_ALL, MOST_OF_ONE}
-use Rattle.matroska_format.specs.Outline.{described, first_damage, first_refusal, is_described, limits_from, passes_count, passes_size, where_it}
-use Rattle.matroska_format.specs.Value.{first_of}
+use Rattle.mkv_io.specs.declared.damage.Damage.{Damage}
+use Rattle.mkv_io.specs.declared.damage.Kind.TheVariants.{HeaderTooLarge}
+use Rattle.mkv_schema.specs.declared.element.Header.{Header}
+use Rattle.mkv_schema.specs.Element.{damage, known}
+use Rattle.mkv_schema.specs.declared.limits.TheConstants.{MOST_OF_ALL, MOST_OF_ONE}
+use Rattle.mkv_schema.specs.Outline.{described, first_damage, first_refusal, is_described, limits_from, passes_count, passes_size, where_it}
+use Rattle.mkv_schema.specs.Value.{first_of}
 use Rattle.element_reader.specs.Load.{too_large}
 use Rattle.element_reader.specs.Outline.{FileOutline, first_in, outline_in}
 use Rattle.element_reader.proofs.OutlineLemmas.{Outlines-shown, first_in-others, outline_of-limits}

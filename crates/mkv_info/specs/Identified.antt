@@ -1,7 +1,7 @@
 -- What `merge -J` tells of a file: one line of JSON.
 use Rattle.std.specs.Prelude.{ℕ, List, ◌∷◌, Result, Ok, Err}
-use Rattle.mkv_values.specs.declared.damage.Damage.{Damage}
-use Rattle.identification.specs.Identification.{identification_line}
+use Rattle.mkv_io.specs.declared.damage.Damage.{Damage}
+use Rattle.mkv_info.specs.Identification.{identification_line}
 use Rattle.mkv_lines.specs.Line.{refusal_line}
 use Rattle.mkv_lines.specs.Verdict.{Verdict, only_said, refused}
 use Rattle.mkv_info.specs.Listed.{status_with, warnings}

@@ -2,7 +2,7 @@
 use Rattle.std.specs.Prelude.{ℕ, Bool, List, Option, Some, None}
 use Rattle.mkv_lines.specs.Line.{missing_line}
 use Rattle.mkv_lines.specs.Verdict.{Verdict, refused, unless_pending}
-use Rattle.pending_edits.specs.Pending.{is_pending}
+use Rattle.sidecar_edit.specs.Pending.{is_pending}
 use Rattle.mkv_info.specs.Identified.{identified_verdict}
 use Rattle.mkv_info.specs.Listed.{listed_verdict}
 use Rattle.mkv_info.specs.declared.info.Form.{Form}

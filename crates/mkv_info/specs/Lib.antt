@@ -3,3 +3,13 @@ pub mod Info
 pub mod Listed
 pub mod Read
 pub mod Tracks
+pub mod Json
+pub mod Put
+pub mod Sound
+pub mod Texts
+pub mod Attachments
+pub mod Chapters
+pub mod Named
+pub mod Tags
+pub mod ToldTracks
+pub mod Identification

@@ -1,7 +1,7 @@
 -- What `info` tells of a file: a line for each Element and each track.
 use Rattle.std.specs.Prelude.{ℕ, ◌++◌, List, [], ◌∷◌, map, Option, Some, None, Result, Ok, Err}
-use Rattle.mkv_values.specs.declared.damage.Damage.{Damage}
-use Rattle.matroska_format.specs.Outline.{Outlined, outline_of, segment_run}
+use Rattle.mkv_io.specs.declared.damage.Damage.{Damage}
+use Rattle.mkv_schema.specs.Outline.{Outlined, outline_of, segment_run}
 use Rattle.element_reader.specs.Outline.{FileOutline}
 use Rattle.track_records.specs.declared.track.Track.{Track}
 use Rattle.mkv_lines.specs.Line.{level_0_line, level_1_line, refusal_line, warning_line}

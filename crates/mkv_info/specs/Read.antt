@@ -1,10 +1,10 @@
 -- What is read of a file to identify it.
 use Rattle.std.specs.Prelude.{◌≡◌, ⊤, List, ℕ, Option, Result, Ok, Err}
-use Rattle.mkv_values.specs.declared.damage.Damage.{Damage}
-use Rattle.matroska_format.specs.Outline.{Outlined, and_then, outline_of}
+use Rattle.mkv_io.specs.declared.damage.Damage.{Damage}
+use Rattle.mkv_schema.specs.Outline.{Outlined, and_then, outline_of}
 use Rattle.element_reader.specs.declared.outline_end.OutlineEnd.{OutlineEnd}
 use Rattle.element_reader.specs.declared.outline_end.OutlineEnd.TheVariants as outline_end
-use Rattle.file_records.specs.Records.{FileRecords, described_by, file_records}
+use Rattle.meta_records.specs.Records.{FileRecords, described_by, file_records}
 use Rattle.mkv_info.specs.declared.reading.FileRead.{FileRead}
 
 -- what describes a file, and what is damaged at level 1

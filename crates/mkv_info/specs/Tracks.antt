@@ -1,13 +1,13 @@
 -- The tracks of a file: RFC 9559, section 5.1.4 (Tracks Element).
 use Rattle.std.specs.Prelude.{ℕ, ◌+◌, List, [], ◌∷◌, Option, Some, None, Result, Ok}
 use Rattle.mkv_schema.specs.declared.ids.TheConstants.{TRACKS}
-use Rattle.mkv_values.specs.declared.damage.Damage.{Damage}
-use Rattle.matroska_format.specs.declared.element.Header.{Header}
-use Rattle.matroska_format.specs.Outline.{Outlined, and_then}
-use Rattle.matroska_format.specs.Value.{body_of, first_of}
+use Rattle.mkv_io.specs.declared.damage.Damage.{Damage}
+use Rattle.mkv_schema.specs.declared.element.Header.{Header}
+use Rattle.mkv_schema.specs.Outline.{Outlined, and_then}
+use Rattle.mkv_schema.specs.Value.{body_of, first_of}
 use Rattle.tree_format.specs.declared.limits.TheConstants.{MOST_NODES}
 use Rattle.tree_format.specs.Reading.{tree_of}
-use Rattle.track_format.specs.TrackType.{type_name}
+use Rattle.file_format.specs.TrackType.{type_name}
 use Rattle.track_records.specs.Track.{tracks_of}
 use Rattle.track_records.specs.declared.track.Track.{Track}
 use Rattle.mkv_lines.specs.Shown.{track_text}

@@ -2,7 +2,7 @@
 
 ghost use Rattle.std.specs.Prelude.{◌≡◌, Ok, IfOk};
 ghost use Rattle.mkv_io.specs.Sources.{IfTold, IsLive};
-ghost use Rattle.identification.specs.Sound.{CanBeTold};
+ghost use Rattle.mkv_info.specs.Sound.{CanBeTold};
 ghost use Rattle.mkv_lines.specs.Faults.{HasReadStop};
 ghost use Rattle.mkv_lines.specs.Ordinary.{IsOrdinary};
 ghost use Rattle.mkv_lines.specs.Said.{HasSayCause};
@@ -10,13 +10,12 @@ ghost use Rattle.mkv_lines.specs.Verdict.{SaysVerdict};
 ghost use Rattle.mkv_info.specs.Identified.{identified, identified_verdict};
 ghost use Rattle.mkv_info.specs.Read.{read_in};
 
+use crate::line::identify;
 use crate::list::warn;
 use crate::reading::{FileRead, read_file};
 use element_reader::OutlineEnd;
-use identification::identify;
-use mkv_io::{Reads, Report};
+use mkv_io::{FileId, Reads, Report};
 use mkv_lines::{Line, Status, Stop, refuse, say_text};
-use mkv_values::FileId;
 use std::alloc::Global;
 
 /// Tells what a live file is, and warns of the damage that ends its outline; or says what refuses it.

@@ -3,7 +3,7 @@
 ghost use Rattle.std.specs.Prelude.{◌≡◌, ℕ, IfOk};
 ghost use Rattle.mkv_io.specs.Sources.{IfTold, IsLive, live_files};
 ghost use Rattle.mkv_io.specs.Told.{Told};
-ghost use Rattle.pending_edits.specs.Pending.{LooksOnly, is_pending};
+ghost use Rattle.sidecar_edit.specs.Pending.{LooksOnly, is_pending};
 ghost use Rattle.mkv_lines.specs.Faults.{HasReadStop, HasStopCause};
 ghost use Rattle.mkv_lines.specs.Ordinary.{IsOrdinary};
 ghost use Rattle.mkv_lines.specs.Seen.{seen};
@@ -12,10 +12,9 @@ ghost use Rattle.mkv_info.specs.Info.{content_verdict, info_verdict};
 
 use crate::identified::identify_file;
 use crate::list::list_file;
-use mkv_io::{Files, Report};
+use mkv_io::{FileId, Files, OpenFault, Report};
 use mkv_lines::{Line, Status, Stop, refuse};
-use mkv_values::{FileId, OpenFault};
-use pending_edits::is_pending;
+use sidecar_edit::is_pending;
 use std::alloc::Global;
 
 /// The form in which a file is told of.

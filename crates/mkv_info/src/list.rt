@@ -2,8 +2,8 @@
 
 ghost use Rattle.std.specs.Prelude.{◌≡◌, Ok, map, IfOk};
 ghost use Rattle.mkv_io.specs.Sources.{IfTold, IsLive, file_size};
-ghost use Rattle.matroska_format.specs.Outline.{segment_run};
-ghost use Rattle.element_window.specs.Window.{nothing_at};
+ghost use Rattle.mkv_schema.specs.Outline.{segment_run};
+ghost use Rattle.elements.specs.Window.{nothing_at};
 ghost use Rattle.element_reader.specs.Outline.{outline_in};
 ghost use Rattle.mkv_lines.specs.Faults.{HasReadStop};
 ghost use Rattle.mkv_lines.specs.Line.{level_1_line};
@@ -14,10 +14,9 @@ ghost use Rattle.mkv_info.specs.Listed.{listed_verdict, shown_lines, status_with
 
 use crate::tracks::{say_tracks, tracks_of};
 use element_reader::{Outline, OutlineEnd, Window, segment_bound};
-use element_walks::{Level1Step, next_of_segment};
-use mkv_io::{Reads, Report};
+use elements::{Level1Step, next_of_segment};
+use mkv_io::{Damage, FileId, Reads, Report};
 use mkv_lines::{Line, Status, Stop, refuse, say};
-use mkv_values::{Damage, FileId};
 use std::alloc::Global;
 
 /// Lists a live file's Elements and tracks, and warns of the damage that ends them. A file whose outline or

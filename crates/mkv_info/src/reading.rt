@@ -4,13 +4,12 @@ ghost use Rattle.std.specs.Prelude.{◌≡◌, IfOk};
 ghost use Rattle.mkv_io.specs.Faults.{HasCause};
 ghost use Rattle.mkv_io.specs.Sources.{IfTold, IsLive};
 ghost use Rattle.element_reader.specs.Outline.{is_outline_fault};
-ghost use Rattle.identification.specs.Sound.{CanBeTold};
+ghost use Rattle.mkv_info.specs.Sound.{CanBeTold};
 ghost use Rattle.mkv_info.specs.Read.{ReadsFile, read_of};
 
 use element_reader::{Outline, OutlineEnd};
-use file_records::{Records, read_records};
-use mkv_io::Reads;
-use mkv_values::{Damage, FileId};
+use meta_records::{Records, read_records};
+use mkv_io::{Damage, FileId, Reads};
 use std::alloc::Global;
 
 /// What was read of a file.

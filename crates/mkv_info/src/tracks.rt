@@ -9,14 +9,13 @@ ghost use Rattle.mkv_lines.specs.Said.{HasSayCause, Says};
 ghost use Rattle.mkv_lines.specs.Line.{text_of};
 ghost use Rattle.mkv_lines.specs.declared.line.Line.TheVariants as line;
 ghost use Rattle.mkv_info.specs.Tracks.{shown_track, track_lines, tracks_at, tracks_in};
-ghost use Rattle.mkv_values.specs.declared.outside.TheConstants.{LONGEST_FILE};
+ghost use Rattle.mkv_io.specs.declared.outside.TheConstants.{LONGEST_FILE};
 
 use ebml_tree::{MOST_NODES, Tree, TreeEnd};
 use element_reader::{Header, LoadEnd, Outline, load};
-use mkv_io::{Reads, Report};
+use mkv_io::{Damage, FileId, List, ReadEnd, Reads, Report};
 use mkv_lines::{Line, ShownTrack, Stop, say};
 use mkv_schema::ids::TRACKS;
-use mkv_values::{Damage, FileId, List, ReadEnd};
 use std::alloc::Global;
 use track_records::{Track, read_tracks};
 

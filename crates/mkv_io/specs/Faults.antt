@@ -1,12 +1,12 @@
 -- How often the outside failed: a count that never falls, and stands still at 2^64 - 1.
 use Rattle.std.specs.Prelude.{◌≡◌, ℕ, ◌+◌, ◌-◌, ◌^◌, ◌≤◌, min, Bool, true, false, MatchBool, Result, Ok, Err}
-use Rattle.mkv_values.specs.declared.outside.Failed.{Failed}
-use Rattle.mkv_values.specs.declared.outside.OpenFault.{OpenFault}
-use Rattle.mkv_values.specs.declared.outside.OpenFault.TheVariants as open_fault
-use Rattle.mkv_values.specs.declared.outside.MakeFault.{MakeFault}
-use Rattle.mkv_values.specs.declared.outside.MakeFault.TheVariants as make_fault
-use Rattle.mkv_values.specs.declared.outside.ReadEnd.{ReadEnd}
-use Rattle.mkv_values.specs.declared.outside.ReadEnd.TheVariants as read_end
+use Rattle.mkv_io.specs.declared.outside.Failed.{Failed}
+use Rattle.mkv_io.specs.declared.outside.OpenFault.{OpenFault}
+use Rattle.mkv_io.specs.declared.outside.OpenFault.TheVariants as open_fault
+use Rattle.mkv_io.specs.declared.outside.MakeFault.{MakeFault}
+use Rattle.mkv_io.specs.declared.outside.MakeFault.TheVariants as make_fault
+use Rattle.mkv_io.specs.declared.outside.ReadEnd.{ReadEnd}
+use Rattle.mkv_io.specs.declared.outside.ReadEnd.TheVariants as read_end
 
 -- the last value of a count
 abbrev pub last_count : ℕ

@@ -6,3 +6,6 @@ pub mod Names
 pub mod Sources
 pub mod Told
 pub mod Writing
+pub mod Kind
+pub mod RemuxEnd
+pub mod Ends

@@ -1,6 +1,6 @@
 -- What is seen of files that are read, and what a call leaves that only reads them.
 use Rattle.std.specs.Prelude.{◌≡◌, ◌≤◌, ℕ, List, IsTrue}
-use Rattle.mkv_values.specs.declared.outside.FileId.{FileId}
+use Rattle.mkv_io.specs.declared.outside.FileId.{FileId}
 use Rattle.mkv_io.specs.LiveFiles.{LiveFiles}
 use Rattle.mkv_io.specs.Told.{Told}
 use Rattle.mkv_io.specs.declared.reads.Reads.{Ghosts}

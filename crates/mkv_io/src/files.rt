@@ -5,10 +5,10 @@ ghost use Rattle.mkv_io.specs.Faults.{HasCause, is_failure, is_make_failure, is_
 ghost use Rattle.mkv_io.specs.LiveFiles.{Appends, AppendsPart, KeepsFiles, KeepsHolders, Overwrites, OverwritesWithin};
 ghost use Rattle.mkv_io.specs.Names.{Names, with_change, with_content};
 ghost use Rattle.mkv_io.specs.Told.{Told};
-ghost use Rattle.mkv_values.specs.declared.outside.TheConstants.{LONGEST_FILE};
+ghost use Rattle.mkv_io.specs.declared.outside.TheConstants.{LONGEST_FILE};
 
+use crate::outside::{Failed, FileId, MakeFault, OpenFault};
 use crate::reads::Reads;
-use mkv_values::{Failed, FileId, MakeFault, OpenFault};
 
 /// Files with names. A name has a content; a live file is one that was opened under a name, and
 /// its content is that name's.

@@ -1,13 +1,25 @@
 #![tactic(auto)]
 
-//! The outside as the suite sees it: files that are read, files that are written, and a report of
-//! lines. Each is a trait whose ghost members say what it holds, how often it failed, and how much
-//! of it was read. Code above is generic over these traits and is proved from their clauses alone.
+//! The outside as the suite sees it: files that are read, files that are written, and a report of lines; and the plain
+//! values that it speaks of. Each of the three is a trait whose ghost members say what it holds, how often it failed, and
+//! how much of it was read. Code above is generic over these traits and is proved from their clauses alone.
 
+mod damage;
+mod entry;
 mod files;
+mod list;
+mod octets;
+mod outside;
 mod reads;
+mod remux_end;
 mod report;
 
+pub use damage::{Damage, Kind};
+pub use entry::Entry;
 pub use files::Files;
+pub use list::List;
+pub use octets::{Bytes, Text};
+pub use outside::{Failed, FileId, LONGEST_FILE, MakeFault, OpenFault, ReadEnd};
 pub use reads::Reads;
+pub use remux_end::RemuxEnd;
 pub use report::Report;

@@ -5,9 +5,9 @@ ghost use Rattle.mkv_io.specs.Contents.{octets_from};
 ghost use Rattle.mkv_io.specs.Faults.{HasCause, counted, is_failure};
 ghost use Rattle.mkv_io.specs.LiveFiles.{LiveFiles};
 ghost use Rattle.mkv_io.specs.Told.{Told};
-ghost use Rattle.mkv_values.specs.declared.outside.TheConstants.{LONGEST_FILE};
+ghost use Rattle.mkv_io.specs.declared.outside.TheConstants.{LONGEST_FILE};
 
-use mkv_values::{Failed, FileId};
+use crate::outside::{Failed, FileId};
 
 /// Live files, told by their numbers, whose octets can be read at any place.
 ///

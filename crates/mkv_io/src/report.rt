@@ -4,7 +4,7 @@ ghost use Rattle.std.specs.Prelude.{◌≡◌, ◌⊎◌, ℕ, List, ◌∷◌, 
 ghost use Rattle.mkv_io.specs.Faults.{HasCause, is_failure};
 ghost use Rattle.mkv_io.specs.Lines.{with_lines};
 
-use mkv_values::Failed;
+use crate::outside::Failed;
 
 /// A report, to which lines are added. It takes no memory for them.
 pub trait Report {

@@ -2,8 +2,8 @@
 use Rattle.std.specs.Prelude.{ℕ, Result, Ok, Err}
 use Rattle.mkv_lines.specs.declared.status.Status.{Status}
 use Rattle.mkv_lines.specs.declared.status.Status.TheVariants.{Done, Warned, Refused, NoMemory, Outside}
-use Rattle.mkv_values.specs.declared.outside.ReadEnd.{ReadEnd}
-use Rattle.mkv_values.specs.declared.outside.ReadEnd.TheVariants as read_end
+use Rattle.mkv_io.specs.declared.outside.ReadEnd.{ReadEnd}
+use Rattle.mkv_io.specs.declared.outside.ReadEnd.TheVariants as read_end
 use Rattle.mkv_lines.specs.declared.status.Stop.{Stop}
 use Rattle.mkv_lines.specs.declared.status.Stop.TheVariants as stop
 

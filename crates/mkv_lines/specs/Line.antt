@@ -1,9 +1,9 @@
 -- The lines that a user is told, each without its line end.
 use Rattle.std.specs.Prelude.{ℕ, ◌==◌, ◌++◌, if◌then◌else◌, List, [], ◌∷◌, map, codes}
 use Rattle.std.specs.Fmt.{decimal}
-use Rattle.mkv_values.specs.declared.damage.Damage.{Damage}
-use Rattle.matroska_format.specs.declared.element.Header.{Header}
-use Rattle.sidecar_format.specs.declared.recovery.Mark.{Mark}
+use Rattle.mkv_io.specs.declared.damage.Damage.{Damage}
+use Rattle.mkv_schema.specs.declared.element.Header.{Header}
+use Rattle.sidecar_edit.specs.declared.outcome.Mark.{Mark}
 use Rattle.mkv_lines.specs.Shown.{damage_text, element_text, level_0_name, level_1_name, mark_text, place_text, shown_text, track_text}
 use Rattle.mkv_lines.specs.declared.line.Line.{Line}
 use Rattle.mkv_lines.specs.declared.line.Line.TheVariants.{Level0, Level1, Track, Refused, Warned, MoreDamages, NoTrack, NoAttachment, NoExtractor, Missing, BadText, TextTooLarge, PendingEdit, OutputIsInput, AppendDiffers, NoLane, TooManyLanes, NotWebm, TooLarge, Wrote, WroteBlocks, Edited, EditRefused, NoRoom, EditTooLarge, Recovered, NothingToRecover, BadSidecar, Foreign, Word, FilesFault}

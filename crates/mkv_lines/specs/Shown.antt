@@ -3,15 +3,15 @@ use Rattle.std.specs.Prelude.{ℕ, ◌++◌, ◌==◌, ◌/◌, ◌%◌, nat_lt,
 use Rattle.std.specs.Char.{encode_utf8}
 use Rattle.std.specs.Str.{chars}
 use Rattle.std.specs.Fmt.{decimal, digits}
-use Rattle.ebml_format.specs.declared.number.Size.{Size}
-use Rattle.ebml_format.specs.declared.number.Size.TheVariants.{Known, Unknown}
+use Rattle.ebml_numbers.specs.declared.number.Size.{Size}
+use Rattle.ebml_numbers.specs.declared.number.Size.TheVariants.{Known, Unknown}
 use Rattle.mkv_schema.specs.Schema.{may_stand, name_of}
 use Rattle.mkv_schema.specs.declared.ids.TheConstants.{SEGMENT}
-use Rattle.mkv_values.specs.declared.damage.Damage.{Damage}
-use Rattle.mkv_values.specs.Kind.{kind_name}
-use Rattle.matroska_format.specs.declared.element.Header.{Header}
-use Rattle.sidecar_format.specs.declared.recovery.Mark.{Mark}
-use Rattle.sidecar_format.specs.declared.recovery.Mark.TheVariants.{Length, Octet}
+use Rattle.mkv_io.specs.declared.damage.Damage.{Damage}
+use Rattle.mkv_io.specs.Kind.{kind_name}
+use Rattle.mkv_schema.specs.declared.element.Header.{Header}
+use Rattle.sidecar_edit.specs.declared.outcome.Mark.{Mark}
+use Rattle.sidecar_edit.specs.declared.outcome.Mark.TheVariants.{Length, Octet}
 
 -- ---- what isn't ours: names, and texts of files
 

@@ -9,9 +9,9 @@ use crate::shown::{
     Level0Name, Level1Name, ShownDamage, ShownElement, ShownMark, ShownPlace, ShownTrack,
 };
 use crate::shown_text::ShownText;
-use matroska_format::Header;
-use mkv_values::Damage;
-use sidecar_format::Mark;
+use mkv_io::Damage;
+use mkv_schema::Header;
+use sidecar_edit::Mark;
 use std::fmt;
 
 /// A line that a user is told. Its text, by `Display`, has no line end.
@@ -168,8 +168,20 @@ impl fmt::Display for Line<'_> {
             Line::Warned { name, damage } => damaged(f, "warning: ", name, damage),
             Line::MoreDamages { name, more } => more_damages(f, name, more),
             Line::NoTrack { name, number } => numbered(f, "warning: ", name, ": no track ", number),
-            Line::NoAttachment { name, number } => numbered(f, "warning: ", name, ": no attachment ", number),
-            Line::NoExtractor { name, number } => numbered(f, "error: ", name, ": NoExtractor, track ", number),
+            Line::NoAttachment { name, number } => numbered(
+                f,
+                "warning: ",
+                name,
+                ": no attachment ",
+                number,
+            ),
+            Line::NoExtractor { name, number } => numbered(
+                f,
+                "error: ",
+                name,
+                ": NoExtractor, track ",
+                number,
+            ),
             Line::Missing { name } => named(f, "error: ", name, ": Missing"),
             Line::BadText { name, line } => numbered(f, "error: ", name, ": BadText, line ", line),
             Line::TextTooLarge { name } => named(f, "error: ", name, ": TextTooLarge"),
@@ -197,7 +209,13 @@ impl fmt::Display for Line<'_> {
             } => edit_too_large(f, name, length, nodes),
             Line::Recovered { name } => headed(f, "recovered ", name),
             Line::NothingToRecover { name } => headed(f, "nothing to recover in ", name),
-            Line::BadSidecar { name, offset } => numbered(f, "error: ", name, ": BadSidecar, offset ", offset),
+            Line::BadSidecar { name, offset } => numbered(
+                f,
+                "error: ",
+                name,
+                ": BadSidecar, offset ",
+                offset,
+            ),
             Line::Foreign {
                 name,
                 mark,
@@ -224,7 +242,12 @@ fn level_1<W: fmt::Write>(f: &mut fmt::Formatter<W>, header: Header) -> fmt::Res
     write!(f, "  {name}{place}")
 }
 
-fn damaged<W: fmt::Write>(f: &mut fmt::Formatter<W>, head: &str, name: &str, damage: Damage) -> fmt::Result
+fn damaged<W: fmt::Write>(
+    f: &mut fmt::Formatter<W>,
+    head: &str,
+    name: &str,
+    damage: Damage,
+) -> fmt::Result
     ensures { WritesOnOk W.write_str_gives f.old result (head.now ++ (shown_text name.now ++ (codes ": " ++ damage_text damage))) f.new }
 {
     let (name, damage) = (ShownText(name), ShownDamage(damage));
@@ -238,14 +261,25 @@ fn more_damages<W: fmt::Write>(f: &mut fmt::Formatter<W>, name: &str, more: u64)
     write!(f, "warning: {name}: {more} more damages")
 }
 
-fn numbered<W: fmt::Write>(f: &mut fmt::Formatter<W>, head: &str, name: &str, what: &str, number: u64) -> fmt::Result
+fn numbered<W: fmt::Write>(
+    f: &mut fmt::Formatter<W>,
+    head: &str,
+    name: &str,
+    what: &str,
+    number: u64,
+) -> fmt::Result
     ensures { WritesOnOk W.write_str_gives f.old result (head.now ++ (shown_text name.now ++ (what.now ++ decimal number))) f.new }
 {
     let name = ShownText(name);
     write!(f, "{head}{name}{what}{number}")
 }
 
-fn named<W: fmt::Write>(f: &mut fmt::Formatter<W>, head: &str, name: &str, tail: &str) -> fmt::Result
+fn named<W: fmt::Write>(
+    f: &mut fmt::Formatter<W>,
+    head: &str,
+    name: &str,
+    tail: &str,
+) -> fmt::Result
     ensures { WritesOnOk W.write_str_gives f.old result (head.now ++ (shown_text name.now ++ tail.now)) f.new }
 {
     let name = ShownText(name);
@@ -259,7 +293,12 @@ fn headed<W: fmt::Write>(f: &mut fmt::Formatter<W>, head: &str, name: &str) -> f
     write!(f, "{head}{name}")
 }
 
-fn of_element<W: fmt::Write>(f: &mut fmt::Formatter<W>, name: &str, why: &str, id: u32) -> fmt::Result
+fn of_element<W: fmt::Write>(
+    f: &mut fmt::Formatter<W>,
+    name: &str,
+    why: &str,
+    id: u32,
+) -> fmt::Result
     ensures { WritesOnOk W.write_str_gives f.old result (codes "error: " ++ (shown_text name.now ++ (codes ": " ++ (why.now ++ element_text id)))) f.new }
 {
     let (name, element) = (ShownText(name), ShownElement(id));
@@ -273,30 +312,58 @@ fn wrote_blocks<W: fmt::Write>(f: &mut fmt::Formatter<W>, name: &str, blocks: u6
     write!(f, "wrote {name}: {blocks} blocks")
 }
 
-fn edit_refused<W: fmt::Write>(f: &mut fmt::Formatter<W>, name: &str, why: &str, edit: u64) -> fmt::Result
+fn edit_refused<W: fmt::Write>(
+    f: &mut fmt::Formatter<W>,
+    name: &str,
+    why: &str,
+    edit: u64,
+) -> fmt::Result
     ensures { WritesOnOk W.write_str_gives f.old result (edit_refused_line name.now why.now edit) f.new }
 {
     let name = ShownText(name);
     write!(f, "error: {name}: {why}, edit {edit}")
 }
 
-fn no_room<W: fmt::Write>(f: &mut fmt::Formatter<W>, name: &str, why: &str, need: u64, have: u64) -> fmt::Result
+fn no_room<W: fmt::Write>(
+    f: &mut fmt::Formatter<W>,
+    name: &str,
+    why: &str,
+    need: u64,
+    have: u64,
+) -> fmt::Result
     ensures { WritesOnOk W.write_str_gives f.old result (no_room_line name.now why.now need have) f.new }
 {
     let name = ShownText(name);
     write!(f, "error: {name}: NoRoom, {why}, need {need}, have {have}")
 }
 
-fn edit_too_large<W: fmt::Write>(f: &mut fmt::Formatter<W>, name: &str, length: u64, nodes: u64) -> fmt::Result
+fn edit_too_large<W: fmt::Write>(
+    f: &mut fmt::Formatter<W>,
+    name: &str,
+    length: u64,
+    nodes: u64,
+) -> fmt::Result
     ensures { WritesOnOk W.write_str_gives f.old result (edit_too_large_line name.now length nodes) f.new }
 {
     let name = ShownText(name);
-    write!(f, "error: {name}: EditTooLarge, length {length}, nodes {nodes}")
+    write!(
+        f,
+        "error: {name}: EditTooLarge, length {length}, nodes {nodes}"
+    )
 }
 
-fn foreign<W: fmt::Write>(f: &mut fmt::Formatter<W>, name: &str, mark: Mark, kept: u64, found: u64) -> fmt::Result
+fn foreign<W: fmt::Write>(
+    f: &mut fmt::Formatter<W>,
+    name: &str,
+    mark: Mark,
+    kept: u64,
+    found: u64,
+) -> fmt::Result
     ensures { WritesOnOk W.write_str_gives f.old result (foreign_line name.now mark kept found) f.new }
 {
     let (name, mark) = (ShownText(name), ShownMark(mark));
-    write!(f, "error: {name}: Foreign, {mark}, kept {kept}, found {found}")
+    write!(
+        f,
+        "error: {name}: Foreign, {mark}, kept {kept}, found {found}"
+    )
 }

@@ -8,8 +8,7 @@ ghost use Rattle.mkv_lines.specs.Verdict.{SaysVerdict, refused};
 
 use crate::line::Line;
 use crate::status::{Status, Stop};
-use mkv_io::Report;
-use mkv_values::Failed;
+use mkv_io::{Failed, Report};
 use std::alloc::Global;
 
 /// Says a line. Where the report fails it is there or not.

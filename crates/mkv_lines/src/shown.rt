@@ -1,12 +1,11 @@
 //! How Elements, sizes and damages are shown in a line.
 
 use crate::shown_text::ShownText;
-use ebml_format::Size;
-use matroska_format::Header;
+use ebml_numbers::Size;
+use mkv_io::Damage;
 use mkv_schema::ids::SEGMENT;
-use mkv_schema::{may_stand, row};
-use mkv_values::Damage;
-use sidecar_format::Mark;
+use mkv_schema::{Header, may_stand, row};
+use sidecar_edit::Mark;
 use std::fmt;
 
 /// The Element of which something is told, by its ID.

@@ -3,7 +3,7 @@
 ghost use Rattle.std.specs.Prelude.{◌≡◌};
 ghost use Rattle.mkv_lines.specs.Code.{code_of};
 
-use mkv_values::ReadEnd;
+use mkv_io::ReadEnd;
 
 /// How a run ends.
 #[derive(Clone, Copy, Debug, PartialEq, Eq)]

@@ -2,3 +2,6 @@ pub mod CutsLemmas
 pub mod NamesLemmas
 pub mod SeenFilesLemmas
 pub mod StoredLemmas
+pub mod DiskLemmas
+pub mod LogLemmas
+pub mod SoundLemmas

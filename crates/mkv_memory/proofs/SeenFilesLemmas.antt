@@ -1,10 +1,10 @@
 -- What each call makes of files in memory is what the traits for files ask of it.
 use Rattle.std.proofs.Common.{◌≡◌, ◌≢◌, ℕ, ◌+◌, ◌-◌, ◌<◌, ◌≤◌, min, List, [], ◌∷◌, ◌++◌, zero, suc, ◌∙◌, length, take, Option, Some, None, Bool, true, false, is_some, unwrap_or, if◌then◌else◌, Result, Ok, Err, OnOk, IfOk, IsErrOf, OnErr, refl, sym, ap, subst, arith}
-use Rattle.mkv_values.specs.declared.outside.FileId.{FileId}
-use Rattle.mkv_values.specs.declared.outside.Failed.{Failed}
-use Rattle.mkv_values.specs.declared.outside.OpenFault.{OpenFault}
-use Rattle.mkv_values.specs.declared.outside.MakeFault.{MakeFault}
-use Rattle.mkv_values.specs.declared.outside.MakeFault.TheVariants as make_fault
+use Rattle.mkv_io.specs.declared.outside.FileId.{FileId}
+use Rattle.mkv_io.specs.declared.outside.Failed.{Failed}
+use Rattle.mkv_io.specs.declared.outside.OpenFault.{OpenFault}
+use Rattle.mkv_io.specs.declared.outside.MakeFault.{MakeFault}
+use Rattle.mkv_io.specs.declared.outside.MakeFault.TheVariants as make_fault
 use Rattle.mkv_io.specs.Contents.{with_appended, with_overwritten}
 use Rattle.mkv_io.specs.LiveFiles.{Appends, AppendsPart, KeepsFiles, Overwrites, OverwritesWithin}
 use Rattle.mkv_io.specs.Told.{Told}

@@ -10,7 +10,7 @@ use Rattle.mkv_io.specs.Names.{changed_at}
 use Rattle.mkv_io.specs.LiveFiles.{IsSameFile, ChangesFile, KeepsFiles, OverwritesWithin}
 use Rattle.mkv_memory.specs.Stored.{Stored, World, AreShort, AreThere, is_there, files_of, holder_of, content_of_file, name_of_file, content-live, with_changed_file}
 use Rattle.mkv_io.proofs.NamesLemmas.{changed_at-nothing, changed_at-other, changed_at-same}
-use Rattle.mkv_values.specs.declared.outside.TheConstants.{LONGEST_FILE}
+use Rattle.mkv_io.specs.declared.outside.TheConstants.{LONGEST_FILE}
 
 -- ---- what is stored, by its parts
 

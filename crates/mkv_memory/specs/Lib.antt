@@ -5,3 +5,13 @@ pub mod SeenFiles
 pub mod SeenReport
 pub mod StoreIn
 pub mod Stored
+pub mod Changes
+pub mod DiskIn
+pub mod Failing
+pub mod FailingIn
+pub mod Images
+pub mod LogIn
+pub mod Logged
+pub mod SeenDisk
+pub mod Shows
+pub mod Sound

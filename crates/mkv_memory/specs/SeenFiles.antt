@@ -1,15 +1,15 @@
 -- What can be seen of files in memory, and what each call makes of it.
 use Rattle.std.specs.Prelude.{◌≡◌, ℕ, ◌+◌, ◌-◌, min, Bool, true, false, ◌||◌, ◌==◌, nat_lt, if◌then◌else◌, List, [], length, take, Option, Some, None, is_some, unwrap_or, Result, Ok, Err}
-use Rattle.mkv_values.specs.declared.outside.FileId.{FileId}
-use Rattle.mkv_values.specs.declared.outside.Failed.{Failed}
-use Rattle.mkv_values.specs.declared.outside.OpenFault.{OpenFault}
-use Rattle.mkv_values.specs.declared.outside.OpenFault.TheVariants as open_fault
-use Rattle.mkv_values.specs.declared.outside.MakeFault.{MakeFault}
-use Rattle.mkv_values.specs.declared.outside.MakeFault.TheVariants as make_fault
+use Rattle.mkv_io.specs.declared.outside.FileId.{FileId}
+use Rattle.mkv_io.specs.declared.outside.Failed.{Failed}
+use Rattle.mkv_io.specs.declared.outside.OpenFault.{OpenFault}
+use Rattle.mkv_io.specs.declared.outside.OpenFault.TheVariants as open_fault
+use Rattle.mkv_io.specs.declared.outside.MakeFault.{MakeFault}
+use Rattle.mkv_io.specs.declared.outside.MakeFault.TheVariants as make_fault
 use Rattle.mkv_io.specs.Contents.{octets_from, with_appended, with_overwritten}
 use Rattle.mkv_io.specs.Faults.{counted, last_count}
 use Rattle.mkv_memory.specs.Stored.{Stored, closed, file_octets, opened_under, with_changed_file, with_content_at}
-use Rattle.mkv_values.specs.declared.outside.TheConstants.{LONGEST_FILE}
+use Rattle.mkv_io.specs.declared.outside.TheConstants.{LONGEST_FILE}
 
 -- What is stored, which calls are to fail, and the counts. A call is told by its number, from
 -- 0 on; one that is to fail has a number of octets, which it keeps if it is an append.

@@ -1,6 +1,6 @@
 -- What can be seen of a report in memory, and what a call makes of it.
 use Rattle.std.specs.Prelude.{◌≡◌, ℕ, ◌-◌, Bool, true, false, ◌||◌, ◌==◌, nat_lt, List, [], ◌∷◌, ◌++◌, length, Result, Ok, Err}
-use Rattle.mkv_values.specs.declared.outside.Failed.{Failed}
+use Rattle.mkv_io.specs.declared.outside.Failed.{Failed}
 use Rattle.mkv_io.specs.Faults.{counted}
 
 -- The lines so far, for how many more lines and octets there is room, which calls are to fail, and

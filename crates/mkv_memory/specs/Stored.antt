@@ -9,7 +9,7 @@ use Rattle.std.specs.Map.{lookup}
 use Rattle.std.specs.String.{string_bytes}
 use Rattle.mkv_io.specs.Names.{changed_at}
 use Rattle.mkv_io.specs.LiveFiles.{LiveFiles}
-use Rattle.mkv_values.specs.declared.outside.TheConstants.{LONGEST_FILE}
+use Rattle.mkv_io.specs.declared.outside.TheConstants.{LONGEST_FILE}
 
 -- the content of each name, None where there is no file of that name
 abbrev pub World : Type 0

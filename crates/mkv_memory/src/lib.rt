@@ -1,10 +1,16 @@
 #![tactic(auto)]
 
-//! Files and a report in memory. They tell what they hold, and fail where they are told to.
+//! Files, a disk and a report in memory. They tell what they hold, and fail where they are told to.
 
+mod done;
+mod failing;
+mod logged_pair;
+mod mem_disk;
 mod mem_files;
 mod mem_report;
+mod pending;
 mod store;
 
+pub use mem_disk::MemDisk;
 pub use mem_files::MemFiles;
 pub use mem_report::MemReport;

@@ -4,11 +4,10 @@ ghost use Rattle.std.specs.Prelude.{◌≡◌, ℕ, ◌+◌, ◌-◌, ◌≤◌,
 ghost use Rattle.std.specs.BTreeMap.{get};
 ghost use Rattle.std.specs.Ordering.{nat_cmp};
 ghost use Rattle.mkv_io.specs.Faults.{HasCause, is_failure, is_make_failure, is_open_failure, last_count};
-ghost use Rattle.mkv_values.specs.declared.outside.TheConstants.{LONGEST_FILE};
+ghost use Rattle.mkv_io.specs.declared.outside.TheConstants.{LONGEST_FILE};
 
 use crate::store::Store;
-use mkv_io::{Files, Reads};
-use mkv_values::{Bytes, Failed, FileId, LONGEST_FILE, MakeFault, OpenFault};
+use mkv_io::{Bytes, Failed, FileId, Files, LONGEST_FILE, MakeFault, OpenFault, Reads};
 use std::alloc::{AllocError, Global};
 use std::cmp::min;
 use std::collections::BTreeMap;

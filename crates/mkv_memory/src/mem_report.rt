@@ -5,8 +5,7 @@ ghost use Rattle.std.specs.Prelude.{◌≡◌, ℕ, ◌+◌, ◌<◌, ◌≤◌,
 ghost use Rattle.std.specs.String.{string_bytes, string_capacity};
 ghost use Rattle.mkv_memory.specs.Cuts.{AreBoundaries, AreOrdered, EndAt};
 
-use mkv_io::Report;
-use mkv_values::Failed;
+use mkv_io::{Failed, Report};
 use std::alloc::{AllocError, Global};
 use std::collections::BTreeSet;
 

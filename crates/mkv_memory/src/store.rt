@@ -5,9 +5,9 @@ ghost use Rattle.std.specs.Prelude.{slice_set, ◌≡◌, ◌≢◌, ℕ, ◌+�
 ghost use Rattle.mkv_io.specs.Contents.{with_appended, with_overwritten};
 ghost use Rattle.mkv_io.specs.Names.{changed_at};
 ghost use Rattle.mkv_memory.specs.Stored.{AreShort, AreThere, closed, content_of_file, content_of_name, files_of, name_of_file, opened_under, with_changed_file, with_content_at};
-ghost use Rattle.mkv_values.specs.declared.outside.TheConstants.{LONGEST_FILE};
+ghost use Rattle.mkv_io.specs.declared.outside.TheConstants.{LONGEST_FILE};
 
-use mkv_values::{Bytes, FileId, Text};
+use mkv_io::{Bytes, FileId, Text};
 use std::alloc::{AllocError, Global};
 use std::collections::BTreeMap;
 

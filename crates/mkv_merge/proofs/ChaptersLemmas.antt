@@ -4,13 +4,13 @@ use Rattle.std.specs.List.{All}
 use Rattle.std.proofs.lemmas.List.{map-append}
 use Rattle.std.proofs.lemmas.List.Elements.{All-nil, All-cons, All-head, All-tail}
 use Rattle.mkv_schema.specs.declared.ids.TheConstants.{CHAPTERS}
-use Rattle.mkv_values.specs.declared.outside.FileId.{FileId}
+use Rattle.mkv_io.specs.declared.outside.FileId.{FileId}
 use Rattle.mkv_io.specs.LiveFiles.{LiveFiles}
 use Rattle.tree_format.specs.Node.{Node}
-use Rattle.tree_building.specs.Building.{IsRead}
-use Rattle.text_files.specs.ChapterFile.{CanBeWritten}
-use Rattle.text_files.specs.declared.chapter_file.ChapterFile.{ChapterFile}
-use Rattle.text_files.specs.declared.chapter_file.ChapterFile.TheVariants as file
+use Rattle.ebml_tree.specs.Building.{IsRead}
+use Rattle.input_files.specs.ChapterFile.{CanBeWritten}
+use Rattle.input_files.specs.declared.chapter_file.ChapterFile.{ChapterFile}
+use Rattle.input_files.specs.declared.chapter_file.ChapterFile.TheVariants as file
 use Rattle.merge_words.specs.declared.output.MergeWords.{MergeWords}
 use Rattle.merge_inputs.specs.Input.{InputRead, IsInput, read_in}
 use Rattle.merge_inputs.specs.Select.{kept_one}

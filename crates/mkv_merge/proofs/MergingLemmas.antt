@@ -3,14 +3,14 @@ use Rattle.std.proofs.Common.{◌≡◌, ℕ, suc, ◌+◌, ◌*◌, ◌≤◌, 
 use Rattle.std.specs.Prelude.{Bool, is_none, option_map, unwrap_or}
 use Rattle.std.specs.List.{position_from}
 use Rattle.std.proofs.lemmas.List.Sums.{sum_by-cons}
-use Rattle.mkv_values.specs.declared.outside.FileId.{FileId}
+use Rattle.mkv_io.specs.declared.outside.FileId.{FileId}
 use Rattle.mkv_io.specs.LiveFiles.{IsSameFile, LiveFiles}
 use Rattle.mkv_io.specs.Told.{Told}
 use Rattle.mkv_outputs.specs.Sinks.{AreLive}
 use Rattle.input_files.specs.Inputs as inputs
 use Rattle.input_files.specs.Inputs.{file_names, first_missing}
-use Rattle.text_files.specs.ChapterFile.{chapter_file, chapter_octets}
-use Rattle.text_files.specs.declared.chapter_file.ChapterFile.{ChapterFile}
+use Rattle.input_files.specs.ChapterFile.{chapter_file, chapter_octets}
+use Rattle.input_files.specs.declared.chapter_file.ChapterFile.{ChapterFile}
 use Rattle.merge_words.specs.declared.files.FileWords.{FileWords}
 use Rattle.merge_words.specs.declared.output.MergeWords.{MergeWords}
 use Rattle.merge_plan.specs.Front.{attached_length, reads_of}

@@ -8,9 +8,9 @@ use Rattle.std.proofs.lemmas.List.{length-map}
 use Rattle.std.proofs.lemmas.List.Elements.{All-cons, All-nil}
 use Rattle.std.proofs.lemmas.List.Folds.{find-append}
 use Rattle.std.proofs.lemmas.Slice.Eq.{bytes_eq-Decides}
-use Rattle.mkv_values.specs.declared.outside.FileId.{FileId}
+use Rattle.mkv_io.specs.declared.outside.FileId.{FileId}
 use Rattle.mkv_outputs.specs.Sinks.{holders_of}
-use Rattle.sidecar_format.specs.Name.{sidecar_of}
+use Rattle.sidecar_edit.specs.Name.{sidecar_of}
 use Rattle.splitter.specs.Names.{is_part_name}
 use Rattle.remux_plan.specs.Parts.{may_be_written}
 use Rattle.merge_words.specs.declared.output.MergeWords.{MergeWords}

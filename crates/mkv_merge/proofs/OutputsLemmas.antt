@@ -4,9 +4,9 @@ use Rattle.std.specs.List.{enumerate_from}
 use Rattle.mkv_io.specs.LiveFiles.{LiveFiles}
 use Rattle.output_model.specs.Document.{Front}
 use Rattle.output_model.specs.OutputBlock.{OutputBlock}
-use Rattle.segment_octets.specs.Front.{front_with}
-use Rattle.segment_octets.specs.declared.front.Front as given
-use Rattle.cluster_runs.specs.Cued.{document_of}
+use Rattle.output_model.specs.Front.{front_with}
+use Rattle.output_model.specs.declared.front.Front as given
+use Rattle.output_model.specs.Cued.{document_of}
 use Rattle.splitter.specs.Sections.{Part, Split, parts}
 use Rattle.remux_plan.specs.Parts as planned
 use Rattle.remux_plan.specs.Parts.{PlannedOutput, drives_by, name_of, output_in, outputs_from, outputs_in, spec_of, stretch_of}

@@ -6,13 +6,13 @@ use Rattle.std.proofs.Math.Seq.{take-suc}
 use Rattle.std.proofs.lemmas.List.{append-nil, length-map, map-append}
 use Rattle.std.proofs.lemmas.List.Elements.{All-from_recursion}
 use Rattle.std.proofs.lemmas.List.Sums.{sum_by-cons, sum_by-take-le, sum_by_more}
-use Rattle.mkv_values.specs.declared.outside.FileId.{FileId}
+use Rattle.mkv_io.specs.declared.outside.FileId.{FileId}
 use Rattle.mkv_io.specs.Faults.{counted}
 use Rattle.mkv_io.specs.LiveFiles.{LiveFiles}
 use Rattle.mkv_io.specs.Told.{Told}
 use Rattle.input_files.specs.Inputs as files
-use Rattle.lane_blocks.specs.Links.{octets_in}
-use Rattle.text_files.specs.declared.chapter_file.ChapterFile.{ChapterFile}
+use Rattle.merge_model.specs.FileLinks.{octets_in}
+use Rattle.input_files.specs.declared.chapter_file.ChapterFile.{ChapterFile}
 use Rattle.merge_words.specs.declared.files.FileWords.{FileWords}
 use Rattle.merge_words.specs.declared.output.MergeWords.{MergeWords}
 use Rattle.merge_inputs.specs.Input.{InputRead, IsReadOf, input_of, read_in}
@@ -27,8 +27,8 @@ use Rattle.merge_plan.specs.Spots.{HasPlace}
 use Rattle.merge_plan.specs.declared.appending.AppendDiffers.{AppendDiffers}
 use Rattle.merge_plan.specs.declared.refusal.PlanRefusal.{PlanRefusal}
 use Rattle.merge_plan.proofs.FileLemmas.{reads-in}
-use Rattle.appended_inputs.specs.Placed.{StandInPlace, walked_length}
-use Rattle.appended_inputs.proofs.PlaceLemmas.{walked-within}
+use Rattle.merge_plan.specs.Placed.{StandInPlace, walked_length}
+use Rattle.merge_plan.proofs.PlaceLemmas.{walked-within}
 use Rattle.mkv_merge.specs.Bound.{files_size}
 use Rattle.mkv_merge.specs.Merge.{sources_read, sources_with, unless_refused}
 use Rattle.mkv_merge.specs.Prepared.{AreTold, ReadsAs, reads_in, sources_from}

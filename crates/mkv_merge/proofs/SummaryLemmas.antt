@@ -6,12 +6,12 @@ use Rattle.std.proofs.lemmas.Bool.Decides.{nat_tests}
 use Rattle.std.proofs.lemmas.List.{length-map}
 use Rattle.std.proofs.lemmas.List.Elements.{All-head, All-map, All-tail, filter-append}
 use Rattle.std.proofs.lemmas.List.Folds.{find-append}
-use Rattle.mkv_values.specs.declared.damage.Damage.{Damage}
+use Rattle.mkv_io.specs.declared.damage.Damage.{Damage}
 use Rattle.mkv_io.specs.LiveFiles.{LiveFiles}
 use Rattle.cluster_reader.specs.ToldDamages.{ToldDamages, told_damages}
 use Rattle.merge_model.specs.Lanes.{lane_damages}
 use Rattle.merge_model.specs.Links.{Given}
-use Rattle.lane_blocks.specs.Links.{given_in}
+use Rattle.merge_model.specs.FileLinks.{given_in}
 use Rattle.remux_plan.specs.Plan.{links_of}
 use Rattle.remux_plan.specs.Summary.{count_to, damages_of, first_damages, link_damages, more_damages}
 use Rattle.remux_plan.specs.declared.plan.PlannedLane.{PlannedLane}

@@ -5,15 +5,15 @@ use Rattle.std.proofs.Math.ListN.{get_or-map}
 use Rattle.std.proofs.lemmas.List.{length-map}
 use Rattle.std.proofs.lemmas.List.Elements.{All-map}
 use Rattle.std.proofs.lemmas.List.Sums.{sum_by-le}
-use Rattle.mkv_values.specs.declared.outside.FileId.{FileId}
+use Rattle.mkv_io.specs.declared.outside.FileId.{FileId}
 use Rattle.mkv_io.specs.LiveFiles.{LiveFiles}
 use Rattle.mkv_io.specs.Sources.{IsLive, live_files}
 use Rattle.mkv_io.specs.declared.files.Files as writing
 use Rattle.mkv_io.specs.declared.reads.Reads.{Ghosts}
 use Rattle.mkv_schema.specs.declared.ids.TheConstants.{CHAPTERS, TAGS}
 use Rattle.tree_format.specs.Node.{Node, id_of}
-use Rattle.attachment_records.specs.Attached.{attached_file, data_of}
-use Rattle.attachment_records.specs.declared.attachment.Attachment.{Attachment}
+use Rattle.output_model.specs.Attached.{attached_file, data_of}
+use Rattle.output_model.specs.declared.attachment.Attachment.{Attachment}
 use Rattle.merged_records.specs.Inputs.{IsAttached}
 use Rattle.output_model.specs.Sound.{IsRecord}
 use Rattle.output_model.specs.Document.{Front}
@@ -22,10 +22,10 @@ use Rattle.output_model.specs.declared.heads.ClusterLimits.{ClusterLimits}
 use Rattle.merge_model.specs.Lanes.{lane_blocks}
 use Rattle.merge_model.specs.Links.{Given}
 use Rattle.merge_model.specs.Merged.{merged}
-use Rattle.lane_blocks.specs.Links.{given_in, IsOpenLink, IsSmallLink, IsToldLink}
-use Rattle.lane_blocks.specs.declared.link.Link.{Link}
+use Rattle.merge_model.specs.FileLinks.{given_in, IsOpenLink, IsSmallLink, IsToldLink}
+use Rattle.merge_model.specs.declared.link.Link.{Link}
 use Rattle.lanes.specs.Walks as walks
-use Rattle.time_merge.specs.Laws.{lanes_over}
+use Rattle.merge_model.specs.FileLinks.{lanes_over}
 use Rattle.cues_seekhead.specs.OpenOutput.{CanAttach}
 use Rattle.remux_plan.specs.Plan as planned
 use Rattle.remux_plan.specs.Plan.{links_of}
@@ -67,7 +67,7 @@ use Rattle.remuxer.specs.Output.{IsUnwrittenLink}
 use Rattle.remuxer.proofs.OutputsLemmas.{named-so}
 use Rattle.merge_plan.proofs.RecordLemmas.{read-record}
 use Rattle.merge_plan.specs.Plan.{starts_in}
-use Rattle.lane_blocks.specs.declared.link.Link.TheVariants.{Track, Entries}
+use Rattle.merge_model.specs.declared.link.Link.TheVariants.{Track, Entries}
 use Rattle.mkv_outputs.specs.Sinks.{holders_of}
 use Rattle.mkv_merge.specs.Read.{IsApartMerge, first_written, is_split}
 use Rattle.mkv_merge.proofs.NamesLemmas.{unwritten-held}

@@ -1,9 +1,9 @@
 -- How many octets a merge may read.
 use Rattle.std.specs.Prelude.{ℕ, ◌+◌, ◌*◌, if◌then◌else◌, List, [], length, sum_by, Option, is_none, unwrap_or, Result, Ok, Err}
-use Rattle.mkv_values.specs.declared.outside.FileId.{FileId}
+use Rattle.mkv_io.specs.declared.outside.FileId.{FileId}
 use Rattle.mkv_io.specs.LiveFiles.{LiveFiles}
-use Rattle.sidecar_format.specs.declared.place.TheConstants.{HEAD}
-use Rattle.text_files.specs.ChapterFile.{chapter_octets}
+use Rattle.sidecar_edit.specs.declared.place.TheConstants.{HEAD}
+use Rattle.input_files.specs.ChapterFile.{chapter_octets}
 use Rattle.merge_words.specs.declared.files.FileWords.{FileWords}
 use Rattle.merge_words.specs.declared.output.MergeWords.{MergeWords}
 use Rattle.merge_plan.specs.Front.{attached_length, reads_of}

@@ -1,8 +1,8 @@
 -- The Chapters of a chapter file in place of those of the inputs. RFC 9559, section 5.1.7 (Chapters Element), has the Element; which one is taken is this project's.
 use Rattle.std.specs.Prelude.{Bool, not, List, [], ◌∷◌, map, Option, Some, None, Result}
 use Rattle.tree_format.specs.Node.{Node}
-use Rattle.text_files.specs.declared.chapter_file.ChapterFile.{ChapterFile}
-use Rattle.text_files.specs.declared.chapter_file.ChapterFile.TheVariants as file
+use Rattle.input_files.specs.declared.chapter_file.ChapterFile.{ChapterFile}
+use Rattle.input_files.specs.declared.chapter_file.ChapterFile.TheVariants as file
 use Rattle.merge_inputs.specs.Input.{InputRead}
 use Rattle.merge_inputs.specs.Select.{kept_one}
 use Rattle.merge_inputs.specs.declared.input.Input.{Input}

@@ -3,8 +3,8 @@ use Rattle.std.specs.Prelude.{Bool, false}
 use Rattle.mkv_lines.specs.declared.status.Stop.{Stop}
 use Rattle.mkv_lines.specs.declared.status.Stop.TheVariants as stop
 use Rattle.mkv_io.specs.Faults.{is_read_fault}
-use Rattle.mkv_jobs.specs.declared.remux_end.RemuxEnd.{RemuxEnd}
-use Rattle.mkv_jobs.specs.declared.remux_end.RemuxEnd.TheVariants as remux_end
+use Rattle.mkv_io.specs.declared.remux_end.RemuxEnd.{RemuxEnd}
+use Rattle.mkv_io.specs.declared.remux_end.RemuxEnd.TheVariants as remux_end
 use Rattle.mkv_merge.specs.declared.refusal.MergeEnd.{MergeEnd}
 use Rattle.mkv_merge.specs.declared.refusal.MergeEnd.TheVariants.{Refused, Stopped}
 

@@ -2,7 +2,7 @@
 use Rattle.std.specs.Prelude.{ℕ, ◌==◌, nat_le, Bool, true, false, ◌||◌, if◌then◌else◌, List, [], ◌∷◌, ◌++◌, length, map, filter, flat_map, Option, Result, Ok, Err}
 use Rattle.std.specs.List.{enumerate_from, find, list_any, range_with_len, zip}
 use Rattle.std.specs.Option.{option_map, option_map_or}
-use Rattle.mkv_values.specs.declared.damage.Damage.{Damage}
+use Rattle.mkv_io.specs.declared.damage.Damage.{Damage}
 use Rattle.mkv_io.specs.Faults.{counted}
 use Rattle.cluster_reader.specs.ToldDamages.{ToldDamages, told_damages}
 use Rattle.output_model.specs.OutputBlock.{OutputBlock}
@@ -11,13 +11,13 @@ use Rattle.output_model.specs.Document.{Document, Front}
 use Rattle.merge_model.specs.Lanes.{lane_blocks, lane_damages}
 use Rattle.merge_model.specs.Links.{Given}
 use Rattle.merge_model.specs.Merged.{merged}
-use Rattle.cluster_runs.specs.Cued.{document_of}
+use Rattle.output_model.specs.Cued.{document_of}
 use Rattle.splitter.specs.Sections.{Part, Split, parts}
 use Rattle.remux_plan.specs.Parts.{PlannedOutput, drives_by, name_of, stretch_of}
 use Rattle.remux_plan.specs.Parts.{chapters_of as chapters_within}
 use Rattle.remuxer.specs.Output.{drafts_of}
-use Rattle.text_files.specs.ChapterFile.{chapter_file}
-use Rattle.text_files.specs.declared.chapter_file.ChapterFile.{ChapterFile}
+use Rattle.input_files.specs.ChapterFile.{chapter_file}
+use Rattle.input_files.specs.declared.chapter_file.ChapterFile.{ChapterFile}
 use Rattle.merge_words.specs.declared.files.FileWords.{FileWords}
 use Rattle.merge_words.specs.declared.output.MergeWords.{MergeWords}
 use Rattle.merge_inputs.specs.Input.{InputRead}

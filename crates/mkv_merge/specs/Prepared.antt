@@ -1,10 +1,10 @@
 -- What is known of a merge whose inputs were read and planned.
 use Rattle.std.specs.Prelude.{◌≡◌, ⊤, ℕ, List, map, Some, Result, Ok, Err}
 use Rattle.std.specs.List.{All, zip}
-use Rattle.mkv_values.specs.declared.outside.FileId.{FileId}
+use Rattle.mkv_io.specs.declared.outside.FileId.{FileId}
 use Rattle.mkv_io.specs.LiveFiles.{LiveFiles}
 use Rattle.input_files.specs.Inputs as files
-use Rattle.text_files.specs.declared.chapter_file.ChapterFile.{ChapterFile}
+use Rattle.input_files.specs.declared.chapter_file.ChapterFile.{ChapterFile}
 use Rattle.merge_words.specs.declared.output.MergeWords.{MergeWords}
 use Rattle.merge_inputs.specs.Input.{InputRead, IsInput, read_in}
 use Rattle.merge_inputs.specs.declared.input.Input.{Input}

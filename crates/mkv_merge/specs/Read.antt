@@ -4,9 +4,9 @@ use Rattle.std.specs.List.{zip}
 use Rattle.std.specs.Option.{option_or, option_to_list}
 use Rattle.std.specs.Str.{bytes_eq}
 use Rattle.mkv_io.specs.Faults.{counted}
-use Rattle.sidecar_format.specs.Name.{sidecar_of}
-use Rattle.pending_edits.specs.Pending.{is_pending}
-use Rattle.text_files.specs.declared.chapter_file.ChapterFile.{ChapterFile}
+use Rattle.sidecar_edit.specs.Name.{sidecar_of}
+use Rattle.sidecar_edit.specs.Pending.{is_pending}
+use Rattle.input_files.specs.declared.chapter_file.ChapterFile.{ChapterFile}
 use Rattle.splitter.specs.Names.{is_part_name}
 use Rattle.splitter.specs.Words.{is_by_time}
 use Rattle.merge_words.specs.declared.files.FileWords.{FileWords}

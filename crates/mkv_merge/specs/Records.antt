@@ -3,7 +3,7 @@ use Rattle.std.specs.Prelude.{◌≡◌, ℕ, List, IfSome, IfOk, Result}
 use Rattle.std.specs.List.{All}
 use Rattle.mkv_schema.specs.declared.ids.TheConstants.{CHAPTERS, TAGS}
 use Rattle.tree_format.specs.Node.{Node}
-use Rattle.attachment_records.specs.Attached.{with_data}
+use Rattle.output_model.specs.Attached.{with_data}
 use Rattle.output_model.specs.Sound.{IsAttachment, IsRecord}
 use Rattle.merge_plan.specs.Front.{attachments_of, reads_of}
 use Rattle.merge_plan.specs.Plan.{Source}

@@ -2,8 +2,8 @@
 use Rattle.std.specs.Prelude.{ℕ, List, [], Option, Some, None, unwrap_or, Result, Ok, Err}
 use Rattle.std.specs.List.{slice_get}
 use Rattle.std.specs.Option.{option_map_or}
-use Rattle.text_files.specs.declared.refusal.TextRefusal.{TextRefusal}
-use Rattle.text_files.specs.declared.refusal.TextRefusal.TheVariants.{TooLarge, Bad}
+use Rattle.input_files.specs.declared.refusal.TextRefusal.{TextRefusal}
+use Rattle.input_files.specs.declared.refusal.TextRefusal.TheVariants.{TooLarge, Bad}
 use Rattle.merge_words.specs.declared.files.FileWords.{FileWords}
 use Rattle.merge_words.specs.declared.output.MergeWords.{MergeWords}
 use Rattle.merge_inputs.specs.declared.input.InputRefusal.{InputRefusal}

@@ -7,10 +7,10 @@ ghost use Rattle.mkv_merge.specs.Prepared.{ReadsAs};
 
 use crate::refusal::{MergeEnd, Refusal};
 use ebml_tree::Tree;
+use input_files::ChapterFile;
 use merge_inputs::Input;
-use mkv_values::List;
+use mkv_io::List;
 use std::alloc::{AllocError, Global};
-use text_files::ChapterFile;
 
 /// Of inputs the first with these Chapters, and the others without any.
 fn first_with(

@@ -3,7 +3,7 @@
 ghost use Rattle.std.specs.Prelude.{◌≡◌, ◌+◌, ◌≤◌, true, ℕ, List, IfOk};
 ghost use Rattle.mkv_io.specs.Sources.{live_files};
 ghost use Rattle.mkv_io.specs.Told.{Told};
-ghost use Rattle.text_files.specs.ChapterFile.{CanBeWritten};
+ghost use Rattle.input_files.specs.ChapterFile.{CanBeWritten};
 ghost use Rattle.splitter.specs.Words.{is_by_time};
 ghost use Rattle.merge_words.specs.Sound.{IsSoundMerge};
 ghost use Rattle.input_files.specs.Inputs.{AreInputs, file_names};
@@ -23,13 +23,11 @@ use crate::preparing::prepare;
 use crate::refusal::{MergeEnd, Refusal};
 use crate::telling::refuse;
 use crate::writing::write;
-use input_files::{InputsEnd, close_all, open_all};
+use input_files::{ChapterFile, InputsEnd, close_all, open_all, read_chapter_file};
 use merge_words::MergeWords;
-use mkv_io::{Files, Report};
+use mkv_io::{FileId, Files, Report};
 use mkv_lines::{Status, Stop};
-use mkv_values::FileId;
 use std::alloc::{AllocError, Global};
-use text_files::{ChapterFile, read_chapter_file};
 
 /// Merges live files, the inputs of these words.
 fn merge_opened<F: Files, P: Report>(

@@ -2,13 +2,13 @@
 
 ghost use Rattle.std.specs.Prelude.{◌≡◌, ◌++◌, find, map, IfOk, OnOk};
 ghost use Rattle.std.specs.Option.{option_copied, option_to_list};
-ghost use Rattle.sidecar_format.specs.Name.{sidecar_of};
+ghost use Rattle.sidecar_edit.specs.Name.{sidecar_of};
 ghost use Rattle.input_files.specs.Inputs.{file_names};
 ghost use Rattle.mkv_merge.specs.Read.{first_written, is_output, is_part, read_names};
 
 use merge_words::{FileWords, MergeWords};
-use mkv_values::{List, Text};
-use sidecar_format::sidecar_name;
+use mkv_io::{List, Text};
+use sidecar_edit::sidecar_name;
 use splitter::is_part_name;
 use std::alloc::{AllocError, Global};
 

@@ -3,18 +3,16 @@
 ghost use Rattle.std.specs.Prelude.{◌≡◌, ◌+◌, ◌≤◌, IfOk};
 ghost use Rattle.mkv_io.specs.Faults.{HasCause, is_read_fault};
 ghost use Rattle.mkv_io.specs.Told.{Told};
-ghost use Rattle.pending_edits.specs.Pending.{LooksOnly};
+ghost use Rattle.sidecar_edit.specs.Pending.{LooksOnly};
 ghost use Rattle.mkv_merge.specs.Bound.{most_looked};
 ghost use Rattle.mkv_merge.specs.Read.{begun_refusal, pending_of};
 
 use crate::refusal::Refusal;
-use input_files::first_pending;
+use input_files::{ChapterFile, first_pending};
 use merge_words::MergeWords;
-use mkv_io::Files;
-use mkv_values::ReadEnd;
-use pending_edits::is_pending;
+use mkv_io::{Files, ReadEnd};
+use sidecar_edit::is_pending;
 use std::alloc::Global;
-use text_files::ChapterFile;
 
 /// What refuses a merge of files of which an edit is pending: the first of the inputs, in the order of the words, and
 /// then the file that lies at the output's name, where the output isn't split.

@@ -5,7 +5,7 @@ ghost use Rattle.std.specs.List.{All};
 ghost use Rattle.mkv_io.specs.Faults.{HasCause};
 ghost use Rattle.mkv_io.specs.Sources.{IfTold, IsLive, file_size, live_files};
 ghost use Rattle.mkv_outputs.specs.Sinks.{AreLive};
-ghost use Rattle.text_files.specs.ChapterFile.{CanBeWritten};
+ghost use Rattle.input_files.specs.ChapterFile.{CanBeWritten};
 ghost use Rattle.splitter.specs.Words.{is_by_time};
 ghost use Rattle.merge_words.specs.Sound.{IsSoundFile, IsSoundMerge};
 ghost use Rattle.merge_inputs.specs.Input.{IsInput, IsReadOf, held_in, input_of, read_in};
@@ -16,15 +16,13 @@ ghost use Rattle.mkv_merge.specs.Read.{inputs_of, inputs_with, numbered};
 
 use crate::chapters::with_file;
 use crate::refusal::{MergeEnd, Refusal};
-use appended_inputs::set_in_place;
+use input_files::ChapterFile;
 use merge_inputs::{Blocks, Input, InputEnd, read_input};
-use merge_plan::{PlanEnd, append_refusal, plan_of};
+use merge_plan::{PlanEnd, append_refusal, plan_of, set_in_place};
 use merge_words::{FileWords, MergeWords};
-use mkv_io::Reads;
-use mkv_values::{FileId, List, ReadEnd};
+use mkv_io::{FileId, List, ReadEnd, Reads};
 use remux_plan::MergePlan;
 use std::alloc::Global;
-use text_files::ChapterFile;
 
 /// What a merge is made of.
 #[derive(Drop)]

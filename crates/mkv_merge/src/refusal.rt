@@ -1,14 +1,14 @@
 //! Why nothing is merged.
 
 ghost use Rattle.std.specs.Prelude.{◌≡◌};
-ghost use Rattle.mkv_values.specs.declared.outside.ReadEnd.TheVariants as read_end;
+ghost use Rattle.mkv_io.specs.declared.outside.ReadEnd.TheVariants as read_end;
 ghost use Rattle.mkv_merge.specs.declared.refusal.MergeEnd.TheVariants as merge_end;
 
+use input_files::TextRefusal;
 use merge_inputs::InputRefusal;
 use merge_plan::{AppendDiffers, PlanRefusal};
-use mkv_values::{ReadEnd, Text};
+use mkv_io::{ReadEnd, Text};
 use std::alloc::AllocError;
-use text_files::TextRefusal;
 
 /// Why nothing is merged. Inputs count from 0, in the order of the words.
 #[derive(Debug, Drop)]

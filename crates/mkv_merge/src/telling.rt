@@ -13,6 +13,7 @@ ghost use Rattle.mkv_merge.specs.Refused.{chapters_name, input_line, line_of, na
 ghost use Rattle.mkv_merge.specs.Told.{damages_at, more_at, warnings_from};
 
 use crate::refusal::Refusal;
+use input_files::TextRefusal;
 use merge_inputs::{Input, InputRefusal};
 use merge_plan::PlanRefusal;
 use merge_words::{FileWords, MergeWords};
@@ -20,7 +21,6 @@ use mkv_io::Report;
 use mkv_lines::{Line, Status, Stop, say};
 use remux_plan::{InputDamage, MoreDamage, Summary};
 use std::alloc::Global;
-use text_files::TextRefusal;
 
 /// The name of an input, by its number.
 fn name_of(words: &MergeWords, input: usize) -> &str

@@ -1,8 +1,8 @@
 -- Octets that are written through a buffer.
 use Rattle.std.proofs.Common.{◌≡◌, ℕ, List, [], ◌++◌, take, drop, Result, Ok, Err, IsErr, IsErrOf, OnOk, refl, sym, ◌∙◌, ap, append_assoc, append-nil}
 use Rattle.std.proofs.lemmas.List.{take-append-drop}
-use Rattle.mkv_values.specs.declared.outside.MakeFault.{MakeFault}
-use Rattle.mkv_values.specs.declared.outside.MakeFault.TheVariants as make_fault
+use Rattle.mkv_io.specs.declared.outside.MakeFault.{MakeFault}
+use Rattle.mkv_io.specs.declared.outside.MakeFault.TheVariants as make_fault
 use Rattle.mkv_io.specs.Contents.{with_appended}
 use Rattle.mkv_io.specs.LiveFiles.{LiveFiles, Appends, AppendsPart}
 use Rattle.mkv_io.specs.Names.{Names, with_change}

@@ -1,7 +1,7 @@
 -- The files of outputs that are being written, and what they were given.
 use Rattle.std.specs.Prelude.{◌≡◌, ◌≢◌, ◌<◌, ◌≤◌, ℕ, List, [], ◌∷◌, map, Bool, true, false, Result, Ok, Err}
 use Rattle.std.specs.List.{All, AllPairs, AllWithin}
-use Rattle.mkv_values.specs.declared.outside.FileId.{FileId}
+use Rattle.mkv_io.specs.declared.outside.FileId.{FileId}
 use Rattle.mkv_io.specs.LiveFiles.{KeepsFiles, KeepsHolders}
 use Rattle.mkv_io.specs.Names.{AreApart, AreOthers, Names}
 use Rattle.mkv_io.specs.Sources.{live_files}

@@ -1,6 +1,6 @@
 -- What becomes of octets that are written through a buffer.
 use Rattle.std.specs.Prelude.{◌≡◌, ℕ, ◌++◌, List, Result, Ok, Err}
-use Rattle.mkv_values.specs.declared.outside.FileId.{FileId}
+use Rattle.mkv_io.specs.declared.outside.FileId.{FileId}
 use Rattle.mkv_io.specs.Contents.{with_appended}
 use Rattle.mkv_io.specs.Names.{Names, with_change}
 use Rattle.mkv_io.specs.declared.files.Files.{Ghosts}

@@ -7,8 +7,7 @@ ghost use Rattle.mkv_outputs.specs.Outputs.{with_empty, with_more};
 ghost use Rattle.mkv_outputs.specs.Sinks.{AreOpen, ArePassed, EndsOnly, Finishes, Gives, MakesOnly, WritesOutputs, ids_of, names_under};
 
 use crate::sink::{ROOM, Sink, flush, write};
-use mkv_io::Files;
-use mkv_values::{Bytes, MakeFault};
+use mkv_io::{Bytes, Files, MakeFault};
 use std::alloc::{AllocError, Global};
 use std::marker::Model;
 

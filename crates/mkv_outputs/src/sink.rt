@@ -7,8 +7,7 @@ ghost use Rattle.mkv_io.specs.Writing.{WritesOnly};
 ghost use Rattle.mkv_outputs.specs.Written.{PassesTo};
 ghost use Rattle.mkv_outputs.specs.Waiting.{WaitFew};
 
-use mkv_io::Files;
-use mkv_values::{Bytes, FileId, MakeFault};
+use mkv_io::{Bytes, FileId, Files, MakeFault};
 
 /// How many octets wait at most.
 pub const ROOM: usize = 65536;

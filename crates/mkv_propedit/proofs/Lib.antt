@@ -1,1 +1,2 @@
 pub mod PropeditLemmas
+pub mod RecoverLemmas

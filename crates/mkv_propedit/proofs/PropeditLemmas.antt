@@ -12,7 +12,7 @@ use Rattle.mkv_disk.specs.Pair.{Pair, IsPairImage, IsSynced, both}
 use Rattle.mkv_disk.specs.declared.disk.Disk.{Ghosts}
 use Rattle.mkv_disk.proofs.MomentsLemmas.{joined, same, stays, weaker}
 use Rattle.mkv_disk.proofs.WritingLemmas.{IsLeft}
-use Rattle.mkv_jobs.specs.declared.edit.Edit.{Edit}
+use Rattle.word_values.specs.declared.edit.Edit.{Edit}
 use Rattle.mkv_lines.specs.Code.{status_of}
 use Rattle.mkv_lines.specs.Said.{ReportLines}
 use Rattle.mkv_lines.specs.Verdict.{SaysVerdict, Verdict, done, nothing, refused}
@@ -20,21 +20,21 @@ use Rattle.mkv_lines.specs.declared.status.Status.{Status}
 use Rattle.mkv_lines.specs.declared.status.Status.TheVariants as status
 use Rattle.mkv_lines.specs.declared.status.Stop.{Stop}
 use Rattle.mkv_lines.specs.declared.status.Stop.TheVariants as stop
-use Rattle.mkv_recover.specs.Recover.{DiskWorld, disk_world}
-use Rattle.mkv_recover.specs.Recovery.{HasDiskStop}
-use Rattle.mkv_recover.proofs.RecoverLemmas.{said-stop}
-use Rattle.sidecar_format.specs.declared.gate.Gate.{Gate}
-use Rattle.sidecar_format.specs.declared.gate.Gate.TheVariants.{Bad, Live, Quiet}
-use Rattle.sidecar_format.specs.declared.place.TheConstants.{HEAD, HEAD_1, OPEN}
-use Rattle.sidecar_format.specs.Fields.{IsMadeFor, Planned, head_of, total_in, writes_of}
-use Rattle.sidecar_format.specs.Gate.{first_breach, is_quiet, rules_of, state, unless_broken}
-use Rattle.sidecar_format.specs.Recovery.{IsQuiet, recovered}
-use Rattle.sidecar_format.specs.Writes.{Write, applied}
+use Rattle.mkv_propedit.specs.Recover.{DiskWorld, disk_world}
+use Rattle.mkv_propedit.specs.Recovery.{HasDiskStop}
+use Rattle.mkv_propedit.proofs.RecoverLemmas.{said-stop}
+use Rattle.sidecar_edit.specs.declared.held.Gate.{Gate}
+use Rattle.sidecar_edit.specs.declared.held.Gate.TheVariants.{Bad, Live, Quiet}
+use Rattle.sidecar_edit.specs.declared.place.TheConstants.{HEAD, HEAD_1, OPEN}
+use Rattle.sidecar_edit.specs.Fields.{IsMadeFor, Planned, head_of, total_in, writes_of}
+use Rattle.sidecar_edit.specs.Gate.{first_breach, is_quiet, rules_of, state, unless_broken}
+use Rattle.sidecar_edit.specs.Recovery.{IsQuiet, recovered}
+use Rattle.sidecar_edit.specs.Writes.{Write, applied}
 use Rattle.sidecar_edit.specs.Leaves.{IsEditing}
 use Rattle.sidecar_edit.proofs.GateLemmas.{both_image}
-use Rattle.edit_format.specs.declared.refusal.Refusal.{Refusal}
-use Rattle.edit_format.specs.Change.{and_then}
-use Rattle.edit_format.specs.Plan.{edited, plan_of, recorded as record_for}
+use Rattle.edit_changes.specs.declared.refusal.Refusal.{Refusal}
+use Rattle.edit_changes.specs.Change.{and_then}
+use Rattle.edit_changes.specs.Plan.{edited, plan_of, recorded as record_for}
 use Rattle.edit_plan.specs.Record.{record_of}
 use Rattle.edit_plan.proofs.RecordLemmas.{writes_of-recorded}
 use Rattle.mkv_propedit.specs.Left.{HasMadeCause, IsEdit, IsPropediting, IsUnderway, LeavesEdited, LeavesPlanned, StaysOpen}

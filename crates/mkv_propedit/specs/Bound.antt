@@ -1,6 +1,6 @@
 -- How many octets `propedit` may read.
 use Rattle.std.specs.Prelude.{ℕ, ◌+◌, ◌*◌}
-use Rattle.sidecar_format.specs.declared.place.TheConstants.{HEAD, KEPT}
+use Rattle.sidecar_edit.specs.declared.place.TheConstants.{HEAD, KEPT}
 
 -- what may be read to plan edits of a file of so many octets: the file 25 times over, and the first octets that are kept of it
 abbrev pub most_to_plan : ℕ → ℕ

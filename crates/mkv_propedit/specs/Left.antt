@@ -4,21 +4,21 @@ use Rattle.mkv_io.specs.declared.reads.Reads as reads
 use Rattle.mkv_disk.specs.Calls.{AnyMoment, OfReads}
 use Rattle.mkv_disk.specs.Pair.{Pair, both}
 use Rattle.mkv_disk.specs.declared.disk.Disk.{Ghosts}
-use Rattle.mkv_jobs.specs.declared.edit.Edit.{Edit}
+use Rattle.word_values.specs.declared.edit.Edit.{Edit}
 use Rattle.mkv_lines.specs.Said.{HasSayCause}
 use Rattle.mkv_lines.specs.declared.status.Status.{Status}
 use Rattle.mkv_lines.specs.declared.status.Status.TheVariants as status
 use Rattle.mkv_lines.specs.declared.status.Stop.{Stop}
 use Rattle.mkv_lines.specs.declared.status.Stop.TheVariants as stop
-use Rattle.mkv_recover.specs.Recovery.{IsUnopened}
-use Rattle.sidecar_format.specs.declared.gate.Gate.TheVariants.{Quiet}
-use Rattle.sidecar_format.specs.declared.place.TheConstants.{OPEN}
-use Rattle.sidecar_format.specs.Fields.{IsMadeFor, IsPlan, Planned, body_of, writes_of}
-use Rattle.sidecar_format.specs.Gate.{state}
-use Rattle.sidecar_format.specs.Recovery.{IsQuiet, recovered}
-use Rattle.sidecar_format.specs.Writes.{applied}
+use Rattle.mkv_propedit.specs.Recovery.{IsUnopened}
+use Rattle.sidecar_edit.specs.declared.held.Gate.TheVariants.{Quiet}
+use Rattle.sidecar_edit.specs.declared.place.TheConstants.{OPEN}
+use Rattle.sidecar_edit.specs.Fields.{IsMadeFor, IsPlan, Planned, body_of, writes_of}
+use Rattle.sidecar_edit.specs.Gate.{state}
+use Rattle.sidecar_edit.specs.Recovery.{IsQuiet, recovered}
+use Rattle.sidecar_edit.specs.Writes.{applied}
 use Rattle.sidecar_edit.specs.Leaves.{IsRecoverable}
-use Rattle.edit_format.specs.Plan.{edited}
+use Rattle.edit_changes.specs.Plan.{edited}
 use Rattle.edit_plan.specs.Record.{record_of}
 
 -- ---- when it has ended

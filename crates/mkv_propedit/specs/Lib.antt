@@ -1,3 +1,5 @@
 pub mod Bound
 pub mod Left
 pub mod Propedit
+pub mod Recover
+pub mod Recovery

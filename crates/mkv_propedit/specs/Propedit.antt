@@ -1,19 +1,19 @@
 -- What `propedit` comes to: its status and its lines.
 use Rattle.std.specs.Prelude.{ℕ, Bool, if◌then◌else◌, List, [], ◌∷◌, codes, Result, Ok, Err}
-use Rattle.mkv_jobs.specs.declared.edit.Edit.{Edit}
+use Rattle.word_values.specs.declared.edit.Edit.{Edit}
 use Rattle.mkv_lines.specs.Line.{bad_sidecar_line, edit_refused_line, edit_too_large_line, edited_line, missing_line, no_room_line, pending_edit_line, refusal_line}
 use Rattle.mkv_lines.specs.Verdict.{Verdict, done, refused}
-use Rattle.mkv_recover.specs.Recover.{DiskWorld}
-use Rattle.sidecar_format.specs.declared.gate.Gate.{Gate}
-use Rattle.sidecar_format.specs.declared.gate.Gate.TheVariants.{Bad, Live, Quiet}
-use Rattle.sidecar_format.specs.Gate.{state}
-use Rattle.edit_format.specs.declared.refusal.Refusal.{Refusal}
-use Rattle.edit_format.specs.declared.refusal.Refusal.TheVariants as refusal
-use Rattle.edit_format.specs.declared.refusal.Room.{Room}
-use Rattle.edit_format.specs.declared.refusal.Room.TheVariants.{SeekHead, SegmentSize, Tail, Twin}
-use Rattle.edit_format.specs.declared.refusal.Why.{Why}
-use Rattle.edit_format.specs.declared.refusal.Why.TheVariants.{AlreadyThere, BadPropertyValue, Mandatory, NoInfo, NoSuchProperty, NoSuchTrack}
-use Rattle.edit_format.specs.Plan.{edited}
+use Rattle.mkv_propedit.specs.Recover.{DiskWorld}
+use Rattle.sidecar_edit.specs.declared.held.Gate.{Gate}
+use Rattle.sidecar_edit.specs.declared.held.Gate.TheVariants.{Bad, Live, Quiet}
+use Rattle.sidecar_edit.specs.Gate.{state}
+use Rattle.edit_changes.specs.declared.refusal.Refusal.{Refusal}
+use Rattle.edit_changes.specs.declared.refusal.Refusal.TheVariants as refusal
+use Rattle.edit_changes.specs.declared.refusal.Room.{Room}
+use Rattle.edit_changes.specs.declared.refusal.Room.TheVariants.{SeekHead, SegmentSize, Tail, Twin}
+use Rattle.edit_changes.specs.declared.refusal.Why.{Why}
+use Rattle.edit_changes.specs.declared.refusal.Why.TheVariants.{AlreadyThere, BadPropertyValue, Mandatory, NoInfo, NoSuchProperty, NoSuchTrack}
+use Rattle.edit_changes.specs.Plan.{edited}
 
 -- ---- what refuses edits, as a line says it
 

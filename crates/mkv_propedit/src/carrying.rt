@@ -10,9 +10,9 @@ ghost use Rattle.mkv_lines.specs.Line.{edited_line};
 ghost use Rattle.mkv_lines.specs.Ordinary.{IsOrdinary};
 ghost use Rattle.mkv_lines.specs.Said.{SaysLast};
 ghost use Rattle.mkv_lines.specs.Verdict.{SaysVerdict, done};
-ghost use Rattle.mkv_recover.specs.Recovery.{HasDiskStop};
-ghost use Rattle.sidecar_format.specs.Fields.{writes_of};
-ghost use Rattle.sidecar_format.specs.Writes.{applied};
+ghost use Rattle.mkv_propedit.specs.Recovery.{HasDiskStop};
+ghost use Rattle.sidecar_edit.specs.Fields.{writes_of};
+ghost use Rattle.sidecar_edit.specs.Writes.{applied};
 ghost use Rattle.sidecar_edit.specs.Leaves.{IsEditing};
 ghost use Rattle.mkv_propedit.specs.Left.{IsPlannedFor, LeavesPlanned};
 
@@ -20,8 +20,7 @@ use crate::telling::{edited_text, tell};
 use mkv_disk::Disk;
 use mkv_io::Report;
 use mkv_lines::{Status, Stop};
-use sidecar_edit::{DiskFault, commit, settle};
-use sidecar_format::Plan;
+use sidecar_edit::{DiskFault, Plan, commit, settle};
 use std::alloc::Global;
 
 /// Makes the edits of a plan beside a quiet sidecar, and says so. All memory is taken before anything is written.

@@ -8,9 +8,9 @@ ghost use Rattle.mkv_lines.specs.Code.{status_of};
 ghost use Rattle.mkv_lines.specs.Ordinary.{IsOrdinary};
 ghost use Rattle.mkv_lines.specs.Said.{SaysLast};
 ghost use Rattle.mkv_lines.specs.Verdict.{SaysVerdict};
-ghost use Rattle.mkv_recover.specs.Recovery.{HasDiskStop};
-ghost use Rattle.sidecar_format.specs.Gate.{state};
-ghost use Rattle.edit_format.specs.Plan.{edited};
+ghost use Rattle.mkv_propedit.specs.Recovery.{HasDiskStop};
+ghost use Rattle.sidecar_edit.specs.Gate.{state};
+ghost use Rattle.edit_changes.specs.Plan.{edited};
 ghost use Rattle.mkv_propedit.specs.Bound.{most_to_edit, most_to_plan};
 ghost use Rattle.mkv_propedit.specs.Left.{IsEdit, IsEditOf, StaysOpen};
 ghost use Rattle.mkv_propedit.specs.Propedit.{propedit_verdict, told, unless_begun};
@@ -19,13 +19,11 @@ use crate::carrying::edit_planned;
 use crate::telling::refusal_line;
 use edit_plan::{PlanEnd, plan};
 use mkv_disk::{Disk, SIDECAR};
-use mkv_io::Report;
-use mkv_jobs::Edit;
+use mkv_io::{Failed, List, OpenFault, Report};
 use mkv_lines::{Line, Status, Stop, refuse};
-use mkv_values::{Failed, List, OpenFault};
-use sidecar_edit::state;
-use sidecar_format::Gate;
+use sidecar_edit::{Gate, state};
 use std::alloc::Global;
+use word_values::Edit;
 
 /// Makes edits of the file of a name, all of them or none, and says what came of it. A stop at any moment leaves a file
 /// and a sidecar that can be recovered.

@@ -9,7 +9,7 @@ ghost use Rattle.mkv_lines.specs.Verdict.{SaysVerdict, done};
 ghost use Rattle.mkv_propedit.specs.Left.{HasMadeCause};
 ghost use Rattle.mkv_propedit.specs.Propedit as spec;
 
-use edit_format::{Refusal, Room, Why};
+use edit_changes::{Refusal, Room, Why};
 use mkv_io::Report;
 use mkv_lines::{Line, Status, Stop, say_text};
 use sidecar_edit::DiskFault;

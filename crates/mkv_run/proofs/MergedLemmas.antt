@@ -27,7 +27,7 @@ use Rattle.mkv_merge.specs.Takes.{takes}
 use Rattle.merged_outputs.specs.Merge.{HasMerged, IsMerged, MergesWell}
 use Rattle.merged_outputs.specs.Sources.{HoldsOctets}
 use Rattle.merged_outputs.proofs.MergeLemmas.{run-merged}
-use Rattle.mkv_recover.specs.Recover.{DiskWorld}
+use Rattle.mkv_propedit.specs.Recover.{DiskWorld}
 use Rattle.mkv_run.specs.Ends.{Ends}
 use Rattle.mkv_run.specs.Run.{MergesRecords, MergesRecordsIn, verdict_after, verdict_in}
 use Rattle.mkv_run.specs.RunSeen.{RunSeen}

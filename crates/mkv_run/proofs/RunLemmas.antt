@@ -15,9 +15,9 @@ use Rattle.mkv_lines.specs.Said.{HasSayCause, ReportLines, Says, SaysLast, SaysP
 use Rattle.mkv_lines.specs.Verdict.{Reaches, StopsSaying, Verdict}
 use Rattle.mkv_lines.specs.Ordinary.{IsOrdinary}
 use Rattle.sidecar_edit.proofs.GateLemmas.{both_image}
-use Rattle.mkv_jobs.specs.declared.edit.Edit.{Edit}
-use Rattle.mkv_recover.specs.Recovery.{HasDiskStop}
-use Rattle.mkv_recover.proofs.RecoverLemmas.{recovery-still}
+use Rattle.word_values.specs.declared.edit.Edit.{Edit}
+use Rattle.mkv_propedit.specs.Recovery.{HasDiskStop}
+use Rattle.mkv_propedit.proofs.RecoverLemmas.{recovery-still}
 use Rattle.mkv_propedit.proofs.PropeditLemmas.{edit-still}
 use Rattle.mkv_run.specs.Ends.{Ends, SaysFault}
 use Rattle.mkv_run.specs.RunSeen.{HasRunStop, RunSeen}
@@ -28,10 +28,10 @@ use Rattle.mkv_lines.specs.declared.status.Status.{Status}
 use Rattle.mkv_lines.specs.declared.status.Status.TheVariants as status
 use Rattle.mkv_lines.specs.declared.status.Stop.{Stop}
 use Rattle.mkv_lines.specs.declared.status.Stop.TheVariants as stop
-use Rattle.mkv_jobs.specs.declared.job.Job.{Job}
-use Rattle.mkv_jobs.specs.declared.job.Job.TheVariants as jobs
+use Rattle.word_values.specs.declared.job.Job.{Job}
+use Rattle.word_values.specs.declared.job.Job.TheVariants as jobs
 use Rattle.mkv_args.specs.Sound.{IsSoundJob}
-use Rattle.extract_model.specs.Job.{CanBeDone}
+use Rattle.extractors.specs.Job.{CanBeDone}
 use Rattle.mkv_lines.proofs.SaidLemmas.{SaysPart-before, SaysPart-none, with_lines-both, with_lines-none}
 
 -- the line of the fault stands behind a first part of the lines

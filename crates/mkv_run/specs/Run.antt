@@ -14,7 +14,7 @@ use Rattle.mkv_lines.specs.declared.status.Status.{Status}
 use Rattle.mkv_lines.specs.declared.status.Stop.{Stop}
 use Rattle.mkv_info.specs.Info.{info_verdict}
 use Rattle.mkv_info.specs.declared.info.Form.TheVariants.{Lines, Json}
-use Rattle.mkv_recover.specs.Recover.{DiskWorld, verdict_on}
+use Rattle.mkv_propedit.specs.Recover.{DiskWorld, verdict_on}
 use Rattle.mkv_propedit.specs.Propedit.{propedit_on}
 use Rattle.mkv_extract.specs.Extract.{extract_verdict}
 use Rattle.mkv_merge.specs.Bound.{most_read}

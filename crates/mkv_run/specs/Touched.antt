@@ -2,13 +2,13 @@
 use Rattle.std.specs.Prelude.{◌≡◌, List, ℕ, Option, Some, None, Result, Ok, Err}
 use Rattle.mkv_io.specs.declared.reads.Reads as reads
 use Rattle.mkv_disk.specs.declared.disk.Disk as disks
-use Rattle.mkv_jobs.specs.declared.edit.Edit.{Edit}
+use Rattle.word_values.specs.declared.edit.Edit.{Edit}
 use Rattle.word_values.specs.declared.usage.Usage.{Usage}
 use Rattle.mkv_args.specs.declared.command.Command.{Command}
 use Rattle.mkv_args.specs.declared.command.Command.TheVariants.{Propedit, Recover}
 use Rattle.mkv_lines.specs.declared.status.Status.{Status}
 use Rattle.sidecar_edit.specs.Recovering.{IsRecovering}
-use Rattle.mkv_recover.specs.Recovery.{IsRecoveryOf}
+use Rattle.mkv_propedit.specs.Recovery.{IsRecoveryOf}
 use Rattle.mkv_propedit.specs.Left.{IsEditOf, IsPropediting}
 
 -- What is done to a file in place: it is recovered, or edited.

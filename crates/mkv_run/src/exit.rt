@@ -7,7 +7,7 @@ ghost use Rattle.mkv_disk.specs.Calls.{AnyMoment, AtRest};
 ghost use Rattle.mkv_args.specs.Words.{command};
 ghost use Rattle.mkv_lines.specs.Code.{code_of};
 ghost use Rattle.word_values.specs.Place.{texts};
-ghost use Rattle.mkv_recover.specs.Recover.{disk_world};
+ghost use Rattle.mkv_propedit.specs.Recover.{disk_world};
 ghost use Rattle.merged_outputs.specs.Merge.{HasMerged};
 ghost use Rattle.mkv_run.specs.Exit.{HasExited};
 ghost use Rattle.mkv_run.specs.Run.{ReadsWithinIn, verdict_in};

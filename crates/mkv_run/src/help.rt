@@ -7,9 +7,8 @@ ghost use Rattle.mkv_lines.specs.Said.{HasSayCause, Says};
 ghost use Rattle.mkv_lines.specs.Verdict.{SaysVerdict, done};
 
 use mkv_args::{Verb, usage_lines, version_line};
-use mkv_io::Report;
+use mkv_io::{List, Report, Text};
 use mkv_lines::{Status, Stop, say_text};
-use mkv_values::{List, Text};
 use std::alloc::Global;
 
 /// Says how the words are written, of one command or of all.

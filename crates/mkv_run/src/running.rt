@@ -14,7 +14,7 @@ ghost use Rattle.mkv_lines.specs.Line.{word_line};
 ghost use Rattle.mkv_lines.specs.Said.{HasSayCause};
 ghost use Rattle.mkv_lines.specs.Seen.{seen};
 ghost use Rattle.mkv_lines.specs.Verdict.{Reaches, SaysVerdict, refused};
-ghost use Rattle.mkv_recover.specs.Recover.{disk_world};
+ghost use Rattle.mkv_propedit.specs.Recover.{disk_world};
 ghost use Rattle.word_values.specs.Place.{texts};
 ghost use Rattle.merged_outputs.specs.Merge.{MergesWell};
 ghost use Rattle.mkv_run.specs.Ends.{Ends};
@@ -31,8 +31,7 @@ use mkv_info::{Form, info_of};
 use mkv_io::{Files, Report};
 use mkv_lines::{Line, Status, Stop, say_disk_fault, say_files_fault};
 use mkv_merge::{merge_of, takes};
-use mkv_propedit::propedit_of;
-use mkv_recover::recover_of;
+use mkv_propedit::{propedit_of, recover_of};
 use std::alloc::Global;
 
 /// Does what the words of a command line ask for, and says its lines. Nothing is pending on the disk.

@@ -6,7 +6,7 @@ use Rattle.std.specs.Option.{option_map, option_map_or, option_and_then}
 use Rattle.std.specs.List.{list_all, IsDistinct}
 use Rattle.std.specs.Cmp.{nat_eq_equiv}
 use Rattle.std.proofs.lemmas.Map.Made.{IsDistinct-from_count}
-use Rattle.ebml_format.specs.Number.{is_id, is_written_id}
+use Rattle.ebml_numbers.specs.Number.{is_id, is_written_id}
 use Rattle.mkv_schema.specs.declared.ids.TheConstants.{SEGMENT, CHAPTER_DISPLAY}
 use Rattle.mkv_schema.specs.declared.kind.ElementKind.{ElementKind}
 use Rattle.mkv_schema.specs.declared.kind.ElementKind.TheVariants.{Master, Uint, Ascii}

@@ -1,6 +1,6 @@
 -- What holds of every ID of the table: RFC 8794, section 5 (Element ID).
 use Rattle.std.specs.Prelude.{ℕ, IsSome, IsTrue}
-use Rattle.ebml_format.specs.Number.{is_written_id}
+use Rattle.ebml_numbers.specs.Number.{is_written_id}
 use Rattle.mkv_schema.specs.Schema.{kind_of}
 
 -- Each ID that the table has may be written.

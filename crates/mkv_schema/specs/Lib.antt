@@ -2,3 +2,11 @@ pub mod Laws
 pub mod Schema
 pub mod Table
 pub mod View
+pub mod BodyDamage
+pub mod Element
+pub mod Elements
+pub mod Order
+pub mod Outline
+pub mod Placed
+pub mod Value
+pub mod WithoutLimits

@@ -1,16 +1,20 @@
 #![tactic(auto)]
 
-//! The Elements of Matroska that this suite knows, with their kinds, parents and defaults: RFC 8794,
-//! sections 11.2 (EBML Header Elements) and 11.3 (Global Elements), and RFC 9559, section 5
-//! (Matroska Schema).
+//! The Elements of Matroska that this suite knows, with their kinds, parents and defaults; and what a Matroska file is: its
+//! Elements, the values of its leaves, and its outline (RFC 8794, sections 11.2, EBML Header Elements, and 11.3, Global
+//! Elements, and RFC 9559, section 5, Matroska Schema). The definitions, which the crates above cite, stand in `specs/`.
 
+mod element;
+pub mod element_laws;
 pub mod ids;
 mod kind;
 pub mod laws;
+pub mod limits;
 mod parents;
 mod schema;
 mod table;
 
+pub use element::Header;
 pub use kind::{ElementKind, Row};
 pub use schema::{
     is_level0, is_level1, is_master, kind_under, may_stand, row, text_default, uint_default,

@@ -3,7 +3,7 @@
 ghost use Rattle.std.specs.Prelude.{◌≡◌, ◌≢◌, ◌<◌, ◌^◌, ◌↔◌, ℕ, nat_eq, false, Some, IsTrue, IsSome, IfSome, All};
 ghost use Rattle.std.specs.Option.{option_map, option_copied};
 ghost use Rattle.std.specs.List.{IsDistinct};
-ghost use Rattle.ebml_format.specs.Number.{is_id};
+ghost use Rattle.ebml_numbers.specs.Number.{is_id};
 ghost use Rattle.mkv_schema.specs.Schema.{table_ids, name_of, kind_of, is_master, is_level0, is_level1, allows, may_stand, kind_under, uint_default, text_default};
 
 use crate::ids::{CHAPTER_DISPLAY, SEGMENT};

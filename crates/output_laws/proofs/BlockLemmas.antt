@@ -5,20 +5,20 @@ use Rattle.std.specs.Option.{option_map}
 use Rattle.std.proofs.lemmas.List.{length-map}
 use Rattle.std.proofs.lemmas.List.Concat.{flat_map-append}
 use Rattle.std.proofs.lemmas.List.Elements.{All-weaker}
-use Rattle.ebml_format.specs.Number.{all_ones, uint_of, int_of}
+use Rattle.ebml_numbers.specs.Number.{all_ones, uint_of, int_of}
 use Rattle.mkv_schema.specs.declared.ids.TheConstants.{SIMPLE_BLOCK, BLOCK_GROUP, BLOCK, BLOCK_DURATION, REFERENCE_BLOCK}
-use Rattle.matroska_format.specs.declared.element.Header.{Header}
-use Rattle.matroska_format.specs.Element.{in_master}
-use Rattle.matroska_format.specs.Elements.{Run, children_in}
-use Rattle.matroska_format.specs.Value.{first_of, is_known_value}
-use Rattle.matroska_format.specs.Outline.{and_then, unless, first_damage, bad_value}
+use Rattle.mkv_schema.specs.declared.element.Header.{Header}
+use Rattle.mkv_schema.specs.Element.{in_master}
+use Rattle.mkv_schema.specs.Elements.{Run, children_in}
+use Rattle.mkv_schema.specs.Value.{first_of, is_known_value}
+use Rattle.mkv_schema.specs.Outline.{and_then, unless, first_damage, bad_value}
 use Rattle.block_format.specs.Block.{nanoseconds, time_of, simple_block_with}
 use Rattle.block_format.specs.Content.{content_in, is_key, is_invisible, is_discardable, lace_of}
 use Rattle.block_format.specs.Elements.{without_limits, at_place, in_time, simple_block, group_run, group_refusal, group_children, block_or, references_among, duration_of, references_of, kept_of, is_kept, group_with, group_among, block_group}
 use Rattle.block_format.specs.Events.{found_at}
-use Rattle.element_octets.specs.Element.{Element, IsElement, HoldsAt, element, header_of, octets_of, joined, header_in_place, headers_in_place}
-use Rattle.element_octets.proofs.ReadLemmas.{body_of-read, stands-body, children-all}
-use Rattle.element_octets.proofs.AskedLemmas.{IsRead, headers-read, first_of-read, map-read, octets_of-read, length-read, find-none}
+use Rattle.output_model.specs.Element.{Element, IsElement, HoldsAt, element, header_of, octets_of, joined, header_in_place, headers_in_place}
+use Rattle.output_model.proofs.ReadLemmas.{body_of-read, stands-body, children-all}
+use Rattle.output_model.proofs.AskedLemmas.{IsRead, headers-read, first_of-read, map-read, octets_of-read, length-read, find-none}
 use Rattle.output_model.specs.declared.TheConstants.{MOST_LANES}
 use Rattle.output_model.specs.OutputBlock.{OutputBlock}
 use Rattle.output_model.specs.Block.{flags_of, block_flags, simple_block_flags, block_octets, duration_elements, reference_element, group_elements, group_octets, block_element}

@@ -2,19 +2,19 @@
 use Rattle.std.proofs.Common.{◌≡◌, ℕ, ◌+◌, ◌^◌, ◌<◌, ◌≤◌, nat_lt, min, Bool, true, false, if◌then◌else◌, List, [], ◌∷◌, ◌++◌, length, All, length-append, append-nil, Some, None, Err, refl, ap, ap₂, ◌∙◌, arith}
 use Rattle.std.proofs.lemmas.Bool.{le-ltb}
 use Rattle.std.proofs.lemmas.List.Elements.{All-nil, All-cons, All-head, All-tail}
-use Rattle.ebml_format.specs.Number.{all_ones, is_id, uint_of, uint_octets}
-use Rattle.ebml_format.proofs.NumberLemmas.{length-uint_octets, uint_of-octets}
-use Rattle.ebml_format.proofs.WidthLemmas.{uint_width-IsLeast}
+use Rattle.ebml_numbers.specs.Number.{all_ones, is_id, uint_of, uint_octets}
+use Rattle.ebml_numbers.proofs.NumberLemmas.{length-uint_octets, uint_of-octets}
+use Rattle.ebml_numbers.proofs.WidthLemmas.{uint_width-IsLeast}
 use Rattle.mkv_schema.specs.declared.ids.TheConstants.{TIMESTAMP, SIMPLE_BLOCK, BLOCK_GROUP}
-use Rattle.matroska_format.specs.Element.{in_master, damage}
-use Rattle.matroska_format.specs.Elements.{Run, children_in}
-use Rattle.matroska_format.specs.Value.{body_of}
-use Rattle.mkv_values.specs.declared.damage.Kind.TheVariants.{BadValue}
+use Rattle.mkv_schema.specs.Element.{in_master, damage}
+use Rattle.mkv_schema.specs.Elements.{Run, children_in}
+use Rattle.mkv_schema.specs.Value.{body_of}
+use Rattle.mkv_io.specs.declared.damage.Kind.TheVariants.{BadValue}
 use Rattle.block_format.specs.Elements.{without_limits}
 use Rattle.block_format.specs.Events.{found_among, found_in_run, cluster_run, found_in}
-use Rattle.element_octets.specs.Element.{Element, IsElement, HoldsAt, element, header_of, octets_of, joined, header_in_place, headers_in_place}
-use Rattle.element_octets.proofs.HeldLemmas.{held-left, held-right}
-use Rattle.element_octets.proofs.ReadLemmas.{body_of-read, stands-body, children-all, length-octets_of}
+use Rattle.output_model.specs.Element.{Element, IsElement, HoldsAt, element, header_of, octets_of, joined, header_in_place, headers_in_place}
+use Rattle.output_model.proofs.HeldLemmas.{held-left, held-right}
+use Rattle.output_model.proofs.ReadLemmas.{body_of-read, stands-body, children-all, length-octets_of}
 use Rattle.output_model.specs.declared.TheConstants.{MOST_LANES}
 use Rattle.output_model.specs.OutputBlock.{OutputBlock}
 use Rattle.output_model.specs.Block.{block_octets, group_octets, block_element}

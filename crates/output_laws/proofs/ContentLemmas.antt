@@ -7,11 +7,11 @@ use Rattle.std.proofs.lemmas.Bool.Decides.{nat_tests}
 use Rattle.std.proofs.lemmas.Int.{ints}
 use Rattle.std.proofs.lemmas.List.Sums.{sum_by-cons}
 use Rattle.std.specs.Prelude.{◌-ℤ◌, ◌+ℤ◌}
-use Rattle.ebml_format.specs.Number.{width, vint_data, int_of, int_fits, int_octets_in}
-use Rattle.ebml_format.proofs.WidthLemmas.{width-of}
-use Rattle.ebml_format.proofs.SpelledLemmas.{int_of-octets_in}
-use Rattle.mkv_values.specs.declared.damage.Kind.{Kind}
-use Rattle.mkv_values.specs.declared.damage.Kind.TheVariants.{ShortBlock}
+use Rattle.ebml_numbers.specs.Number.{width, vint_data, int_of, int_fits, int_octets_in}
+use Rattle.ebml_numbers.proofs.WidthLemmas.{width-of}
+use Rattle.ebml_numbers.proofs.SpelledLemmas.{int_of-octets_in}
+use Rattle.mkv_io.specs.declared.damage.Kind.{Kind}
+use Rattle.mkv_io.specs.declared.damage.Kind.TheVariants.{ShortBlock}
 use Rattle.lacing.specs.declared.kind.Lace.{Lace}
 use Rattle.lacing.specs.declared.kind.Lace.TheVariants as lace
 use Rattle.lacing.specs.Reading.{lace_in}

@@ -2,17 +2,17 @@
 use Rattle.std.proofs.Common.{◌≡◌, ℕ, ◌+◌, ◌≤◌, List, [], ◌∷◌, ◌++◌, length, All, Contains, length-append, Ok, refl, ap, ◌∙◌, subst, arith, Bool, true, false}
 use Rattle.std.proofs.lemmas.List.Concat.{flat_map-append}
 use Rattle.std.proofs.lemmas.List.Elements.{All-nil, All-cons, All-head, All-tail, All-append, All-contains_itself}
-use Rattle.ebml_format.specs.Number.{is_id}
+use Rattle.ebml_numbers.specs.Number.{is_id}
 use Rattle.mkv_schema.specs.declared.ids.TheConstants.{CLUSTER}
-use Rattle.matroska_format.specs.declared.element.Header.{Header}
-use Rattle.matroska_format.specs.Element.{in_segment, element_at}
-use Rattle.matroska_format.specs.Outline.{segment_bound}
+use Rattle.mkv_schema.specs.declared.element.Header.{Header}
+use Rattle.mkv_schema.specs.Element.{in_segment, element_at}
+use Rattle.mkv_schema.specs.Outline.{segment_bound}
 use Rattle.block_format.specs.Block.{Block}
 use Rattle.block_format.specs.Elements.{without_limits}
 use Rattle.block_format.specs.Events.{Found, found_in}
-use Rattle.element_octets.specs.Element.{Element, HoldsAt, header_of, octets_of, joined, header_in_place}
-use Rattle.element_octets.proofs.HeldLemmas.{held-left, held-right, held-within}
-use Rattle.element_octets.proofs.ReadLemmas.{element_at-read, stands-body, length-octets_of, octets_of-some}
+use Rattle.output_model.specs.Element.{Element, HoldsAt, header_of, octets_of, joined, header_in_place}
+use Rattle.output_model.proofs.HeldLemmas.{held-left, held-right, held-within}
+use Rattle.output_model.proofs.ReadLemmas.{element_at-read, stands-body, length-octets_of, octets_of-some}
 use Rattle.output_model.specs.declared.TheConstants.{MOST_LANES}
 use Rattle.output_model.specs.declared.places.CuePoint.{CuePoint}
 use Rattle.output_model.specs.OutputBlock.{OutputBlock}

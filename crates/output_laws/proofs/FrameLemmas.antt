@@ -7,7 +7,7 @@ use Rattle.lacing.specs.declared.kind.Lace.{Lace}
 use Rattle.lacing.specs.declared.kind.Lace.TheVariants as lace
 use Rattle.lacing.specs.Lace.{AreEqual}
 use Rattle.lacing.specs.Writing.{FitsKind, CanLace}
-use Rattle.block_laws.specs.Laws.{CanBeLaced}
+use Rattle.output_laws.specs.Blocks.{CanBeLaced}
 use Rattle.output_model.specs.declared.TheConstants.{MOST_OF_PREFIX}
 use Rattle.output_model.specs.OutputBlock.{prefixed}
 

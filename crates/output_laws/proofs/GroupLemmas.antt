@@ -3,16 +3,16 @@ use Rattle.std.proofs.Common.{◌≡◌, ℕ, ◌*◌, ◌^◌, ◌<◌, ◌==�
 use Rattle.std.specs.Option.{option_map}
 use Rattle.std.proofs.lemmas.Bool.{le-leb}
 use Rattle.std.proofs.lemmas.List.Elements.{All-nil, All-cons, All-head, All-tail, All-append, All-map, All-weaker, filter-append}
-use Rattle.ebml_format.specs.Number.{all_ones, uint_of, uint_octets, int_of, int_octets, magnitude, is_id}
-use Rattle.ebml_format.proofs.NumberLemmas.{length-uint_octets, uint_of-octets, length-int_octets, int_of-octets}
-use Rattle.ebml_format.proofs.WidthLemmas.{least_size_width-IsLeast, uint_width-IsLeast, int_width-IsLeast}
+use Rattle.ebml_numbers.specs.Number.{all_ones, uint_of, uint_octets, int_of, int_octets, magnitude, is_id}
+use Rattle.ebml_numbers.proofs.NumberLemmas.{length-uint_octets, uint_of-octets, length-int_octets, int_of-octets}
+use Rattle.ebml_numbers.proofs.WidthLemmas.{least_size_width-IsLeast, uint_width-IsLeast, int_width-IsLeast}
 use Rattle.mkv_schema.specs.Table.{table}
 use Rattle.mkv_schema.specs.Schema.{entry_of}
 use Rattle.mkv_schema.specs.declared.ids.TheConstants.{BLOCK_GROUP, BLOCK, BLOCK_DURATION, REFERENCE_BLOCK}
-use Rattle.matroska_format.specs.Value.{is_known_value}
+use Rattle.mkv_schema.specs.Value.{is_known_value}
 use Rattle.block_format.specs.Block.{nanoseconds}
 use Rattle.block_format.specs.Elements.{is_kept}
-use Rattle.element_octets.specs.Element.{Element, IsElement, element}
+use Rattle.output_model.specs.Element.{Element, IsElement, element}
 use Rattle.output_model.specs.Block.{duration_elements, reference_element}
 use Rattle.output_model.specs.Sound.{IsKeptElement}
 

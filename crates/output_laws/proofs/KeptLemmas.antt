@@ -3,21 +3,21 @@ use Rattle.std.proofs.Common.{◌≡◌, ℕ, ◌-◌, ◌≤◌, not, Bool, tru
 use Rattle.std.specs.List.{AllZip}
 use Rattle.std.specs.Option.{option_map}
 use Rattle.std.proofs.lemmas.List.Elements.{All-nil, All-cons, All-head, All-tail}
-use Rattle.ebml_format.specs.Number.{AreOctets}
+use Rattle.ebml_numbers.specs.Number.{AreOctets}
 use Rattle.mkv_schema.specs.declared.ids.TheConstants.{BLOCK_GROUP, BLOCK}
-use Rattle.mkv_values.specs.declared.damage.Damage.{Damage}
-use Rattle.matroska_format.specs.declared.element.Header.{Header}
-use Rattle.matroska_format.specs.Element.{stated_end}
-use Rattle.matroska_format.specs.Elements.{Run}
-use Rattle.matroska_format.specs.Value.{body_of, first_of, is_known_value}
-use Rattle.matroska_format.specs.Outline.{first_damage, unless, and_then, bad_value}
+use Rattle.mkv_io.specs.declared.damage.Damage.{Damage}
+use Rattle.mkv_schema.specs.declared.element.Header.{Header}
+use Rattle.mkv_schema.specs.Element.{stated_end}
+use Rattle.mkv_schema.specs.Elements.{Run}
+use Rattle.mkv_schema.specs.Value.{body_of, first_of, is_known_value}
+use Rattle.mkv_schema.specs.Outline.{first_damage, unless, and_then, bad_value}
 use Rattle.block_format.specs.Block.{Block}
 use Rattle.block_format.specs.Content.{content_in}
 use Rattle.block_format.specs.Elements.{Rules, timestamp_for, at_place, in_time, group_run, group_refusal, group_children, block_or, too_many_references, is_kept, kept_of, group_with, group_among, block_group}
-use Rattle.element_octets.specs.Element.{Element, IsElement, headers_in_place}
-use Rattle.element_octets.proofs.AskedLemmas.{IsRead, headers-read, octets_of-read}
-use Rattle.matroska_format.proofs.OutlineLemmas.{and_then-ok, unless-ok}
-use Rattle.element_octets.proofs.WrittenLemmas.{children-written}
+use Rattle.output_model.specs.Element.{Element, IsElement, headers_in_place}
+use Rattle.output_model.proofs.AskedLemmas.{IsRead, headers-read, octets_of-read}
+use Rattle.mkv_schema.proofs.OutlineLemmas.{and_then-ok, unless-ok}
+use Rattle.output_model.proofs.WrittenLemmas.{children-written}
 use Rattle.output_model.specs.Sound.{IsKeptElement, AreKept}
 
 -- ---- what stood behind an answer

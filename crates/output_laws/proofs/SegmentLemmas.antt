@@ -3,25 +3,25 @@ use Rattle.std.proofs.Common.{◌≡◌, ℕ, ◌+◌, ◌≤◌, min, Bool, if�
 use Rattle.std.proofs.lemmas.Bool.{cond-false}
 use Rattle.std.proofs.lemmas.List.Concat.{flat_map-append}
 use Rattle.std.proofs.lemmas.List.Elements.{All-head, All-tail, All-append, All-nil, All-cons, All-weaker}
-use Rattle.ebml_format.specs.declared.number.Size.TheVariants.{Known}
-use Rattle.ebml_format.specs.Number.{is_id}
+use Rattle.ebml_numbers.specs.declared.number.Size.TheVariants.{Known}
+use Rattle.ebml_numbers.specs.Number.{is_id}
 use Rattle.mkv_schema.specs.declared.ids.TheConstants.{CLUSTER}
-use Rattle.matroska_format.specs.Element.{in_segment, is_unknown, end_in}
-use Rattle.matroska_format.specs.Elements.{Run, behind_in_segment, ends_segment, level_1}
-use Rattle.matroska_format.specs.Outline.{segment_bound, segment_run}
-use Rattle.matroska_format.proofs.ElementsLemmas.{Advances-segment, elements-end}
+use Rattle.mkv_schema.specs.Element.{in_segment, is_unknown, end_in}
+use Rattle.mkv_schema.specs.Elements.{Run, behind_in_segment, ends_segment, level_1}
+use Rattle.mkv_schema.specs.Outline.{segment_bound, segment_run}
+use Rattle.mkv_schema.proofs.ElementsLemmas.{Advances-segment, elements-end}
 use Rattle.block_format.specs.Block.{Block}
 use Rattle.block_format.specs.Elements.{Rules, without_limits}
 use Rattle.block_format.specs.Events.{Event, block, found_in, is_closed, events_then, events_among, events_in_run, events_of}
-use Rattle.element_octets.specs.Element.{Element, IsElement, HoldsAt, header_of, octets_of, joined, header_in_place, headers_in_place, all_in_front}
-use Rattle.element_octets.proofs.HeldLemmas.{held-left, held-right, held-within}
-use Rattle.element_octets.proofs.ReadLemmas.{Lists, elements-read, stands-body, length-octets_of, octets_of-some}
+use Rattle.output_model.specs.Element.{Element, IsElement, HoldsAt, header_of, octets_of, joined, header_in_place, headers_in_place, all_in_front}
+use Rattle.output_model.proofs.HeldLemmas.{held-left, held-right, held-within}
+use Rattle.output_model.proofs.ReadLemmas.{Lists, elements-read, stands-body, length-octets_of, octets_of-some}
 use Rattle.output_model.specs.declared.TheConstants.{MOST_LANES}
 use Rattle.output_model.specs.Cluster.{OutputCluster, cluster_element}
 use Rattle.output_model.specs.Document.{clusters_elements}
 use Rattle.output_model.specs.Sound.{IsSoundCluster}
 use Rattle.output_laws.specs.Places.{HasSize, found_blocks, block_events, cluster_blocks, clusters_blocks, IsOther, OutputSegment, segment_elements, segment_element, IsSoundSegment, segment_blocks}
-use Rattle.output_laws.specs.Laws.{SegmentIsRead}
+use Rattle.output_laws.specs.Outputs.{SegmentIsRead}
 use Rattle.output_laws.proofs.GroupLemmas.{IsElement-element}
 use Rattle.output_laws.proofs.ClusterLemmas.{sizes-joined, cluster-read}
 

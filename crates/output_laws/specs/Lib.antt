@@ -1,3 +1,9 @@
 pub mod Places
 pub mod Points
-pub mod Laws
+pub mod Outputs
+pub mod Blocks
+pub mod Reading
+pub mod Layouts
+pub mod Lanes
+pub mod Read
+pub mod Merges

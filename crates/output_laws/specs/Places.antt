@@ -1,11 +1,11 @@
 -- Where the blocks of an output are read: RFC 9559, sections 5.1 (Segment Element) and 5.1.3 (Cluster Element).
 use Rattle.std.specs.Prelude.{◌≡◌, ◌<◌, ◌==◌, false, ℕ, ◌+◌, ◌*◌, pos, List, [], ◌∷◌, ◌++◌, length, map, All, Ok}
 use Rattle.std.specs.Option.{option_map}
-use Rattle.ebml_format.specs.Number.{all_ones}
+use Rattle.ebml_numbers.specs.Number.{all_ones}
 use Rattle.mkv_schema.specs.declared.ids.TheConstants.{CLUSTER, SEGMENT}
 use Rattle.block_format.specs.Block.{Block, nanoseconds}
 use Rattle.block_format.specs.Events.{Found, Event, block}
-use Rattle.element_octets.specs.Element.{Element, IsElement, header_of, octets_of, joined}
+use Rattle.output_model.specs.Element.{Element, IsElement, header_of, octets_of, joined}
 use Rattle.output_model.specs.declared.TheConstants.{MOST_LANES}
 use Rattle.output_model.specs.OutputBlock.{OutputBlock}
 use Rattle.output_model.specs.Block.{block_element}

@@ -1,9 +1,9 @@
 -- What a cue point points at: RFC 9559, sections 5.1.5 (Cues Element) and 22 (Cueing).
 use Rattle.std.specs.Prelude.{◌≡◌, ℕ, ◌+◌, pos, List, Contains, Ok}
 use Rattle.mkv_schema.specs.declared.ids.TheConstants.{CLUSTER}
-use Rattle.matroska_format.specs.declared.element.Header.{Header}
-use Rattle.matroska_format.specs.Element.{in_segment, element_at}
-use Rattle.matroska_format.specs.Outline.{segment_bound}
+use Rattle.mkv_schema.specs.declared.element.Header.{Header}
+use Rattle.mkv_schema.specs.Element.{in_segment, element_at}
+use Rattle.mkv_schema.specs.Outline.{segment_bound}
 use Rattle.block_format.specs.Block.{Block, nanoseconds}
 use Rattle.block_format.specs.Elements.{without_limits}
 use Rattle.block_format.specs.Events.{found_in}

@@ -1,37 +1,25 @@
 #![tactic(auto)]
 
-//! What is written of blocks and Clusters is read back by the format's definitions (RFC 9559, sections 5.1.3, Cluster
-//! Element, 5.1.5, Cues Element, and 10, Cluster Blocks), and what was read of them can be written again. Laws alone:
-//! no code that reads or writes stands on this crate.
+//! What is written is read back by the format's definitions, and what was read can be written again: blocks and Clusters,
+//! whole outputs and merges (RFC 9559, sections 5.1, Segment Element, and 10, Cluster Blocks). Laws alone: no code that
+//! reads or writes stands on this crate.
 
-ghost use Rattle.output_laws.specs.Laws.{BlocksAreRead, ClustersAreRead, FramesCanBeWritten, KeptCanBeWritten, PointsAreRead, SegmentsAreRead};
+mod blocks;
+mod layouts;
+mod merges;
+mod outputs;
 
-/// A written block is read as that block, wherever it stands.
-pub fn blocks_are_read()
-    ensures { BlocksAreRead }
-{}
-
-/// A written Cluster gives its blocks, whatever follows it.
-pub fn clusters_are_read()
-    ensures { ClustersAreRead }
-{}
-
-/// A written Segment has its Elements at level 1, and gives the blocks of its Clusters, without damage.
-pub fn segments_are_read()
-    ensures { SegmentsAreRead }
-{}
-
-/// Each cue point of a written Segment points at its block.
-pub fn points_are_read()
-    ensures { PointsAreRead }
-{}
-
-/// What is kept of a group that was read can be written again.
-pub fn kept_can_be_written()
-    ensures { KeptCanBeWritten }
-{}
-
-/// The frames of a block that was read can be written again, with octets in front of each.
-pub fn frames_can_be_written()
-    ensures { FramesCanBeWritten }
-{}
+pub use blocks::{
+    a_stop_is_the_last_event, blocks_are_small, limits_change_nothing,
+    the_first_damage_of_a_cluster_is_told,
+};
+pub use layouts::{layouts_are_read, opened_is_overwritten};
+pub use merges::{
+    blocks_are_read_in_order, clusters_are_cut_again, clusters_hold_all, file_blocks_are_read,
+    found_blocks_are_of_their_kind, lanes_are_kept, lanes_are_read_again,
+    merged_clusters_are_sound, placed_blocks_are_sound, ticks_are_kept,
+};
+pub use outputs::{
+    blocks_are_read, clusters_are_read, frames_can_be_written, kept_can_be_written,
+    points_are_read, segments_are_read,
+};

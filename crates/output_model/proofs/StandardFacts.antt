@@ -1,12 +1,12 @@
 -- Outputs that are printed elsewhere, computed, so that a wrong definition does not check: their octets were written
 -- down by hand.
 use Rattle.std.proofs.Common.{◌≡◌, ℕ, pos, negsuc, Bool, ◌&&◌, true, false, List, [], ◌∷◌, ◌++◌, length, map, replicate, codes, None, Some, refl}
-use Rattle.ebml_format.specs.Number.{uint_octets, uint_width, int_width, least_size_width}
+use Rattle.ebml_numbers.specs.Number.{uint_octets, uint_width, int_width, least_size_width}
 use Rattle.mkv_schema.specs.declared.ids.TheConstants.{INFO, TIMESTAMP_SCALE, MUXING_APP, WRITING_APP, TRACKS, TRACK_ENTRY, TRACK_NUMBER, TRACK_UID, TRACK_TYPE, FLAG_LACING, LANGUAGE, CODEC_ID, ATTACHMENTS, CUES, CHAPTERS, TAGS}
 use Rattle.lacing.specs.declared.kind.Lace.TheVariants as lace
 use Rattle.lacing.specs.Writing.{octets_of_sizes}
 use Rattle.tree_format.specs.Node.{Node, leaf, master, nodes_of}
-use Rattle.element_octets.specs.Element.{octets_of, joined, void_element}
+use Rattle.output_model.specs.Element.{octets_of, joined, void_element}
 use Rattle.output_model.specs.declared.heads.ClusterLimits.{ClusterLimits}
 use Rattle.output_model.specs.declared.places.Seek.{Seek}
 use Rattle.output_model.specs.OutputBlock.{OutputBlock}

@@ -1,12 +1,12 @@
 -- The octets of a block: RFC 9559, sections 5.1.3 (Cluster Element), 10.1 (Block Structure), 10.2 (SimpleBlock Structure) and 10.3 (Block Lacing).
 use Rattle.std.specs.Prelude.{ℕ, ◌+◌, ◌-◌, Bool, if◌then◌else◌, ℤ, pos, ◌-ℤ◌, List, [], ◌∷◌, ◌++◌, length, map, Option, None, Some}
 use Rattle.std.specs.List.{concat}
-use Rattle.ebml_format.specs.Number.{int_octets, int_octets_in}
+use Rattle.ebml_numbers.specs.Number.{int_octets, int_octets_in}
 use Rattle.mkv_schema.specs.declared.ids.TheConstants.{SIMPLE_BLOCK, BLOCK_GROUP, BLOCK, BLOCK_DURATION, REFERENCE_BLOCK}
 use Rattle.lacing.specs.declared.kind.Lace.{Lace}
 use Rattle.lacing.specs.declared.kind.Lace.TheVariants as lace
 use Rattle.lacing.specs.Writing.{lace_head}
-use Rattle.element_octets.specs.Element.{Element, element, uint_element, joined}
+use Rattle.output_model.specs.Element.{Element, element, uint_element, joined}
 use Rattle.output_model.specs.OutputBlock.{OutputBlock}
 
 -- ---- the flags

@@ -1,7 +1,7 @@
 -- The Clusters of an output: RFC 9559, section 5.1.3 (Cluster Element). Where a Cluster ends is this project's.
 use Rattle.std.specs.Prelude.{ℕ, ◌+◌, ◌-◌, ◌*◌, nat_le, Bool, ◌&&◌, if◌then◌else◌, List, [], ◌∷◌, ◌++◌, length, map}
 use Rattle.mkv_schema.specs.declared.ids.TheConstants.{CLUSTER, TIMESTAMP}
-use Rattle.element_octets.specs.Element.{Element, element, uint_element, joined}
+use Rattle.output_model.specs.Element.{Element, element, uint_element, joined}
 use Rattle.output_model.specs.declared.TheConstants.{MOST_OF_CLUSTER}
 use Rattle.output_model.specs.declared.heads.ClusterLimits.{ClusterLimits}
 use Rattle.output_model.specs.OutputBlock.{OutputBlock}

@@ -1,10 +1,10 @@
 -- An output and its octets: RFC 8794, section 8 (EBML Document), and RFC 9559, sections 4.5 (Data Layout), 5.1 (Segment Element) and 6 (Matroska Element Ordering). The order of the Elements is this project's.
 use Rattle.std.specs.Prelude.{ℕ, ◌+◌, Bool, if◌then◌else◌, List, [], ◌∷◌, ◌++◌, length, map, take, codes, Option, Some, None}
-use Rattle.ebml_format.specs.Number.{all_ones, id_octets, size_octets}
+use Rattle.ebml_numbers.specs.Number.{all_ones, id_octets, size_octets}
 use Rattle.mkv_schema.specs.declared.ids.TheConstants.{EBML, EBML_VERSION, EBML_READ_VERSION, EBML_MAX_ID_LENGTH, EBML_MAX_SIZE_LENGTH, DOC_TYPE, DOC_TYPE_VERSION, DOC_TYPE_READ_VERSION, SEGMENT, ATTACHMENTS}
 use Rattle.tree_format.specs.Node.{Node, id_of}
 use Rattle.tree_format.specs.NormalForm.{content}
-use Rattle.element_octets.specs.Element.{Element, element, uint_element, master_element, octets_of, joined}
+use Rattle.output_model.specs.Element.{Element, element, uint_element, master_element, octets_of, joined}
 use Rattle.output_model.specs.declared.TheConstants.{AREA, MOST_CUES}
 use Rattle.output_model.specs.declared.places.CuePoint.{CuePoint}
 use Rattle.output_model.specs.declared.places.Seek.{Seek}

@@ -4,4 +4,9 @@ pub mod Cluster
 pub mod Cues
 pub mod SeekHead
 pub mod Document
+pub mod Front
 pub mod Sound
+pub mod Element
+pub mod Laws
+pub mod Attached
+pub mod Cued

@@ -1,9 +1,9 @@
 -- The area in front of an output: RFC 9559, sections 5.1.1 (SeekHead Element) and 16 (Segment Position). Its length is this project's.
 use Rattle.std.specs.Prelude.{ℕ, ◌+◌, ◌-◌, List, [], ◌∷◌, length, map}
 use Rattle.byteorder.specs.Endian.{big_bytes}
-use Rattle.ebml_format.specs.Number.{id_octets}
+use Rattle.ebml_numbers.specs.Number.{id_octets}
 use Rattle.mkv_schema.specs.declared.ids.TheConstants.{SEEK_HEAD, SEEK, SEEK_ID, SEEK_POSITION}
-use Rattle.element_octets.specs.Element.{Element, element, master_element, octets_of, void_element}
+use Rattle.output_model.specs.Element.{Element, element, master_element, octets_of, void_element}
 use Rattle.output_model.specs.declared.TheConstants.{AREA}
 use Rattle.output_model.specs.declared.places.Seek.{Seek}
 

@@ -1,19 +1,19 @@
 -- Which outputs can be written and read back: RFC 9559, sections 5.1 (Segment Element) and 10 (Cluster Blocks).
 use Rattle.std.specs.Prelude.{◌≡◌, ◌≤◌, ◌<◌, ◌^◌, ⊤, ℕ, ◌+◌, ◌==◌, true, false, Bool, List, [], ◌∷◌, length, map, All, None, IfSome, Ok}
-use Rattle.ebml_format.specs.Number.{magnitude}
+use Rattle.ebml_numbers.specs.Number.{magnitude}
 use Rattle.mkv_schema.specs.declared.ids.TheConstants.{BLOCK_GROUP, INFO, TRACKS, ATTACHED_FILE, FILE_DATA, CHAPTERS, TAGS}
-use Rattle.mkv_values.specs.declared.outside.TheConstants.{LONGEST_FILE}
-use Rattle.matroska_format.specs.Value.{is_known_value}
+use Rattle.mkv_io.specs.declared.outside.TheConstants.{LONGEST_FILE}
+use Rattle.mkv_schema.specs.Value.{is_known_value}
 use Rattle.lacing.specs.declared.kind.Lace.TheVariants as lace
 use Rattle.lacing.specs.Writing.{CanLace}
 use Rattle.tree_format.specs.Node.{Node, id_of, children, IsMaster}
 use Rattle.tree_format.specs.Changes.{part}
 use Rattle.tree_format.specs.Standing.{IsSound as IsSoundTree, KeepsLimits}
-use Rattle.track_format.specs.Entry.{entries_of, number_of}
-use Rattle.track_format.specs.File.{entries_in}
-use Rattle.meta_format.specs.Info.{scale_of}
+use Rattle.file_format.specs.Entry.{entries_of, number_of}
+use Rattle.file_format.specs.FileTracks.{entries_in}
+use Rattle.file_format.specs.Info.{scale_of}
 use Rattle.block_format.specs.Elements.{is_kept}
-use Rattle.element_octets.specs.Element.{Element, IsElement, joined}
+use Rattle.output_model.specs.Element.{Element, IsElement, joined}
 use Rattle.output_model.specs.declared.TheConstants.{MOST_LANES}
 use Rattle.output_model.specs.OutputBlock.{OutputBlock}
 use Rattle.output_model.specs.Cluster.{OutputCluster, is_near}

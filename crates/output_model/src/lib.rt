@@ -1,15 +1,23 @@
 #![tactic(auto)]
 
-//! An output: its blocks, the Clusters that they are cut into, its cue points, and the octets of the whole
-//! file, as RFC 9559, sections 4.5 (Data Layout), 5.1 (Segment Element) and 10 (Cluster Blocks), has them. The
-//! definitions, which the crates above cite, stand in `specs/`.
+//! An output: its blocks, the Clusters that they are cut into, its cue points, its attached files, and the octets of the
+//! whole file, as RFC 8794, section 6 (Element Data Size), and RFC 9559, sections 4.5 (Data Layout), 5.1 (Segment Element) and
+//! 10 (Cluster Blocks), have them. The definitions, which the crates above cite, stand in `specs/`.
 
+mod attachment;
+mod element_laws;
+mod front;
 mod heads;
 mod places;
+mod rule;
 
+pub use attachment::Attachment;
+pub use element_laws::{children_are_written, elements_are_read};
+pub use front::Front;
 pub use heads::{ClusterLimits, OutHead};
 pub use lacing::Lace;
 pub use places::{CuePoint, Seek};
+pub use rule::CueRule;
 
 /// The most octets of a Cluster's body, where it has more than one block.
 pub const MOST_OF_CLUSTER: u64 = 1 << 20;

@@ -1,7 +1,7 @@
 -- What the names are after a copy that was refused.
 use Rattle.std.proofs.Common.{◌≡◌, ◌⊎◌, inl, inr, ℕ, List, [], ◌++◌, take, option_map, Result, Ok, Err, OnErr, IsErrOf, refl, ◌∙◌, ap}
-use Rattle.mkv_values.specs.declared.outside.MakeFault.{MakeFault}
-use Rattle.mkv_values.specs.declared.outside.MakeFault.TheVariants as make_fault
+use Rattle.mkv_io.specs.declared.outside.MakeFault.{MakeFault}
+use Rattle.mkv_io.specs.declared.outside.MakeFault.TheVariants as make_fault
 use Rattle.mkv_io.specs.Contents.{overwritten, with_appended, with_overwritten}
 use Rattle.mkv_io.specs.LiveFiles.{LiveFiles, AppendsPart, OverwritesWithin}
 use Rattle.mkv_io.specs.Names.{Names, with_change, with_content}

@@ -9,8 +9,7 @@ ghost use Rattle.mkv_io.specs.LiveFiles.{KeepsFiles, KeepsHolders};
 ghost use Rattle.mkv_io.specs.Names.{Names, with_change, with_content};
 ghost use Rattle.mkv_io.specs.Told.{Told};
 
-use mkv_io::{Files, Reads};
-use mkv_values::{FileId, MakeFault, OpenFault};
+use mkv_io::{FileId, Files, MakeFault, OpenFault, Reads};
 
 /// Reads the first octets of a name's file, as many as `into` holds, or answers false where there
 /// are fewer.

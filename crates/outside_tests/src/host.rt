@@ -1,8 +1,7 @@
 //! The system's files and its output.
 
 use mkv_host::{RealFiles, RealReport, WriteAt, write_from};
-use mkv_io::{Files, Reads, Report};
-use mkv_values::{Failed, MakeFault, OpenFault};
+use mkv_io::{Failed, Files, MakeFault, OpenFault, Reads, Report};
 use std::cmp::min;
 use std::fmt::Display;
 use std::io::{ErrorKind, Print};

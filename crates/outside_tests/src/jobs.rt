@@ -1,8 +1,8 @@
 //! Each type once, as a caller makes it.
 
-use mkv_jobs::{Change, Edit, Form, Job, Selector, Target};
-use mkv_values::{List, Text};
+use mkv_io::{List, Text};
 use std::test::Fail;
+use word_values::{Change, Edit, Form, Job, Selector, Target};
 
 #[test]
 fn a_job_and_an_edit_are_made_of_plain_values(rt: HostRuntime) -> Result<(), Fail> {

@@ -6,6 +6,8 @@
 #[cfg(test)]
 mod copying;
 #[cfg(test)]
+mod disks;
+#[cfg(test)]
 mod host;
 #[cfg(test)]
 mod jobs;

@@ -5,9 +5,8 @@ ghost use Rattle.std.specs.Prelude.{◌≡◌, ◌∷◌, [], OnOk};
 ghost use Rattle.mkv_io.specs.Lines.{with_lines};
 
 use crate::copying::copy_marked;
-use mkv_io::{Files, Report};
+use mkv_io::{Failed, Files, OpenFault, Report};
 use mkv_memory::{MemFiles, MemReport};
-use mkv_values::{Failed, OpenFault};
 use std::alloc::Global;
 use std::test::Fail;
 

@@ -8,10 +8,9 @@ ghost use Rattle.mkv_outputs.specs.Sinks.{AreOpen, MadeSince};
 ghost use Rattle.mkv_outputs.specs.Starts.{StandsInPart};
 ghost use Rattle.outside_tests.specs.Two.{two_names, two_outputs};
 
-use mkv_io::Files;
+use mkv_io::{Files, MakeFault};
 use mkv_memory::MemFiles;
 use mkv_outputs::Outputs;
-use mkv_values::MakeFault;
 use std::alloc::Global;
 use std::test::Fail;
 

@@ -1,6 +1,6 @@
 //! Each call that takes memory, once with enough of it, and the name of each kind.
 
-use mkv_values::{Bytes, Damage, Kind, List, Text};
+use mkv_io::{Bytes, Damage, Kind, List, Text};
 use std::alloc::AllocError;
 use std::test::Fail;
 

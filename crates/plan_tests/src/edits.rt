@@ -1,16 +1,15 @@
 //! What edits write to a file of an audio track with two blocks, and what refuses them.
 
 ghost use Rattle.std.specs.Prelude.{◌≡◌, ◌≤◌, IfOk, length};
-ghost use Rattle.mkv_values.specs.declared.outside.TheConstants.{LONGEST_FILE};
+ghost use Rattle.mkv_io.specs.declared.outside.TheConstants.{LONGEST_FILE};
 
-use edit_format::{Refusal, Room, Why};
+use edit_changes::{Refusal, Room, Why};
 use edit_plan::{PlanEnd, Write, edit_writes};
-use mkv_io::Files;
-use mkv_jobs::{Change, Edit, Selector};
+use mkv_io::{Files, List, Text};
 use mkv_memory::MemFiles;
-use mkv_values::{List, Text};
 use std::alloc::{AllocError, Global};
 use std::test::Fail;
+use word_values::{Change, Edit, Selector};
 
 // A file: an EBML header, and a Segment with a SeekHead and a Void of 200 octets behind it,
 const FRONT: [u8; 108] = [

@@ -3,7 +3,7 @@
 ghost use Rattle.std.specs.Prelude.{◌≡◌, true, Some};
 ghost use Rattle.splitter.specs.Words.{is_by_time};
 
-use mkv_values::List;
+use mkv_io::List;
 use splitter::{SplitSpec, is_part_name, part_name, split_spec};
 use std::alloc::{AllocError, Global};
 use std::process::Abort;

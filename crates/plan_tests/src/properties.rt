@@ -3,12 +3,12 @@
 ghost use Rattle.std.specs.Prelude.{◌≡◌, IfOk, length};
 
 use crate::edits::{edit, writes};
-use edit_format::{Refusal, Why};
+use edit_changes::{Refusal, Why};
 use edit_plan::PlanEnd;
-use mkv_jobs::{Change, Edit, Selector};
-use mkv_values::List;
+use mkv_io::List;
 use std::alloc::{AllocError, Global};
 use std::test::Fail;
+use word_values::{Change, Edit, Selector};
 
 // An EBML header and a Segment: an Info of 12 octets at 21 and the header of a Void of 40,
 const FRONT: [u8; 35] = [

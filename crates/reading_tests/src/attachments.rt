@@ -1,15 +1,15 @@
 //! Attached files in memory, with what must be read of them.
 
 ghost use Rattle.std.specs.Prelude.{◌≤◌, length};
-ghost use Rattle.mkv_values.specs.declared.outside.TheConstants.{LONGEST_FILE};
+ghost use Rattle.mkv_io.specs.declared.outside.TheConstants.{LONGEST_FILE};
 
 use crate::files::joined;
-use attachment_reading::{Attachment, AttachmentsEnd, read_attachments};
-use ebml_format::Size;
-use element_headers::Header;
-use mkv_io::{Files, Reads};
+use ebml_numbers::Size;
+use meta_records::{AttachmentsEnd, read_attachments};
+use mkv_io::{Bytes, Files, Reads};
 use mkv_memory::MemFiles;
-use mkv_values::Bytes;
+use mkv_schema::Header;
+use output_model::Attachment;
 use std::alloc::{AllocError, Global};
 use std::fmt::Write;
 use std::process::Abort;

@@ -1,8 +1,7 @@
 //! A live file, whose Cluster of unknown size is passed with few reads.
 
 use element_reader::{Header, LevelOne, Outline};
-use mkv_io::Reads;
-use mkv_values::{Failed, FileId};
+use mkv_io::{Failed, FileId, Reads};
 use std::test::Fail;
 
 /// An EBML header, and the headers of a Segment and of a Cluster, both of unknown size.

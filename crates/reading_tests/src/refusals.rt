@@ -1,7 +1,7 @@
 //! What refusals read.
 
 use element_reader::{LoadEnd, OutlineEnd};
-use mkv_values::{Damage, Kind};
+use mkv_io::{Damage, Kind};
 use std::test::Fail;
 
 #[test]

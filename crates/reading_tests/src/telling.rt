@@ -3,13 +3,12 @@
 ghost use Rattle.std.specs.Prelude.{◌≤◌, length, IsTrue};
 ghost use Rattle.mkv_io.specs.Sources.{IsLive, live_files};
 ghost use Rattle.cluster_reader.specs.Reading.{CanRead};
-ghost use Rattle.mkv_values.specs.declared.outside.TheConstants.{LONGEST_FILE};
+ghost use Rattle.mkv_io.specs.declared.outside.TheConstants.{LONGEST_FILE};
 
 use cluster_reader::{Cursor, Damages, Step};
 use element_reader::Outline;
-use mkv_io::{Files, Reads};
+use mkv_io::{FileId, Files, ReadEnd, Reads};
 use mkv_memory::MemFiles;
-use mkv_values::{FileId, ReadEnd};
 use std::alloc::{AllocError, Global};
 use std::fmt::Write;
 use std::test::Fail;

@@ -1,3 +1,12 @@
-pub mod Children
-pub mod Entry
-pub mod Difference
+pub mod Identifiers
+pub mod Laws
+pub mod Taken
+pub mod Tags
+pub mod Numbers
+pub mod Atoms
+pub mod ChapterIdentifiers
+pub mod Shift
+pub mod Before
+pub mod Cut
+pub mod Standing
+pub mod Starts

@@ -1,11 +1,30 @@
 #![tactic(auto)]
 
-//! What a merge makes of the records of its inputs, as functions on trees: the TrackEntry that is written
-//! (RFC 9559, section 5.1.4, Tracks Element), and whether tracks may follow one another. The definitions,
-//! which the crates above cite, stand in `specs/`.
+//! What a merge makes of the records of its inputs: the identifiers that are given, and the tags and chapters with them
+//! (RFC 9559, sections 5.1.7, Chapters Element, and 5.1.8, Tags Element).
 
-mod fields;
-mod track_change;
+mod aims;
+mod cutting;
+mod identifier_laws;
+mod identifiers;
+mod numbering;
+mod shifting;
+mod starts;
+mod stretch;
+mod tag;
+mod tags;
+mod target;
+mod uid_map;
+mod uids;
 
-pub use fields::{FIELDS, Field};
-pub use track_change::TrackChange;
+pub use aims::Aims;
+pub use cutting::cut;
+pub use identifier_laws::{numbers_fit, numbers_settle, smallest_is_free};
+pub use identifiers::renumber;
+pub use numbering::with_identifiers;
+pub use shifting::shift;
+pub use starts::top_starts;
+pub use stretch::Stretch;
+pub use tags::merge_tags;
+pub use uid_map::{TagKeep, UidMap};
+pub use uids::{push_chapter_uids, push_edition_uids};

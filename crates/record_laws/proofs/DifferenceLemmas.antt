@@ -4,9 +4,9 @@ use Rattle.std.specs.Option.{option_map}
 use Rattle.std.proofs.lemmas.List.Elements.{All-nil, All-cons, All-head, All-tail}
 use Rattle.std.proofs.lemmas.Slice.Eq.{bytes_eq-Decides}
 use Rattle.tree_format.specs.Node.{Node}
-use Rattle.record_changes.specs.declared.fields.Field.{Field}
-use Rattle.record_changes.specs.declared.fields.TheConstants.{FIELDS}
-use Rattle.record_changes.specs.Difference.{octets_at, are_alike}
+use Rattle.track_records.specs.declared.fields.Field.{Field}
+use Rattle.track_records.specs.declared.fields.TheConstants.{FIELDS}
+use Rattle.track_records.specs.Difference.{octets_at, are_alike}
 use Rattle.record_laws.specs.Entries.{DifferencesAreTold}
 
 alike-same : (p q : Option (List ℕ)) → are_alike p q ≡ true → p ≡ q

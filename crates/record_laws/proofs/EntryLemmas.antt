@@ -8,9 +8,9 @@ use Rattle.tree_format.specs.Changes.{without, with_child, part, HasNone}
 use Rattle.tree_format.specs.Standing.{placed, placed_all}
 use Rattle.tree_format.proofs.NodeLemmas.{list-nodes, nodes-list, octets_all-flat}
 use Rattle.tree_format.proofs.PartLemmas.{without-none, part-none, part-without, none-without, part-other, part-set}
-use Rattle.record_changes.specs.declared.track_change.TrackChange.{TrackChange}
-use Rattle.record_changes.specs.Children.{uint_leaf, set_each, removed_each, given}
-use Rattle.record_changes.specs.Entry.{flag_leaf, children_set, ids_removed, written_entry}
+use Rattle.track_records.specs.declared.track_change.TrackChange.{TrackChange}
+use Rattle.tree_format.specs.Children.{uint_leaf, set_each, removed_each, given}
+use Rattle.track_records.specs.Entry.{flag_leaf, children_set, ids_removed, written_entry}
 use Rattle.record_laws.specs.Again.{plain, read_of, EntriesStay}
 use Rattle.record_laws.proofs.SameLemmas.{HasOnly, none-part, same-only, part-read, octets-read}
 

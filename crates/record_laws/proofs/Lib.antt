@@ -3,3 +3,16 @@ pub mod EntryLemmas
 pub mod TrackLemmas
 pub mod WholeLemmas
 pub mod DifferenceLemmas
+mod AtomLemmas
+mod NumberLemmas
+mod StayLemmas
+mod EditionLemmas
+mod SettledLemmas
+mod FileLemmas
+mod TagLemmas
+pub mod DigitsLemmas
+pub mod LineLemmas
+pub mod ChaptersLemmas
+pub mod PartsLemmas
+pub mod ArrowLemmas
+pub mod SubRipLemmas

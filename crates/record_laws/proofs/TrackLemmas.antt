@@ -5,7 +5,7 @@ use Rattle.std.specs.Option.{option_map}
 use Rattle.std.proofs.lemmas.Bool.Decides.{nat_tests}
 use Rattle.std.proofs.lemmas.List.{length-map}
 use Rattle.std.proofs.lemmas.List.Elements.{All-head, All-tail}
-use Rattle.ebml_format.specs.Number.{uint_octets}
+use Rattle.ebml_numbers.specs.Number.{uint_octets}
 use Rattle.mkv_schema.specs.declared.ids.TheConstants.{TRACK_ENTRY, TRACK_UID}
 use Rattle.mkv_schema.specs.Table.{table}
 use Rattle.mkv_schema.specs.Schema.{entry_of, uint_default}
@@ -15,12 +15,12 @@ use Rattle.tree_format.specs.Standing.{placed, placed_all}
 use Rattle.tree_format.specs.Values.{integer_of}
 use Rattle.tree_format.proofs.NodeLemmas.{list-nodes}
 use Rattle.tree_format.proofs.ValueLemmas.{uint_value-octets}
-use Rattle.track_format.specs.Entry.{uid_of}
-use Rattle.identifier_format.specs.Identifiers.{renumbered}
-use Rattle.identifier_format.proofs.GivenLemmas.{numbers-settle}
-use Rattle.record_changes.specs.declared.track_change.TrackChange.{TrackChange}
-use Rattle.record_changes.specs.Children.{uint_leaf}
-use Rattle.record_changes.specs.Entry.{written_entry, IsWholeEntry}
+use Rattle.file_format.specs.Entry.{uid_of}
+use Rattle.record_changes.specs.Identifiers.{renumbered}
+use Rattle.record_changes.proofs.GivenLemmas.{numbers-settle}
+use Rattle.track_records.specs.declared.track_change.TrackChange.{TrackChange}
+use Rattle.tree_format.specs.Children.{uint_leaf}
+use Rattle.track_records.specs.Entry.{written_entry, IsWholeEntry}
 use Rattle.record_laws.specs.Again.{plain, plain_changes, written_entries, read_of, AreNumbered, TracksStay}
 use Rattle.record_laws.proofs.EntryLemmas.{entry_list, written-master, part-uid, entries-stay}
 

@@ -10,7 +10,7 @@ use Rattle.tree_format.specs.Reading.{is_master_in}
 use Rattle.tree_format.specs.Standing.{StandsIn, AllStandIn, IsSound, IsSoundOf}
 use Rattle.tree_format.proofs.NodeLemmas.{nodes-list}
 use Rattle.tree_format.proofs.ChildLemmas.{stands-sound}
-use Rattle.record_changes.specs.Entry.{IsWholeEntry}
+use Rattle.track_records.specs.Entry.{IsWholeEntry}
 use Rattle.record_laws.specs.Entries.{ReadEntriesAreWhole}
 
 entry-master : is_master_in TRACKS TRACK_ENTRY ≡ true

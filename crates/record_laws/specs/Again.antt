@@ -3,10 +3,10 @@ use Rattle.std.specs.Prelude.{◌≡◌, ◌<◌, ◌^◌, ℕ, ◌+◌, List, [
 use Rattle.tree_format.specs.Node.{Node, nodes_of, list_of, IsMaster}
 use Rattle.tree_format.specs.NormalForm.{octets}
 use Rattle.tree_format.specs.Standing.{placed, placed_all}
-use Rattle.track_format.specs.Entry.{uid_of}
-use Rattle.identifier_format.specs.Identifiers.{renumbered}
-use Rattle.record_changes.specs.declared.track_change.TrackChange.{TrackChange}
-use Rattle.record_changes.specs.Entry.{written_entry, IsWholeEntry}
+use Rattle.file_format.specs.Entry.{uid_of}
+use Rattle.record_changes.specs.Identifiers.{renumbered}
+use Rattle.track_records.specs.declared.track_change.TrackChange.{TrackChange}
+use Rattle.track_records.specs.Entry.{written_entry, IsWholeEntry}
 
 -- a change that gives a number and an identifier alone
 abbrev pub plain : ℕ → ℕ → TrackChange

@@ -3,10 +3,10 @@ use Rattle.std.specs.Prelude.{◌≡◌, ◌<◌, ◌↔◌, All, None}
 use Rattle.mkv_schema.specs.declared.ids.TheConstants.{TRACKS}
 use Rattle.tree_format.specs.Node.{Node, nodes_of, children, depth_all, deepest}
 use Rattle.tree_format.specs.Standing.{StandsIn, IsSoundOf}
-use Rattle.track_format.specs.Entry.{entries_of}
-use Rattle.record_changes.specs.declared.fields.TheConstants.{FIELDS}
-use Rattle.record_changes.specs.Entry.{IsWholeEntry}
-use Rattle.record_changes.specs.Difference.{octets_at, first_difference}
+use Rattle.file_format.specs.Entry.{entries_of}
+use Rattle.track_records.specs.declared.fields.TheConstants.{FIELDS}
+use Rattle.track_records.specs.Entry.{IsWholeEntry}
+use Rattle.track_records.specs.Difference.{octets_at, first_difference}
 
 -- The entries of a Tracks Element that was read are whole; and what is whole stands in one.
 pub record ReadEntriesAreWhole : Type 0 where

@@ -1,27 +1,12 @@
 #![tactic(auto)]
 
-//! Laws of what a merge makes of the records of its inputs: above all that a merge of its own output changes
-//! nothing of them. The calls, which do nothing, carry them.
+//! Laws of records and texts: above all that a merge of its own output changes nothing of them, and that what is written
+//! of texts is read back. The calls, which do nothing, carry them.
 
-ghost use Rattle.record_laws.specs.Again.{EntriesStay, TracksStay};
-ghost use Rattle.record_laws.specs.Entries.{ReadEntriesAreWhole, DifferencesAreTold};
+mod again;
+mod records;
+mod texts;
 
-/// A TrackEntry that was written and read is written as it was.
-pub fn entries_stay()
-    ensures { EntriesStay }
-{}
-
-/// The tracks of an output, merged again, are written as they were.
-pub fn tracks_stay()
-    ensures { TracksStay }
-{}
-
-/// The entries of a Tracks Element that was read are whole, and what is written stands in one.
-pub fn read_entries_are_whole()
-    ensures { ReadEntriesAreWhole }
-{}
-
-/// No difference is told exactly where all that has to be alike is.
-pub fn differences_are_told()
-    ensures { DifferencesAreTold }
-{}
+pub use again::{chapters_stay, files_stay, tags_stay};
+pub use records::{differences_are_told, entries_stay, read_entries_are_whole, tracks_stay};
+pub use texts::{chapters_are_read_back, entries_are_read_back};

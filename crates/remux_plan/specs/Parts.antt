@@ -8,15 +8,15 @@ use Rattle.mkv_io.specs.LiveFiles.{LiveFiles}
 use Rattle.tree_format.specs.Node.{Node}
 use Rattle.output_model.specs.OutputBlock.{OutputBlock}
 use Rattle.output_model.specs.Document.{Document}
-use Rattle.segment_octets.specs.Front.{front_with}
-use Rattle.segment_octets.specs.declared.front.Front.{Front}
+use Rattle.output_model.specs.Front.{front_with}
+use Rattle.output_model.specs.declared.front.Front.{Front}
 use Rattle.splitter.specs.declared.spec.SplitSpec.{SplitSpec}
 use Rattle.splitter.specs.declared.spec.SplitSpec.TheVariants.{Whole, Duration, Times, Parts}
 use Rattle.splitter.specs.Names.{is_part_name, part_name}
 use Rattle.splitter.specs.Sections.{Part, Split, parts}
-use Rattle.chapter_changes.specs.declared.stretch.Stretch.{Stretch}
-use Rattle.chapter_changes.specs.Cut.{cut}
-use Rattle.cluster_runs.specs.Cued.{document_of}
+use Rattle.record_changes.specs.declared.stretch.Stretch.{Stretch}
+use Rattle.record_changes.specs.Cut.{cut}
+use Rattle.output_model.specs.Cued.{document_of}
 use Rattle.remux_plan.specs.Plan.{blocks_of, document_in, rules_of}
 use Rattle.remux_plan.specs.declared.output.OutputSpec.{OutputSpec}
 use Rattle.remux_plan.specs.declared.plan.MergePlan.{MergePlan}

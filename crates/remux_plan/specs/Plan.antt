@@ -3,12 +3,12 @@ use Rattle.std.specs.Prelude.{List, map}
 use Rattle.mkv_io.specs.LiveFiles.{LiveFiles}
 use Rattle.output_model.specs.OutputBlock.{OutputBlock}
 use Rattle.output_model.specs.Document.{Document}
-use Rattle.segment_octets.specs.Front.{front_with}
+use Rattle.output_model.specs.Front.{front_with}
 use Rattle.merge_model.specs.Merged.{merged}
-use Rattle.lane_blocks.specs.declared.link.Link.{Link}
-use Rattle.cluster_runs.specs.Cued.{document_of}
-use Rattle.cluster_runs.specs.declared.rule.CueRule.{CueRule}
-use Rattle.time_merge.specs.Laws.{lanes_over}
+use Rattle.merge_model.specs.declared.link.Link.{Link}
+use Rattle.output_model.specs.Cued.{document_of}
+use Rattle.output_model.specs.declared.rule.CueRule.{CueRule}
+use Rattle.merge_model.specs.FileLinks.{lanes_over}
 use Rattle.remux_plan.specs.declared.plan.MergePlan.{MergePlan}
 use Rattle.remux_plan.specs.declared.plan.PlannedLane.{PlannedLane}
 

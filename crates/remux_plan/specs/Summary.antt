@@ -2,12 +2,12 @@
 use Rattle.std.specs.Prelude.{◌≡◌, ℕ, suc, max, ◌==◌, if◌then◌else◌, List, [], ◌∷◌, length, map, find}
 use Rattle.std.specs.List.{flat_map, range_with_len, zip}
 use Rattle.std.specs.Option.{option_map_or}
-use Rattle.mkv_values.specs.declared.damage.Damage.{Damage}
+use Rattle.mkv_io.specs.declared.damage.Damage.{Damage}
 use Rattle.mkv_io.specs.Faults.{counted}
 use Rattle.mkv_io.specs.LiveFiles.{LiveFiles}
 use Rattle.cluster_reader.specs.ToldDamages.{ToldDamages, told_damages}
 use Rattle.merge_model.specs.Lanes.{lane_damages}
-use Rattle.lane_blocks.specs.Links.{given_in}
+use Rattle.merge_model.specs.FileLinks.{given_in}
 use Rattle.remux_plan.specs.Parts.{PlannedOutput, outputs_in}
 use Rattle.remux_plan.specs.declared.plan.MergePlan.{MergePlan}
 use Rattle.remux_plan.specs.declared.plan.PlannedLane.{PlannedLane}

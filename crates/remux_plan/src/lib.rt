@@ -8,13 +8,11 @@ mod output;
 mod plan;
 mod summary;
 
-pub use cluster_runs::CueRule;
-pub use lane_blocks::LaneSpec;
 pub use laws::whole_is_one_output;
+pub use merge_model::LaneSpec;
 pub use output::OutputSpec;
-pub use output_model::ClusterLimits;
+pub use output_model::{ClusterLimits, CueRule, Front};
 pub use plan::{MergePlan, PlannedLane};
-pub use segment_octets::Front;
 pub use splitter::SplitSpec;
 pub use summary::{InputDamage, MoreDamage, Summary, Written};
 

@@ -1,10 +1,8 @@
 //! What the outputs of a plan have in common.
 
-use cluster_runs::CueRule;
 use ebml_tree::Tree;
-use mkv_values::{List, Text};
-use output_model::ClusterLimits;
-use segment_octets::Front;
+use mkv_io::{List, Text};
+use output_model::{ClusterLimits, CueRule, Front};
 
 /// An output, but for its blocks: RFC 9559, section 5.1 (Segment Element).
 #[derive(Drop)]

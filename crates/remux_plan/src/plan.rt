@@ -1,11 +1,9 @@
 //! What a merge is to write.
 
-use cluster_runs::CueRule;
 use ebml_tree::Tree;
-use lane_blocks::LaneSpec;
-use mkv_values::{List, Text};
-use output_model::ClusterLimits;
-use segment_octets::Front;
+use merge_model::LaneSpec;
+use mkv_io::{List, Text};
+use output_model::{ClusterLimits, CueRule, Front};
 use splitter::SplitSpec;
 
 /// One output, or several, each of which has a part of the blocks: RFC 9559, section 5.1 (Segment Element).

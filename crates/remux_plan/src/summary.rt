@@ -1,6 +1,6 @@
 //! What is known of a merge whose output stands.
 
-use mkv_values::{Damage, List, Text};
+use mkv_io::{Damage, List, Text};
 
 /// What was written, and what is wrong with the inputs.
 #[derive(Drop)]

@@ -8,3 +8,6 @@ pub mod StartedLemmas
 pub mod SummaryLemmas
 pub mod ToldLemmas
 pub mod NextLemmas
+pub mod PlacedLemmas
+pub mod PointLemmas
+pub mod StandsLemmas

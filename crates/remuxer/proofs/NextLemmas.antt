@@ -2,7 +2,7 @@
 use Rattle.std.proofs.Common.{◌≡◌, ◌≤◌, ◌<◌, ℕ, ◌+◌, ◌*◌, Bool, true, false, List, [], ◌∷◌, Option, Some, None, Result, Ok, Err, refl, sym, ◌∙◌, ap, subst, arith}
 use Rattle.std.specs.Prelude.{if◌then◌else◌, is_some, not}
 use Rattle.std.specs.Option.{unwrap_or}
-use Rattle.mkv_values.specs.declared.outside.ReadEnd.{ReadEnd}
+use Rattle.mkv_io.specs.declared.outside.ReadEnd.{ReadEnd}
 use Rattle.mkv_io.specs.LiveFiles.{LiveFiles}
 use Rattle.mkv_io.specs.Sources.{live_files}
 use Rattle.mkv_io.specs.declared.reads.Reads.{Ghosts}
@@ -12,8 +12,8 @@ use Rattle.time_merge.proofs.QueueLemmas.{length-same, told-kept}
 use Rattle.splitter.specs.Sections.{Part, parts}
 use Rattle.splitter.specs.Split.{keeps}
 use Rattle.splitter.specs.Steps.{CutsSeen, is_kept, start_of}
-use Rattle.placed_merge.specs.Placed.{Places, lane_in}
-use Rattle.placed_merge.specs.declared.placing.Ahead.{Ahead}
+use Rattle.remuxer.specs.Placed.{Places, lane_in}
+use Rattle.remuxer.specs.declared.placing.Ahead.{Ahead}
 use Rattle.remuxer.specs.Places.{CanGive, IsAhead, IsIn, LendsAt, StandsAhead, block_lent, lane_of, lent_at, part_from, parts_ahead, parts_behind, parts_from, split_in, start_in, way_ahead}
 use Rattle.remuxer.specs.Taking.{GoesOn}
 use Rattle.remuxer.specs.Output.{FindsBehind, FindsFirst, FindsPart, parts_begun}

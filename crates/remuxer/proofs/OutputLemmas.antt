@@ -3,7 +3,7 @@ use Rattle.std.proofs.Common.{◌≡◌, ◌≢◌, ◌≤◌, ◌<◌, ℕ, zer
 use Rattle.std.proofs.lemmas.List.{take_all}
 use Rattle.std.specs.Prelude.{slice_index_or, if◌then◌else◌}
 use Rattle.std.specs.Option.{option_and_then}
-use Rattle.mkv_values.specs.declared.outside.FileId.{FileId}
+use Rattle.mkv_io.specs.declared.outside.FileId.{FileId}
 use Rattle.mkv_io.specs.Faults.{counted, last_count}
 use Rattle.mkv_io.specs.LiveFiles.{IsSameFile, LiveFiles}
 use Rattle.mkv_io.specs.Names.{AreOthers, Names}
@@ -13,17 +13,17 @@ use Rattle.mkv_io.proofs.WritingLemmas.{IsSameFile-twice}
 use Rattle.tree_format.specs.Node.{Node}
 use Rattle.mkv_io.specs.declared.reads.Reads.{Ghosts}
 use Rattle.mkv_io.specs.declared.files.Files as writing
-use Rattle.mkv_jobs.specs.declared.remux_end.RemuxEnd.{RemuxEnd}
+use Rattle.mkv_io.specs.declared.remux_end.RemuxEnd.{RemuxEnd}
 use Rattle.mkv_outputs.specs.Drafts.{AreDrafted, StandsInTurn}
 use Rattle.mkv_outputs.specs.Outputs.{Output}
 use Rattle.mkv_outputs.specs.Sinks.{EndsOnly, IsNoneOf}
 use Rattle.mkv_outputs.specs.Starts.{AreBegun, StandsInPart}
 use Rattle.mkv_outputs.proofs.StartsLemmas.{IsStart-then}
-use Rattle.element_octets.specs.Element.{joined}
+use Rattle.output_model.specs.Element.{joined}
 use Rattle.output_model.specs.declared.TheConstants.{MOST_CUES}
 use Rattle.output_model.specs.declared.heads.ClusterLimits.{ClusterLimits}
 use Rattle.output_model.specs.declared.places.CuePoint.{CuePoint}
-use Rattle.segment_octets.specs.Front.{front_with}
+use Rattle.output_model.specs.Front.{front_with}
 use Rattle.output_model.specs.OutputBlock.{OutputBlock}
 use Rattle.output_model.specs.Cluster.{clusters}
 use Rattle.output_model.specs.Document.{Document, layout, back_elements, clusters_elements, cues_for, opened, opened_with}
@@ -34,18 +34,18 @@ use Rattle.cues_seekhead.specs.OpenOutput.{IsOpen, OpenOutput, StandsOpen}
 use Rattle.cues_seekhead.proofs.LayoutLemmas.{opened-more}
 use Rattle.cues_seekhead.specs.Made.{MakesFile, WritesAndEnds}
 use Rattle.cues_seekhead.proofs.MadeLemmas.{MakesFile-ended, MakesFile-finished, MakesFile-kept}
-use Rattle.cluster_runs.specs.Cued.{is_cue}
-use Rattle.cluster_runs.specs.Stands.{HasAll, Stands}
-use Rattle.cluster_runs.specs.declared.rule.CueRule.{CueRule}
-use Rattle.lane_blocks.specs.Links.{IsOpenLink, KeepsLink}
-use Rattle.lane_blocks.specs.declared.link.Link.{Link}
-use Rattle.lane_blocks.specs.declared.link.Link.TheVariants.{Track, Entries}
+use Rattle.output_model.specs.Cued.{is_cue}
+use Rattle.remuxer.specs.Stands.{HasAll, Stands}
+use Rattle.output_model.specs.declared.rule.CueRule.{CueRule}
+use Rattle.merge_model.specs.FileLinks.{IsOpenLink, KeepsLink}
+use Rattle.merge_model.specs.declared.link.Link.{Link}
+use Rattle.merge_model.specs.declared.link.Link.TheVariants.{Track, Entries}
 use Rattle.time_merge.specs.Laws.{IsApart, IsApartLink, StandsAmong}
 use Rattle.time_merge.specs.Merge.{KeepsMerge, due, files_length, left}
 use Rattle.time_merge.proofs.KeptLemmas.{stands-kept}
 use Rattle.time_merge.proofs.QueueLemmas.{links-kept}
 use Rattle.splitter.specs.Sections.{Part}
-use Rattle.chapter_changes.specs.Cut as chapters
+use Rattle.record_changes.specs.Cut as chapters
 use Rattle.remux_plan.specs.Parts.{chapters_of, document_with, stretch_of}
 use Rattle.remux_plan.specs.declared.output.OutputSpec.{OutputSpec}
 use Rattle.remuxer.specs.Places.{CanGive, IsToldFrom, lane_of, lent_at, part_from, parts_behind, split_in}

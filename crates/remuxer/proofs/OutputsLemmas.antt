@@ -16,18 +16,18 @@ use Rattle.mkv_outputs.specs.Drafts.{AreDrafted, Draft, IsDrafted, StandsInTurn,
 use Rattle.mkv_outputs.specs.Outputs.{Output, with_outputs}
 use Rattle.mkv_outputs.proofs.DraftsLemmas.{StandsInTurn-next, StandsInTurn-whole}
 use Rattle.mkv_outputs.proofs.OutputsLemmas.{with_outputs-added}
-use Rattle.attachment_records.specs.declared.attachment.Attachment.{Attachment}
+use Rattle.output_model.specs.declared.attachment.Attachment.{Attachment}
 use Rattle.tree_format.specs.Node.{id_of}
 use Rattle.output_model.specs.Document.{Document, layout}
-use Rattle.segment_octets.specs.declared.front.Front.{Front}
-use Rattle.segment_octets.specs.Front.{front_with}
+use Rattle.output_model.specs.declared.front.Front.{Front}
+use Rattle.output_model.specs.Front.{front_with}
 use Rattle.output_model.specs.Document as model
-use Rattle.cluster_runs.specs.Cued.{document_of}
+use Rattle.output_model.specs.Cued.{document_of}
 use Rattle.cues_seekhead.specs.Draft.{draft_of}
 use Rattle.cues_seekhead.specs.OpenOutput.{CanAttach}
-use Rattle.lane_blocks.specs.Links.{IsOpenLink}
-use Rattle.lane_blocks.specs.declared.link.Link.{Link}
-use Rattle.lane_blocks.specs.declared.link.Link.TheVariants.{Track, Entries}
+use Rattle.merge_model.specs.FileLinks.{IsOpenLink}
+use Rattle.merge_model.specs.declared.link.Link.{Link}
+use Rattle.merge_model.specs.declared.link.Link.TheVariants.{Track, Entries}
 use Rattle.time_merge.specs.Laws.{IsApart, IsApartLink}
 use Rattle.time_merge.specs.Merge.{IsReady, IsTold, MergeSeen, due, files_length, left}
 use Rattle.time_merge.specs.Queues.{KeepsQueues}

@@ -5,12 +5,12 @@ use Rattle.std.proofs.lemmas.List.Elements.{All-cons, All-head, All-nil, All-tai
 use Rattle.mkv_io.specs.Sources.{live_files}
 use Rattle.mkv_io.specs.declared.reads.Reads.{Ghosts}
 use Rattle.mkv_io.specs.declared.files.Files as writing
-use Rattle.mkv_jobs.specs.declared.remux_end.RemuxEnd.{RemuxEnd}
+use Rattle.mkv_io.specs.declared.remux_end.RemuxEnd.{RemuxEnd}
 use Rattle.output_model.specs.declared.TheConstants.{MOST_LANES}
 use Rattle.output_model.specs.OutputBlock.{OutputBlock}
 use Rattle.cluster_reader.specs.ToldDamages.{ToldDamages, told_damages}
 use Rattle.merge_model.specs.Lanes.{lane_damages}
-use Rattle.lane_blocks.specs.Links.{IsToldLink, given_in}
+use Rattle.merge_model.specs.FileLinks.{IsToldLink, given_in}
 use Rattle.lanes.specs.Lane.{LaneSeen}
 use Rattle.lanes.specs.Lane as lanes
 use Rattle.time_merge.specs.Merge as merges
@@ -19,7 +19,7 @@ use Rattle.time_merge.specs.declared.queue.Queue.{Queue}
 use Rattle.time_merge.proofs.KeptLemmas.{started-merged}
 use Rattle.splitter.specs.Sections.{Split, parts}
 use Rattle.splitter.specs.Steps.{CutsSeen, new_cuts}
-use Rattle.cluster_runs.specs.declared.rule.CueRule.{CueRule}
+use Rattle.output_model.specs.declared.rule.CueRule.{CueRule}
 use Rattle.remux_plan.specs.Parts.{PlannedOutput, drives_by, is_split, name_of, outputs_from, outputs_in, spec_of, split_of}
 use Rattle.remux_plan.specs.Plan.{blocks_of, links_of}
 use Rattle.remux_plan.specs.Summary.{IsSummary, first_damages, more_damages, written_of}

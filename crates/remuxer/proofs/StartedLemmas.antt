@@ -6,8 +6,8 @@ use Rattle.std.proofs.lemmas.List.Sums.{sum_by-cons}
 use Rattle.mkv_io.specs.LiveFiles.{LiveFiles}
 use Rattle.cluster_reader.specs.ToldDamages.{ToldDamages, told_damages}
 use Rattle.merge_model.specs.Lanes.{lane_damages}
-use Rattle.lane_blocks.specs.Links.{IsOpenLink, given_in}
-use Rattle.lane_blocks.specs.declared.link.Link.{Link}
+use Rattle.merge_model.specs.FileLinks.{IsOpenLink, given_in}
+use Rattle.merge_model.specs.declared.link.Link.{Link}
 use Rattle.lanes.specs.Lane.{LaneSeen}
 use Rattle.lanes.specs.Lane as lanes
 use Rattle.lanes.specs.Walks.{files_length}

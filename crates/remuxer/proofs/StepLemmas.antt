@@ -8,11 +8,11 @@ use Rattle.std.proofs.lemmas.Option.{get_or_from_slice_get, slice_get_within}
 use Rattle.mkv_io.specs.LiveFiles.{LiveFiles}
 use Rattle.output_model.specs.OutputBlock.{OutputBlock}
 use Rattle.output_model.specs.declared.heads.OutHead.{OutHead}
-use Rattle.lane_blocks.specs.declared.link.Link.{Link}
-use Rattle.lane_blocks.specs.declared.link.Link.TheVariants.{Track, Entries}
-use Rattle.lane_blocks.specs.declared.link.TrackLink.{TrackLink}
-use Rattle.lane_blocks.specs.declared.place.Placed.{Placed}
-use Rattle.lane_blocks.specs.Times.{most_time}
+use Rattle.merge_model.specs.declared.link.Link.{Link}
+use Rattle.merge_model.specs.declared.link.Link.TheVariants.{Track, Entries}
+use Rattle.merge_model.specs.declared.link.TrackLink.{TrackLink}
+use Rattle.lanes.specs.declared.place.Placed.{Placed}
+use Rattle.lanes.specs.Times.{most_time}
 use Rattle.cluster_reader.specs.Reading.{Reading}
 use Rattle.lanes.specs.Lane.{LaneSeen, lent}
 use Rattle.lanes.specs.Walks.{lent_by, lent_by_track}
@@ -27,8 +27,8 @@ use Rattle.splitter.specs.Split.{keeps}
 use Rattle.splitter.specs.Sections.{Split, cuts, from_nought, may_cut, parts, start_with}
 use Rattle.splitter.proofs.SectionLemmas.{at_start}
 use Rattle.splitter.specs.Steps.{CutsSeen, is_cut, is_kept, place_at, place_of, start_of, stepped}
-use Rattle.placed_merge.specs.Placed.{PlacesOne, drives_at}
-use Rattle.placed_merge.specs.declared.placing.Ahead.{Ahead}
+use Rattle.remuxer.specs.Placed.{PlacesOne, drives_at}
+use Rattle.remuxer.specs.declared.placing.Ahead.{Ahead}
 use Rattle.remux_plan.specs.declared.TheConstants.{MOST_SCALE}
 use Rattle.remuxer.specs.Taking.{IsOver}
 use Rattle.remuxer.specs.Places.{CanGive, IsAhead, IsEnd, IsIn, LendsAt, block_lent, first_tick, is_same, lent_at, start_in, parts_ahead, parts_behind, parts_from, since, split_in}

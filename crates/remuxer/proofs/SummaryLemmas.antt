@@ -9,11 +9,11 @@ use Rattle.std.proofs.lemmas.List.{length-map}
 use Rattle.std.proofs.lemmas.List.Elements.{All-head, All-tail}
 use Rattle.std.proofs.lemmas.List.Folds.{find-append}
 use Rattle.std.proofs.lemmas.Option.{slice_get-map, slice_get_past}
-use Rattle.mkv_values.specs.declared.damage.Damage.{Damage}
+use Rattle.mkv_io.specs.declared.damage.Damage.{Damage}
 use Rattle.mkv_io.specs.LiveFiles.{LiveFiles}
 use Rattle.cluster_reader.specs.ToldDamages.{ToldDamages, told_damages}
 use Rattle.merge_model.specs.Lanes.{lane_damages}
-use Rattle.lane_blocks.specs.Links.{given_in}
+use Rattle.merge_model.specs.FileLinks.{given_in}
 use Rattle.lanes.proofs.StartLemmas.{length-damages}
 use Rattle.remux_plan.specs.Summary.{count_to, damages_of, inputs_of, link_damages}
 use Rattle.remux_plan.specs.declared.TheConstants.{MOST_INPUTS}

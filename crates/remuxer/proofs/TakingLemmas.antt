@@ -8,23 +8,23 @@ use Rattle.mkv_io.specs.LiveFiles.{LiveFiles}
 use Rattle.mkv_io.specs.Names.{Names}
 use Rattle.mkv_io.specs.Sources.{live_files}
 use Rattle.mkv_io.specs.Writing.{KeepsOthers}
-use Rattle.mkv_values.specs.declared.outside.FileId.{FileId}
+use Rattle.mkv_io.specs.declared.outside.FileId.{FileId}
 use Rattle.tree_format.specs.Node.{Node}
 use Rattle.mkv_io.specs.declared.reads.Reads.{Ghosts}
 use Rattle.mkv_io.specs.declared.files.Files as writing
 use Rattle.mkv_io.proofs.WritingLemmas.{KeepsOthers-then}
-use Rattle.mkv_jobs.specs.declared.remux_end.RemuxEnd.{RemuxEnd}
+use Rattle.mkv_io.specs.declared.remux_end.RemuxEnd.{RemuxEnd}
 use Rattle.output_model.specs.OutputBlock.{OutputBlock}
 use Rattle.output_model.specs.Document.{Document, cues_for}
 use Rattle.cues_seekhead.specs.OpenOutput.{IsOpen, OpenOutput}
 use Rattle.cues_seekhead.specs.Draft.{StandsDrafted, draft_of}
 use Rattle.cues_seekhead.proofs.OpenLemmas.{StandsOpen-read}
 use Rattle.cluster_writer.specs.Gathered.{Gathered}
-use Rattle.cluster_runs.specs.Cued.{is_cue}
-use Rattle.cluster_runs.specs.Stands.{Adds, Stands}
-use Rattle.cluster_runs.specs.Stands as runs
-use Rattle.cluster_runs.proofs.StandsLemmas.{stands-drafted}
-use Rattle.cluster_runs.specs.declared.rule.CueRule.{CueRule}
+use Rattle.output_model.specs.Cued.{is_cue}
+use Rattle.remuxer.specs.Stands.{Adds, Stands}
+use Rattle.remuxer.specs.Stands as runs
+use Rattle.remuxer.proofs.StandsLemmas.{stands-drafted}
+use Rattle.output_model.specs.declared.rule.CueRule.{CueRule}
 use Rattle.cluster_reader.specs.ToldDamages.{ToldDamages}
 use Rattle.lanes.specs.Lane.{LaneSeen}
 use Rattle.lanes.specs.Lane as lanes
@@ -39,7 +39,7 @@ use Rattle.time_merge.proofs.KeptLemmas.{apart-kept, keeps-merge, stands-kept}
 use Rattle.time_merge.proofs.QueueLemmas.{apart-same, count-kept, length-same}
 use Rattle.splitter.specs.Sections.{Split, beyond, cuts, in_part, parts_in, sections_at}
 use Rattle.splitter.specs.Steps.{start_of}
-use Rattle.placed_merge.specs.declared.placing.Ahead.{Ahead}
+use Rattle.remuxer.specs.declared.placing.Ahead.{Ahead}
 use Rattle.remuxer.specs.Places.{CanGive, first_tick, in_part_from, lane_of, lent_at, parts_ahead, parts_behind, parts_from, since, split_in}
 use Rattle.remux_plan.specs.declared.output.OutputSpec.{OutputSpec}
 use Rattle.remuxer.specs.Output.{Ends, FillsPart, chapters_cut}

@@ -8,26 +8,26 @@ use Rattle.mkv_io.specs.Sources.{live_files}
 use Rattle.mkv_io.specs.Writing.{KeepsOthers}
 use Rattle.mkv_io.specs.declared.reads.Reads.{Ghosts}
 use Rattle.mkv_io.specs.declared.files.Files as writing
-use Rattle.mkv_values.specs.declared.outside.ReadEnd.{ReadEnd}
-use Rattle.mkv_jobs.specs.declared.remux_end.RemuxEnd.{RemuxEnd}
+use Rattle.mkv_io.specs.declared.outside.ReadEnd.{ReadEnd}
+use Rattle.mkv_io.specs.declared.remux_end.RemuxEnd.{RemuxEnd}
 use Rattle.mkv_outputs.specs.Drafts.{Draft, StandsInTurn, output_of, outputs_of}
 use Rattle.mkv_outputs.specs.Outputs.{Output, with_outputs}
 use Rattle.mkv_schema.specs.declared.ids.TheConstants.{INFO, TRACKS, CHAPTERS, TAGS}
 use Rattle.tree_format.specs.Node.{Node, id_of}
-use Rattle.tree_building.specs.Building.{IsRead}
-use Rattle.chapter_changes.specs.Cut.{cut}
-use Rattle.attachment_records.specs.declared.attachment.Attachment.{Attachment}
+use Rattle.ebml_tree.specs.Building.{IsRead}
+use Rattle.record_changes.specs.Cut.{cut}
+use Rattle.output_model.specs.declared.attachment.Attachment.{Attachment}
 use Rattle.output_model.specs.Document.{Document, layout}
-use Rattle.segment_octets.specs.declared.front.Front.{Front}
+use Rattle.output_model.specs.declared.front.Front.{Front}
 use Rattle.cues_seekhead.specs.Draft.{draft_of}
 use Rattle.cues_seekhead.specs.OpenOutput.{CanAttach}
-use Rattle.lane_blocks.specs.declared.link.Link.{Link}
-use Rattle.lane_blocks.specs.declared.link.Link.TheVariants.{Track, Entries}
+use Rattle.merge_model.specs.declared.link.Link.{Link}
+use Rattle.merge_model.specs.declared.link.Link.TheVariants.{Track, Entries}
 use Rattle.time_merge.specs.Laws.{IsApart}
 use Rattle.time_merge.specs.Merge.{IsTold, MergeSeen, damages, due, files_length, left, way}
 use Rattle.time_merge.specs.declared.queue.Queue.{Queue}
 use Rattle.splitter.specs.Sections.{Part, parts}
-use Rattle.placed_merge.specs.declared.placing.Ahead.{Ahead}
+use Rattle.remuxer.specs.declared.placing.Ahead.{Ahead}
 use Rattle.remux_plan.specs.Parts.{PlannedOutput, document_with, may_be_written, name_of, outputs_from, stretch_of}
 use Rattle.remux_plan.specs.Summary.{written_of}
 use Rattle.remux_plan.specs.declared.output.OutputSpec.{OutputSpec}

@@ -13,7 +13,7 @@ use Rattle.splitter.specs.declared.cuts.Place.{Place}
 use Rattle.splitter.specs.declared.cuts.Place.TheVariants.{Same, Next, Out}
 use Rattle.splitter.specs.Sections.{Part, Section, Split, begun, beyond, cut_from, in_part, parts_in, sections_at, within}
 use Rattle.splitter.specs.Steps.{is_kept, place_at, start_of}
-use Rattle.placed_merge.specs.declared.placing.Ahead.{Ahead}
+use Rattle.remuxer.specs.declared.placing.Ahead.{Ahead}
 use Rattle.remux_plan.specs.Parts.{drives_by}
 use Rattle.remux_plan.specs.declared.TheConstants.{MOST_SCALE}
 use Rattle.remuxer.specs.declared.placed.PartStart.{PartStart}

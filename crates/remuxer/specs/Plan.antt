@@ -4,11 +4,11 @@ use Rattle.mkv_io.specs.LiveFiles.{LiveFiles}
 use Rattle.mkv_io.specs.Sources.{live_files}
 use Rattle.mkv_io.specs.declared.reads.Reads.{Ghosts}
 use Rattle.mkv_io.specs.declared.files.Files as writing
-use Rattle.mkv_jobs.specs.declared.remux_end.RemuxEnd.{RemuxEnd}
-use Rattle.attachment_records.specs.declared.attachment.Attachment.{Attachment}
+use Rattle.mkv_io.specs.declared.remux_end.RemuxEnd.{RemuxEnd}
+use Rattle.output_model.specs.declared.attachment.Attachment.{Attachment}
 use Rattle.output_model.specs.declared.TheConstants.{MOST_LANES}
 use Rattle.merge_model.specs.declared.limits.TheConstants.{MOST_LINKS}
-use Rattle.lane_blocks.specs.Links.{IsOpenLink, IsSmallLink, IsToldLink}
+use Rattle.merge_model.specs.FileLinks.{IsOpenLink, IsSmallLink, IsToldLink}
 use Rattle.lanes.specs.Walks.{files_length}
 use Rattle.remux_plan.specs.Parts.{is_split, name_of, outputs_in}
 use Rattle.remux_plan.specs.Summary.{IsSummary}

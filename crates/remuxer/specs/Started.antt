@@ -3,7 +3,7 @@ use Rattle.std.specs.Prelude.{◌≡◌, ◌≤◌, ℕ, List, [], ◌∷◌, �
 use Rattle.std.specs.List.{AllZip}
 use Rattle.mkv_io.specs.LiveFiles.{LiveFiles}
 use Rattle.merge_model.specs.declared.limits.TheConstants.{MOST_LINKS}
-use Rattle.lane_blocks.specs.Links.{IsSmallLink}
+use Rattle.merge_model.specs.FileLinks.{IsSmallLink}
 use Rattle.lanes.specs.Lane.{Begins, LaneSeen, Starts}
 use Rattle.remux_plan.specs.Parts.{drivers_of}
 use Rattle.remux_plan.specs.Plan.{rules_of}

@@ -7,21 +7,21 @@ use Rattle.mkv_io.specs.Sources.{live_files}
 use Rattle.mkv_io.specs.Writing.{KeepsOthers}
 use Rattle.mkv_io.specs.declared.reads.Reads.{Ghosts}
 use Rattle.mkv_io.specs.declared.files.Files as writing
-use Rattle.mkv_jobs.specs.declared.remux_end.RemuxEnd.{RemuxEnd}
+use Rattle.mkv_io.specs.declared.remux_end.RemuxEnd.{RemuxEnd}
 use Rattle.output_model.specs.OutputBlock.{OutputBlock}
 use Rattle.output_model.specs.Document.{Document, cues_for}
 use Rattle.cues_seekhead.specs.OpenOutput.{IsOpen}
 use Rattle.cues_seekhead.specs.Draft.{StandsDrafted, draft_of}
-use Rattle.cluster_runs.specs.Cued.{is_cue}
-use Rattle.cluster_runs.specs.Stands.{HasAll, Stands}
-use Rattle.cluster_runs.specs.declared.rule.CueRule.{CueRule}
+use Rattle.output_model.specs.Cued.{is_cue}
+use Rattle.remuxer.specs.Stands.{HasAll, Stands}
+use Rattle.output_model.specs.declared.rule.CueRule.{CueRule}
 use Rattle.cluster_reader.specs.ToldDamages.{ToldDamages}
 use Rattle.time_merge.specs.Laws.{IsApart}
 use Rattle.time_merge.specs.Merge.{IsTold, MergeSeen, damages, due, files_length, left, way}
 use Rattle.time_merge.specs.Queues.{KeepsQueues}
 use Rattle.time_merge.specs.declared.queue.Queue.{Queue}
 use Rattle.splitter.specs.Sections.{Split, beyond}
-use Rattle.placed_merge.specs.declared.placing.Ahead.{Ahead}
+use Rattle.remuxer.specs.declared.placing.Ahead.{Ahead}
 use Rattle.remuxer.specs.Places.{CanGive, IsIn, IsToldFrom, StandsBehind, first_tick, in_part_from, lane_of, lent_at, parts_ahead, parts_behind, since, split_in, way_ahead}
 use Rattle.remuxer.specs.declared.placed.PartStart.{PartStart}
 use Rattle.remuxer.specs.declared.placed.PlacedBlocks.{PlacedBlocks}

@@ -1,12 +1,15 @@
 #![tactic(auto)]
 
-//! Merges: the blocks of all lanes of a plan, in their order, in Clusters of one output, or of one for each part.
+//! Merges: the blocks of all lanes of a plan, in their order and each at its place, cut into Clusters of one output, or of
+//! one for each part, some of them with a cue point.
 
 mod merging;
 mod output;
 mod parts;
 mod placed;
+mod placing;
 mod planned;
+mod run;
 mod summary;
 mod writer;
 

@@ -1,7 +1,7 @@
 //! A merge by its plan.
 
 ghost use Rattle.std.specs.Prelude.{◌≡◌};
-ghost use Rattle.mkv_jobs.specs.Ends.{HasRemuxCause};
+ghost use Rattle.mkv_io.specs.Ends.{HasRemuxCause};
 ghost use Rattle.remux_plan.specs.Parts.{is_split};
 ghost use Rattle.remuxer.specs.Output.{KeepsUnwritten};
 ghost use Rattle.remuxer.specs.Plan.{IsPlan, ReadsFew, SumsUp, WritesPlan};
@@ -10,8 +10,7 @@ use crate::parts::write_parts;
 use crate::placed::PlacedBlocks;
 use crate::planned::StartedLanes;
 use crate::summary::summary_of;
-use mkv_io::{Files, Reads};
-use mkv_jobs::RemuxEnd;
+use mkv_io::{Files, Reads, RemuxEnd};
 use remux_plan::{MergePlan, OutputSpec, Summary};
 use splitter::{Cuts, SplitSpec};
 use std::alloc::Global;

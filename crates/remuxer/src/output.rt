@@ -3,23 +3,23 @@
 ghost use Rattle.std.specs.Prelude.{◌≡◌, ◌*◌, ◌<◌, ◌^◌, [], ◌∷◌, IfOk, IfSome};
 ghost use Rattle.mkv_io.specs.Sources.{live_files};
 ghost use Rattle.mkv_io.specs.Writing.{KeepsOthers};
-ghost use Rattle.mkv_jobs.specs.Ends.{HasRemuxCause};
+ghost use Rattle.mkv_io.specs.Ends.{HasRemuxCause};
 ghost use Rattle.mkv_schema.specs.declared.ids.TheConstants.{CHAPTERS};
 ghost use Rattle.tree_format.specs.Node.{id_of};
-ghost use Rattle.tree_building.specs.Building.{IsRead};
+ghost use Rattle.ebml_tree.specs.Building.{IsRead};
 ghost use Rattle.remuxer.specs.Places.{IsEnd};
 ghost use Rattle.remuxer.specs.Taking.{Goes, IsOver, WritesInto};
 ghost use Rattle.remuxer.specs.Output.{CanFill, CanWrite, Fills, StandsWritten, WritesPart, chapters_cut, chapters_in, data_of};
 
 use crate::placed::{PartStart, PlacedBlocks};
+use crate::placing::Ahead;
+use crate::run::add_rest;
 use crate::writer::BlockWriter;
-use chapter_changes::cut;
-use cluster_runs::add_rest;
 use cluster_writer::ClusterBuf;
-use cues_seekhead::{OutEnd, OutFile};
+use cues_seekhead::OutFile;
 use ebml_tree::Tree;
-use mkv_io::{Files, Reads};
-use placed_merge::Ahead;
+use mkv_io::{Files, Reads, RemuxEnd as OutEnd};
+use record_changes::cut;
 use remux_plan::OutputSpec;
 use std::alloc::{AllocError, Global};
 

@@ -2,16 +2,14 @@
 
 ghost use Rattle.std.specs.Prelude.{◌≡◌, IfOk, OnOk};
 ghost use Rattle.mkv_io.specs.Sources.{live_files};
-ghost use Rattle.mkv_jobs.specs.Ends.{HasRemuxCause};
+ghost use Rattle.mkv_io.specs.Ends.{HasRemuxCause};
 ghost use Rattle.remux_plan.specs.Parts.{name_of};
 ghost use Rattle.remuxer.specs.Taking.{Goes};
 ghost use Rattle.remuxer.specs.Output.{CanWriteAll, CanWriteNext, Ends, FindsNext, KeepsUnwritten, ReadsParts, SaysWritten, WritesNext, WritesParts, data_of};
 
 use crate::output::write_output;
 use crate::placed::{PartStart, PlacedBlocks};
-use cues_seekhead::OutEnd;
-use mkv_io::{Files, Reads};
-use mkv_values::{List, Text};
+use mkv_io::{Files, List, Reads, RemuxEnd as OutEnd, Text};
 use remux_plan::{OutputSpec, Written};
 use splitter::part_name;
 use std::alloc::{AllocError, Global};

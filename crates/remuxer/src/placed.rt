@@ -5,9 +5,8 @@ ghost use Rattle.mkv_io.specs.Faults.{HasCause, is_read_fault};
 ghost use Rattle.mkv_io.specs.Sources.{live_files};
 ghost use Rattle.remuxer.specs.Places.{is_same, start_in};
 
-use mkv_io::Reads;
-use mkv_values::{List, ReadEnd};
-use placed_merge::{Ahead, place_next};
+use crate::placing::{Ahead, place_next};
+use mkv_io::{List, ReadEnd, Reads};
 use splitter::{Cuts, Place};
 use time_merge::Merge;
 

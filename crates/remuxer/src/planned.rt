@@ -2,9 +2,9 @@
 
 ghost use Rattle.std.specs.Prelude.{◌≤◌, All, IfOk, OnOk};
 
-use cluster_runs::CueRule;
 use lanes::Lane;
-use mkv_values::List;
+use mkv_io::List;
+use output_model::CueRule;
 use remux_plan::PlannedLane;
 use std::alloc::{AllocError, Global};
 

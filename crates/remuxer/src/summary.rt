@@ -9,7 +9,7 @@ ghost use Rattle.remuxer.specs.Told.{AddsDamages, HasDamages, told_at, told_of};
 
 use cluster_reader::Damages;
 use lanes::Lane;
-use mkv_values::List;
+use mkv_io::List;
 use remux_plan::{InputDamage, MOST_INPUTS, MoreDamage, Summary, Written};
 use std::alloc::{AllocError, Global};
 use time_merge::Merge;

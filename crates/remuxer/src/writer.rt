@@ -3,23 +3,24 @@
 ghost use Rattle.std.specs.Prelude.{◌≡◌, ◌+◌, ◌<◌, IfOk};
 ghost use Rattle.std.specs.List.{slice_get};
 ghost use Rattle.std.specs.Option.{unwrap_or};
-ghost use Rattle.mkv_jobs.specs.Ends.{HasRemuxCause};
+ghost use Rattle.mkv_io.specs.Ends.{HasRemuxCause};
 ghost use Rattle.output_model.specs.declared.TheConstants.{MOST_LANES};
 ghost use Rattle.output_model.specs.OutputBlock.{IsLent, lent_block};
 ghost use Rattle.merge_model.specs.Merged.{in_lane};
 ghost use Rattle.lanes.specs.Lane.{lent};
 ghost use Rattle.splitter.specs.Sections.{in_part};
 ghost use Rattle.cluster_writer.specs.Lent.{CanBePut, block_of};
-ghost use Rattle.cluster_runs.specs.Cued.{is_cue_by};
-ghost use Rattle.cluster_runs.specs.declared.rule.CueRule.TheVariants as cue_rule;
+ghost use Rattle.output_model.specs.Cued.{is_cue_by};
+ghost use Rattle.output_model.specs.declared.rule.CueRule.TheVariants as cue_rule;
 
 use crate::placed::{PartStart, PlacedBlocks, is_same};
-use cluster_runs::{CueRule, add_block};
+use crate::placing::{Ahead, place_next};
+use crate::run::add_block;
 use cluster_writer::{ClusterBuf, LentBlock};
-use cues_seekhead::{OutEnd, OutFile};
+use cues_seekhead::OutFile;
 use lanes::Lane;
-use mkv_io::{Files, Reads};
-use placed_merge::{Ahead, place_next};
+use mkv_io::{Files, Reads, RemuxEnd as OutEnd};
+use output_model::CueRule;
 
 // Whether a block of the k-th lane, from 0, gets a cue point. A lane without a rule has none.
 fn is_cued(rules: &[CueRule], k: usize, key: bool) -> bool

@@ -6,11 +6,11 @@ use Rattle.std.proofs.lemmas.Slice.{drop-append-drop}
 use Rattle.mkv_io.specs.Contents.{octets_from, overwritten}
 use Rattle.mkv_disk.specs.Image.{DiskFile, InRanges, IsImage, written_at}
 use Rattle.mkv_disk.specs.Pair.{Pair, IsPairImage, on}
-use Rattle.sidecar_format.specs.declared.place.Place.{Place}
-use Rattle.sidecar_format.specs.Fields.{count_in, cut_up, head_len, place_in, sum_of, used_in, version_in}
-use Rattle.sidecar_format.specs.Writes.{Fits, Torn, Write}
-use Rattle.sidecar_format.proofs.ReadingLemmas.{length-used, used-is}
-use Rattle.sidecar_format.proofs.RedoLemmas.{length-overwritten}
+use Rattle.sidecar_edit.specs.declared.place.Place.{Place}
+use Rattle.sidecar_edit.specs.Fields.{count_in, cut_up, head_len, place_in, sum_of, used_in, version_in}
+use Rattle.sidecar_edit.specs.Writes.{Fits, Torn, Write}
+use Rattle.sidecar_edit.proofs.ReadingLemmas.{length-used, used-is}
+use Rattle.sidecar_edit.proofs.RedoLemmas.{length-overwritten}
 use Rattle.sidecar_edit.specs.Copies.{IsCopied, with_copy}
 use Rattle.sidecar_edit.specs.Partly.{IsPartly, IsWritten}
 use Rattle.sidecar_edit.proofs.PartlyLemmas.{all_turns, sum_more, sum_within, turn_image, turn_reaches, turn_state}

@@ -2,19 +2,19 @@
 use Rattle.std.proofs.Common.{◌≡◌, inl, inr, ⊎_elim, ℕ, ◌≤◌, true, nat_le, List, [], ◌∷◌, length, drop, take, slice_index, refl, sym, ◌∙◌, ap, subst, arith, Result, Ok}
 use Rattle.std.proofs.lemmas.Bool.{cases_eq, cond-true, le-leb, ne_eqb, not_from_false, or_left, or_right}
 use Rattle.std.proofs.lemmas.List.{get_or-take}
-use Rattle.sidecar_format.specs.declared.place.TheConstants.{HEAD, KEPT, OPEN}
-use Rattle.sidecar_format.specs.declared.gate.Gate.TheVariants.{Live, Quiet}
-use Rattle.sidecar_format.specs.declared.recovery.Recovered.{Recovered}
-use Rattle.sidecar_format.specs.declared.recovery.Recovered.TheVariants.{Applied, Nothing}
-use Rattle.sidecar_format.specs.declared.recovery.RecoverEnd.{RecoverEnd}
-use Rattle.sidecar_format.specs.Writes.{Fits, Torn, Write, applied}
-use Rattle.sidecar_format.specs.Fields.{IsMadeFor, IsPlan, Planned, body_of, head_of, writes_in, writes_of}
-use Rattle.sidecar_format.specs.Gate.{is_quiet, state}
-use Rattle.sidecar_format.specs.Recovery.{IsClosed, IsQuiet, if_live, recovered, recovery, when_applied}
-use Rattle.sidecar_format.proofs.RecordLemmas.{writes-written}
-use Rattle.sidecar_format.proofs.RedoLemmas.{edited_is_torn, extent_grows}
-use Rattle.sidecar_format.proofs.FitLemmas.{IsOwn, fits-of_own, own-applies, own-is, own-torn}
-use Rattle.sidecar_format.proofs.WrittenLemmas.{own-written, recovered-torn}
+use Rattle.sidecar_edit.specs.declared.place.TheConstants.{HEAD, KEPT, OPEN}
+use Rattle.sidecar_edit.specs.declared.held.Gate.TheVariants.{Live, Quiet}
+use Rattle.sidecar_edit.specs.declared.outcome.Recovered.{Recovered}
+use Rattle.sidecar_edit.specs.declared.outcome.Recovered.TheVariants.{Applied, Nothing}
+use Rattle.sidecar_edit.specs.declared.outcome.RecoverEnd.{RecoverEnd}
+use Rattle.sidecar_edit.specs.Writes.{Fits, Torn, Write, applied}
+use Rattle.sidecar_edit.specs.Fields.{IsMadeFor, IsPlan, Planned, body_of, head_of, writes_in, writes_of}
+use Rattle.sidecar_edit.specs.Gate.{is_quiet, state}
+use Rattle.sidecar_edit.specs.Recovery.{IsClosed, IsQuiet, if_live, recovered, recovery, when_applied}
+use Rattle.sidecar_edit.proofs.RecordLemmas.{writes-written}
+use Rattle.sidecar_edit.proofs.RedoLemmas.{edited_is_torn, extent_grows}
+use Rattle.sidecar_edit.proofs.FitLemmas.{IsOwn, fits-of_own, own-applies, own-is, own-torn}
+use Rattle.sidecar_edit.proofs.WrittenLemmas.{own-written, recovered-torn}
 use Rattle.mkv_disk.specs.Moments.{LeavesOnly}
 use Rattle.mkv_disk.specs.Pair.{Pair, both}
 use Rattle.mkv_disk.proofs.MomentsLemmas.{followed, weaker}

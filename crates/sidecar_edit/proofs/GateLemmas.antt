@@ -5,8 +5,8 @@ use Rattle.std.proofs.lemmas.Bool.{cases_eq}
 use Rattle.mkv_disk.specs.Image.{IsImage, clean, cut_to, written_at}
 use Rattle.mkv_disk.specs.Pair.{Pair, IsPairImage, IsSynced, both, on}
 use Rattle.mkv_disk.proofs.ImageLemmas.{clean_image}
-use Rattle.sidecar_format.specs.declared.place.TheConstants.{OPEN}
-use Rattle.sidecar_format.specs.Recovery.{IsClosed}
+use Rattle.sidecar_edit.specs.declared.place.TheConstants.{OPEN}
+use Rattle.sidecar_edit.specs.Recovery.{IsClosed}
 use Rattle.sidecar_edit.specs.Leaves.{IsGated}
 
 not_empty : (s : List ℕ) → slice_index s 0 ≡ OPEN → 1 ≤ length s

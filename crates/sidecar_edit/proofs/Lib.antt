@@ -3,3 +3,12 @@ pub mod EditLemmas
 pub mod GateLemmas
 pub mod PartlyLemmas
 pub mod RecoverLemmas
+pub mod FitLemmas
+pub mod LiveLemmas
+pub mod PlanLemmas
+pub mod ReadingLemmas
+pub mod RecordLemmas
+pub mod RedoLemmas
+pub mod StandardFacts
+pub mod WrittenLemmas
+pub mod LooksLemmas

@@ -1,14 +1,14 @@
 -- Writes of the medium, one after the other, and what a crash leaves of them.
 use Rattle.std.proofs.Common.{◌≡◌, inl, inr, ⊎_elim, ℕ, zero, suc, ◌+◌, ◌<◌, ◌≤◌, max, List, [], ◌∷◌, ◌++◌, length, take, drop, get_or, refl, sym, ◌∙◌, ap, subst, arith, add-one}
 use Rattle.std.proofs.lemmas.List.{drop-drop, take_all, take_more}
-use Rattle.sidecar_format.specs.declared.place.Place.{Place}
-use Rattle.sidecar_format.specs.Fields.{cut_up, sum_of}
+use Rattle.sidecar_edit.specs.declared.place.Place.{Place}
+use Rattle.sidecar_edit.specs.Fields.{cut_up, sum_of}
 use Rattle.mkv_io.specs.Contents.{overwritten}
 use Rattle.mkv_disk.specs.Image.{DiskFile, InRanges, IsImage, all_synced, clean, written_at}
 use Rattle.mkv_disk.specs.Pair.{Pair, IsPairImage, IsSynced, both, on}
 use Rattle.mkv_disk.proofs.ImageLemmas.{clean_image}
-use Rattle.sidecar_format.specs.Writes.{Write, Fits, Touches, Torn, applied, end_of, extent}
-use Rattle.sidecar_format.proofs.RedoLemmas.{extent_grows, length-applied}
+use Rattle.sidecar_edit.specs.Writes.{Write, Fits, Touches, Torn, applied, end_of, extent}
+use Rattle.sidecar_edit.proofs.RedoLemmas.{extent_grows, length-applied}
 use Rattle.sidecar_edit.specs.Partly.{IsPartly, IsWritten}
 
 -- ---- the first writes of a list

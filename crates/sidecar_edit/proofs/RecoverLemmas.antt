@@ -7,17 +7,17 @@ use Rattle.mkv_disk.specs.Moments.{LeavesOnly}
 use Rattle.mkv_disk.specs.Pair.{Pair, IsPairImage, IsSynced}
 use Rattle.mkv_disk.proofs.MomentsLemmas.{same, weaker}
 use Rattle.mkv_disk.proofs.WritingLemmas.{IsLeft, left-run}
-use Rattle.sidecar_format.specs.declared.recovery.Recovered.{Recovered}
-use Rattle.sidecar_format.specs.declared.recovery.Recovered.TheVariants.{Applied, Nothing}
-use Rattle.sidecar_format.specs.declared.recovery.RecoverEnd.{RecoverEnd}
-use Rattle.sidecar_format.specs.declared.recovery.RecoverEnd.TheVariants.{BadSidecar, DiskFault, Foreign}
-use Rattle.sidecar_format.specs.declared.place.TheConstants.{KEPT}
-use Rattle.sidecar_format.specs.declared.gate.Gate.{Gate}
-use Rattle.sidecar_format.specs.declared.gate.Gate.TheVariants.{Live}
-use Rattle.sidecar_format.specs.Fields.{head_of, writes_in}
-use Rattle.sidecar_format.specs.Gate.{IsLiveHead, gate_of, state}
-use Rattle.sidecar_format.specs.Recovery.{if_live, recovery, unfit, unless}
-use Rattle.sidecar_format.specs.Writes.{Torn}
+use Rattle.sidecar_edit.specs.declared.outcome.Recovered.{Recovered}
+use Rattle.sidecar_edit.specs.declared.outcome.Recovered.TheVariants.{Applied, Nothing}
+use Rattle.sidecar_edit.specs.declared.outcome.RecoverEnd.{RecoverEnd}
+use Rattle.sidecar_edit.specs.declared.outcome.RecoverEnd.TheVariants.{BadSidecar, DiskFault, Foreign}
+use Rattle.sidecar_edit.specs.declared.place.TheConstants.{KEPT}
+use Rattle.sidecar_edit.specs.declared.held.Gate.{Gate}
+use Rattle.sidecar_edit.specs.declared.held.Gate.TheVariants.{Live}
+use Rattle.sidecar_edit.specs.Fields.{head_of, writes_in}
+use Rattle.sidecar_edit.specs.Gate.{IsLiveHead, gate_of, state}
+use Rattle.sidecar_edit.specs.Recovery.{if_live, recovery, unfit, unless}
+use Rattle.sidecar_edit.specs.Writes.{Torn}
 use Rattle.sidecar_edit.specs.Leaves.{IsRedoing}
 use Rattle.sidecar_edit.specs.Recovering.{IsHeadOf, IsRecovered, IsRecovering, LeftBy}
 use Rattle.sidecar_edit.proofs.EditLemmas.{redoing-writes, whole_is_torn}

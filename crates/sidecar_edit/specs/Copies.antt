@@ -3,7 +3,7 @@ use Rattle.std.specs.Prelude.{ℕ}
 use Rattle.mkv_io.specs.Contents.{octets_from}
 use Rattle.mkv_disk.specs.Image.{written_at}
 use Rattle.mkv_disk.specs.Pair.{Pair, on}
-use Rattle.sidecar_format.specs.declared.place.Place.{Place}
+use Rattle.sidecar_edit.specs.declared.place.Place.{Place}
 use Rattle.sidecar_edit.specs.Partly.{IsWritten}
 
 -- The next n octets of the sidecar from a place on, written over the medium from another on.

@@ -1,10 +1,10 @@
 -- What a crash may leave of a file and its sidecar while an edit is made or redone.
 use Rattle.std.specs.Prelude.{◌≡◌, ◌⊎◌, ◌≤◌, ℕ, List, ◌∷◌, length, drop, Ok}
-use Rattle.sidecar_format.specs.declared.place.TheConstants.{OPEN}
-use Rattle.sidecar_format.specs.declared.recovery.Recovered.TheVariants.{Applied, Nothing}
-use Rattle.sidecar_format.specs.Writes.{applied}
-use Rattle.sidecar_format.specs.Fields.{Planned, body_of, writes_of}
-use Rattle.sidecar_format.specs.Recovery.{IsClosed, IsQuiet, recovered, recovery}
+use Rattle.sidecar_edit.specs.declared.place.TheConstants.{OPEN}
+use Rattle.sidecar_edit.specs.declared.outcome.Recovered.TheVariants.{Applied, Nothing}
+use Rattle.sidecar_edit.specs.Writes.{applied}
+use Rattle.sidecar_edit.specs.Fields.{Planned, body_of, writes_of}
+use Rattle.sidecar_edit.specs.Recovery.{IsClosed, IsQuiet, recovered, recovery}
 
 -- While the gate of the sidecar S is written: it is closed, or all is as S with an open gate.
 abbrev pub IsGated : List ℕ → List ℕ → Type 0

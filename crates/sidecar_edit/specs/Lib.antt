@@ -2,3 +2,10 @@ pub mod Copies
 pub mod Leaves
 pub mod Partly
 pub mod Recovering
+pub mod Fields
+pub mod Gate
+pub mod Name
+pub mod Plan
+pub mod Recovery
+pub mod Writes
+pub mod Pending

@@ -3,7 +3,7 @@ use Rattle.std.specs.Prelude.{◌≡◌, ◌⊎◌, ℕ, ◌+◌, ◌<◌, ◌�
 use Rattle.mkv_io.specs.Contents.{overwritten}
 use Rattle.mkv_disk.specs.Image.{InRanges, clean}
 use Rattle.mkv_disk.specs.Pair.{Pair}
-use Rattle.sidecar_format.specs.Writes.{Write, Touches, applied, extent}
+use Rattle.sidecar_edit.specs.Writes.{Write, Touches, applied, extent}
 
 -- These octets are written from this place of the medium on, in any pieces: it reads as after one write, and a crash leaves no
 -- more than after one.

@@ -6,14 +6,14 @@ use Rattle.mkv_disk.specs.Calls.{OfReads}
 use Rattle.mkv_disk.specs.Pair.{Pair, both}
 use Rattle.mkv_disk.specs.declared.disk.Disk.{Ghosts}
 use Rattle.mkv_disk.specs.declared.disk.TheConstants.{SIDECAR}
-use Rattle.sidecar_format.specs.declared.gate.Gate.TheVariants.{Live}
-use Rattle.sidecar_format.specs.Fields.{head_of}
-use Rattle.sidecar_format.specs.Gate.{IsLiveHead, state}
-use Rattle.sidecar_format.specs.declared.recovery.Recovered.{Recovered}
-use Rattle.sidecar_format.specs.declared.recovery.Recovered.TheVariants.{Applied, Nothing}
-use Rattle.sidecar_format.specs.declared.recovery.RecoverEnd.{RecoverEnd}
-use Rattle.sidecar_format.specs.declared.recovery.RecoverEnd.TheVariants.{DiskFault}
-use Rattle.sidecar_format.specs.Recovery.{recovered, recovery}
+use Rattle.sidecar_edit.specs.declared.held.Gate.TheVariants.{Live}
+use Rattle.sidecar_edit.specs.Fields.{head_of}
+use Rattle.sidecar_edit.specs.Gate.{IsLiveHead, state}
+use Rattle.sidecar_edit.specs.declared.outcome.Recovered.{Recovered}
+use Rattle.sidecar_edit.specs.declared.outcome.Recovered.TheVariants.{Applied, Nothing}
+use Rattle.sidecar_edit.specs.declared.outcome.RecoverEnd.{RecoverEnd}
+use Rattle.sidecar_edit.specs.declared.outcome.RecoverEnd.TheVariants.{DiskFault}
+use Rattle.sidecar_edit.specs.Recovery.{recovered, recovery}
 use Rattle.sidecar_edit.specs.Leaves.{IsRedoing}
 
 -- These are the first octets of the pair's sidecar, which is live.

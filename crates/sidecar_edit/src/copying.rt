@@ -7,9 +7,9 @@ ghost use Rattle.mkv_disk.specs.Calls.{LeavesImages, OfReads};
 ghost use Rattle.mkv_disk.specs.Writing.{HasDiskCause, KeepsOpen};
 ghost use Rattle.sidecar_edit.specs.Copies.{IsCopied, with_copy};
 
+use crate::place::Place;
 use mkv_disk::{Disk, MEDIA, SIDECAR};
-use mkv_values::Failed;
-use sidecar_format::Place;
+use mkv_io::Failed;
 
 /// At most so many octets are copied at once.
 const PIECE: u64 = 4096;

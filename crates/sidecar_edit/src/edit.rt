@@ -6,15 +6,16 @@ ghost use Rattle.mkv_io.specs.Sources.{IsLive};
 ghost use Rattle.mkv_disk.specs.Pair.{both};
 ghost use Rattle.mkv_disk.specs.Calls.{AnyMoment, AtRest, Makes, OfReads};
 ghost use Rattle.mkv_disk.specs.Writing.{OnlyWrites};
-ghost use Rattle.sidecar_format.specs.Fields.{IsMadeFor, IsPlan, body_of, writes_of};
-ghost use Rattle.sidecar_format.specs.Recovery.{IsClosed};
-ghost use Rattle.sidecar_format.specs.Writes.{Fits, Torn, applied};
+ghost use Rattle.sidecar_edit.specs.Fields.{IsMadeFor, IsPlan, body_of, writes_of};
+ghost use Rattle.sidecar_edit.specs.Recovery.{IsClosed};
+ghost use Rattle.sidecar_edit.specs.Writes.{Fits, Torn, applied};
 ghost use Rattle.sidecar_edit.specs.Leaves.{IsEditing};
 
 use crate::gate::{close, set_gate};
+use crate::place::OPEN;
+use crate::plan::Plan;
 use mkv_disk::{Disk, MEDIA, SIDECAR};
-use mkv_values::Failed;
-use sidecar_format::{OPEN, Plan};
+use mkv_io::Failed;
 
 /// Writes the record of a plan behind the gate of a settled sidecar, and makes sure of it.
 fn write_record<D: Disk>(plan: &Plan, disk: &mut D) -> Result<(), Failed>

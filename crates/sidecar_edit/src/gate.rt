@@ -6,11 +6,11 @@ ghost use Rattle.mkv_io.specs.Sources.{IsLive};
 ghost use Rattle.mkv_disk.specs.Pair.{both};
 ghost use Rattle.mkv_disk.specs.Calls.{AnyMoment, AtRest, Makes, OfReads};
 ghost use Rattle.mkv_disk.specs.Writing.{OnlyWrites};
-ghost use Rattle.sidecar_format.specs.Recovery.{IsClosed, IsQuiet};
+ghost use Rattle.sidecar_edit.specs.Recovery.{IsClosed, IsQuiet};
 ghost use Rattle.sidecar_edit.specs.Leaves.{IsGated};
 
 use mkv_disk::{Disk, SIDECAR};
-use mkv_values::Failed;
+use mkv_io::Failed;
 
 /// Writes the gate, and makes sure of it.
 pub fn set_gate<D: Disk>(disk: &mut D, gate: u8) -> Result<(), Failed>

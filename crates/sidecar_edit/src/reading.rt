@@ -3,14 +3,17 @@
 ghost use Rattle.std.specs.Prelude.{◌≡◌, ◌+◌, ◌≤◌, ℕ, min, false, IfOk, IfSome, length, take};
 ghost use Rattle.mkv_io.specs.Faults.{HasCause, is_failure};
 ghost use Rattle.mkv_io.specs.Sources.{IfTold, IsLive, OnlyReads, file_size};
-ghost use Rattle.sidecar_format.specs.Gate.{IsLiveHead, state};
-ghost use Rattle.sidecar_format.specs.Recovery.{is_disk_fault, unfit};
-ghost use Rattle.sidecar_format.specs.declared.place.TheConstants.{HEAD, KEPT};
+ghost use Rattle.sidecar_edit.specs.Gate.{IsLiveHead, state};
+ghost use Rattle.sidecar_edit.specs.Recovery.{is_disk_fault, unfit};
+ghost use Rattle.sidecar_edit.specs.declared.place.TheConstants.{HEAD, KEPT};
 
+use crate::fit::unfit;
+use crate::head::gate_of;
+use crate::held::Gate;
+use crate::outcome::RecoverEnd;
+use crate::place::{HEAD, KEPT};
 use mkv_disk::{MEDIA, SIDECAR};
-use mkv_io::Reads;
-use mkv_values::{Failed, FileId};
-use sidecar_format::{Gate, HEAD, KEPT, RecoverEnd, gate_of, unfit};
+use mkv_io::{Failed, FileId, Reads};
 
 /// Reads a file's first octets, as many as `first` holds or the file has, and answers how many.
 #[tactic(auto, using(std::proofs::lemmas::List::take_at))]

@@ -5,19 +5,22 @@ ghost use Rattle.mkv_io.specs.Faults.{is_failure};
 ghost use Rattle.mkv_disk.specs.Pair.{both};
 ghost use Rattle.mkv_disk.specs.Calls.{AnyMoment, IsReady, Makes, OfReads};
 ghost use Rattle.mkv_disk.specs.Writing.{HasDiskCause, KeepsOpen};
-ghost use Rattle.sidecar_format.specs.Fields.{writes_in};
-ghost use Rattle.sidecar_format.specs.Recovery.{is_disk_fault, recovered, recovery};
-ghost use Rattle.sidecar_format.specs.Writes.{Fits, Torn, applied};
-ghost use Rattle.sidecar_format.specs.declared.place.TheConstants.{HEAD, KEPT, MOST_OCTETS};
+ghost use Rattle.sidecar_edit.specs.Fields.{writes_in};
+ghost use Rattle.sidecar_edit.specs.Recovery.{is_disk_fault, recovered, recovery};
+ghost use Rattle.sidecar_edit.specs.Writes.{Fits, Torn, applied};
+ghost use Rattle.sidecar_edit.specs.declared.place.TheConstants.{HEAD, KEPT, MOST_OCTETS};
 ghost use Rattle.sidecar_edit.specs.Leaves.{IsRedoing};
 ghost use Rattle.sidecar_edit.specs.Recovering.{IsHeadOf, IsRecovered, IsRecovering, KeepsUnlessApplied};
 
 use crate::copying::copy;
 use crate::gate::close;
+use crate::head::{count_in, gate_of, head_len, place_in};
+use crate::held::Gate;
+use crate::outcome::{RecoverEnd, Recovered};
+use crate::place::HEAD;
 use crate::reading::{read_first, unfit_medium};
 use mkv_disk::{Disk, MEDIA, SIDECAR};
-use mkv_values::Failed;
-use sidecar_format::{Gate, HEAD, RecoverEnd, Recovered, count_in, gate_of, head_len, place_in};
+use mkv_io::Failed;
 
 /// Makes the writes of a live sidecar with these first octets, and makes sure of them.
 fn redo_writes<D: Disk>(head: &[u8], disk: &mut D) -> Result<(), Failed>

@@ -4,7 +4,7 @@ ghost use Rattle.std.specs.Prelude.{◌≡◌, take, drop, IfOk};
 ghost use Rattle.std.specs.Option.{option_copied};
 ghost use Rattle.splitter.specs.Names.{are_digits, before, behind, extension, is_part_name, number_in, part_name, stem};
 
-use mkv_values::Text;
+use mkv_io::Text;
 use std::alloc::{AllocError, Global};
 
 // A name, cut in front of its extension.

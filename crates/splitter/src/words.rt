@@ -5,7 +5,7 @@ ghost use Rattle.splitter.specs.declared.spec.SplitSpec.TheVariants as spec;
 ghost use Rattle.splitter.specs.Words.{is_by_time, spec_of, start_at};
 
 use crate::spec::SplitSpec;
-use mkv_values::List;
+use mkv_io::List;
 use std::alloc::{AllocError, Global};
 use word_values::SplitWords;
 

@@ -1,14 +1,14 @@
 -- Chapters as a tree.
 use Rattle.std.proofs.Common.{◌≡◌, ◌≤◌, ℕ, true, List, [], ◌∷◌, ◌++◌, map, Ok, refl, arith}
 use Rattle.std.proofs.lemmas.List.{map_push}
-use Rattle.ebml_format.specs.Number.{is_id}
+use Rattle.ebml_numbers.specs.Number.{is_id}
 use Rattle.mkv_schema.specs.Schema.{entry_of, is_master}
 use Rattle.mkv_schema.specs.Table.{table}
 use Rattle.mkv_schema.specs.declared.ids.TheConstants.{CHAPTERS, EDITION_ENTRY, EDITION_UID, CHAPTER_ATOM, CHAPTER_UID, CHAPTER_TIME_START, CHAPTER_DISPLAY, CHAP_STRING, CHAP_LANGUAGE}
 use Rattle.tree_format.specs.Node.{master, none, nodes_of, children, with_children, depth_all, HasRoom}
 use Rattle.tree_format.specs.Reading.{tree_of, grove, grove_within}
 use Rattle.tree_format.proofs.NodeLemmas.{list-nodes}
-use Rattle.chapter_texts.specs.declared.reading.Chapter.{Chapter}
+use Rattle.srt_texts.specs.declared.chapter_reading.Chapter.{Chapter}
 use Rattle.srt_chapters.specs.Chapters.{atom, edition}
 
 -- ---- what the table has

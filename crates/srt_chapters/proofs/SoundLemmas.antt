@@ -6,16 +6,16 @@ use Rattle.std.proofs.Math.Seq.{take-length}
 use Rattle.std.specs.Prelude.{◌==◌}
 use Rattle.std.specs.List.{prefix_len}
 use Rattle.std.specs.Str.{IsUtf8, is_utf8, IsAscii}
-use Rattle.ebml_format.specs.Number.{uint_octets}
-use Rattle.ebml_format.proofs.NumberLemmas.{length-uint_octets}
-use Rattle.ebml_format.proofs.WidthLemmas.{uint_width-IsLeast}
+use Rattle.ebml_numbers.specs.Number.{uint_octets}
+use Rattle.ebml_numbers.proofs.NumberLemmas.{length-uint_octets}
+use Rattle.ebml_numbers.proofs.WidthLemmas.{uint_width-IsLeast}
 use Rattle.mkv_schema.specs.Schema.{entry_of}
 use Rattle.mkv_schema.specs.Table.{table}
 use Rattle.mkv_schema.specs.declared.ids.TheConstants.{CHAPTERS, EDITION_ENTRY, EDITION_UID, CHAPTER_ATOM, CHAPTER_UID, CHAPTER_TIME_START, CHAPTER_DISPLAY, CHAP_STRING, CHAP_LANGUAGE}
-use Rattle.matroska_format.specs.Value.{text_of}
+use Rattle.mkv_schema.specs.Value.{text_of}
 use Rattle.tree_format.specs.Reading.{is_master_in}
 use Rattle.tree_format.specs.Standing.{IsLeafIn, StandsIn, IsSound, IsSoundOf}
-use Rattle.chapter_texts.specs.declared.reading.Chapter.{Chapter}
+use Rattle.srt_texts.specs.declared.chapter_reading.Chapter.{Chapter}
 use Rattle.srt_chapters.specs.Chapters.{uint, display, atom, edition, chapters_of}
 use Rattle.srt_chapters.proofs.ChaptersLemmas.{id_edition_uid, id_uid, id_start, id_string, id_language}
 

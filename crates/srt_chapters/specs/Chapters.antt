@@ -1,10 +1,10 @@
 -- Simple chapters as a Chapters Element: RFC 9559, section 5.1.7 (Chapters Element).
 use Rattle.std.specs.Prelude.{ℕ, List, [], ◌∷◌, map, codes, Result, Ok, Err}
-use Rattle.ebml_format.specs.Number.{uint_octets}
+use Rattle.ebml_numbers.specs.Number.{uint_octets}
 use Rattle.mkv_schema.specs.declared.ids.TheConstants.{CHAPTERS, EDITION_ENTRY, EDITION_UID, CHAPTER_ATOM, CHAPTER_UID, CHAPTER_TIME_START, CHAPTER_DISPLAY, CHAP_STRING, CHAP_LANGUAGE}
 use Rattle.tree_format.specs.Node.{Node, leaf, master, nodes_of}
-use Rattle.chapter_texts.specs.declared.reading.Chapter.{Chapter}
-use Rattle.chapter_texts.specs.Pairs.{simple}
+use Rattle.srt_texts.specs.declared.chapter_reading.Chapter.{Chapter}
+use Rattle.srt_texts.specs.Pairs.{simple}
 
 -- an unsigned integer in its fewest octets
 abbrev pub uint : ℕ → ℕ → Node

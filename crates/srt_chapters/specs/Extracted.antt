@@ -2,10 +2,10 @@
 use Rattle.std.specs.Prelude.{ℕ, ◌+◌, ◌==◌, List, [], ◌∷◌, ◌++◌, filter}
 use Rattle.std.specs.Option.{option_map_or}
 use Rattle.mkv_schema.specs.declared.ids.TheConstants.{EDITION_ENTRY, CHAPTER_ATOM, CHAPTER_TIME_START, CHAPTER_DISPLAY, CHAP_STRING}
-use Rattle.matroska_format.specs.Value.{text_of}
+use Rattle.mkv_schema.specs.Value.{text_of}
 use Rattle.tree_format.specs.Node.{Node, id_of, body_of, children}
 use Rattle.tree_format.specs.Values.{first_child, integer_of}
-use Rattle.chapter_texts.specs.Writing.{put_pair}
+use Rattle.srt_texts.specs.ChapterWriting.{put_pair}
 
 -- where an atom starts, in nanoseconds: at 0, where it doesn't say
 abbrev pub start_of : Node → ℕ

@@ -2,22 +2,21 @@
 
 ghost use Rattle.std.specs.Prelude.{◌≡◌, IfOk, IsTrue};
 ghost use Rattle.mkv_schema.specs.Schema.{is_master};
-ghost use Rattle.ebml_format.specs.Number.{is_id};
-ghost use Rattle.text_lines.specs.Ends.{Reads};
+ghost use Rattle.ebml_numbers.specs.Number.{is_id};
+ghost use Rattle.srt_texts.specs.Ends.{Reads};
 ghost use Rattle.tree_format.specs.Node.{master, none};
 ghost use Rattle.tree_format.specs.Standing.{IsSound, IsSoundOf, StandsIn};
 ghost use Rattle.mkv_schema.specs.declared.ids.TheConstants.{CHAPTERS as CHAPTERS_ID, EDITION_ENTRY as EDITION_ID};
 ghost use Rattle.srt_chapters.specs.Chapters as spec;
 
-use chapter_texts::{Chapter, read_pairs};
 use ebml_numbers::put_uint;
 use ebml_tree::Tree;
 use mkv_schema::ids::{
     CHAP_LANGUAGE, CHAP_STRING, CHAPTER_ATOM, CHAPTER_DISPLAY, CHAPTER_TIME_START, CHAPTER_UID,
     CHAPTERS, EDITION_ENTRY, EDITION_UID,
 };
+use srt_texts::{Chapter, TextEnd, read_pairs};
 use std::alloc::{AllocError, Global};
-use text_lines::TextEnd;
 
 // A master without children.
 #[tactic(auto, using(crate::proofs::ChaptersLemmas::empty), unfolding(tree_format::specs::Reading::grove, tree_format::specs::Reading::grove_within))]

@@ -6,12 +6,12 @@ ghost use Rattle.tree_format.specs.Standing.{IsSoundOf};
 ghost use Rattle.tree_format.specs.Node.{children};
 ghost use Rattle.srt_chapters.specs.Extracted as spec;
 
-use chapter_texts::put_pair;
 use ebml_tree::Tree;
+use mkv_io::Bytes;
 use mkv_schema::ids::{
     CHAP_STRING, CHAPTER_ATOM, CHAPTER_DISPLAY, CHAPTER_TIME_START, EDITION_ENTRY,
 };
-use mkv_values::Bytes;
+use srt_texts::put_pair;
 use std::alloc::AllocError;
 
 fn start_of(atom: &Tree) -> u64

@@ -8,8 +8,8 @@ use Rattle.std.specs.Option.{is_some}
 use Rattle.std.specs.List.{onto_first, join_with_byte, slice_split}
 use Rattle.std.specs.Str.{bytes_eq}
 use Rattle.std.specs.Str.Lines.{lines_of_parts, strip_carriage_return}
-use Rattle.text_entries.specs.declared.Entry.{Entry}
-use Rattle.text_lines.specs.Lines.{behind_mark, lines_of}
+use Rattle.mkv_io.specs.declared.entry.Entry.{Entry}
+use Rattle.srt_texts.specs.Lines.{behind_mark, lines_of}
 use Rattle.srt_texts.specs.Srt.{head, before_head, trimmed, onto_lines, text_of, entries, onto_entries}
 
 -- the octets of lines, each with an end

@@ -3,3 +3,8 @@ pub mod SrtLemmas
 pub mod SortLemmas
 pub mod WritingLemmas
 pub mod LengthLemmas
+pub mod LinesLemmas
+pub mod FieldsLemmas
+pub mod PiecesLemmas
+pub mod ChapterWritingLemmas
+pub mod PairsLemmas

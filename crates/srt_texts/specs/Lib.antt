@@ -2,3 +2,10 @@ pub mod Times
 pub mod Srt
 pub mod Reading
 pub mod Writing
+pub mod Lines
+pub mod Fields
+pub mod Pieces
+pub mod Ends
+pub mod Pairs
+pub mod Turn
+pub mod ChapterWriting

@@ -2,9 +2,9 @@
 use Rattle.std.specs.Prelude.{◌≡◌, ◌<◌, ◌≤◌, ⊤, All, ℕ, zero, suc, ◌+◌, List, [], ◌∷◌, length, Option, Some, None, Result, Ok, Err}
 use Rattle.std.specs.Str.Lines.{lines}
 use Rattle.srt_texts.specs.declared.reading.Head.{Head}
-use Rattle.text_entries.specs.declared.Entry.{Entry}
-use Rattle.text_lines.specs.declared.end.TextEnd.{TextEnd}
-use Rattle.text_lines.specs.Ends.{Blames}
+use Rattle.mkv_io.specs.declared.entry.Entry.{Entry}
+use Rattle.srt_texts.specs.declared.end.TextEnd.{TextEnd}
+use Rattle.srt_texts.specs.Ends.{Blames}
 use Rattle.srt_texts.specs.Times.{latest}
 use Rattle.srt_texts.specs.Srt.{Place, Second, Behind, head, before_head, entry, entries, first_bad}
 use Rattle.srt_texts.specs.declared.times.Times.{Times}

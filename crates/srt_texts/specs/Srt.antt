@@ -4,8 +4,8 @@ use Rattle.std.specs.Option.{is_some}
 use Rattle.std.specs.List.{join_with_byte}
 use Rattle.std.specs.Str.{bytes_eq, is_utf8}
 use Rattle.srt_texts.specs.declared.times.Times.{Times}
-use Rattle.text_entries.specs.declared.Entry.{Entry}
-use Rattle.text_lines.specs.Lines.{lines_of}
+use Rattle.mkv_io.specs.declared.entry.Entry.{Entry}
+use Rattle.srt_texts.specs.Lines.{lines_of}
 use Rattle.srt_texts.specs.Times.{times, is_number}
 
 -- the times of the head that begins these lines: a number line with a time line after it

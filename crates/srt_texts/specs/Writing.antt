@@ -1,9 +1,9 @@
 -- How an entry of SubRip is written.
 use Rattle.std.specs.Prelude.{ℕ, ℤ, pos, negsuc, ◌+ℤ◌, ◌/◌, List, [], ◌∷◌, ◌++◌, codes}
 use Rattle.std.specs.Fmt.{decimal}
-use Rattle.text_lines.specs.declared.pieces.Piece.{Piece}
-use Rattle.text_lines.specs.declared.pieces.Piece.TheVariants.{Time}
-use Rattle.text_lines.specs.Pieces.{stamp}
+use Rattle.srt_texts.specs.declared.pieces.Piece.{Piece}
+use Rattle.srt_texts.specs.declared.pieces.Piece.TheVariants.{Time}
+use Rattle.srt_texts.specs.Pieces.{stamp}
 
 -- whole milliseconds of a time in nanoseconds; one before 0 is 0
 abbrev pub milliseconds : ℤ → ℕ

@@ -2,17 +2,18 @@
 
 ghost use Rattle.std.specs.Prelude.{◌≡◌, ◌+◌, ◌<◌, ◌^◌, ◌++◌, length, IfOk, IfErr, OnOk, None, false, true, MatchOption};
 ghost use Rattle.std.specs.Str.Lines.{lines};
-ghost use Rattle.text_lines.specs.Lines.{lines_of};
-ghost use Rattle.text_lines.specs.Ends.{Blames, Reads};
+ghost use Rattle.srt_texts.specs.Lines.{lines_of};
+ghost use Rattle.srt_texts.specs.Ends.{Blames, Reads};
 ghost use Rattle.srt_texts.specs.Srt as spec;
 ghost use Rattle.srt_texts.specs.Srt.{first_bad, entries, text_of, before_head, Front, Behind};
 ghost use Rattle.srt_texts.specs.Reading.{AreWithin, GoesOn, HeadRead, IsWithin, breaks};
 
+use crate::end::TextEnd;
+use crate::fields::text;
+use crate::lines::{behind_mark, next_line};
 use crate::times::{Times, is_number, times_of};
-use mkv_values::{List, Text};
+use mkv_io::{Entry, List, Text};
 use std::alloc::{AllocError, Global};
-use text_entries::Entry;
-use text_lines::{TextEnd, behind_mark, next_line, text};
 
 /// A head that was read: its times, what stands behind it, and the number of its second line.
 #[derive(Clone, Copy)]

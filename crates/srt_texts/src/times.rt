@@ -5,7 +5,7 @@ ghost use Rattle.std.specs.Char.{is_ascii_digit};
 ghost use Rattle.std.specs.List.{prefix_len, list_all};
 ghost use Rattle.srt_texts.specs.Times as spec;
 
-use text_lines::{behind, cut, digits, sixtieth};
+use crate::fields::{behind, cut, digits, sixtieth};
 
 const MILLISECOND: u64 = 1_000_000;
 

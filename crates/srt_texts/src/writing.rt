@@ -3,9 +3,9 @@
 ghost use Rattle.std.specs.Prelude.{◌≡◌, ◌++◌, ◌<◌, ◌^◌, OnOk, OnErr};
 ghost use Rattle.srt_texts.specs.Writing as spec;
 
-use mkv_values::Bytes;
+use crate::pieces::{Piece, put_pieces};
+use mkv_io::Bytes;
 use std::alloc::AllocError;
-use text_lines::{Piece, put_pieces};
 
 /// Adds an entry of SubRip: its number, its times, its text and an empty line. Start and duration are in
 /// nanoseconds; a time before 0 is written as 0. On a refusal nothing is added.

@@ -12,15 +12,16 @@ use Rattle.mkv_io.specs.declared.reads.Reads.{Ghosts}
 use Rattle.mkv_io.specs.declared.files.Files as writing
 use Rattle.cluster_reader.specs.ToldDamages.{ToldDamages}
 use Rattle.merge_model.specs.Merged.{Ordered, merged, merged_from, ordered}
-use Rattle.lane_blocks.specs.Lent.{lent_ordered}
-use Rattle.lane_blocks.specs.Links.{IsOpenLink, KeepsLink}
-use Rattle.lane_blocks.specs.declared.link.Link.{Link}
-use Rattle.lane_blocks.specs.declared.link.Link.TheVariants.{Track, Entries}
+use Rattle.lanes.specs.Lent.{lent_ordered}
+use Rattle.merge_model.specs.FileLinks.{IsOpenLink, KeepsLink}
+use Rattle.merge_model.specs.declared.link.Link.{Link}
+use Rattle.merge_model.specs.declared.link.Link.TheVariants.{Track, Entries}
 use Rattle.lanes.specs.Lane.{LaneSeen, lent}
 use Rattle.lanes.specs.Lane as lanes
 use Rattle.lanes.specs.Laws as lane_laws
 use Rattle.lanes.proofs.KeptLemmas as lane_lemmas
-use Rattle.time_merge.specs.Laws.{AreStarted, IsApart, IsApartLink, StandsAmong, lanes_over}
+use Rattle.time_merge.specs.Laws.{AreStarted, IsApart, IsApartLink, StandsAmong}
+use Rattle.merge_model.specs.FileLinks.{lanes_over}
 use Rattle.time_merge.specs.Merge.{IsReady, KeepsMerge, MergeSeen, damages_of, due_of, length_of}
 use Rattle.time_merge.specs.Queues.{waiting, waiting_as}
 use Rattle.time_merge.specs.declared.queue.Head.{Head}

@@ -12,8 +12,7 @@ ghost use Rattle.time_merge.specs.Queues.{IsQueue};
 use crate::least::first_least;
 use crate::queue::{Head, Queue};
 use lanes::Lane;
-use mkv_io::Reads;
-use mkv_values::{List, ReadEnd};
+use mkv_io::{List, ReadEnd, Reads};
 use std::alloc::Global;
 use std::marker::Model;
 

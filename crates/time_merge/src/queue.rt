@@ -7,8 +7,7 @@ ghost use Rattle.lanes.specs.Lane.{IsReady};
 ghost use Rattle.time_merge.specs.Queues.{IsFilled, IsQueue, KeepsWaiting, Pays, StaysQueue};
 
 use lanes::{Lane, LaneStep};
-use mkv_io::Reads;
-use mkv_values::ReadEnd;
+use mkv_io::{ReadEnd, Reads};
 
 /// Where a lane stands.
 #[derive(Clone, Copy)]

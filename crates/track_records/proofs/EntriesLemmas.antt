@@ -5,7 +5,7 @@ use Rattle.mkv_schema.specs.declared.ids.TheConstants.{TRACK_ENTRY}
 use Rattle.tree_format.specs.Node.{Node, id_of, children, nodes_of, depth_all, deepest, HasRoom}
 use Rattle.tree_format.specs.Standing.{IsSound}
 use Rattle.tree_format.proofs.ChildLemmas.{child-stands, children-sound, stands-sound}
-use Rattle.track_format.specs.Entry.{entries_of}
+use Rattle.file_format.specs.Entry.{entries_of}
 use Rattle.track_records.specs.Sound.{IsEntry}
 
 -- the TrackEntries from an index on

@@ -5,13 +5,13 @@ use Rattle.mkv_schema.specs.declared.ids.TheConstants.{TRACK_ENTRY, TRACK_NUMBER
 use Rattle.mkv_schema.specs.declared.kind.ElementKind.TheVariants.{Uint}
 use Rattle.mkv_schema.specs.Table.{table}
 use Rattle.mkv_schema.specs.Schema.{entry_of}
-use Rattle.matroska_format.specs.Value.{is_value}
+use Rattle.mkv_schema.specs.Value.{is_value}
 use Rattle.tree_format.specs.Node.{Node, id_of, body_of}
 use Rattle.tree_format.specs.Standing.{StandsIn}
 use Rattle.tree_format.specs.Values.{HasUint}
 use Rattle.tree_format.proofs.ChildLemmas.{stands-value, HasUint-of}
-use Rattle.tree_values.specs.Texts.{HasText}
-use Rattle.tree_values.proofs.TextLemmas.{HasText-of}
+use Rattle.ebml_tree.specs.Texts.{HasText}
+use Rattle.ebml_tree.proofs.TextLemmas.{HasText-of}
 
 -- ---- what the table has in a TrackEntry and in its encodings
 

@@ -2,3 +2,4 @@ pub mod EntryLemmas
 pub mod EntriesLemmas
 pub mod RefusalLemmas
 pub mod TracksLemmas
+pub mod StandLemmas

@@ -10,8 +10,8 @@ use Rattle.mkv_schema.specs.declared.ids.TheConstants.{TRACK_NUMBER, DEFAULT_DUR
 use Rattle.tree_format.specs.Node.{Node, id_of}
 use Rattle.tree_format.specs.Changes.{without}
 use Rattle.tree_format.specs.Values.{integer_of}
-use Rattle.track_format.specs.Refusal.{firsts, is_bad, too_long}
-use Rattle.track_format.proofs.FirstLemmas.{find-same, find-without}
+use Rattle.file_format.specs.Refusal.{firsts, is_bad, too_long}
+use Rattle.file_format.proofs.FirstLemmas.{find-same, find-without}
 use Rattle.track_records.specs.Met.{is_met}
 
 -- a bad value of an ID that wasn't met

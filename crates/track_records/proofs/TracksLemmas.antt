@@ -1,17 +1,17 @@
 -- What follows from an answer.
 use Rattle.std.proofs.Common.{◌≡◌, ◌≢◌, List, map, Option, Some, None, Result, Ok, Err, OnOk, IfOk, IfErr, All, subst, refl}
 use Rattle.std.proofs.lemmas.List.Elements.{All-map}
-use Rattle.mkv_values.specs.declared.damage.Damage.{Damage as Harm}
+use Rattle.mkv_io.specs.declared.damage.Damage.{Damage as Harm}
 use Rattle.ebml_tree.specs.declared.end.TreeEnd.{TreeEnd}
 use Rattle.ebml_tree.specs.declared.end.TreeEnd.TheVariants.{Damage, Memory}
-use Rattle.matroska_format.specs.Outline.{unless}
+use Rattle.mkv_schema.specs.Outline.{unless}
 use Rattle.tree_format.specs.Node.{Node, HasRoom}
 use Rattle.tree_format.specs.Standing.{IsSound}
-use Rattle.track_format.specs.Entry.{entries_of}
-use Rattle.track_format.specs.Refusal.{refusal_of}
-use Rattle.track_format.specs.Tracks.{AreTracks}
+use Rattle.file_format.specs.Entry.{entries_of}
+use Rattle.file_format.specs.Refusal.{refusal_of}
+use Rattle.file_format.specs.Tracks.{AreTracks}
 use Rattle.track_records.proofs.EntriesLemmas.{entries-sound}
-use Rattle.track_format.proofs.TracksLemmas.{refusal-none}
+use Rattle.file_format.proofs.TracksLemmas.{refusal-none}
 use Rattle.track_records.specs.declared.track.Track.{Track}
 use Rattle.track_records.specs.Sound.{IsEntry}
 use Rattle.track_records.specs.Track.{track_of, tracks_of}

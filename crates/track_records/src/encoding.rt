@@ -3,20 +3,19 @@
 
 ghost use Rattle.std.specs.Prelude.{◌≡◌, ◌≤◌, length, IfOk};
 ghost use Rattle.mkv_schema.specs.declared.ids.TheConstants.{CONTENT_ENCODINGS as ENCODINGS_ID, CONTENT_ENCODING as ENCODING_ID};
-ghost use Rattle.matroska_format.specs.Outline.{first_damage};
+ghost use Rattle.mkv_schema.specs.Outline.{first_damage};
 ghost use Rattle.tree_format.specs.Standing.{IsSoundOf};
-ghost use Rattle.track_format.specs.Encoding.{algorithm_of, settings_of, most_stripped, strips_headers, encodings_of, can_be_undone, is_one, bad_encoding, bad_scale, usable_causes, prefix_of, usable_prefix};
+ghost use Rattle.file_format.specs.Encoding.{algorithm_of, settings_of, most_stripped, strips_headers, encodings_of, can_be_undone, is_one, bad_encoding, bad_scale, usable_causes, prefix_of, usable_prefix};
 ghost use Rattle.track_records.specs.Sound.{IsEntry};
 ghost use Rattle.track_records.specs.Outcome.{lent};
 
 use crate::track::Track;
-use ebml_tree::Tree;
+use ebml_tree::{Tree, uint_in};
+use mkv_io::{Damage, Kind};
 use mkv_schema::ids::{
     CONTENT_COMP_ALGO, CONTENT_COMP_SETTINGS, CONTENT_COMPRESSION, CONTENT_ENCODING,
     CONTENT_ENCODING_SCOPE, CONTENT_ENCODING_TYPE, CONTENT_ENCODINGS, TRACK_TIMESTAMP_SCALE,
 };
-use mkv_values::{Damage, Kind};
-use tree_values::uint_in;
 
 /// The ContentEncodingScope of what encodes frames and nothing else.
 const FRAMES: u64 = 1;

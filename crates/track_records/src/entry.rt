@@ -1,18 +1,17 @@
 //! The values of a TrackEntry: RFC 9559, section 5.1.4 (Tracks Element).
 
 ghost use Rattle.std.specs.Prelude.{◌≡◌, IfOk};
-ghost use Rattle.track_format.specs.Entry.{number_of};
+ghost use Rattle.file_format.specs.Entry.{number_of};
 ghost use Rattle.track_records.specs.Track.{track_of};
 ghost use Rattle.track_records.specs.Sound.{IsEntry};
 
 use crate::track::Track;
-use ebml_tree::Tree;
+use ebml_tree::{Tree, integer_in, text_in, uint_in};
+use mkv_io::Text;
 use mkv_schema::ids::{
     CODEC_ID, DEFAULT_DURATION, LANGUAGE, LANGUAGE_BCP47, TRACK_NUMBER, TRACK_TYPE, TRACK_UID,
 };
-use mkv_values::Text;
 use std::alloc::{AllocError, Global};
-use tree_values::{integer_in, text_in, uint_in};
 
 /// The TrackNumber, 0 where there is none.
 #[tactic(auto, using(crate::proofs::EntryLemmas::known))]

@@ -2,18 +2,18 @@
 
 ghost use Rattle.std.specs.Prelude.{◌≡◌, map, IfOk, is_none};
 ghost use Rattle.mkv_schema.specs.declared.ids.TheConstants.{TRACK_ENTRY as ENTRY_ID};
-ghost use Rattle.matroska_format.specs.Element.{damage};
+ghost use Rattle.mkv_schema.specs.Element.{damage};
 ghost use Rattle.tree_format.specs.Standing.{IsSound, StandsIn};
 ghost use Rattle.tree_format.specs.Values.{first_child};
-ghost use Rattle.track_format.specs.Entry.{entries_of, number_of};
-ghost use Rattle.track_format.specs.Refusal.{is_bad, bad_value, missing_child, first_in, told_at, first_repeated, repeated_number, refusal_of};
+ghost use Rattle.file_format.specs.Entry.{entries_of, number_of};
+ghost use Rattle.file_format.specs.Refusal.{is_bad, bad_value, missing_child, first_in, told_at, first_repeated, repeated_number, refusal_of};
 ghost use Rattle.track_records.specs.Sound.{IsEntry};
 ghost use Rattle.track_records.specs.Met.{is_met};
 
 use crate::entry::number_of;
 use ebml_tree::Tree;
+use mkv_io::{Damage, Kind};
 use mkv_schema::ids::{CODEC_ID, DEFAULT_DURATION, TRACK_ENTRY, TRACK_NUMBER, TRACK_TYPE};
-use mkv_values::{Damage, Kind};
 use std::alloc::{AllocError, Global};
 use std::collections::BTreeSet;
 

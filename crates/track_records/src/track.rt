@@ -3,7 +3,7 @@
 ghost use Rattle.std.specs.Prelude.{◌≡◌};
 
 use ebml_tree::Tree;
-use mkv_values::Text;
+use mkv_io::Text;
 
 /// A track, as its TrackEntry says (RFC 9559, section 5.1.4, Tracks Element).
 #[derive(Drop)]
@@ -27,10 +27,10 @@ pub struct Track {
 }
 
 impl Track {
-    ghost use Rattle.track_format.specs.TrackType.{type_name};
+    ghost use Rattle.file_format.specs.TrackType.{type_name};
 
     /// The name of the track's type: `video`, `audio`, `subtitles`, or `other`.
-    #[tactic(auto, unfolding(track_format::specs::TrackType::type_name))]
+    #[tactic(auto, unfolding(file_format::specs::TrackType::type_name))]
     pub fn type_name(&self) -> &'static str
         ensures { result.now ≡ type_name self.now.kind }
     {

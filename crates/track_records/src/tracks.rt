@@ -3,8 +3,8 @@
 ghost use Rattle.std.specs.Prelude.{◌≡◌, ◌≢◌, map, All, OnOk, IfOk, IfErr};
 ghost use Rattle.tree_format.specs.Node.{HasRoom};
 ghost use Rattle.tree_format.specs.Standing.{IsSound};
-ghost use Rattle.track_format.specs.Entry.{entries_of};
-ghost use Rattle.track_format.specs.Tracks.{AreTracks};
+ghost use Rattle.file_format.specs.Entry.{entries_of};
+ghost use Rattle.file_format.specs.Tracks.{AreTracks};
 ghost use Rattle.track_records.specs.Track.{track_of, tracks_of};
 ghost use Rattle.track_records.specs.Outcome.{ReadsTracks};
 ghost use Rattle.track_records.specs.Sound.{IsEntry};
@@ -13,8 +13,8 @@ use crate::entry::track_of;
 use crate::refusal::refusal_of;
 use crate::track::Track;
 use ebml_tree::{Tree, TreeEnd};
+use mkv_io::List;
 use mkv_schema::ids::TRACK_ENTRY;
-use mkv_values::List;
 use std::alloc::{AllocError, Global};
 
 // The entries as tracks.

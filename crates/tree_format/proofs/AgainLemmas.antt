@@ -4,23 +4,23 @@ use Rattle.std.proofs.lemmas.Bool.{le-ltb}
 use Rattle.std.proofs.lemmas.Bool.Decides.{nat_tests}
 use Rattle.std.proofs.Math.Seq.{take-append_seam, drop-append_seam}
 use Rattle.std.specs.Int.Count.{count_leading_zeros}
-use Rattle.ebml_format.specs.declared.number.IdRead.{IdRead}
-use Rattle.ebml_format.specs.declared.number.NumFault.TheVariants as fault
-use Rattle.ebml_format.specs.declared.number.Size.TheVariants.{Known}
-use Rattle.ebml_format.specs.Number.{width, is_id, id_at, id_octets, uint_width, size_at, size_octets, least_size_width}
-use Rattle.ebml_format.proofs.NumberLemmas.{id_at-whole, id_at-octets, size_at-octets, length-uint_octets}
-use Rattle.ebml_format.proofs.WidthLemmas.{least_size_width-IsLeast}
+use Rattle.ebml_numbers.specs.declared.number.IdRead.{IdRead}
+use Rattle.ebml_numbers.specs.declared.number.NumFault.TheVariants as fault
+use Rattle.ebml_numbers.specs.declared.number.Size.TheVariants.{Known}
+use Rattle.ebml_numbers.specs.Number.{width, is_id, id_at, id_octets, uint_width, size_at, size_octets, least_size_width}
+use Rattle.ebml_numbers.proofs.NumberLemmas.{id_at-whole, id_at-octets, size_at-octets, length-uint_octets}
+use Rattle.ebml_numbers.proofs.WidthLemmas.{least_size_width-IsLeast}
 use Rattle.mkv_schema.specs.declared.kind.ElementKind.{ElementKind}
 use Rattle.mkv_schema.specs.declared.kind.ElementKind.TheVariants.{Master}
 use Rattle.mkv_schema.specs.Table.{table}
 use Rattle.mkv_schema.specs.Schema.{entry_of, kind_of, is_master, may_stand}
 use Rattle.mkv_schema.proofs.SchemaLemmas.{is_id-kind_of, is_master-kind_of}
 use Rattle.mkv_schema.specs.declared.ids.TheConstants.{CHAPTER_ATOM, CHAPTER_DISPLAY}
-use Rattle.mkv_values.specs.declared.damage.Damage.{Damage}
-use Rattle.mkv_values.specs.declared.damage.Kind.TheVariants.{TooLong}
-use Rattle.matroska_format.specs.declared.element.Header.{Header}
-use Rattle.matroska_format.specs.Element.{in_tree, element_in, id_in, with_id, with_size, with_body, body_damage, display_read, stated_end}
-use Rattle.matroska_format.specs.Outline.{and_then}
+use Rattle.mkv_io.specs.declared.damage.Damage.{Damage}
+use Rattle.mkv_io.specs.declared.damage.Kind.TheVariants.{TooLong}
+use Rattle.mkv_schema.specs.declared.element.Header.{Header}
+use Rattle.mkv_schema.specs.Element.{in_tree, element_in, id_in, with_id, with_size, with_body, body_damage, display_read, stated_end}
+use Rattle.mkv_schema.specs.Outline.{and_then}
 use Rattle.tree_format.specs.Node.{Node, Nodes, leaf, master, none, node, list_of, IsMaster, count, count_all, depth_all, deepest}
 use Rattle.tree_format.specs.NormalForm.{is_filler, header_octets, element_octets, octets, octets_all, longest}
 use Rattle.tree_format.specs.Reading.{Grove, header_at, inside, behind, is_master_in, as_master, grown, with_first, first_then, grove, as_root}

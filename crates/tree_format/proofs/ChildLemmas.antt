@@ -6,7 +6,7 @@ use Rattle.std.proofs.lemmas.Str.{IsUtf8-nil, is_utf8-from_IsUtf8}
 use Rattle.mkv_schema.specs.declared.kind.ElementKind.{ElementKind}
 use Rattle.mkv_schema.specs.declared.kind.ElementKind.TheVariants.{Master, Uint, Int, Float, Ascii, Utf8, Date, Binary}
 use Rattle.mkv_schema.specs.Schema.{kind_of, may_stand}
-use Rattle.matroska_format.specs.Value.{is_value}
+use Rattle.mkv_schema.specs.Value.{is_value}
 use Rattle.tree_format.specs.Node.{Node, Nodes, leaf, master, nodes_of, id_of, body_of, children}
 use Rattle.tree_format.specs.Standing.{StandsIn, AllStandIn, IsSound, IsSoundOf}
 use Rattle.tree_format.proofs.NodeLemmas.{nodes-list}

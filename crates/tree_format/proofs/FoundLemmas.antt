@@ -1,24 +1,24 @@
 -- What was read stands where the table allows it, so it can be written and read again.
 use Rattle.std.proofs.Common.{◌≡◌, inl, inr, ℕ, zero, suc, ◌+◌, ◌-◌, ◌<◌, ◌≤◌, ◌==◌, Bool, true, false, ◌&&◌, if◌then◌else◌, List, [], ◌∷◌, slice_index, length, Result, Ok, Err, refl, sym, ◌∙◌, ap, subst, arith}
 use Rattle.std.proofs.lemmas.Bool.Decides.{nat_tests}
-use Rattle.ebml_format.specs.declared.number.IdRead.{IdRead}
-use Rattle.ebml_format.specs.declared.number.NumFault.{NumFault}
-use Rattle.ebml_format.specs.declared.number.NumFault.TheVariants as fault
-use Rattle.ebml_format.specs.Number.{AreOctets, is_id, id_at}
-use Rattle.ebml_format.proofs.NumberLemmas.{id_at-within}
+use Rattle.ebml_numbers.specs.declared.number.IdRead.{IdRead}
+use Rattle.ebml_numbers.specs.declared.number.NumFault.{NumFault}
+use Rattle.ebml_numbers.specs.declared.number.NumFault.TheVariants as fault
+use Rattle.ebml_numbers.specs.Number.{AreOctets, is_id, id_at}
+use Rattle.ebml_numbers.proofs.NumberLemmas.{id_at-within}
 use Rattle.mkv_schema.specs.declared.ids.TheConstants.{CHAPTER_ATOM, CHAPTER_DISPLAY}
-use Rattle.mkv_values.specs.declared.damage.Kind.TheVariants.{TooMany, BadValue}
-use Rattle.matroska_format.specs.declared.element.Header.{Header}
-use Rattle.matroska_format.specs.Element.{in_tree, element_in, id_in, with_id, display_read, stated_end}
-use Rattle.matroska_format.specs.Value.{is_known_value}
-use Rattle.matroska_format.specs.Outline.{and_then}
+use Rattle.mkv_io.specs.declared.damage.Kind.TheVariants.{TooMany, BadValue}
+use Rattle.mkv_schema.specs.declared.element.Header.{Header}
+use Rattle.mkv_schema.specs.Element.{in_tree, element_in, id_in, with_id, display_read, stated_end}
+use Rattle.mkv_schema.specs.Value.{is_known_value}
+use Rattle.mkv_schema.specs.Outline.{and_then}
 use Rattle.tree_format.specs.Node.{Node, leaf, master, nodes_of, id_of, IsMaster, count, count_all, deepest}
 use Rattle.tree_format.specs.Reading.{Grove, Grown, header_at, inside, behind, is_master_in, refused, as_master, grown, with_first, first_then, grove, as_root, tree_of}
 use Rattle.tree_format.specs.Standing.{StandsIn, AllStandIn, IsSound, KeepsLimits, IsReadAgain}
 use Rattle.tree_format.proofs.ReadingLemmas.{grove-more, grove-end, header_at-fits, length-inside, length-behind, id-of-size}
 use Rattle.tree_format.proofs.AgainLemmas.{IsReadIn, display-parent, sound-again, kept-le}
-use Rattle.matroska_format.proofs.OutlineLemmas.{and_then-ok}
-use Rattle.ebml_format.proofs.SpelledLemmas.{AreOctets-take, AreOctets-drop}
+use Rattle.mkv_schema.proofs.OutlineLemmas.{and_then-ok}
+use Rattle.ebml_numbers.proofs.SpelledLemmas.{AreOctets-take, AreOctets-drop}
 
 -- ---- an ID
 

@@ -1,12 +1,12 @@
 -- What is read step by step is what is said over all Elements.
 use Rattle.std.proofs.Common.{◌≡◌, ℕ, zero, suc, ◌+◌, ◌-◌, ◌<◌, ◌≤◌, ◌==◌, nat_le, Bool, true, false, not, if◌then◌else◌, List, [], ◌∷◌, ◌++◌, map, length, length-append, Option, Some, None, Result, Ok, Err, refl, sym, ◌∙◌, ap, arith}
 use Rattle.std.proofs.lemmas.Bool.Decides.{nat_tests}
-use Rattle.mkv_values.specs.declared.damage.Damage.{Damage}
-use Rattle.mkv_values.specs.declared.damage.Kind.TheVariants.{BadValue, TooMany}
-use Rattle.matroska_format.specs.declared.element.Header.{Header}
-use Rattle.matroska_format.specs.Element.{stated_end, damage}
-use Rattle.matroska_format.specs.Outline.{and_then, first_damage, first_refusal, unless, where_it}
-use Rattle.matroska_format.specs.Value.{is_known_value}
+use Rattle.mkv_io.specs.declared.damage.Damage.{Damage}
+use Rattle.mkv_io.specs.declared.damage.Kind.TheVariants.{BadValue, TooMany}
+use Rattle.mkv_schema.specs.declared.element.Header.{Header}
+use Rattle.mkv_schema.specs.Element.{stated_end, damage}
+use Rattle.mkv_schema.specs.Outline.{and_then, first_damage, first_refusal, unless, where_it}
+use Rattle.mkv_schema.specs.Value.{is_known_value}
 use Rattle.tree_format.specs.Node.{Node, Nodes, leaf, master, none, node, nodes_of, id_of, IsMaster, count, count_all, deepest}
 use Rattle.tree_format.specs.Reading.{Reader, Grove, Grown, header_at, inside, behind, is_master_in, as_master, grown, with_first, first_then, grove_within, grove, as_root, tree_of}
 use Rattle.tree_format.specs.Standing.{IsSound, KeepsLimits, IsReadWithoutLimits, kept, placed_in}
@@ -14,7 +14,7 @@ use Rattle.tree_format.specs.NormalForm.{content}
 use Rattle.tree_format.proofs.ReadingLemmas.{header_at-fits, length-inside, length-behind}
 use Rattle.tree_format.proofs.AgainLemmas.{sound-again}
 use Rattle.tree_format.specs.Order.{Listed, Found, Listing, found, followed, listed_from, elements_within, elements_in, Spot, in_order, all_in_order, told_at, too_deep, no_value, one_too_many, causes, first_refused, tree_in_order, tree_without_limits}
-use Rattle.matroska_format.proofs.OutlineLemmas.{unless-ok}
+use Rattle.mkv_schema.proofs.OutlineLemmas.{unless-ok}
 
 -- ---- the first refusal of lists in a row
 

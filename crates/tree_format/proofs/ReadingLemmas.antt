@@ -2,22 +2,22 @@
 use Rattle.std.proofs.Common.{◌≡◌, ℕ, zero, suc, ◌+◌, ◌-◌, ◌<◌, ◌≤◌, ◌==◌, nat_lt, Bool, true, false, ◌&&◌, if◌then◌else◌, List, [], ◌∷◌, ◌++◌, ◌||◌, slice_index, append-nil, append_assoc, length, drop, Option, Some, None, Result, Ok, Err, refl, sym, ◌∙◌, ap, subst, arith}
 use Rattle.std.proofs.lemmas.List.{length-take, length-drop}
 use Rattle.std.proofs.lemmas.Bool.Decides.{nat_tests}
-use Rattle.ebml_format.specs.declared.number.IdRead.{IdRead}
-use Rattle.ebml_format.specs.declared.number.NumFault.{NumFault}
-use Rattle.ebml_format.specs.declared.number.NumFault.TheVariants as fault
-use Rattle.ebml_format.specs.declared.number.SizeRead.{SizeRead}
-use Rattle.ebml_format.specs.declared.number.Size.TheVariants.{Unknown}
-use Rattle.ebml_format.specs.Number.{AreOctets, is_id, is_written_id, id_at, size_at}
-use Rattle.ebml_format.proofs.NumberLemmas.{id_at-within}
+use Rattle.ebml_numbers.specs.declared.number.IdRead.{IdRead}
+use Rattle.ebml_numbers.specs.declared.number.NumFault.{NumFault}
+use Rattle.ebml_numbers.specs.declared.number.NumFault.TheVariants as fault
+use Rattle.ebml_numbers.specs.declared.number.SizeRead.{SizeRead}
+use Rattle.ebml_numbers.specs.declared.number.Size.TheVariants.{Unknown}
+use Rattle.ebml_numbers.specs.Number.{AreOctets, is_id, is_written_id, id_at, size_at}
+use Rattle.ebml_numbers.proofs.NumberLemmas.{id_at-within}
 use Rattle.mkv_schema.specs.declared.ids.TheConstants.{CHAPTER_ATOM, CHAPTER_DISPLAY}
-use Rattle.mkv_values.specs.declared.damage.Damage.{Damage}
-use Rattle.mkv_values.specs.declared.damage.Kind.{Kind}
-use Rattle.mkv_values.specs.declared.damage.Kind.TheVariants.{TooMany, BadValue, TooLong, UnknownSize}
-use Rattle.matroska_format.specs.declared.element.Header.{Header}
-use Rattle.matroska_format.specs.Element.{in_tree, element_in, id_in, with_id, with_size, with_body, body_damage, display_read, is_unknown, known, stated_end}
-use Rattle.matroska_format.specs.Value.{is_known_value}
-use Rattle.matroska_format.proofs.ElementLemmas.{element_in-placed}
-use Rattle.matroska_format.specs.Outline.{and_then}
+use Rattle.mkv_io.specs.declared.damage.Damage.{Damage}
+use Rattle.mkv_io.specs.declared.damage.Kind.{Kind}
+use Rattle.mkv_io.specs.declared.damage.Kind.TheVariants.{TooMany, BadValue, TooLong, UnknownSize}
+use Rattle.mkv_schema.specs.declared.element.Header.{Header}
+use Rattle.mkv_schema.specs.Element.{in_tree, element_in, id_in, with_id, with_size, with_body, body_damage, display_read, is_unknown, known, stated_end}
+use Rattle.mkv_schema.specs.Value.{is_known_value}
+use Rattle.mkv_schema.proofs.ElementLemmas.{element_in-placed}
+use Rattle.mkv_schema.specs.Outline.{and_then}
 use Rattle.tree_format.specs.Node.{Node, leaf, nodes_of, depth, depth_all}
 use Rattle.tree_format.proofs.NodeLemmas.{depth_all-append}
 use Rattle.tree_format.specs.Fits.{Fits}

@@ -3,13 +3,13 @@ use Rattle.std.proofs.Common.{◌≡◌, ℕ, zero, suc, ◌+◌, List, [], ◌�
 use Rattle.std.specs.Int.Count.{count_leading_zeros}
 use Rattle.std.specs.Str.{is_utf8, chars}
 use lib.Utf8.{encode}
-use Rattle.ebml_format.specs.Number.{id_at, size_at, uint_width, least_size_width}
+use Rattle.ebml_numbers.specs.Number.{id_at, size_at, uint_width, least_size_width}
 use Rattle.mkv_schema.specs.Table.{table}
 use Rattle.mkv_schema.specs.Schema.{entry_of}
-use Rattle.mkv_values.specs.declared.damage.Damage.{Damage}
-use Rattle.mkv_values.specs.declared.damage.Kind.{Kind}
-use Rattle.mkv_values.specs.declared.damage.Kind.TheVariants.{BadId, BadSize, TooLong, BadValue, TooMany, UnknownSize}
-use Rattle.matroska_format.specs.Element.{element_in, damage}
+use Rattle.mkv_io.specs.declared.damage.Damage.{Damage}
+use Rattle.mkv_io.specs.declared.damage.Kind.{Kind}
+use Rattle.mkv_io.specs.declared.damage.Kind.TheVariants.{BadId, BadSize, TooLong, BadValue, TooMany, UnknownSize}
+use Rattle.mkv_schema.specs.Element.{element_in, damage}
 use Rattle.tree_format.specs.Node.{Node, Nodes, leaf, master, none, node}
 use Rattle.tree_format.specs.NormalForm.{octets, element_octets}
 use Rattle.tree_format.specs.Reading.{tree_of, grove, grove_within}

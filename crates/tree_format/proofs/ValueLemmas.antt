@@ -1,10 +1,10 @@
 -- Values that are put into a leaf are read back.
 use Rattle.std.proofs.Common.{◌≡◌, ℕ, suc, ◌+◌, ◌<◌, ◌^◌, ◌==◌, Bool, true, false, not, ◌&&◌, cond, List, [], ◌∷◌, length, take, ℤ, refl, ap, ◌∙◌, arith}
 use Rattle.std.specs.List.{list_all, prefix_len}
-use Rattle.ebml_format.specs.Number.{uint_of, uint_octets, int_of, int_octets, magnitude}
-use Rattle.ebml_format.proofs.NumberLemmas.{uint_of-octets, int_of-octets, length-uint_octets}
-use Rattle.ebml_format.proofs.WidthLemmas.{uint_width-IsLeast}
-use Rattle.matroska_format.specs.Value.{uint_value, text_of}
+use Rattle.ebml_numbers.specs.Number.{uint_of, uint_octets, int_of, int_octets, magnitude}
+use Rattle.ebml_numbers.proofs.NumberLemmas.{uint_of-octets, int_of-octets, length-uint_octets}
+use Rattle.ebml_numbers.proofs.WidthLemmas.{uint_width-IsLeast}
+use Rattle.mkv_schema.specs.Value.{uint_value, text_of}
 use Rattle.tree_format.specs.Text.{HasNoZero}
 
 uint_value-some : (id : ℕ) (body : List ℕ) → 0 < length body → uint_value id body ≡ uint_of body

@@ -1,7 +1,7 @@
 -- How many octets are written.
 use Rattle.std.proofs.Common.{◌≡◌, ℕ, ◌+◌, List, length, true, false, refl, ap, ap₂, ◌∙◌, length-append}
-use Rattle.ebml_format.specs.Number.{id_octets, size_octets, least_size_width, uint_width}
-use Rattle.ebml_format.proofs.NumberLemmas.{length-uint_octets, length-size_octets}
+use Rattle.ebml_numbers.specs.Number.{id_octets, size_octets, least_size_width, uint_width}
+use Rattle.ebml_numbers.proofs.NumberLemmas.{length-uint_octets, length-size_octets}
 use Rattle.tree_format.specs.Node.{Node, leaf, master, id_of}
 use Rattle.tree_format.specs.NormalForm.{is_filler, header_octets, element_octets, kept_octets, octets, content}
 

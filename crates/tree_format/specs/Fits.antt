@@ -1,7 +1,7 @@
 -- Where an Element of a master stands that is read whole.
 use Rattle.std.specs.Prelude.{◌≡◌, ◌<◌, ◌≤◌, ℕ, false}
-use Rattle.matroska_format.specs.declared.element.Header.{Header}
-use Rattle.matroska_format.specs.Element.{is_unknown, stated_end}
+use Rattle.mkv_schema.specs.declared.element.Header.{Header}
+use Rattle.mkv_schema.specs.Element.{is_unknown, stated_end}
 
 -- An Element of a master that is read whole stands where it was looked for; its size is known; and it
 -- doesn't pass the end.

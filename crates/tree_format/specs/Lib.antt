@@ -9,3 +9,4 @@ pub mod Fits
 pub mod Standing
 pub mod Text
 pub mod Laws
+pub mod Children

@@ -1,6 +1,6 @@
 -- The octets that a tree is written in: RFC 8794, sections 5 (Element ID) and 6 (Element Data Size).
 use Rattle.std.specs.Prelude.{ℕ, ◌-◌, ◌^◌, ◌==◌, Bool, ◌||◌, if◌then◌else◌, List, [], ◌++◌, length}
-use Rattle.ebml_format.specs.Number.{id_octets, size_octets, least_size_width}
+use Rattle.ebml_numbers.specs.Number.{id_octets, size_octets, least_size_width}
 use Rattle.mkv_schema.specs.declared.ids.TheConstants.{VOID, CRC_32}
 use Rattle.tree_format.specs.Node.{Node, Nodes, leaf, master, none, node}
 

@@ -2,13 +2,13 @@
 -- `Order` says the same over all its Elements.
 use Rattle.std.specs.Prelude.{ℕ, zero, suc, ◌+◌, ◌-◌, ◌==◌, Bool, ◌&&◌, if◌then◌else◌, List, [], ◌∷◌, length, take, drop, Result, Ok, Err}
 use Rattle.mkv_schema.specs.Schema.{is_master, may_stand}
-use Rattle.mkv_values.specs.declared.damage.Damage.{Damage}
-use Rattle.mkv_values.specs.declared.damage.Kind.{Kind}
-use Rattle.mkv_values.specs.declared.damage.Kind.TheVariants.{BadValue, TooMany}
-use Rattle.matroska_format.specs.declared.element.Header.{Header}
-use Rattle.matroska_format.specs.Element.{in_tree, element_in, known, stated_end, damage}
-use Rattle.matroska_format.specs.Outline.{and_then}
-use Rattle.matroska_format.specs.Value.{is_known_value}
+use Rattle.mkv_io.specs.declared.damage.Damage.{Damage}
+use Rattle.mkv_io.specs.declared.damage.Kind.{Kind}
+use Rattle.mkv_io.specs.declared.damage.Kind.TheVariants.{BadValue, TooMany}
+use Rattle.mkv_schema.specs.declared.element.Header.{Header}
+use Rattle.mkv_schema.specs.Element.{in_tree, element_in, known, stated_end, damage}
+use Rattle.mkv_schema.specs.Outline.{and_then}
+use Rattle.mkv_schema.specs.Value.{is_known_value}
 use Rattle.tree_format.specs.Node.{Node, leaf, master, nodes_of, deepest}
 
 -- The header of the Element that these octets begin, which stand at place p of a file and are all that

@@ -1,7 +1,7 @@
 -- Trees that can be written and read again.
 use Rattle.std.specs.Prelude.{◌≡◌, ◌≤◌, ⊤, ℕ, ◌+◌, true, false, if◌then◌else◌, List, length, Ok}
-use Rattle.ebml_format.specs.Number.{is_id}
-use Rattle.matroska_format.specs.Value.{is_known_value}
+use Rattle.ebml_numbers.specs.Number.{is_id}
+use Rattle.mkv_schema.specs.Value.{is_known_value}
 use Rattle.tree_format.specs.Node.{Node, Nodes, leaf, master, none, node, id_of, depth, deepest}
 use Rattle.tree_format.specs.NormalForm.{is_filler, header_octets, octets, octets_all, content, longest}
 use Rattle.tree_format.specs.Reading.{is_master_in, tree_of}

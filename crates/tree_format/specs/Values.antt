@@ -3,11 +3,11 @@ use Rattle.std.specs.Prelude.{◌≡◌, ℕ, ◌==◌, Bool, true, not, List, O
 use Rattle.std.specs.Option.{option_map, option_map_or, option_and_then}
 use Rattle.mkv_schema.specs.declared.kind.ElementKind.TheVariants.{Uint}
 use Rattle.mkv_schema.specs.Schema.{kind_of, may_stand, uint_default, text_default}
-use Rattle.mkv_values.specs.declared.damage.Damage.{Damage}
-use Rattle.mkv_values.specs.declared.damage.Kind.{Kind}
-use Rattle.matroska_format.specs.Element.{damage}
-use Rattle.matroska_format.specs.Outline.{where_it}
-use Rattle.matroska_format.specs.Value.{uint_value, text_of}
+use Rattle.mkv_io.specs.declared.damage.Damage.{Damage}
+use Rattle.mkv_io.specs.declared.damage.Kind.{Kind}
+use Rattle.mkv_schema.specs.Element.{damage}
+use Rattle.mkv_schema.specs.Outline.{where_it}
+use Rattle.mkv_schema.specs.Value.{uint_value, text_of}
 use Rattle.tree_format.specs.Node.{Node, id_of, offset_of, body_of, children}
 
 -- the first child of an ID, which gives the value

@@ -8,7 +8,7 @@ ghost use Rattle.word_values.specs.Numbers as numbers;
 
 use crate::numbers::{cut, cut_text, number, size, time, uuid};
 use crate::usage::ValueEnd;
-use mkv_values::List;
+use mkv_io::List;
 use std::alloc::Global;
 
 /// The most identifiers that the parts of an output are given.

@@ -9,7 +9,7 @@ ghost use Rattle.word_values.specs.Values as spec;
 use crate::lists::{Select, SpanWords, SplitWords, ids, split, uuids};
 use crate::numbers::{cut_text, delay, number};
 use crate::usage::ValueEnd;
-use mkv_values::{List, Text};
+use mkv_io::{List, Text};
 use std::alloc::{AllocError, Global};
 
 /// The form of an option's value. Where a track is named, it is by its ID, with `:` behind it.

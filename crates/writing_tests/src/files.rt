@@ -6,13 +6,13 @@ ghost use Rattle.mkv_schema.specs.declared.ids.TheConstants.{ATTACHED_FILE as AT
 ghost use Rattle.tree_format.specs.Node.{IsMaster, id_of};
 ghost use Rattle.cues_seekhead.specs.OpenOutput.{CanAttach, IsOpen};
 
-use cues_seekhead::{Attachment, Front, OutEnd, OutFile};
+use cues_seekhead::{Attachment, OutFile};
 use ebml_tree::Tree;
-use mkv_io::{Files, Reads};
+use mkv_io::{Files, List, Reads, RemuxEnd as OutEnd};
 use mkv_memory::MemFiles;
 use mkv_schema::ids::{ATTACHED_FILE, INFO, TRACKS};
 use mkv_schema::is_master;
-use mkv_values::List;
+use output_model::Front;
 use std::alloc::Global;
 use std::test::Fail;
 

@@ -1,25 +1,24 @@
 //! A master's octets, read as trees.
 
 ghost use Rattle.std.specs.Prelude.{◌≡◌, ◌≤◌, ◌<◌, ◌+◌, ◌==◌, not, ℕ, length, Ok, Err, IfOk, IfErr, IsTrue};
-ghost use Rattle.ebml_format.specs.Number.{is_written_id};
+ghost use Rattle.ebml_numbers.specs.Number.{is_written_id};
 ghost use Rattle.mkv_schema.specs.Schema.{is_master};
-ghost use Rattle.matroska_format.specs.Element.{known};
-ghost use Rattle.matroska_format.specs.Value.{is_known_value};
+ghost use Rattle.mkv_schema.specs.Element.{known};
+ghost use Rattle.mkv_schema.specs.Value.{is_known_value};
 ghost use Rattle.tree_format.specs.Node.{leaf, master, nodes_of, depth, depth_all, deepest};
 ghost use Rattle.tree_format.specs.Reading.{header_at, inside, behind, is_master_in, grown, grove};
 ghost use Rattle.tree_format.specs.Fits.{Fits};
 ghost use Rattle.ebml_tree.specs.Outcome.{Refuses};
-ghost use Rattle.mkv_values.specs.declared.outside.TheConstants.{LONGEST_FILE};
+ghost use Rattle.mkv_io.specs.declared.outside.TheConstants.{LONGEST_FILE};
 
 use crate::end::TreeEnd;
 use crate::tree::content::{Content, depth_around, written_within};
 use crate::tree::writing::LONGEST;
 use crate::tree::{DEEPEST, Tree};
 use ebml_numbers::Size;
-use element_bodies::is_known_value;
-use element_headers::{Header, Parent, read_header};
-use mkv_schema::{is_master, may_stand};
-use mkv_values::{Damage, Kind};
+use elements::{Parent, is_known_value, read_header};
+use mkv_io::{Damage, Kind};
+use mkv_schema::{Header, is_master, may_stand};
 use std::alloc::{AllocError, Global};
 
 impl Tree {

@@ -1,7 +1,7 @@
 //! Trees written in the normal form.
 
 ghost use Rattle.std.specs.Prelude.{◌≡◌, ◌≤◌, ◌<◌, ◌^◌, ◌++◌, ℕ, List, length, take, OnOk, OnErr, IsTrue};
-ghost use Rattle.ebml_format.specs.Number.{is_written_id};
+ghost use Rattle.ebml_numbers.specs.Number.{is_written_id};
 ghost use Rattle.tree_format.specs.NormalForm.{is_filler, header_octets, kept_octets, longest};
 
 use ebml_numbers::{put_id, put_size, size_width};

@@ -5,8 +5,8 @@ ghost use Rattle.tree_format.specs.Node.{HasRoom};
 
 use super::{ENTRY, tree_of};
 use ebml_tree::Tree;
+use mkv_io::Bytes;
 use mkv_schema::ids::{CODEC_ID, NAME, TRACK_ENTRY, TRACK_NUMBER, TRACK_TYPE};
-use mkv_values::Bytes;
 use std::alloc::{AllocError, Global};
 use std::test::Fail;
 
@@ -18,21 +18,21 @@ const REMOVED: [(u32, &[u64]); 4] = [
     (NAME, &[100, 103, 106, 109, 112]),
 ];
 
-#[tactic(auto, unfolding(ebml_format::specs::Number::is_id))]
+#[tactic(auto, unfolding(ebml_numbers::specs::Number::is_id))]
 fn number(alloc: Global, value: u8) -> Result<Tree, AllocError>
     ensures { IfOk result HasRoom }
 {
     Tree::leaf(alloc, TRACK_NUMBER, &[value])
 }
 
-#[tactic(auto, unfolding(ebml_format::specs::Number::is_id))]
+#[tactic(auto, unfolding(ebml_numbers::specs::Number::is_id))]
 fn name(alloc: Global, text: &[u8]) -> Result<Tree, AllocError>
     ensures { IfOk result HasRoom }
 {
     Tree::leaf(alloc, NAME, text)
 }
 
-#[tactic(auto, unfolding(ebml_format::specs::Number::is_id))]
+#[tactic(auto, unfolding(ebml_numbers::specs::Number::is_id))]
 fn codec(alloc: Global, text: &[u8]) -> Result<Tree, AllocError>
     ensures { IfOk result HasRoom }
 {

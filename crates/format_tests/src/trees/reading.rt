@@ -4,8 +4,8 @@ ghost use Rattle.std.specs.Prelude.{◌<◌};
 
 use super::tree_of;
 use ebml_tree::{Tree, TreeEnd};
+use mkv_io::{Bytes, Damage, Kind};
 use mkv_schema::ids::{AUDIO, CHAPTER_ATOM, EDITION_ENTRY, TRACK_ENTRY};
-use mkv_values::{Bytes, Damage, Kind};
 use std::alloc::{AllocError, Global};
 use std::test::Fail;
 

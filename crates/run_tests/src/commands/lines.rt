@@ -1,8 +1,8 @@
 //! What lines read that no file of a run gives.
 
-use ebml_format::Size;
-use matroska_format::Header;
+use ebml_numbers::Size;
 use mkv_lines::Line;
+use mkv_schema::Header;
 use std::test::Fail;
 
 #[test]

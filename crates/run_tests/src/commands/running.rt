@@ -1,8 +1,7 @@
 //! Runs over files and a report in memory.
 
-use memory_disk::MemDisk;
 use mkv_lines::Status;
-use mkv_memory::{MemFiles, MemReport};
+use mkv_memory::{MemDisk, MemFiles, MemReport};
 use mkv_run::run;
 use std::alloc::{AllocError, Global};
 

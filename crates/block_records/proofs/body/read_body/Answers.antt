@@ -1,7 +1,7 @@
 use Rattle.std.proofs.Common.{◌≡◌, length, take, ◌∙◌, ap, sym, arith}
 use Rattle.std.proofs.lemmas.List.{drop-take, length-take, take_at}
 use Rattle.mkv_io.specs.Contents.{octets_from}
-use Rattle.matroska_format.specs.Element.{known}
+use Rattle.mkv_schema.specs.Element.{known}
 use Rattle.block_records.proofs.body.read_body.Goals as goal
 
 -- what was read is the front

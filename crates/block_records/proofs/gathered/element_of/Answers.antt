@@ -1,5 +1,5 @@
 use Rattle.std.proofs.Common.{◌≡◌, ◌+◌, ◌-◌, take, drop, ◌∙◌, ap, arith}
-use Rattle.matroska_format.specs.Element.{stated_end}
+use Rattle.mkv_schema.specs.Element.{stated_end}
 use Rattle.block_records.proofs.RunLemmas.{element_octets-part}
 use Rattle.block_records.proofs.gathered.element_of.Goals as goal
 

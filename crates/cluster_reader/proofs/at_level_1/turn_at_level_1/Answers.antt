@@ -1,9 +1,9 @@
 use Rattle.std.proofs.Common.{◌≡◌, ◌≤◌, true, false, Some, Ok, Err, sym, ◌∙◌, ap, arith}
 use Rattle.std.proofs.lemmas.Bool.Decides.{nat_tests}
 use Rattle.mkv_schema.specs.declared.ids.TheConstants.{CLUSTER}
-use Rattle.matroska_format.specs.Element.{in_segment, end_in}
-use Rattle.matroska_format.specs.Placed.{IsWhole}
-use Rattle.matroska_format.specs.Elements.{id_of, ends_segment}
+use Rattle.mkv_schema.specs.Element.{in_segment, end_in}
+use Rattle.mkv_schema.specs.Placed.{IsWhole}
+use Rattle.mkv_schema.specs.Elements.{id_of, ends_segment}
 use Rattle.block_format.specs.Elements.{with_limits}
 use Rattle.cluster_reader.specs.Left.{left}
 use Rattle.cluster_reader.specs.Places.{cluster_in}

@@ -1,5 +1,5 @@
 use Rattle.std.proofs.Common.{◌<◌, not, ◌∷◌, Some, sym, ◌∙◌, ap, arith}
-use Rattle.matroska_format.specs.Element.{end_in}
+use Rattle.mkv_schema.specs.Element.{end_in}
 use Rattle.block_format.specs.Elements.{with_limits}
 use Rattle.block_format.specs.Events.{block}
 use Rattle.block_records.specs.Buffered.{block_of}

@@ -1,5 +1,5 @@
 use Rattle.std.proofs.Common.{◌≡◌, true, false, not, ◌∷◌, None, Err, sym, ◌∙◌, ap, arith}
-use Rattle.matroska_format.specs.Elements.{id_of}
+use Rattle.mkv_schema.specs.Elements.{id_of}
 use Rattle.block_format.specs.Elements.{with_limits}
 use Rattle.cluster_reader.specs.Left.{left, ends_children}
 use Rattle.cluster_reader.specs.Places.{IsInCluster, behind_damage}

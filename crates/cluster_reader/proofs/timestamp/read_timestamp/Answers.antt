@@ -1,7 +1,7 @@
 use Rattle.std.proofs.Common.{◌∙◌, ap, arith}
 use Rattle.std.proofs.lemmas.Grind.{common_steps}
 use Rattle.mkv_io.specs.Contents.{octets_from}
-use Rattle.ebml_format.specs.Number.{uint_of}
+use Rattle.ebml_numbers.specs.Number.{uint_of}
 use Rattle.cluster_reader.proofs.ChildLemmas.{body_of-read}
 use Rattle.cluster_reader.proofs.timestamp.read_timestamp.Goals as goal
 

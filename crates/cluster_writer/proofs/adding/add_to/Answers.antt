@@ -1,6 +1,6 @@
 use Rattle.std.proofs.Common.{length, drop, ap, arith, ◌∙◌}
 use Rattle.std.proofs.lemmas.List.{with_items_is, drop-append-le, length-append}
-use Rattle.element_octets.specs.Element.{octets_of}
+use Rattle.output_model.specs.Element.{octets_of}
 use Rattle.output_model.specs.Block.{block_element}
 use Rattle.cluster_writer.specs.declared.front.TheConstants.{FRONT}
 use Rattle.cluster_writer.specs.Lent.{block_of}

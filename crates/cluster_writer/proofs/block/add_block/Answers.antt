@@ -1,6 +1,6 @@
 use Rattle.std.proofs.Common.{List, ℕ, sum, arith, ap, sym, subst}
-use Rattle.element_writer.specs.Room.{Adds}
-use Rattle.element_writer.proofs.RoomLemmas.{Adds-two}
+use Rattle.cluster_writer.specs.Room.{Adds}
+use Rattle.cluster_writer.proofs.RoomLemmas.{Adds-two}
 use Rattle.cluster_writer.specs.Lent.{lent_of, block_of}
 use Rattle.cluster_writer.proofs.FramesLemmas.{can-prefixed}
 use Rattle.cluster_writer.proofs.LengthLemmas.{length-header, length-frames}

@@ -1,7 +1,7 @@
 use Rattle.std.proofs.Common.{ℕ, ◌++◌, sym, subst, ◌∙◌}
 use Rattle.tree_format.specs.NormalForm.{header_octets}
-use Rattle.element_writer.specs.Room.{Adds}
-use Rattle.element_writer.proofs.RoomLemmas.{Adds-two}
+use Rattle.cluster_writer.specs.Room.{Adds}
+use Rattle.cluster_writer.proofs.RoomLemmas.{Adds-two}
 use Rattle.output_model.specs.Block.{block_octets}
 use Rattle.cluster_writer.specs.Lent.{block_of}
 use Rattle.cluster_writer.proofs.FramesLemmas.{can-prefixed}

@@ -1,9 +1,9 @@
 use Rattle.std.proofs.Common.{◌≡◌, List, ℕ, ◌++◌, length, map, append_assoc, arith, ap, sym, subst, ◌∙◌}
 use Rattle.mkv_schema.specs.declared.ids.TheConstants.{BLOCK_GROUP, BLOCK}
 use Rattle.tree_format.specs.NormalForm.{header_octets}
-use Rattle.element_octets.specs.Element.{element, octets_of, joined}
-use Rattle.element_writer.specs.Room.{Adds}
-use Rattle.element_writer.proofs.RoomLemmas.{Adds-two}
+use Rattle.output_model.specs.Element.{element, octets_of, joined}
+use Rattle.cluster_writer.specs.Room.{Adds}
+use Rattle.cluster_writer.proofs.RoomLemmas.{Adds-two}
 use Rattle.output_model.specs.Block.{block_octets, group_octets, duration_elements, reference_element}
 use Rattle.cluster_writer.specs.Lent.{block_of}
 use Rattle.cluster_writer.specs.Lengths.{block_len, group_len, behind_octets}

@@ -1,8 +1,8 @@
 use Rattle.std.proofs.Common.{List, ℕ, ◌++◌, map, sym, subst}
 use Rattle.std.proofs.lemmas.List.Concat.{flat_map-append}
-use Rattle.element_octets.specs.Element.{octets_of}
-use Rattle.element_writer.specs.Room.{Adds}
-use Rattle.element_writer.proofs.RoomLemmas.{Adds-two}
+use Rattle.output_model.specs.Element.{octets_of}
+use Rattle.cluster_writer.specs.Room.{Adds}
+use Rattle.cluster_writer.proofs.RoomLemmas.{Adds-two}
 use Rattle.output_model.specs.Block.{duration_elements, reference_element}
 use Rattle.cluster_writer.proofs.group.add_behind.Goals as goal
 

@@ -1,6 +1,6 @@
 use Rattle.std.proofs.Common.{◌≡◌, ◌≤◌, ◌++◌, map, drop}
 use Rattle.std.specs.Vec.{vec_capacity}
-use Rattle.element_octets.specs.Element.{joined}
+use Rattle.output_model.specs.Element.{joined}
 use Rattle.output_model.specs.Block.{reference_element}
 use Rattle.cluster_writer.proofs.group.add_references.Given as goal
 

@@ -2,8 +2,8 @@ use Rattle.std.proofs.Common.{◌≡◌, ◌+◌, ◌++◌, ℕ, Err, List, take
 use Rattle.std.proofs.lemmas.List.{take_all}
 use Rattle.std.proofs.lemmas.Result.{err_from_is_err_and}
 use Rattle.mkv_io.specs.Sources.{live_files}
-use Rattle.attachment_records.specs.declared.attachment.Attachment.{Attachment}
-use Rattle.element_octets.specs.Element.{octets_of}
+use Rattle.output_model.specs.declared.attachment.Attachment.{Attachment}
+use Rattle.output_model.specs.Element.{octets_of}
 use Rattle.output_model.specs.Document.{tree_element}
 use Rattle.cues_seekhead.specs.OpenOutput.{CanAttach}
 use Rattle.cues_seekhead.proofs.AppendingLemmas.{AppendsOnly-none, AppendsOnly-then, AppendsOnly-more, AppendsOnly-same, no_refusal, CanAttach-kept, attached_file-kept, attached-push, data-push}

@@ -1,7 +1,7 @@
 use Rattle.std.proofs.Common.{◌≡◌, ◌≤◌, ◌+◌, ◌-◌, ◌++◌, ℕ, Err, Option, List, length, take, sym, ap, ◌∙◌, arith}
 use Rattle.std.proofs.lemmas.List.{length-take-le}
 use Rattle.std.proofs.lemmas.Result.{err_from_is_err_and}
-use Rattle.attachment_records.specs.Attached.{octets_told}
+use Rattle.output_model.specs.Attached.{octets_told}
 use Rattle.cues_seekhead.proofs.AppendingLemmas.{AppendsOnly-then, AppendsOnly-more, AppendsOnly-same, no_refusal, KeepsOthers-content, octets_told-more}
 use Rattle.cues_seekhead.proofs.copying.copy_data.Goals as goal
 

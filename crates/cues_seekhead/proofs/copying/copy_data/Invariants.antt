@@ -1,7 +1,7 @@
 -- What was copied so far.
 use Rattle.std.proofs.Common.{◌≤◌, ◌-◌}
 use Rattle.mkv_io.specs.Sources.{live_files}
-use Rattle.attachment_records.specs.Attached.{octets_told}
+use Rattle.output_model.specs.Attached.{octets_told}
 use Rattle.cues_seekhead.specs.Appending.{AppendsOnly}
 use Rattle.cues_seekhead.proofs.AppendingLemmas.{no_refusal}
 use Rattle.cues_seekhead.proofs.copying.copy_data.Given as goal

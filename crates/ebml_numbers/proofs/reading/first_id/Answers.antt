@@ -1,6 +1,6 @@
 -- A first octet of `10` or more announces four octets at most.
 use Rattle.std.proofs.Common.{arith}
-use Rattle.ebml_format.proofs.WidthLemmas.{width-le}
+use Rattle.ebml_numbers.proofs.WidthLemmas.{width-le}
 use Rattle.ebml_numbers.proofs.reading.first_id.Goals as goal
 
 pub id_of_width-requires-clause-most : goal.id_of_width-requires-clause-most

@@ -1,8 +1,8 @@
 -- The octets are below 256, and the first of a word are what a shift leaves of it.
 use Rattle.std.proofs.Common.{sym, arith}
 use Rattle.byteorder.specs.Numbers.{big_from-lt}
-use Rattle.ebml_format.specs.Number.{AreOctets}
-use Rattle.ebml_format.proofs.NumberLemmas.{big_number_of_word}
+use Rattle.ebml_numbers.specs.Number.{AreOctets}
+use Rattle.ebml_numbers.proofs.NumberLemmas.{big_number_of_word}
 use Rattle.ebml_numbers.proofs.reading.number.Goals as goal
 
 pub returns-then-bytes-lt8-clause-fits : goal.returns-then-bytes-lt8-clause-fits

@@ -1,7 +1,7 @@
 -- The answer is the definition's, of which these are laws.
 use Rattle.std.proofs.Common.{◌∙◌, sym, arith}
-use Rattle.ebml_format.specs.Number.{AreOctets}
-use Rattle.ebml_format.proofs.NumberLemmas.{id_at-found, id_at-more, id_at-is_cut, id_at-four, id_at-append}
+use Rattle.ebml_numbers.specs.Number.{AreOctets}
+use Rattle.ebml_numbers.proofs.NumberLemmas.{id_at-found, id_at-more, id_at-is_cut, id_at-four, id_at-append}
 use Rattle.ebml_numbers.proofs.reading.read_id.Goals as goal
 
 pub returns-clause-found : goal.returns-clause-found

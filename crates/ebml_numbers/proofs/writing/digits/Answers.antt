@@ -1,6 +1,6 @@
 -- The digits are those behind the leading zeros of 64.
 use Rattle.std.proofs.Common.{arith}
-use Rattle.ebml_format.proofs.WidthLemmas.{leading_zeros-digits}
+use Rattle.ebml_numbers.proofs.WidthLemmas.{leading_zeros-digits}
 use Rattle.ebml_numbers.proofs.writing.digits.Goals as goal
 
 pub returns-clause-below : goal.returns-clause-below

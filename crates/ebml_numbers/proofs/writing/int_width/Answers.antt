@@ -1,8 +1,8 @@
 -- The width follows from the digits of the number without its sign.
 use Rattle.std.proofs.Common.{◌≡◌, ◌+◌, ◌/◌, sym, to_z, of_z, w64}
 use Rattle.std.proofs.lemmas.Int.{to_z-of_z}
-use Rattle.ebml_format.specs.Number.{magnitude, int_width}
-use Rattle.ebml_format.proofs.WidthLemmas.{int_width-digits, int_width-IsLeast}
+use Rattle.ebml_numbers.specs.Number.{magnitude, int_width}
+use Rattle.ebml_numbers.proofs.WidthLemmas.{int_width-digits, int_width-IsLeast}
 use Rattle.ebml_numbers.proofs.writing.int_width.Goals as goal
 
 pub returns-clause-exact : goal.returns-clause-exact

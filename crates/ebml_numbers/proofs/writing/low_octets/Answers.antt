@@ -3,7 +3,7 @@ use Rattle.std.proofs.Common.{◌≡◌, ◌*◌, to_z, of_z, w64}
 use Rattle.std.proofs.Math.Nat.{mod-lt}
 use Rattle.std.proofs.lemmas.Nat.{pow_pos}
 use Rattle.std.proofs.lemmas.Int.{to_z-of_z}
-use Rattle.ebml_format.proofs.WidthLemmas.{pow256}
+use Rattle.ebml_numbers.proofs.WidthLemmas.{pow256}
 use Rattle.ebml_numbers.proofs.SignLemmas.{mask-low_bytes}
 use Rattle.ebml_numbers.proofs.writing.low_octets.Goals as goal
 

@@ -1,7 +1,7 @@
 -- A valid ID is read back.
 use Rattle.std.proofs.Common.{◌++◌, ◌∙◌, Ok, ap, sym}
-use Rattle.ebml_format.specs.Number.{id_at, uint_octets, uint_width}
-use Rattle.ebml_format.proofs.NumberLemmas.{id_at-octets}
+use Rattle.ebml_numbers.specs.Number.{id_at, uint_octets, uint_width}
+use Rattle.ebml_numbers.proofs.NumberLemmas.{id_at-octets}
 use Rattle.ebml_numbers.proofs.writing.put_id.Goals as goal
 
 pub returns-clause-read : goal.returns-clause-read

@@ -2,8 +2,8 @@
 use Rattle.std.proofs.Common.{◌≡◌, ◌∙◌, ap, to_z, of_z, w64}
 use Rattle.std.proofs.lemmas.Int.{to_z-of_z}
 use Rattle.byteorder.specs.Endian.{big_bytes}
-use Rattle.ebml_format.specs.Number.{int_octets_in}
-use Rattle.ebml_format.proofs.NumberLemmas.{int_of-octets}
+use Rattle.ebml_numbers.specs.Number.{int_octets_in}
+use Rattle.ebml_numbers.proofs.NumberLemmas.{int_of-octets}
 use Rattle.ebml_numbers.proofs.SignLemmas.{low_bytes-octets, magnitude-lt}
 use Rattle.ebml_numbers.proofs.writing.put_int.Goals as goal
 

@@ -3,9 +3,9 @@ use Rattle.std.proofs.Common.{ℕ, suc, ◌+◌, ◌*◌, ◌^◌, ◌≤◌, �
 use Rattle.std.proofs.Math.Nat.{pow-suc}
 use Rattle.std.proofs.Math.Pow.{pow_mono}
 use Rattle.byteorder.specs.Endian.{big_bytes}
-use Rattle.ebml_format.specs.Number.{size_at}
-use Rattle.ebml_format.proofs.WidthLemmas.{pow256}
-use Rattle.ebml_format.proofs.NumberLemmas.{size_at-octets}
+use Rattle.ebml_numbers.specs.Number.{size_at}
+use Rattle.ebml_numbers.proofs.WidthLemmas.{pow256}
+use Rattle.ebml_numbers.proofs.NumberLemmas.{size_at-octets}
 use Rattle.ebml_numbers.proofs.writing.put_size.Goals as goal
 
 pub big_endian-requires-clause-fits : goal.big_endian-requires-clause-fits

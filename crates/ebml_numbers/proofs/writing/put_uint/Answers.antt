@@ -1,8 +1,8 @@
 -- What is written is read back.
 use Rattle.std.proofs.Common.{◌∙◌, ap, arith}
 use Rattle.byteorder.specs.Endian.{big_bytes}
-use Rattle.ebml_format.specs.Number.{uint_of}
-use Rattle.ebml_format.proofs.NumberLemmas.{uint_of-octets}
+use Rattle.ebml_numbers.specs.Number.{uint_of}
+use Rattle.ebml_numbers.proofs.NumberLemmas.{uint_of-octets}
 use Rattle.ebml_numbers.proofs.writing.put_uint.Goals as goal
 
 pub returns-clause-read : goal.returns-clause-read

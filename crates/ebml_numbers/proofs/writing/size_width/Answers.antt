@@ -1,7 +1,7 @@
 -- The width follows from the digits of the next number.
 use Rattle.std.proofs.Common.{◌≡◌, ◌∙◌, sym}
-use Rattle.ebml_format.specs.Number.{least_size_width}
-use Rattle.ebml_format.proofs.WidthLemmas.{least_size_width-digits, least_size_width-IsLeast}
+use Rattle.ebml_numbers.specs.Number.{least_size_width}
+use Rattle.ebml_numbers.proofs.WidthLemmas.{least_size_width-digits, least_size_width-IsLeast}
 use Rattle.ebml_numbers.proofs.writing.size_width.Goals as goal
 
 pub returns-clause-exact : goal.returns-clause-exact

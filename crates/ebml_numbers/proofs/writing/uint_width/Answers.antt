@@ -1,7 +1,7 @@
 -- The width follows from the digits of the number, or of 1.
 use Rattle.std.proofs.Common.{◌≡◌, ◌∙◌, sym, arith}
-use Rattle.ebml_format.specs.Number.{uint_width}
-use Rattle.ebml_format.proofs.WidthLemmas.{uint_width-digits, uint_width-IsLeast}
+use Rattle.ebml_numbers.specs.Number.{uint_width}
+use Rattle.ebml_numbers.proofs.WidthLemmas.{uint_width-digits, uint_width-IsLeast}
 use Rattle.ebml_numbers.proofs.writing.uint_width.Goals as goal
 
 pub returns-clause-exact : goal.returns-clause-exact

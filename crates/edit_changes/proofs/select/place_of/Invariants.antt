@@ -1,5 +1,5 @@
 use Rattle.std.proofs.Common.{◌≡◌, drop}
-use Rattle.edit_format.specs.Change.{fits, turn_of, nth_place}
+use Rattle.edit_changes.specs.Change.{fits, turn_of, nth_place}
 use Rattle.edit_changes.proofs.select.place_of.Given as goal
 
 -- what is left to find is among those from here on

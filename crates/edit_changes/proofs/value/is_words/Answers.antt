@@ -2,7 +2,7 @@ use Rattle.std.proofs.Common.{◌≡◌, ◌∙◌, ap, true}
 use Rattle.std.specs.List.{list_all}
 use Rattle.std.specs.Str.{is_utf8}
 use Rattle.std.proofs.lemmas.Str.{is_utf8-from_IsUtf8}
-use Rattle.edit_format.specs.Property as spec
+use Rattle.edit_changes.specs.Property as spec
 use Rattle.edit_changes.proofs.value.is_words.Goals as goal
 
 -- every text is UTF-8

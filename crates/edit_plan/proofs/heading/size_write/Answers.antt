@@ -1,7 +1,7 @@
 -- The old size's place has room for the new one.
 use Rattle.std.proofs.Common.{ℕ, ◌<◌, ◌≤◌, min, sym, ◌∙◌, ap, subst}
-use Rattle.ebml_format.specs.Number.{all_ones}
-use Rattle.edit_format.specs.Plan.{size_width}
+use Rattle.ebml_numbers.specs.Number.{all_ones}
+use Rattle.edit_changes.specs.Plan.{size_width}
 use Rattle.edit_plan.proofs.SizeLemmas.{has-size}
 use Rattle.edit_plan.proofs.heading.size_write.Goals as goal
 

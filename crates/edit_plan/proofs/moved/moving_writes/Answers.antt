@@ -2,12 +2,12 @@
 use Rattle.std.proofs.Common.{◌≡◌, ◌≤◌, ℕ, ◌+◌, if◌then◌else◌, List, [], ◌∷◌, ◌++◌, length, map, option_map, sym, ◌∙◌, ap, subst, arith}
 use Rattle.std.specs.Option.{unwrap_or}
 use Rattle.mkv_schema.specs.declared.ids.TheConstants.{SEEK_HEAD}
-use Rattle.matroska_format.specs.declared.element.Header.{Header}
-use Rattle.matroska_format.specs.Element.{is_unknown}
-use Rattle.element_octets.specs.Element.{element, octets_of}
-use Rattle.sidecar_format.specs.Writes as disk
-use Rattle.edit_format.specs.Span.{fitted}
-use Rattle.edit_format.specs.Plan.{ascending, size_width, size_writes, write}
+use Rattle.mkv_schema.specs.declared.element.Header.{Header}
+use Rattle.mkv_schema.specs.Element.{is_unknown}
+use Rattle.output_model.specs.Element.{element, octets_of}
+use Rattle.sidecar_edit.specs.Writes as disk
+use Rattle.edit_changes.specs.Span.{fitted}
+use Rattle.edit_changes.specs.Plan.{ascending, size_width, size_writes, write}
 use Rattle.edit_plan.specs.Found.{found}
 use Rattle.edit_plan.specs.Moving.{refused}
 use Rattle.edit_plan.specs.Shown.{shown, written}

@@ -1,7 +1,7 @@
 -- None of those so far moves.
 use Rattle.std.proofs.Common.{◌≡◌, drop, map}
 use Rattle.std.specs.List.{list_any}
-use Rattle.edit_format.specs.Plan as spec
+use Rattle.edit_changes.specs.Plan as spec
 use Rattle.edit_plan.specs.Shown.{shown}
 use Rattle.edit_plan.proofs.moving.any_moves.Given as goal
 

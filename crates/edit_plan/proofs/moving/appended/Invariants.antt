@@ -1,6 +1,6 @@
 -- What was added, with what is left, is the whole.
 use Rattle.std.proofs.Common.{◌≡◌, ◌++◌, drop, map}
-use Rattle.edit_format.specs.Plan.{appended}
+use Rattle.edit_changes.specs.Plan.{appended}
 use Rattle.edit_plan.specs.Shown.{shown}
 use Rattle.edit_plan.proofs.moving.appended.Given as goal
 

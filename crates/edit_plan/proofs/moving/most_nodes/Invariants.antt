@@ -1,6 +1,6 @@
 -- The most so far, with the most of those that are left.
 use Rattle.std.proofs.Common.{◌≡◌, drop, map, max}
-use Rattle.edit_format.specs.Plan.{most_nodes}
+use Rattle.edit_changes.specs.Plan.{most_nodes}
 use Rattle.edit_plan.specs.Shown.{shown}
 use Rattle.edit_plan.proofs.moving.most_nodes.Given as goal
 

@@ -1,7 +1,7 @@
 -- The Seeks so far, with those of what is left from here on.
 use Rattle.std.proofs.Common.{◌≡◌, ◌++◌, drop, map}
 use Rattle.output_model.specs.SeekHead.{seeks_from}
-use Rattle.edit_format.specs.Plan.{elements_moving}
+use Rattle.edit_changes.specs.Plan.{elements_moving}
 use Rattle.edit_plan.specs.Shown.{shown}
 use Rattle.edit_plan.proofs.moving.moving_seeks.Given as goal
 

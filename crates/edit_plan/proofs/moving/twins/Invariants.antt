@@ -1,6 +1,6 @@
 -- None of those so far is refused.
 use Rattle.std.proofs.Common.{◌≡◌, drop, map}
-use Rattle.edit_format.specs.Plan.{moving, twin_refusal}
+use Rattle.edit_changes.specs.Plan.{moving, twin_refusal}
 use Rattle.edit_plan.specs.Shown.{shown}
 use Rattle.edit_plan.proofs.moving.twins.Given as goal
 

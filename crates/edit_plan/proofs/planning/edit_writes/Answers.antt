@@ -1,10 +1,10 @@
 -- One step after the other.
 use Rattle.std.proofs.Common.{◌≤◌, Result, List, length, map, sym, ◌∙◌, ap, subst, arith}
 use Rattle.std.proofs.lemmas.Result.{err_from_is_err_and}
-use Rattle.mkv_values.specs.declared.outside.TheConstants.{LONGEST_FILE}
-use Rattle.sidecar_format.specs.Writes as disk
-use Rattle.edit_format.specs.declared.refusal.Refusal.{Refusal}
-use Rattle.edit_format.specs.Plan as spec
+use Rattle.mkv_io.specs.declared.outside.TheConstants.{LONGEST_FILE}
+use Rattle.sidecar_edit.specs.Writes as disk
+use Rattle.edit_changes.specs.declared.refusal.Refusal.{Refusal}
+use Rattle.edit_changes.specs.Plan as spec
 use Rattle.edit_plan.specs.Answer.{Answers}
 use Rattle.edit_plan.specs.Shown.{shown}
 use Rattle.edit_plan.proofs.EndsLemmas.{CanMove-shown}

@@ -1,6 +1,6 @@
 -- what refuses the tracks refuses the Tracks
 use Rattle.std.proofs.Common.{◌∙◌, ap}
-use Rattle.edit_format.specs.Records as spec
+use Rattle.edit_changes.specs.Records as spec
 use Rattle.edit_plan.proofs.TreesLemmas.{tracks-refused}
 use Rattle.edit_plan.proofs.reading.good_tracks.Goals as goal
 

@@ -1,6 +1,6 @@
 -- What was added, with what is left.
 use Rattle.std.proofs.Common.{◌≡◌, ◌++◌, drop, map, flat_map}
-use Rattle.sidecar_format.specs.Writes.{Write}
+use Rattle.sidecar_edit.specs.Writes.{Write}
 use Rattle.edit_plan.specs.Shown.{written}
 use Rattle.edit_plan.proofs.recording.payload_of.Given as goal
 

@@ -1,6 +1,6 @@
 -- Those so far, with those that are left.
 use Rattle.std.proofs.Common.{◌≡◌, ◌++◌, drop, map}
-use Rattle.edit_format.specs.Plan.{place}
+use Rattle.edit_changes.specs.Plan.{place}
 use Rattle.edit_plan.specs.Shown.{written}
 use Rattle.edit_plan.proofs.recording.places_of.Given as goal
 

@@ -1,7 +1,7 @@
 -- What stands in the record is in order.
 use Rattle.std.proofs.Common.{◌≡◌, ◌∙◌, max, length, map, ap, sym, subst, arith}
 use Rattle.std.specs.Prelude.{IfOk}
-use Rattle.sidecar_format.specs.Fields.{AreInOrder, Planned, last_end}
+use Rattle.sidecar_edit.specs.Fields.{AreInOrder, Planned, last_end}
 use Rattle.edit_plan.specs.Shown.{written}
 use Rattle.edit_plan.proofs.RecordLemmas.{extent-end, places-octets, planned-record}
 use Rattle.edit_plan.proofs.recording.recorded.Goals as goal

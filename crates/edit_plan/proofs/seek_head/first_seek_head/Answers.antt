@@ -1,7 +1,7 @@
 -- The SeekHead is read, or counts as none.
 use Rattle.std.proofs.Common.{List, Option, Some, Ok, Err, sym, ◌∙◌, ap}
 use Rattle.tree_format.specs.Node.{Node}
-use Rattle.edit_format.specs.SeekHead.{SeekHeadAt}
+use Rattle.edit_changes.specs.SeekHead.{SeekHeadAt}
 use Rattle.edit_plan.proofs.SeekLemmas.{head-large, head-read, seek_head-master}
 use Rattle.edit_plan.proofs.seek_head.first_seek_head.Goals as goal
 

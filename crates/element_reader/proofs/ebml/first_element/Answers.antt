@@ -1,11 +1,11 @@
 use Rattle.std.proofs.Common.{◌≡◌, Err, ℕ, ◌-◌, ◌≤◌, arith, min, nat_eq, List, length, take, drop, sym, ◌∙◌, ap}
 use Rattle.std.specs.List.{starts_with}
 use Rattle.mkv_io.specs.Contents.{octets_from}
-use Rattle.matroska_format.specs.Element.{at_level_0, element_in, stated_end}
-use Rattle.matroska_format.specs.Outline.{ebml_mark}
-use Rattle.matroska_format.proofs.ElementLemmas.{element_at-front}
-use Rattle.element_window.proofs.WindowLemmas.{octets_from-held}
-use Rattle.ebml_format.proofs.NumberLemmas.{IfOk-each}
+use Rattle.mkv_schema.specs.Element.{at_level_0, element_in, stated_end}
+use Rattle.mkv_schema.specs.Outline.{ebml_mark}
+use Rattle.mkv_schema.proofs.ElementLemmas.{element_at-front}
+use Rattle.elements.proofs.WindowLemmas.{octets_from-held}
+use Rattle.ebml_numbers.proofs.NumberLemmas.{IfOk-each}
 use Rattle.element_reader.proofs.EbmlLemmas.{begins, ebml_inside, starts_with-front, first_element-begins, first_element-other}
 use Rattle.element_reader.proofs.ebml.first_element.Goals as goal
 

@@ -1,6 +1,6 @@
 use Rattle.std.proofs.Common.{◌+◌, length, sym, ◌∙◌, ap}
-use Rattle.matroska_format.specs.declared.limits.TheConstants.{MOST_OF_HEADER}
-use Rattle.matroska_format.specs.Outline.{over, bad_value, first_damage, header_causes}
+use Rattle.mkv_schema.specs.declared.limits.TheConstants.{MOST_OF_HEADER}
+use Rattle.mkv_schema.specs.Outline.{over, bad_value, first_damage, header_causes}
 use Rattle.mkv_schema.specs.declared.ids.TheConstants.{EBML}
 use Rattle.element_reader.specs.EbmlChildren.{children, value_causes}
 use Rattle.element_reader.proofs.FieldLemmas.{over-none, refused-by_child, refused-by_value}

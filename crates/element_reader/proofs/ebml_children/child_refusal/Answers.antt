@@ -1,6 +1,6 @@
 use Rattle.std.proofs.Common.{Some, ◌+◌, ◌≤◌, length, sym, ◌∙◌, ap, arith}
 use Rattle.mkv_schema.specs.declared.ids.TheConstants.{EBML}
-use Rattle.matroska_format.specs.Value.{is_known_value}
+use Rattle.mkv_schema.specs.Value.{is_known_value}
 use Rattle.element_reader.specs.EbmlChildren.{children, child_refusal}
 use Rattle.element_reader.proofs.ChildrenLemmas.{child_refusal-end, child_refusal-breaks, child_refusal-bad, child_refusal-goes_on}
 use Rattle.element_reader.proofs.ebml_children.child_refusal.Goals as goal

@@ -1,5 +1,5 @@
 use Rattle.std.proofs.Common.{◌≡◌, ◌-◌, ◌≤◌, ℕ, List}
-use Rattle.element_bodies.specs.Body.{IsBody}
+use Rattle.elements.specs.Body.{IsBody}
 use Rattle.element_reader.specs.EbmlChildren.{children, child_refusal}
 use Rattle.element_reader.proofs.ebml_children.child_refusal.Given as goal
 

@@ -1,5 +1,5 @@
 use Rattle.std.proofs.Common.{◌+◌, ◌≤◌, length, sym, ◌∙◌, ap, arith}
-use Rattle.matroska_format.specs.Value.{first_of}
+use Rattle.mkv_schema.specs.Value.{first_of}
 use Rattle.element_reader.specs.EbmlChildren.{children}
 use Rattle.element_reader.proofs.ChildrenLemmas.{first_child-end, first_child-breaks, first_child-found, first_child-goes_on}
 use Rattle.element_reader.proofs.ebml_children.first_child.Goals as goal

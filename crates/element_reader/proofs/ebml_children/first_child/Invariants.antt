@@ -1,6 +1,6 @@
 use Rattle.std.proofs.Common.{◌≡◌, ◌-◌, ◌≤◌, ℕ, List}
-use Rattle.matroska_format.specs.Value.{first_of}
-use Rattle.element_bodies.specs.Body.{IsBody}
+use Rattle.mkv_schema.specs.Value.{first_of}
+use Rattle.elements.specs.Body.{IsBody}
 use Rattle.element_reader.specs.EbmlChildren.{children}
 use Rattle.element_reader.proofs.ebml_children.first_child.Given as goal
 

@@ -1,7 +1,7 @@
 use Rattle.std.proofs.Common.{◌≡◌, ℕ, ◌+◌, ◌≤◌, [], List, length, unwrap_or, subst, sym, ◌∙◌, ap, arith}
 use Rattle.std.proofs.lemmas.Bool.Decides.{nat_tests}
-use Rattle.ebml_format.specs.Number.{uint_of}
-use Rattle.matroska_format.specs.Value.{body_of, uint_value}
+use Rattle.ebml_numbers.specs.Number.{uint_of}
+use Rattle.mkv_schema.specs.Value.{body_of, uint_value}
 use Rattle.element_reader.specs.EbmlChildren.{children}
 use Rattle.element_reader.proofs.FieldLemmas.{uint_in-is, uint_value-none, uint_value-some, short_of, take-short}
 use Rattle.element_reader.proofs.ebml_values.uint_in.Goals as goal

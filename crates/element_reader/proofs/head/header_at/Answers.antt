@@ -1,9 +1,9 @@
 use Rattle.std.proofs.Common.{◌≡◌, ℕ, ◌-◌, ◌≤◌, min, List, length, sym, ◌∙◌, ap, arith}
 use Rattle.std.proofs.lemmas.Grind.{common_steps}
 use Rattle.mkv_io.specs.Contents.{octets_from}
-use Rattle.matroska_format.specs.Element.{anywhere, element_in, element_at}
-use Rattle.matroska_format.specs.declared.limits.TheConstants.{LONGEST_HEADER}
-use Rattle.matroska_format.proofs.ElementLemmas.{element_at-front}
+use Rattle.mkv_schema.specs.Element.{anywhere, element_in, element_at}
+use Rattle.mkv_schema.specs.declared.limits.TheConstants.{LONGEST_HEADER}
+use Rattle.mkv_schema.proofs.ElementLemmas.{element_at-front}
 use Rattle.element_reader.proofs.head.header_at.Goals as goal
 
 -- what was read is enough for a header

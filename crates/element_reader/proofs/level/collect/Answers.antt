@@ -1,9 +1,9 @@
 use Rattle.std.proofs.Common.{◌≡◌, ◌≤◌, ℕ, List, length, sym, ◌∙◌, ap, subst, arith, rules}
 use Rattle.std.specs.List.{All}
-use Rattle.matroska_format.specs.declared.element.Header.{Header}
-use Rattle.matroska_format.specs.Elements.{level_1, breaks_at}
-use Rattle.element_window.specs.Window.{HasNotPassed, MovesTo}
-use Rattle.element_walks.specs.declared.level_one.Level1Step.TheVariants.{Element}
+use Rattle.mkv_schema.specs.declared.element.Header.{Header}
+use Rattle.mkv_schema.specs.Elements.{level_1, breaks_at}
+use Rattle.elements.specs.Window.{HasNotPassed, MovesTo}
+use Rattle.elements.specs.declared.level_one.Level1Step.TheVariants.{Element}
 use Rattle.element_reader.specs.Collected.{IsInFile}
 use Rattle.element_reader.specs.declared.collected.Collected.{Collected}
 use Rattle.element_reader.proofs.CollectedLemmas.{IsInFile-more}

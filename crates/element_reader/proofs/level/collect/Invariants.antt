@@ -2,9 +2,9 @@ use Rattle.std.proofs.Common.{◌≡◌, ◌-◌, ◌≤◌}
 use Rattle.std.specs.List.{All}
 use Rattle.mkv_io.specs.Sources.{OnlyReads}
 use Rattle.mkv_io.specs.Told.{Told}
-use Rattle.matroska_format.specs.Elements.{level_1}
-use Rattle.matroska_format.specs.Outline.{segment_run}
-use Rattle.element_window.specs.Window.{Holds, HasNotPassed, MovesTo}
+use Rattle.mkv_schema.specs.Elements.{level_1}
+use Rattle.mkv_schema.specs.Outline.{segment_run}
+use Rattle.elements.specs.Window.{Holds, HasNotPassed, MovesTo}
 use Rattle.element_reader.specs.Collected.{IsInFile}
 use Rattle.element_reader.specs.Level.{IsOnWay}
 use Rattle.element_reader.proofs.level.collect.Given as goal

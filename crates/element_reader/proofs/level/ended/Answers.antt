@@ -1,7 +1,7 @@
 use Rattle.std.proofs.Common.{if◌then◌else◌, refl, ◌∙◌, ap}
 use Rattle.std.specs.Option.{option_map_or}
-use Rattle.mkv_values.specs.declared.damage.Damage.{Damage}
-use Rattle.matroska_format.specs.Element.{is_unknown, end_in}
+use Rattle.mkv_io.specs.declared.damage.Damage.{Damage}
+use Rattle.mkv_schema.specs.Element.{is_unknown, end_in}
 use Rattle.element_reader.proofs.LevelLemmas.{HasLevel-ended}
 use Rattle.element_reader.proofs.level.ended.Goals as goal
 

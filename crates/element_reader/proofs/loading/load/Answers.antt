@@ -2,7 +2,7 @@ use Rattle.std.proofs.Common.{◌≡◌, length, sym, ◌∙◌, ap, arith}
 use Rattle.std.proofs.lemmas.Grind.{common_steps}
 use Rattle.std.proofs.lemmas.List.{drop-take, take_at}
 use Rattle.mkv_io.specs.Contents.{octets_from}
-use Rattle.matroska_format.specs.Element.{known}
+use Rattle.mkv_schema.specs.Element.{known}
 use Rattle.element_reader.proofs.loading.load.Goals as goal
 
 -- they are the body's

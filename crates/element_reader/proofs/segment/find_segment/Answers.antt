@@ -1,6 +1,6 @@
 use Rattle.std.proofs.Common.{◌≡◌, ◌<◌, length, sym, ◌∙◌, ap, arith}
-use Rattle.matroska_format.specs.Element.{at_level_0, element_at}
-use Rattle.matroska_format.specs.Elements.{id_of}
+use Rattle.mkv_schema.specs.Element.{at_level_0, element_at}
+use Rattle.mkv_schema.specs.Elements.{id_of}
 use Rattle.element_reader.proofs.SegmentLemmas.{segment_from-found, segment_from-breaks}
 use Rattle.element_reader.proofs.segment.find_segment.Goals as goal
 

@@ -1,7 +1,7 @@
 use Rattle.std.proofs.Common.{◌≡◌, ◌-◌, ◌≤◌}
 use Rattle.mkv_io.specs.Sources.{OnlyReads}
 use Rattle.mkv_io.specs.Told.{Told}
-use Rattle.element_window.specs.Window.{Holds, HasNotPassed, MovesTo}
+use Rattle.elements.specs.Window.{Holds, HasNotPassed, MovesTo}
 use Rattle.element_reader.specs.Segment.{segment_from}
 use Rattle.element_reader.proofs.segment.find_segment.Given as goal
 

@@ -1,9 +1,9 @@
 use Rattle.std.proofs.Common.{◌≡◌, ◌≤◌, ◌+◌, ◌*◌, ℕ, List, map, sym, ◌∙◌, subst, arith}
 use Rattle.mkv_io.specs.Names.{AreOthers}
 use Rattle.mkv_io.proofs.WritingLemmas.{KeepsOthers-then}
-use Rattle.extract_model.specs.Job.{names_of}
-use Rattle.file_records.specs.Attached.{in_file}
-use Rattle.mkv_jobs.specs.declared.job.Target.{Target}
+use Rattle.extractors.specs.Job.{names_of}
+use Rattle.meta_records.specs.Attached.{in_file}
+use Rattle.word_values.specs.declared.job.Target.{Target}
 use Rattle.extractors.specs.Attached.{attached_at, attached_output}
 use Rattle.extractors.proofs.TargetLemmas.{AreOthers-target, KeepsOthers-target, written-more, written-part}
 use Rattle.extractors.proofs.attached.write_each.Goals as goal

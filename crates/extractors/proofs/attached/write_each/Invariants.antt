@@ -4,8 +4,8 @@ use Rattle.mkv_io.specs.Sources.{file_size}
 use Rattle.mkv_io.specs.Told.{Told}
 use Rattle.mkv_io.specs.Writing.{KeepsOthers}
 use Rattle.mkv_outputs.specs.Outputs.{with_outputs}
-use Rattle.extract_model.specs.Job.{names_of}
-use Rattle.file_records.specs.Attached.{in_file}
+use Rattle.extractors.specs.Job.{names_of}
+use Rattle.meta_records.specs.Attached.{in_file}
 use Rattle.extractors.specs.Attached.{attached_outputs}
 use Rattle.extractors.proofs.attached.write_each.Given as goal
 

@@ -1,8 +1,8 @@
 use Rattle.std.proofs.Common.{◌≡◌, ℕ, ◌+◌, List, length, IfOk, ap, sym, subst, ◌∙◌, arith}
 use Rattle.block_records.specs.Buffered.{block_of}
 use Rattle.block_records.specs.declared.head.BlockHead.{BlockHead}
-use Rattle.extract_model.specs.Content.{counted, entries_from}
-use Rattle.extract_model.specs.Frames.{Frame}
+use Rattle.extractors.specs.Content.{counted, entries_from}
+use Rattle.extractors.specs.Frames.{Frame}
 use Rattle.mkv_outputs.specs.Outputs.{with_more}
 use Rattle.mkv_outputs.specs.Sinks.{Gives, HaveBeenGiven}
 use Rattle.mkv_outputs.proofs.OutputsLemmas.{with_more-none}

@@ -1,9 +1,9 @@
 use Rattle.std.proofs.Common.{◌≤◌, ◌+◌, ℕ, length, [], ◌∷◌, ◌++◌, refl, ap, subst, sym, ◌∙◌, arith}
 use Rattle.std.proofs.lemmas.List.{length-replicate}
 use Rattle.std.proofs.lemmas.Result.{err_from_is_err_and}
-use Rattle.mkv_values.specs.declared.outside.FileId.{FileId}
+use Rattle.mkv_io.specs.declared.outside.FileId.{FileId}
 use Rattle.mkv_io.specs.Names.{AreOthers}
-use Rattle.mkv_jobs.proofs.EndsLemmas.{HasRemuxCause-make, HasRemuxCause-then}
+use Rattle.mkv_io.proofs.EndsLemmas.{HasRemuxCause-make, HasRemuxCause-then}
 use Rattle.block_format.specs.Events.{blocks_of}
 use Rattle.block_records.specs.Buffered.{block_of}
 use Rattle.cluster_reader.specs.Reading.{left_of, paid}
@@ -11,8 +11,8 @@ use Rattle.cluster_reader.proofs.ReadingLemmas.{CanRead-kept}
 use Rattle.mkv_outputs.specs.Sinks.{names_under}
 use Rattle.mkv_outputs.proofs.GivenLemmas.{HaveBeenGiven-part}
 use Rattle.mkv_outputs.proofs.StartsLemmas.{StandsInPart-then}
-use Rattle.extract_model.specs.Content.{outputs_of}
-use Rattle.extract_model.proofs.ContentLemmas.{outputs_of-begun}
+use Rattle.extractors.specs.Content.{outputs_of}
+use Rattle.extractors.proofs.ContentLemmas.{outputs_of-begun}
 use Rattle.extractors.proofs.BlocksLemmas.{GivesBlocks-err}
 use Rattle.extractors.proofs.WalkLemmas.{Given-begun, Given-ends, Given-more, Given-none, Given-part, Given-read, MetUpTo-begins, MetUpTo-begun, MetUpTo-block, MetUpTo-blocks, MetUpTo-damage, WritesAndReads-none, WritesAndReads-read, WritesAndReads-write, input-other, pays-step}
 use Rattle.extractors.proofs.blocks.write_blocks.Goals as goal

@@ -1,8 +1,8 @@
 use Rattle.std.proofs.Common.{slice_get, ◌∙◌, arith}
 use Rattle.mkv_io.proofs.WritingLemmas.{KeepsOthers-then}
-use Rattle.mkv_jobs.specs.declared.job.Target.{Target}
-use Rattle.extract_model.specs.Job.{names_of}
-use Rattle.file_records.specs.Records.{scale_of_info}
+use Rattle.word_values.specs.declared.job.Target.{Target}
+use Rattle.extractors.specs.Job.{names_of}
+use Rattle.meta_records.specs.Records.{scale_of_info}
 use Rattle.extractors.specs.Cues.{cues_output}
 use Rattle.extractors.specs.Source.{entries_in}
 use Rattle.extractors.proofs.TargetLemmas.{KeepsOthers-target, written-more, written-part}

@@ -2,8 +2,8 @@
 use Rattle.std.proofs.Common.{◌≡◌, ◌≤◌, take}
 use Rattle.mkv_io.specs.Writing.{KeepsOthers}
 use Rattle.mkv_outputs.specs.Outputs.{with_outputs}
-use Rattle.extract_model.specs.Job.{names_of}
-use Rattle.file_records.specs.Records.{scale_of_info}
+use Rattle.extractors.specs.Job.{names_of}
+use Rattle.meta_records.specs.Records.{scale_of_info}
 use Rattle.extractors.specs.Cues.{cues_outputs}
 use Rattle.extractors.specs.Source.{entries_in}
 use Rattle.extractors.proofs.cues.write_cues.Given as goal

@@ -1,15 +1,15 @@
 use Rattle.std.proofs.Common.{◌≡◌, ℕ, List, length, IfOk, sym, ◌∙◌, ap, subst}
 use Rattle.std.specs.List.{All}
-use Rattle.mkv_values.specs.declared.outside.FileId.{FileId}
+use Rattle.mkv_io.specs.declared.outside.FileId.{FileId}
 use Rattle.mkv_io.specs.Names.{AreApart, AreOthers}
-use Rattle.mkv_jobs.specs.declared.job.Target.{Target}
+use Rattle.word_values.specs.declared.job.Target.{Target}
 use Rattle.block_format.specs.Elements.{with_limits}
 use Rattle.block_format.specs.Events.{Event, blocks_of, damages_of, events_of}
 use Rattle.cluster_reader.specs.Reading.{left_of}
 use Rattle.cluster_reader.specs.ToldDamages.{ToldDamages, told_damages}
-use Rattle.extract_model.specs.Content.{names_in, outputs_of}
-use Rattle.extract_model.specs.Job.{outputs_for, targets_of}
-use Rattle.extract_model.specs.declared.track_output.TrackOutput.{TrackOutput}
+use Rattle.extractors.specs.Content.{names_in, outputs_of}
+use Rattle.extractors.specs.Job.{outputs_for, targets_of}
+use Rattle.extractors.specs.declared.track_output.TrackOutput.{TrackOutput}
 use Rattle.extractors.specs.Source.{entries_in, events_in, outputs_in}
 use Rattle.extractors.specs.Walks.{HasSmallStep, Writes}
 use Rattle.extractors.proofs.JobLemmas.{each-entry, job_outputs-taken, outputs_for-apart, outputs_for-others, outputs_for-steps}

@@ -6,7 +6,7 @@ use Rattle.mkv_outputs.specs.Starts.{AreBegun, StandsInPart}
 use Rattle.mkv_outputs.proofs.FilesLemmas.{MadeSince-added, MadeSince-written}
 use Rattle.mkv_outputs.proofs.GivenLemmas.{HaveBeenGiven-count}
 use Rattle.mkv_outputs.proofs.StartsLemmas.{StandsInPart-then}
-use Rattle.extract_model.specs.Content.{names_in, outputs_of}
+use Rattle.extractors.specs.Content.{names_in, outputs_of}
 use Rattle.extractors.proofs.MakeLemmas.{Makes-err, count-next, made-among, made-apart, made-begun, made-next-as, made-other, outputs_of-first}
 use Rattle.extractors.proofs.extraction.make_all.Goals as goal
 

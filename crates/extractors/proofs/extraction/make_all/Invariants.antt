@@ -1,7 +1,7 @@
 -- The first outputs were made and have their heads, and no other name was written.
 use Rattle.std.proofs.Common.{◌≡◌, [], take}
 use Rattle.mkv_outputs.specs.Sinks.{AreOpen, HaveBeenGiven, MadeSince}
-use Rattle.extract_model.specs.Content.{names_in, outputs_of}
+use Rattle.extractors.specs.Content.{names_in, outputs_of}
 use Rattle.extractors.proofs.extraction.make_all.Given as goal
 
 abbrev pub invariant-loop-k : goal.invariant-loop-k

@@ -3,8 +3,8 @@ use Rattle.block_format.specs.Events.{blocks_of}
 use Rattle.cluster_reader.specs.Reading.{left_of}
 use Rattle.mkv_outputs.proofs.GivenLemmas.{HaveBeenGiven-count}
 use Rattle.mkv_outputs.proofs.StartsLemmas.{StandsInPart-then}
-use Rattle.extract_model.specs.Content.{outputs_of}
-use Rattle.extract_model.proofs.ContentLemmas.{outputs_of-begun}
+use Rattle.extractors.specs.Content.{outputs_of}
+use Rattle.extractors.proofs.ContentLemmas.{outputs_of-begun}
 use Rattle.extractors.proofs.MakeLemmas.{Writes-err, length-outputs, made-input, made-walked}
 use Rattle.extractors.proofs.WalkLemmas.{WritesAndReads-write}
 use Rattle.extractors.proofs.extraction.write_all.Goals as goal

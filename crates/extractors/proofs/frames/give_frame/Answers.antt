@@ -2,7 +2,7 @@ use Rattle.std.proofs.Common.{ℤ, subst, rules, w64, SFits}
 use Rattle.std.proofs.lemmas.Int.{to_z-of_z}
 use Rattle.mkv_outputs.specs.Outputs.{with_more}
 use Rattle.mkv_outputs.specs.Sinks.{Gives}
-use Rattle.extract_model.specs.Times.{time_line}
+use Rattle.extractors.specs.Times.{time_line}
 use Rattle.extractors.proofs.frames.give_frame.Goals as goal
 
 -- a time is a line

@@ -2,8 +2,8 @@ use Rattle.std.proofs.Common.{◌≡◌, ◌<◌, ◌+◌, ◌-◌, ℕ, ℤ, le
 use Rattle.std.proofs.lemmas.Int.{to_z-of_z}
 use Rattle.mkv_outputs.proofs.FilesLemmas.{WritesOutputs-none, WritesOutputs-then}
 use Rattle.mkv_outputs.proofs.GivenLemmas.{length-same}
-use Rattle.extract_model.specs.Content.{counted, entry_of}
-use Rattle.extract_model.specs.Frames.{Frame}
+use Rattle.extractors.specs.Content.{counted, entry_of}
+use Rattle.extractors.specs.Frames.{Frame}
 use Rattle.extractors.proofs.FramesLemmas.{Gives-err, GivesUpTo, GivesUpTo-begins, GivesUpTo-ends, GivesUpTo-more, GivesUpTo-part, HasGiven, HasPart, entries_left, entries_left-block, entries_left-next, entries_left-none, framed, length-frames_in, rest-next}
 use Rattle.extractors.proofs.frames.give_frames.Goals as goal
 

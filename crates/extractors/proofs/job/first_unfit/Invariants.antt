@@ -1,6 +1,6 @@
 -- The targets before this one name no such track.
 use Rattle.std.proofs.Common.{◌≡◌, drop, map}
-use Rattle.extract_model.specs.Job.{first_unfit}
+use Rattle.extractors.specs.Job.{first_unfit}
 use Rattle.extractors.specs.Source.{entry_in}
 use Rattle.extractors.proofs.job.first_unfit.Given as goal
 

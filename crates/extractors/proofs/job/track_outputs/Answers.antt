@@ -1,7 +1,7 @@
 use Rattle.std.proofs.Common.{◌≡◌, List, [], ◌∷◌, ◌++◌, map, take, Some, None, slice_get, sym, ◌∙◌, ap}
 use Rattle.std.specs.Option.{option_copied}
-use Rattle.extract_model.specs.Job.{outputs_for}
-use Rattle.extract_model.specs.declared.track_output.TrackOutput.{TrackOutput}
+use Rattle.extractors.specs.Job.{outputs_for}
+use Rattle.extractors.specs.declared.track_output.TrackOutput.{TrackOutput}
 use Rattle.extractors.specs.Source.{entry_in}
 use Rattle.extractors.proofs.JobLemmas.{outputs_for-found, outputs_for-none, usable-at}
 use Rattle.extractors.proofs.job.track_outputs.Goals as goal

@@ -1,6 +1,6 @@
 -- The outputs of the first targets.
 use Rattle.std.proofs.Common.{◌≡◌, map, take}
-use Rattle.extract_model.specs.Job.{outputs_for}
+use Rattle.extractors.specs.Job.{outputs_for}
 use Rattle.extractors.specs.Source.{entry_in}
 use Rattle.extractors.proofs.job.track_outputs.Given as goal
 

@@ -1,6 +1,6 @@
 use Rattle.std.proofs.Common.{◌≡◌, get_or, sym, ◌∙◌}
 use Rattle.std.proofs.lemmas.List.{get_or_default}
-use Rattle.mkv_values.specs.declared.outside.FileId.{FileId}
+use Rattle.mkv_io.specs.declared.outside.FileId.{FileId}
 use Rattle.mkv_io.proofs.WritingLemmas.{IsSameFile-twice}
 use Rattle.mkv_outputs.proofs.FilesLemmas.{closed-more, still-live}
 use Rattle.input_files.proofs.files.close_all.Goals as goal

@@ -2,7 +2,7 @@ use Rattle.std.proofs.Common.{List, [], ◌∷◌, ◌++◌, ℕ, ◌+◌, take,
 use Rattle.std.proofs.lemmas.List.{take_all}
 use Rattle.mkv_io.specs.Sources.{live_files}
 use Rattle.mkv_outputs.specs.Sinks.{EndsOnly}
-use Rattle.pending_edits.proofs.LooksLemmas.{KeepsOthers-standing}
+use Rattle.sidecar_edit.proofs.LooksLemmas.{KeepsOthers-standing}
 use Rattle.input_files.specs.Inputs.{OpensInputs, contents_of, file_names}
 use Rattle.input_files.proofs.InputsLemmas.{OpensInputs-more, end-as-begun}
 use Rattle.input_files.proofs.NamesLemmas.{contents-named, missing-passed, names-more}

@@ -1,8 +1,8 @@
 -- No edit of the first files is pending, and nothing else has changed.
 use Rattle.std.proofs.Common.{◌≡◌, ◌+◌, ◌*◌, ◌≤◌, drop}
 use Rattle.mkv_io.specs.Told.{Told}
-use Rattle.sidecar_format.specs.declared.place.TheConstants.{HEAD}
-use Rattle.pending_edits.specs.Pending.{LooksOnly}
+use Rattle.sidecar_edit.specs.declared.place.TheConstants.{HEAD}
+use Rattle.sidecar_edit.specs.Pending.{LooksOnly}
 use Rattle.input_files.specs.Inputs.{file_names, first_pending}
 use Rattle.input_files.proofs.NamesLemmas.{pending_from}
 use Rattle.input_files.proofs.pending.first_pending.Given as goal

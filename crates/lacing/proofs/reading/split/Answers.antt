@@ -1,6 +1,6 @@
 -- What was read is a lace, and where nothing is read there is none.
 use Rattle.std.proofs.Common.{◌≡◌, true, ◌∙◌, ap, sym, arith}
-use Rattle.ebml_format.specs.Number.{AreOctets}
+use Rattle.ebml_numbers.specs.Number.{AreOctets}
 use Rattle.lacing.specs.Reading.{frames_in, is_frame_count}
 use Rattle.lacing.proofs.LaceLemmas.{lace_in-frames, lace_in-uncounted, lace_in-found, lace_in-none}
 use Rattle.lacing.proofs.reading.split.Goals as goal

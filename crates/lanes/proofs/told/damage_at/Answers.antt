@@ -2,8 +2,8 @@ use Rattle.std.proofs.Common.{◌≡◌, ◌≤◌, ◌+◌, ◌-◌, ℕ, lengt
 use Rattle.std.specs.Prelude.{List}
 use Rattle.std.specs.List.{slice_get}
 use Rattle.std.proofs.lemmas.Option.{slice_get_read}
-use Rattle.mkv_values.specs.declared.damage.Damage.{Damage}
-use Rattle.mkv_values.specs.declared.damage.Kind.TheVariants.{NotEbml}
+use Rattle.mkv_io.specs.declared.damage.Damage.{Damage}
+use Rattle.mkv_io.specs.declared.damage.Kind.TheVariants.{NotEbml}
 use Rattle.lanes.specs.Told.{damages_from}
 use Rattle.lanes.proofs.ListLemmas.{get-index}
 use Rattle.lanes.proofs.ToldLemmas.{damage-behind, damage-here}

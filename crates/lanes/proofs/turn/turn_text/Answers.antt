@@ -1,8 +1,8 @@
 use Rattle.std.proofs.Common.{length, ◌<◌, ◌≤◌, ◌+◌, ◌^◌, refl, sym, arith}
 use Rattle.std.proofs.lemmas.Option.{slice_get_within}
-use Rattle.lane_blocks.specs.Links.{IsSmallEntry, IsSmallLink}
-use Rattle.lane_blocks.specs.Placed.{text_lent}
-use Rattle.lane_blocks.specs.declared.link.Link.TheVariants.{Entries}
+use Rattle.merge_model.specs.FileLinks.{IsSmallEntry, IsSmallLink}
+use Rattle.lanes.specs.Placed.{text_lent}
+use Rattle.merge_model.specs.declared.link.Link.TheVariants.{Entries}
 use Rattle.lanes.specs.declared.walk.Walk.{Walk}
 use Rattle.lanes.proofs.TrackLemmas as turns
 use Rattle.lanes.proofs.WalkLemmas.{has-left}

@@ -1,13 +1,13 @@
 use Rattle.std.proofs.Common.{◌≡◌, length, Some, None, Ok, Err, Bool, ◌<◌, refl, sym, ◌∙◌, ap, arith}
 use Rattle.std.specs.Prelude.{◌||◌}
 use Rattle.std.proofs.lemmas.Option.{slice_get_within, slice_get_read}
-use Rattle.mkv_values.specs.declared.outside.FileId.{FileId}
+use Rattle.mkv_io.specs.declared.outside.FileId.{FileId}
 use Rattle.mkv_io.specs.Sources.{live_files}
 use Rattle.block_records.specs.Buffered.{block_of}
 use Rattle.cluster_reader.specs.Reading.{left_of}
-use Rattle.lane_blocks.specs.Links.{IsOpenLink, IsSmallLink, octets_in, track_events}
-use Rattle.lane_blocks.specs.Placed.{track_lent}
-use Rattle.lane_blocks.specs.declared.link.Link.TheVariants.{Track}
+use Rattle.merge_model.specs.FileLinks.{IsOpenLink, IsSmallLink, octets_in, track_events}
+use Rattle.lanes.specs.Placed.{track_lent}
+use Rattle.merge_model.specs.declared.link.Link.TheVariants.{Track}
 use Rattle.lanes.specs.declared.walk.Walk.{Walk}
 use Rattle.std.specs.Vec.{with_item}
 use Rattle.lanes.proofs.TrackLemmas as turns

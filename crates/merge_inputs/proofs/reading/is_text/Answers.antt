@@ -1,7 +1,7 @@
 -- Four octets tell whether an EBML header begins a file.
 use Rattle.std.proofs.Common.{◌≡◌, ℕ, ◌≤◌, ◌&&◌, not, min, true, List, [], ◌∷◌, length, sym, ◌∙◌, ap, arith}
 use Rattle.std.proofs.lemmas.List.{length-take-le}
-use Rattle.text_tracks.specs.Names.{begins_ebml, is_srt_name}
+use Rattle.input_files.specs.Names.{begins_ebml, is_srt_name}
 use Rattle.merge_inputs.proofs.TextLemmas.{first-four}
 use Rattle.merge_inputs.proofs.reading.is_text.Goals as goal
 

@@ -3,16 +3,16 @@ use Rattle.std.specs.List.{All}
 use Rattle.element_reader.specs.Outline.{FileOutline}
 use Rattle.block_format.specs.Elements.{with_limits}
 use Rattle.block_format.specs.Events.{events_of}
-use Rattle.file_blocks.specs.File.{file_events}
+use Rattle.file_format.specs.FileBlocks.{file_events}
 use Rattle.track_records.specs.Sound.{IsEntry}
 use Rattle.track_records.specs.declared.track.Track.{Track}
 use Rattle.tree_format.specs.Node.{Node}
-use Rattle.tree_building.specs.Building.{IsRead}
+use Rattle.ebml_tree.specs.Building.{IsRead}
 use Rattle.mkv_schema.specs.declared.ids.TheConstants.{CHAPTERS, TAGS}
-use Rattle.attachment_reading.specs.Walk.{IsAttachedIn}
-use Rattle.file_records.specs.Attached.{in_file}
-use Rattle.file_records.specs.Records.{described_by}
-use Rattle.file_records.proofs.RecordsLemmas.{file_records-scale}
+use Rattle.meta_records.specs.Walk.{IsAttachedIn}
+use Rattle.meta_records.specs.Attached.{in_file}
+use Rattle.meta_records.specs.Records.{described_by}
+use Rattle.meta_records.proofs.RecordsLemmas.{file_records-scale}
 use Rattle.merge_inputs.specs.Input.{refusal_of}
 use Rattle.merge_inputs.specs.Select.{kept_list, kept_one}
 use Rattle.merge_inputs.specs.Taken.{first_unusable}

@@ -2,7 +2,7 @@
 use Rattle.std.proofs.Common.{sym, ◌∙◌, ap, subst}
 use Rattle.std.specs.List.{All}
 use Rattle.std.proofs.lemmas.List.Elements.{All-nil}
-use Rattle.attachment_reading.specs.Walk.{IsAttachedIn}
+use Rattle.meta_records.specs.Walk.{IsAttachedIn}
 use Rattle.merge_inputs.specs.Taken.{first_unusable, taken_from}
 use Rattle.merge_inputs.proofs.TakenLemmas.{AreTaken-read}
 use Rattle.merge_inputs.proofs.TextLemmas.{text-read, text-usable}

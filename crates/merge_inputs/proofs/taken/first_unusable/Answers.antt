@@ -1,5 +1,5 @@
 use Rattle.std.proofs.Common.{sym, ◌∙◌}
-use Rattle.file_records.proofs.CausesLemmas.{usable-some}
+use Rattle.meta_records.proofs.CausesLemmas.{usable-some}
 use Rattle.merge_inputs.proofs.TakenLemmas.{unusable-here}
 use Rattle.merge_inputs.proofs.taken.first_unusable.Goals as goal
 

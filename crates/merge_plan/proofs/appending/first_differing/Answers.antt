@@ -1,6 +1,6 @@
 -- The first track that differs is found.
 use Rattle.std.proofs.Common.{sym, ap, ◌∙◌}
-use Rattle.record_changes.specs.Difference.{first_difference}
+use Rattle.track_records.specs.Difference.{first_difference}
 use Rattle.merge_inputs.specs.declared.taken.TakenTrack.{TakenTrack}
 use Rattle.merge_plan.proofs.AppendLemmas.{track-next, track-none}
 use Rattle.merge_plan.proofs.appending.first_differing.Goals as goal

@@ -2,7 +2,7 @@
 use Rattle.std.proofs.Common.{◌++◌, length, sym, ap, subst, ◌∙◌, arith}
 use Rattle.std.specs.List.{All}
 use Rattle.std.proofs.lemmas.List.Elements.{All-push}
-use Rattle.record_changes.specs.Entry.{IsWholeEntry}
+use Rattle.track_records.specs.Entry.{IsWholeEntry}
 use Rattle.merge_inputs.specs.Taken.{IsTaken}
 use Rattle.merge_plan.specs.Lent.{lent}
 use Rattle.merge_plan.specs.Records.{entries_from}

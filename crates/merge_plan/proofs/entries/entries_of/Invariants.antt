@@ -1,7 +1,7 @@
 -- The entries so far, with those of what is left, are those of all; and each is whole.
 use Rattle.std.proofs.Common.{◌≡◌, ◌+◌, ◌++◌, drop}
 use Rattle.std.specs.List.{All}
-use Rattle.record_changes.specs.Entry.{IsWholeEntry}
+use Rattle.track_records.specs.Entry.{IsWholeEntry}
 use Rattle.merge_plan.specs.Lent.{lent}
 use Rattle.merge_plan.specs.Records.{entries_from}
 use Rattle.merge_plan.proofs.entries.entries_of.Given as goal

@@ -1,7 +1,7 @@
 -- The numbers are those of the tracks' identifiers.
 use Rattle.std.proofs.Common.{◌≡◌, List, [], ◌∷◌, ℕ, map, refl, ap, subst, ◌∙◌, rules, IfOk}
 use denote.Ref.{Bor}
-use Rattle.identifier_format.specs.Identifiers.{renumbered}
+use Rattle.record_changes.specs.Identifiers.{renumbered}
 use Rattle.merge_inputs.specs.declared.taken.TakenTrack.{TakenTrack}
 use Rattle.merge_plan.specs.Lent.{lent}
 use Rattle.merge_plan.proofs.entries.uids_of.Goals as goal

@@ -1,13 +1,13 @@
 -- Each track is taken so, and the records are those of the inputs.
 use Rattle.std.proofs.Common.{◌≡◌, List, [], ℕ, map, sym, ap, subst, ◌∙◌}
 use Rattle.std.specs.List.{All, sum_by}
-use Rattle.attachment_records.specs.Attached.{attached_file}
-use Rattle.attachment_records.specs.declared.attachment.Attachment.{Attachment}
+use Rattle.output_model.specs.Attached.{attached_file}
+use Rattle.output_model.specs.declared.attachment.Attachment.{Attachment}
 use Rattle.merged_records.specs.Attachments.{merged_attachments}
 use Rattle.merged_records.specs.Chapters.{merged_chapters}
 use Rattle.merged_records.specs.Inputs.{IsInput}
 use Rattle.merged_records.specs.Tags.{merged_tags}
-use Rattle.output_records.specs.Tracks.{output_tracks}
+use Rattle.merged_records.specs.Tracks.{output_tracks}
 use Rattle.merge_inputs.specs.Input.{read_in}
 use Rattle.merge_inputs.specs.Taken.{IsTaken}
 use Rattle.merge_plan.specs.Planned.{IsFileOf}

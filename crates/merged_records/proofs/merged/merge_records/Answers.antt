@@ -1,7 +1,7 @@
 -- Each has a number, and what is made of them can be read again.
 use Rattle.std.proofs.Common.{length, sym, ap, subst, arith, IfSome}
 use Rattle.mkv_schema.specs.declared.ids.TheConstants.{CHAPTERS}
-use Rattle.chapter_changes.specs.Atoms.{edition_uids, chapter_uids}
+use Rattle.record_changes.specs.Atoms.{edition_uids, chapter_uids}
 use Rattle.output_model.specs.Sound.{IsRecord}
 use Rattle.merged_records.specs.Attachments.{files_of, file_uids}
 use Rattle.merged_records.specs.Chapters.{joined_chapters}

@@ -2,8 +2,8 @@
 use Rattle.std.proofs.Common.{List, [], ◌∷◌, ◌++◌, refl, sym, ap, subst, ◌∙◌, arith, append-nil, append_assoc}
 use Rattle.tree_format.specs.Node.{Node, id_of, offset_of, children, nodes_of, depth_all}
 use Rattle.tree_format.specs.Standing.{AllStandIn}
-use Rattle.tree_building.specs.Building.{IsBuilt}
-use Rattle.tree_building.proofs.BuildLemmas.{built-push, put-is}
+use Rattle.ebml_tree.specs.Building.{IsBuilt}
+use Rattle.ebml_tree.proofs.BuildLemmas.{built-push, put-is}
 use Rattle.merged_records.proofs.RecordLemmas.{record-built, built-record, all-stand}
 use Rattle.merged_records.proofs.records.push_all.Goals as goal
 

@@ -2,7 +2,7 @@
 use Rattle.std.proofs.Common.{◌≡◌, ◌≤◌, ◌++◌}
 use Rattle.tree_format.specs.Node.{id_of, offset_of, children, nodes_of, depth_all}
 use Rattle.tree_format.specs.Standing.{AllStandIn}
-use Rattle.tree_building.specs.Building.{IsBuilt}
+use Rattle.ebml_tree.specs.Building.{IsBuilt}
 use Rattle.merged_records.proofs.records.push_all.Given as goal
 
 abbrev pub invariant-loop-child : goal.invariant-loop-child

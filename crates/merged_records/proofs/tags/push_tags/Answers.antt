@@ -2,7 +2,7 @@
 use Rattle.std.proofs.Common.{◌++◌, sym, ap, ◌∙◌}
 use Rattle.std.specs.Option.{option_map}
 use Rattle.tree_format.specs.Node.{children, with_children}
-use Rattle.tag_records.specs.Tags.{written_tags}
+use Rattle.record_changes.specs.Tags.{written_tags}
 use Rattle.merged_records.specs.Inputs.{children_in}
 use Rattle.merged_records.specs.Tags.{numbers_for}
 use Rattle.merged_records.proofs.RecordLemmas.{none-grown}

@@ -1,7 +1,7 @@
 -- A scale is an integer of the table.
 use Rattle.std.proofs.Common.{sym}
 use Rattle.tree_format.proofs.ChildLemmas.{HasUint-of, first_child-short}
-use Rattle.meta_format.proofs.InfoLemmas.{timestamp_scale, scale-none}
+use Rattle.file_format.proofs.InfoLemmas.{timestamp_scale, scale-none}
 use Rattle.meta_records.proofs.info.scale_of.Goals as goal
 
 pub uint-requires : goal.uint-requires

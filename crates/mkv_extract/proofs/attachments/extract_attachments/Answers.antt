@@ -1,8 +1,8 @@
 use Rattle.std.proofs.Common.{◌≡◌, ◌+◌, ◌++◌, ℕ, length, map, Option, IfOk, refl, sym, ap, ◌∙◌, subst}
 use Rattle.std.proofs.lemmas.Result.{err_from_is_err_and}
 use Rattle.std.proofs.lemmas.List.{length-map}
-use Rattle.mkv_values.specs.declared.damage.Damage.{Damage}
-use Rattle.file_records.specs.Attached.{in_file}
+use Rattle.mkv_io.specs.declared.damage.Damage.{Damage}
+use Rattle.meta_records.specs.Attached.{in_file}
 use Rattle.extractors.specs.Attached.{attached_outputs}
 use Rattle.mkv_lines.specs.Line.{no_attachment_line, wrote_line}
 use Rattle.mkv_lines.specs.Said.{Says}

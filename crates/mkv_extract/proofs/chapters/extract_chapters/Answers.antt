@@ -1,12 +1,12 @@
 use Rattle.std.proofs.Common.{◌≡◌, [], ◌∷◌, false, Option, IfOk, refl, sym, subst}
-use Rattle.mkv_values.specs.declared.damage.Damage.{Damage}
+use Rattle.mkv_io.specs.declared.damage.Damage.{Damage}
 use Rattle.mkv_lines.specs.Line.{wrote_line}
 use Rattle.mkv_lines.specs.Said.{Says}
 use Rattle.mkv_lines.specs.Seen.{seen}
 use Rattle.mkv_lines.specs.declared.status.Status.{Status}
 use Rattle.mkv_lines.proofs.SaidLemmas.{with_lines-none}
 use Rattle.mkv_lines.proofs.VerdictLemmas.{Reaches-behind}
-use Rattle.extract_model.specs.Chapters.{chapters_output}
+use Rattle.extractors.specs.Chapters.{chapters_output}
 use Rattle.mkv_extract.specs.Extract.{held_status, held_verdict, outline_lines}
 use Rattle.mkv_extract.proofs.chapters.extract_chapters.Goals as goal
 

@@ -1,8 +1,8 @@
 use Rattle.std.proofs.Common.{◌≡◌, ◌++◌, ℕ, length, map, Option, IfOk, refl, ap, ◌∙◌, subst}
 use Rattle.std.proofs.lemmas.Result.{err_from_is_err_and}
 use Rattle.std.proofs.lemmas.List.{length-map}
-use Rattle.mkv_values.specs.declared.damage.Damage.{Damage}
-use Rattle.file_records.specs.Records.{scale_of_info}
+use Rattle.mkv_io.specs.declared.damage.Damage.{Damage}
+use Rattle.meta_records.specs.Records.{scale_of_info}
 use Rattle.extractors.specs.Cues.{cues_outputs}
 use Rattle.extractors.specs.Source.{entries_in, entry_in}
 use Rattle.mkv_lines.specs.Line.{no_track_line, wrote_line}

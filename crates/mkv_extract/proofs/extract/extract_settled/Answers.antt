@@ -1,6 +1,6 @@
 use Rattle.std.proofs.Common.{refl}
 use Rattle.std.proofs.lemmas.Result.{err_from_is_err_and}
-use Rattle.pending_edits.specs.Pending.{is_pending}
+use Rattle.sidecar_edit.specs.Pending.{is_pending}
 use Rattle.mkv_lines.specs.Seen.{seen}
 use Rattle.mkv_lines.specs.Verdict.{unless_pending}
 use Rattle.mkv_lines.proofs.VerdictLemmas.{IsStopped-before}

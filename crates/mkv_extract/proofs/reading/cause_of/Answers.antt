@@ -1,7 +1,7 @@
 use Rattle.std.proofs.Common.{Bool, [], if◌then◌else◌, sym, ◌∙◌, ap}
-use Rattle.matroska_format.specs.Outline.{first_damage}
-use Rattle.track_format.specs.Encoding.{usable_causes}
-use Rattle.file_records.proofs.CausesLemmas.{usable-some}
+use Rattle.mkv_schema.specs.Outline.{first_damage}
+use Rattle.file_format.specs.Encoding.{usable_causes}
+use Rattle.meta_records.proofs.CausesLemmas.{usable-some}
 use Rattle.mkv_extract.proofs.reading.cause_of.Goals as goal
 
 -- its frames can't be used

@@ -1,6 +1,6 @@
 -- Nothing kept the frames of a track from being used so far.
 use Rattle.std.proofs.Common.{◌≡◌, drop}
-use Rattle.matroska_format.specs.Outline.{first_damage}
+use Rattle.mkv_schema.specs.Outline.{first_damage}
 use Rattle.mkv_extract.specs.Read.{causes_from, first_unusable}
 use Rattle.mkv_extract.proofs.reading.first_unusable.Given as goal
 

@@ -1,8 +1,8 @@
 use Rattle.std.proofs.Common.{◌≡◌, List, None, sym, ◌∙◌, ap}
-use Rattle.mkv_jobs.specs.declared.job.Target.{Target}
+use Rattle.word_values.specs.declared.job.Target.{Target}
 use Rattle.track_records.specs.declared.track.Track.{Track}
-use Rattle.extract_model.specs.Job.{targets_of}
-use Rattle.file_records.specs.Records.{described_by}
+use Rattle.extractors.specs.Job.{targets_of}
+use Rattle.meta_records.specs.Records.{described_by}
 use Rattle.mkv_extract.specs.Read.{first_unusable}
 use Rattle.mkv_extract.proofs.ReadLemmas.{AreUsableOf-read, events-read}
 use Rattle.mkv_extract.proofs.reading.read_source.Goals as goal

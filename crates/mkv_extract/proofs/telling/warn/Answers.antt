@@ -3,7 +3,7 @@ use Rattle.std.proofs.lemmas.Bool.Decides.{nat_tests}
 use Rattle.std.proofs.lemmas.List.{drop_all, get_or_default}
 use Rattle.std.proofs.lemmas.Result.{err_from_is_err_and}
 use Rattle.mkv_io.specs.Lines.{with_lines}
-use Rattle.mkv_values.specs.declared.damage.Damage.{Damage}
+use Rattle.mkv_io.specs.declared.damage.Damage.{Damage}
 use Rattle.cluster_reader.specs.ToldDamages.{ToldDamages}
 use Rattle.mkv_lines.specs.Line.{more_lines, more_damages_line, warning_line}
 use Rattle.mkv_lines.specs.Said.{ReportLines, SaysPart, SaysUpTo}

@@ -1,5 +1,5 @@
 use Rattle.std.proofs.Common.{refl, ◌∙◌}
-use Rattle.pending_edits.specs.Pending.{is_pending}
+use Rattle.sidecar_edit.specs.Pending.{is_pending}
 use Rattle.mkv_lines.specs.Seen.{seen}
 use Rattle.mkv_lines.proofs.VerdictLemmas.{IsStopped-before}
 use Rattle.mkv_info.specs.Info.{info_verdict}

@@ -1,6 +1,6 @@
 use Rattle.std.proofs.Common.{refl}
 use Rattle.std.proofs.lemmas.Result.{err_from_is_err_and}
-use Rattle.matroska_format.specs.Outline.{segment_run}
+use Rattle.mkv_schema.specs.Outline.{segment_run}
 use Rattle.mkv_info.proofs.ListedLemmas.{elements-first, elements-second, elements-all}
 use Rattle.mkv_info.proofs.list.say_elements.Goals as goal
 

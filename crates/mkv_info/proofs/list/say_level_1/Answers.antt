@@ -1,12 +1,12 @@
 use Rattle.std.proofs.Common.{◌≡◌, ◌<◌, ◌≤◌, ◌∷◌, [], ℕ, List, Result, Ok, Err, map, ◌∙◌, ap, subst, arith, rules}
 use Rattle.std.specs.Result.{result_unwrap_or}
 use Rattle.std.proofs.lemmas.Result.{err_from_is_err_and}
-use Rattle.mkv_values.specs.declared.damage.Damage.{Damage}
-use Rattle.matroska_format.specs.declared.element.Header.{Header}
-use Rattle.matroska_format.specs.Elements.{level_1}
-use Rattle.matroska_format.specs.Outline.{segment_run}
-use Rattle.element_walks.specs.Steps.{IsFurther}
-use Rattle.element_walks.specs.declared.level_one.Level1Step.TheVariants.{Element}
+use Rattle.mkv_io.specs.declared.damage.Damage.{Damage}
+use Rattle.mkv_schema.specs.declared.element.Header.{Header}
+use Rattle.mkv_schema.specs.Elements.{level_1}
+use Rattle.mkv_schema.specs.Outline.{segment_run}
+use Rattle.elements.specs.Steps.{IsFurther}
+use Rattle.elements.specs.declared.level_one.Level1Step.TheVariants.{Element}
 use Rattle.element_reader.proofs.LevelOneLemmas.{left-behind}
 use Rattle.mkv_lines.specs.Line.{level_1_line}
 use Rattle.mkv_lines.specs.Said.{ReportLines, SaysUpTo}

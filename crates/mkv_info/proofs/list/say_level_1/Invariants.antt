@@ -1,8 +1,8 @@
 use Rattle.std.proofs.Common.{◌≡◌, ◌-◌, ◌≤◌, map}
 use Rattle.mkv_io.specs.Told.{Told}
-use Rattle.matroska_format.specs.Elements.{level_1}
-use Rattle.matroska_format.specs.Outline.{segment_run}
-use Rattle.element_window.specs.Window.{Holds}
+use Rattle.mkv_schema.specs.Elements.{level_1}
+use Rattle.mkv_schema.specs.Outline.{segment_run}
+use Rattle.elements.specs.Window.{Holds}
 use Rattle.mkv_lines.specs.Line.{level_1_line}
 use Rattle.mkv_lines.specs.Said.{SaysUpTo}
 use Rattle.mkv_info.proofs.list.say_level_1.Given as goal

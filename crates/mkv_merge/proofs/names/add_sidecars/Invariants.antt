@@ -1,6 +1,6 @@
 -- The names of the files so far stand behind those before.
 use Rattle.std.proofs.Common.{◌≡◌, ◌++◌, map, take}
-use Rattle.sidecar_format.specs.Name.{sidecar_of}
+use Rattle.sidecar_edit.specs.Name.{sidecar_of}
 use Rattle.input_files.specs.Inputs.{file_names}
 use Rattle.mkv_merge.proofs.names.add_sidecars.Given as goal
 

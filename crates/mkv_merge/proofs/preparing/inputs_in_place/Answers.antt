@@ -1,13 +1,13 @@
 -- The inputs were read, and are set in place.
 use Rattle.std.proofs.Common.{◌≡◌, List, length, map, sym, ◌∙◌, ap, subst, arith}
 use Rattle.std.proofs.lemmas.List.{length-map}
-use Rattle.mkv_values.specs.declared.outside.FileId.{FileId}
+use Rattle.mkv_io.specs.declared.outside.FileId.{FileId}
 use Rattle.mkv_io.specs.LiveFiles.{LiveFiles}
 use Rattle.mkv_io.specs.Sources.{live_files}
 use Rattle.merge_inputs.specs.Input.{read_in}
 use Rattle.merge_inputs.specs.declared.input.Input.{Input}
 use Rattle.merge_plan.specs.Appending.{append_refusal}
-use Rattle.appended_inputs.specs.Placed.{StandInPlace, walked_length}
+use Rattle.merge_plan.specs.Placed.{StandInPlace, walked_length}
 use Rattle.mkv_merge.specs.Prepared.{reads_in}
 use Rattle.mkv_merge.proofs.PreparingLemmas.{pays-both, reads-differ, reads-placed}
 use Rattle.mkv_merge.proofs.preparing.inputs_in_place.Goals as goal

@@ -2,7 +2,7 @@ use Rattle.std.proofs.Common.{◌≡◌, ◌==◌, true, get_or, map, rules, ari
 use Rattle.std.proofs.lemmas.Bool.Decides.{nat_tests}
 use Rattle.std.proofs.lemmas.List.{get_or_default}
 use Rattle.std.proofs.lemmas.Result.{err_from_is_err_and}
-use Rattle.mkv_values.specs.declared.damage.Kind.TheVariants.{NotEbml}
+use Rattle.mkv_io.specs.declared.damage.Kind.TheVariants.{NotEbml}
 use Rattle.mkv_lines.specs.Line.{warning_line}
 use Rattle.remux_plan.specs.declared.summary.InputDamage.{InputDamage}
 use Rattle.mkv_merge.specs.Told.{damages_at}

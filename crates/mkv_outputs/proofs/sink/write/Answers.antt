@@ -1,5 +1,5 @@
 use Rattle.std.proofs.Common.{ap, ◌∙◌}
-use Rattle.mkv_values.specs.declared.outside.FileId.{FileId}
+use Rattle.mkv_io.specs.declared.outside.FileId.{FileId}
 use Rattle.mkv_outputs.proofs.WrittenLemmas.{Passes-behind, Passes-err, PassesOn-none, PassesSome-more}
 use Rattle.mkv_outputs.proofs.sink.write.Goals as goal
 

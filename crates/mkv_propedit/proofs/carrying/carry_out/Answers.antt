@@ -3,8 +3,8 @@ use Rattle.std.specs.Prelude.{OnOk}
 use Rattle.mkv_disk.specs.Moments.{LeavesOnly}
 use Rattle.mkv_disk.specs.Pair.{Pair, both}
 use Rattle.mkv_disk.proofs.MomentsLemmas.{joined, weaker}
-use Rattle.sidecar_format.specs.Fields.{IsMadeFor, writes_of}
-use Rattle.sidecar_format.specs.Writes.{applied}
+use Rattle.sidecar_edit.specs.Fields.{IsMadeFor, writes_of}
+use Rattle.sidecar_edit.specs.Writes.{applied}
 use Rattle.sidecar_edit.specs.Leaves.{IsEditing}
 use Rattle.sidecar_edit.proofs.EditLemmas.{editing-before}
 use Rattle.mkv_propedit.proofs.carrying.carry_out.Goals as goal

@@ -2,7 +2,7 @@ use Rattle.std.proofs.Common.{◌∙◌, ℕ, List, [], ◌∷◌, sym, subst}
 use Rattle.mkv_disk.proofs.MomentsLemmas.{stays}
 use Rattle.mkv_lines.specs.Line.{edited_line}
 use Rattle.mkv_lines.specs.Verdict.{SaysVerdict, done}
-use Rattle.sidecar_format.specs.Recovery.{IsQuiet}
+use Rattle.sidecar_edit.specs.Recovery.{IsQuiet}
 use Rattle.sidecar_edit.specs.Leaves.{IsEditing}
 use Rattle.sidecar_edit.proofs.EditLemmas.{editing-before}
 use Rattle.sidecar_edit.proofs.GateLemmas.{both_image}

@@ -8,12 +8,12 @@ use Rattle.mkv_lines.specs.Code.{status_of}
 use Rattle.mkv_lines.specs.Line.{bad_sidecar_line, pending_edit_line}
 use Rattle.mkv_lines.specs.Verdict.{SaysVerdict}
 use Rattle.mkv_lines.specs.declared.status.Status.TheVariants as status
-use Rattle.mkv_recover.proofs.RecoverLemmas.{said-stop, stop-then}
-use Rattle.sidecar_format.specs.declared.gate.Gate.{Gate}
-use Rattle.sidecar_format.specs.declared.gate.Gate.TheVariants.{Quiet}
-use Rattle.sidecar_format.specs.declared.place.TheConstants.{HEAD}
-use Rattle.sidecar_format.specs.Gate.{state}
-use Rattle.edit_format.specs.Plan.{edited}
+use Rattle.mkv_propedit.proofs.RecoverLemmas.{said-stop, stop-then}
+use Rattle.sidecar_edit.specs.declared.held.Gate.{Gate}
+use Rattle.sidecar_edit.specs.declared.held.Gate.TheVariants.{Quiet}
+use Rattle.sidecar_edit.specs.declared.place.TheConstants.{HEAD}
+use Rattle.sidecar_edit.specs.Gate.{state}
+use Rattle.edit_changes.specs.Plan.{edited}
 use Rattle.mkv_propedit.specs.Bound.{most_to_edit, most_to_plan}
 use Rattle.mkv_propedit.specs.Left.{StaysOpen}
 use Rattle.mkv_propedit.specs.Propedit.{told, unless_begun}

@@ -6,10 +6,10 @@ use Rattle.mkv_disk.proofs.WritingLemmas.{IsLeft, left-ready}
 use Rattle.mkv_lines.specs.Code.{status_of}
 use Rattle.mkv_lines.specs.Verdict.{SaysVerdict, refused}
 use Rattle.mkv_lines.specs.declared.status.Status.TheVariants as status
-use Rattle.mkv_recover.proofs.RecoverLemmas.{said-stop, stop-then}
-use Rattle.sidecar_format.specs.declared.gate.Gate.TheVariants.{Quiet}
-use Rattle.sidecar_format.specs.Gate.{state}
-use Rattle.edit_format.specs.declared.refusal.Refusal.{Refusal}
+use Rattle.mkv_propedit.proofs.RecoverLemmas.{said-stop, stop-then}
+use Rattle.sidecar_edit.specs.declared.held.Gate.TheVariants.{Quiet}
+use Rattle.sidecar_edit.specs.Gate.{state}
+use Rattle.edit_changes.specs.declared.refusal.Refusal.{Refusal}
 use Rattle.edit_plan.specs.Record.{record_of}
 use Rattle.mkv_propedit.specs.Left.{IsPlannedFor, IsPropediting}
 use Rattle.mkv_propedit.specs.Propedit.{told}

@@ -4,9 +4,9 @@ use Rattle.mkv_lines.specs.Code.{status_of}
 use Rattle.mkv_lines.specs.Line.{missing_line}
 use Rattle.mkv_lines.specs.declared.status.Status.TheVariants as status
 use Rattle.mkv_lines.specs.Verdict.{SaysVerdict}
-use Rattle.mkv_recover.proofs.RecoverLemmas.{refused-status, stop-then, there}
-use Rattle.sidecar_format.specs.Gate.{state}
-use Rattle.edit_format.specs.Plan.{edited}
+use Rattle.mkv_propedit.proofs.RecoverLemmas.{refused-status, stop-then, there}
+use Rattle.sidecar_edit.specs.Gate.{state}
+use Rattle.edit_changes.specs.Plan.{edited}
 use Rattle.mkv_propedit.specs.Propedit.{propedit_verdict, told, unless_begun}
 use Rattle.mkv_propedit.proofs.PropeditLemmas.{edit-none, edit-then, refused-left}
 use Rattle.mkv_propedit.proofs.editing.propedit_of.Goals as goal

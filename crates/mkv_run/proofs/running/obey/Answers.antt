@@ -7,8 +7,8 @@ use Rattle.mkv_lines.specs.Verdict.{Reaches, SaysVerdict}
 use Rattle.mkv_lines.proofs.VerdictLemmas.{Reaches-lines}
 use Rattle.mkv_args.specs.Sound.{IsSound}
 use Rattle.mkv_args.specs.declared.command.Command.{Command}
-use Rattle.mkv_recover.specs.Recover.{disk_world, recover_verdict}
-use Rattle.mkv_recover.proofs.RecoverLemmas.{recover-outputs, verdict-told}
+use Rattle.mkv_propedit.specs.Recover.{disk_world, recover_verdict}
+use Rattle.mkv_propedit.proofs.RecoverLemmas.{recover-outputs, verdict-told}
 use Rattle.mkv_propedit.specs.Propedit.{propedit_verdict}
 use Rattle.mkv_propedit.proofs.PropeditLemmas.{edit-told, propedit-outputs}
 use Rattle.mkv_run.specs.Run.{verdict_of}

@@ -5,7 +5,7 @@ use Rattle.mkv_lines.specs.Faults.{Counts}
 use Rattle.mkv_lines.specs.Line.{disk_fault_line, files_fault_line}
 use Rattle.mkv_lines.specs.Said.{SaysPart}
 use Rattle.mkv_args.specs.Words.{command}
-use Rattle.mkv_recover.specs.Recover.{disk_world}
+use Rattle.mkv_propedit.specs.Recover.{disk_world}
 use Rattle.word_values.specs.Place.{texts}
 use Rattle.mkv_run.specs.Ends.{EndsOutside}
 use Rattle.mkv_run.specs.RunSeen.{RunSeen, run_seen}

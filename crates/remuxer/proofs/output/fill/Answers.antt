@@ -3,8 +3,8 @@ use Rattle.std.proofs.lemmas.Result.{err_from_is_err_and}
 use Rattle.std.specs.Option.{IfSome}
 use Rattle.mkv_io.specs.Sources.{live_files}
 use Rattle.splitter.specs.Sections.{Split}
-use Rattle.cluster_runs.specs.declared.rule.CueRule.{CueRule}
-use Rattle.cluster_runs.proofs.StandsLemmas.{stands-drafted}
+use Rattle.output_model.specs.declared.rule.CueRule.{CueRule}
+use Rattle.remuxer.proofs.StandsLemmas.{stands-drafted}
 use Rattle.remuxer.specs.Output.{part_in}
 use Rattle.remuxer.specs.Places.{IsEnd, first_tick, lane_of, lent_at}
 use Rattle.remuxer.specs.Taking.{StaysDraft}

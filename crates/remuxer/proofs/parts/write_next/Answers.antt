@@ -5,10 +5,10 @@ use Rattle.mkv_io.specs.Names.{Names}
 use Rattle.mkv_io.specs.Sources.{live_files}
 use Rattle.mkv_io.specs.Writing.{KeepsOthers}
 use Rattle.mkv_io.proofs.WritingLemmas.{KeepsOthers-then}
-use Rattle.mkv_jobs.proofs.EndsLemmas.{HasRemuxCause-read, HasRemuxCause-then}
+use Rattle.mkv_io.proofs.EndsLemmas.{HasRemuxCause-read, HasRemuxCause-then}
 use Rattle.mkv_outputs.specs.Drafts.{StandsInTurn}
 use Rattle.mkv_outputs.proofs.DraftsLemmas.{StandsInTurn-none}
-use Rattle.attachment_records.specs.declared.attachment.Attachment.{Attachment}
+use Rattle.output_model.specs.declared.attachment.Attachment.{Attachment}
 use Rattle.cues_seekhead.specs.Draft.{draft_of}
 use Rattle.time_merge.specs.Laws.{IsApart}
 use Rattle.remux_plan.specs.Parts.{document_with, name_of}

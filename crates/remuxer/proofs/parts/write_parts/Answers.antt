@@ -2,7 +2,7 @@ use Rattle.std.proofs.Common.{List, Option, sym, ◌∙◌, subst, arith}
 use Rattle.std.proofs.lemmas.Result.{err_from_is_err_and}
 use Rattle.mkv_io.specs.Names.{Names}
 use Rattle.mkv_io.specs.Sources.{live_files}
-use Rattle.mkv_jobs.proofs.EndsLemmas.{HasRemuxCause-read}
+use Rattle.mkv_io.proofs.EndsLemmas.{HasRemuxCause-read}
 use Rattle.mkv_outputs.specs.Drafts.{StandsInTurn}
 use Rattle.mkv_outputs.proofs.DraftsLemmas.{StandsInTurn-none}
 use Rattle.remux_plan.specs.declared.summary.Written.{Written}

@@ -1,9 +1,9 @@
 //! A command on one line, for the table. What has its default isn't shown.
 
 use mkv_args::{ArgsEnd, Command, CueWord, FileWords, MergeWords, Select, SplitWords, Verb};
-use mkv_jobs::{Change, Edit, Form, Job, Selector, Target};
-use mkv_values::Text;
+use mkv_io::Text;
 use std::alloc::{AllocError, Global};
+use word_values::{Change, Edit, Form, Job, Selector, Target};
 
 /// The command, or the number of the wrong word and the reason.
 pub(crate) fn shown(

@@ -1,8 +1,8 @@
 use Rattle.std.proofs.Common.{◌≡◌, ◌∙◌, ap, sym, subst, drop, ◌∷◌, List, ℕ, length}
 use Rattle.mkv_disk.specs.Pair.{Pair, both}
-use Rattle.sidecar_format.specs.declared.place.TheConstants.{OPEN}
-use Rattle.sidecar_format.specs.Fields.{writes_of}
-use Rattle.sidecar_format.specs.Writes.{Fits, Write, applied}
+use Rattle.sidecar_edit.specs.declared.place.TheConstants.{OPEN}
+use Rattle.sidecar_edit.specs.Fields.{writes_of}
+use Rattle.sidecar_edit.specs.Writes.{Fits, Write, applied}
 use Rattle.sidecar_edit.proofs.EditLemmas.{closed, fits-of_plan, opened, recorded, written}
 use Rattle.sidecar_edit.proofs.edit.commit.Goals as goal
 

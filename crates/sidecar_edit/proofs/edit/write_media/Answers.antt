@@ -3,8 +3,8 @@ use Rattle.std.proofs.lemmas.List.{get_or_default}
 use Rattle.mkv_disk.specs.Image.{written_at}
 use Rattle.mkv_disk.specs.Pair.{Pair, IsPairImage, on}
 use Rattle.mkv_disk.proofs.MomentsLemmas.{followed, stays}
-use Rattle.sidecar_format.specs.declared.place.Place.{Place}
-use Rattle.sidecar_format.specs.Fields.{no_place, sum_of, writes_of}
+use Rattle.sidecar_edit.specs.declared.place.Place.{Place}
+use Rattle.sidecar_edit.specs.Fields.{no_place, sum_of, writes_of}
 use Rattle.sidecar_edit.specs.Partly.{IsWritten}
 use Rattle.sidecar_edit.proofs.PartlyLemmas.{all_turns, partly_end, partly_image, partly_start, turn_image, turn_reaches, turn_rest, turn_room, turn_state, written_once}
 use Rattle.sidecar_edit.proofs.edit.write_media.Goals as goal

@@ -1,8 +1,8 @@
 use Rattle.std.proofs.Common.{◌≡◌, IsTrue, drop, take}
 use Rattle.mkv_disk.specs.Writing.{OnlyWrites}
 use Rattle.mkv_disk.specs.Moments.{LeavesOnly}
-use Rattle.sidecar_format.specs.Fields.{sum_of, writes_of}
-use Rattle.sidecar_format.specs.Writes.{Torn}
+use Rattle.sidecar_edit.specs.Fields.{sum_of, writes_of}
+use Rattle.sidecar_edit.specs.Writes.{Torn}
 use Rattle.sidecar_edit.specs.Partly.{IsPartly}
 use Rattle.sidecar_edit.proofs.edit.write_media.Given as goal
 

@@ -1,6 +1,6 @@
 use Rattle.std.proofs.Common.{◌≡◌, ◌∙◌, ap, sym, List, ℕ, length}
-use Rattle.sidecar_format.specs.Fields.{head_of}
-use Rattle.sidecar_format.specs.Gate.{gate_of}
+use Rattle.sidecar_edit.specs.Fields.{head_of}
+use Rattle.sidecar_edit.specs.Gate.{gate_of}
 use Rattle.sidecar_edit.proofs.reading.state.Goals as goal
 
 -- the first octets that were read are all that a state hangs on

@@ -1,6 +1,6 @@
 use Rattle.std.proofs.Common.{◌≡◌, ◌∙◌, ap, sym, List, ℕ, length, take}
-use Rattle.sidecar_format.specs.declared.place.TheConstants.{KEPT}
-use Rattle.sidecar_format.specs.Recovery.{unfit}
+use Rattle.sidecar_edit.specs.declared.place.TheConstants.{KEPT}
+use Rattle.sidecar_edit.specs.Recovery.{unfit}
 use Rattle.sidecar_edit.proofs.reading.unfit_medium.Goals as goal
 
 -- the first octets and the length are all that it hangs on

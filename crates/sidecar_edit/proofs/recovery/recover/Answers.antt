@@ -1,11 +1,11 @@
 use Rattle.std.proofs.Common.{◌≡◌, ◌∙◌, ◌+◌, ap, sym, subst, length, take}
 use Rattle.mkv_disk.specs.Pair.{Pair}
 use Rattle.mkv_disk.proofs.WritingLemmas.{IsLeft, cause-then, keeps-then, left-keeps, left-ready}
-use Rattle.sidecar_format.specs.declared.place.TheConstants.{HEAD, KEPT, MOST_OCTETS}
-use Rattle.sidecar_format.specs.declared.gate.Gate.TheVariants.{Bad, Live, Quiet}
-use Rattle.sidecar_format.specs.Fields.{head_of}
-use Rattle.sidecar_format.specs.Gate.{IsLiveHead, state}
-use Rattle.sidecar_format.specs.Recovery.{if_live, is_disk_fault}
+use Rattle.sidecar_edit.specs.declared.place.TheConstants.{HEAD, KEPT, MOST_OCTETS}
+use Rattle.sidecar_edit.specs.declared.held.Gate.TheVariants.{Bad, Live, Quiet}
+use Rattle.sidecar_edit.specs.Fields.{head_of}
+use Rattle.sidecar_edit.specs.Gate.{IsLiveHead, state}
+use Rattle.sidecar_edit.specs.Recovery.{if_live, is_disk_fault}
 use Rattle.sidecar_edit.specs.Recovering.{IsRecovered}
 use Rattle.sidecar_edit.proofs.RecoverLemmas.{recovering-after, recovering-reads, state-read}
 use Rattle.sidecar_edit.proofs.recovery.recover.Given.{Over}

@@ -2,13 +2,13 @@ use Rattle.std.proofs.Common.{◌≡◌, ◌∙◌, ◌+◌, arith, Bool, false,
 use Rattle.mkv_disk.specs.Pair.{Pair, both}
 use Rattle.mkv_disk.specs.Writing.{HasDiskCause, HasNoFault, HasOneFault}
 use Rattle.mkv_disk.proofs.WritingLemmas.{IsLeft, keeps-then, left-keeps, left-ready, none-then, one-then}
-use Rattle.sidecar_format.specs.declared.gate.Gate.TheVariants.{Live}
-use Rattle.sidecar_format.specs.declared.recovery.Recovered.TheVariants.{Applied}
-use Rattle.sidecar_format.specs.declared.recovery.RecoverEnd.{RecoverEnd}
-use Rattle.sidecar_format.specs.declared.place.TheConstants.{KEPT, MOST_OCTETS}
-use Rattle.sidecar_format.specs.Fields.{head_of}
-use Rattle.sidecar_format.specs.Gate.{state}
-use Rattle.sidecar_format.specs.Recovery.{is_disk_fault, recovered, recovery, unfit, unless}
+use Rattle.sidecar_edit.specs.declared.held.Gate.TheVariants.{Live}
+use Rattle.sidecar_edit.specs.declared.outcome.Recovered.TheVariants.{Applied}
+use Rattle.sidecar_edit.specs.declared.outcome.RecoverEnd.{RecoverEnd}
+use Rattle.sidecar_edit.specs.declared.place.TheConstants.{KEPT, MOST_OCTETS}
+use Rattle.sidecar_edit.specs.Fields.{head_of}
+use Rattle.sidecar_edit.specs.Gate.{state}
+use Rattle.sidecar_edit.specs.Recovery.{is_disk_fault, recovered, recovery, unfit, unless}
 use Rattle.sidecar_edit.proofs.RecoverLemmas.{fault-told, left-head, recovered-refused, recovering-reads, recovery-live, redoing-after}
 use Rattle.sidecar_edit.proofs.recovery.redo_own.Given.{Over}
 use Rattle.sidecar_edit.proofs.recovery.redo_own.Goals as goal

@@ -2,8 +2,8 @@ use Rattle.std.proofs.Common.{◌≡◌, ◌<◌, ◌≤◌, ◌∙◌, ap, refl
 use Rattle.mkv_disk.specs.Moments.{LeavesOnly}
 use Rattle.mkv_disk.specs.Pair.{Pair, both}
 use Rattle.mkv_disk.proofs.MomentsLemmas.{followed, stays}
-use Rattle.sidecar_format.specs.Fields.{count_in, writes_in}
-use Rattle.sidecar_format.specs.Writes.{Fits, Torn, applied}
+use Rattle.sidecar_edit.specs.Fields.{count_in, writes_in}
+use Rattle.sidecar_edit.specs.Writes.{Fits, Torn, applied}
 use Rattle.sidecar_edit.proofs.CopiesLemmas.{next_from, next_within, redone_all, redone_image, redone_more, redone_reaches, writes_by}
 use Rattle.sidecar_edit.proofs.PartlyLemmas.{partly_end, partly_image, partly_start}
 use Rattle.sidecar_edit.proofs.recovery.redo_writes.Goals as goal

@@ -3,8 +3,8 @@ use Rattle.mkv_io.specs.Sources.{file_size}
 use Rattle.mkv_disk.specs.Moments.{LeavesOnly}
 use Rattle.mkv_disk.specs.Writing.{HasNoFault, KeepsOpen}
 use Rattle.mkv_disk.specs.declared.disk.TheConstants.{SIDECAR}
-use Rattle.sidecar_format.specs.Fields.{head_len, sum_of, used_in, version_in}
-use Rattle.sidecar_format.specs.Writes.{Torn}
+use Rattle.sidecar_edit.specs.Fields.{head_len, sum_of, used_in, version_in}
+use Rattle.sidecar_edit.specs.Writes.{Torn}
 use Rattle.sidecar_edit.specs.Partly.{IsPartly}
 use Rattle.sidecar_edit.proofs.CopiesLemmas.{writes_by}
 use Rattle.sidecar_edit.proofs.recovery.redo_writes.Given as goal

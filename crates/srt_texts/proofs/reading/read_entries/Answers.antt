@@ -1,8 +1,8 @@
 use Rattle.std.proofs.Common.{arith, ◌≡◌, ◌++◌, ◌∷◌, append_assoc, ◌-◌, ◌+◌, ◌<◌, List, [], None, Some, length, ◌≤◌, All, subst}
 use Rattle.std.proofs.lemmas.Grind.{common_steps}
 use Rattle.std.proofs.lemmas.List.Elements.{All-push}
-use Rattle.text_entries.specs.declared.Entry.{Entry}
-use Rattle.text_lines.specs.Lines.{lines_of}
+use Rattle.mkv_io.specs.declared.entry.Entry.{Entry}
+use Rattle.srt_texts.specs.Lines.{lines_of}
 use Rattle.srt_texts.specs.Times.{latest}
 use Rattle.srt_texts.specs.Srt.{entries}
 use Rattle.srt_texts.specs.Reading.{entries_at}

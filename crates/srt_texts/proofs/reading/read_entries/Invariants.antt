@@ -1,10 +1,10 @@
 -- The entries that were read, and then those from the next head on, are all of them.
 use Rattle.std.proofs.Common.{◌≡◌, ◌+◌, ◌^◌, ◌<◌, ◌≤◌, ◌++◌, length, MatchOption, All}
-use Rattle.text_lines.specs.Lines.{lines_of}
+use Rattle.srt_texts.specs.Lines.{lines_of}
 use Rattle.srt_texts.specs.Srt.{entries, first_bad, Front}
 use Rattle.srt_texts.specs.Reading.{entries_at, bad_at, left}
 use Rattle.srt_texts.specs.Times.{latest}
-use Rattle.text_entries.specs.declared.Entry.{Entry}
+use Rattle.mkv_io.specs.declared.entry.Entry.{Entry}
 use Rattle.srt_texts.proofs.reading.read_entries.Given as goal
 
 abbrev pub invariant-loop-next : goal.invariant-loop-next

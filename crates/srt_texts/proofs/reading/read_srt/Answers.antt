@@ -1,11 +1,11 @@
 use Rattle.std.proofs.Common.{arith, ◌≡◌, ℕ, List, [], Err, length, rules, refl}
 use Rattle.std.proofs.lemmas.List.Sorted.{answers_always, IsNonDecreasingBy-from_sort_by_key, All-permutation}
-use Rattle.text_entries.specs.declared.Entry.{Entry}
-use Rattle.text_lines.specs.Lines.{lines_of}
+use Rattle.mkv_io.specs.declared.entry.Entry.{Entry}
+use Rattle.srt_texts.specs.Lines.{lines_of}
 use Rattle.srt_texts.specs.Srt.{srt, first_bad, Front, sorted_by}
-use Rattle.text_lines.specs.declared.end.TextEnd.{TextEnd}
-use Rattle.text_lines.specs.declared.end.TextEnd.TheVariants as text_end
-use Rattle.text_lines.specs.Ends.{Blames, Reads}
+use Rattle.srt_texts.specs.declared.end.TextEnd.{TextEnd}
+use Rattle.srt_texts.specs.declared.end.TextEnd.TheVariants as text_end
+use Rattle.srt_texts.specs.Ends.{Blames, Reads}
 use Rattle.srt_texts.specs.Reading.{IsEntryWithin}
 use Rattle.srt_texts.proofs.SortLemmas.{stable_sorted}
 use Rattle.srt_texts.proofs.reading.read_srt.Goals as goal

@@ -1,6 +1,6 @@
 use Rattle.std.proofs.Common.{◌≡◌, ◌∷◌, ◌<◌, ◌+◌, true, false, arith, refl, subst, ℕ, Option, Some, None, Ok, [], ◌++◌, List, append_assoc, length}
 use Rattle.srt_texts.specs.declared.reading.Head.{Head}
-use Rattle.text_lines.specs.Ends.{Blames}
+use Rattle.srt_texts.specs.Ends.{Blames}
 use Rattle.srt_texts.specs.Reading.{HeadRead, IsWithin, breaks}
 use Rattle.std.proofs.lemmas.Grind.{common_steps}
 use Rattle.std.specs.Str.Lines.{lines}

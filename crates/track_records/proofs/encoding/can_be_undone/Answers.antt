@@ -1,7 +1,7 @@
 -- The first of the encodings, and what follows it.
 use Rattle.std.proofs.Common.{sym, ◌∙◌}
 use Rattle.tree_format.proofs.ChildLemmas.{first_child-sound}
-use Rattle.track_format.proofs.EncodingLemmas.{undone-none, undone-one}
+use Rattle.file_format.proofs.EncodingLemmas.{undone-none, undone-one}
 use Rattle.track_records.proofs.encoding.can_be_undone.Goals as goal
 
 pub strips_headers-requires : goal.strips_headers-requires

@@ -1,5 +1,5 @@
 -- What is put back keeps the limit, where the encodings can be undone.
-use Rattle.track_format.proofs.EncodingLemmas.{usable-few}
+use Rattle.file_format.proofs.EncodingLemmas.{usable-few}
 use Rattle.track_records.proofs.encoding.usable.Goals as goal
 
 pub returns-in-None-clause-most : goal.returns-in-None-clause-most

@@ -1,7 +1,7 @@
 -- What is left tells what all tell, but for what was met.
 use Rattle.std.proofs.Common.{◌≡◌, drop, find}
 use Rattle.tree_format.specs.Node.{children}
-use Rattle.track_format.specs.Refusal.{firsts, is_bad}
+use Rattle.file_format.specs.Refusal.{firsts, is_bad}
 use Rattle.track_records.proofs.RefusalLemmas.{is_new_bad}
 use Rattle.track_records.proofs.refusal.bad_value.Given as goal
 

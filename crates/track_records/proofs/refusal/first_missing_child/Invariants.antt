@@ -1,7 +1,7 @@
 -- What is left tells what all tell.
 use Rattle.std.proofs.Common.{◌≡◌}
-use Rattle.track_format.specs.Entry.{entries_of}
-use Rattle.track_format.specs.Refusal.{first_in, missing_child}
+use Rattle.file_format.specs.Entry.{entries_of}
+use Rattle.file_format.specs.Refusal.{first_in, missing_child}
 use Rattle.track_records.proofs.EntriesLemmas.{entries_from}
 use Rattle.track_records.proofs.refusal.first_missing_child.Given as goal
 

@@ -1,6 +1,6 @@
 -- A number that is new to those before isn't repeated.
 use Rattle.std.proofs.Common.{sym, ◌∙◌, get_or}
-use Rattle.track_format.specs.Refusal.{is_repeated}
+use Rattle.file_format.specs.Refusal.{is_repeated}
 use Rattle.track_records.proofs.RefusalLemmas.{find-passes, known-next, added-new}
 use Rattle.track_records.proofs.refusal.first_repeated.Goals as goal
 

@@ -2,7 +2,7 @@
 use Rattle.std.proofs.Common.{◌≡◌, ◌-◌, ◌==◌, ℕ, nat_cmp, length, find, take}
 use Rattle.std.specs.BTreeSet.{contains}
 use Rattle.std.specs.List.{list_any, range_with_len}
-use Rattle.track_format.specs.Refusal.{is_repeated, first_repeated}
+use Rattle.file_format.specs.Refusal.{is_repeated, first_repeated}
 use Rattle.track_records.proofs.refusal.first_repeated.Given as goal
 
 abbrev pub invariant-loop-k : goal.invariant-loop-k

@@ -1,6 +1,6 @@
 -- The numbers so far, with those of what is left, are those of all.
 use Rattle.std.proofs.Common.{◌≡◌, ◌++◌, map}
-use Rattle.track_format.specs.Entry.{entries_of, number_of}
+use Rattle.file_format.specs.Entry.{entries_of, number_of}
 use Rattle.track_records.proofs.EntriesLemmas.{entries_from}
 use Rattle.track_records.proofs.refusal.numbers_of.Given as goal
 

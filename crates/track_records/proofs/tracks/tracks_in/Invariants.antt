@@ -1,6 +1,6 @@
 -- The tracks so far, with those of what is left, are those of all.
 use Rattle.std.proofs.Common.{◌≡◌, ◌++◌, map}
-use Rattle.track_format.specs.Entry.{entries_of}
+use Rattle.file_format.specs.Entry.{entries_of}
 use Rattle.track_records.specs.Track.{track_of}
 use Rattle.track_records.proofs.EntriesLemmas.{entries_from}
 use Rattle.track_records.proofs.tracks.tracks_in.Given as goal

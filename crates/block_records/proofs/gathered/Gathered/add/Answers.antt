@@ -1,5 +1,5 @@
 use Rattle.std.proofs.Common.{refl, ap, ◌∙◌}
-use Rattle.ebml_format.specs.Number.{uint_of}
+use Rattle.ebml_numbers.specs.Number.{uint_of}
 use Rattle.block_records.proofs.GroupLemmas.{duration-short, reference-short, Gathers-block, Gathers-duration, Gathers-kept, Gathers-left_out}
 use Rattle.block_records.proofs.gathered.Gathered.add.Goals as goal
 

@@ -1,10 +1,10 @@
 use Rattle.std.proofs.Common.{◌+◌, ◌≤◌, length, refl, sym, ◌∙◌, ap, subst, Some, arith, Option}
 use Rattle.std.specs.Option.{IfSome}
 use Rattle.mkv_schema.specs.declared.ids.TheConstants.{BLOCK_GROUP}
-use Rattle.matroska_format.specs.declared.element.Header.{Header}
-use Rattle.matroska_format.specs.Element.{in_master, stated_end}
-use Rattle.matroska_format.specs.Elements.{children_in}
-use Rattle.matroska_format.specs.Value.{is_known_value}
+use Rattle.mkv_schema.specs.declared.element.Header.{Header}
+use Rattle.mkv_schema.specs.Element.{in_master, stated_end}
+use Rattle.mkv_schema.specs.Elements.{children_in}
+use Rattle.mkv_schema.specs.Value.{is_known_value}
 use Rattle.block_records.specs.Group.{IsInside}
 use Rattle.block_records.proofs.RunLemmas.{IsOnWay-begins, IsOnWay-bad, IsOnWay-breaks, IsOnWay-ends, IsOnWay-more, block-inside}
 use Rattle.block_records.proofs.gathered.Gathered.gather.Goals as goal

@@ -1,8 +1,8 @@
 use Rattle.std.proofs.Common.{◌+◌, ◌-◌, ◌≤◌, ℕ, List, length}
 use Rattle.std.specs.Option.{IfSome}
-use Rattle.matroska_format.specs.Element.{in_master}
-use Rattle.matroska_format.specs.Elements.{children_in}
-use Rattle.element_bodies.specs.Body.{IsBody}
+use Rattle.mkv_schema.specs.Element.{in_master}
+use Rattle.mkv_schema.specs.Elements.{children_in}
+use Rattle.elements.specs.Body.{IsBody}
 use Rattle.block_records.specs.Group.{IsInside}
 use Rattle.block_records.proofs.RunLemmas.{IsOnWay}
 use Rattle.block_records.proofs.gathered.Gathered.gather.Given as goal

@@ -1,8 +1,8 @@
 use Rattle.std.proofs.Common.{◌≡◌, ◌+◌, ◌-◌, ◌≤◌, ℕ, List, take, drop, length, None, Err, refl, sym, ap, ◌∙◌, arith}
 use Rattle.std.proofs.lemmas.List.{length-take, length-drop}
-use Rattle.matroska_format.specs.Value.{body_of}
+use Rattle.mkv_schema.specs.Value.{body_of}
 use Rattle.block_format.specs.Elements.{group_run, group_refusal}
-use Rattle.element_bodies.specs.Body.{IsBody}
+use Rattle.elements.specs.Body.{IsBody}
 use Rattle.block_records.specs.Group.{Gathers, GathersRun}
 use Rattle.block_records.proofs.BufferLemmas.{block_group-refused, block_group-without, block_group-spelled, frames-place, same-block, IsBody-held, GathersRun-held, Block-held}
 use Rattle.block_records.proofs.LendableLemmas.{IsBlock-made}

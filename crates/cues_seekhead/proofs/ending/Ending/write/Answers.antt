@@ -1,8 +1,8 @@
 use Rattle.std.proofs.Common.{◌≡◌, ◌≤◌, ◌+◌, ◌-◌, ◌++◌, length, inl, ap, ◌∙◌, arith}
 use Rattle.std.proofs.lemmas.List.{length-append}
 use Rattle.std.proofs.lemmas.Result.{err_from_is_err_and}
-use Rattle.ebml_format.specs.Number.{size_octets}
-use Rattle.ebml_format.proofs.NumberLemmas.{length-size_octets}
+use Rattle.ebml_numbers.specs.Number.{size_octets}
+use Rattle.ebml_numbers.proofs.NumberLemmas.{length-size_octets}
 use Rattle.mkv_io.specs.Contents.{overwritten}
 use Rattle.mkv_outputs.specs.Drafts.{Draft}
 use Rattle.cues_seekhead.specs.Draft.{patches_at}

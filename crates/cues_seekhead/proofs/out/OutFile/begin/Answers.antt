@@ -4,12 +4,12 @@ use Rattle.mkv_io.specs.Contents.{with_appended}
 use Rattle.mkv_io.specs.Names.{with_change, with_content}
 use Rattle.mkv_io.specs.Sources.{live_files}
 use Rattle.mkv_io.specs.Writing.{KeepsOthers}
-use Rattle.attachment_records.specs.declared.attachment.Attachment.{Attachment}
+use Rattle.output_model.specs.declared.attachment.Attachment.{Attachment}
 use Rattle.tree_format.specs.Node.{Node}
-use Rattle.element_octets.specs.Element.{joined}
+use Rattle.output_model.specs.Element.{joined}
 use Rattle.output_model.specs.Document.{opened_with, tree_element}
 use Rattle.mkv_outputs.specs.Written.{PassesSome}
-use Rattle.segment_octets.specs.Front.{front_with}
+use Rattle.output_model.specs.Front.{front_with}
 use Rattle.cues_seekhead.proofs.AttachingLemmas.{attached_octets}
 use Rattle.cues_seekhead.proofs.BeginLemmas.{EndsOnly-one, CanAttach-created, MakesFile-created, attached-all-created, begun-known, begun-none, begun-octets, begun-part, can-data}
 use Rattle.cues_seekhead.proofs.DraftLemmas.{appended-to}

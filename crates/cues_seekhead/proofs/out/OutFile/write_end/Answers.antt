@@ -1,9 +1,9 @@
 use Rattle.std.proofs.Common.{◌≡◌, ◌++◌, ℕ, List, ap, subst, ◌∙◌, arith}
 use Rattle.std.proofs.lemmas.Result.{err_from_is_err_and}
-use Rattle.ebml_format.specs.Number.{size_octets}
+use Rattle.ebml_numbers.specs.Number.{size_octets}
 use Rattle.output_model.specs.declared.places.CuePoint.{CuePoint}
 use Rattle.output_model.specs.Document.{back_with}
-use Rattle.segment_octets.specs.Front.{body_start}
+use Rattle.cues_seekhead.specs.Front.{body_start}
 use Rattle.mkv_outputs.specs.Drafts.{Draft}
 use Rattle.cues_seekhead.specs.Draft.{StandsDrafted, patches_at}
 use Rattle.cues_seekhead.specs.Ending.{IsEnding}

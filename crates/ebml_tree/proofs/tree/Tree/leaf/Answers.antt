@@ -1,7 +1,7 @@
 -- The leaf has the octets that were put.
 use Rattle.std.proofs.Common.{◌≡◌}
 use Rattle.std.proofs.lemmas.Result.{IfOk-weaker}
-use Rattle.ebml_format.specs.Number.{int_of}
+use Rattle.ebml_numbers.specs.Number.{int_of}
 use Rattle.tree_format.specs.Node.{body_of}
 use Rattle.tree_format.proofs.ValueLemmas.{int_of-body}
 use Rattle.ebml_tree.proofs.tree.Tree.leaf.Goals as goal

@@ -1,6 +1,6 @@
 -- What was read is the definition's, and keeps the limits.
 use Rattle.std.proofs.Common.{◌≡◌, ◌≤◌, arith}
-use Rattle.ebml_format.specs.Number.{AreOctets}
+use Rattle.ebml_numbers.specs.Number.{AreOctets}
 use Rattle.tree_format.specs.Node.{count, id_of, IsMaster}
 use Rattle.tree_format.specs.Standing.{IsSound, KeepsLimits, IsReadAgain}
 use Rattle.tree_format.proofs.FoundLemmas.{tree_of-sound, tree_of-count, tree_of-root, tree_of-again}

@@ -1,6 +1,6 @@
 -- What is read is the definition's, so it stands where that says.
 use Rattle.std.proofs.Common.{sym, arith}
-use Rattle.ebml_format.specs.Number.{AreOctets}
+use Rattle.ebml_numbers.specs.Number.{AreOctets}
 use Rattle.tree_format.proofs.ReadingLemmas.{header_at-fits, header_at-id, header_at-known}
 use Rattle.ebml_tree.proofs.tree.reading.header_in.Goals as goal
 

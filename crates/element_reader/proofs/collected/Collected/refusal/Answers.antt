@@ -1,5 +1,5 @@
 use Rattle.std.proofs.Common.{Some, sym, ◌∙◌, ap}
-use Rattle.matroska_format.specs.Outline.{passes_size, passes_count}
+use Rattle.mkv_schema.specs.Outline.{passes_size, passes_count}
 use Rattle.element_reader.proofs.CollectedLemmas.{passes-count, passes-none}
 use Rattle.element_reader.proofs.collected.Collected.refusal.Goals as goal
 

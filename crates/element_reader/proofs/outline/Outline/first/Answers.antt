@@ -1,8 +1,8 @@
 use Rattle.std.proofs.Common.{◌≡◌, ◌==◌, false, IfSome, Option, subst, sym, ◌∙◌, ap, arith}
 use Rattle.std.proofs.lemmas.Bool.Decides.{nat_tests}
 use Rattle.mkv_schema.specs.declared.ids.TheConstants.{CLUSTER}
-use Rattle.matroska_format.specs.Value.{first_of}
-use Rattle.matroska_format.specs.declared.element.Header.{Header}
+use Rattle.mkv_schema.specs.Value.{first_of}
+use Rattle.mkv_schema.specs.declared.element.Header.{Header}
 use Rattle.element_reader.specs.Collected.{IsInFile}
 use Rattle.element_reader.specs.Outline.{FileOutline}
 use Rattle.element_reader.proofs.CollectedLemmas.{All-find}

@@ -1,6 +1,6 @@
 use Rattle.std.proofs.Common.{◌≡◌, ◌+◌, length, sym, ◌∙◌, ap, arith}
 use Rattle.std.proofs.lemmas.Result.{err_from_is_err_and}
-use Rattle.matroska_format.specs.Outline.{described, segment_run}
+use Rattle.mkv_schema.specs.Outline.{described, segment_run}
 use Rattle.element_reader.specs.Segment.{segment_from}
 use Rattle.element_reader.proofs.OutlineLemmas.{outline_in-ebml, outline_in-segment, outline_in-limit, outline_in-found}
 use Rattle.element_reader.proofs.outline.Outline.read_after.Goals as goal

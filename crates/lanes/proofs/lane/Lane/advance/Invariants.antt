@@ -1,7 +1,7 @@
 use Rattle.std.proofs.Common.{◌≡◌, ◌+◌, ◌≤◌}
 use Rattle.std.specs.List.{All}
 use Rattle.mkv_io.specs.Sources.{live_files}
-use Rattle.lane_blocks.specs.Links.{IsToldLink}
+use Rattle.merge_model.specs.FileLinks.{IsToldLink}
 use Rattle.lanes.specs.Walks.{IsReady, due, left, told_in_all, way}
 use Rattle.lanes.proofs.lane.Lane.advance.Given as goal
 

@@ -1,6 +1,6 @@
 use Rattle.std.proofs.Common.{◌≡◌, ℕ, length, subst, rules}
 use Rattle.std.specs.Prelude.{List}
-use Rattle.lane_blocks.specs.declared.link.Link.{Link}
+use Rattle.merge_model.specs.declared.link.Link.{Link}
 use Rattle.lanes.specs.Begun.{Begins}
 use Rattle.lanes.specs.Lane.{LaneSeen, Starts}
 use Rattle.lanes.proofs.StartLemmas.{starts}

@@ -1,4 +1,4 @@
-use Rattle.mkv_values.specs.declared.outside.FileId.{FileId}
+use Rattle.mkv_io.specs.declared.outside.FileId.{FileId}
 use Rattle.std.proofs.Common.{ℕ, length, ◌<◌, ◌≡◌, ◌++◌, ◌∷◌, [], List, ap, arith, inl, refl, sym, subst, ◌∙◌}
 use Rattle.mkv_outputs.specs.Outputs.{empty}
 use Rattle.mkv_outputs.specs.Sinks.{HaveBeenGiven, MakesOnly, ids_of}

@@ -1,7 +1,7 @@
 -- The first files have ended, and the others are live; nothing else was changed.
 use Rattle.std.proofs.Common.{◌≡◌, length, true, false}
 use Rattle.std.specs.List.{AllWithin}
-use Rattle.mkv_values.specs.declared.outside.FileId.{FileId}
+use Rattle.mkv_io.specs.declared.outside.FileId.{FileId}
 use Rattle.mkv_io.specs.LiveFiles.{KeepsFiles, KeepsHolders}
 use Rattle.mkv_outputs.specs.Sinks.{IsNoneOf, ids_of}
 use Rattle.mkv_outputs.proofs.outputs.Outputs.close.Given as goal

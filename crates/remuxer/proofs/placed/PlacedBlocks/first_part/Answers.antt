@@ -2,8 +2,8 @@ use Rattle.std.proofs.Common.{◌≡◌, true, false, Option, Ok, sym, ◌∙◌
 use Rattle.std.specs.Prelude.{is_some, not}
 use Rattle.mkv_io.specs.Sources.{live_files}
 use Rattle.splitter.specs.Steps.{is_kept}
-use Rattle.placed_merge.specs.Placed.{Places}
-use Rattle.placed_merge.specs.declared.placing.Ahead.{Ahead}
+use Rattle.remuxer.specs.Placed.{Places}
+use Rattle.remuxer.specs.declared.placing.Ahead.{Ahead}
 use Rattle.remuxer.proofs.NextLemmas.{begins, first-none, first-result, none-by, paid-of}
 use Rattle.remuxer.proofs.TakingLemmas.{goes-result}
 use Rattle.remuxer.proofs.placed.PlacedBlocks.first_part.Goals as goal

@@ -1,7 +1,7 @@
 use Rattle.std.proofs.Common.{◌≡◌, ◌<◌, ℕ, ◌*◌, ◌^◌, Option, Ok, sym, ◌∙◌, ap, subst, arith}
 use Rattle.mkv_io.specs.Sources.{live_files}
-use Rattle.placed_merge.specs.Placed.{Places}
-use Rattle.placed_merge.specs.declared.placing.Ahead.{Ahead}
+use Rattle.remuxer.specs.Placed.{Places}
+use Rattle.remuxer.specs.declared.placing.Ahead.{Ahead}
 use Rattle.remuxer.specs.Places.{lane_of, parts_ahead}
 use Rattle.splitter.specs.Steps.{start_of}
 use Rattle.std.specs.Option.{unwrap_or}

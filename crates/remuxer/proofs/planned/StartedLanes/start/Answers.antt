@@ -3,7 +3,7 @@ use Rattle.std.specs.List.{AllZip}
 use Rattle.std.proofs.lemmas.List.{nil_from_length}
 use Rattle.std.proofs.lemmas.List.Elements.{All-tail}
 use Rattle.lanes.specs.Lane.{LaneSeen}
-use Rattle.cluster_runs.specs.declared.rule.CueRule.{CueRule}
+use Rattle.output_model.specs.declared.rule.CueRule.{CueRule}
 use Rattle.remux_plan.specs.declared.plan.PlannedLane.{PlannedLane}
 use Rattle.remuxer.specs.Started.{CanStart, IsStarted}
 use Rattle.remuxer.proofs.StartedLemmas.{listed-all, listed-next, started-all, started-next}

@@ -5,8 +5,8 @@ use Rattle.std.specs.Option.{unwrap_or}
 use Rattle.output_model.specs.OutputBlock.{OutputBlock}
 use Rattle.splitter.specs.Sections.{in_part}
 use Rattle.cluster_writer.specs.Lent.{block_of}
-use Rattle.cluster_runs.specs.Cued.{is_cue_by}
-use Rattle.cluster_runs.specs.declared.rule.CueRule.TheVariants as cue_rule
+use Rattle.output_model.specs.Cued.{is_cue_by}
+use Rattle.output_model.specs.declared.rule.CueRule.TheVariants as cue_rule
 use Rattle.remuxer.specs.Places.{block_lent}
 use Rattle.remuxer.specs.declared.writer.BlockWriter.{BlockWriter}
 use Rattle.remuxer.proofs.TakingLemmas.{takes-lent}

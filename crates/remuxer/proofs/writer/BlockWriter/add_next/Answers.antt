@@ -7,7 +7,7 @@ use Rattle.lanes.specs.Lane.{LaneSeen}
 use Rattle.splitter.specs.Sections.{in_part}
 use Rattle.time_merge.specs.Merge.{left}
 use Rattle.time_merge.proofs.QueueLemmas.{count-kept, steps-lane, told-kept}
-use Rattle.placed_merge.specs.Placed.{PlacesOne}
+use Rattle.remuxer.specs.Placed.{PlacesOne}
 use Rattle.remuxer.specs.Places.{block_lent, in_part_from, split_in}
 use Rattle.remuxer.proofs.NextLemmas.{paid-of, read-goes}
 use Rattle.remuxer.proofs.StepLemmas.{gives-same, is-same, lane-is, not-same, on_to, other-start, over-found, same-in, split-same, step-gives, step-left, step-one, step-other, step-same, step-split}

@@ -1,2 +1,0 @@
-mod LinkLemmas
-pub mod PlaceLemmas

@@ -1,9 +1,0 @@
-pub mod CountsLemmas
-pub mod EndLemmas
-pub mod FilesLemmas
-pub mod HeaderLemmas
-pub mod LeafLemmas
-pub mod MetLemmas
-pub mod PaidLemmas
-pub mod PartsLemmas
-pub mod TableFacts

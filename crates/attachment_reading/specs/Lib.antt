@@ -1,3 +1,0 @@
-pub mod Attachments
-pub mod End
-pub mod Walk

@@ -1,5 +1,0 @@
-use Rattle.block_laws.proofs.EventLemmas.{then-first_wrong}
-use Rattle.block_laws.proofs.the_first_damage_of_a_cluster_is_told.Goals as goal
-
-pub returns : goal.returns
-returns c = then-first_wrong

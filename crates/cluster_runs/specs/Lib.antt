@@ -1,2 +1,0 @@
-pub mod Cued
-pub mod Stands

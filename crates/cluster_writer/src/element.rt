@@ -1,0 +1,59 @@
+//! The header of an Element, and Elements that are written whole.
+
+ghost use Rattle.std.specs.Prelude.{◌≡◌, ◌+◌, ◌<◌, ◌≤◌, ◌++◌, length, vec_len, IsTrue};
+ghost use Rattle.std.specs.Vec.{vec_capacity};
+ghost use Rattle.ebml_numbers.specs.Number.{all_ones, is_id};
+ghost use Rattle.tree_format.specs.NormalForm.{header_octets};
+ghost use Rattle.output_model.specs.Element.{octets_of, uint_element};
+ghost use Rattle.cluster_writer.specs.Room.{Adds, HasRoom};
+
+use ebml_numbers::{put_id, put_size, put_uint, size_width};
+
+/// Adds octets. It takes no memory.
+pub fn add(out: &mut Vec<u8>, octets: &[u8])
+    requires { HasRoom out.old (length octets.now) }
+    ensures { Adds out.old out.new octets.now }
+{
+    let _ = out.extend_from_slice(octets);
+}
+
+/// How many octets an Element has with so many behind its header, which is as short as can be.
+pub fn element_len(id: u32, len: u64) -> u64
+    requires id { IsTrue (is_id id) }
+    requires len { len < all_ones 8 }
+    ensures exact { result ≡ length (header_octets id len) + len }
+    ensures most { result ≤ len + 16 }
+{
+    u64::from(put_id(id).len) + u64::from(size_width(len)) + len
+}
+
+/// Adds the header of an Element with so many octets behind it. It takes no memory.
+pub fn add_header(out: &mut Vec<u8>, id: u32, len: u64)
+    requires id { IsTrue (is_id id) }
+    requires len { len < all_ones 8 }
+    requires room { HasRoom out.old (length (header_octets id len)) }
+    ensures { Adds out.old out.new (header_octets id len) }
+{
+    add(out, put_id(id).as_slice());
+    add(out, put_size(len, size_width(len)).as_slice());
+}
+
+/// How many octets the Element of an unsigned integer has.
+pub fn uint_len(id: u32, value: u64) -> u64
+    requires { IsTrue (is_id id) }
+    ensures exact { result ≡ length (octets_of (uint_element id value)) }
+    ensures most { result ≤ 24 }
+{
+    element_len(id, u64::from(put_uint(value).len))
+}
+
+/// Adds the Element of an unsigned integer. It takes no memory.
+pub fn add_uint(out: &mut Vec<u8>, id: u32, value: u64)
+    requires id { IsTrue (is_id id) }
+    requires room { HasRoom out.old (length (octets_of (uint_element id value))) }
+    ensures { Adds out.old out.new (octets_of (uint_element id value)) }
+{
+    let octets = put_uint(value);
+    add_header(out, id, u64::from(octets.len));
+    add(out, octets.as_slice());
+}

@@ -1,2 +1,0 @@
-pub mod OutlineLemmas
-pub mod WalkLemmas

@@ -1,4 +1,0 @@
-pub mod Counted
-pub mod Ends
-pub mod Open
-pub mod Read

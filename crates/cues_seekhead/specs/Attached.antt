@@ -1,0 +1,46 @@
+-- An AttachedFile as it is written: RFC 9559, section 5.1.6 (Attachments Element).
+use Rattle.std.specs.Prelude.{◌≡◌, ℕ, ◌+◌, ◌==◌, List, [], ◌∷◌, ◌++◌, length, flat_map, take, drop, sum_by, All}
+use Rattle.std.specs.List.{position_or_len}
+use Rattle.mkv_io.specs.LiveFiles.{LiveFiles}
+use Rattle.mkv_schema.specs.declared.ids.TheConstants.{ATTACHMENTS, ATTACHED_FILE, FILE_DATA}
+use Rattle.tree_format.specs.Node.{Node, id_of, children}
+use Rattle.tree_format.specs.NormalForm.{header_octets, octets}
+use Rattle.tree_format.specs.Changes.{without}
+use Rattle.output_model.specs.declared.attachment.Attachment.{Attachment}
+use Rattle.output_model.specs.Attached.{data_of}
+use Rattle.output_model.specs.declared.places.Seek.{Seek}
+
+-- where the first FileData stands among the children; where there is none, behind them all
+abbrev pub data_place : List Node → ℕ
+data_place ns = position_or_len (λ n. id_of n == FILE_DATA) ns
+
+-- how many octets stand behind its header
+abbrev pub attached_body : Attachment → ℕ
+attached_body a = length (flat_map octets (without FILE_DATA (children a.entry))) + (length (header_octets FILE_DATA a.len) + a.len)
+
+-- how many octets it takes with its data
+abbrev pub attached_total : Attachment → ℕ
+attached_total a = length (header_octets ATTACHED_FILE (attached_body a)) + attached_body a
+
+-- the header of Attachments; without attachments there is none
+abbrev pub attachments_header : List Attachment → List ℕ
+attachments_header [] = []
+attachments_header (a ∷ attachments) = header_octets ATTACHMENTS (sum_by attached_total (a ∷ attachments))
+
+-- the Seek of Attachments that stand at a place
+abbrev pub attachments_seeks : ℕ → List Attachment → List Seek
+attachments_seeks position [] = []
+attachments_seeks position (a ∷ attachments) = record { id = ATTACHMENTS; position = position } ∷ []
+
+-- what is written in front of the data, and behind them
+abbrev pub before_data : Attachment → List ℕ
+before_data a =
+    header_octets ATTACHED_FILE (attached_body a)
+    ++ (flat_map octets (take (data_place (children a.entry)) (children a.entry)) ++ header_octets FILE_DATA a.len)
+
+abbrev pub behind_data : Attachment → List ℕ
+behind_data a = flat_map octets (without FILE_DATA (drop (data_place (children a.entry)) (children a.entry)))
+
+-- The data of each are as many octets as it says.
+abbrev pub HaveData : LiveFiles → List Attachment → Type 0
+HaveData files attachments = All (λ (a : Attachment). length (data_of files a) ≡ a.len) attachments

@@ -1,0 +1,31 @@
+-- What stands in front of the Clusters.
+use Rattle.std.specs.Prelude.{◌≡◌, ℕ, ◌+◌, if◌then◌else◌, Bool, List, [], ◌∷◌, ◌++◌, length, sum_by}
+use Rattle.output_model.specs.Element.{Element, joined}
+use Rattle.output_model.specs.declared.TheConstants.{AREA}
+use Rattle.output_model.specs.declared.places.Seek.{Seek}
+use Rattle.output_model.specs.SeekHead.{open_area, seeks_from}
+use Rattle.output_model.specs.Document.{tree_element, file_with, unknown_size}
+use Rattle.cues_seekhead.specs.Attached.{attached_total, attachments_header, attachments_seeks}
+use Rattle.output_model.specs.declared.front.Front as given
+use Rattle.cues_seekhead.specs.declared.front.Opening.{Opening}
+
+-- how many octets stand before the Segment's body: an EBML header of 36 or 40 octets, the Segment's ID and its size
+abbrev pub body_start : Bool → ℕ
+body_start webm = if webm then 48 else 52
+
+abbrev pub records_of : given.Front → List Element
+records_of f = tree_element f.info ∷ tree_element f.tracks ∷ []
+
+-- Info and Tracks, and the header of Attachments
+abbrev pub front_head : given.Front → List ℕ
+front_head f = joined (records_of f) ++ attachments_header f.attachments
+
+abbrev pub front_seeks : given.Front → List Seek
+front_seeks f = seeks_from AREA (records_of f) ++ attachments_seeks (AREA + length (joined (records_of f))) f.attachments
+
+-- The first octets of an open output, up to its first AttachedFile; the Seeks of what stands in front of the Clusters;
+-- and how many octets of the Segment's body that is.
+pub record IsOpening (f : given.Front) (o : Opening) : Type 0 where
+  pub octets : o.octets ≡ file_with f.webm unknown_size open_area (front_head f)
+  pub seeks : o.seeks.items ≡ front_seeks f
+  pub len : o.len ≡ AREA + length (front_head f) + sum_by attached_total f.attachments

@@ -1,0 +1,131 @@
+//! The area in front, RFC 9559, section 5.1.1 (SeekHead Element): a SeekHead, and a Void that fills the rest.
+
+ghost use Rattle.std.specs.Prelude.{◌≡◌, ◌*◌, ◌<◌, ◌≤◌, ◌++◌, length, map, replicate, OnOk, IfOk, IsTrue};
+ghost use Rattle.ebml_numbers.specs.Number.{all_ones, is_id, id_octets};
+ghost use Rattle.output_model.specs.Element.{void_element, octets_of, joined};
+ghost use Rattle.output_model.specs.SeekHead.{seek_element, area_elements};
+ghost use Rattle.cues_seekhead.specs.Places.{AreIds, filled_void};
+
+use crate::written::{element_len, put_header};
+use ebml_numbers::{put_id, put_size};
+use mkv_io::Bytes;
+use mkv_schema::ids::{SEEK, SEEK_HEAD, SEEK_ID, SEEK_POSITION, VOID};
+use output_model::{AREA, Seek};
+use std::alloc::{AllocError, Global};
+
+#[tactic(auto, unfolding(ebml_numbers::specs::Number::is_id))]
+fn put_seek(out: &mut Bytes, seek: &Seek) -> Result<(), AllocError>
+    requires { IsTrue (is_id seek.now.id) }
+    ensures ok { OnOk result (out.new ≡ out.old ++ octets_of (seek_element seek.now)) }
+{
+    let id = put_id(seek.id);
+    let len = u64::from(id.len);
+    put_header(
+        out,
+        SEEK,
+        element_len(SEEK_ID, len) + element_len(SEEK_POSITION, 8),
+    )?;
+    put_header(out, SEEK_ID, len)?;
+    out.append(id.as_slice())?;
+    put_header(out, SEEK_POSITION, 8)?;
+    out.append(&seek.position.to_be_bytes())?;
+    Ok(())
+}
+
+/// Adds Seeks, one behind the other.
+pub fn put_seeks(out: &mut Bytes, seeks: &[Seek]) -> Result<(), AllocError>
+    requires { AreIds seeks.now }
+    ensures ok { OnOk result (out.new ≡ out.old ++ joined (map seek_element seeks.now)) }
+{
+    for seek in seeks {
+        put_seek(out, seek)?;
+    }
+    Ok(())
+}
+
+// How many octets an ID has.
+fn id_len(id: u32) -> u64
+    requires { IsTrue (is_id id) }
+    ensures exact { result ≡ length (id_octets id) }
+    ensures most { result ≤ 4 }
+{
+    u64::from(put_id(id).len)
+}
+
+#[tactic(auto, unfolding(ebml_numbers::specs::Number::is_id))]
+fn seek_len(seek: &Seek) -> u64
+    requires { IsTrue (is_id seek.now.id) }
+    ensures exact { result ≡ length (octets_of (seek_element seek.now)) }
+    ensures most { result ≤ 27 }
+{
+    let len = id_len(seek.id);
+    element_len(
+        SEEK,
+        element_len(SEEK_ID, len) + element_len(SEEK_POSITION, 8),
+    )
+}
+
+fn seeks_len(seeks: &[Seek]) -> u64
+    requires few { length seeks.now ≤ 6 }
+    requires ids { AreIds seeks.now }
+    ensures exact { result ≡ length (joined (map seek_element seeks.now)) }
+    ensures most { result ≤ 162 }
+{
+    let mut total = 0;
+    for seek in seeks {
+        total += seek_len(seek);
+    }
+    total
+}
+
+/// Adds a Void of so many octets in all.
+pub(crate) fn put_void(out: &mut Bytes, total: u64) -> Result<(), AllocError>
+    requires some { 2 ≤ total }
+    requires most { total ≤ AREA }
+    ensures ok { OnOk result (out.new ≡ out.old ++ octets_of (void_element total)) }
+{
+    if total <= 128 {
+        put_filled(out, total - 2, 1)
+    } else {
+        put_filled(out, total - 9, 8)
+    }
+}
+
+// Adds a Void of so many zeros, whose size takes so many octets.
+#[tactic(auto, unfolding(ebml_numbers::specs::Number::is_id))]
+fn put_filled(out: &mut Bytes, len: u64, width: u8) -> Result<(), AllocError>
+    requires some { 1 ≤ width }
+    requires most { width ≤ 8 }
+    requires fits { len < all_ones width }
+    requires few { len ≤ AREA }
+    ensures ok { OnOk result (out.new ≡ out.old ++ octets_of (filled_void len width)) }
+{
+    out.append(put_id(VOID).as_slice())?;
+    out.append(put_size(len, width).as_slice())?;
+    put_zeros(out, len)
+}
+
+fn put_zeros(out: &mut Bytes, count: u64) -> Result<(), AllocError>
+    requires { count ≤ AREA }
+    ensures ok { OnOk result (out.new ≡ out.old ++ replicate count 0) }
+{
+    let zeros = [0; AREA as usize];
+    out.append(&zeros[..count as usize])?;
+    Ok(())
+}
+
+/// The area with Seeks of at most six Elements.
+#[tactic(auto, unfolding(ebml_numbers::specs::Number::is_id))]
+pub fn area_octets(alloc: Global, seeks: &[Seek]) -> Result<Bytes, AllocError>
+    requires few { length seeks.now ≤ 6 }
+    requires ids { AreIds seeks.now }
+    ensures ok { IfOk result (λ out. out ≡ joined (area_elements seeks.now)) }
+    ensures len { IfOk result (λ out. length out ≡ AREA) }
+{
+    let mut out = Bytes::new(alloc);
+    let inside = seeks_len(seeks);
+    put_header(&mut out, SEEK_HEAD, inside)?;
+    put_seeks(&mut out, seeks)?;
+    put_void(&mut out, AREA - element_len(SEEK_HEAD, inside))?;
+    Ok(out)
+}

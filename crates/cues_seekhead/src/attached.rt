@@ -1,0 +1,117 @@
+//! An AttachedFile, RFC 9559, section 5.1.6 (Attachments Element): what is written in front of its data, and
+//! what behind them.
+
+ghost use Rattle.std.specs.Prelude.{◌≡◌, ◌==◌, ◌^◌, ◌<◌, ◌≤◌, ◌++◌, length, flat_map, position, take, drop, OnOk, IfOk, MatchOption};
+ghost use Rattle.mkv_schema.specs.declared.ids.TheConstants.{FILE_DATA as FILE_DATA_ID};
+ghost use Rattle.tree_format.specs.Node.{id_of};
+ghost use Rattle.tree_format.specs.NormalForm.{octets, longest};
+ghost use Rattle.tree_format.specs.Changes.{without};
+ghost use Rattle.cues_seekhead.specs.Attached.{data_place, attached_body, attached_total, before_data, behind_data};
+
+use crate::places::sized;
+use crate::written::{element_len, put_header};
+use ebml_tree::Tree;
+use mkv_io::Bytes;
+use mkv_schema::ids::{ATTACHED_FILE, FILE_DATA};
+use output_model::Attachment;
+use std::alloc::{AllocError, Global};
+
+// Where the first FileData stands among the children.
+fn first_data(children: &[Tree]) -> Option<usize>
+    ensures exact { result ≡ position (λ n. id_of n == FILE_DATA_ID) children.now }
+    ensures inside { MatchOption result (Unit {0}) (λ k. k < length children.now) }
+{
+    children.iter().position(|child| child.id() == FILE_DATA)
+}
+
+// The children of an AttachedFile in front of its first FileData, and those from there on.
+fn around_data(children: &[Tree]) -> (&[Tree], &[Tree])
+    ensures front { result.0.now ≡ take (data_place children.now) children.now }
+    ensures back { result.1.now ≡ drop (data_place children.now) children.now }
+{
+    match first_data(children) {
+        Some(k) => children.split_at(k),
+        None => (children, &[]),
+    }
+}
+
+// How many octets children take, but for any FileData.
+#[tactic(auto, using(ebml_tree::proofs::LoopLemmas::others))]
+fn others_len(children: &[Tree]) -> Result<u64, AllocError>
+    ensures exact { IfOk result (λ len. len ≡ length (flat_map octets (without FILE_DATA_ID children.now))) }
+    ensures most { IfOk result (λ len. len ≤ longest) }
+{
+    let mut total = 0;
+    for child in children {
+        if child.id() != FILE_DATA {
+            total = sized(total + child.written_len())?;
+        }
+    }
+    Ok(total)
+}
+
+fn put_children(out: &mut Bytes, children: &[Tree]) -> Result<(), AllocError>
+    ensures { OnOk result (out.new ≡ out.old ++ flat_map octets children.now) }
+{
+    for child in children {
+        child.put(out)?;
+    }
+    Ok(())
+}
+
+// Adds children, but for any FileData.
+fn put_others(out: &mut Bytes, children: &[Tree]) -> Result<(), AllocError>
+    ensures { OnOk result (out.new ≡ out.old ++ flat_map octets (without FILE_DATA_ID children.now)) }
+{
+    for child in children {
+        if child.id() != FILE_DATA {
+            child.put(out)?;
+        }
+    }
+    Ok(())
+}
+
+// How many octets stand behind the header of an AttachedFile.
+#[tactic(auto, unfolding(ebml_numbers::specs::Number::is_id))]
+fn body_len(attachment: &Attachment) -> Result<u64, AllocError>
+    ensures exact { IfOk result (λ len. len ≡ attached_body attachment.now) }
+    ensures most { IfOk result (λ len. len ≤ longest) }
+    ensures data { IfOk result (λ len. attachment.now.len ≤ longest) }
+{
+    let others = others_len(attachment.entry.children())?;
+    let data = element_len(FILE_DATA, sized(attachment.len)?);
+    sized(others + data)
+}
+
+/// How many octets an AttachedFile takes with its data.
+#[tactic(auto, unfolding(ebml_numbers::specs::Number::is_id))]
+pub fn attached_len(attachment: &Attachment) -> Result<u64, AllocError>
+    ensures exact { IfOk result (λ len. len ≡ attached_total attachment.now) }
+    ensures most { IfOk result (λ len. len ≤ 2 ^ 57) }
+{
+    let len = body_len(attachment)?;
+    Ok(element_len(ATTACHED_FILE, len))
+}
+
+/// What is written of an AttachedFile in front of its data.
+#[tactic(auto, unfolding(ebml_numbers::specs::Number::is_id))]
+pub fn octets_before_data(alloc: Global, attachment: &Attachment) -> Result<Bytes, AllocError>
+    ensures { IfOk result (λ out. out ≡ before_data attachment.now) }
+{
+    let mut out = Bytes::new(alloc);
+    let (front, _) = around_data(attachment.entry.children());
+    put_header(&mut out, ATTACHED_FILE, body_len(attachment)?)?;
+    put_children(&mut out, front)?;
+    put_header(&mut out, FILE_DATA, attachment.len)?;
+    Ok(out)
+}
+
+/// What is written of it behind its data.
+pub fn octets_behind_data(alloc: Global, attachment: &Attachment) -> Result<Bytes, AllocError>
+    ensures { IfOk result (λ out. out ≡ behind_data attachment.now) }
+{
+    let mut out = Bytes::new(alloc);
+    let (_, back) = around_data(attachment.entry.children());
+    put_others(&mut out, back)?;
+    Ok(out)
+}

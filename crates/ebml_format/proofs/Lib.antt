@@ -1,4 +1,0 @@
-pub mod NumberLemmas
-pub mod SpelledLemmas
-pub mod StandardFacts
-pub mod WidthLemmas

@@ -1,5 +1,0 @@
-use Rattle.ebml_format.proofs.SpelledLemmas.{id-spelled}
-use Rattle.ebml_format.proofs.laws.ids_are_written_again.Goals as goal
-
-pub returns : goal.returns
-returns c = id-spelled

@@ -1,5 +1,0 @@
-use Rattle.ebml_format.proofs.SpelledLemmas.{big_bytes-again}
-use Rattle.ebml_format.proofs.laws.numbers_are_written_again.Goals as goal
-
-pub returns : goal.returns
-returns c = big_bytes-again

@@ -1,5 +1,0 @@
-use Rattle.ebml_format.proofs.SpelledLemmas.{AreOctets-take, AreOctets-drop}
-use Rattle.ebml_format.proofs.laws.octets_stay.Goals as goal
-
-pub returns : goal.returns
-returns c = record { front = AreOctets-take; behind = AreOctets-drop }

@@ -1,0 +1,17 @@
+-- What the table has as leaves under a parent.
+use Rattle.std.specs.Prelude.{◌≡◌, ◌⊎◌, ℕ, true, Some}
+use Rattle.ebml_numbers.specs.Number.{is_id}
+use Rattle.mkv_schema.specs.Schema.{may_stand, kind_of}
+use Rattle.mkv_schema.specs.declared.kind.ElementKind.TheVariants.{Ascii, Utf8}
+use Rattle.tree_format.specs.Values.{HasUint}
+
+-- the table has an unsigned integer of this ID under a parent
+pub record IsUintIn (parent id : ℕ) : Type 0 where
+  pub valid : is_id id ≡ true
+  pub known : HasUint parent id
+
+-- the table has a text of this ID under a parent
+pub record IsTextIn (parent id : ℕ) : Type 0 where
+  pub valid : is_id id ≡ true
+  pub stands : may_stand id parent ≡ true
+  pub kind : (kind_of id ≡ Some Ascii) ⊎ (kind_of id ≡ Some Utf8)

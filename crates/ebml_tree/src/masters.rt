@@ -1,0 +1,19 @@
+//! Masters that are built child by child.
+
+ghost use Rattle.std.specs.Prelude.{ℕ, [], IfOk, IsTrue};
+ghost use Rattle.mkv_schema.specs.Schema.{is_master};
+ghost use Rattle.ebml_tree.specs.Building.{IsBuilt};
+
+use crate::tree::Tree;
+use std::alloc::{AllocError, Global};
+
+/// A master without children. Its header stands `offset` octets from the start of the file; 0 says that it was made.
+pub fn empty(alloc: Global, id: u32, offset: u64) -> Result<Tree, AllocError>
+    requires { IsTrue (is_master id) }
+    ensures { (deep : ℕ) → IfOk result (IsBuilt id offset deep []) }
+{
+    match Tree::parse(alloc, id, offset, &[], 0, 1) {
+        Ok(tree) => Ok(tree),
+        Err(_) => Err(AllocError),
+    }
+}

@@ -1,0 +1,58 @@
+//! The values of children.
+
+ghost use Rattle.std.specs.Prelude.{◌≡◌};
+ghost use Rattle.std.specs.Option.{option_copied};
+ghost use Rattle.std.specs.Str.{IsUtf8};
+ghost use Rattle.mkv_schema.specs.Value.{text_of};
+ghost use Rattle.tree_format.specs.Node.{body_of, id_of};
+ghost use Rattle.tree_format.specs.Standing.{IsSound};
+ghost use Rattle.tree_format.specs.Values.{HasUint, integer_in, text_in, uint_in};
+ghost use Rattle.ebml_tree.specs.Texts.{HasText};
+
+use crate::tree::Tree;
+use mkv_schema::{text_default, uint_default};
+
+/// The unsigned integer of an ID, where it stands.
+pub fn integer_in(tree: &Tree, id: u32) -> Option<u64>
+    requires sound { IsSound tree.now }
+    requires uint { HasUint (id_of tree.now) id }
+    ensures { result ≡ integer_in id tree.now }
+{
+    let child = tree.child(id)?;
+    Some(child.uint())
+}
+
+/// The same, or the table's default, or 0.
+pub fn uint_in(tree: &Tree, id: u32) -> u64
+    requires sound { IsSound tree.now }
+    requires uint { HasUint (id_of tree.now) id }
+    ensures { result ≡ uint_in id tree.now }
+{
+    match integer_in(tree, id) {
+        Some(value) => value,
+        None => uint_default(id).unwrap_or(0),
+    }
+}
+
+/// The text of an ID up to its first zero octet, or the table's default.
+pub fn text_in<'a>(tree: &'a Tree, id: u32) -> Option<&'a str>
+    requires sound { IsSound tree.now }
+    requires text { HasText (id_of tree.now) id }
+    ensures { option_copied result ≡ text_in id tree.now }
+{
+    match tree.child(id) {
+        Some(child) => Some(text_of(child)),
+        None => text_default(id),
+    }
+}
+
+/// A text up to its first zero octet.
+pub fn text_of(leaf: &Tree) -> &str
+    requires { IsUtf8 (text_of (body_of leaf.now)) }
+    ensures { result.now ≡ text_of (body_of leaf.now) }
+{
+    match str::from_utf8(leaf.text()) {
+        Ok(text) => text,
+        Err(_) => unreachable!(),
+    }
+}

@@ -1,0 +1,127 @@
+-- What edits make of Info and Tracks: RFC 9559, sections 5.1.2 (Info Element) and 5.1.4 (Tracks Element). What refuses an edit is this project's.
+use Rattle.std.specs.Prelude.{ℕ, ◌+◌, ◌-◌, ◌==◌, Bool, false, ◌&&◌, not, if◌then◌else◌, List, [], ◌∷◌, ◌++◌, slice_get, slice_set, Option, Some, None, Result, Ok, Err}
+use Rattle.std.specs.List.{list_any}
+use Rattle.std.specs.Option.{is_some}
+use Rattle.mkv_schema.specs.declared.ids.TheConstants.{TRACK_ENTRY}
+use Rattle.word_values.specs.declared.edit.Edit.{Edit}
+use Rattle.word_values.specs.declared.edit.Selector.{Selector}
+use Rattle.word_values.specs.declared.edit.Selector.TheVariants.{Info, Nth, Typed, Uid, Number}
+use Rattle.word_values.specs.declared.edit.Change.{Change}
+use Rattle.word_values.specs.declared.edit.Change.TheVariants.{Set, Add, Delete}
+use Rattle.tree_format.specs.Node.{Node, leaf, id_of, children, with_children}
+use Rattle.tree_format.specs.Values.{first_child}
+use Rattle.file_format.specs.Entry.{number_of, uid_of, type_of}
+use Rattle.tree_format.specs.Children.{set_in, removed_in}
+use Rattle.edit_changes.specs.declared.property.Property.{Property}
+use Rattle.edit_changes.specs.declared.refusal.Why.{Why}
+use Rattle.edit_changes.specs.declared.refusal.Why.TheVariants.{NoInfo, NoSuchTrack, NoSuchProperty, BadPropertyValue, AlreadyThere, Mandatory}
+use Rattle.edit_changes.specs.declared.refusal.Refusal.{Refusal}
+use Rattle.edit_changes.specs.declared.refusal.Refusal.TheVariants as refusal
+use Rattle.edit_changes.specs.declared.trees.Trees.{Trees}
+use Rattle.edit_changes.specs.Property.{is_info, property_of, value_of}
+
+-- ---- which TrackEntry is meant
+
+-- an Element of Tracks is a TrackEntry that a selector fits, its turn let alone
+abbrev pub fits : Selector → Node → Bool
+fits Info n = false
+fits (Nth k) n = id_of n == TRACK_ENTRY
+fits (Typed kind k) n = id_of n == TRACK_ENTRY && type_of n == kind
+fits (Uid uid) n = id_of n == TRACK_ENTRY && uid_of n == uid
+fits (Number number) n = id_of n == TRACK_ENTRY && number_of n == number
+
+-- which of those is meant, counted from 1
+abbrev pub turn_of : Selector → ℕ
+turn_of Info = 0
+turn_of (Nth k) = k
+turn_of (Typed kind k) = k
+turn_of (Uid uid) = 1
+turn_of (Number number) = 1
+
+-- the place of the k-th that passes, counted from 1, behind so many others
+abbrev pub nth_place : (Node → Bool) → ℕ → ℕ → List Node → Option ℕ
+nth_place passes k before [] = None
+nth_place passes k before (n ∷ ns) =
+    if passes n then (if k == 1 then Some before else nth_place passes (k - 1) (before + 1) ns)
+    else nth_place passes k (before + 1) ns
+
+-- the place of the one that is meant among the children of Tracks
+abbrev pub place_of : Selector → List Node → Option ℕ
+place_of selector tracks = nth_place (fits selector) (turn_of selector) 0 tracks
+
+-- ---- one change of an Info or a TrackEntry
+
+-- with a leaf of these octets behind the other children
+abbrev pub added_to : ℕ → List ℕ → Node → Node
+added_to id value n = with_children n (children n ++ leaf id 0 value ∷ [])
+
+abbrev pub has : ℕ → Node → Bool
+has id n = is_some (first_child id n)
+
+-- the property with these octets, which are asked first
+abbrev pub set : ℕ → Node → Option (List ℕ) → Result Node Why
+set id n None = Err BadPropertyValue
+set id n (Some value) = Ok (set_in (leaf id 0 value) n)
+
+abbrev pub added : ℕ → Node → Option (List ℕ) → Result Node Why
+added id n None = Err BadPropertyValue
+added id n (Some value) = if has id n then Err AlreadyThere else Ok (added_to id value n)
+
+-- a property that may go does so whether it stands there or not
+abbrev pub deleted : Property → Node → Result Node Why
+deleted p n = if p.deletable then Ok (removed_in p.id n) else Err Mandatory
+
+abbrev pub changed : Change → List ℕ → Node → Property → Result Node Why
+changed Set value n p = set p.id n (value_of p.kind value)
+changed Add value n p = added p.id n (value_of p.kind value)
+changed Delete value n p = deleted p n
+
+-- a change of a property, if the section has it
+abbrev pub named : Change → List ℕ → Node → Option Property → Result Node Why
+named change value n None = Err NoSuchProperty
+named change value n (Some p) = changed change value n p
+
+-- what an edit makes of its Info or TrackEntry
+abbrev pub edited_node : Edit → Node → Result Node Why
+edited_node e n = named e.change e.value n (property_of (is_info e.place) e.name)
+
+-- ---- the edits of a file, one after the other
+
+abbrev pub and_then : {A B E : Type 0} → Result A E → (A → Result B E) → Result B E
+and_then (Ok x) more = more x
+and_then (Err e) more = Err e
+
+abbrev pub in_info : Edit → Trees → Option Node → Result Trees Why
+in_info e t None = Err NoInfo
+in_info e t (Some n) = and_then (edited_node e n) (λ m. Ok (record { info = Some m; tracks = t.tracks }))
+
+abbrev pub in_entry : Edit → Trees → ℕ → Option Node → Result Trees Why
+in_entry e t k None = Err NoSuchTrack
+in_entry e t k (Some n) = and_then (edited_node e n) (λ m. Ok (record { info = t.info; tracks = slice_set t.tracks k m }))
+
+abbrev pub in_tracks : Edit → Trees → Option ℕ → Result Trees Why
+in_tracks e t None = Err NoSuchTrack
+in_tracks e t (Some k) = in_entry e t k (slice_get t.tracks k)
+
+-- one edit
+abbrev pub edited_once : Edit → Trees → Result Trees Why
+edited_once e t = if is_info e.place then in_info e t t.info else in_tracks e t (place_of e.place t.tracks)
+
+abbrev pub numbered : {A : Type 0} → ℕ → Result A Why → Result A Refusal
+numbered k (Ok x) = Ok x
+numbered k (Err why) = Err (refusal.Edit k why)
+
+-- each edit is asked of what the edits before it leave, of which there are k
+abbrev pub edited_from : ℕ → List Edit → Trees → Result Trees Refusal
+edited_from k [] t = Ok t
+edited_from k (e ∷ es) t = and_then (numbered (k + 1) (edited_once e t)) (edited_from (k + 1) es)
+
+abbrev pub edited_trees : List Edit → Trees → Result Trees Refusal
+edited_trees edits t = edited_from 0 edits t
+
+-- An edit is about Info, and one is about Tracks: what edits are about is written anew, even where it doesn't change.
+abbrev pub are_of_info : List Edit → Bool
+are_of_info edits = list_any (λ (e : Edit). is_info e.place) edits
+
+abbrev pub are_of_tracks : List Edit → Bool
+are_of_tracks edits = list_any (λ (e : Edit). not (is_info e.place)) edits

@@ -1,0 +1,273 @@
+-- What edits write, and where, and what has no room: RFC 9559, sections 5.1 (Segment Element) and 16 (Segment Position). What stays and what moves is this project's.
+use Rattle.std.specs.Prelude.{ℕ, ◌+◌, ◌-◌, ◌==◌, nat_lt, nat_le, max, Bool, ◌||◌, if◌then◌else◌, List, [], ◌∷◌, ◌++◌, length, take, map, filter, flat_map, sum_by, count_by, Option, Some, None, unwrap_or, Result, Ok, Err}
+use Rattle.std.specs.List.{list_any}
+use Rattle.std.specs.Option.{option_map, option_map_or, option_or}
+use Rattle.ebml_numbers.specs.Number.{id_octets, size_octets, least_size_width}
+use Rattle.mkv_schema.specs.declared.ids.TheConstants.{INFO, TRACKS, CLUSTER, SEGMENT}
+use Rattle.mkv_io.specs.declared.damage.Damage.{Damage}
+use Rattle.word_values.specs.declared.edit.Edit.{Edit}
+use Rattle.mkv_schema.specs.declared.element.Header.{Header}
+use Rattle.mkv_schema.specs.Element.{is_unknown, stated_end}
+use Rattle.element_reader.specs.Outline.{FileOutline}
+use Rattle.mkv_schema.specs.Value.{first_of}
+use Rattle.tree_format.specs.declared.limits.TheConstants.{MOST_NODES}
+use Rattle.tree_format.specs.Node.{Node, nodes_of, children}
+use Rattle.tree_format.specs.NormalForm.{octets}
+use Rattle.tree_format.specs.Standing.{kept_all}
+use Rattle.output_model.specs.Element.{Element, element, octets_of}
+use Rattle.output_model.specs.declared.places.Seek.{Seek}
+use Rattle.output_model.specs.SeekHead.{seeks_from}
+use Rattle.sidecar_edit.specs.declared.place.Place.{Place}
+use Rattle.sidecar_edit.specs.declared.place.TheConstants.{KEPT}
+use Rattle.sidecar_edit.specs.Fields.{Planned}
+use Rattle.sidecar_edit.specs.Writes.{Write, applied, extent}
+use Rattle.edit_changes.specs.declared.refusal.Refusal.{Refusal}
+use Rattle.edit_changes.specs.declared.refusal.Refusal.TheVariants.{Damaged, EditTooLarge, NoRoom}
+use Rattle.edit_changes.specs.declared.refusal.Room.{Room}
+use Rattle.edit_changes.specs.declared.refusal.Room.TheVariants.{Tail, Twin, SeekHead, SegmentSize}
+use Rattle.edit_changes.specs.declared.refusal.TheConstants.{MOST_WRITTEN}
+use Rattle.edit_changes.specs.declared.trees.Trees.{Trees}
+use Rattle.edit_changes.specs.Change.{and_then, edited_trees, are_of_info, are_of_tracks}
+use Rattle.edit_changes.specs.Records.{editable}
+use Rattle.edit_changes.specs.Span.{span_of, void_header, fitted}
+use Rattle.edit_changes.specs.SeekHead.{SeekHeadAt, seek_head_of, seek_head_with}
+
+-- ---- the Info and the Tracks that are written anew
+
+-- An Info or Tracks that is written anew: where it stands, how many octets it and the Voids behind it have, how many
+-- Elements are written of it, itself counted, and the new Element, in its normal form.
+pub record Part : Type 0 where
+  pub place : ℕ
+  pub room : ℕ
+  pub nodes : ℕ
+  pub element : Element
+
+-- one that stands in a list, with new children
+abbrev pub part : List Header → List Node → Header → Part
+part list nodes h = record {
+  place = h.offset;
+  room = span_of h list;
+  nodes = kept_all (nodes_of nodes) + 1;
+  element = element h.id (flat_map octets nodes);
+}
+
+-- the first of an ID, with new children, if it is to be written
+abbrev pub part_of : Bool → ℕ → List Header → List Node → List Part
+part_of written id list nodes = if written then option_map_or (λ h. part list nodes h ∷ []) (first_of id list) [] else []
+
+abbrev pub info_nodes : Option Node → List Node
+info_nodes info = option_map_or children info []
+
+-- Info before Tracks, each where an edit is about it
+abbrev pub parts : List Header → List Edit → Trees → List Part
+parts list edits t =
+    part_of (are_of_info edits) INFO list (info_nodes t.info) ++ part_of (are_of_tracks edits) TRACKS list t.tracks
+
+-- It is longer than its room, so it goes to the end of the file.
+abbrev pub moves : Part → Bool
+moves p = nat_lt p.room (length (octets_of p.element))
+
+abbrev pub moving : List Part → List Part
+moving ps = filter moves ps
+
+-- what is written where it stands: itself, or the header of a Void where it moves
+abbrev pub in_place : Part → List ℕ
+in_place p = unwrap_or (fitted p.element p.room) (void_header p.room)
+
+abbrev pub elements_moving : List Part → List Element
+elements_moving ps = map (λ p. p.element) (moving ps)
+
+-- what goes to the end of the file, one behind the other
+abbrev pub appended : List Part → List ℕ
+appended ps = flat_map octets_of (elements_moving ps)
+
+-- ---- the new SeekHead, and the Segment's size
+
+-- where an Element will stand in the Segment: among those that move, or where it stands
+abbrev pub position_in : List Seek → ℕ → Header → ℕ
+position_in [] base h = h.offset - base
+position_in (s ∷ ss) base h = if s.id == h.id then s.position else position_in ss base h
+
+abbrev pub seek_to : List Seek → ℕ → Option Header → List Seek
+seek_to moved base None = []
+seek_to moved base (Some h) = record { id = h.id; position = position_in moved base h } ∷ []
+
+-- the Seeks of Info and Tracks, each where there is one
+abbrev pub seeks : FileOutline → List Part → List Seek
+seeks o ps =
+    let moved = seeks_from (o.total - o.segment.body) (elements_moving ps) in
+    seek_to moved o.segment.body (first_of INFO o.others) ++ seek_to moved o.segment.body (first_of TRACKS o.others)
+
+-- the octets of a SeekHead and the Voids behind it, none where there is no SeekHead
+abbrev pub room_of : Option SeekHeadAt → List Header → ℕ
+room_of head list = option_map_or (λ s. span_of s.header list) head 0
+
+abbrev pub place_of : Option SeekHeadAt → ℕ
+place_of head = option_map_or (λ s. s.header.offset) head 0
+
+-- the new SeekHead
+abbrev pub seek_head : FileOutline → List Part → Option SeekHeadAt → Element
+seek_head o ps head = seek_head_with (seeks o ps) (option_map_or (λ s. s.seeks) head [])
+
+-- how many octets the Segment's size takes, and how many it needs where the Segment ends at a place
+abbrev pub size_width : Header → ℕ
+size_width segment = segment.body - segment.offset - length (id_octets SEGMENT)
+
+abbrev pub size_need : Header → ℕ → ℕ
+size_need segment end = least_size_width (end - segment.body)
+
+-- ---- what has no room
+
+-- an end that a header states, where it isn't the end of the file
+abbrev pub other_end : ℕ → Header → Option ℕ
+other_end total h = if is_unknown h.size || stated_end h == total then None else Some (stated_end h)
+
+abbrev pub cluster_end : ℕ → Option Header → Option ℕ
+cluster_end total None = None
+cluster_end total (Some h) = if h.id == CLUSTER then other_end total h else None
+
+-- The end that keeps anything from being added to the file: the one that the Segment states; the one that the Cluster
+-- states that is the last Element of level 1; and the one of a Segment of unknown size with octets behind it.
+abbrev pub wrong_end : FileOutline → Option ℕ
+wrong_end o =
+    option_or (other_end o.total o.segment)
+    (option_or (cluster_end o.total o.last)
+    (if o.end == o.total then None else Some o.end))
+
+abbrev pub number_of : ℕ → List Header → ℕ
+number_of id list = count_by (λ h. h.id == id) list
+
+-- no room of this kind, where more is needed than there is
+abbrev pub lacks : Room → ℕ → ℕ → Option Refusal
+lacks why need have = if nat_lt have need then Some (NoRoom why need have) else None
+
+abbrev pub tail_refusal : FileOutline → Option Refusal
+tail_refusal o = option_map (λ end. NoRoom Tail end o.total) (wrong_end o)
+
+-- an Element of an ID that moves isn't the only one
+abbrev pub twin_of : List Header → ℕ → Option Refusal
+twin_of list id = if nat_lt 1 (number_of id list) then Some (NoRoom Twin 1 (number_of id list)) else None
+
+-- the first that isn't
+abbrev pub twin_refusal : List Header → List Part → Option Refusal
+twin_refusal list [] = None
+twin_refusal list (p ∷ ps) = option_or (twin_of list p.element.id) (twin_refusal list ps)
+
+abbrev pub size_refusal : Header → ℕ → Option Refusal
+size_refusal segment end =
+    if is_unknown segment.size then None else lacks SegmentSize (size_need segment end) (size_width segment)
+
+-- ---- what is written
+
+abbrev pub write : ℕ → List ℕ → Write
+write place octets = record { at = place; bytes = octets }
+
+-- by their places
+abbrev pub inserted : Write → List Write → List Write
+inserted w [] = w ∷ []
+inserted w (v ∷ vs) = if nat_le w.at v.at then w ∷ v ∷ vs else v ∷ inserted w vs
+
+abbrev pub ascending : List Write → List Write
+ascending [] = []
+ascending (w ∷ ws) = inserted w (ascending ws)
+
+abbrev pub part_writes : List Part → List Write
+part_writes ps = map (λ p. write p.place (in_place p)) ps
+
+-- the Segment's size, where it is known and the Segment then ends at a place
+abbrev pub size_writes : Header → ℕ → List Write
+size_writes segment end =
+    if is_unknown segment.size then []
+    else write (segment.offset + length (id_octets SEGMENT)) (size_octets (end - segment.body) (size_width segment)) ∷ []
+
+-- the most Elements of one that is written anew
+abbrev pub most_nodes : List Part → ℕ
+most_nodes [] = 0
+most_nodes (p ∷ ps) = max p.nodes (most_nodes ps)
+
+-- how many octets are written in the places of Info and Tracks
+abbrev pub length_in_place : List Part → ℕ
+length_in_place ps = sum_by (λ p. length (in_place p)) ps
+
+abbrev pub unless : {A : Type 0} → Option Refusal → A → Result A Refusal
+unless None x = Ok x
+unless (Some r) x = Err r
+
+-- too many octets to write, or too many Elements in one
+abbrev pub too_large : ℕ → List Part → Option Refusal
+too_large length ps =
+    if nat_lt MOST_NODES (most_nodes ps) || nat_lt MOST_WRITTEN length then Some (EditTooLarge length (most_nodes ps)) else None
+
+-- nothing moves
+abbrev pub writes_in_place : List Part → Result (List Write) Refusal
+writes_in_place ps = unless (too_large (length_in_place ps) ps) (ascending (part_writes ps))
+
+-- the first of these that refuses
+abbrev pub first_refusal : List (Option Refusal) → Option Refusal
+first_refusal [] = None
+first_refusal (None ∷ rs) = first_refusal rs
+first_refusal (Some r ∷ rs) = Some r
+
+-- the octets of the writes where something moves; a SeekHead that isn't there or has no room counts as it is without Voids
+abbrev pub length_moving : FileOutline → List Part → Element → ℕ → ℕ
+length_moving o ps seeks room =
+    length_in_place ps + length (appended ps) + length (unwrap_or (fitted seeks room) (octets_of seeks))
+    + (if is_unknown o.segment.size then 0 else size_width o.segment)
+
+-- where the file ends once what moves is appended
+abbrev pub new_end : FileOutline → List Part → ℕ
+new_end o ps = o.total + length (appended ps)
+
+-- what refuses it where something moves, in the order in which it is asked
+abbrev pub moving_refusals : FileOutline → List Part → Element → ℕ → List (Option Refusal)
+moving_refusals o ps seeks room =
+    too_large (length_moving o ps seeks room) ps
+    ∷ tail_refusal o
+    ∷ twin_refusal o.others (moving ps)
+    ∷ lacks SeekHead (length (octets_of seeks)) room
+    ∷ size_refusal o.segment (new_end o ps) ∷ []
+
+-- The Segment's size; the SeekHead, and Info and Tracks, by their places; and what goes to the end of the file.
+abbrev pub moving_writes : FileOutline → List Part → Element → ℕ → ℕ → List Write
+moving_writes o ps seeks place room =
+    size_writes o.segment (new_end o ps)
+    ++ ascending (write place (unwrap_or (fitted seeks room) []) ∷ part_writes ps)
+    ++ write o.total (appended ps) ∷ []
+
+-- something moves, so the SeekHead has to tell where it goes
+abbrev pub writes_moving : FileOutline → List Part → Option SeekHeadAt → Result (List Write) Refusal
+writes_moving o ps head =
+    let seeks = seek_head o ps head in
+    let room = room_of head o.others in
+    unless (first_refusal (moving_refusals o ps seeks room)) (moving_writes o ps seeks (place_of head) room)
+
+abbrev pub writes_of_parts : List ℕ → FileOutline → List Part → Result (List Write) Refusal
+writes_of_parts bytes o ps =
+    if list_any moves ps then writes_moving o ps (seek_head_of bytes o) else writes_in_place ps
+
+abbrev pub if_editable : {A : Type 0} → Result A Damage → Result A Refusal
+if_editable (Ok x) = Ok x
+if_editable (Err d) = Err (Damaged d)
+
+-- What edits write to a file of this content, by ascending places, or the first that refuses them.
+unfoldable pub plan_of : List ℕ → List Edit → Result (List Write) Refusal
+plan_of bytes edits =
+    and_then (if_editable (editable bytes)) (λ f.
+    and_then (edited_trees edits f.trees) (λ t.
+    writes_of_parts bytes f.outline (parts f.outline.others edits t)))
+
+-- ---- the edited file, and the record of the edit
+
+-- The edited content, or what refuses the edits.
+abbrev pub edited : List ℕ → List Edit → Result (List ℕ) Refusal
+edited bytes edits = and_then (plan_of bytes edits) (λ ws. Ok (applied bytes ws))
+
+abbrev pub place : Write → Place
+place w = record { at = w.at; len = length w.bytes }
+
+-- The record of some writes to a file of this content.
+abbrev pub recorded : List ℕ → List Write → Planned
+recorded bytes ws = record {
+  head = record { old_len = length bytes; new_len = extent (length bytes) ws; first = take KEPT bytes; places = map place ws };
+  payload = flat_map (λ (w : Write). w.bytes) ws;
+}

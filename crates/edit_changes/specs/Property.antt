@@ -1,0 +1,113 @@
+-- The properties that can be edited, and their values: RFC 9559, sections 5.1.2 (Info Element) and 5.1.4 (Tracks Element). The names are this project's.
+use Rattle.std.specs.Prelude.{ℕ, ◌^◌, ◌-◌, ◌==◌, nat_le, Bool, true, false, not, ◌&&◌, ◌||◌, if◌then◌else◌, List, [], ◌∷◌, length, find, codes, Option, Some, None}
+use Rattle.std.specs.List.{list_all}
+use Rattle.std.specs.Option.{option_map}
+use Rattle.std.specs.Str.{is_utf8, bytes_eq}
+use Rattle.ebml_numbers.specs.Number.{uint_octets}
+use Rattle.mkv_schema.specs.declared.ids.TheConstants.{TITLE, SEGMENT_FILENAME, MUXING_APP, WRITING_APP, NAME, LANGUAGE, LANGUAGE_BCP47, CODEC_ID, DEFAULT_DURATION, FLAG_ENABLED, FLAG_DEFAULT, FLAG_FORCED, FLAG_HEARING_IMPAIRED, FLAG_VISUAL_IMPAIRED, FLAG_TEXT_DESCRIPTIONS, FLAG_ORIGINAL, FLAG_COMMENTARY}
+use Rattle.word_values.specs.declared.edit.Selector.{Selector}
+use Rattle.word_values.specs.declared.edit.Selector.TheVariants.{Info, Nth, Typed, Uid, Number}
+use Rattle.word_values.specs.Numbers.{number}
+use Rattle.edit_changes.specs.declared.property.Property.{Property}
+use Rattle.edit_changes.specs.declared.property.ValueKind.{ValueKind}
+use Rattle.edit_changes.specs.declared.property.ValueKind.TheVariants.{Words, Language, LanguageTag, Codec, Duration, Flag}
+
+-- ---- the table
+
+-- a property under its name
+pub record Row : Type 0 where
+  pub name : List ℕ
+  pub property : Property
+
+abbrev pub row : List ℕ → ℕ → ValueKind → Bool → Row
+row name id kind deletable = record { name = name; property = record { id = id; kind = kind; deletable = deletable } }
+
+abbrev pub info_table : List Row
+info_table =
+    row (codes "title") TITLE Words true ∷
+    row (codes "segment-filename") SEGMENT_FILENAME Words true ∷
+    row (codes "muxing-application") MUXING_APP Words false ∷
+    row (codes "writing-application") WRITING_APP Words false ∷ []
+
+abbrev pub track_table : List Row
+track_table =
+    row (codes "name") NAME Words true ∷
+    row (codes "language") LANGUAGE Language true ∷
+    row (codes "language-ietf") LANGUAGE_BCP47 LanguageTag true ∷
+    row (codes "codec-id") CODEC_ID Codec false ∷
+    row (codes "default-duration") DEFAULT_DURATION Duration true ∷
+    row (codes "flag-enabled") FLAG_ENABLED Flag true ∷
+    row (codes "flag-default") FLAG_DEFAULT Flag true ∷
+    row (codes "flag-forced") FLAG_FORCED Flag true ∷
+    row (codes "flag-hearing-impaired") FLAG_HEARING_IMPAIRED Flag true ∷
+    row (codes "flag-visual-impaired") FLAG_VISUAL_IMPAIRED Flag true ∷
+    row (codes "flag-text-descriptions") FLAG_TEXT_DESCRIPTIONS Flag true ∷
+    row (codes "flag-original") FLAG_ORIGINAL Flag true ∷
+    row (codes "flag-commentary") FLAG_COMMENTARY Flag true ∷ []
+
+-- the section is Info
+abbrev pub is_info : Selector → Bool
+is_info Info = true
+is_info (Nth n) = false
+is_info (Typed kind n) = false
+is_info (Uid uid) = false
+is_info (Number number) = false
+
+abbrev pub table_of : Bool → List Row
+table_of info = if info then info_table else track_table
+
+-- the property of a name in a section
+abbrev pub in_table : List ℕ → List Row → Option Property
+in_table name rows = option_map (λ r. r.property) (find (λ r. bytes_eq name r.name) rows)
+
+unfoldable pub property_of : Bool → List ℕ → Option Property
+property_of info name = in_table name (table_of info)
+
+-- ---- values
+
+abbrev pub is_between : ℕ → ℕ → ℕ → Bool
+is_between least most n = nat_le least n && nat_le n most
+
+abbrev pub is_lower : ℕ → Bool
+is_lower c = is_between 0x61 0x7A c
+
+abbrev pub is_letter : ℕ → Bool
+is_letter c = is_lower c || is_between 0x41 0x5A c
+
+abbrev pub is_in_tag : ℕ → Bool
+is_in_tag c = is_letter c || is_between 0x30 0x39 c || c == 0x2D
+
+abbrev pub is_printable : ℕ → Bool
+is_printable c = is_between 0x20 0x7E c
+
+-- 1 to 63 octets that all pass a test
+abbrev pub is_short : (ℕ → Bool) → List ℕ → Bool
+is_short passes octets = is_between 1 63 (length octets) && list_all passes octets
+
+abbrev pub where_text : Bool → List ℕ → Option (List ℕ)
+where_text test octets = if test then Some octets else None
+
+-- a number in its fewest octets
+abbrev pub where_number : ℕ → ℕ → Option ℕ → Option (List ℕ)
+where_number least most None = None
+where_number least most (Some n) = if is_between least most n then Some (uint_octets n) else None
+
+abbrev pub is_not_zero : ℕ → Bool
+is_not_zero c = not (c == 0)
+
+-- text without a zero octet
+abbrev pub is_words : List ℕ → Bool
+is_words value = is_utf8 value && list_all is_not_zero value
+
+-- three lower-case letters
+abbrev pub is_language : List ℕ → Bool
+is_language value = length value == 3 && list_all is_lower value
+
+-- the octets of a value, where it is one of this kind
+abbrev pub value_of : ValueKind → List ℕ → Option (List ℕ)
+value_of Words value = where_text (is_words value) value
+value_of Language value = where_text (is_language value) value
+value_of LanguageTag value = where_text (is_short is_in_tag value) value
+value_of Codec value = where_text (is_short is_printable value) value
+value_of Duration value = where_number 1 (2 ^ 48 - 1) (number value)
+value_of Flag value = where_number 0 1 (number value)

@@ -1,0 +1,60 @@
+-- The SeekHead of a file whose Info or Tracks moves: RFC 9559, sections 5.1.1 (SeekHead Element) and 16 (Segment Position).
+use Rattle.std.specs.Prelude.{ℕ, ◌==◌, nat_lt, Bool, true, false, not, ◌&&◌, ◌||◌, if◌then◌else◌, List, ◌++◌, map, filter, flat_map, Option, Some, None, Result, Ok, Err}
+use Rattle.std.specs.Option.{option_map_or, option_and_then}
+use Rattle.std.specs.Str.{bytes_eq}
+use Rattle.ebml_numbers.specs.Number.{id_octets}
+use Rattle.mkv_schema.specs.declared.ids.TheConstants.{SEEK_HEAD, SEEK, SEEK_ID, INFO, TRACKS}
+use Rattle.mkv_io.specs.declared.damage.Damage.{Damage}
+use Rattle.mkv_schema.specs.declared.element.Header.{Header}
+use Rattle.mkv_schema.specs.declared.limits.TheConstants.{MOST_OF_ONE}
+use Rattle.mkv_schema.specs.Element.{known}
+use Rattle.mkv_schema.specs.Value.{body_of, first_of}
+use Rattle.element_reader.specs.Outline.{FileOutline}
+use Rattle.tree_format.specs.declared.limits.TheConstants.{MOST_NODES}
+use Rattle.tree_format.specs.Node.{Node, id_of, children}
+use Rattle.tree_format.specs.Node as tree
+use Rattle.tree_format.specs.NormalForm.{octets}
+use Rattle.tree_format.specs.Reading.{tree_of}
+use Rattle.tree_format.specs.Values.{first_child}
+use Rattle.output_model.specs.Element.{Element, element, joined}
+use Rattle.output_model.specs.declared.places.Seek.{Seek}
+use Rattle.output_model.specs.SeekHead.{seek_element}
+
+-- A SeekHead: its header, and what stands in it.
+pub record SeekHeadAt : Type 0 where
+  pub header : Header
+  pub seeks : List Node
+
+abbrev pub if_read : Header → Result Node Damage → Option SeekHeadAt
+if_read h (Ok n) = Some (record { header = h; seeks = children n })
+if_read h (Err d) = None
+
+abbrev pub if_sound : List ℕ → Header → Option SeekHeadAt
+if_sound bytes h =
+    if nat_lt MOST_OF_ONE (known h.size) then None
+    else if_read h (tree_of h.id h.offset (body_of bytes h) h.body MOST_NODES)
+
+-- an Element, where it stands in front of the first Cluster
+abbrev pub before_clusters : Option Header → Header → Option Header
+before_clusters cluster h = if option_map_or (λ c. nat_lt h.offset c.offset) cluster true then Some h else None
+
+-- The first SeekHead, in front of the first Cluster. Where that one is too long or damaged, there is none.
+abbrev pub seek_head_of : List ℕ → FileOutline → Option SeekHeadAt
+seek_head_of bytes o =
+    option_and_then (if_sound bytes) (option_and_then (before_clusters o.cluster) (first_of SEEK_HEAD o.others))
+
+-- a Seek whose first SeekID is exactly the octets of an ID
+abbrev pub is_seek_of : ℕ → Node → Bool
+is_seek_of id n =
+    id_of n == SEEK && option_map_or (λ c. bytes_eq (tree.body_of c) (id_octets id)) (first_child SEEK_ID n) false
+
+-- neither a Seek of Info nor one of Tracks
+abbrev pub stays : Node → Bool
+stays n = not (is_seek_of INFO n || is_seek_of TRACKS n)
+
+-- what is inside the SeekHead with these Seeks, and then what stays of the old one, in its normal form
+abbrev pub seek_head_body : List Seek → List Node → List ℕ
+seek_head_body seeks old = joined (map seek_element seeks) ++ flat_map octets (filter stays old)
+
+abbrev pub seek_head_with : List Seek → List Node → Element
+seek_head_with seeks old = element SEEK_HEAD (seek_head_body seeks old)

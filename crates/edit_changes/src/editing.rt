@@ -1,0 +1,106 @@
+//! What can be edited in a file, and the edits.
+
+ghost use Rattle.std.specs.Prelude.{◌≡◌, ◌<◌, ◌+◌, ◌^◌, false, true, length, List, Some, slice_get, IfOk, IfSome};
+ghost use Rattle.std.specs.List.{All};
+ghost use Rattle.mkv_schema.specs.declared.ids.TheConstants.{INFO, TRACKS, TRACK_ENTRY};
+ghost use Rattle.tree_format.specs.Node.{children, id_of};
+ghost use Rattle.tree_format.specs.Standing.{StandsIn};
+ghost use Rattle.ebml_tree.specs.Building.{IsRead};
+ghost use Rattle.edit_changes.specs.Change as spec;
+ghost use Rattle.edit_changes.specs.Property.{is_info};
+ghost use Rattle.edit_changes.specs.Made.{Makes};
+ghost use Rattle.edit_changes.specs.Trees.{AreSound, MakesAll, MakesEntry, info_edited, numbered, tracks_edited};
+
+use crate::change::{EditEnd, apply, is_info};
+use crate::refusal::Why;
+use crate::select::place_of;
+use crate::trees::Trees;
+use ebml_tree::Tree;
+use mkv_io::List;
+use std::alloc::Global;
+use word_values::Edit;
+
+/// Why edits aren't made.
+#[derive(Clone, Copy, Debug, PartialEq, Eq)]
+pub enum EditsEnd {
+    /// An edit, counted from 1, is refused.
+    Refused { edit: u64, why: Why },
+    /// There is no memory.
+    Memory,
+}
+
+/// Makes an edit of Info.
+fn edit_info(alloc: Global, info: &mut Option<Tree>, edit: &Edit) -> Result<(), EditEnd>
+    requires section { is_info edit.now.place ≡ true }
+    requires info { IfSome info.old (IsRead INFO) }
+    ensures exact { Makes result info.old info.new (info_edited edit.now info.old) }
+    ensures info { IfSome info.new (IsRead INFO) }
+{
+    match info {
+        None => Err(EditEnd::Refused(Why::NoInfo)),
+        Some(tree) => apply(alloc, tree, edit),
+    }
+}
+
+/// Makes an edit of the TrackEntry at a place.
+fn edit_entry(alloc: Global, tracks: &mut Vec<Tree>, k: usize, edit: &Edit) -> Result<(), EditEnd>
+    requires section { is_info edit.now.place ≡ false }
+    requires inside { k < length tracks.old.items }
+    requires entry { IfSome (slice_get tracks.old.items k) (IsRead TRACK_ENTRY) }
+    ensures exact { MakesEntry result tracks.old.items tracks.new.items k edit.now }
+{
+    apply(alloc, &mut tracks[k], edit)
+}
+
+/// Makes an edit of the TrackEntry that is meant.
+#[tactic(auto, using(crate::proofs::TrackLemmas::tracks))]
+fn edit_track(alloc: Global, tracks: &mut Vec<Tree>, edit: &Edit) -> Result<(), EditEnd>
+    requires section { is_info edit.now.place ≡ false }
+    requires tracks { All (StandsIn TRACKS) tracks.old.items }
+    ensures exact { Makes result tracks.old.items tracks.new.items (tracks_edited edit.now tracks.old.items) }
+    ensures tracks { All (StandsIn TRACKS) tracks.new.items }
+{
+    let Some(k) = place_of(edit.place, tracks.as_slice()) else {
+        return Err(EditEnd::Refused(Why::NoSuchTrack));
+    };
+    edit_entry(alloc, tracks, k, edit)
+}
+
+/// An edit that isn't made, behind so many others.
+fn numbered(end: EditEnd, k: usize) -> EditsEnd
+    requires { k + 1 < 2 ^ 64 }
+    ensures { result ≡ numbered k end }
+{
+    match end {
+        EditEnd::Refused(why) => EditsEnd::Refused {
+            edit: k as u64 + 1,
+            why,
+        },
+        EditEnd::Memory => EditsEnd::Memory,
+    }
+}
+
+/// What edits leave of what can be edited in a file, each made on what the ones before it leave; or the first that
+/// is refused.
+pub fn edited(alloc: Global, trees: Trees, edits: &List<Edit>) -> Result<Trees, EditsEnd>
+    requires { AreSound trees }
+    ensures exact { MakesAll result (spec.edited_trees edits.now trees) }
+    ensures sound { IfOk result AreSound }
+{
+    let mut info = trees.info;
+    let mut tracks = trees.tracks.into_vec();
+    for (k, edit) in edits.as_slice().iter().enumerate() {
+        let done = if is_info(edit.place) {
+            edit_info(alloc, &mut info, edit)
+        } else {
+            edit_track(alloc, &mut tracks, edit)
+        };
+        if let Err(end) = done {
+            return Err(numbered(end, k));
+        }
+    }
+    Ok(Trees {
+        info,
+        tracks: List::from_vec(tracks),
+    })
+}

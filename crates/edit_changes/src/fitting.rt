@@ -1,0 +1,111 @@
+//! What is written into a span.
+
+ghost use Rattle.std.specs.Prelude.{◌≡◌, ◌≤◌, ◌<◌, ◌+◌, ◌++◌, ◌^◌, IfOk, IsTrue, ℕ, List, length, option_map, unwrap_or};
+ghost use Rattle.ebml_numbers.specs.Number.{is_id, id_octets, size_octets, least_size_width, all_ones};
+ghost use Rattle.output_model.specs.Element.{Element, element, octets_of};
+ghost use Rattle.edit_changes.specs.Span as spec;
+ghost use Rattle.edit_changes.specs.Written.{element_with};
+
+use ebml_numbers::{put_id, put_size, size_width};
+use mkv_schema::ids::VOID;
+use std::alloc::{AllocError, Global};
+
+/// The header of a Void of so many octets in all: a size of one octet, where that is enough, else one of eight.
+#[tactic(auto, unfolding(ebml_numbers::specs::Number::is_id), using(crate::proofs::SpanLemmas::voids))]
+pub fn void_header(alloc: Global, total: u64) -> Result<Vec<u8>, AllocError>
+    requires { total ≤ 2 ^ 48 }
+    ensures { IfOk result (λ octets. octets.items ≡ spec.void_header total) }
+{
+    let mut out = put_id(VOID).as_slice().to_vec(alloc)?;
+    if total <= 128 {
+        out.extend_from_slice(put_size(total.saturating_sub(2), 1).as_slice())?;
+    } else {
+        out.extend_from_slice(put_size(total - 9, 8).as_slice())?;
+    }
+    Ok(out)
+}
+
+/// An Element whose size takes so many octets.
+fn element(alloc: Global, id: u32, body: &[u8], width: u8) -> Result<Vec<u8>, AllocError>
+    requires id { IsTrue (is_id id) }
+    requires some { 1 ≤ width }
+    requires most { width ≤ 8 }
+    requires fits { length body.now < all_ones width }
+    ensures { IfOk result (λ octets. octets.items ≡ octets_of (element_with id width body.now)) }
+{
+    let mut out = put_id(id).as_slice().to_vec(alloc)?;
+    out.extend_from_slice(put_size(body.len() as u64, width).as_slice())?;
+    out.extend_from_slice(body)?;
+    Ok(out)
+}
+
+/// The fewest octets that a size takes; one more is enough too.
+fn width_of(len: u64) -> u8
+    requires { len ≤ 2 ^ 48 }
+    ensures exact { result ≡ least_size_width len }
+    ensures some { 1 ≤ result }
+    ensures most { result ≤ 7 }
+    ensures fits { len < all_ones result }
+    ensures wider { len < all_ones (result + 1) }
+{
+    size_width(len)
+}
+
+/// How many octets an Element takes at least.
+#[tactic(auto, using(crate::proofs::SpanLemmas::lengths))]
+pub fn shortest(id: u32, len: u64) -> u64
+    requires id { IsTrue (is_id id) }
+    requires short { len ≤ 2 ^ 48 }
+    ensures exact { (body : List ℕ) → length body ≡ len → length (octets_of (element id body)) ≡ result }
+    ensures most { result ≤ len + 16 }
+{
+    u64::from(put_id(id).len) + u64::from(width_of(len)) + len
+}
+
+/// An Element with this body, in as few octets as it takes.
+pub fn whole(alloc: Global, id: u32, body: &[u8]) -> Result<Vec<u8>, AllocError>
+    requires id { IsTrue (is_id id) }
+    requires short { length body.now ≤ 2 ^ 48 }
+    ensures { IfOk result (λ octets. octets.items ≡ octets_of (element id body.now)) }
+{
+    element(alloc, id, body, width_of(body.len() as u64))
+}
+
+/// What is written into a span of so many octets of an Element with this body; none where it is longer.
+#[tactic(auto, using(crate::proofs::SpanLemmas::fits))]
+pub fn fit(alloc: Global, id: u32, body: &[u8], room: u64) -> Result<Option<Vec<u8>>, AllocError>
+    requires id { IsTrue (is_id id) }
+    requires short { length body.now ≤ 2 ^ 48 }
+    requires room { room ≤ 2 ^ 48 }
+    ensures { IfOk result (λ octets. option_map (λ v. v.items) octets ≡ spec.fitted (element id body.now) room) }
+{
+    let len = body.len() as u64;
+    let width = width_of(len);
+    let shortest = shortest(id, len);
+    if room < shortest {
+        return Ok(None);
+    }
+    if room == shortest {
+        return Ok(Some(element(alloc, id, body, width)?));
+    }
+    if room == shortest + 1 {
+        return Ok(Some(element(alloc, id, body, width + 1)?));
+    }
+    let mut out = element(alloc, id, body, width)?;
+    out.extend_from_slice(void_header(alloc, room - shortest)?.as_slice())?;
+    Ok(Some(out))
+}
+
+/// What is written in the place of an Element with this body: itself, or the header of a Void where it is longer than
+/// its room.
+pub fn in_place(alloc: Global, id: u32, body: &[u8], room: u64) -> Result<Vec<u8>, AllocError>
+    requires id { IsTrue (is_id id) }
+    requires short { length body.now ≤ 2 ^ 48 }
+    requires most { room ≤ 2 ^ 48 }
+    ensures { IfOk result (λ octets. octets.items ≡ unwrap_or (spec.fitted (element id body.now) room) (spec.void_header room)) }
+{
+    match fit(alloc, id, body, room)? {
+        Some(octets) => Ok(octets),
+        None => void_header(alloc, room),
+    }
+}

@@ -1,0 +1,115 @@
+//! What has no room, where an Info or a Tracks moves to the end of the file.
+
+ghost use Rattle.std.specs.Prelude.{◌≡◌, ◌≤◌, ◌<◌, ◌^◌, IfSome};
+ghost use Rattle.mkv_schema.specs.Element.{stated_end};
+ghost use Rattle.edit_changes.specs.Plan as plan;
+ghost use Rattle.edit_changes.specs.Ends.{EndsFit};
+ghost use Rattle.mkv_schema.specs.declared.ids.TheConstants.{SEGMENT as SEGMENT_ID};
+
+use crate::refusal::{Refusal, Room};
+use crate::span::number_of;
+use ebml_numbers::{Size, put_id, size_width as least_width};
+use element_reader::{Header, Outline};
+use mkv_schema::ids::{CLUSTER, SEGMENT};
+
+/// An end that a header states, where it isn't the end of the file.
+fn other_end(total: u64, header: &Header) -> Option<u64>
+    ensures { stated_end header.now < 2 ^ 64 → result ≡ plan.other_end total header.now }
+{
+    let Size::Known(octets) = header.size else {
+        return None;
+    };
+    let end = header.body.saturating_add(octets);
+    if end == total {
+        return None;
+    }
+    Some(end)
+}
+
+/// The same of the last Element of level 1, where it is a Cluster.
+fn cluster_end(total: u64, last: Option<Header>) -> Option<u64>
+    ensures { IfSome last (λ h. stated_end h < 2 ^ 64) → result ≡ plan.cluster_end total last }
+{
+    let last = last?;
+    if last.id != CLUSTER {
+        return None;
+    }
+    other_end(total, &last)
+}
+
+/// The end that keeps anything from being added to the file.
+fn wrong_end(outline: &Outline) -> Option<u64>
+    ensures { EndsFit outline.now → result ≡ plan.wrong_end outline.now }
+{
+    let total = outline.total();
+    if let Some(end) = other_end(total, &outline.segment()) {
+        return Some(end);
+    }
+    if let Some(end) = cluster_end(total, outline.last()) {
+        return Some(end);
+    }
+    if outline.end() == total {
+        return None;
+    }
+    Some(outline.end())
+}
+
+/// Nothing may be added at the end of the file.
+pub fn tail_refusal(outline: &Outline) -> Option<Refusal>
+    ensures { EndsFit outline.now → result ≡ plan.tail_refusal outline.now }
+{
+    let end = wrong_end(outline)?;
+    Some(Refusal::NoRoom {
+        why: Room::Tail,
+        need: end,
+        have: outline.total(),
+    })
+}
+
+/// More is needed than there is.
+pub fn lacks(why: Room, need: u64, have: u64) -> Option<Refusal>
+    ensures { result ≡ plan.lacks why need have }
+{
+    if have < need {
+        return Some(Refusal::NoRoom { why, need, have });
+    }
+    None
+}
+
+/// An Element of an ID that moves isn't the only one.
+pub fn twin_refusal(outline: &Outline, id: u32) -> Option<Refusal>
+    ensures { result ≡ plan.twin_of outline.now.others id }
+{
+    let number = number_of(outline, id);
+    if number > 1 {
+        return Some(Refusal::NoRoom {
+            why: Room::Twin,
+            need: 1,
+            have: number,
+        });
+    }
+    None
+}
+
+/// How many octets the Segment's size takes.
+#[tactic(auto, unfolding(ebml_numbers::specs::Number::is_id), using(crate::proofs::SpanLemmas::ids))]
+pub fn size_width(segment: &Header) -> u64
+    ensures { result ≡ plan.size_width segment.now }
+{
+    segment
+        .body
+        .saturating_sub(segment.offset)
+        .saturating_sub(u64::from(put_id(SEGMENT).len))
+}
+
+/// The Segment's new size, where it ends at a place, needs more octets than the old one has.
+pub fn size_refusal(segment: &Header, end: u64) -> Option<Refusal>
+    requires { end ≤ 2 ^ 50 }
+    ensures { result ≡ plan.size_refusal segment.now end }
+{
+    let Size::Known(_) = segment.size else {
+        return None;
+    };
+    let need = least_width(end.saturating_sub(segment.body));
+    lacks(Room::SegmentSize, u64::from(need), size_width(segment))
+}

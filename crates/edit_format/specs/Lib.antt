@@ -1,6 +1,0 @@
-pub mod Property
-pub mod Change
-pub mod Span
-pub mod SeekHead
-pub mod Records
-pub mod Plan

@@ -1,9 +1,0 @@
-use Rattle.std.proofs.Common.{◌≡◌, ◌++◌, drop, filter, flat_map}
-use Rattle.tree_format.specs.NormalForm.{octets}
-use Rattle.edit_format.specs.SeekHead.{stays}
-use Rattle.edit_room.proofs.seek_head.put_staying.Given as goal
-
--- what was added, with what is left, is the whole
-abbrev pub invariant-loop-tree : goal.invariant-loop-tree
-invariant-loop-tree l =
-    l.out ++ flat_map octets (filter stays (drop l.tree-index l.old)) ≡ l.fn.out ++ flat_map octets (filter stays l.old)

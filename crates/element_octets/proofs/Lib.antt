@@ -1,4 +1,0 @@
-pub mod HeldLemmas
-pub mod ReadLemmas
-pub mod AskedLemmas
-pub mod WrittenLemmas

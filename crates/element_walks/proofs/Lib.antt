@@ -1,3 +1,0 @@
-pub mod LevelOneLemmas
-pub mod MoveLemmas
-pub mod WalkLemmas

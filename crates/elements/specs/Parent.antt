@@ -1,0 +1,11 @@
+-- What the parents of the code are in the definition of an Element at a place.
+use Rattle.mkv_schema.specs.Element.{Setting, at_level_0, in_segment, in_master, in_tree, anywhere}
+use Rattle.elements.specs.declared.parent.Parent.{Parent}
+use Rattle.elements.specs.declared.parent.Parent.TheVariants.{File, Segment, Master, Tree, Any}
+
+abbrev pub setting_of : Parent → Setting
+setting_of File = at_level_0
+setting_of Segment = in_segment
+setting_of Master = in_master
+setting_of (Tree id) = in_tree id
+setting_of Any = anywhere

@@ -1,0 +1,55 @@
+//! The children of a master: RFC 8794, section 7.7 (Master Element).
+
+ghost use Rattle.std.specs.Prelude.{◌≡◌, ℕ, ◌+◌, ◌<◌, ◌≤◌, List, length, IfOk};
+ghost use Rattle.mkv_schema.specs.Element.{element_at, known, stated_end};
+ghost use Rattle.mkv_schema.specs.Placed.{StandsAt, IsWhole};
+ghost use Rattle.mkv_schema.specs.Value.{body_of};
+ghost use Rattle.elements.specs.Parent.{setting_of};
+ghost use Rattle.elements.specs.Body.{IsBody};
+ghost use Rattle.mkv_io.specs.declared.outside.TheConstants.{LONGEST_FILE};
+
+use crate::header::read_header;
+use crate::parent::Parent;
+use ebml_numbers::Size;
+use mkv_io::Damage;
+use mkv_schema::Header;
+
+/// The child at `at` octets behind the start of a file of `total` octets, of a master whose body begins at
+/// `base` and is these octets; or what is wrong there.
+pub fn child_at(
+    parent: Parent,
+    body: &[u8],
+    base: u64,
+    total: u64,
+    at: u64,
+) -> Result<Header, Damage>
+    requires from { base ≤ at }
+    requires inside { at < base + length body.now }
+    requires short { base + length body.now ≤ LONGEST_FILE }
+    ensures exact { (bytes : List ℕ) → IsBody bytes base total body.now → result ≡ element_at (setting_of parent) bytes at (base + length body.now) }
+    ensures placed { IfOk result (StandsAt at (base + length body.now)) }
+    ensures whole { IfOk result (IsWhole (setting_of parent) (base + length body.now)) }
+{
+    let end = base + body.len() as u64;
+    read_header(&body[(at - base) as usize..], parent, total, at, end)
+}
+
+/// The octets of a child's body, of a master whose body begins at `base` and is these octets.
+pub fn body_in<'a>(body: &'a [u8], base: u64, child: &Header) -> &'a [u8]
+    requires from { base ≤ child.now.body }
+    requires inside { stated_end child.now ≤ base + length body.now }
+    ensures { (bytes : List ℕ) (total : ℕ) → IsBody bytes base total body.now → result.now ≡ body_of bytes child.now }
+{
+    let start = (child.body - base) as usize;
+    &body[start..start + known(child.size) as usize]
+}
+
+/// The octets of a body whose size is known, else 0.
+pub fn known(size: Size) -> u64
+    ensures { result ≡ known size }
+{
+    match size {
+        Size::Known(octets) => octets,
+        Size::Unknown => 0,
+    }
+}

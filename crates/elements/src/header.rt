@@ -1,0 +1,132 @@
+//! The header of the Element at a place.
+
+ghost use Rattle.std.specs.Prelude.{◌≡◌, ◌≤◌, ◌+◌, ◌^◌, length, drop, nat_lt, IfOk};
+ghost use Rattle.mkv_schema.specs.Element.{body_damage, cut_header, element_in, id_in, stated_end, with_size};
+ghost use Rattle.mkv_schema.specs.Placed.{StandsAt, IsWhole};
+ghost use Rattle.ebml_numbers.specs.Number.{size_at};
+ghost use Rattle.elements.specs.Parent.{setting_of};
+ghost use Rattle.mkv_io.specs.declared.outside.TheConstants.{LONGEST_FILE};
+
+use crate::parent::Parent;
+use ebml_numbers::{IdRead, NumFault, Size, read_id, read_size};
+use mkv_io::{Damage, Kind};
+use mkv_schema::Header;
+use mkv_schema::ids::{CHAPTER_DISPLAY, CLUSTER, SEGMENT};
+
+/// The header of the Element that octets begin, or what is wrong with it.
+///
+/// The octets stand `at` octets behind the start of a file of `total` octets, and reach to `end`, the
+/// parent's end; the first `LONGEST_HEADER` of them are enough.
+pub fn read_header(
+    octets: &[u8],
+    parent: Parent,
+    total: u64,
+    at: u64,
+    end: u64,
+) -> Result<Header, Damage>
+    requires { at ≤ LONGEST_FILE }
+    ensures exact { result ≡ element_in (setting_of parent) octets.now total at end }
+    ensures placed { at + length octets.now ≤ end → IfOk result (StandsAt at end) }
+    ensures whole { IfOk result (IsWhole (setting_of parent) end) }
+{
+    first_header(octets, parent, total, at, end)
+}
+
+#[tactic(auto, unfolding(mkv_schema::specs::Element::element_in))]
+fn first_header(
+    octets: &[u8],
+    parent: Parent,
+    total: u64,
+    at: u64,
+    end: u64,
+) -> Result<Header, Damage>
+    requires { at ≤ LONGEST_FILE }
+    ensures { result ≡ element_in (setting_of parent) octets.now total at end }
+{
+    let id = match id_at(octets, parent) {
+        Ok(id) => id,
+        Err(NumFault::Bad) => return Err(damage(Kind::BadId, 0, at)),
+        Err(NumFault::More(count)) => {
+            return Err(cut_header(parent, total, 0, at, at + u64::from(count) + 1));
+        }
+    };
+    let behind = at + u64::from(id.len);
+    let size = match read_size(&octets[usize::from(id.len)..]) {
+        Ok(size) => size,
+        Err(NumFault::Bad) => return Err(damage(Kind::BadSize, id.id, at)),
+        Err(NumFault::More(count)) => {
+            return Err(cut_header(parent, total, id.id, at, behind + u64::from(count)));
+        }
+    };
+    let header = Header {
+        id: id.id,
+        offset: at,
+        body: behind + u64::from(size.len),
+        size: size.size,
+    };
+    match body_damage(&header, parent, total, end) {
+        None => Ok(header),
+        Some(kind) => Err(damage_at(kind, &header)),
+    }
+}
+
+// The ID at the front; ChapterDisplay's is none elsewhere.
+fn id_at(octets: &[u8], parent: Parent) -> Result<IdRead, NumFault>
+    ensures exact { result ≡ id_in (setting_of parent) octets.now }
+    ensures inside { IfOk result (λ read. read.len ≤ length octets.now) }
+{
+    if parent.has_display() && octets.first() == Some(&(CHAPTER_DISPLAY as u8)) {
+        return Ok(IdRead {
+            id: CHAPTER_DISPLAY,
+            len: 1,
+        });
+    }
+    read_id(octets)
+}
+
+/// A damage of this kind, where an Element stands.
+pub fn damage_at(kind: Kind, header: &Header) -> Damage
+    ensures { result ≡ record { kind = kind; id = header.now.id; offset = header.now.offset } }
+{
+    damage(kind, header.id, header.offset)
+}
+
+/// A damage of this kind, of an Element of this ID, so many octets behind the start of the file.
+pub fn damage(kind: Kind, id: u32, offset: u64) -> Damage
+    ensures { result ≡ record { kind = kind; id = id; offset = offset } }
+{
+    Damage { kind, id, offset }
+}
+
+// A header up to `end` passes its parent's end.
+fn cut_header(parent: Parent, total: u64, id: u32, at: u64, end: u64) -> Damage
+    ensures { result ≡ cut_header (setting_of parent) total id at end }
+{
+    if !parent.is_tree() && total < end {
+        damage(Kind::Truncated, id, at)
+    } else {
+        damage(Kind::TooLong, id, at)
+    }
+}
+
+// What is wrong with a body.
+fn body_damage(header: &Header, parent: Parent, total: u64, end: u64) -> Option<Kind>
+    requires { stated_end header.now ≤ 2 ^ 63 }
+    ensures { result ≡ body_damage (setting_of parent) total end header.now }
+{
+    let may_open = parent.may_open(header.id);
+    let stated_end = match header.size {
+        Size::Known(size) => header.body + size,
+        Size::Unknown if !may_open => return Some(Kind::UnknownSize),
+        Size::Unknown => header.body,
+    };
+    let is_open_kind = header.id == SEGMENT || header.id == CLUSTER;
+    let ends_with_file = end == total;
+    if !parent.is_tree() && total < stated_end && (!is_open_kind || (!may_open && ends_with_file)) {
+        return Some(Kind::Truncated);
+    }
+    if end < stated_end && !(may_open && ends_with_file) {
+        return Some(Kind::TooLong);
+    }
+    None
+}

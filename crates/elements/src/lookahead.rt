@@ -1,0 +1,44 @@
+//! What a walk over the Elements of a file looks through.
+
+ghost use Rattle.std.specs.Prelude.{◌≡◌, ℕ, ◌*◌, ◌≤◌, IfOk};
+ghost use Rattle.mkv_io.specs.Faults.{HasCause, is_failure};
+ghost use Rattle.mkv_io.specs.Sources.{IfTold, IsLive, OnlyReads, file_size};
+ghost use Rattle.mkv_schema.specs.Element.{element_at};
+ghost use Rattle.elements.specs.Parent.{setting_of};
+ghost use Rattle.elements.specs.Looks.{Goes, IsFound, Looks};
+ghost use Rattle.elements.specs.Window.{ReadAhead, Holds, header_room};
+
+use crate::parent::Parent;
+use mkv_io::{Damage, Failed, FileId, Reads};
+use mkv_schema::Header;
+
+/// Octets of one file that were read at once, through which its Elements are met.
+pub trait Lookahead {
+    /// What is held of the file.
+    ghost ahead: { Self → ReadAhead };
+
+    /// How many octets are read at once.
+    ghost room: { ℕ };
+
+    /// The Element at a place of a file, under a parent that ends at `end`, or what is wrong there. What is
+    /// held isn't read again. After a failed read nothing is held.
+    fn element<R: Reads>(
+        &mut self,
+        src: &mut R,
+        file: FileId,
+        parent: Parent,
+        at: u64,
+        end: u64,
+    ) -> Result<Result<Header, Damage>, Failed>
+        requires live { IsLive R.Reads src.old file }
+        requires place { at ≤ end }
+        requires inside { end ≤ file_size R.Reads src.old file }
+        requires holds { IfTold R.Reads src.old file (λ bytes. Holds bytes (ahead self.old)) }
+        ensures ok { IfOk result (λ found. IfTold R.Reads src.old file (λ bytes. found ≡ element_at (setting_of parent) bytes at end)) }
+        ensures placed { IfOk result (λ found. IfOk found (IsFound (setting_of parent) at end)) }
+        ensures looks { Looks R.Reads file room at (header_room at end) (ahead self.old) (ahead self.new) src.old src.new result }
+        ensures holds { IfTold R.Reads src.old file (λ bytes. Holds bytes (ahead self.new)) }
+        ensures same { OnlyReads R.Reads src.old src.new }
+        ensures cause { HasCause is_failure (R.reading_faults src.old) (R.reading_faults src.new) result }
+        ensures goes { Goes R.Reads file at (λ _. at) (ahead self.old) (ahead self.new) src.old src.new result };
+}

@@ -1,0 +1,50 @@
+//! Where an Element stands.
+
+ghost use Rattle.std.specs.Prelude.{◌≡◌, ◌==◌};
+
+use mkv_schema::ids::{CHAPTER_ATOM, CLUSTER, SEGMENT};
+
+/// Where an Element stands, which says what its header may be.
+#[derive(Clone, Copy, Debug, PartialEq, Eq)]
+pub enum Parent {
+    /// The file: a Segment may have an unknown size, and the end of the file may cut it.
+    File,
+    /// A Segment: a Cluster may have an unknown size, and the end of the file may cut it.
+    Segment,
+    /// Another master that isn't read whole.
+    Master,
+    /// The master of this ID, which is read whole: whatever passes its end is too long.
+    Tree(u32),
+    /// As if every Segment stood in the file, and every Cluster in a Segment.
+    Any,
+}
+
+impl Parent {
+    ghost use Rattle.elements.specs.Parent.{setting_of};
+
+    /// Whether an Element of this ID may have an unknown size here, or be cut by the end of the file.
+    pub fn may_open(self, id: u32) -> bool
+        ensures { result ≡ (setting_of self).may_open id }
+    {
+        match self {
+            Parent::File => id == SEGMENT,
+            Parent::Segment => id == CLUSTER,
+            Parent::Master | Parent::Tree(_) => false,
+            Parent::Any => id == SEGMENT || id == CLUSTER,
+        }
+    }
+
+    /// Whether the octet `80` is ChapterDisplay's ID here (RFC 9559, section 5.1.7, Chapters Element).
+    pub fn has_display(self) -> bool
+        ensures { result ≡ (setting_of self).display }
+    {
+        self == Parent::Tree(CHAPTER_ATOM)
+    }
+
+    /// Whether the parent is read whole.
+    pub fn is_tree(self) -> bool
+        ensures { result ≡ (setting_of self).read_whole }
+    {
+        matches!(self, Parent::Tree(_))
+    }
+}

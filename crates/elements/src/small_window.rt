@@ -1,0 +1,71 @@
+//! The window that takes no memory.
+
+ghost use Rattle.std.specs.Prelude.{◌≡◌};
+ghost use Rattle.elements.specs.Window.{nothing_at};
+
+use crate::LITTLE;
+use crate::held::Held;
+use crate::lookahead::Lookahead;
+use crate::parent::Parent;
+use mkv_io::{Damage, Failed, FileId, Reads};
+use mkv_schema::Header;
+use std::marker::Model;
+
+/// Octets of one file, read at once from a place on, as many as a few headers have.
+#[derive(Drop)]
+pub struct SmallWindow {
+    buffer: [u8; LITTLE],
+    held: Held,
+}
+
+impl Model for SmallWindow {
+    ghost use Rattle.std.specs.Prelude.{◌≤◌};
+    ghost use Rattle.elements.specs.Window.{ReadAhead};
+    ghost use Rattle.elements.specs.Held.{held_in};
+    ghost use Rattle.elements.specs.declared.TheConstants.{LITTLE};
+
+    ghost Value = { ReadAhead };
+
+    ghost view = { λ w. held_in w.held w.buffer };
+
+    ghost invariant = { λ w. w.held.len ≤ LITTLE };
+}
+
+impl SmallWindow {
+    /// A window that holds nothing.
+    pub fn new() -> SmallWindow
+        ensures { result ≡ nothing_at 0 }
+    {
+        SmallWindow {
+            buffer: [0; LITTLE],
+            held: Held { at: 0, len: 0 },
+        }
+    }
+
+    /// Forgets what the window holds.
+    pub fn forget(&mut self)
+        ensures { self.new ≡ nothing_at 0 }
+    {
+        self.held = Held { at: 0, len: 0 };
+    }
+}
+
+impl Lookahead for SmallWindow {
+    ghost use Rattle.elements.specs.declared.TheConstants.{LITTLE};
+
+    ghost ahead = { λ w. w };
+
+    ghost room = { LITTLE };
+
+    fn element<R: Reads>(
+        &mut self,
+        src: &mut R,
+        file: FileId,
+        parent: Parent,
+        at: u64,
+        end: u64,
+    ) -> Result<Result<Header, Damage>, Failed> {
+        let buffer = &mut self.buffer;
+        self.held.element(buffer, src, file, parent, at, end)
+    }
+}

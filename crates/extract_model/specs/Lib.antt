@@ -1,5 +1,0 @@
-pub mod Chapters
-pub mod Content
-pub mod Frames
-pub mod Job
-pub mod Times

@@ -1,0 +1,57 @@
+use Rattle.std.proofs.Common.{◌≡◌, ℕ, List, Option, sym, ap, subst, ◌∙◌, arith}
+use Rattle.std.proofs.lemmas.Result.{err_from_is_err_and}
+use Rattle.mkv_io.specs.declared.outside.FileId.{FileId}
+use Rattle.mkv_io.specs.Sources.{live_files}
+use Rattle.output_model.specs.Attached.{octets_told}
+use Rattle.cues_seekhead.specs.Appending.{AppendsOnly}
+use Rattle.cues_seekhead.proofs.BeginLemmas.{EndsOnly-one, KeepsOthers-unmade, MakesFile-created}
+use Rattle.extractors.proofs.WholeLemmas.{WritesFile-closed, WritesFile-unmade}
+use Rattle.extractors.proofs.whole.copy_file.Goals as goal
+
+-- the file wasn't made
+pub returns-in_err-file : goal.returns-in_err-file
+returns-in_err-file g c =
+    let p = err_from_is_err_and c.from_residual.result c.from_residual.ensures.1 in
+    rw (p.1, p.2)
+    (WritesFile-unmade FileId g.F.Reads g.F.Files c.args.name.now _ c.args.len c.args.files.now c.create.new.self c.in_err-file.field-0.0 c.in_err-file.ensures.err
+    (KeepsOthers-unmade g.F.Reads g.F.Files c.args.name.now c.args.files.now c.create.new.self (g.met.F.Files.numbered c.args.files.now) c.in_err-file.ensures.refused c.create.ensures.given c.create.ensures.holders c.create.ensures.others)
+    c.create.ensures.reading c.create.ensures.octets c.in_err-file.ensures.cause)
+
+-- the other file is live still
+pub copy_data-ended-requires-clause-from : goal.copy_data-ended-requires-clause-from
+copy_data-ended-requires-clause-from g c =
+    let old = c.args.files.now in
+    let ok = c.in_ok-file.ensures in
+    let made = MakesFile-created g.F.Reads g.F.Files c.args.name.now c.in_ok-file.file old c.create.new.self (g.met.F.Files.numbered old) ok.number.0 ok.live ok.holder ok.alone c.create.ensures.given c.create.ensures.holders c.create.ensures.others in
+    (made.others c.args.from.n (c.requires.live, (λ same. c.requires.other (sym same), tt))).alive ∙ c.requires.live
+
+-- under another name
+pub copy_data-ended-requires-clause-apart : goal.copy_data-ended-requires-clause-apart
+copy_data-ended-requires-clause-apart g c = λ equal.
+    c.requires.other (sym (c.create.ensures.holders c.args.from.n c.requires.live) ∙ equal ∙ c.in_ok-file.ensures.holder)
+
+-- and as long
+pub copy_data-ended-requires-clause-inside : goal.copy_data-ended-requires-clause-inside
+copy_data-ended-requires-clause-inside g c =
+    let old = c.args.files.now in
+    let ok = c.in_ok-file.ensures in
+    let made = MakesFile-created g.F.Reads g.F.Files c.args.name.now c.in_ok-file.file old c.create.new.self (g.met.F.Files.numbered old) ok.number.0 ok.live ok.holder ok.alone c.create.ensures.given c.create.ensures.holders c.create.ensures.others in
+    omega (arith, c.requires.inside, (made.others c.args.from.n (c.requires.live, (λ same. c.requires.other (sym same), tt))).size c.requires.live)
+
+-- it was made, written and closed
+pub returns : goal.returns
+returns g c =
+    let r = g.F.Reads in
+    let f = g.F.Files in
+    let old = c.args.files.now in
+    let new = c.create.new.self in
+    let wrote = c.copy_data-ended.new.files in
+    let file = c.in_ok-file.file in
+    let ok = c.in_ok-file.ensures in
+    let name = c.args.name.now in
+    let made = MakesFile-created r f name file old new (g.met.F.Files.numbered old) ok.number.0 ok.live ok.holder ok.alone c.create.ensures.given c.create.ensures.holders c.create.ensures.others in
+    let same = (made.others c.args.from.n (c.requires.live, (λ same. c.requires.other (sym same), tt))).content c.requires.live in
+    WritesFile-closed r f file name _ c.args.len old new wrote c.close.new.self c.copy_data-ended.result (g.met.F.Files.numbered old) made
+    ok.ok c.create.ensures.reading ok.cause c.create.ensures.octets
+    (subst (λ (content : Option (List ℕ)). AppendsOnly r f file (octets_told content c.args.at c.args.len) c.args.len new wrote c.copy_data-ended.result) same c.copy_data-ended.ensures)
+    (EndsOnly-one r f wrote c.close.new.self file c.close.ensures.ended c.close.ensures.others c.close.ensures.names c.close.ensures.given c.close.ensures.holders c.close.ensures.writing c.close.ensures.reading c.close.ensures.octets)

@@ -1,0 +1,22 @@
+-- The first Cues of a file: RFC 9559, section 5.1.5 (Cues Element). Its limits are this project's.
+use Rattle.std.specs.Prelude.{ℕ, List, Option, Some, None, Result, Ok}
+use Rattle.mkv_schema.specs.declared.ids.TheConstants.{CUES}
+use Rattle.mkv_io.specs.declared.damage.Damage.{Damage}
+use Rattle.mkv_schema.specs.declared.element.Header.{Header}
+use Rattle.mkv_schema.specs.declared.limits.TheConstants.{MOST_OF_CUES}
+use Rattle.mkv_schema.specs.Outline.{and_then, over, segment_run, unless}
+use Rattle.mkv_schema.specs.Value.{body_of, first_of}
+use Rattle.tree_format.specs.Node.{Node}
+use Rattle.tree_format.specs.Reading.{tree_of}
+use Rattle.extractors.specs.declared.limits.TheConstants.{MOST_CUE_NODES}
+
+-- a Cues as a tree, if there is one; or that it is too large, or what is wrong inside
+abbrev pub cues_at : List ℕ → Option Header → Result (Option Node) Damage
+cues_at bytes None = Ok None
+cues_at bytes (Some h) =
+    and_then (unless (over MOST_OF_CUES h) (body_of bytes h)) (λ body.
+    and_then (tree_of CUES h.offset body h.body MOST_CUE_NODES) (λ tree. Ok (Some tree)))
+
+-- the first Cues of level 1
+abbrev pub first_cues : List ℕ → Header → Result (Option Node) Damage
+first_cues bytes segment = cues_at bytes (first_of CUES (segment_run bytes segment).list)

@@ -1,0 +1,75 @@
+-- Whether a track's frames can be used, and what was taken from the front of each: RFC 9559, section 5.1.4 (Tracks Element), ContentEncodings and TrackTimestampScale. The kinds, their order and the limit are this project's.
+use Rattle.std.specs.Prelude.{ℕ, ◌==◌, nat_le, Bool, true, false, ◌&&◌, ◌||◌, List, [], ◌∷◌, length, filter, Option, Result}
+use Rattle.std.specs.Option.{option_map_or, option_and_then}
+use Rattle.std.specs.Str.{bytes_eq}
+use Rattle.mkv_schema.specs.declared.ids.TheConstants.{TRACK_TIMESTAMP_SCALE, CONTENT_ENCODINGS, CONTENT_ENCODING, CONTENT_ENCODING_SCOPE, CONTENT_ENCODING_TYPE, CONTENT_COMPRESSION, CONTENT_COMP_ALGO, CONTENT_COMP_SETTINGS}
+use Rattle.mkv_io.specs.declared.damage.Damage.{Damage}
+use Rattle.mkv_io.specs.declared.damage.Kind.TheVariants.{Encoding, TrackScale}
+use Rattle.mkv_schema.specs.Outline.{first_damage, unless}
+use Rattle.tree_format.specs.Node.{Node, id_of, body_of, children}
+use Rattle.tree_format.specs.Values.{first_child, uint_in, failing_child}
+
+-- ---- one ContentEncoding
+
+-- the ContentCompAlgo of its first ContentCompression; where it has none, 0 as the table's default
+abbrev pub algorithm_of : Node → ℕ
+algorithm_of encoding = option_map_or (λ c. uint_in CONTENT_COMP_ALGO c) (first_child CONTENT_COMPRESSION encoding) 0
+
+-- the first ContentCompSettings of its first ContentCompression, empty where there are none
+abbrev pub settings_of : Node → List ℕ
+settings_of encoding = option_map_or body_of (option_and_then (λ c. first_child CONTENT_COMP_SETTINGS c) (first_child CONTENT_COMPRESSION encoding)) []
+
+-- the ContentCompAlgo of header stripping
+abbrev pub header_stripping : ℕ
+header_stripping = 3
+
+-- the most octets that are put back in front of a frame
+abbrev pub most_stripped : ℕ
+most_stripped = 4096
+
+-- frames alone are compressed (scope 1, type 0), by header stripping, and not too many octets were taken
+abbrev pub strips_headers : Node → Bool
+strips_headers encoding =
+    uint_in CONTENT_ENCODING_SCOPE encoding == 1
+    && uint_in CONTENT_ENCODING_TYPE encoding == 0
+    && algorithm_of encoding == header_stripping
+    && nat_le (length (settings_of encoding)) most_stripped
+
+-- ---- a track
+
+-- the ContentEncoding Elements of a ContentEncodings
+abbrev pub encodings_of : Node → List Node
+encodings_of encodings = filter (λ n. id_of n == CONTENT_ENCODING) (children encodings)
+
+-- there is none, or one alone that strips headers
+abbrev pub can_be_undone : List Node → Bool
+can_be_undone [] = true
+can_be_undone (e ∷ []) = strips_headers e
+can_be_undone (e ∷ f ∷ es) = false
+
+-- an empty float, or 1.0 in four or eight octets
+abbrev pub is_one : List ℕ → Bool
+is_one octets =
+    bytes_eq octets []
+    || bytes_eq octets (0x3F ∷ 0x80 ∷ 0 ∷ 0 ∷ [])
+    || bytes_eq octets (0x3F ∷ 0xF0 ∷ 0 ∷ 0 ∷ 0 ∷ 0 ∷ 0 ∷ 0 ∷ [])
+
+-- the first ContentEncodings, where it can't be undone
+abbrev pub bad_encoding : Node → Option Damage
+bad_encoding entry = failing_child Encoding CONTENT_ENCODINGS (λ e. can_be_undone (encodings_of e)) entry
+
+-- the first TrackTimestampScale, where it isn't 1
+abbrev pub bad_scale : Node → Option Damage
+bad_scale entry = failing_child TrackScale TRACK_TIMESTAMP_SCALE (λ s. is_one (body_of s)) entry
+
+-- what keeps a track's frames from being used, in the order in which it is told
+abbrev pub usable_causes : Node → List (Option Damage)
+usable_causes entry = bad_encoding entry ∷ bad_scale entry ∷ []
+
+-- what header stripping took from the front of each frame, empty where nothing was taken
+abbrev pub prefix_of : Node → List ℕ
+prefix_of entry = option_map_or settings_of (option_and_then (λ e. first_child CONTENT_ENCODING e) (first_child CONTENT_ENCODINGS entry)) []
+
+-- the octets to put back in front of each frame, unless something keeps the track from being used
+abbrev pub usable_prefix : Node → Result (List ℕ) Damage
+usable_prefix entry = unless (first_damage (usable_causes entry)) (prefix_of entry)

@@ -1,0 +1,43 @@
+-- The TrackEntries of a file: RFC 9559, section 5.1.4 (Tracks Element).
+use Rattle.std.specs.Prelude.{◌≡◌, ℕ, List, [], Option, Some, None, Result, Ok}
+use Rattle.mkv_schema.specs.declared.ids.TheConstants.{TRACKS}
+use Rattle.mkv_io.specs.declared.damage.Damage.{Damage}
+use Rattle.mkv_schema.specs.declared.element.Header.{Header}
+use Rattle.mkv_schema.specs.Outline.{segment_run, and_then, unless}
+use Rattle.mkv_schema.specs.Value.{body_of, first_of}
+use Rattle.tree_format.specs.declared.limits.TheConstants.{MOST_NODES}
+use Rattle.tree_format.specs.Node.{Node}
+use Rattle.tree_format.specs.Reading.{tree_of}
+use Rattle.tree_format.specs.Order.{tree_without_limits}
+use Rattle.file_format.specs.Entry.{entries_of}
+use Rattle.file_format.specs.Refusal.{refusal_of}
+
+-- a Tracks Element of a content as a tree, or the first damage inside: with a reader's limits, and without them
+abbrev pub tracks_tree : List ℕ → Header → Result Node Damage
+tracks_tree bytes h = tree_of h.id h.offset (body_of bytes h) h.body MOST_NODES
+
+abbrev pub tracks_without_limits : List ℕ → Header → Result Node Damage
+tracks_without_limits bytes h = tree_without_limits h.id h.offset (body_of bytes h) h.body
+
+-- the entries of a Tracks Element, unless something refuses them
+abbrev pub entries_in : Node → Result (List Node) Damage
+entries_in tracks = unless (refusal_of tracks) (entries_of tracks)
+
+-- the entries of a Tracks Element that is read so; none where there is none
+abbrev pub entries_at : (Header → Result Node Damage) → Option Header → Result (List Node) Damage
+entries_at read None = Ok []
+entries_at read (Some h) = and_then (read h) entries_in
+
+-- the TrackEntries of a content with this Segment, for a reader with limits: those of its first Tracks
+unfoldable pub file_entries : List ℕ → Header → Result (List Node) Damage
+file_entries bytes segment = entries_at (tracks_tree bytes) (first_of TRACKS (segment_run bytes segment).list)
+
+-- the same without a reader's limits on nodes and on masters inside one another
+unfoldable pub entries_without_limits : List ℕ → Header → Result (List Node) Damage
+entries_without_limits bytes segment = entries_at (tracks_without_limits bytes) (first_of TRACKS (segment_run bytes segment).list)
+
+-- The entries that a reader with limits finds are those of the file without limits.
+abbrev pub LimitsChangeNoEntry : Type 0
+LimitsChangeNoEntry =
+    (bytes : List ℕ) (segment : Header) (entries : List Node) → file_entries bytes segment ≡ Ok entries
+    → entries_without_limits bytes segment ≡ Ok entries

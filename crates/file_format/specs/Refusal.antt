@@ -1,0 +1,83 @@
+-- What refuses a Tracks Element: RFC 9559, section 5.1.4 (Tracks Element). The kinds, their order and the limits are this project's.
+use Rattle.std.specs.Prelude.{ℕ, ◌==◌, ◌^◌, nat_le, Bool, ◌&&◌, ◌||◌, List, [], ◌∷◌, length, map, find, take, slice_get, slice_index, Option, is_none}
+use Rattle.std.specs.Option.{option_map, option_and_then}
+use Rattle.std.specs.List.{list_any, range_with_len}
+use Rattle.mkv_schema.specs.declared.ids.TheConstants.{TRACK_ENTRY, TRACK_NUMBER, TRACK_TYPE, CODEC_ID, DEFAULT_DURATION}
+use Rattle.mkv_io.specs.declared.damage.Damage.{Damage}
+use Rattle.mkv_io.specs.declared.damage.Kind.TheVariants.{BadValue, MissingChild, RepeatedTrack, TooMany}
+use Rattle.mkv_schema.specs.Element.{damage}
+use Rattle.mkv_schema.specs.Outline.{first_damage}
+use Rattle.tree_format.specs.Node.{Node, id_of, offset_of, children}
+use Rattle.tree_format.specs.Changes.{without}
+use Rattle.tree_format.specs.Values.{first_child, integer_of}
+use Rattle.file_format.specs.Entry.{entries_of, number_of}
+
+-- ---- of one entry
+
+-- of each ID the first Element, which gives the value
+abbrev pub firsts : List Node → List Node
+firsts [] = []
+firsts (n ∷ ns) = n ∷ without (id_of n) (firsts ns)
+
+-- the least DefaultDuration that is refused, in nanoseconds
+abbrev pub too_long : ℕ
+too_long = 2 ^ 48
+
+-- a TrackNumber of 0, or a DefaultDuration that is too long
+abbrev pub is_bad : Node → Bool
+is_bad n = (id_of n == TRACK_NUMBER && integer_of n == 0) || (id_of n == DEFAULT_DURATION && nat_le too_long (integer_of n))
+
+-- the first value of an entry that is bad, told at its own place
+abbrev pub bad_value : Node → Option Damage
+bad_value entry = option_map (λ n. damage BadValue (id_of n) (offset_of n)) (find is_bad (firsts (children entry)))
+
+-- what an entry must have, in the order in which it is missed
+abbrev pub mandatory : List ℕ
+mandatory = TRACK_NUMBER ∷ TRACK_TYPE ∷ CODEC_ID ∷ []
+
+-- the first of these that an entry lacks, told at the entry's place
+abbrev pub missing_child : Node → Option Damage
+missing_child entry = option_map (λ id. damage MissingChild id (offset_of entry)) (find (λ id. is_none (first_child id entry)) mandatory)
+
+-- ---- of all entries
+
+-- the damage of the first entry that has one
+abbrev pub first_in : (Node → Option Damage) → List Node → Option Damage
+first_in cause entries = first_damage (map cause entries)
+
+-- a damage at the place of the entry with this index, counted from 0, where there is one
+abbrev pub told_at : List Node → (ℕ → Damage) → ℕ → Option Damage
+told_at entries told k = option_map (λ entry. told (offset_of entry)) (slice_get entries k)
+
+-- the number at an index stands before it too
+abbrev pub is_repeated : List ℕ → ℕ → Bool
+is_repeated numbers k = list_any (λ n. n == slice_index numbers k) (take k numbers)
+
+-- the least index whose number stands before it
+abbrev pub first_repeated : List ℕ → Option ℕ
+first_repeated numbers = find (is_repeated numbers) (range_with_len 0 (length numbers))
+
+-- the first entry with the TrackNumber of one before it
+abbrev pub repeated_number : List Node → Option Damage
+repeated_number entries = option_and_then (told_at entries (damage RepeatedTrack TRACK_NUMBER)) (first_repeated (map number_of entries))
+
+-- the most entries
+abbrev pub most_tracks : ℕ
+most_tracks = 1024
+
+-- the first entry that is one too many
+abbrev pub too_many : List Node → Option Damage
+too_many entries = told_at entries (damage TooMany TRACK_ENTRY) most_tracks
+
+-- what refuses the entries, in the order in which it is told
+abbrev pub causes : List Node → List (Option Damage)
+causes entries =
+    first_in bad_value entries ∷
+    first_in missing_child entries ∷
+    repeated_number entries ∷
+    too_many entries ∷
+    []
+
+-- what refuses a Tracks Element
+abbrev pub refusal_of : Node → Option Damage
+refusal_of tracks = first_damage (causes (entries_of tracks))

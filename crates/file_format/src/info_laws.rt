@@ -1,0 +1,7 @@
+//! What holds of the scale of every file: RFC 9559, section 5.1.2 (Info Element).
+ghost use Rattle.file_format.specs.Info.{LimitsChangeNoScale};
+
+/// Where a reader with limits can read the first Info, or there is none, its scale is that of one without limits.
+pub fn limits_change_no_scale()
+    ensures { LimitsChangeNoScale }
+{}

@@ -1,3 +1,0 @@
-pub mod AttachedLemmas
-pub mod CausesLemmas
-pub mod RecordsLemmas

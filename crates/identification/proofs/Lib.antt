@@ -1,4 +1,0 @@
-pub mod JsonLemmas
-pub mod ValueLemmas
-pub mod TagLemmas
-pub mod FloatLemmas

@@ -1,9 +1,0 @@
--- What is left names what all name.
-use Rattle.std.proofs.Common.{◌≡◌, drop}
-use Rattle.std.specs.List.{list_any}
-use Rattle.identification.specs.Named.{is_wanted}
-use Rattle.identification.specs.Tags.{named_among}
-use Rattle.identification.proofs.tags.names_in.Given as goal
-
-abbrev pub invariant-loop-child : goal.invariant-loop-child
-invariant-loop-child l = list_any (is_wanted l.wanted) (named_among (drop l.child-index l.child-items)) ≡ list_any (is_wanted l.wanted) (named_among l.child-items)

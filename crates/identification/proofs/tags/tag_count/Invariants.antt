@@ -1,7 +1,0 @@
--- The tags so far, and those of what is left, are all.
-use Rattle.std.proofs.Common.{◌≡◌, ◌+◌, length, drop}
-use Rattle.identification.specs.Tags.{simple_tags}
-use Rattle.identification.proofs.tags.tag_count.Given as goal
-
-abbrev pub invariant-loop-tag : goal.invariant-loop-tag
-invariant-loop-tag l = l.count + length (simple_tags l.scope (drop l.tag-index l.tag-items)) ≡ length (simple_tags l.scope l.tag-items)

@@ -1,2 +1,0 @@
-pub mod FreeLemmas
-pub mod GivenLemmas

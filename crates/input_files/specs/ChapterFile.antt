@@ -1,0 +1,39 @@
+-- The chapter file of a merge.
+use Rattle.std.specs.Prelude.{⊤, ℕ, List, length, Option, Some, None, Result, Ok, Err}
+use Rattle.mkv_schema.specs.declared.ids.TheConstants.{CHAPTERS}
+use Rattle.tree_format.specs.Node.{Node}
+use Rattle.ebml_tree.specs.Building.{IsRead}
+use Rattle.input_files.specs.TextFile.{chapter_text, octets_within}
+use Rattle.input_files.specs.declared.limits.TheConstants.{MOST_OF_CHAPTERS}
+use Rattle.input_files.specs.declared.refusal.TextRefusal.{TextRefusal}
+use Rattle.input_files.specs.declared.chapter_file.ChapterFile.{ChapterFile}
+use Rattle.input_files.specs.declared.chapter_file.ChapterFile.TheVariants.{Absent, Missing, Refused, Read}
+
+-- what a file gives whose content means this
+abbrev pub given_by : Result Node TextRefusal → ChapterFile
+given_by (Ok chapters) = Read chapters
+given_by (Err why) = Refused why
+
+-- what the file of a name gives, by its content, if it has one
+abbrev pub file_with : Option (List ℕ) → ChapterFile
+file_with None = Missing
+file_with (Some bytes) = given_by (chapter_text bytes)
+
+-- what the chapter file of a merge gives in a world of names, where one is named
+abbrev pub chapter_file : (List ℕ → Option (List ℕ)) → Option (List ℕ) → ChapterFile
+chapter_file world None = Absent
+chapter_file world (Some name) = file_with (world name)
+
+-- how many octets are read of it
+abbrev pub octets_with : Option (List ℕ) → ℕ
+octets_with None = 0
+octets_with (Some bytes) = octets_within MOST_OF_CHAPTERS (length bytes)
+
+abbrev pub chapter_octets : (List ℕ → Option (List ℕ)) → Option (List ℕ) → ℕ
+chapter_octets world None = 0
+chapter_octets world (Some name) = octets_with (world name)
+
+-- Chapters that were read of it can be written.
+abbrev pub CanBeWritten : ChapterFile → Type 0
+CanBeWritten (Read chapters) = IsRead CHAPTERS chapters
+CanBeWritten _ = ⊤

@@ -1,0 +1,55 @@
+-- A text file that is read whole. Its limits are this project's.
+use Rattle.std.specs.Prelude.{◌≡◌, ⊤, ℕ, nat_lt, Bool, true, false, if◌then◌else◌, List, length, Result, Ok, Err}
+use Rattle.tree_format.specs.Node.{Node}
+use Rattle.mkv_io.specs.declared.entry.Entry.{Entry}
+use Rattle.srt_texts.specs.declared.end.TextEnd.{TextEnd}
+use Rattle.srt_texts.specs.declared.end.TextEnd.TheVariants as text_end
+use Rattle.srt_texts.specs.Srt.{srt}
+use Rattle.srt_chapters.specs.Chapters.{simple_chapters}
+use Rattle.input_files.specs.declared.limits.TheConstants.{MOST_OF_CHAPTERS, MOST_OF_SRT}
+use Rattle.input_files.specs.declared.refusal.TextFileEnd.{TextFileEnd}
+use Rattle.input_files.specs.declared.refusal.TextFileEnd.TheVariants.{Refused, ReadFault, Memory}
+use Rattle.input_files.specs.declared.refusal.TextRefusal.{TextRefusal}
+use Rattle.input_files.specs.declared.refusal.TextRefusal.TheVariants.{TooLarge, Bad}
+
+-- ---- what a file means
+
+-- what a grammar makes of a content; its first bad line refuses the file
+abbrev pub unless_bad : {A : Type 0} → Result A ℕ → Result A TextRefusal
+unless_bad (Ok x) = Ok x
+unless_bad (Err line) = Err (Bad line)
+
+-- what a file of at most so many octets means by a grammar, or what refuses it
+abbrev pub text_file : {A : Type 0} → ℕ → (List ℕ → Result A ℕ) → List ℕ → Result A TextRefusal
+text_file most grammar bytes = if nat_lt most (length bytes) then Err TooLarge else unless_bad (grammar bytes)
+
+-- a file of SubRip, and one of simple chapters
+abbrev pub srt_text : List ℕ → Result (List Entry) TextRefusal
+srt_text bytes = text_file MOST_OF_SRT srt bytes
+
+abbrev pub chapter_text : List ℕ → Result Node TextRefusal
+chapter_text bytes = text_file MOST_OF_CHAPTERS simple_chapters bytes
+
+-- ---- what a reader answers
+
+-- A file means what was read, or this refuses it; a read may fail, and there may be no memory.
+abbrev pub ReadsText : {A : Type 0} → Result A TextRefusal → Result A TextFileEnd → Type 0
+ReadsText meant (Ok x) = meant ≡ Ok x
+ReadsText meant (Err (Refused why)) = meant ≡ Err why
+ReadsText meant (Err ReadFault) = ⊤
+ReadsText meant (Err Memory) = ⊤
+
+-- why a file isn't read of whose octets this is the end
+abbrev pub end_of : TextEnd → TextFileEnd
+end_of (text_end.Bad line) = Refused (Bad line)
+end_of text_end.Memory = Memory
+
+-- a read failed
+abbrev pub is_text_fault : TextFileEnd → Bool
+is_text_fault (Refused why) = false
+is_text_fault ReadFault = true
+is_text_fault Memory = false
+
+-- how many octets are read of a file of so many: all, or none where it is too long
+abbrev pub octets_within : ℕ → ℕ → ℕ
+octets_within most size = if nat_lt most size then 0 else size

@@ -1,0 +1,70 @@
+//! The chapter file of a merge, by its name.
+
+ghost use Rattle.std.specs.Prelude.{◌≡◌, ◌+◌, ◌≤◌, IfOk};
+ghost use Rattle.mkv_io.specs.Faults.{HasCause, is_read_fault};
+ghost use Rattle.mkv_io.specs.Told.{Told};
+ghost use Rattle.sidecar_edit.specs.Pending.{LooksOnly};
+ghost use Rattle.input_files.specs.ChapterFile.{CanBeWritten, chapter_file, chapter_octets, file_with, octets_with};
+
+use crate::reading::read_chapters;
+use crate::refusal::{TextFileEnd, TextRefusal};
+use ebml_tree::Tree;
+use mkv_io::{Files, OpenFault, ReadEnd, Text};
+use std::alloc::Global;
+
+/// What the chapter file of a merge gives.
+#[derive(Drop)]
+pub enum ChapterFile {
+    /// None is named.
+    Absent,
+    /// There is no file of its name.
+    Missing,
+    /// It isn't taken.
+    Refused(TextRefusal),
+    /// Its Chapters, whose identifiers are 0.
+    Read(Tree),
+}
+
+// The same of the file of a name.
+fn read_named<F: Files>(alloc: Global, name: &str, files: &mut F) -> Result<ChapterFile, ReadEnd>
+    ensures exact { Told (F.names files.old) (λ world. IfOk result (λ given. given ≡ file_with (world name.now))) }
+    ensures written { IfOk result CanBeWritten }
+    ensures looks { LooksOnly F.Reads F.Files.own files.old files.new }
+    ensures cause { HasCause is_read_fault (F.reading_faults files.old) (F.reading_faults files.new) result }
+    ensures octets { Told (F.names files.old) (λ world. F.octets_read files.new ≤ F.octets_read files.old + octets_with (world name.now)) }
+{
+    let file = match files.open_file(name) {
+        Ok(file) => file,
+        Err(OpenFault::Missing) => return Ok(ChapterFile::Missing),
+        Err(OpenFault::Failed) => return Err(ReadEnd::ReadFault),
+        Err(OpenFault::Memory) => return Err(ReadEnd::Memory),
+    };
+    let read = read_chapters(alloc, files, file);
+    files.close(file);
+    match read {
+        Ok(chapters) => Ok(ChapterFile::Read(chapters)),
+        Err(TextFileEnd::Refused(why)) => Ok(ChapterFile::Refused(why)),
+        Err(TextFileEnd::ReadFault) => Err(ReadEnd::ReadFault),
+        Err(TextFileEnd::Memory) => Err(ReadEnd::Memory),
+    }
+}
+
+/// What the chapter file of a merge gives, where one is named. A file that can't be opened or read is a `ReadFault`.
+pub fn read_chapter_file<F: Files>(
+    alloc: Global,
+    name: &Option<Text>,
+    files: &mut F,
+) -> Result<ChapterFile, ReadEnd>
+    ensures exact { Told (F.names files.old) (λ world. IfOk result (λ given. given ≡ chapter_file world name.now)) }
+
+    // Whatever the names tell, Chapters that were read can be written.
+    ensures written { IfOk result CanBeWritten }
+    ensures looks { LooksOnly F.Reads F.Files.own files.old files.new }
+    ensures cause { HasCause is_read_fault (F.reading_faults files.old) (F.reading_faults files.new) result }
+    ensures octets { Told (F.names files.old) (λ world. F.octets_read files.new ≤ F.octets_read files.old + chapter_octets world name.now) }
+{
+    match name {
+        Some(name) => read_named(alloc, name.as_str(), files),
+        None => Ok(ChapterFile::Absent),
+    }
+}

@@ -1,0 +1,84 @@
+//! Text files, read whole by one call.
+
+ghost use Rattle.std.specs.Prelude.{◌≡◌, ◌↔◌, ◌+◌, ◌<◌, ◌≤◌, length, IfOk, IsErrOf};
+ghost use Rattle.mkv_schema.specs.declared.ids.TheConstants.{CHAPTERS};
+ghost use Rattle.mkv_io.specs.Faults.{HasCause, counted};
+ghost use Rattle.mkv_io.specs.Sources.{IfTold, IsLive, OnlyReads, file_size};
+ghost use Rattle.ebml_tree.specs.Building.{IsRead};
+ghost use Rattle.srt_texts.specs.Reading.{AreWithin};
+ghost use Rattle.input_files.specs.TextFile.{ReadsText, chapter_text, is_text_fault, octets_within, srt_text};
+
+use crate::limits::{MOST_OF_CHAPTERS, MOST_OF_SRT};
+use crate::refusal::{TextFileEnd, TextRefusal};
+use ebml_tree::Tree;
+use mkv_io::{Bytes, FileId, List, Reads};
+use srt_chapters::{Entry, read_simple, read_srt};
+use std::alloc::Global;
+
+/// All octets of a file that has at most so many.
+fn read_whole<R: Reads>(
+    alloc: Global,
+    src: &mut R,
+    file: FileId,
+    most: u64,
+) -> Result<Bytes, TextFileEnd>
+    requires { IsLive R.Reads src.old file }
+    ensures ok { IfOk result (λ octets. IfTold R.Reads src.old file (λ bytes. octets ≡ bytes)) }
+    ensures length { IfOk result (λ octets. (length octets ≡ file_size R.Reads src.old file) × (length octets ≤ most)) }
+    ensures large { IsErrOf result (TextFileEnd.Refused TextRefusal.TooLarge) ↔ (most < file_size R.Reads src.old file) }
+    ensures refused { (why : TextRefusal) → IsErrOf result (TextFileEnd.Refused why) → why ≡ TextRefusal.TooLarge }
+    ensures only { OnlyReads R.Reads src.old src.new }
+    ensures cause { HasCause is_text_fault (R.reading_faults src.old) (R.reading_faults src.new) result }
+    ensures octets { R.octets_read src.new ≤ R.octets_read src.old + octets_within most (file_size R.Reads src.old file) }
+{
+    let size = src.size(file);
+    if size > most {
+        return Err(TextFileEnd::Refused(TextRefusal::TooLarge));
+    }
+    let mut octets = vec![in alloc; 0; size as usize]?;
+    let Ok(()) = src.read_at(file, 0, &mut octets) else {
+        return Err(TextFileEnd::ReadFault);
+    };
+    Ok(Bytes::from_vec(octets))
+}
+
+/// The entries of a SubRip file, sorted by start; or what refuses it. It is read by one call, unless it is too long.
+pub fn read_entries<R: Reads>(
+    alloc: Global,
+    src: &mut R,
+    file: FileId,
+) -> Result<List<Entry>, TextFileEnd>
+    requires { IsLive R.Reads src.old file }
+    ensures exact { IfTold R.Reads src.old file (λ bytes. ReadsText (srt_text bytes) result) }
+
+    // Whatever the file tells, so many octets refuse it, and what is read keeps the limits of a lane.
+    ensures large { IsErrOf result (TextFileEnd.Refused TextRefusal.TooLarge) ↔ (MOST_OF_SRT < file_size R.Reads src.old file) }
+    ensures within { IfOk result (AreWithin MOST_OF_SRT) }
+    ensures only { OnlyReads R.Reads src.old src.new }
+    ensures cause { HasCause is_text_fault (R.reading_faults src.old) (R.reading_faults src.new) result }
+    ensures octets { R.octets_read src.new ≤ R.octets_read src.old + octets_within MOST_OF_SRT (file_size R.Reads src.old file) }
+{
+    let octets = read_whole(alloc, src, file, MOST_OF_SRT)?;
+    Ok(read_srt(alloc, octets.as_slice())?)
+}
+
+/// The Chapters Element of a file of simple chapters, whose identifiers are 0; or what refuses it. It is read by one call,
+/// unless it is too long.
+pub fn read_chapters<R: Reads>(
+    alloc: Global,
+    src: &mut R,
+    file: FileId,
+) -> Result<Tree, TextFileEnd>
+    requires { IsLive R.Reads src.old file }
+    ensures exact { IfTold R.Reads src.old file (λ bytes. ReadsText (chapter_text bytes) result) }
+
+    // Whatever the file tells, so many octets refuse it, and what is read can be written.
+    ensures large { IsErrOf result (TextFileEnd.Refused TextRefusal.TooLarge) ↔ (MOST_OF_CHAPTERS < file_size R.Reads src.old file) }
+    ensures read { IfOk result (IsRead CHAPTERS) }
+    ensures only { OnlyReads R.Reads src.old src.new }
+    ensures cause { HasCause is_text_fault (R.reading_faults src.old) (R.reading_faults src.new) result }
+    ensures octets { R.octets_read src.new ≤ R.octets_read src.old + octets_within MOST_OF_CHAPTERS (file_size R.Reads src.old file) }
+{
+    let octets = read_whole(alloc, src, file, MOST_OF_CHAPTERS)?;
+    Ok(read_simple(alloc, octets.as_slice())?)
+}

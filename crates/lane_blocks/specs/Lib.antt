@@ -1,4 +1,0 @@
-pub mod Lent
-pub mod Links
-pub mod Placed
-pub mod Times

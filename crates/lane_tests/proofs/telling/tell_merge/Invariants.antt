@@ -1,5 +1,0 @@
-use Rattle.time_merge.specs.Merge.{IsReady}
-use Rattle.lane_tests.proofs.telling.tell_merge.Given as goal
-
-abbrev pub invariant-loop : goal.invariant-loop
-invariant-loop g l = IsReady (g.R.Reads.files (g.R.Reads.standing l.src)) l.merge

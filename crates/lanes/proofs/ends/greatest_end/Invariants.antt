@@ -1,0 +1,11 @@
+use Rattle.std.proofs.Common.{◌≡◌, ◌≤◌, max, drop}
+use Rattle.block_records.specs.Buffered.{block_of}
+use Rattle.lanes.specs.Ends.{ends_of}
+use Rattle.lanes.specs.declared.found.TheConstants.{MOST_END}
+use Rattle.lanes.proofs.ends.greatest_end.Given as goal
+
+abbrev pub invariant-loop-link : goal.invariant-loop-link
+invariant-loop-link l = record {
+  exact : max l.end (ends_of (block_of l.cursor.block) (drop l.link-index l.links)) ≡ max l.initial.end (ends_of (block_of l.cursor.block) l.links);
+  small : l.end ≤ MOST_END;
+}

@@ -1,0 +1,19 @@
+use Rattle.std.proofs.Common.{◌≡◌, length, sym, ◌∙◌, ap, arith, rules, to_z, of_z, w64}
+use Rattle.std.proofs.lemmas.Int.{ints}
+use Rattle.std.specs.Prelude.{◌+ℤ◌}
+use Rattle.block_records.specs.declared.head.BlockHead.{BlockHead}
+use Rattle.merge_model.specs.Ticks.{since_start}
+use Rattle.lanes.specs.Ends.{lasting_for}
+use Rattle.lanes.proofs.EndLemmas.{end-taken}
+use Rattle.lanes.proofs.ends.track_end.Goals as goal
+
+pub returns-clause-exact : goal.returns-clause-exact
+returns-clause-exact c =
+    let t = c.args.track.now in
+    let b = c.args.cursor.now.block in
+    let time = c.head-block.result.now.time in
+    let sum : to_z w64 (of_z w64 time) +ℤ to_z w64 (of_z w64 t.delay) ≡ time +ℤ t.delay = omega (arith, ints, c.head-block.ensures.small.time, c.requires.moves.near) in
+    sym (end-taken t b c.in-Some.t c.lasting.result (length c.sizes.result.now) (search rules)
+    (sym (c.in-Some.ensures.exact ∙ ap since_start sum ∙ ap (λ (h : BlockHead). since_start (h.time +ℤ t.delay)) c.head-block.ensures.exact))
+    (c.lasting.ensures.exact ∙ ap (λ (h : BlockHead). lasting_for h.duration t.default_duration (length c.sizes.result.now)) c.head-block.ensures.exact)
+    (ap length c.sizes.ensures.exact))

@@ -1,0 +1,34 @@
+-- A block of an input as a lane hands it out.
+use Rattle.std.specs.Prelude.{◌≡◌, ◌<◌, ◌≤◌, ◌+◌, ◌*◌, ◌/◌, ◌^◌, ℕ, Bool, true, false, List, [], ◌∷◌, max}
+use Rattle.std.specs.List.{All}
+use Rattle.std.specs.Option.{IfSome}
+use Rattle.block_format.specs.declared.limits.TheConstants.{TOO_LARGE_TIME}
+use Rattle.block_records.specs.Time.{IsSmallTime}
+use Rattle.output_model.specs.OutputBlock.{Lent, OutputBlock, lent_block}
+use Rattle.merge_model.specs.Merged.{Ordered}
+use Rattle.lanes.specs.Times.{most_time}
+use Rattle.lanes.specs.declared.place.Placed.{Placed}
+
+-- the block that is handed out, with its order number
+abbrev pub lent_ordered : Lent → Ordered
+lent_ordered l = record { order = l.head.order; block = lent_block l }
+
+-- Its tick is below 2^63 where a tick has two nanoseconds or more, and in nanoseconds no later than a time may be, rounded;
+-- its duration and the ticks that it refers to are below 2^56.
+pub record HasFewTicks (scale : ℕ) (p : Placed) : Type 0 where
+  pub tick : 2 ≤ scale → p.head.tick < 2 ^ 63
+  pub early : p.head.tick * scale ≤ most_time + scale / 2
+  pub duration : IfSome p.head.duration (λ d. d < TOO_LARGE_TIME)
+  pub references : All IsSmallTime p.references.items
+
+-- ---- what a block becomes
+
+-- It is this block alone, whose order number is the greatest tick of its lane up to it.
+pub record IsPlaced (blocks : List OutputBlock) (greatest : ℕ) (l : Lent) : Type 0 where
+  pub block : blocks ≡ lent_block l ∷ []
+  pub order : l.head.order ≡ max greatest l.head.tick
+
+-- It is given as what is lent, or isn't.
+abbrev pub Becomes : List OutputBlock → ℕ → Lent → Bool → Type 0
+Becomes blocks greatest l true = IsPlaced blocks greatest l
+Becomes blocks greatest l false = blocks ≡ []

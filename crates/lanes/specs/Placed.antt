@@ -1,0 +1,31 @@
+-- A block of an input, placed in the output.
+use Rattle.std.specs.Prelude.{ℕ, ◌==◌, if◌then◌else◌, List, []}
+use Rattle.block_format.specs.Block.{Block}
+use Rattle.block_records.specs.Buffered.{Buffered}
+use Rattle.mkv_io.specs.declared.entry.Entry.{Entry}
+use Rattle.output_model.specs.OutputBlock.{Lent, OutputBlock}
+use Rattle.merge_model.specs.Links.{entry_block, placed}
+use Rattle.merge_model.specs.FileLinks.{placing_of, text_with}
+use Rattle.merge_model.specs.declared.link.TrackLink.{TrackLink}
+use Rattle.merge_model.specs.declared.link.TextLink.{TextLink}
+use Rattle.lanes.specs.declared.place.Placed.{Placed}
+
+-- what a track makes of a block of its file: nothing, or one block
+abbrev pub track_placed : ℕ → TrackLink → Block → List OutputBlock
+track_placed scale t b = if b.track == t.number then placed scale (placing_of t) b else []
+
+-- what is lent of a block that was placed
+abbrev pub track_lent : TrackLink → Buffered → Placed → Lent
+track_lent t b p = record { head = p.head; prefix = t.prefix; body = b.body; sizes = b.sizes; references = p.references.items; kept = b.kept }
+
+-- what a text makes of an entry
+abbrev pub entry_placed : ℕ → TextLink → Entry → List OutputBlock
+entry_placed scale t e = placed scale (text_with t []).placing (entry_block e)
+
+-- what is lent of an entry with this text that was placed: one frame
+abbrev pub text_lent : List ℕ → Placed → Lent
+text_lent text p = record { head = p.head; prefix = []; body = text; sizes = p.one_size; references = p.references.items; kept = [] }
+
+-- where there is no block
+abbrev pub nothing_lent : Placed → Lent
+nothing_lent p = record { head = p.head; prefix = []; body = []; sizes = []; references = p.references.items; kept = [] }

@@ -1,0 +1,48 @@
+-- What is known of a file for those that are appended to it.
+use Rattle.std.specs.Prelude.{◌≡◌, ⊤, ℕ, Bool, false, ◌||◌, List, [], ◌∷◌, Option, Some, None}
+use Rattle.std.specs.List.{All}
+use Rattle.mkv_io.specs.LiveFiles.{LiveFiles}
+use Rattle.merge_model.specs.Links.{Given}
+use Rattle.merge_model.specs.Ends.{file_end}
+use Rattle.merge_model.specs.declared.link.Link.{Link}
+use Rattle.merge_model.specs.declared.link.Link.TheVariants.{Track, Entries}
+use Rattle.merge_model.specs.declared.link.TrackLink.{TrackLink}
+use Rattle.lanes.specs.declared.found.Survey.{Survey}
+
+-- the first link to a track of a file
+abbrev pub first_track : List Link → Option TrackLink
+first_track [] = None
+first_track (Track t ∷ links) = Some t
+first_track (Entries e ∷ links) = first_track links
+
+-- It is a track of the same file, as it was read.
+pub record IsSameFile (t other : TrackLink) : Type 0 where
+  pub file : other.file ≡ t.file
+  pub segment : other.outline.value.segment ≡ t.outline.value.segment
+  pub scale : other.scale ≡ t.scale
+
+abbrev pub IsOfFile : TrackLink → Link → Type 0
+IsOfFile t (Track other) = IsSameFile t other
+IsOfFile t (Entries e) = ⊤
+
+-- All tracks are of one file.
+abbrev pub AreOfOneFile : List Link → Type 0
+AreOfOneFile links = (t : TrackLink) → first_track links ≡ Some t → All (IsOfFile t) links
+
+-- whether one of these isn't read to its end
+abbrev pub stops_any : List Given → Bool
+stops_any [] = false
+stops_any (g ∷ gs) = g.stops || stops_any gs
+
+-- The end of the file, and whether a damage ends what is read of it.
+pub record IsSurvey (given : List Given) (s : Survey) : Type 0 where
+  pub end : s.end ≡ file_end given
+  pub stopped : s.stopped ≡ stops_any given
+
+-- the length of the file that is walked over
+abbrev pub length_of : LiveFiles → Option TrackLink → ℕ
+length_of f None = 0
+length_of f (Some t) = f.size t.file.n
+
+abbrev pub surveyed_length : LiveFiles → List Link → ℕ
+surveyed_length f links = length_of f (first_track links)

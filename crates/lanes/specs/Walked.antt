@@ -1,0 +1,11 @@
+-- What a walk over a file finds for the links that take blocks of it.
+use Rattle.std.specs.Prelude.{◌≡◌, List, is_some}
+use Rattle.block_format.specs.Events.{Event, last_of}
+use Rattle.merge_model.specs.declared.link.Link.{Link}
+use Rattle.lanes.specs.Ends.{end_of}
+use Rattle.lanes.specs.declared.found.Survey.{Survey}
+
+-- The greatest end of these blocks in the links, and whether a damage ends what is read.
+pub record IsWalked (events : List Event) (links : List Link) (s : Survey) : Type 0 where
+  pub end : s.end ≡ end_of events links
+  pub stopped : s.stopped ≡ is_some (last_of events)

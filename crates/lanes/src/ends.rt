@@ -1,0 +1,118 @@
+//! Where a block ends, and an entry of a text.
+
+ghost use Rattle.std.specs.Prelude.{◌≡◌, ◌<◌, ◌≤◌, ◌^◌, [], max, IfSome};
+ghost use Rattle.std.specs.List.{All};
+ghost use Rattle.block_format.specs.declared.limits.TheConstants.{TOO_LARGE_TIME};
+ghost use Rattle.block_records.specs.Buffered.{block_of};
+ghost use Rattle.merge_model.specs.Links.{entry_block};
+ghost use Rattle.merge_model.specs.Ends.{block_end};
+ghost use Rattle.merge_model.specs.FileLinks.{CanMove, IsSmallEntry, text_with};
+ghost use Rattle.lanes.specs.Ends.{IsTimed, IsTimedTrack, ends_of, lasting_for, link_end, text_end, texts_end, track_end};
+ghost use Rattle.lanes.specs.declared.found.TheConstants.{MOST_END};
+
+use crate::tick::delayed;
+use cluster_reader::Cursor;
+use merge_model::{Link, TextLink, TrackLink};
+use mkv_io::Entry;
+
+/// How many nanoseconds a block lasts: its duration, else that of its frames, else nothing.
+fn lasting(duration: Option<u64>, default_duration: Option<u64>, frames: usize) -> u64
+    requires duration { IfSome duration (λ d. d < TOO_LARGE_TIME) }
+    requires default { IfSome default_duration (λ d. d < 2 ^ 48) }
+    requires frames { frames ≤ 256 }
+    ensures exact { result ≡ lasting_for duration default_duration frames }
+    ensures small { result ≤ TOO_LARGE_TIME }
+{
+    if let Some(duration) = duration {
+        return duration;
+    }
+    match default_duration {
+        Some(each) => frames as u64 * each,
+        None => 0,
+    }
+}
+
+/// Where the block that a cursor gave ends in a track, before its shift; 0 where it isn't the track's or is dropped.
+fn track_end(track: &TrackLink, cursor: &Cursor) -> u64
+    requires { IsTimedTrack track.now }
+    ensures exact { result ≡ track_end track.now (block_of cursor.now.block) }
+    ensures small { result ≤ MOST_END }
+{
+    let block = cursor.head();
+    if block.track != track.number {
+        return 0;
+    }
+    let Some(t) = delayed(block.time, track.delay) else {
+        return 0;
+    };
+    t + lasting(block.duration, track.default_duration, cursor.sizes().len())
+}
+
+/// The same of a link; a text has no block of a file.
+fn link_end(link: &Link, cursor: &Cursor) -> u64
+    requires { IsTimed link.now }
+    ensures exact { result ≡ link_end (block_of cursor.now.block) link.now }
+    ensures small { result ≤ MOST_END }
+{
+    match link {
+        Link::Track(track) => track_end(track, cursor),
+        Link::Entries(_) => 0,
+    }
+}
+
+/// The greatest of `end` and the ends of the block that a cursor gave.
+pub fn greatest_end(links: &[Link], cursor: &Cursor, end: u64) -> u64
+    requires links { All IsTimed links.now }
+    requires end { end ≤ MOST_END }
+    ensures exact { result ≡ max end (ends_of (block_of cursor.now.block) links.now) }
+    ensures small { result ≤ MOST_END }
+{
+    let mut end = end;
+    for link in links {
+        end = end.max(link_end(link, cursor));
+    }
+    end
+}
+
+/// Where an entry of a text ends, before its shift; 0 where it is dropped.
+fn entry_end(text: &TextLink, entry: &Entry) -> u64
+    requires moves { CanMove text.now.delay text.now.shift }
+    requires small { IsSmallEntry entry.now }
+    ensures exact { result ≡ block_end (text_with text.now []).placing (entry_block entry.now) }
+    ensures small { result ≤ MOST_END }
+{
+    match delayed(entry.start as i64, text.delay) {
+        Some(t) => t + entry.duration,
+        None => 0,
+    }
+}
+
+/// The greatest of `end` and the ends of a text's entries.
+fn text_end(text: &TextLink, end: u64) -> u64
+    requires moves { CanMove text.now.delay text.now.shift }
+    requires small { All IsSmallEntry text.now.entries }
+    requires end { end ≤ MOST_END }
+    ensures exact { result ≡ max end (text_end text.now) }
+    ensures small { result ≤ MOST_END }
+{
+    let mut end = end;
+    for entry in text.entries.as_slice() {
+        end = end.max(entry_end(text, entry));
+    }
+    end
+}
+
+/// The greatest of 0 and the ends of all texts.
+pub fn texts_end(links: &[Link]) -> u64
+    requires { All IsTimed links.now }
+    ensures exact { result ≡ texts_end links.now }
+    ensures small { result ≤ MOST_END }
+{
+    let mut end = 0;
+    for link in links {
+        if let Link::Entries(text) = link {
+            end = text_end(text, end);
+        }
+    }
+    end
+}

@@ -1,0 +1,169 @@
+//! A block of an input, placed in the output.
+
+ghost use Rattle.std.specs.Prelude.{◌≡◌, ◌<◌, ◌≤◌, ℕ, List as AList, map, length, option_map, IfSome};
+ghost use Rattle.std.specs.Bool.{OnTrue};
+ghost use Rattle.std.specs.List.{All};
+ghost use Rattle.block_format.specs.Content.{frames_cut};
+ghost use Rattle.block_format.specs.declared.limits.TheConstants.{MOST_REFERENCES, TOO_LARGE_TIME};
+ghost use Rattle.block_records.specs.Buffered.{block_of};
+ghost use Rattle.block_records.specs.Lendable.{IsLendable};
+ghost use Rattle.block_records.specs.Time.{IsSmallTime};
+ghost use Rattle.output_model.specs.OutputBlock.{IsLent};
+ghost use Rattle.merge_model.specs.Ticks.{ticks_for, ticks_to};
+ghost use Rattle.merge_model.specs.Links.{lace_for};
+ghost use Rattle.lanes.specs.Lent.{Becomes, HasFewTicks};
+ghost use Rattle.merge_model.specs.FileLinks.{CanMove, IsSmallEntry, IsSmallTrack};
+ghost use Rattle.lanes.specs.Placed.{entry_placed, text_lent, track_lent, track_placed};
+ghost use Rattle.lanes.specs.Times.{most_time};
+
+use crate::tick::{output_time, tick_of, ticks_for, ticks_to};
+use arrayvec::ArrayVec;
+use cluster_reader::{Cursor, Lace};
+use merge_model::{TextLink, TrackLink};
+use mkv_io::Entry;
+use output_model::OutHead;
+
+/// What a lane keeps of the block that it gave last, besides the octets of its frames.
+#[derive(Drop)]
+pub struct Placed {
+    /// What the block says of itself.
+    pub head: OutHead,
+    /// The ticks from it to the blocks that it refers to.
+    pub references: ArrayVec<i64, 64>,
+    /// The octets of its one frame, where it is an entry of a text.
+    pub one_size: [u32; 1],
+}
+
+impl Placed {
+    /// No block yet.
+    pub fn nothing() -> Placed {
+        let head = OutHead {
+            tick: 0,
+            order: 0,
+            duration: None,
+            key: false,
+            invisible: false,
+            discardable: false,
+            group: false,
+            lace: Lace::None,
+        };
+        Placed {
+            head,
+            references: ArrayVec::new(),
+            one_size: [0],
+        }
+    }
+}
+
+// Writes references in ticks.
+fn put_references(scale: u64, t: u64, references: &[i64], into: &mut ArrayVec<i64, 64>)
+    requires scale { 1 ≤ scale }
+    requires early { t < most_time }
+    requires most { length references.now ≤ MOST_REFERENCES }
+    requires small { All IsSmallTime references.now }
+    ensures exact { into.new.items ≡ map (ticks_to scale t) references.now }
+    ensures small { All IsSmallTime into.new.items }
+{
+    into.clear();
+    for away in references {
+        into.push(ticks_to(scale, t, *away));
+    }
+}
+
+// A duration in ticks.
+fn duration_ticks(scale: u64, t: u64, duration: Option<u64>) -> Option<u64>
+    requires scale { 1 ≤ scale }
+    requires early { t < most_time }
+    requires small { IfSome duration (λ d. d < TOO_LARGE_TIME) }
+    ensures exact { result ≡ option_map (ticks_for scale t) duration }
+    ensures small { IfSome result (λ d. d < TOO_LARGE_TIME) }
+{
+    match duration {
+        Some(duration) => Some(ticks_for(scale, t, duration)),
+        None => None,
+    }
+}
+
+// One frame is written without lace.
+#[tactic(auto, using(crate::proofs::PlaceLemmas::laces))]
+fn lace_for(sizes: &[u32], lace: Lace) -> Lace
+    ensures { (body : AList ℕ) → result ≡ lace_for (frames_cut sizes.now body) lace }
+{
+    if sizes.len() == 1 { Lace::None } else { lace }
+}
+
+/// Places the block that a cursor has given, behind one of this greatest tick. Answers whether it is given: one
+/// of another track isn't, and one that stands before the start.
+#[tactic(auto, using(crate::proofs::TickLemmas::few))]
+pub fn place_block(
+    track: &TrackLink,
+    scale: u64,
+    cursor: &Cursor,
+    greatest: u64,
+    placed: &mut Placed,
+) -> bool
+    requires scale { 1 ≤ scale }
+    requires small { IsSmallTrack track.now }
+    ensures becomes { Becomes (track_placed scale track.now (block_of cursor.now.block)) greatest (track_lent track.now cursor.now.block placed.new) result }
+
+    // Where the cursor lends a block that can be written, this one can be.
+    ensures lent { IsLendable cursor.now.block → OnTrue result (IsLent (track_lent track.now cursor.now.block placed.new)) }
+    ensures ticks { OnTrue result (HasFewTicks scale placed.new) }
+{
+    let block = cursor.head();
+    if block.track != track.number {
+        return false;
+    }
+    let Some(t) = output_time(block.time, track.delay, track.shift) else {
+        return false;
+    };
+    put_references(scale, t, cursor.refs(), &mut placed.references);
+    let tick = tick_of(scale, t);
+    placed.head = OutHead {
+        tick,
+        order: tick.max(greatest),
+        duration: duration_ticks(scale, t, block.duration),
+        key: block.key,
+        invisible: block.invisible,
+        discardable: block.discardable,
+        group: block.group,
+        lace: lace_for(cursor.sizes(), block.lace),
+    };
+    true
+}
+
+/// Places an entry of a text, behind a block of this greatest tick. Answers whether it is given: one that stands
+/// before the start isn't.
+#[tactic(auto, using(crate::proofs::TickLemmas::few))]
+pub fn place_entry(
+    text: &TextLink,
+    scale: u64,
+    entry: &Entry,
+    greatest: u64,
+    placed: &mut Placed,
+) -> bool
+    requires scale { 1 ≤ scale }
+    requires moves { CanMove text.now.delay text.now.shift }
+    requires small { IsSmallEntry entry.now }
+    ensures becomes { Becomes (entry_placed scale text.now entry.now) greatest (text_lent entry.now.text placed.new) result }
+    ensures lent { OnTrue result (IsLent (text_lent entry.now.text placed.new)) }
+    ensures ticks { OnTrue result (HasFewTicks scale placed.new) }
+{
+    let Some(t) = output_time(entry.start as i64, text.delay, text.shift) else {
+        return false;
+    };
+    placed.references.clear();
+    placed.one_size = [entry.text.len() as u32];
+    let tick = tick_of(scale, t);
+    placed.head = OutHead {
+        tick,
+        order: tick.max(greatest),
+        duration: Some(ticks_for(scale, t, entry.duration)),
+        key: true,
+        invisible: false,
+        discardable: false,
+        group: true,
+        lace: Lace::None,
+    };
+    true
+}

@@ -1,0 +1,86 @@
+//! Times of blocks in an output, in nanoseconds and in ticks.
+
+ghost use Rattle.std.specs.Prelude.{◌≡◌, ◌+◌, ◌+ℤ◌, ◌*◌, ◌<◌, ◌≤◌, ◌^◌, nat_abs, IfSome};
+ghost use Rattle.block_records.specs.Time.{IsSmallTime};
+ghost use Rattle.merge_model.specs.Ticks.{since_start, tick_of, ticks_for, ticks_to};
+ghost use Rattle.merge_model.specs.declared.limits.TheConstants.{MOST_SHIFT, TOO_LARGE_DELAY};
+ghost use Rattle.lanes.specs.Times.{output_time, most_time, ticks_back};
+
+/// A time with a delay, nothing where that stands before the start.
+pub fn delayed(time: i64, delay: i64) -> Option<u64>
+    requires time { IsSmallTime time }
+    requires delay { nat_abs delay < TOO_LARGE_DELAY }
+    ensures exact { result ≡ since_start (time +ℤ delay) }
+    ensures small { IfSome result (λ t. t < 2 ^ 57) }
+{
+    let delayed = time + delay;
+    if delayed < 0 {
+        return None;
+    }
+    Some(delayed as u64)
+}
+
+/// The time of a block in the output, nothing where it stands before the start.
+pub fn output_time(time: i64, delay: i64, shift: u64) -> Option<u64>
+    requires time { IsSmallTime time }
+    requires delay { nat_abs delay < TOO_LARGE_DELAY }
+    requires shift { shift ≤ MOST_SHIFT }
+    ensures exact { result ≡ output_time delay shift time }
+    ensures small { IfSome result (λ t. t < most_time) }
+{
+    Some(delayed(time, delay)? + shift)
+}
+
+/// The tick nearest to a time.
+pub fn tick_of(scale: u64, t: u64) -> u64
+    requires { 1 ≤ scale }
+    ensures { result ≡ tick_of scale t }
+{
+    let from = u128::from(t) + u128::from(scale / 2);
+    (from / u128::from(scale)) as u64
+}
+
+/// So many nanoseconds from a time on, in ticks.
+#[tactic(auto, using(crate::proofs::TickLemmas::small))]
+pub fn ticks_for(scale: u64, t: u64, duration: u64) -> u64
+    requires scale { 1 ≤ scale }
+    requires fits { t + duration < 2 ^ 64 }
+    ensures exact { result ≡ ticks_for scale t duration }
+    ensures small { result ≤ duration }
+{
+    tick_of(scale, t + duration) - tick_of(scale, t)
+}
+
+// So many nanoseconds backwards from a time, in ticks.
+#[tactic(auto, using(crate::proofs::TickLemmas::small))]
+fn ticks_back(scale: u64, t: u64, size: u64) -> u64
+    requires { 1 ≤ scale }
+    ensures exact { result ≡ ticks_back scale t size }
+    ensures small { result ≤ size }
+{
+    let scale = u128::from(scale);
+    let from = u128::from(t) + scale / 2;
+    let size = u128::from(size);
+    let back = if size <= from {
+        from / scale - (from - size) / scale
+    } else {
+        from / scale + (size - from - 1) / scale + 1
+    };
+    back as u64
+}
+
+/// So many nanoseconds from a time, forwards or backwards, in ticks.
+pub fn ticks_to(scale: u64, t: u64, away: i64) -> i64
+    requires scale { 1 ≤ scale }
+    requires early { t < most_time }
+    requires small { IsSmallTime away }
+    ensures exact { result ≡ ticks_to scale t away }
+    ensures small { IsSmallTime result }
+{
+    let size = away.unsigned_abs();
+    if away >= 0 {
+        ticks_for(scale, t, size) as i64
+    } else {
+        -(ticks_back(scale, t, size) as i64)
+    }
+}

@@ -1,0 +1,80 @@
+//! A walk over a file.
+
+ghost use Rattle.std.specs.Prelude.{◌≡◌, ◌+◌, ◌*◌, ◌≤◌, IfOk, map};
+ghost use Rattle.std.specs.List.{All};
+ghost use Rattle.std.specs.Option.{option_copied};
+ghost use Rattle.mkv_io.specs.Faults.{HasCause, is_read_fault};
+ghost use Rattle.mkv_io.specs.Sources.{IfTold, file_size, live_files};
+ghost use Rattle.cluster_reader.specs.Reading.{CanRead, left_of};
+ghost use Rattle.merge_model.specs.FileLinks.{IsOpenLink, IsToldLink, given_in};
+ghost use Rattle.lanes.specs.Ends.{IsTimed};
+ghost use Rattle.lanes.specs.Survey.{AreOfOneFile, IsSurvey, first_track, surveyed_length};
+ghost use Rattle.lanes.specs.Walked.{IsWalked};
+ghost use Rattle.lanes.specs.declared.found.TheConstants.{MOST_END};
+
+use crate::ends::{greatest_end, texts_end};
+use crate::found::Survey;
+use cluster_reader::{Cursor, Step};
+use merge_model::{Link, TrackLink};
+use mkv_io::{List, ReadEnd, Reads};
+use std::alloc::Global;
+
+/// Goes over all that a cursor has left, from what is known already.
+fn walk<R: Reads>(cursor: &mut Cursor, links: &[Link], src: &mut R) -> Result<Survey, ReadEnd>
+    requires ready { CanRead (live_files R.Reads src.old) cursor.old }
+    requires timed { All IsTimed links.now }
+    ensures value { IfTold R.Reads src.old cursor.old.file (λ bytes. IfOk result (IsWalked (left_of bytes cursor.old) links.now)) }
+    ensures small { IfOk result (λ survey. survey.end ≤ MOST_END) }
+    ensures standing { R.standing src.new ≡ R.standing src.old }
+    ensures cause { HasCause is_read_fault (R.reading_faults src.old) (R.reading_faults src.new) result }
+    ensures octets { R.octets_read src.new ≤ R.octets_read src.old + 6 * file_size R.Reads src.old cursor.old.file }
+{
+    let mut survey = Survey {
+        end: texts_end(links),
+        stopped: false,
+    };
+    'steps: loop {
+        match cursor.advance(src)? {
+            Step::Block => survey.end = greatest_end(links, cursor, survey.end),
+            Step::Damaged(_) => survey.stopped = cursor.stopped() || survey.stopped,
+            Step::End => return Ok(survey),
+        }
+    }
+}
+
+/// The first link to a track of a file.
+fn first_track(links: &[Link]) -> Option<&TrackLink>
+    ensures { option_copied result ≡ first_track links.now }
+{
+    for link in links {
+        if let Link::Track(track) = link {
+            return Some(track);
+        }
+    }
+    None
+}
+
+/// The end of a file over all links that take blocks of it, and whether it can be read to its end. A walk over the
+/// file reads its blocks.
+pub fn survey<R: Reads>(alloc: Global, src: &mut R, links: &List<Link>) -> Result<Survey, ReadEnd>
+    requires open { All (IsOpenLink (live_files R.Reads src.old)) links.now }
+    requires timed { All IsTimed links.now }
+    requires one { AreOfOneFile links.now }
+    ensures value { All (IsToldLink (live_files R.Reads src.old)) links.now → IfOk result (IsSurvey (map (given_in (live_files R.Reads src.old)) links.now)) }
+    ensures small { IfOk result (λ survey. survey.end ≤ MOST_END) }
+    ensures standing { R.standing src.new ≡ R.standing src.old }
+    ensures cause { HasCause is_read_fault (R.reading_faults src.old) (R.reading_faults src.new) result }
+
+    // Four octets for each of the file, and two more where a read fails.
+    ensures octets { R.octets_read src.new ≤ R.octets_read src.old + 6 * surveyed_length (live_files R.Reads src.old) links.now }
+{
+    let links = links.as_slice();
+    let Some(track) = first_track(links) else {
+        return Ok(Survey {
+            end: texts_end(links),
+            stopped: false,
+        });
+    };
+    let mut cursor = Cursor::start(alloc, &*track.outline, track.file, track.scale)?;
+    walk(&mut cursor, links, src)
+}

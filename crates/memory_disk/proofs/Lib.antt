@@ -1,3 +1,0 @@
-pub mod DiskLemmas
-pub mod LogLemmas
-pub mod SoundLemmas

@@ -1,8 +1,0 @@
--- What can be seen of a value that says which calls fail.
-use Rattle.std.specs.BTreeSet.{contains}
-use Rattle.std.specs.Ordering.{nat_cmp}
-use Rattle.memory_disk.specs.Failing.{Failures, failures}
-use Rattle.memory_disk.specs.declared.failing.Failing.{Failing}
-
-abbrev pub failures_in : Failing → Failures
-failures_in f = failures (contains nat_cmp f.single) f.stop f.made

@@ -1,5 +1,0 @@
-use Rattle.merge_laws.proofs.KindLemmas.{found-kind}
-use Rattle.merge_laws.proofs.found_blocks_are_of_their_kind.Goals as goal
-
-pub returns : goal.returns
-returns c = found-kind

@@ -1,0 +1,50 @@
+-- What the last of some inputs says of one that is appended to it.
+use Rattle.std.specs.Prelude.{◌≡◌, ℕ, ◌+◌, ◌-◌, List, length, Option, None, Some, slice_get}
+use Rattle.std.specs.List.{All}
+use Rattle.std.specs.Option.{option_map, option_map_or}
+use Rattle.mkv_io.specs.LiveFiles.{LiveFiles}
+use Rattle.lanes.specs.declared.found.TheConstants.{MOST_END}
+use Rattle.merge_inputs.specs.Input.{read_in}
+use Rattle.merge_inputs.specs.declared.input.Blocks.{Blocks}
+use Rattle.merge_inputs.specs.declared.input.Blocks.TheVariants.{Clusters, Entries}
+use Rattle.merge_inputs.specs.declared.input.Input.{Input}
+use Rattle.merge_plan.specs.Places.{end_of}
+use Rattle.merge_plan.specs.Plan.{later_by}
+use Rattle.merge_plan.specs.Planned.{IsToldInput, source_in}
+
+-- An input ends at this time, where its file tells its content.
+abbrev pub EndsAt : LiveFiles → Input → ℕ → Type 0
+EndsAt f i time = IsToldInput f i → time ≡ end_of (source_in f i)
+
+-- the last of these
+abbrev pub last_in : List Input → Option Input
+last_in inputs = slice_get inputs (length inputs - 1)
+
+-- where the last of these ends; 0 where there is none
+abbrev pub end_behind : LiveFiles → List Input → ℕ
+end_behind f inputs = option_map_or (λ (i : Input). end_of (source_in f i)) (last_in inputs) 0
+
+-- the most nanoseconds at which it ends
+abbrev pub most_behind : List Input → ℕ
+most_behind inputs = option_map_or (λ (i : Input). later_by (read_in i) + MOST_END) (last_in inputs) 0
+
+-- how much of a file of this length is walked over to find where it ends: of a text nothing, since its entries tell that
+abbrev pub walked_in : Blocks → ℕ → ℕ
+walked_in (Clusters outline scale) size = size
+walked_in (Entries entries) size = 0
+
+abbrev pub walked_of : LiveFiles → Input → ℕ
+walked_of f i = walked_in i.blocks (f.size i.file.n)
+
+-- how much of the file of the last of these is
+abbrev pub size_behind : LiveFiles → List Input → ℕ
+size_behind f inputs = option_map_or (walked_of f) (last_in inputs) 0
+
+-- how much is walked over for an input with this shift: so much of the file before it, where it is appended
+abbrev pub walked_for : Option ℕ → ℕ → ℕ
+walked_for None before = 0
+walked_for (Some time) before = before
+
+-- An input with this shift is later by so much, behind these, where their files tell their contents.
+abbrev pub IsBehind : LiveFiles → List Input → Option ℕ → Option ℕ → Type 0
+IsBehind f before shift later = All (IsToldInput f) before → later ≡ option_map (λ _. end_behind f before) shift

@@ -1,0 +1,82 @@
+//! Inputs are set to where they begin.
+
+ghost use Rattle.std.specs.Prelude.{◌≡◌, ◌+◌, ◌*◌, ◌≤◌, length, IfOk};
+ghost use Rattle.std.specs.List.{All};
+ghost use Rattle.std.specs.Option.{unwrap_or};
+ghost use Rattle.mkv_io.specs.Faults.{HasCause, is_read_fault};
+ghost use Rattle.mkv_io.specs.Sources.{live_files};
+ghost use Rattle.merge_model.specs.declared.limits.TheConstants.{MOST_LINKS};
+ghost use Rattle.lanes.specs.declared.found.TheConstants.{MOST_END};
+ghost use Rattle.merge_inputs.specs.Input.{IsInput, read_in};
+ghost use Rattle.merge_plan.specs.Plan.{later_by};
+ghost use Rattle.merge_plan.specs.Spots.{HasPlace};
+ghost use Rattle.merge_plan.specs.Behind.{EndsAt, IsBehind, most_behind, size_behind, walked_for, walked_of};
+ghost use Rattle.merge_plan.specs.Placed.{ArePlaced, StandInPlace, walked_length};
+
+use crate::planned_lanes::links_of;
+use lanes::survey;
+use merge_inputs::Input;
+use mkv_io::{List, ReadEnd, Reads};
+use std::alloc::Global;
+
+/// Where an input ends, in nanoseconds: so much later as it is itself. Its file is walked over, unless it is a text.
+fn end_of<R: Reads>(alloc: Global, input: &Input, src: &mut R) -> Result<u64, ReadEnd>
+    requires input { IsInput (live_files R.Reads src.old) input.now }
+    requires place { HasPlace input.now }
+    ensures exact { IfOk result (EndsAt (live_files R.Reads src.old) input.now) }
+    ensures near { IfOk result (λ end. end ≤ later_by (read_in input.now) + MOST_END) }
+    ensures standing { R.standing src.new ≡ R.standing src.old }
+    ensures cause { HasCause is_read_fault (R.reading_faults src.old) (R.reading_faults src.new) result }
+    ensures octets { R.octets_read src.new ≤ R.octets_read src.old + 6 * walked_of (live_files R.Reads src.old) input.now }
+{
+    let links = links_of(alloc, input)?;
+    let found = survey(alloc, src, &links)?;
+    Ok(input.shift.unwrap_or(0) + found.end)
+}
+
+/// By how much an input with this shift is later, behind these: by the end of the last of them.
+fn shift_behind<R: Reads>(
+    alloc: Global,
+    before: &[Input],
+    shift: Option<u64>,
+    src: &mut R,
+) -> Result<Option<u64>, ReadEnd>
+    requires inputs { All (IsInput (live_files R.Reads src.old)) before.now }
+    requires places { All HasPlace before.now }
+    ensures exact { IfOk result (IsBehind (live_files R.Reads src.old) before.now shift) }
+    ensures near { IfOk result (λ later. unwrap_or later 0 ≤ most_behind before.now) }
+    ensures standing { R.standing src.new ≡ R.standing src.old }
+    ensures cause { HasCause is_read_fault (R.reading_faults src.old) (R.reading_faults src.new) result }
+    ensures octets { R.octets_read src.new ≤ R.octets_read src.old + 6 * walked_for shift (size_behind (live_files R.Reads src.old) before.now) }
+{
+    if shift.is_none() {
+        return Ok(None);
+    }
+    match before.last() {
+        Some(last) => Ok(Some(end_of(alloc, last, src)?)),
+        None => Ok(Some(0)),
+    }
+}
+
+/// Sets each input that is appended to where the one before it ends. The file of that one is walked over, unless it is a text,
+/// and no other.
+pub fn set_in_place<R: Reads>(
+    alloc: Global,
+    inputs: List<Input>,
+    src: &mut R,
+) -> Result<List<Input>, ReadEnd>
+    requires inputs { All (IsInput (live_files R.Reads src.old)) inputs }
+    requires few { length inputs ≤ MOST_LINKS }
+    ensures exact { IfOk result (StandInPlace (live_files R.Reads src.old) inputs) }
+    ensures placed { IfOk result (ArePlaced (live_files R.Reads src.new) inputs) }
+    ensures standing { R.standing src.new ≡ R.standing src.old }
+    ensures cause { HasCause is_read_fault (R.reading_faults src.old) (R.reading_faults src.new) result }
+    ensures octets { R.octets_read src.new ≤ R.octets_read src.old + 6 * walked_length (live_files R.Reads src.old) inputs }
+{
+    let mut placed = List::new(alloc);
+    for input in inputs.into_vec() {
+        let shift = shift_behind(alloc, placed.as_slice(), input.shift, src)?;
+        placed.push(Input { shift, ..input })?;
+    }
+    Ok(placed)
+}

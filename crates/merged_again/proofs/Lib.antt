@@ -1,7 +1,0 @@
-mod AtomLemmas
-mod NumberLemmas
-mod StayLemmas
-mod EditionLemmas
-mod SettledLemmas
-mod FileLemmas
-mod TagLemmas

@@ -1,3 +1,0 @@
-pub mod Chapters
-pub mod Files
-pub mod Tags

@@ -1,2 +1,0 @@
-pub mod InfoLemmas
-pub mod StandardFacts

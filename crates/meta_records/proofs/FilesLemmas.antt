@@ -1,0 +1,182 @@
+-- The attached files, one at a time.
+use Rattle.std.proofs.Common.{◌≡◌, ◌<◌, ◌≤◌, ℕ, Bool, true, false, if◌then◌else◌, List, [], ◌∷◌, ◌++◌, map, filter, Option, Some, None, Ok, Err, refl, sym, ◌∙◌, ap, append-nil, append_assoc}
+use Rattle.std.specs.Prelude.{slice_get}
+use Rattle.std.specs.Option.{option_map, option_or}
+use Rattle.std.proofs.lemmas.List.{map-append}
+use Rattle.std.proofs.lemmas.Option.{slice_get-map}
+use Rattle.mkv_schema.specs.declared.ids.TheConstants.{ATTACHED_FILE}
+use Rattle.mkv_io.specs.declared.damage.Damage.{Damage}
+use Rattle.mkv_io.specs.declared.damage.Kind.TheVariants.{TooMany}
+use Rattle.mkv_io.specs.declared.outside.FileId.{FileId}
+use Rattle.mkv_schema.specs.declared.element.Header.{Header}
+use Rattle.mkv_schema.specs.Element.{in_master, damage, end_in, stated_end}
+use Rattle.mkv_schema.specs.Elements.{Run, never}
+use Rattle.mkv_schema.specs.Outline.{first_damage, first_refusal, unless}
+use Rattle.mkv_schema.proofs.ElementsLemmas.{elements-end}
+use Rattle.tree_format.specs.Node.{offset_of}
+use Rattle.output_model.specs.declared.attachment.Attachment.{Attachment}
+use Rattle.meta_records.specs.Attachments.{at_child, attached_in, attachment_of, attachments_in, children_of, is_attached, met_in, missing_data, refused_from, refused_in, too_many_files}
+use Rattle.meta_records.specs.Walk.{Adds, HasAll, Meets, ReadsAs, ReadsChild, WalksAll, good_files, one_over}
+use Rattle.meta_records.specs.declared.attachments.Found.{Found}
+use Rattle.meta_records.specs.declared.counts.Counts.{Counts}
+use Rattle.meta_records.specs.declared.end.AttachmentsEnd.{AttachmentsEnd}
+use Rattle.meta_records.specs.declared.end.AttachmentsEnd.TheVariants.{Refused, ReadFault, Memory}
+use Rattle.meta_records.specs.declared.limits.TheConstants.{MOST_ATTACHED}
+use Rattle.meta_records.proofs.MetLemmas.{run_at, run_at-step}
+
+-- ---- one child
+
+-- another child adds nothing
+pub Adds-none : (bytes : List ℕ) (file : FileId) (h : Header) (found : Found) → is_attached h ≡ false → Adds bytes file (h ∷ []) found found
+Adds-none bytes file h found other = record {
+  attachments = sym (ap (λ (l : List Header). found.attachments ++ map (attachment_of bytes file) l) (none other) ∙ append-nil found.attachments);
+  missing = sym (ap (λ (l : List Header). option_or found.missing (first_damage (map (missing_data bytes) l))) (none other) ∙ same found.missing);
+}
+  where
+    none : is_attached h ≡ false → filter is_attached (h ∷ []) ≡ []
+    none is = ap (λ (b : Bool). if b then h ∷ [] else []) is
+
+    same : (d : Option Damage) → option_or d None ≡ d
+    same (Some e) = refl
+    same None = refl
+
+-- an AttachedFile adds one
+pub Adds-one : (bytes : List ℕ) (file : FileId) (h : Header) (a : Attachment) (m : Option Damage) (old new : Found) → is_attached h ≡ true → a ≡ attachment_of bytes file h → m ≡ missing_data bytes h → new.attachments ≡ old.attachments ++ a ∷ [] → new.missing ≡ option_or old.missing m
+    → Adds bytes file (h ∷ []) old new
+Adds-one bytes file h a m old new is attachment missing grown told = record {
+  attachments = grown ∙ ap (λ (b : Attachment). old.attachments ++ b ∷ []) attachment ∙ ap (λ (l : List Header). old.attachments ++ map (attachment_of bytes file) l) (sym one);
+  missing = told ∙ ap (option_or old.missing) (missing ∙ sym (single (missing_data bytes h)) ∙ ap (λ (l : List Header). first_damage (map (missing_data bytes) l)) (sym one));
+}
+  where
+    one : filter is_attached (h ∷ []) ≡ h ∷ []
+    one = ap (λ (b : Bool). if b then h ∷ [] else []) is
+
+    single : (d : Option Damage) → first_damage (d ∷ []) ≡ d
+    single (Some e) = refl
+    single None = refl
+
+-- ---- on the way
+
+-- Of the Elements from a place on those up to another gave what was found.
+pub record AreFound (bytes : List ℕ) (file : FileId) (from p e : ℕ) (found : Found) : Type 0 where
+  pub attachments : map (attachment_of bytes file) (filter is_attached (run_at bytes from e).list) ≡ found.attachments ++ map (attachment_of bytes file) (filter is_attached (run_at bytes p e).list)
+  pub missing : first_damage (map (missing_data bytes) (filter is_attached (run_at bytes from e).list)) ≡ option_or found.missing (first_damage (map (missing_data bytes) (filter is_attached (run_at bytes p e).list)))
+
+pub AreFound-none : (bytes : List ℕ) (file : FileId) (p e : ℕ) (found : Found) → found.attachments ≡ [] → found.missing ≡ None → AreFound bytes file p p e found
+AreFound-none bytes file p e found none good =
+    let list = filter is_attached (run_at bytes p e).list in
+    record {
+      attachments = ap (λ (l : List Attachment). l ++ map (attachment_of bytes file) list) (sym none);
+      missing = ap (λ (d : Option Damage). option_or d (first_damage (map (missing_data bytes) list))) (sym good);
+    }
+
+filter-front : (h : Header) (hs : List Header) → filter is_attached (h ∷ hs) ≡ filter is_attached (h ∷ []) ++ filter is_attached hs
+filter-front h hs = split (is_attached h)
+  where
+    split : (b : Bool) → (if b then h ∷ filter is_attached hs else filter is_attached hs) ≡ (if b then h ∷ [] else []) ++ filter is_attached hs
+    split true = refl
+    split false = refl
+
+first_damage-append : (xs ys : List (Option Damage)) → first_damage (xs ++ ys) ≡ option_or (first_damage xs) (first_damage ys)
+first_damage-append [] ys = refl
+first_damage-append (None ∷ xs) ys = first_damage-append xs ys
+first_damage-append (Some d ∷ xs) ys = refl
+
+option_or-assoc : (a b c : Option Damage) → option_or a (option_or b c) ≡ option_or (option_or a b) c
+option_or-assoc (Some d) b c = refl
+option_or-assoc None b c = refl
+
+pub AreFound-more : (bytes : List ℕ) (file : FileId) (from p e next : ℕ) (old new : Found) → AreFound bytes file from p e old → p < e → ReadsChild bytes file p e next old new → AreFound bytes file from next e new
+AreFound-more bytes file from p e next old new are inside reads =
+    let h = reads.child in
+    let rest = (run_at bytes next e).list in
+    let step = run_at-step bytes p e (Ok h) inside reads.found in
+    let list : filter is_attached (run_at bytes p e).list ≡ filter is_attached (h ∷ []) ++ filter is_attached rest =
+    ap (λ (r : Run). filter is_attached r.list) step ∙ filter-front h (run_at bytes (stated_end h) e).list
+    ∙ ap (λ (q : ℕ). filter is_attached (h ∷ []) ++ filter is_attached (run_at bytes q e).list) (sym reads.behind) in
+    let front = filter is_attached (h ∷ []) in
+    let back = filter is_attached rest in
+    let A = map (attachment_of bytes file) in
+    let M = map (missing_data bytes) in
+    record {
+      attachments =
+          are.attachments ∙ ap (λ (l : List Header). old.attachments ++ A l) list
+          ∙ ap (λ (l : List Attachment). old.attachments ++ l) (map-append (attachment_of bytes file) front back)
+          ∙ sym (append_assoc old.attachments (A front) (A back))
+          ∙ ap (λ (l : List Attachment). l ++ A back) (sym reads.adds.attachments);
+      missing =
+          are.missing ∙ ap (λ (l : List Header). option_or old.missing (first_damage (M l))) list
+          ∙ ap (λ (l : List (Option Damage)). option_or old.missing (first_damage l)) (map-append (missing_data bytes) front back)
+          ∙ ap (option_or old.missing) (first_damage-append (M front) (M back))
+          ∙ option_or-assoc old.missing (first_damage (M front)) (first_damage (M back))
+          ∙ ap (λ (d : Option Damage). option_or d (first_damage (M back))) (sym reads.adds.missing);
+    }
+
+-- all were found
+pub AreFound-all : (bytes : List ℕ) (file : FileId) (h : Header) (p : ℕ) (found : Found) → AreFound bytes file h.body p (stated_end h) found → stated_end h ≤ p → refused_in bytes h ≡ None → HasAll bytes file h found
+AreFound-all bytes file h p found are past good =
+    let none : filter is_attached (run_at bytes p (stated_end h)).list ≡ [] =
+    ap (λ (r : Run). filter is_attached r.list) (elements-end in_master never (λ k. Ok (end_in (stated_end h) k)) bytes p (stated_end h) past) in
+    record {
+      good = good;
+      attachments = sym (are.attachments ∙ ap (λ (l : List Header). found.attachments ++ map (attachment_of bytes file) l) none ∙ append-nil found.attachments);
+      missing = sym (are.missing ∙ ap (λ (l : List Header). option_or found.missing (first_damage (map (missing_data bytes) l))) none ∙ same found.missing);
+    }
+  where
+    same : (d : Option Damage) → option_or d None ≡ d
+    same (Some e) = refl
+    same None = refl
+
+-- ---- from the start on
+
+module _ (bytes : List ℕ) (h : Header) (old : Counts) (none : old.octets ≡ 0) (one : old.nodes ≡ 1) where
+  -- what is met from there on
+  from-start : refused_from old.octets old.nodes (met_in (at_child bytes) (children_of bytes h) ++ []) ≡ refused_in bytes h
+  from-start =
+      ap (refused_from old.octets old.nodes) (append-nil (met_in (at_child bytes) (children_of bytes h)))
+      ∙ ap (λ (o : ℕ). refused_from o old.nodes (met_in (at_child bytes) (children_of bytes h))) none
+      ∙ ap (λ (n : ℕ). refused_from 0 n (met_in (at_child bytes) (children_of bytes h))) one
+
+  pub walk-good : {T : Type 0} (new : Counts) (x : T) → Meets (met_in (at_child bytes) (children_of bytes h)) old new (Ok x) → refused_in bytes h ≡ None
+  walk-good new x meets = sym from-start ∙ meets []
+
+  pub walk-refused : (T : Type 0) (file : FileId) (new : Counts) (end : AttachmentsEnd) → Meets {T = T} (met_in (at_child bytes) (children_of bytes h)) old new (Err end) → WalksAll bytes file h (Err end)
+  walk-refused T file new (Refused d) meets = sym from-start ∙ meets []
+  walk-refused T file new ReadFault meets = tt
+  walk-refused T file new Memory meets = tt
+
+-- ---- the answer
+
+first-of_rest : (a b : Option Damage) → first_damage (None ∷ a ∷ b ∷ []) ≡ first_refusal a b
+first-of_rest (Some d) b = refl
+first-of_rest None (Some d) = refl
+first-of_rest None None = refl
+
+one_over-is : (bytes : List ℕ) (file : FileId) (files : List Header) → one_over (map (attachment_of bytes file) files) ≡ too_many_files files
+one_over-is bytes file files =
+    ap (option_map (λ (a : Attachment). damage TooMany ATTACHED_FILE (offset_of a.entry))) (slice_get-map (attachment_of bytes file) files MOST_ATTACHED)
+    ∙ twice (slice_get files MOST_ATTACHED)
+  where
+    twice : (o : Option Header) → option_map (λ (a : Attachment). damage TooMany ATTACHED_FILE (offset_of a.entry)) (option_map (attachment_of bytes file) o) ≡ option_map (λ (h : Header). damage TooMany ATTACHED_FILE h.offset) o
+    twice None = refl
+    twice (Some h) = refl
+
+-- what was found, unless something refuses it, is the definition's
+pub good_files-is : (bytes : List ℕ) (file : FileId) (h : Header) (found : Found) → HasAll bytes file h found → attachments_in bytes file h ≡ good_files found
+good_files-is bytes file h found has =
+    let files = attached_in bytes h in
+    let A = map (attachment_of bytes file) files in
+    let missing = first_damage (map (missing_data bytes) files) in
+    ap (λ (r : Option Damage). unless (first_damage (r ∷ missing ∷ too_many_files files ∷ [])) A) has.good
+    ∙ ap (λ (r : Option Damage). unless r A) (first-of_rest missing (too_many_files files))
+    ∙ ap (λ (m : Option Damage). unless (first_refusal m (too_many_files files)) A) (sym has.missing)
+    ∙ ap (λ (r : Option Damage). unless (first_refusal found.missing r) A) (sym (one_over-is bytes file files))
+    ∙ ap (λ (l : List Attachment). unless (first_refusal found.missing (one_over l)) l) (sym has.attachments)
+
+-- something among the Elements refuses it
+pub refused-is : (bytes : List ℕ) (file : FileId) (h : Header) (end : AttachmentsEnd) → WalksAll bytes file h (Err end) → ReadsAs (attachments_in bytes file h) (Err end)
+refused-is bytes file h (Refused d) is =
+    let files = attached_in bytes h in
+    ap (λ (r : Option Damage). unless (first_damage (r ∷ first_damage (map (missing_data bytes) files) ∷ too_many_files files ∷ [])) (map (attachment_of bytes file) files)) is
+refused-is bytes file h ReadFault is = tt
+refused-is bytes file h Memory is = tt

@@ -1,0 +1,126 @@
+-- The records of a file: RFC 9559, sections 5.1.2 (Info Element), 5.1.4 (Tracks Element), 5.1.6 (Attachments Element), 5.1.7 (Chapters Element) and 5.1.8 (Tags Element). What refuses a file, and the order, are this project's.
+use Rattle.std.specs.Prelude.{◌≡◌, ⊤, ℕ, ◌==◌, true, false, List, map, Option, Some, None, IfSome, Result, Ok, Err}
+use Rattle.std.specs.List.{All}
+use Rattle.mkv_schema.specs.declared.ids.TheConstants.{CHAPTERS, CLUSTER, INFO, TAGS, TRACKS}
+use Rattle.mkv_io.specs.declared.damage.Damage.{Damage}
+use Rattle.mkv_io.specs.declared.damage.Kind.TheVariants.{NoTracks}
+use Rattle.mkv_io.specs.declared.outside.FileId.{FileId}
+use Rattle.mkv_schema.specs.declared.element.Header.{Header}
+use Rattle.mkv_schema.specs.Element.{damage}
+use Rattle.mkv_schema.specs.Schema.{is_master}
+use Rattle.mkv_schema.specs.declared.limits.TheConstants.{MOST_OF_ONE}
+use Rattle.mkv_schema.specs.Outline.{and_then, is_described, segment_run, unless}
+use Rattle.mkv_schema.specs.Value.{body_of, first_of}
+use Rattle.element_reader.specs.Load.{limit_of}
+use Rattle.element_reader.specs.declared.outline_end.OutlineEnd.{OutlineEnd}
+use Rattle.element_reader.specs.declared.outline_end.OutlineEnd.TheVariants as outline_end
+use Rattle.tree_format.specs.declared.limits.TheConstants.{MOST_NODES}
+use Rattle.tree_format.specs.Node.{HasRoom, Node}
+use Rattle.tree_format.specs.Reading.{tree_of}
+use Rattle.tree_format.specs.Standing.{IsSoundOf}
+use Rattle.ebml_tree.specs.Building.{IsRead}
+use Rattle.file_format.specs.Tracks.{IsTrack}
+use Rattle.track_records.specs.Sound.{IsEntry}
+use Rattle.track_records.specs.Track.{track_of, tracks_of}
+use Rattle.track_records.specs.declared.track.Track.{Track}
+use Rattle.file_format.specs.Info.{info_refusal, scale_of}
+use Rattle.file_format.specs.declared.scale.TheConstants.{DEFAULT_SCALE}
+use Rattle.meta_records.specs.Walk.{IsAttachedIn}
+use Rattle.meta_records.specs.Attached.{AttachedFile, first_attached, in_file}
+use Rattle.meta_records.specs.declared.records.Records.{Records}
+
+-- An Element of this ID is a master of level 1, other than a Cluster, of which at most 16 MiB are read.
+pub record IsHeld (id : ℕ) : Type 0 where
+  pub master : is_master id ≡ true
+  pub described : is_described id ≡ true
+  pub limit : limit_of id ≡ Some MOST_OF_ONE
+  pub other : (id == CLUSTER) ≡ false
+
+-- an Element as a tree, if there is one, or what is wrong inside
+abbrev pub tree_at : List ℕ → Option Header → Result (Option Node) Damage
+tree_at bytes None = Ok None
+tree_at bytes (Some h) = and_then (tree_of h.id h.offset (body_of bytes h) h.body MOST_NODES) (λ tree. Ok (Some tree))
+
+-- the first Element of level 1 of an ID
+abbrev pub first_tree : ℕ → List ℕ → Header → Result (Option Node) Damage
+first_tree id bytes segment = tree_at bytes (first_of id (segment_run bytes segment).list)
+
+-- an Info, unless something refuses it
+abbrev pub good_info : Option Node → Result (Option Node) Damage
+good_info None = Ok None
+good_info (Some info) = unless (info_refusal info) (Some info)
+
+-- the tracks of a Tracks, unless something refuses them; without a Tracks the file is refused
+abbrev pub good_tracks : Header → Option Node → Result (List Track) Damage
+good_tracks segment None = Err (damage NoTracks 0 segment.offset)
+good_tracks segment (Some tracks) = tracks_of tracks
+
+-- What describes a file: its first Info, the tracks of its first Tracks, the attached files of its first Attachments, its
+-- first Chapters and its first Tags.
+pub record FileRecords : Type 0 where
+  pub info : Option Node
+  pub tracks : List Track
+  pub attachments : List AttachedFile
+  pub chapters : Option Node
+  pub tags : Option Node
+
+-- the records of a content with this Segment, or what refuses it: Info, Tracks, Attachments, Chapters, and then Tags
+abbrev pub file_records : List ℕ → Header → Result FileRecords Damage
+file_records bytes segment =
+    and_then (and_then (first_tree INFO bytes segment) good_info) (λ info.
+    and_then (and_then (first_tree TRACKS bytes segment) (good_tracks segment)) (λ tracks.
+    and_then (first_attached bytes segment) (λ attachments.
+    and_then (first_tree CHAPTERS bytes segment) (λ chapters.
+    and_then (first_tree TAGS bytes segment) (λ tags.
+    Ok (record { info = info; tracks = tracks; attachments = attachments; chapters = chapters; tags = tags }))))))
+
+-- nanoseconds a tick of a file whose first Info this is
+abbrev pub scale_of_info : Option Node → ℕ
+scale_of_info None = DEFAULT_SCALE
+scale_of_info (Some info) = scale_of info
+
+-- What is read is this, or what refuses it; a read may fail, and there may be no memory.
+abbrev pub ReadsAs : {A : Type 0} → Result A Damage → Result A OutlineEnd → Type 0
+ReadsAs found (Ok x) = found ≡ Ok x
+ReadsAs found (Err (outline_end.Refused d)) = found ≡ Err d
+ReadsAs found (Err outline_end.ReadFault) = ⊤
+ReadsAs found (Err outline_end.Memory) = ⊤
+
+-- what was read of a file
+abbrev pub described_by : Records → FileRecords
+described_by r = record {
+  info = r.info;
+  tracks = r.tracks;
+  attachments = map in_file r.attachments;
+  chapters = r.chapters;
+  tags = r.tags;
+}
+
+-- Records were read so, or this refuses the file; a read may fail, and there may be no memory.
+abbrev pub ReadsRecords : Result FileRecords Damage → Result Records OutlineEnd → Type 0
+ReadsRecords found (Ok r) = found ≡ Ok (described_by r)
+ReadsRecords found (Err (outline_end.Refused d)) = found ≡ Err d
+ReadsRecords found (Err outline_end.ReadFault) = ⊤
+ReadsRecords found (Err outline_end.Memory) = ⊤
+
+-- ---- what was read
+
+-- An Info that nothing refuses.
+pub record IsGoodInfo (info : Node) : Type 0 where
+  pub sound : IsSoundOf INFO info
+  pub good : info_refusal info ≡ None
+
+-- The tracks are what their entries say, which nothing refuses, and which fit into a Tracks Element.
+pub record AreRead (tracks : List Track) : Type 0 where
+  pub said : All (λ (t : Track). t ≡ track_of t.entry) tracks
+  pub sound : All (λ (t : Track). IsEntry t.entry) tracks
+  pub each : All (λ (t : Track). IsTrack t.entry) tracks
+  pub room : All (λ (t : Track). HasRoom t.entry) tracks
+
+-- The records of a file of so many octets are such as nothing refuses.
+pub record AreGood (file : FileId) (total : ℕ) (r : Records) : Type 0 where
+  pub info : IfSome r.info IsGoodInfo
+  pub tracks : AreRead r.tracks
+  pub attachments : All (IsAttachedIn file total) r.attachments
+  pub chapters : IfSome r.chapters (IsRead CHAPTERS)
+  pub tags : IfSome r.tags (IsRead TAGS)

@@ -1,0 +1,154 @@
+//! All attached files of a file: RFC 9559, section 5.1.6 (Attachments Element).
+
+ghost use Rattle.std.specs.Prelude.{◌≡◌, ◌+◌, ◌*◌, ◌<◌, ◌≤◌, false, All, IfOk, OnOk};
+ghost use Rattle.mkv_io.specs.Faults.{HasCause};
+ghost use Rattle.mkv_io.specs.Sources.{IfTold, IsLive, file_size};
+ghost use Rattle.mkv_schema.specs.Element.{is_unknown, known, stated_end};
+ghost use Rattle.meta_records.specs.declared.limits.TheConstants.{MOST_OF_ATTACHMENTS};
+ghost use Rattle.meta_records.specs.Attachments.{attachments_in, child_of};
+ghost use Rattle.meta_records.specs.Walk.{AreAttachedIn, IsAttachedIn, Meets, PaysUpTo, ReadsAs, ReadsChild, WalksAll, child_met, good_files, is_attachments_fault};
+
+use crate::attached::{Attached, read_attached};
+use crate::counts::Counts;
+use crate::end::AttachmentsEnd;
+use crate::header::child_header;
+use crate::limits::MOST_ATTACHED;
+use elements::{damage, known};
+use mkv_io::{Damage, FileId, Kind, List, Reads};
+use mkv_schema::Header;
+use mkv_schema::ids::ATTACHED_FILE;
+use output_model::Attachment;
+use std::alloc::Global;
+
+/// The attached files so far, and what is told of the first that has no data.
+#[derive(Drop)]
+pub(crate) struct Found {
+    pub attachments: List<Attachment>,
+    pub missing: Option<Damage>,
+}
+
+// How many octets of a child of Attachments are counted.
+fn counted_of(child: &Header) -> u64
+    requires { child.now.offset ≤ child.now.body }
+    ensures { result ≡ (child_of child.now).counted }
+{
+    if child.id == ATTACHED_FILE {
+        child.body - child.offset
+    } else {
+        0
+    }
+}
+
+// Reads the child at a place of an Attachments Element that ends at `end`, and counts it. It answers where the next
+// begins.
+fn read_child<R: Reads>(
+    alloc: Global,
+    src: &mut R,
+    file: FileId,
+    counts: &mut Counts,
+    found: &mut Found,
+    at: u64,
+    end: u64,
+) -> Result<u64, AttachmentsEnd>
+    requires live { IsLive R.Reads src.old file }
+    requires place { at < end }
+    requires inside { end ≤ file_size R.Reads src.old file }
+    ensures meets { IfTold R.Reads src.old file (λ bytes. Meets (child_met bytes at end) counts.old counts.new result) }
+    ensures adds { IfOk result (λ n. IfTold R.Reads src.old file (λ b. ReadsChild b file at end n found.old found.new)) }
+    ensures next { IfOk result (λ next. (at < next) × (next ≤ end)) }
+    ensures sound { AreAttachedIn file end found.old → OnOk result (AreAttachedIn file end found.new) }
+    ensures standing { R.standing src.new ≡ R.standing src.old }
+    ensures cause { HasCause is_attachments_fault (R.reading_faults src.old) (R.reading_faults src.new) result }
+    ensures pays { PaysUpTo at end counts.old counts.new (R.octets_read src.old) (R.octets_read src.new) result }
+{
+    let child = child_header(src, file, at, end)?;
+    counts.add(&child, counted_of(&child))?;
+    let next = child.body + known(child.size);
+    if child.id != ATTACHED_FILE {
+        return Ok(next);
+    }
+    let Attached {
+        attachment,
+        missing,
+    } = read_attached(alloc, src, file, counts, &child)?;
+    found.attachments.push(attachment)?;
+    found.missing = found.missing.or(missing);
+    Ok(next)
+}
+
+// Reads the children of an Attachments Element.
+fn read_children<R: Reads>(
+    alloc: Global,
+    src: &mut R,
+    file: FileId,
+    header: &Header,
+) -> Result<Found, AttachmentsEnd>
+    requires live { IsLive R.Reads src.old file }
+    requires known { is_unknown header.now.size ≡ false }
+    requires inside { stated_end header.now ≤ file_size R.Reads src.old file }
+    ensures exact { IfTold R.Reads src.old file (λ bytes. WalksAll bytes file header.now result) }
+    ensures sound { IfOk result (AreAttachedIn file (stated_end header.now)) }
+    ensures standing { R.standing src.new ≡ R.standing src.old }
+    ensures cause { HasCause is_attachments_fault (R.reading_faults src.old) (R.reading_faults src.new) result }
+    ensures octets { R.octets_read src.new ≤ R.octets_read src.old + 16 * known header.now.size }
+    ensures few { R.octets_read src.new ≤ R.octets_read src.old + 2 * MOST_OF_ATTACHMENTS }
+{
+    let end = header.body + known(header.size);
+    let mut counts = Counts::new();
+    let mut found = Found {
+        attachments: List::new(alloc),
+        missing: None,
+    };
+    let mut at = header.body;
+    while at < end {
+        at = read_child(alloc, src, file, &mut counts, &mut found, at, end)?;
+    }
+    Ok(found)
+}
+
+// The attached files that were found, unless one has no data or there are too many.
+fn good_files(found: Found) -> Result<List<Attachment>, Damage>
+    ensures exact { result ≡ good_files found }
+    ensures same { IfOk result (λ files. files ≡ found.attachments) }
+{
+    let Found {
+        attachments,
+        missing,
+    } = found;
+    if let Some(missing) = missing {
+        return Err(missing);
+    }
+    match attachments.get(MOST_ATTACHED) {
+        Some(one) => Err(damage(Kind::TooMany, ATTACHED_FILE, one.entry.offset())),
+        None => Ok(attachments),
+    }
+}
+
+/// The attached files of an Attachments Element, RFC 9559, section 5.1.6 (Attachments Element), or the first thing that
+/// refuses it. Their data aren't read. It is refused where it isn't made of valid Elements; where
+/// `MOST_OF_ATTACHMENTS` octets are passed, counted without data, 65,536 Elements or 1,024 attached files; and where an
+/// AttachedFile has no FileData. What is wrong among the Elements is told first.
+pub fn read_attachments<R: Reads>(
+    alloc: Global,
+    src: &mut R,
+    file: FileId,
+    header: &Header,
+) -> Result<List<Attachment>, AttachmentsEnd>
+    requires live { IsLive R.Reads src.old file }
+    requires known { is_unknown header.now.size ≡ false }
+    requires inside { stated_end header.now ≤ file_size R.Reads src.old file }
+    ensures exact { IfTold R.Reads src.old file (λ bytes. ReadsAs (attachments_in bytes file header.now) result) }
+
+    // Their entries can be written and read again, and their data stand in the file.
+    ensures sound { IfOk result (All (IsAttachedIn file (stated_end header.now))) }
+    ensures standing { R.standing src.new ≡ R.standing src.old }
+    ensures cause { HasCause is_attachments_fault (R.reading_faults src.old) (R.reading_faults src.new) result }
+
+    // Of a long Element no more is read than of one whose data are empty.
+    ensures octets { R.octets_read src.new ≤ R.octets_read src.old + 16 * known header.now.size }
+    ensures few { R.octets_read src.new ≤ R.octets_read src.old + 2 * MOST_OF_ATTACHMENTS }
+{
+    let found = read_children(alloc, src, file, header)?;
+    let attachments = good_files(found)?;
+    Ok(attachments)
+}

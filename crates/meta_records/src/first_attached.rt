@@ -1,0 +1,47 @@
+//! The attached files of the first Attachments: RFC 9559, section 5.1.6 (Attachments Element).
+
+ghost use Rattle.std.specs.Prelude.{◌≡◌, ◌+◌, ◌*◌, ◌≤◌, List, ℕ, Ok, IfOk};
+ghost use Rattle.std.specs.List.{All};
+ghost use Rattle.mkv_io.specs.Faults.{HasCause};
+ghost use Rattle.mkv_io.specs.Sources.{IfTold, IsLive, file_size};
+ghost use Rattle.element_reader.specs.Outline.{is_outline_fault, outline_in};
+ghost use Rattle.meta_records.specs.declared.limits.TheConstants.{MOST_OF_ATTACHMENTS};
+ghost use Rattle.meta_records.specs.Walk.{IsAttachedIn};
+ghost use Rattle.meta_records.specs.Attached.{ReadsAttached, first_attached};
+
+use crate::attachments::read_attachments;
+use crate::end::AttachmentsEnd;
+use element_reader::{Outline, OutlineEnd};
+use mkv_io::{FileId, List, Reads};
+use mkv_schema::ids::ATTACHMENTS;
+use output_model::Attachment;
+use std::alloc::Global;
+
+/// The attached files of the first Attachments of level 1, none where there is no such Element, or what is wrong inside.
+/// Their data aren't read.
+pub fn first_attachments<R: Reads>(
+    alloc: Global,
+    outline: &Outline,
+    src: &mut R,
+    file: FileId,
+) -> Result<List<Attachment>, OutlineEnd>
+    requires live { IsLive R.Reads src.old file }
+    requires whole { outline.now.total ≡ file_size R.Reads src.old file }
+    ensures exact { IfTold R.Reads src.old file (λ bytes. (held : ℕ) → outline_in held bytes ≡ Ok outline.now
+        → ReadsAttached (first_attached bytes outline.now.segment) result) }
+    ensures sound { IfOk result (All (IsAttachedIn file outline.now.total)) }
+    ensures standing { R.standing src.new ≡ R.standing src.old }
+    ensures cause { HasCause is_outline_fault (R.reading_faults src.old) (R.reading_faults src.new) result }
+    ensures octets { R.octets_read src.new ≤ R.octets_read src.old + 16 * file_size R.Reads src.old file }
+    ensures few { R.octets_read src.new ≤ R.octets_read src.old + 2 * MOST_OF_ATTACHMENTS }
+{
+    let Some(header) = outline.first(ATTACHMENTS) else {
+        return Ok(List::new(alloc));
+    };
+    match read_attachments(alloc, src, file, &header) {
+        Ok(attachments) => Ok(attachments),
+        Err(AttachmentsEnd::Refused(damage)) => Err(OutlineEnd::Refused(damage)),
+        Err(AttachmentsEnd::ReadFault) => Err(OutlineEnd::ReadFault),
+        Err(AttachmentsEnd::Memory) => Err(OutlineEnd::Memory),
+    }
+}

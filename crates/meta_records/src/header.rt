@@ -1,0 +1,52 @@
+//! The header of a child, read from the file.
+
+ghost use Rattle.std.specs.Prelude.{◌≡◌, ◌+◌, ◌-◌, ◌≤◌, length, min, Ok, Err, IfOk, IfErr};
+ghost use Rattle.mkv_io.specs.declared.outside.TheConstants.{LONGEST_FILE};
+ghost use Rattle.mkv_io.specs.Faults.{HasCause};
+ghost use Rattle.mkv_io.specs.Sources.{IfTold, IsLive, file_size};
+ghost use Rattle.mkv_schema.specs.Element.{element_at, element_in, in_master};
+ghost use Rattle.meta_records.specs.Walk.{IsChild, ReadsAs, is_attachments_fault};
+
+use crate::end::AttachmentsEnd;
+use elements::{Parent, read_header};
+use mkv_io::{Damage, FileId, Reads};
+use mkv_schema::Header;
+use mkv_schema::limits::LONGEST_HEADER;
+
+/// The child at `at` octets behind the start of a file, of a master that isn't read whole and ends at `end`. No
+/// octet behind that end is read.
+pub(crate) fn child_header<R: Reads>(
+    src: &mut R,
+    file: FileId,
+    at: u64,
+    end: u64,
+) -> Result<Header, AttachmentsEnd>
+    requires live { IsLive R.Reads src.old file }
+    requires place { at ≤ end }
+    requires inside { end ≤ file_size R.Reads src.old file }
+    ensures exact { IfTold R.Reads src.old file (λ bytes. ReadsAs (element_at in_master bytes at end) result) }
+    ensures child { IfOk result (IsChild at end) }
+    ensures standing { R.standing src.new ≡ R.standing src.old }
+    ensures cause { HasCause is_attachments_fault (R.reading_faults src.old) (R.reading_faults src.new) result }
+    ensures octets { R.octets_read src.new ≤ R.octets_read src.old + min (end - at) LONGEST_HEADER }
+{
+    let mut buffer = [0; LONGEST_HEADER as usize];
+    let len = (end - at).min(LONGEST_HEADER);
+    let octets = &mut buffer[..len as usize];
+    src.read_at(file, at, octets)?;
+    let total = src.size(file);
+    let header = header_in(octets, total, at, end)?;
+    Ok(header)
+}
+
+// The header of the child that these octets begin.
+fn header_in(octets: &[u8], total: u64, at: u64, end: u64) -> Result<Header, Damage>
+    requires place { at ≤ LONGEST_FILE }
+    requires inside { at + length octets.now ≤ end }
+    ensures ok { IfOk result (λ h. element_in in_master octets.now total at end ≡ Ok h) }
+    ensures err { IfErr result (λ d. element_in in_master octets.now total at end ≡ Err d) }
+    ensures child { IfOk result (IsChild at end) }
+{
+    let header = read_header(octets, Parent::Master, total, at, end)?;
+    Ok(header)
+}

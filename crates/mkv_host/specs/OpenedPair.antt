@@ -1,0 +1,38 @@
+-- What is known of a pair of files of the system that may be open.
+use Rattle.std.specs.Prelude.{List, ℕ, ◌≤◌, zero, suc, Bool, true, false, Option, Some, None}
+use Rattle.std.proofs.Common.{arith}
+use Rattle.mkv_io.specs.LiveFiles.{LiveFiles}
+use Rattle.mkv_host.specs.declared.pair.OpenPair.{OpenPair}
+use Rattle.mkv_io.specs.declared.outside.TheConstants.{LONGEST_FILE}
+
+-- the medium has the number 0, its sidecar 1
+abbrev pub is_live : Option OpenPair → ℕ → Bool
+is_live None n = false
+is_live (Some pair) zero = true
+is_live (Some pair) (suc zero) = true
+is_live (Some pair) (suc (suc n)) = false
+
+-- a file's length in octets
+abbrev pub size_in : Option OpenPair → ℕ → ℕ
+size_in None n = 0
+size_in (Some pair) zero = pair.media.size
+size_in (Some pair) (suc zero) = pair.sidecar.size
+size_in (Some pair) (suc (suc n)) = 0
+
+-- Which of the two are open, with their lengths. Nothing is told of their contents.
+abbrev pub live_in : Option OpenPair → LiveFiles
+live_in pair = record { live = is_live pair; size = size_in pair; content = λ _. None }
+
+-- the name under which the pair was opened
+abbrev pub name_in : Option OpenPair → Option (List ℕ)
+name_in None = None
+name_in (Some pair) = Some pair.media.name
+
+-- ---- what follows at once
+
+-- no open file is too long
+pub short-of_size : (pair : Option OpenPair) (n : ℕ) → size_in pair n ≤ LONGEST_FILE
+short-of_size None n = omega arith
+short-of_size (Some pair) zero = pair.media.short
+short-of_size (Some pair) (suc zero) = pair.sidecar.short
+short-of_size (Some pair) (suc (suc n)) = omega arith

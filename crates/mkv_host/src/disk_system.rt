@@ -1,0 +1,113 @@
+//! Calls of the system that open files to be changed.
+
+ghost use Rattle.std.specs.Prelude.{◌≡◌, pos, ◌<ℤ◌, IfOk};
+ghost use Rattle.std.specs.Fd.{file_raw_fd};
+
+use crate::outputs::copy_access;
+use crate::pair::OpenFile;
+use crate::system::{Node, above_streams, folder_of, node_of};
+use mkv_io::{LONGEST_FILE, Text};
+use std::fs::{File, Metadata, OpenOptions};
+use std::io::ErrorKind;
+use std::os::fd::AsRawFd;
+use std::os::unix::fs::{MetadataExt, OpenOptionsExt};
+use std::{fs, io};
+
+/// Opens a regular file to be read and written, and locks it. A link, and a file that another process has locked, are refused.
+/// What isn't regular isn't opened, since that may wait for ever.
+pub fn open_media<R: fs::Files<File = File>>(
+    system: &R,
+    name: Text,
+) -> io::Result<(OpenFile, Metadata)>
+    ensures { IfOk result (λ answer. answer.0.name ≡ name) }
+{
+    let seen = node_of(&fs::symlink_metadata(system, name.as_str())?)?;
+    let file = above_streams(open_again(system, name.as_str())?)?;
+    file.try_lock()?;
+    let found = file.metadata()?;
+    if node_of(&found)? != seen {
+        return Err(ErrorKind::ResourceBusy.into());
+    }
+    Ok((measured(file, name, &found)?, found))
+}
+
+fn open_again<R: fs::Files<File = File>>(system: &R, name: &str) -> io::Result<File> {
+    OpenOptions::new().read(true).write(true).open(system, name)
+}
+
+/// A file with its length. One that is too long is refused.
+fn measured(file: File, name: Text, found: &Metadata) -> io::Result<OpenFile>
+    requires { pos 2 <ℤ file_raw_fd file }
+    ensures { IfOk result (λ opened. opened.name ≡ name) }
+{
+    let size = found.len();
+    if size > LONGEST_FILE {
+        return Err(ErrorKind::FileTooLarge.into());
+    }
+    Ok(OpenFile { file, name, size })
+}
+
+/// Opens the sidecar of a file to be read and written, and makes it, empty, with that file's mode and owner where it isn't there.
+/// One that is there has to be a regular file with no other name, and another one than that.
+pub fn open_sidecar<R: fs::Files<File = File>>(
+    system: &R,
+    name: Text,
+    media: &Metadata,
+) -> io::Result<OpenFile>
+    ensures { IfOk result (λ opened. opened.name ≡ name) }
+{
+    match make_new(system, name.as_str()) {
+        Ok(file) => {
+            copy_access(&file, media)?;
+            let found = file.metadata()?;
+            measured(file, name, &found)
+        }
+        Err(error) if error.kind() == ErrorKind::AlreadyExists => {
+            let seen = only_name(&fs::symlink_metadata(system, name.as_str())?)?;
+            let file = above_streams(open_again(system, name.as_str())?)?;
+            let found = file.metadata()?;
+            if only_name(&found)? != seen || seen == node_of(media)? {
+                return Err(ErrorKind::InvalidInput.into());
+            }
+            measured(file, name, &found)
+        }
+        Err(error) => Err(error),
+    }
+}
+
+/// Makes a file that none but its owner may read or write.
+fn make_new<R: fs::Files<File = File>>(system: &R, name: &str) -> io::Result<File>
+    ensures { IfOk result (λ file. pos 2 <ℤ file_raw_fd file) }
+{
+    let file = OpenOptions::new()
+        .read(true)
+        .write(true)
+        .create_new(true)
+        .mode(0o600)
+        .open(system, name)?;
+    above_streams(file)
+}
+
+/// Which file this is. One with several names is refused.
+fn only_name(found: &Metadata) -> io::Result<Node> {
+    if found.nlink() != 1 {
+        return Err(ErrorKind::InvalidInput.into());
+    }
+    node_of(found)
+}
+
+/// Makes sure of a file as it is read. The system's copies are dropped, which the failed sync of an earlier process may have left
+/// other than the disk has them.
+pub fn settle(file: &File) -> io::Result<()> {
+    file.sync_all()?;
+    let advised = libc::posix_fadvise(file.as_raw_fd(), 0, 0, libc::POSIX_FADV_DONTNEED);
+    if advised != 0 {
+        return Err(io::Error::from_raw_os_error(advised));
+    }
+    Ok(())
+}
+
+/// Makes sure that the folder of a file has its name.
+pub fn settle_folder<R: fs::Files<File = File>>(system: &R, name: &str) -> io::Result<()> {
+    above_streams(File::open(system, folder_of(name))?)?.sync_all()
+}

@@ -1,0 +1,28 @@
+//! A file of the system and its sidecar, open.
+
+ghost use Rattle.std.specs.Prelude.{◌≡◌, ◌≤◌, pos, ◌<ℤ◌};
+ghost use Rattle.std.specs.Fd.{file_raw_fd};
+ghost use Rattle.mkv_io.specs.declared.outside.TheConstants.{LONGEST_FILE};
+ghost use Rattle.sidecar_edit.specs.Name.{sidecar_of};
+
+use mkv_io::Text;
+use std::fs::File;
+
+/// An open file, the name under which it was opened, and its length in octets.
+#[derive(Drop)]
+pub struct OpenFile {
+    pub file: File,
+    pub name: Text,
+    pub size: u64,
+    ghost above: { pos 2 <ℤ file_raw_fd file },
+    ghost short: { size ≤ LONGEST_FILE },
+}
+
+/// A file and its sidecar, and whether this run has changed the file. As long as the pair is open, it holds the file's lock.
+#[derive(Drop)]
+pub struct OpenPair {
+    pub media: OpenFile,
+    pub sidecar: OpenFile,
+    pub is_changed: bool,
+    ghost beside: { sidecar.name ≡ sidecar_of media.name },
+}

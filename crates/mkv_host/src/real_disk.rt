@@ -1,0 +1,265 @@
+//! A file of the system and its sidecar.
+
+ghost use Rattle.std.specs.Prelude.{◌≡◌, ◌≢◌, ◌≤◌, ℕ, ◌+◌, max, Option, Some, None, IsTrue, IfOk};
+ghost use Rattle.mkv_io.specs.Faults.{HasRisen, counted};
+ghost use Rattle.mkv_host.specs.OpenedPair.{is_live, name_in, size_in};
+ghost use Rattle.mkv_io.specs.declared.outside.TheConstants.{LONGEST_FILE};
+ghost use Rattle.sidecar_edit.specs.Name.{sidecar_of};
+
+use crate::disk_system::{open_media, open_sidecar, settle, settle_folder};
+use crate::pair::{OpenFile, OpenPair};
+use crate::system::is_missing;
+use crate::writer::write_from;
+use mkv_disk::{Disk, MEDIA};
+use mkv_io::{Failed, FileId, LONGEST_FILE, OpenFault, Reads, Text};
+use sidecar_edit::sidecar_name;
+use std::alloc::{AllocError, Global};
+use std::fs;
+use std::fs::File;
+use std::os::unix::fs::FileExt;
+
+/// A file of the system and its sidecar. A sync makes sure of a file's octets and its length. When a pair is opened both files
+/// are synced before anything is read, so that what is read stands on the disk.
+#[derive(Drop)]
+pub struct RealDisk<'a, R: fs::Files<File = File>> {
+    alloc: Global,
+    system: &'a R,
+    pair: Option<OpenPair>,
+    reading_faults: u64,
+    writing_faults: u64,
+    octets_read: u64,
+}
+
+impl<'a, R: fs::Files<File = File>> RealDisk<'a, R> {
+    /// No pair is open.
+    pub fn new(alloc: Global, system: &'a R) -> RealDisk<'a, R>
+        ensures { result.pair ≡ None }
+    {
+        RealDisk {
+            alloc,
+            system,
+            pair: None,
+            reading_faults: 0,
+            writing_faults: 0,
+            octets_read: 0,
+        }
+    }
+}
+
+/// Counts a failure.
+fn note_failure(count: &mut u64)
+    ensures exact { count.new ≡ counted count.old 1 }
+    ensures risen { HasRisen count.old count.new }
+{
+    *count = count.saturating_add(1);
+}
+
+/// One of the two files.
+fn file_of(pair: &Option<OpenPair>, file: FileId) -> &OpenFile
+    requires { IsTrue (is_live pair.now file.n) }
+    ensures { result.now.size ≡ size_in pair.now file.n }
+{
+    match pair {
+        Some(open) if file == MEDIA => &open.media,
+        Some(open) => &open.sidecar,
+        None => unreachable!(),
+    }
+}
+
+/// Whether the medium has the length that it had when it was opened, or this run has changed it.
+fn is_as_opened(pair: &Option<OpenPair>) -> bool {
+    match pair {
+        Some(open) if !open.is_changed => open
+            .media
+            .file
+            .metadata()
+            .is_ok_and(|found| found.len() == open.media.size),
+        _ => true,
+    }
+}
+
+/// Notes how long one of the two files is.
+fn resize(pair: &mut Option<OpenPair>, file: FileId, size: u64)
+    requires live { IsTrue (is_live pair.old file.n) }
+    requires short { size ≤ LONGEST_FILE }
+    ensures live { (n : ℕ) → is_live pair.new n ≡ is_live pair.old n }
+    ensures size { size_in pair.new file.n ≡ size }
+    ensures others { (n : ℕ) → n ≢ file.n → size_in pair.new n ≡ size_in pair.old n }
+    ensures name { name_in pair.new ≡ name_in pair.old }
+{
+    if let Some(open) = pair {
+        if file == MEDIA {
+            open.media.size = size;
+            open.is_changed = true;
+        } else {
+            open.sidecar.size = size;
+        }
+    }
+}
+
+/// The name of a medium, and that of its sidecar.
+fn names(alloc: Global, name: &str) -> Result<(Text, Text), AllocError>
+    ensures { IfOk result (λ names. (names.0 ≡ name.now) × (names.1 ≡ sidecar_of name.now)) }
+{
+    let mut media = Text::new(alloc);
+    media.append(name)?;
+    Ok((media, sidecar_name(alloc, name)?))
+}
+
+/// Opens a medium and its sidecar, which is made where it isn't there, and makes sure of both and of their folder.
+fn open_both<R: fs::Files<File = File>>(
+    system: &R,
+    name: Text,
+    sidecar: Text,
+) -> Result<OpenPair, OpenFault>
+    requires { sidecar ≡ sidecar_of name }
+    ensures { IfOk result (λ pair. pair.media.name ≡ name) }
+{
+    let (media, found) = match open_media(system, name) {
+        Ok(answer) => answer,
+        Err(error) if is_missing(&error) => return Err(OpenFault::Missing),
+        Err(_) => return Err(OpenFault::Failed),
+    };
+    let Ok(sidecar) = open_sidecar(system, sidecar, &found) else {
+        return Err(OpenFault::Failed);
+    };
+    let is_sure = settle(&media.file).is_ok()
+        && settle(&sidecar.file).is_ok()
+        && settle_folder(system, media.name.as_str()).is_ok();
+    if !is_sure {
+        return Err(OpenFault::Failed);
+    }
+    Ok(OpenPair {
+        media,
+        sidecar,
+        is_changed: false,
+    })
+}
+
+impl<'a, R: fs::Files<File = File>> Reads for RealDisk<'a, R> {
+    ghost use Rattle.std.specs.Prelude.{Option, ℕ};
+    ghost use Rattle.mkv_host.specs.OpenedPair.{live_in, short-of_size};
+    ghost use Rattle.mkv_host.specs.declared.pair.OpenPair.{OpenPair};
+
+    ghost Standing = { Option OpenPair × ℕ };
+
+    ghost standing = { λ disk. (disk.pair, disk.writing_faults) };
+
+    ghost files = { λ s. live_in s.0 };
+
+    ghost reading_faults = { λ disk. disk.reading_faults };
+
+    ghost octets_read = { λ disk. disk.octets_read };
+
+    ghost told_size = { λ s file bytes told. cc };
+
+    ghost short = { λ disk file live. short-of_size disk.pair file };
+
+    fn size(&self, file: FileId) -> u64 {
+        file_of(&self.pair, file).size
+    }
+
+    fn read_at(&mut self, file: FileId, at: u64, into: &mut [u8]) -> Result<(), Failed> {
+        let length = into.len() as u64;
+        if file_of(&self.pair, file)
+            .file
+            .read_exact_at(into, at)
+            .is_err()
+        {
+            note_failure(&mut self.reading_faults);
+            return Err(Failed);
+        }
+        self.octets_read = self.octets_read.saturating_add(length);
+        Ok(())
+    }
+}
+
+impl<'a, R: fs::Files<File = File>> Disk for RealDisk<'a, R> {
+    ghost use Rattle.std.specs.Prelude.{[], false, Option, ℕ};
+    ghost use Rattle.std.proofs.Common.{ap, refl};
+    ghost use Rattle.std.proofs.lemmas.Bool.{false≢true};
+    ghost use Rattle.mkv_disk.specs.Pair.{both};
+    ghost use Rattle.mkv_host.specs.OpenedPair.{name_in};
+    ghost use Rattle.mkv_host.specs.declared.pair.OpenPair.{OpenPair};
+
+    ghost told = { false };
+
+    ghost pair = { λ _. both [] [] };
+
+    ghost opened = { λ disk. name_in disk.pair };
+
+    ghost is_there = { λ _ _. false };
+
+    ghost moment = { λ _. 0 };
+
+    ghost left_since = { λ _ _ _ _. ⊥ };
+
+    ghost writing_faults = { λ disk. disk.writing_faults };
+
+    ghost contents = { λ x told. absurd (false≢true told) };
+
+    ghost counts_now = { λ x t m s told. absurd (false≢true told) };
+
+    ghost only_now = { λ x m s told. absurd (false≢true told) };
+
+    ghost pair_stands = { λ a b same. refl };
+
+    ghost moment_stands = { λ a b same. refl };
+
+    ghost left_stands = { λ a b t m s same left. left };
+
+    ghost opened_stands = { λ a b same. ap (λ (s : Option OpenPair × ℕ). name_in s.0) same };
+
+    ghost writing_stands = { λ a b same. ap (λ (s : Option OpenPair × ℕ). s.1) same };
+
+    fn open_pair(&mut self, name: &str) -> Result<(), OpenFault> {
+        let (media, sidecar) = names(self.alloc, name)?;
+        match open_both(self.system, media, sidecar) {
+            Ok(pair) => {
+                self.pair = Some(pair);
+                Ok(())
+            }
+            Err(OpenFault::Missing) => Err(OpenFault::Missing),
+            Err(_) => {
+                note_failure(&mut self.reading_faults);
+                Err(OpenFault::Failed)
+            }
+        }
+    }
+
+    fn write_at(&mut self, file: FileId, at: u64, bytes: &[u8]) -> Result<(), Failed> {
+        let open = file_of(&self.pair, file);
+        let len = bytes.len() as u64;
+        if at > LONGEST_FILE || len > LONGEST_FILE - at || !is_as_opened(&self.pair) {
+            note_failure(&mut self.writing_faults);
+            return Err(Failed);
+        }
+        let size = open.size.max(at + len);
+        if write_from(&mut &open.file, at, bytes) < bytes.len() {
+            note_failure(&mut self.writing_faults);
+            return Err(Failed);
+        }
+        resize(&mut self.pair, file, size);
+        Ok(())
+    }
+
+    fn cut(&mut self, file: FileId, len: u64) -> Result<(), Failed> {
+        if len > LONGEST_FILE
+            || !is_as_opened(&self.pair)
+            || file_of(&self.pair, file).file.set_len(len).is_err()
+        {
+            note_failure(&mut self.writing_faults);
+            return Err(Failed);
+        }
+        resize(&mut self.pair, file, len);
+        Ok(())
+    }
+
+    fn sync(&mut self, file: FileId) -> Result<(), Failed> {
+        if file_of(&self.pair, file).file.sync_all().is_err() {
+            note_failure(&mut self.writing_faults);
+            return Err(Failed);
+        }
+        Ok(())
+    }
+}

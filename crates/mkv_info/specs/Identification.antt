@@ -1,0 +1,54 @@
+-- The identification of a file: what it has, as one JSON value, and the text of that value. The keys, their order and when
+-- one is left out are this project's.
+use Rattle.std.specs.Prelude.{ℕ, List, [], ◌∷◌, true, Option, codes}
+use Rattle.std.specs.Option.{option_map, option_and_then}
+use Rattle.serde_json.specs.Data.{Data, boolean, string}
+use Rattle.serde_json.specs.Written.{compact_text}
+use Rattle.mkv_schema.specs.declared.ids.TheConstants.{TITLE}
+use Rattle.tree_format.specs.Node.{Node}
+use Rattle.meta_records.specs.Records.{FileRecords, scale_of_info}
+use Rattle.mkv_info.specs.declared.tags.Scope.TheVariants.{Global}
+use Rattle.mkv_info.specs.Json.{Member, given, if_there, object_of, whole}
+use Rattle.mkv_info.specs.Texts.{text_or_empty, unless_empty}
+use Rattle.mkv_info.specs.Attachments.{attachments_value}
+use Rattle.mkv_info.specs.Chapters.{chapter_count, entries_value}
+use Rattle.mkv_info.specs.Tags.{tag_count, track_tags_value}
+use Rattle.mkv_info.specs.ToldTracks.{tracks_value}
+
+-- the Title of an Info (RFC 9559, section 5.1.2, Info Element), where it isn't empty
+abbrev pub title_of : Option Node → Option (List ℕ)
+title_of info = option_and_then (λ i. unless_empty (text_or_empty TITLE i)) info
+
+-- what is told of the file as a whole: TimestampScale in nanoseconds, and Title
+abbrev pub container_properties : Option Node → Data
+container_properties info = object_of (
+    given "timestamp_scale" (whole (scale_of_info info)) ∷
+    if_there "title" (option_map string (title_of info)) ∷
+    [])
+
+abbrev pub container_value : Option Node → Data
+container_value info = object_of (
+    given "properties" (container_properties info) ∷
+    given "recognized" (boolean true) ∷
+    given "supported" (boolean true) ∷
+    given "type" (string (codes "Matroska")) ∷
+    [])
+
+-- what a file of a name has, of which this was read
+abbrev pub told_of : List ℕ → FileRecords → List Member
+told_of name file =
+    given "attachments" (attachments_value file.attachments) ∷
+    given "chapters" (entries_value (chapter_count file.chapters)) ∷
+    given "container" (container_value file.info) ∷
+    given "file_name" (string name) ∷
+    given "global_tags" (entries_value (tag_count Global file.tags)) ∷
+    given "track_tags" (track_tags_value file.tags file.tracks) ∷
+    given "tracks" (tracks_value file.tracks) ∷
+    []
+
+unfoldable pub identification : List ℕ → FileRecords → Data
+identification name file = object_of (told_of name file)
+
+-- the line: the text of that value, with no blank between its parts
+abbrev pub identification_line : List ℕ → FileRecords → List ℕ
+identification_line name file = compact_text (identification name file)

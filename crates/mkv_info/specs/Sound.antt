@@ -1,0 +1,25 @@
+-- What is known of the records that were read.
+use Rattle.std.specs.Prelude.{All, IfSome}
+use Rattle.mkv_schema.specs.declared.ids.TheConstants.{ATTACHED_FILE, TAGS}
+use Rattle.tree_format.specs.Node.{Node}
+use Rattle.tree_format.specs.Standing.{IsSoundOf}
+use Rattle.track_records.specs.Sound.{IsEntry}
+use Rattle.track_records.specs.declared.track.Track.{Track}
+use Rattle.output_model.specs.declared.attachment.Attachment.{Attachment}
+use Rattle.meta_records.specs.Records.{IsGoodInfo}
+use Rattle.meta_records.specs.declared.records.Records.{Records}
+
+-- an attached file, of whose AttachedFile each child stands there
+abbrev pub IsAttached : Attachment → Type 0
+IsAttached a = IsSoundOf ATTACHED_FILE a.entry
+
+-- a Tags Element whose children stand there
+abbrev pub AreTags : Node → Type 0
+AreTags tags = IsSoundOf TAGS tags
+
+-- The records can be told: what is inside of each Element stands there, and the Info isn't refused.
+pub record CanBeTold (r : Records) : Type 0 where
+  pub info : IfSome r.info IsGoodInfo
+  pub tracks : All (λ (t : Track). IsEntry t.entry) r.tracks
+  pub attachments : All IsAttached r.attachments
+  pub tags : IfSome r.tags AreTags

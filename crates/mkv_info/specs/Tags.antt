@@ -1,0 +1,49 @@
+-- How many tags a file has, and each of its tracks: RFC 9559, section 5.1.8 (Tags Element). The keys are this project's.
+use Rattle.std.specs.Prelude.{ℕ, ◌==◌, Bool, true, not, if◌then◌else◌, List, [], ◌∷◌, filter, flat_map, length, map, Option, Some, None}
+use Rattle.std.specs.List.{list_any}
+use Rattle.serde_json.specs.Data.{Data}
+use Rattle.mkv_schema.specs.declared.ids.TheConstants.{SIMPLE_TAG, TAG, TAG_TRACK_UID, TARGETS}
+use Rattle.tree_format.specs.Node.{Node, children}
+use Rattle.tree_format.specs.Changes.{part}
+use Rattle.tree_format.specs.Values.{integer_of}
+use Rattle.track_records.specs.declared.track.Track as tracks
+use Rattle.mkv_info.specs.declared.tags.Scope.{Scope}
+use Rattle.mkv_info.specs.declared.tags.Scope.TheVariants.{Global, Track}
+use Rattle.mkv_info.specs.Json.{array_of, given, numbered, object_of, whole}
+
+-- the TrackUIDs that the children of a Targets name; a TagTrackUID of 0 names no track
+abbrev pub named_among : List Node → List ℕ
+named_among ns = filter (λ uid. not (uid == 0)) (map integer_of (part TAG_TRACK_UID ns))
+
+abbrev pub named_in : Node → List ℕ
+named_in targets = named_among (children targets)
+
+-- those that a Tag names in all its Targets
+abbrev pub tracks_named : Node → List ℕ
+tracks_named tag = flat_map named_in (part TARGETS (children tag))
+
+-- the Tags that are counted: those that name no track, or those that name the track of a TrackUID
+abbrev pub is_counted : Scope → Node → Bool
+is_counted Global tag = not (list_any (λ own. true) (tracks_named tag))
+is_counted (Track uid) tag = list_any (λ own. own == uid) (tracks_named tag)
+
+-- the SimpleTags that stand directly in a Tag that is counted, of all those among some Elements, each once
+abbrev pub simple_tags : Scope → List Node → List Node
+simple_tags scope ns = flat_map (λ t. part SIMPLE_TAG (children t)) (filter (is_counted scope) (part TAG ns))
+
+abbrev pub tag_count : Scope → Option Node → ℕ
+tag_count scope None = 0
+tag_count scope (Some tags) = length (simple_tags scope (children tags))
+
+-- so many tags of a track, which has this number in the file
+abbrev pub counted_tags : ℕ → ℕ → Data
+counted_tags count id = object_of (given "num_entries" (whole count) ∷ given "track_id" (whole id) ∷ [])
+
+-- how many tags name a track; one that none names is left out
+abbrev pub track_tags : Option Node → ℕ → tracks.Track → List Data
+track_tags tags id t =
+    if tag_count (Track t.uid) tags == 0 then [] else counted_tags (tag_count (Track t.uid) tags) id ∷ []
+
+-- the same of all tracks, numbered from 0
+abbrev pub track_tags_value : Option Node → List tracks.Track → Data
+track_tags_value tags tracks = array_of (numbered (track_tags tags) 0 tracks)

@@ -1,0 +1,58 @@
+-- The tracks as they are told: RFC 9559, section 5.1.4 (Tracks Element). The keys are this project's.
+use Rattle.std.specs.Prelude.{ℕ, ◌==◌, not, List, [], ◌∷◌, ◌++◌, Option, codes}
+use Rattle.std.specs.Fmt.{decimal}
+use Rattle.std.specs.Option.{option_map, option_and_then}
+use Rattle.serde_json.specs.Data.{Data, boolean, string}
+use Rattle.mkv_schema.specs.declared.ids.TheConstants.{FLAG_DEFAULT, FLAG_ENABLED, FLAG_FORCED, LANGUAGE_BCP47, NAME, PIXEL_HEIGHT, PIXEL_WIDTH, VIDEO}
+use Rattle.tree_format.specs.Node.{Node}
+use Rattle.tree_format.specs.Values.{first_child, integer_in, text_in, uint_in}
+use Rattle.file_format.specs.TrackType.{type_name}
+use Rattle.track_records.specs.declared.track.Track.{Track}
+use Rattle.mkv_info.specs.Json.{Member, array_of, given, if_there, numbered, object_of, whole}
+use Rattle.mkv_info.specs.Texts.{text_or_empty, unless_empty}
+
+-- a flag of an entry, which is set where its value isn't 0; the table has the value of one that is missing or empty
+abbrev pub flag : ℕ → Node → Data
+flag id entry = boolean (not (uint_in id entry == 0))
+
+-- two numbers, as a width and a height are written
+abbrev pub dimensions_text : ℕ → ℕ → List ℕ
+dimensions_text width height = decimal width ++ (codes "x" ++ decimal height)
+
+-- PixelWidth and PixelHeight of a Video Element, where both stand
+abbrev pub pixels_in : Node → Option (List ℕ)
+pixels_in video = option_and_then (λ w. option_map (dimensions_text w) (integer_in PIXEL_HEIGHT video)) (integer_in PIXEL_WIDTH video)
+
+-- the same of an entry's first Video
+abbrev pub dimensions_of : Node → Option (List ℕ)
+dimensions_of entry = option_and_then pixels_in (first_child VIDEO entry)
+
+-- CodecID, DefaultDuration in nanoseconds where it stands, the flags, the language that is shown, LanguageBCP47 where it
+-- stands, TrackNumber, the pixels, Name where it isn't empty, and TrackUID, 0 where there is none
+abbrev pub properties_of : Track → List Member
+properties_of t =
+    given "codec_id" (string t.codec) ∷
+    if_there "default_duration" (option_map whole t.default_duration) ∷
+    given "default_track" (flag FLAG_DEFAULT t.entry) ∷
+    given "enabled_track" (flag FLAG_ENABLED t.entry) ∷
+    given "forced_track" (flag FLAG_FORCED t.entry) ∷
+    given "language" (string t.language) ∷
+    if_there "language_ietf" (option_map string (text_in LANGUAGE_BCP47 t.entry)) ∷
+    given "number" (whole t.number) ∷
+    if_there "pixel_dimensions" (option_map string (dimensions_of t.entry)) ∷
+    if_there "track_name" (option_map string (unless_empty (text_or_empty NAME t.entry))) ∷
+    given "uid" (whole t.uid) ∷
+    []
+
+-- CodecID, the track's number in the file, its properties, and the name of its TrackType
+abbrev pub track_value : ℕ → Track → Data
+track_value id t = object_of (
+    given "codec" (string t.codec) ∷
+    given "id" (whole id) ∷
+    given "properties" (object_of (properties_of t)) ∷
+    given "type" (string (type_name t.kind)) ∷
+    [])
+
+-- the tracks in the order of the file, numbered from 0
+abbrev pub tracks_value : List Track → Data
+tracks_value list = array_of (numbered (λ id t. track_value id t ∷ []) 0 list)

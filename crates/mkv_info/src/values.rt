@@ -1,0 +1,69 @@
+//! The values among the children of a master: RFC 8794, section 7 (EBML Element Types).
+
+ghost use Rattle.std.specs.Prelude.{◌≡◌, ◌+◌, length, IfOk};
+ghost use Rattle.std.specs.Option.{option_copied, option_map};
+ghost use Rattle.serde_json.specs.Data.{string};
+ghost use Rattle.serde_json.specs.View.{view};
+ghost use Rattle.tree_format.specs.Node.{children, id_of};
+ghost use Rattle.tree_format.specs.Changes.{part};
+ghost use Rattle.tree_format.specs.Standing.{IsSound};
+ghost use Rattle.ebml_tree.specs.Texts.{HasText};
+ghost use Rattle.mkv_info.specs.Json.{whole};
+ghost use Rattle.mkv_info.specs.Texts.{text_or_empty, unless_empty};
+
+use ebml_tree::{Tree, text_in};
+use serde_json::Value;
+use std::alloc::{AllocError, Global};
+
+/// The text of an ID, empty where there is none.
+pub(crate) fn text_or_empty<'a>(tree: &'a Tree, id: u32) -> &'a str
+    requires sound { IsSound tree.now }
+    requires text { HasText (id_of tree.now) id }
+    ensures { result.now ≡ text_or_empty id tree.now }
+{
+    text_in(tree, id).unwrap_or("")
+}
+
+/// A text that has an octet at least.
+pub(crate) fn unless_empty(text: &str) -> Option<&str>
+    ensures { option_copied result ≡ unless_empty text.now }
+{
+    if text.is_empty() { None } else { Some(text) }
+}
+
+/// A text as a JSON string, where it is there.
+pub(crate) fn string_if(alloc: Global, text: Option<&str>) -> Result<Option<Value>, AllocError>
+    ensures { IfOk result (λ value. option_map view value ≡ option_map string (option_copied text.entry)) }
+{
+    match text {
+        Some(text) => Ok(Some(Value::try_from_str(alloc, text)?)),
+        None => Ok(None),
+    }
+}
+
+/// A number as a JSON number, where it is there.
+pub(crate) fn number_if(number: Option<u64>) -> Option<Value>
+    ensures { option_map view result ≡ option_map whole number }
+{
+    number.map(Value::from)
+}
+
+/// A number of Elements, and how many children of an ID a master has beside them. No memory holds more than can be counted.
+pub(crate) fn with_children(count: usize, tree: &Tree, id: u32) -> Result<usize, AllocError>
+    ensures { IfOk result (λ more. more ≡ count + length (part id (children tree.now))) }
+{
+    match count.checked_add(count_of(tree, id)) {
+        Some(more) => Ok(more),
+        None => Err(AllocError),
+    }
+}
+
+// How many children of an ID a master has.
+fn count_of(tree: &Tree, id: u32) -> usize
+    ensures { result ≡ length (part id (children tree.now)) }
+{
+    tree.children()
+        .iter()
+        .filter(|child| child.id() == id)
+        .count()
+}

@@ -1,0 +1,122 @@
+//! What the calls to files and reports take and answer.
+
+ghost use Rattle.std.specs.Prelude.{◌≡◌};
+ghost use Rattle.mkv_io.specs.declared.outside.MakeFault.TheVariants as make_fault;
+ghost use Rattle.mkv_io.specs.declared.outside.OpenFault.TheVariants as open_fault;
+ghost use Rattle.mkv_io.specs.declared.outside.ReadEnd.TheVariants as read_end;
+
+use std::alloc::{AllocError, AllocFailed};
+
+/// No file is longer than so many octets.
+pub const LONGEST_FILE: u64 = 1 << 48;
+
+/// The number of a live file: one that was opened and is not closed yet.
+#[derive(Clone, Copy, Debug, PartialEq, Eq)]
+pub struct FileId {
+    pub n: u64,
+}
+
+/// A call of the outside failed, and its count of faults rose.
+#[derive(Clone, Copy, Debug, PartialEq, Eq)]
+pub struct Failed;
+
+/// Why a file isn't opened.
+#[derive(Clone, Copy, Debug, PartialEq, Eq)]
+pub enum OpenFault {
+    /// There is no file of that name.
+    Missing,
+    /// The outside failed.
+    Failed,
+    /// There is no memory.
+    Memory,
+}
+
+/// Why a file isn't made, or doesn't grow.
+#[derive(Clone, Copy, Debug, PartialEq, Eq)]
+pub enum MakeFault {
+    /// The outside failed.
+    Failed,
+    /// There is no memory.
+    Memory,
+}
+
+/// Why a call that reads a file ends early.
+#[derive(Clone, Copy, Debug, PartialEq, Eq)]
+pub enum ReadEnd {
+    /// A read failed.
+    ReadFault,
+    /// There is no memory.
+    Memory,
+}
+
+impl From<Failed> for OpenFault {
+    ghost from_gives = { λ _ end. end ≡ open_fault.Failed };
+
+    fn from(_failed: Failed) -> OpenFault {
+        OpenFault::Failed
+    }
+}
+
+impl From<AllocError> for OpenFault {
+    ghost from_gives = { λ _ end. end ≡ open_fault.Memory };
+
+    fn from(_error: AllocError) -> OpenFault {
+        OpenFault::Memory
+    }
+}
+
+impl<T: Drop> From<AllocFailed<T>> for OpenFault {
+    ghost from_gives = { λ _ end. end ≡ open_fault.Memory };
+
+    fn from(_failed: AllocFailed<T>) -> OpenFault {
+        OpenFault::Memory
+    }
+}
+
+impl From<Failed> for MakeFault {
+    ghost from_gives = { λ _ end. end ≡ make_fault.Failed };
+
+    fn from(_failed: Failed) -> MakeFault {
+        MakeFault::Failed
+    }
+}
+
+impl From<AllocError> for MakeFault {
+    ghost from_gives = { λ _ end. end ≡ make_fault.Memory };
+
+    fn from(_error: AllocError) -> MakeFault {
+        MakeFault::Memory
+    }
+}
+
+impl<T: Drop> From<AllocFailed<T>> for MakeFault {
+    ghost from_gives = { λ _ end. end ≡ make_fault.Memory };
+
+    fn from(_failed: AllocFailed<T>) -> MakeFault {
+        MakeFault::Memory
+    }
+}
+
+impl From<Failed> for ReadEnd {
+    ghost from_gives = { λ _ end. end ≡ read_end.ReadFault };
+
+    fn from(_failed: Failed) -> ReadEnd {
+        ReadEnd::ReadFault
+    }
+}
+
+impl From<AllocError> for ReadEnd {
+    ghost from_gives = { λ _ end. end ≡ read_end.Memory };
+
+    fn from(_error: AllocError) -> ReadEnd {
+        ReadEnd::Memory
+    }
+}
+
+impl<T: Drop> From<AllocFailed<T>> for ReadEnd {
+    ghost from_gives = { λ _ end. end ≡ read_end.Memory };
+
+    fn from(_failed: AllocFailed<T>) -> ReadEnd {
+        ReadEnd::Memory
+    }
+}

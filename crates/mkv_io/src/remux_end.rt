@@ -1,0 +1,70 @@
+//! Why a run that reads and writes ends early.
+
+ghost use Rattle.std.specs.Prelude.{◌≡◌};
+ghost use Rattle.mkv_io.specs.declared.remux_end.RemuxEnd.TheVariants as remux_end;
+
+use crate::outside::{Failed, MakeFault, ReadEnd};
+use std::alloc::{AllocError, AllocFailed};
+
+/// Why a run that reads files and writes others ends early.
+#[derive(Clone, Copy, Debug, PartialEq, Eq)]
+pub enum RemuxEnd {
+    /// An input couldn't be read.
+    ReadFault,
+    /// An output couldn't be made or written.
+    WriteFault,
+    /// There is no memory.
+    Memory,
+}
+
+impl From<MakeFault> for RemuxEnd {
+    ghost use Rattle.mkv_io.specs.RemuxEnd.{end_of_make};
+
+    ghost from_gives = { λ fault end. end ≡ end_of_make fault };
+
+    fn from(fault: MakeFault) -> RemuxEnd {
+        match fault {
+            MakeFault::Failed => RemuxEnd::WriteFault,
+            MakeFault::Memory => RemuxEnd::Memory,
+        }
+    }
+}
+
+impl From<ReadEnd> for RemuxEnd {
+    ghost use Rattle.mkv_io.specs.RemuxEnd.{end_of_read};
+
+    ghost from_gives = { λ end now. now ≡ end_of_read end };
+
+    fn from(end: ReadEnd) -> RemuxEnd {
+        match end {
+            ReadEnd::ReadFault => RemuxEnd::ReadFault,
+            ReadEnd::Memory => RemuxEnd::Memory,
+        }
+    }
+}
+
+/// A bare failure is that of octets which were to be written over others. Whoever calls `read_at` turns its
+/// failure into a `ReadEnd` first.
+impl From<Failed> for RemuxEnd {
+    ghost from_gives = { λ _ end. end ≡ remux_end.WriteFault };
+
+    fn from(_failed: Failed) -> RemuxEnd {
+        RemuxEnd::WriteFault
+    }
+}
+
+impl From<AllocError> for RemuxEnd {
+    ghost from_gives = { λ _ end. end ≡ remux_end.Memory };
+
+    fn from(_error: AllocError) -> RemuxEnd {
+        RemuxEnd::Memory
+    }
+}
+
+impl<T: Drop> From<AllocFailed<T>> for RemuxEnd {
+    ghost from_gives = { λ _ end. end ≡ remux_end.Memory };
+
+    fn from(_failed: AllocFailed<T>) -> RemuxEnd {
+        RemuxEnd::Memory
+    }
+}

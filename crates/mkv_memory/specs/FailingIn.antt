@@ -1,0 +1,8 @@
+-- What can be seen of a value that says which calls fail.
+use Rattle.std.specs.BTreeSet.{contains}
+use Rattle.std.specs.Ordering.{nat_cmp}
+use Rattle.mkv_memory.specs.Failing.{Failures, failures}
+use Rattle.mkv_memory.specs.declared.failing.Failing.{Failing}
+
+abbrev pub failures_in : Failing → Failures
+failures_in f = failures (contains nat_cmp f.single) f.stop f.made

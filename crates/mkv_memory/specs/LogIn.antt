@@ -1,0 +1,67 @@
+-- A history as it is kept: the calls, and apart from them what they wrote.
+use Rattle.std.specs.Prelude.{◌≡◌, ◌≤◌, ℕ, zero, suc, ◌+◌, ◌-◌, Bool, true, false, List, [], ◌∷◌, length, take, drop}
+use Rattle.std.specs.Vec.{vec_capacity}
+use Rattle.std.specs.declared.alloc.Global.{Global}
+use Rattle.std.specs.declared.vec.Vec.{Vec}
+use Rattle.mkv_disk.specs.Pair.{Pair, both}
+use Rattle.mkv_memory.specs.Changes.{CanReplay, Change, Made, cut, first_pair, pair_of, replay, synced, written}
+use Rattle.mkv_memory.specs.Logged.{Logged}
+use Rattle.mkv_memory.specs.declared.done.Call.{Call}
+use Rattle.mkv_memory.specs.declared.done.Done.{Done}
+use Rattle.mkv_memory.specs.declared.done.Done.TheVariants.{Wrote, Cut, Synced}
+use Rattle.mkv_memory.specs.declared.logged_pair.Room.{Room}
+
+-- how many octets a call wrote
+abbrev pub octets_done : Done → ℕ
+octets_done (Wrote at len) = len
+octets_done (Cut len) = 0
+octets_done Synced = 0
+
+-- the change that it made, where the octets that it wrote are the next ones
+abbrev pub change_of : Done → List ℕ → Change
+change_of (Wrote at len) octets = written at (take len octets)
+change_of (Cut len) octets = cut len
+change_of Synced octets = synced
+
+abbrev pub made_by : Call → List ℕ → Made
+made_by call octets = record { file = call.file.n; change = change_of call.done octets }
+
+-- the changes that calls made, whose octets stand one behind the other
+abbrev pub made_in : List Call → List ℕ → List Made
+made_in [] octets = []
+made_in (call ∷ calls) octets = made_by call octets ∷ made_in calls (drop (octets_done call.done) octets)
+
+-- two files after calls that were made to them
+abbrev pub replayed : List ℕ → List ℕ → List Call → List ℕ → Pair
+replayed media sidecar calls octets = replay (made_in calls octets) (both media sidecar)
+
+-- how many octets they wrote
+abbrev pub octets_by : List Call → ℕ
+octets_by [] = 0
+octets_by (call ∷ calls) = octets_done call.done + octets_by calls
+
+-- two numbers are those of one file
+abbrev pub is_same : ℕ → ℕ → Bool
+is_same zero zero = true
+is_same zero (suc m) = false
+is_same (suc n) zero = false
+is_same (suc n) (suc m) = true
+
+abbrev pub logged : List ℕ → List ℕ → List Call → List ℕ → Room → Logged
+logged media sidecar calls octets room = record {
+  history = record { media = media; sidecar = sidecar; made = made_in calls octets };
+  room = room;
+}
+
+-- What is kept as read is what the history leaves, each change could be made, and there is room for all that may still be
+-- done.
+pub record IsLogOf (l : Logged) (media sidecar octets : Vec ℕ Global) (calls : Vec Call Global) : Type 0 where
+  pub reads_media : media.items ≡ (pair_of l.history).media.reads
+  pub reads_sidecar : sidecar.items ≡ (pair_of l.history).sidecar.reads
+  pub can : CanReplay l.history.made (first_pair l.history)
+  pub count : length octets.items ≡ octets_by calls.items
+  pub within : length octets.items ≤ l.room.octets
+  pub calls_room : l.room.calls ≤ vec_capacity calls
+  pub octets_room : l.room.octets ≤ vec_capacity octets
+  pub media_room : length media.items + (l.room.octets - length octets.items) ≤ vec_capacity media
+  pub sidecar_room : length sidecar.items + (l.room.octets - length octets.items) ≤ vec_capacity sidecar

@@ -1,0 +1,23 @@
+-- A file as it is replayed, and what a disk keeps of it.
+use Rattle.std.specs.Prelude.{◌≡◌, ℕ, ◌&&◌, nat_le, nat_lt, Bool, List}
+use Rattle.std.specs.List.{list_any}
+use Rattle.mkv_disk.specs.Image.{DiskFile}
+use Rattle.mkv_memory.specs.Changes.{Change, changed_by}
+use Rattle.mkv_memory.specs.Images.{is_written}
+use Rattle.mkv_memory.specs.declared.pending.Pending.{Pending}
+use Rattle.mkv_memory.specs.declared.pending.Span.{Span}
+
+-- the octet at a place lies in one of these spans
+abbrev pub is_noted : List Span → ℕ → Bool
+is_noted spans k = list_any (λ (s : Span). nat_le s.from k && nat_lt k s.to) spans
+
+-- It is replayed as the disk keeps it, but for its greatest length, on which no image that is picked depends.
+pub record Shows (p : Pending) (f : DiskFile) : Type 0 where
+  pub reads : p.reads.items ≡ f.reads
+  pub synced : p.synced.items ≡ f.synced
+  pub least : p.least ≡ f.least
+  pub written : (k : ℕ) → is_noted p.written.items k ≡ is_written f.written k
+
+-- A change was made to whatever was replayed.
+abbrev pub IsChanged : Pending → Pending → Change → Type 0
+IsChanged old new change = (f : DiskFile) → Shows old f → Shows new (changed_by change f)

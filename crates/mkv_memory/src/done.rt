@@ -1,0 +1,68 @@
+//! What a call does to a file.
+
+ghost use Rattle.std.specs.Prelude.{◌≡◌, ◌+◌, ◌<◌, ◌≤◌, ◌^◌, length, vec_capacity, OnOk, IsOk};
+ghost use Rattle.mkv_io.specs.Contents.{overwritten};
+ghost use Rattle.mkv_memory.specs.Changes.{CanChange, reads_by};
+ghost use Rattle.mkv_memory.specs.LogIn.{change_of, octets_done};
+
+use mkv_io::FileId;
+use std::alloc::AllocError;
+
+/// What a call did to a file. The octets that it wrote stand apart.
+#[derive(Clone, Copy)]
+pub enum Done {
+    Wrote { at: u64, len: usize },
+    Cut { len: u64 },
+    Synced,
+}
+
+/// A call that was made to one of the two files.
+#[derive(Clone, Copy)]
+pub struct Call {
+    pub file: FileId,
+    pub done: Done,
+}
+
+/// How many octets a call wrote.
+pub fn octets_done(done: Done) -> usize
+    ensures { result ≡ octets_done done }
+{
+    match done {
+        Done::Wrote { len, .. } => len,
+        Done::Cut { .. } | Done::Synced => 0,
+    }
+}
+
+/// Does it to what is read of a file. Memory is taken where the room of the vector is spent, and only there.
+pub fn apply(reads: &mut Vec<u8>, done: Done, bytes: &[u8]) -> Result<(), AllocError>
+    requires count { length bytes.now ≡ octets_done done }
+    requires inside { CanChange (change_of done bytes.now) reads.old.items }
+    ensures ok { OnOk result (reads.new.items ≡ reads_by (change_of done bytes.now) reads.old.items) }
+    ensures room { length reads.old.items + length bytes.now ≤ vec_capacity reads.old → IsOk result }
+    ensures capacity { vec_capacity reads.old ≤ vec_capacity reads.new }
+{
+    match done {
+        Done::Wrote { at, .. } => write_over(reads, at as usize, bytes),
+        Done::Cut { len } => {
+            reads.truncate(len as usize);
+            Ok(())
+        }
+        Done::Synced => Ok(()),
+    }
+}
+
+/// Writes octets from a place on, over others and past the end.
+fn write_over(octets: &mut Vec<u8>, at: usize, bytes: &[u8]) -> Result<(), AllocError>
+    requires inside { at ≤ length octets.old.items }
+    requires short { at + length bytes.now < 2 ^ 64 }
+    ensures ok { OnOk result (octets.new.items ≡ overwritten octets.old.items at bytes.now) }
+    ensures room { at + length bytes.now ≤ vec_capacity octets.old → IsOk result }
+    ensures capacity { vec_capacity octets.old ≤ vec_capacity octets.new }
+{
+    let end = at + bytes.len();
+    if end > octets.len() {
+        octets.resize(end, 0)?;
+    }
+    octets[at..end].copy_from_slice(bytes);
+    Ok(())
+}

@@ -1,0 +1,164 @@
+//! The two files of a disk in memory, and all that was done to them.
+
+ghost use Rattle.std.specs.Prelude.{◌≡◌, ◌+◌, ◌≤◌, ℕ, [], length, vec_capacity, IfOk, IsTrue};
+ghost use Rattle.mkv_disk.specs.Pair.{both, file_of};
+ghost use Rattle.mkv_memory.specs.Changes.{CanChange, CanReplay, pair_of};
+ghost use Rattle.mkv_memory.specs.Logged.{and_then, has_room, unchanged};
+ghost use Rattle.mkv_memory.specs.LogIn.{change_of, is_same, made_in, octets_by, octets_done, replayed};
+ghost use Rattle.mkv_memory.specs.Shows.{Shows};
+
+use crate::done::{Call, Done, apply, octets_done};
+use crate::pending::Pending;
+use mkv_disk::MEDIA;
+use mkv_io::FileId;
+use std::alloc::{AllocError, Global};
+use std::marker::Model;
+
+/// For how many calls that change a file there is room, and for how many octets that they write.
+#[derive(Clone, Copy)]
+pub struct Room {
+    pub calls: u32,
+    pub octets: u64,
+}
+
+/// The two files as they were at first and as they are read, and all that was done to them in between. Memory for
+/// that is taken at first.
+#[derive(Drop)]
+pub struct LoggedPair {
+    first_media: Vec<u8>,
+    first_sidecar: Vec<u8>,
+    media: Vec<u8>,
+    sidecar: Vec<u8>,
+    calls: Vec<Call>,
+    /// What the calls wrote, one's octets behind the other's.
+    octets: Vec<u8>,
+    room: Room,
+}
+
+impl Model for LoggedPair {
+    ghost use Rattle.mkv_memory.specs.Logged.{Logged};
+    ghost use Rattle.mkv_memory.specs.LogIn.{IsLogOf, logged};
+
+    ghost Value = { Logged };
+
+    ghost view = { λ p. logged p.first_media.items p.first_sidecar.items p.calls.items p.octets.items p.room };
+
+    ghost invariant = { λ p. IsLogOf (logged p.first_media.items p.first_sidecar.items p.calls.items p.octets.items p.room) p.media p.sidecar p.octets p.calls };
+}
+
+impl LoggedPair {
+    /// Two files to which nothing was done yet, with room for so much.
+    pub fn new(
+        alloc: Global,
+        media: &[u8],
+        sidecar: &[u8],
+        room: Room,
+    ) -> Result<LoggedPair, AllocError>
+        ensures { IfOk result (λ pair. pair ≡ unchanged media.now sidecar.now room) }
+    {
+        Ok(LoggedPair {
+            first_media: media.to_vec(alloc)?,
+            first_sidecar: sidecar.to_vec(alloc)?,
+            media: with_room(alloc, media, room.octets)?,
+            sidecar: with_room(alloc, sidecar, room.octets)?,
+            calls: Vec::with_capacity(alloc, room.calls as usize)?,
+            octets: Vec::with_capacity(alloc, room.octets as usize)?,
+            room,
+        })
+    }
+
+    /// The room that was made at first.
+    pub fn room(&self) -> Room
+        ensures { result ≡ self.now.room }
+    {
+        self.room
+    }
+
+    /// What is read of a file.
+    pub fn reads(&self, file: FileId) -> &[u8]
+        ensures { result.now ≡ (file_of file.n (pair_of self.now.history)).reads }
+    {
+        if file == MEDIA {
+            self.media.as_slice()
+        } else {
+            self.sidecar.as_slice()
+        }
+    }
+
+    /// Whether there is room for a further call that writes so many octets.
+    pub fn has_room(&self, octets: usize) -> bool
+        ensures { result ≡ has_room self.now octets }
+    {
+        self.calls.len() < self.room.calls as usize
+            && octets as u64 <= self.room.octets - self.octets.len() as u64
+    }
+
+    /// A file, with what is pending of it.
+    pub fn pending(&self, alloc: Global, file: FileId) -> Result<Pending, AllocError>
+        ensures { IfOk result (λ pending. Shows pending (file_of file.n (pair_of self.now.history))) }
+    {
+        let (media, sidecar) = (self.first_media.as_slice(), self.first_sidecar.as_slice());
+        replayed(alloc, media, sidecar, &self.calls, &self.octets, file)
+    }
+
+    /// Does something to a file, and notes it.
+    pub fn make(&mut self, file: FileId, done: Done, bytes: &[u8])
+        requires count { length bytes.now ≡ octets_done done }
+        requires inside { CanChange (change_of done bytes.now) (file_of file.n (pair_of self.old.history)).reads }
+        requires room { IsTrue (has_room self.old (length bytes.now)) }
+        ensures { self.new ≡ and_then self.old file.n (change_of done bytes.now) }
+    {
+        self.octets.extend_from_slice(bytes).unwrap();
+        self.calls.push(Call { file, done }).unwrap();
+        if file == MEDIA {
+            apply(&mut self.media, done, bytes).unwrap();
+        } else {
+            apply(&mut self.sidecar, done, bytes).unwrap();
+        }
+    }
+}
+
+/// One of the two files, which were these at first, after calls whose octets stand one behind the other.
+fn replayed(
+    alloc: Global,
+    media: &[u8],
+    sidecar: &[u8],
+    calls: &[Call],
+    octets: &[u8],
+    file: FileId,
+) -> Result<Pending, AllocError>
+    requires count { length octets.now ≡ octets_by calls.now }
+    requires can { CanReplay (made_in calls.now octets.now) (both media.now sidecar.now) }
+    ensures { IfOk result (λ pending. Shows pending (file_of file.n (replayed media.now sidecar.now calls.now octets.now))) }
+{
+    let mut pending = Pending::new(alloc, if file == MEDIA { media } else { sidecar })?;
+    let mut rest = octets;
+    for call in calls {
+        let (bytes, behind) = rest.split_at(octets_done(call.done));
+        if is_same(call.file, file) {
+            pending.make(call.done, bytes)?;
+        }
+        rest = behind;
+    }
+    Ok(pending)
+}
+
+/// Whether two numbers are those of one file.
+fn is_same(file: FileId, other: FileId) -> bool
+    ensures { result ≡ is_same file.n other.n }
+{
+    (file == MEDIA) == (other == MEDIA)
+}
+
+/// Octets, with room for more of them.
+fn with_room(alloc: Global, bytes: &[u8], more: u64) -> Result<Vec<u8>, AllocError>
+    ensures items { IfOk result (λ octets. octets.items ≡ bytes.now) }
+    ensures room { IfOk result (λ octets. length bytes.now + more ≤ vec_capacity octets) }
+{
+    let Some(room) = bytes.len().checked_add(more as usize) else {
+        return Err(AllocError);
+    };
+    let mut octets = Vec::with_capacity(alloc, room)?;
+    octets.extend_from_slice(bytes).unwrap();
+    Ok(octets)
+}

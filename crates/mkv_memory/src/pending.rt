@@ -1,0 +1,125 @@
+//! A file of which something is pending, and what a crash may leave of it.
+
+ghost use Rattle.std.specs.Prelude.{◌≡◌, length, OnOk, IfOk};
+ghost use Rattle.mkv_disk.specs.Image.{DiskFile, clean};
+ghost use Rattle.mkv_memory.specs.Changes.{CanChange};
+ghost use Rattle.mkv_memory.specs.LogIn.{change_of, octets_done};
+
+use crate::done::{Done, apply};
+use std::alloc::{AllocError, Global};
+
+/// What a crash leaves of a file.
+#[derive(Clone, Copy)]
+pub enum Left {
+    /// What is read of it.
+    AsRead,
+    /// What it held at its last sync.
+    AsSynced,
+    /// What is read of it, with FF in each octet that was written since its last sync.
+    Blotted,
+    /// Its least length since its last sync; octets at odd places as at that sync, the others as read.
+    Mixed,
+}
+
+/// The places from `from` on that are before `to`.
+#[derive(Clone, Copy)]
+pub struct Span {
+    pub from: u64,
+    pub to: u64,
+}
+
+/// A file: what is read of it, what it held at its last sync, its least length since, and where it was written since.
+#[derive(Drop)]
+pub struct Pending {
+    pub reads: Vec<u8>,
+    pub synced: Vec<u8>,
+    pub least: u64,
+    pub written: Vec<Span>,
+}
+
+impl Pending {
+    ghost use Rattle.mkv_memory.specs.Images.{blot, image_of, mix};
+    ghost use Rattle.mkv_memory.specs.Shows.{IsChanged, Shows, is_noted};
+
+    /// A file of which nothing is pending.
+    pub fn new(alloc: Global, octets: &[u8]) -> Result<Pending, AllocError>
+        ensures { IfOk result (λ file. Shows file (clean octets.now)) }
+    {
+        Ok(Pending {
+            reads: octets.to_vec(alloc)?,
+            synced: octets.to_vec(alloc)?,
+            least: octets.len() as u64,
+            written: Vec::new(alloc),
+        })
+    }
+
+    /// Does something to it.
+    pub fn make(&mut self, done: Done, bytes: &[u8]) -> Result<(), AllocError>
+        requires count { length bytes.now ≡ octets_done done }
+        requires inside { CanChange (change_of done bytes.now) self.old.reads.items }
+        ensures { OnOk result (IsChanged self.old self.new (change_of done bytes.now)) }
+    {
+        apply(&mut self.reads, done, bytes)?;
+        match done {
+            Done::Wrote { at, len } => {
+                let to = at + len as u64;
+                self.written.push(Span { from: at, to })?;
+            }
+            Done::Cut { len } => self.least = self.least.min(len),
+            Done::Synced => {
+                self.synced.clear();
+                self.synced.extend_from_slice(&self.reads)?;
+                self.least = self.reads.len() as u64;
+                self.written.clear();
+            }
+        }
+        Ok(())
+    }
+
+    /// What a crash leaves of it.
+    pub fn image(&self, alloc: Global, left: Left) -> Result<Vec<u8>, AllocError>
+        ensures { IfOk result (λ octets. (f : DiskFile) → Shows self.now f → octets.items ≡ image_of left f) }
+    {
+        match left {
+            Left::AsRead => self.reads.to_vec(alloc),
+            Left::AsSynced => self.synced.to_vec(alloc),
+            Left::Blotted => self.blotted(alloc),
+            Left::Mixed => self.mixed(alloc),
+        }
+    }
+
+    /// Whether an octet was written since the last sync.
+    fn is_written(&self, k: u64) -> bool
+        ensures { result ≡ is_noted self.now.written.items k }
+    {
+        self.written
+            .iter()
+            .any(|span| span.from <= k && k < span.to)
+    }
+
+    fn blotted(&self, alloc: Global) -> Result<Vec<u8>, AllocError>
+        ensures { IfOk result (λ octets. octets.items ≡ blot (is_noted self.now.written.items) self.now.reads.items) }
+    {
+        self.reads
+            .iter()
+            .enumerate()
+            .map(|(k, octet)| if self.is_written(k as u64) {
+                0xFF
+            } else {
+                *octet
+            })
+            .collect(alloc)
+    }
+
+    fn mixed(&self, alloc: Global) -> Result<Vec<u8>, AllocError>
+        ensures { IfOk result (λ octets. octets.items ≡ mix self.now.least self.now.reads.items self.now.synced.items) }
+    {
+        self.reads
+            .iter()
+            .zip(&self.synced)
+            .take(self.least as usize)
+            .enumerate()
+            .map(|(k, (read, synced))| if k % 2 == 1 { *synced } else { *read })
+            .collect(alloc)
+    }
+}

@@ -1,0 +1,38 @@
+-- What `recover` comes to: its status and its lines.
+use Rattle.std.specs.Prelude.{ℕ, Bool, if◌then◌else◌, List, [], ◌∷◌, Option, Some, None, Result, Ok, Err}
+use Rattle.mkv_disk.specs.declared.disk.Disk.{Ghosts}
+use Rattle.mkv_lines.specs.Line.{bad_sidecar_line, foreign_line, missing_line, nothing_line, recovered_line}
+use Rattle.mkv_lines.specs.Verdict.{Verdict, done, refused}
+use Rattle.sidecar_edit.specs.declared.outcome.Recovered.{Recovered}
+use Rattle.sidecar_edit.specs.declared.outcome.Recovered.TheVariants.{Applied, Nothing}
+use Rattle.sidecar_edit.specs.declared.outcome.RecoverEnd.{RecoverEnd}
+use Rattle.sidecar_edit.specs.declared.outcome.RecoverEnd.TheVariants.{BadSidecar, DiskFault, Foreign}
+use Rattle.sidecar_edit.specs.Recovery.{recovery}
+
+-- what is told of a file, by what recovering it came to; nothing is told of it where the disk failed
+abbrev pub told : List ℕ → Result Recovered RecoverEnd → Verdict
+told name (Ok Applied) = done (recovered_line name ∷ [])
+told name (Ok Nothing) = done (nothing_line name ∷ [])
+told name (Err (BadSidecar offset)) = refused (bad_sidecar_line name offset)
+told name (Err (Foreign mark kept found)) = refused (foreign_line name mark kept found)
+told name (Err DiskFault) = done []
+
+-- what `recover` comes to: by whether there is a medium of the name, and by what it and its sidecar read
+abbrev pub recover_verdict : Bool → List ℕ → List ℕ → List ℕ → Verdict
+recover_verdict is_there name media sidecar = if is_there then told name (recovery media sidecar) else refused (missing_line name)
+
+-- What a disk tells: of which names there is a medium, and what the two files read.
+pub record DiskWorld : Type 0 where
+  pub is_there : List ℕ → Bool
+  pub media : List ℕ
+  pub sidecar : List ℕ
+
+-- what this disk tells, if it tells it
+abbrev pub disk_world : {D : Type 0} → Ghosts D → D → Option DiskWorld
+disk_world d disk =
+    if d.told then Some record { is_there = d.is_there disk; media = (d.pair disk).media.reads; sidecar = (d.pair disk).sidecar.reads }
+    else None
+
+-- what it comes to over a disk that tells all
+abbrev pub verdict_on : DiskWorld → List ℕ → Verdict
+verdict_on world name = recover_verdict (world.is_there name) name world.media world.sidecar

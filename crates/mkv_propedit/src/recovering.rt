@@ -1,0 +1,63 @@
+//! A file and its sidecar are opened, and recovered.
+
+ghost use Rattle.std.specs.Prelude.{◌≡◌, IfOk};
+ghost use Rattle.mkv_disk.specs.Calls.{AtRest, IsReady, OfReads};
+ghost use Rattle.mkv_lines.specs.Code.{status_of};
+ghost use Rattle.mkv_lines.specs.Ordinary.{IsOrdinary};
+ghost use Rattle.mkv_lines.specs.Said.{SaysLast};
+ghost use Rattle.mkv_lines.specs.Verdict.{SaysVerdict};
+ghost use Rattle.sidecar_edit.specs.Recovery.{recovery};
+ghost use Rattle.mkv_propedit.specs.Recover.{recover_verdict, told};
+ghost use Rattle.mkv_propedit.specs.Recovery.{HasDiskStop, IsRecovery, IsRecoveryOf};
+
+use crate::recover_telling::{recovered_text, tell};
+use mkv_disk::Disk;
+use mkv_io::{OpenFault, Report};
+use mkv_lines::{Line, Status, Stop, refuse};
+use sidecar_edit::recover;
+use std::alloc::Global;
+
+/// Makes an edit of the file of a name whole that was stopped, and says what came of it.
+pub fn recover_of<D: Disk, R: Report>(
+    alloc: Global,
+    name: &str,
+    disk: &mut D,
+    report: &mut R,
+) -> Result<Status, Stop>
+    requires { AtRest D.Disk.own disk.old }
+    ensures verdict { OfReads D.Disk.own disk.old (λ M S.
+        SaysVerdict (R.lines report.old) (R.lines report.new) result (recover_verdict (D.is_there disk.old name.now) name.now M S)) }
+    ensures ordinary { IfOk result IsOrdinary }
+    ensures recovery { IsRecoveryOf D.Reads D.Disk.own name.now disk.old disk.new (status_of result) }
+    ensures cause { HasDiskStop D.Reads D.Disk.own disk.old disk.new (R.faults report.old) (R.faults report.new) result }
+    ensures last { SaysLast (R.lines report.old) (R.lines report.new) result }
+{
+    match disk.open_pair(name) {
+        Ok(()) => recover_open(alloc, name, disk, report),
+        Err(OpenFault::Missing) => refuse(alloc, &Line::Missing { name }, report),
+        Err(OpenFault::Failed) => Err(Stop::Disk),
+        Err(OpenFault::Memory) => Err(Stop::Memory),
+    }
+}
+
+/// Recovers a pair that is open. All memory is taken before anything is written.
+fn recover_open<D: Disk, R: Report>(
+    alloc: Global,
+    name: &str,
+    disk: &mut D,
+    report: &mut R,
+) -> Result<Status, Stop>
+    requires { IsReady D.Reads D.Disk.own disk.old }
+    ensures verdict { OfReads D.Disk.own disk.old (λ M S. SaysVerdict (R.lines report.old) (R.lines report.new) result (told name.now (recovery M S))) }
+    ensures ordinary { IfOk result IsOrdinary }
+    ensures recovery { IsRecovery D.Disk.own disk.old disk.new (status_of result) }
+    ensures opened { D.opened disk.new ≡ D.opened disk.old }
+    ensures cause { HasDiskStop D.Reads D.Disk.own disk.old disk.new (R.faults report.old) (R.faults report.new) result }
+    ensures last { SaysLast (R.lines report.old) (R.lines report.new) result }
+{
+    let Ok(recovered) = recovered_text(alloc, name) else {
+        return Err(Stop::Memory);
+    };
+    let outcome = recover(disk);
+    tell(alloc, name, &recovered, outcome, report)
+}

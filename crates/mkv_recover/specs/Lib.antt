@@ -1,2 +1,0 @@
-pub mod Recover
-pub mod Recovery

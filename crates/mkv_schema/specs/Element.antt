@@ -1,0 +1,140 @@
+-- The Element at a place of a file: RFC 8794, sections 5 (Element ID), 6 (Element Data Size) and 6.2 (Unknown Data Size).
+use Rattle.std.specs.Prelude.{ℕ, ◌+◌, ◌==◌, nat_lt, min, Bool, true, false, not, ◌&&◌, ◌||◌, if◌then◌else◌, List, length, take, drop, slice_index, Option, Some, None, Result, Ok, Err}
+use Rattle.ebml_numbers.specs.declared.number.IdRead.{IdRead}
+use Rattle.ebml_numbers.specs.declared.number.NumFault.{NumFault}
+use Rattle.ebml_numbers.specs.declared.number.NumFault.TheVariants as fault
+use Rattle.ebml_numbers.specs.declared.number.Size.{Size}
+use Rattle.ebml_numbers.specs.declared.number.Size.TheVariants.{Known, Unknown}
+use Rattle.ebml_numbers.specs.declared.number.SizeRead.{SizeRead}
+use Rattle.ebml_numbers.specs.Number.{id_at, size_at}
+use Rattle.mkv_schema.specs.declared.ids.TheConstants.{SEGMENT, CLUSTER, CHAPTER_ATOM, CHAPTER_DISPLAY}
+use Rattle.mkv_io.specs.declared.damage.Damage.{Damage}
+use Rattle.mkv_io.specs.declared.damage.Kind.{Kind}
+use Rattle.mkv_io.specs.declared.damage.Kind.TheVariants.{BadId, BadSize, TooLong, Truncated, UnknownSize}
+use Rattle.mkv_schema.specs.declared.element.Header.{Header}
+
+-- ---- where an Element stands
+
+-- Where an Element stands: which IDs may have an unknown size here or be cut by the end of the file;
+-- whether the octet `80` is an ID here; and whether its parent is read whole, as a tree.
+pub record Setting : Type 0 where
+  pub may_open : ℕ → Bool
+  pub display : Bool
+  pub read_whole : Bool
+
+-- at the start of the file, or behind an Element there: a Segment may be open
+abbrev pub at_level_0 : Setting
+at_level_0 = record { may_open = λ id. id == SEGMENT; display = false; read_whole = false }
+
+-- directly in a Segment: a Cluster may be open
+abbrev pub in_segment : Setting
+in_segment = record { may_open = λ id. id == CLUSTER; display = false; read_whole = false }
+
+-- directly in a Cluster or another master that isn't read whole: no Element may be open
+abbrev pub in_master : Setting
+in_master = record { may_open = λ id. false; display = false; read_whole = false }
+
+-- Directly in a master that is read whole. RFC 9559 gives ChapterDisplay the ID `80`, which RFC 8794
+-- doesn't allow; in a ChapterAtom it is read as that.
+abbrev pub in_tree : ℕ → Setting
+in_tree parent = record { may_open = λ id. false; display = parent == CHAPTER_ATOM; read_whole = true }
+
+-- as if every Segment and every Cluster stood where it may be open
+abbrev pub anywhere : Setting
+anywhere = record { may_open = λ id. id == SEGMENT || id == CLUSTER; display = false; read_whole = false }
+
+-- ---- what its header says
+
+-- the octets from a place on, up to an end
+abbrev pub octets_between : List ℕ → ℕ → ℕ → List ℕ
+octets_between bytes p e = drop p (take e bytes)
+
+-- ChapterDisplay's ID, read from its one octet
+abbrev pub display_read : Result IdRead NumFault
+display_read = Ok (record { id = CHAPTER_DISPLAY; len = 1 })
+
+-- the ID at the front of octets
+abbrev pub id_in : Setting → List ℕ → Result IdRead NumFault
+id_in s octets = if s.display && slice_index octets 0 == CHAPTER_DISPLAY then display_read else id_at octets
+
+abbrev pub is_unknown : Size → Bool
+is_unknown (Known n) = false
+is_unknown Unknown = true
+
+-- the octets of a body whose size is known
+abbrev pub known : Size → ℕ
+known (Known n) = n
+known Unknown = 0
+
+-- the place behind an Element's last octet, as its header states it
+abbrev pub stated_end : Header → ℕ
+stated_end h = h.body + known h.size
+
+-- the same, for a Segment or a Cluster that the end of the file cuts
+abbrev pub end_in : ℕ → Header → ℕ
+end_in e h = min (stated_end h) e
+
+-- ---- what is wrong with it, in a file of `total` octets
+
+abbrev pub damage : Kind → ℕ → ℕ → Damage
+damage kind id offset = record { kind = kind; id = id; offset = offset }
+
+-- A header up to here passes its parent's end: it passes the end of the file too, or not.
+abbrev pub cut_header : Setting → ℕ → ℕ → ℕ → ℕ → Damage
+cut_header s total id p end =
+    if not s.read_whole && nat_lt total end then damage Truncated id p else damage TooLong id p
+
+-- a Segment or a Cluster
+abbrev pub may_be_open : ℕ → Bool
+may_be_open id = id == SEGMENT || id == CLUSTER
+
+-- Its size is unknown, and it isn't a Segment or a Cluster where that may be.
+abbrev pub has_unknown_size : Setting → Header → Bool
+has_unknown_size s h = is_unknown h.size && not (s.may_open h.id)
+
+-- Its body passes the end of the file. A Segment or a Cluster that may be cut there isn't so, nor is
+-- one whose parent ends before the file.
+abbrev pub is_truncated : Setting → ℕ → ℕ → Header → Bool
+is_truncated s total e h =
+    not s.read_whole && nat_lt total (stated_end h)
+    && (not (may_be_open h.id) || (not (s.may_open h.id) && e == total))
+
+-- Its body passes its parent's end. A Segment or a Cluster that may be cut by the end of the file isn't so there.
+abbrev pub is_too_long : Setting → ℕ → ℕ → Header → Bool
+is_too_long s total e h = nat_lt e (stated_end h) && not (s.may_open h.id && e == total)
+
+-- What is wrong with a body, in the order in which it is told. `BodyDamage` has it by where the Element stands.
+abbrev pub body_damage : Setting → ℕ → ℕ → Header → Option Kind
+body_damage s total e h =
+    if has_unknown_size s h then Some UnknownSize else
+    if is_truncated s total e h then Some Truncated else
+    if is_too_long s total e h then Some TooLong else
+    None
+
+-- ---- the Element, or the first damage of its place
+
+abbrev pub with_body : Header → Option Kind → Result Header Damage
+with_body h None = Ok h
+with_body h (Some kind) = Err (damage kind h.id h.offset)
+
+abbrev pub with_size : Setting → ℕ → ℕ → ℕ → ℕ → ℕ → Result SizeRead NumFault → Result Header Damage
+with_size s total p e id at (Err (fault.More n)) = Err (cut_header s total id p (at + n))
+with_size s total p e id at (Err fault.Bad) = Err (damage BadSize id p)
+with_size s total p e id at (Ok size) =
+    let h : Header = record { id = id; offset = p; body = at + size.len; size = size.size } in
+    with_body h (body_damage s total e h)
+
+abbrev pub with_id : Setting → List ℕ → ℕ → ℕ → ℕ → Result IdRead NumFault → Result Header Damage
+with_id s octets total p e (Err fault.Bad) = Err (damage BadId 0 p)
+with_id s octets total p e (Err (fault.More n)) = Err (cut_header s total 0 p (p + n + 1))
+with_id s octets total p e (Ok id) = with_size s total p e id.id (p + id.len) (size_at (drop id.len octets))
+
+-- The Element that these octets begin, which stand at place p of a file of `total` octets, up to its
+-- parent's end e; or what is wrong there. A header that isn't whole has the octets that its part
+-- announces, one for an ID or a size of which nothing is there.
+unfoldable pub element_in : Setting → List ℕ → ℕ → ℕ → ℕ → Result Header Damage
+element_in s octets total p e = with_id s octets total p e (id_in s octets)
+
+-- The Element at place p of a content, whose parent ends at e: it is read from the octets before e alone.
+abbrev pub element_at : Setting → List ℕ → ℕ → ℕ → Result Header Damage
+element_at s bytes p e = element_in s (octets_between bytes p e) (length bytes) p e

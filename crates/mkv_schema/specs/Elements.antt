@@ -1,0 +1,92 @@
+-- The Elements that stand one behind the other: RFC 8794, section 7.7 (Master Element), and section 6.2 (Unknown Data Size).
+use Rattle.std.specs.Prelude.{ℕ, zero, suc, ◌-◌, nat_lt, Bool, false, ◌||◌, if◌then◌else◌, List, [], ◌∷◌, Option, Some, None, Result, Ok, Err}
+use Rattle.ebml_numbers.specs.declared.number.Size.{Size}
+use Rattle.ebml_numbers.specs.declared.number.Size.TheVariants.{Known, Unknown}
+use Rattle.mkv_schema.specs.Schema.{is_level0, is_level1}
+use Rattle.mkv_io.specs.declared.damage.Damage.{Damage}
+use Rattle.mkv_schema.specs.declared.element.Header.{Header}
+use Rattle.mkv_schema.specs.Element.{Setting, in_segment, in_master, element_at, end_in, is_unknown}
+
+-- The Elements from a place on; the damage that ends them, if one does; and the place where they end.
+pub record Run : Type 0 where
+  pub list : List Header
+  pub damage : Option Damage
+  pub end : ℕ
+
+-- nothing more stands here
+abbrev pub ends_at : ℕ → Run
+ends_at p = record { list = []; damage = None; end = p }
+
+-- what stands here is damaged
+abbrev pub breaks_at : ℕ → Damage → Run
+breaks_at p d = record { list = []; damage = Some d; end = p }
+
+-- an Element, and what stands behind it
+abbrev pub in_front : Header → Run → Run
+in_front h rest = record { list = h ∷ rest.list; damage = rest.damage; end = rest.end }
+
+-- the ID at a place where an Element or a damage was found, 0 where it couldn't be read
+abbrev pub id_of : Result Header Damage → ℕ
+id_of (Ok h) = h.id
+id_of (Err d) = d.id
+
+-- where the Element behind this one begins, or the damage inside it
+abbrev pub Next : Type 0
+Next = Header → Result ℕ Damage
+
+abbrev pub behind : ℕ → Header → Result ℕ Damage → (ℕ → Run) → Run
+behind p h (Ok q) rest = in_front h (rest q)
+behind p h (Err d) rest = in_front h (breaks_at p d)
+
+abbrev pub step : ℕ → Next → Result Header Damage → (ℕ → Run) → Run
+step p next (Err d) rest = breaks_at p d
+step p next (Ok h) rest = behind p h (next h) rest
+
+-- The Elements from p on, each where the one before it ends, up to e: they end before an ID that
+-- passes the test, whatever the rest of its header is, and at the first damage. (n bounds how many there are.)
+unfoldable pub elements_within : ℕ → Setting → (ℕ → Bool) → Next → List ℕ → ℕ → ℕ → Run
+elements_within zero s stops next bytes p e = ends_at p
+elements_within (suc n) s stops next bytes p e =
+    if nat_lt p e then
+    (if stops (id_of (element_at s bytes p e)) then ends_at p else
+    step p next (element_at s bytes p e) (λ q. elements_within n s stops next bytes q e))
+    else ends_at p
+
+-- each Element has at least one octet
+unfoldable pub elements : Setting → (ℕ → Bool) → Next → List ℕ → ℕ → ℕ → Run
+elements s stops next bytes p e = elements_within (e - p) s stops next bytes p e
+
+-- no ID ends these Elements
+abbrev pub never : ℕ → Bool
+never id = false
+
+-- ---- the masters whose Elements are listed
+
+-- the children of a master whose end is known, and which isn't a Segment
+abbrev pub children_in : Setting → List ℕ → ℕ → ℕ → Run
+children_in s bytes p e = elements s never (λ h. Ok (end_in e h)) bytes p e
+
+-- A Cluster of unknown size ends before an Element of level 1 or 0, whatever its header is otherwise,
+-- or at its parent's end.
+abbrev pub ends_cluster : ℕ → Bool
+ends_cluster id = is_level1 id || is_level0 id
+
+abbrev pub open_cluster : List ℕ → ℕ → ℕ → Run
+open_cluster bytes p e = elements in_master ends_cluster (λ h. Ok (end_in e h)) bytes p e
+
+abbrev pub end_of_run : Run → Option Damage → Result ℕ Damage
+end_of_run run None = Ok run.end
+end_of_run run (Some d) = Err d
+
+-- where an Element of a Segment ends: a Cluster of unknown size ends with its children
+abbrev pub behind_in_segment : List ℕ → ℕ → Next
+behind_in_segment bytes e h = if is_unknown h.size then end_of_run (open_cluster bytes h.body e) (open_cluster bytes h.body e).damage else Ok (end_in e h)
+
+-- A Segment of unknown size ends before an Element of level 0, or at the end of the file.
+abbrev pub ends_segment : Size → ℕ → Bool
+ends_segment (Known n) id = false
+ends_segment Unknown id = is_level0 id
+
+-- the Elements of level 1
+abbrev pub level_1 : List ℕ → Size → ℕ → ℕ → Run
+level_1 bytes size p e = elements in_segment (ends_segment size) (behind_in_segment bytes e) bytes p e

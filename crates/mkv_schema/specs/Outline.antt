@@ -1,0 +1,200 @@
+-- The outline of a file: RFC 8794, section 8 (EBML Document), and RFC 9559, sections 4.5 (Data Layout) and 5.1 (Segment Element).
+use Rattle.std.specs.Prelude.{ℕ, ◌+◌, ◌==◌, nat_eq, nat_lt, Bool, true, false, not, ◌&&◌, ◌||◌, if◌then◌else◌, List, [], ◌∷◌, ◌++◌, length, filter, find, sum_by, count_by, codes, Option, Some, None, Result, Ok, Err}
+use Rattle.std.specs.List.{starts_with}
+use Rattle.std.specs.Option.{option_map, option_map_or}
+use Rattle.std.specs.Str.{bytes_eq}
+use Rattle.mkv_schema.specs.declared.limits.TheConstants.{MOST_OF_HEADER, MOST_OF_ONE, MOST_OF_ALL, MOST_ELEMENTS}
+use Rattle.mkv_schema.specs.declared.ids.TheConstants.{EBML, EBML_READ_VERSION, EBML_MAX_ID_LENGTH, EBML_MAX_SIZE_LENGTH, DOC_TYPE, DOC_TYPE_READ_VERSION, SEGMENT, INFO, TRACKS, CHAPTERS, TAGS, CLUSTER}
+use Rattle.mkv_io.specs.declared.damage.Damage.{Damage}
+use Rattle.mkv_io.specs.declared.damage.Kind.{Kind}
+use Rattle.mkv_io.specs.declared.damage.Kind.TheVariants.{NotEbml, DocType, ReadVersion, MaxLengths, NoSegment, BadValue, HeaderTooLarge, TooMany}
+use Rattle.mkv_schema.specs.declared.element.Header.{Header}
+use Rattle.mkv_schema.specs.Element.{at_level_0, in_tree, element_at, damage, known, is_unknown, stated_end, end_in}
+use Rattle.mkv_schema.specs.Elements.{Run, elements, children_in, level_1}
+use Rattle.mkv_schema.specs.Value.{body_of, is_known_value, first_of, uint_in, text_in}
+
+-- ---- refusals, the first that stands
+
+-- the first damage of a list of causes
+abbrev pub first_damage : List (Option Damage) → Option Damage
+first_damage [] = None
+first_damage (None ∷ causes) = first_damage causes
+first_damage (Some d ∷ causes) = Some d
+
+-- a value, unless something refuses it
+abbrev pub unless : {A : Type 0} → Option Damage → A → Result A Damage
+unless None x = Ok x
+unless (Some d) x = Err d
+
+-- what is made of a value that was found
+abbrev pub and_then : {A B : Type 0} → Result A Damage → (A → Result B Damage) → Result B Damage
+and_then (Ok x) more = more x
+and_then (Err d) more = Err d
+
+-- a damage, where a test holds
+abbrev pub where_it : Bool → Damage → Option Damage
+where_it true d = Some d
+where_it false d = None
+
+-- ---- the EBML header (RFC 8794, section 8.1, EBML Header)
+
+-- the octets of the EBML header's ID
+abbrev pub ebml_mark : List ℕ
+ebml_mark = 0x1A ∷ 0x45 ∷ 0xDF ∷ 0xA3 ∷ []
+
+-- the EBML header's children, which are read whole
+abbrev pub header_children : List ℕ → Header → Run
+header_children bytes h = children_in (in_tree EBML) bytes h.body (stated_end h)
+
+-- an Element whose body is longer than the limit
+abbrev pub over : ℕ → Header → Option Damage
+over limit h = where_it (nat_lt limit (known h.size)) (damage HeaderTooLarge h.id h.offset)
+
+-- the first child whose octets aren't a value of its kind
+abbrev pub bad_value : List ℕ → ℕ → List Header → Option Damage
+bad_value bytes parent list =
+    option_map (λ h. damage BadValue h.id h.offset)
+    (find (λ h. not (is_known_value parent h.id (body_of bytes h))) list)
+
+-- where the first Element of an ID stands, 0 where there is none
+abbrev pub place_of : ℕ → List Header → ℕ
+place_of id list = option_map_or (λ h. h.offset) (first_of id list) 0
+
+-- the document types that are read (RFC 9559, section 4.3, Added EBML Constraints)
+abbrev pub is_doc_type : Option (List ℕ) → Bool
+is_doc_type None = false
+is_doc_type (Some text) = bytes_eq text (codes "matroska") || bytes_eq text (codes "webm")
+
+abbrev pub wrong_doc_type : List ℕ → List Header → Option Damage
+wrong_doc_type bytes list = where_it (not (is_doc_type (text_in bytes DOC_TYPE list))) (damage DocType DOC_TYPE (place_of DOC_TYPE list))
+
+-- an integer that is above what is read
+abbrev pub above : List ℕ → ℕ → ℕ → Kind → List Header → Option Damage
+above bytes id limit kind list = where_it (nat_lt limit (uint_in bytes id list)) (damage kind id (place_of id list))
+
+-- what refuses the children of an EBML header, in the order in which it is told
+abbrev pub children_causes : List ℕ → Run → List (Option Damage)
+children_causes bytes children =
+    bad_value bytes EBML children.list ∷
+    children.damage ∷
+    wrong_doc_type bytes children.list ∷
+    above bytes EBML_READ_VERSION 1 ReadVersion children.list ∷
+    above bytes DOC_TYPE_READ_VERSION 4 ReadVersion children.list ∷
+    above bytes EBML_MAX_ID_LENGTH 4 MaxLengths children.list ∷
+    above bytes EBML_MAX_SIZE_LENGTH 8 MaxLengths children.list ∷
+    []
+
+-- what refuses an EBML header, in the order in which it is told
+abbrev pub header_causes : List ℕ → Header → Run → List (Option Damage)
+header_causes bytes h children = over MOST_OF_HEADER h ∷ children_causes bytes children
+
+-- the Element at the start of a file that begins as an EBML header does
+abbrev pub first_element : List ℕ → Result Header Damage
+first_element bytes =
+    if starts_with nat_eq bytes ebml_mark then element_at at_level_0 bytes 0 (length bytes) else Err (damage NotEbml 0 0)
+
+-- the EBML header, or what refuses the file there
+unfoldable pub ebml_header : List ℕ → Result Header Damage
+ebml_header bytes =
+    and_then (first_element bytes) (λ h. unless (first_damage (header_causes bytes h (header_children bytes h))) h)
+
+-- ---- the Segment (RFC 9559, section 5.1, Segment Element)
+
+-- the Elements of level 0 up to the Segment, which are skipped
+abbrev pub before_segment : List ℕ → ℕ → Run
+before_segment bytes p = elements at_level_0 (λ id. id == SEGMENT) (λ h. Ok (end_in (length bytes) h)) bytes p (length bytes)
+
+-- the Segment behind them, or the end of the file
+abbrev pub segment_behind : List ℕ → Run → Result Header Damage
+segment_behind bytes run =
+    if nat_lt run.end (length bytes) then element_at at_level_0 bytes run.end (length bytes)
+    else Err (damage NoSegment 0 (length bytes))
+
+-- the Segment that follows an EBML header, or what refuses the file on the way
+unfoldable pub segment_of : List ℕ → Header → Result Header Damage
+segment_of bytes ebml =
+    let run = before_segment bytes (stated_end ebml) in
+    and_then (unless run.damage run) (segment_behind bytes)
+
+-- the place up to which a Segment may reach
+abbrev pub segment_bound : List ℕ → Header → ℕ
+segment_bound bytes segment = if is_unknown segment.size then length bytes else end_in (length bytes) segment
+
+-- the Elements of level 1 of a Segment
+abbrev pub segment_run : List ℕ → Header → Run
+segment_run bytes segment = level_1 bytes segment.size segment.body (segment_bound bytes segment)
+
+-- ---- limits of level 1
+
+-- an Info, Tracks, Chapters or Tags
+abbrev pub is_described : ℕ → Bool
+is_described id = id == INFO || id == TRACKS || id == CHAPTERS || id == TAGS
+
+-- the octets that they have in a list
+abbrev pub described : List Header → ℕ
+described list = sum_by (λ h. known h.size) (filter (λ h. is_described h.id) list)
+
+-- how many Elements of a list aren't Clusters
+abbrev pub others : List Header → ℕ
+others list = count_by (λ h. not (h.id == CLUSTER)) list
+
+-- An Element with those before it passes a limit; earlier inputs have held so many octets of such Elements.
+abbrev pub passes_size : ℕ → List Header → Header → Bool
+passes_size held before h =
+    is_described h.id
+    && (nat_lt MOST_OF_ONE (known h.size) || nat_lt MOST_OF_ALL (held + described (before ++ h ∷ [])))
+
+abbrev pub passes_count : List Header → Header → Bool
+passes_count before h = not (h.id == CLUSTER) && nat_lt MOST_ELEMENTS (others (before ++ h ∷ []))
+
+abbrev pub limit_causes : ℕ → List Header → Header → List (Option Damage)
+limit_causes held before h =
+    where_it (passes_size held before h) (damage HeaderTooLarge h.id h.offset) ∷
+    where_it (passes_count before h) (damage TooMany h.id h.offset) ∷
+    []
+
+-- the first Element that passes a limit
+abbrev pub first_refusal : Option Damage → Option Damage → Option Damage
+first_refusal None later = later
+first_refusal (Some d) later = Some d
+
+abbrev pub limits_from : ℕ → List Header → List Header → Option Damage
+limits_from held before [] = None
+limits_from held before (h ∷ hs) =
+    first_refusal (first_damage (limit_causes held before h)) (limits_from held (before ++ h ∷ []) hs)
+
+-- ---- the outline
+
+-- The EBML header, the Segment, the Elements of level 1, the damage that ends them, if one does, and
+-- where the Segment ends.
+pub record Outlined : Type 0 where
+  pub ebml : Header
+  pub segment : Header
+  pub list : List Header
+  pub damage : Option Damage
+  pub end : ℕ
+
+-- A Segment of unknown size that a damage ends reaches to the end of the file.
+abbrev pub segment_end : List ℕ → Header → Run → ℕ
+segment_end bytes segment run =
+    if is_unknown segment.size then option_map_or (λ (d : Damage). length bytes) run.damage run.end
+    else end_in (length bytes) segment
+
+abbrev pub outlined : List ℕ → Header → Header → Run → Outlined
+outlined bytes ebml segment run = record {
+  ebml = ebml;
+  segment = segment;
+  list = run.list;
+  damage = run.damage;
+  end = segment_end bytes segment run;
+}
+
+abbrev pub within_limits : ℕ → List ℕ → Header → Header → Result Outlined Damage
+within_limits held bytes ebml segment =
+    let run = segment_run bytes segment in
+    unless (limits_from held [] run.list) (outlined bytes ebml segment run)
+
+-- the outline of a file, or the first refusal; earlier inputs have held so many octets
+unfoldable pub outline_of : ℕ → List ℕ → Result Outlined Damage
+outline_of held bytes =
+    and_then (ebml_header bytes) (λ ebml. and_then (segment_of bytes ebml) (λ segment. within_limits held bytes ebml segment))

@@ -1,5 +1,0 @@
-use Rattle.output_laws.proofs.FrameLemmas.{frames-can}
-use Rattle.output_laws.proofs.frames_can_be_written.Goals as goal
-
-pub returns : goal.returns
-returns c = frames-can

@@ -1,5 +1,0 @@
-use Rattle.output_laws.proofs.KeptLemmas.{group-kept}
-use Rattle.output_laws.proofs.kept_can_be_written.Goals as goal
-
-pub returns : goal.returns
-returns c = group-kept

@@ -1,5 +1,0 @@
-use Rattle.output_laws.proofs.CueLemmas.{points-hold}
-use Rattle.output_laws.proofs.points_are_read.Goals as goal
-
-pub returns : goal.returns
-returns c = points-hold

@@ -1,0 +1,52 @@
+-- What a reader's limits change, how large a block is that is read with them, and which damages are told.
+use Rattle.std.specs.Prelude.{◌≡◌, ◌≤◌, ◌<◌, ℕ, nat_abs, Bool, if◌then◌else◌, List, [], ◌∷◌, ◌++◌, length, map, sum}
+use Rattle.std.specs.List.{All}
+use Rattle.std.specs.Option.{IfSome, option_map_or}
+use Rattle.ebml_numbers.specs.Number.{AreOctets}
+use Rattle.lacing.specs.declared.kind.Lace.{Lace}
+use Rattle.lacing.specs.Writing.{FitsKind}
+use Rattle.mkv_io.specs.declared.damage.Damage.{Damage}
+use Rattle.mkv_schema.specs.declared.element.Header.{Header}
+use Rattle.block_format.specs.declared.limits.TheConstants.{MOST_OF_BLOCK, MOST_REFERENCES, TOO_LARGE_TIME}
+use Rattle.block_format.specs.Block.{Block}
+use Rattle.block_format.specs.Elements.{Rules, with_limits, without_limits}
+use Rattle.block_format.specs.Events.{Event, stopped, Found, first_wrong, events_then, events_of, blocks_of, damages_of}
+
+-- Where a file is read with limits and no damage of any kind is told, limits change nothing.
+abbrev pub LimitsChangeNothing : Type 0
+LimitsChangeNothing =
+    (scale : ℕ) (bytes : List ℕ) (segment : Header) → damages_of (events_of (with_limits scale) bytes segment) ≡ []
+    → events_of (without_limits scale) bytes segment ≡ events_of (with_limits scale) bytes segment
+
+-- Behind a damage that ends what is read of a file no event follows.
+abbrev pub StopsAtTheEnd : Type 0
+StopsAtTheEnd =
+    (r : Rules) (bytes : List ℕ) (segment : Header) (before behind : List Event) (d : Damage) → events_of r bytes segment ≡ before ++ stopped d ∷ behind → behind ≡ []
+
+-- Of what is found in a Cluster the first damage alone is told. Behind it reading goes on where the Cluster is
+-- closed.
+abbrev pub TellsTheFirstWrong : Type 0
+TellsTheFirstWrong =
+    (closed : Bool) (found : List Found) (rest : List Event)
+    → damages_of (events_then closed found rest) ≡ option_map_or (λ d. d ∷ (if closed then damages_of rest else [])) (first_wrong found) (damages_of rest)
+
+-- 1 to 256 sizes that this kind can lace, of 32 MiB at most.
+pub record CanBeLaced (kind : Lace) (sizes : List ℕ) : Type 0 where
+  pub some : 1 ≤ length sizes
+  pub most : length sizes ≤ 256
+  pub total : sum sizes ≤ MOST_OF_BLOCK
+  pub fits : FitsKind kind sizes
+
+-- Its time, its duration and its references are below 2^56 nanoseconds; it has at most 64 references, frames that
+-- its kind of lace can have, and at most 32 MiB of what else is kept.
+pub record IsSmall (b : Block) : Type 0 where
+  pub time : nat_abs b.time < TOO_LARGE_TIME
+  pub duration : IfSome b.duration (λ d. d < TOO_LARGE_TIME)
+  pub references : All (λ z. nat_abs z < TOO_LARGE_TIME) b.references
+  pub few : length b.references ≤ MOST_REFERENCES
+  pub frames : CanBeLaced b.lace (map (λ (frame : List ℕ). length frame) b.frames)
+  pub kept : length b.kept ≤ MOST_OF_BLOCK
+
+-- Each block of a file that is read with limits is small.
+abbrev pub BlocksAreSmall : Type 0
+BlocksAreSmall = (scale : ℕ) (bytes : List ℕ) (segment : Header) → AreOctets bytes → All IsSmall (blocks_of (events_of (with_limits scale) bytes segment))

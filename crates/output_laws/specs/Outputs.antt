@@ -1,0 +1,65 @@
+-- What is written of blocks and Clusters is read back, and what was read of them can be written again.
+use Rattle.std.specs.Prelude.{◌≡◌, ◌≤◌, ℕ, ◌+◌, Bool, List, [], ◌∷◌, length, map, All, Option, Some, None, Ok}
+use Rattle.ebml_numbers.specs.Number.{AreOctets}
+use Rattle.mkv_schema.specs.declared.element.Header.{Header}
+use Rattle.mkv_schema.specs.Element.{stated_end}
+use Rattle.mkv_schema.specs.Outline.{segment_run}
+use Rattle.lacing.specs.declared.kind.Lace.{Lace}
+use Rattle.lacing.specs.Writing.{CanLace}
+use Rattle.block_format.specs.Block.{Block}
+use Rattle.block_format.specs.Elements.{Rules, without_limits, block_group}
+use Rattle.block_format.specs.Events.{found_at, found_in, events_of}
+use Rattle.output_laws.specs.Blocks.{CanBeLaced}
+use Rattle.output_model.specs.Element.{HoldsAt, header_of, octets_of, joined, header_in_place, headers_in_place}
+use Rattle.output_model.specs.declared.TheConstants.{MOST_LANES, MOST_OF_PREFIX}
+use Rattle.output_model.specs.OutputBlock.{OutputBlock, prefixed}
+use Rattle.output_model.specs.Block.{block_element}
+use Rattle.output_model.specs.Cluster.{OutputCluster, cluster_element}
+use Rattle.output_model.specs.Cues.{points_from}
+use Rattle.output_model.specs.Sound.{IsSoundIn, IsSoundCluster, AreKept}
+use Rattle.output_laws.specs.Places.{HasSize, block_in_place, found_blocks, block_events, cluster_blocks, OutputSegment, segment_elements, segment_element, IsSoundSegment, segment_blocks}
+use Rattle.output_laws.specs.Points.{PointsAtBlock}
+
+-- The Element of a sound block, wherever it stands in a content, is read as that block, behind its Cluster's Timestamp.
+abbrev pub BlocksAreRead : Type 0
+BlocksAreRead =
+    (scale : ℕ) (bytes : List ℕ) (timestamp : ℕ) (b : OutputBlock) (p : ℕ) → IsSoundIn MOST_LANES timestamp b → HasSize (block_element timestamp b)
+    → HoldsAt bytes p (octets_of (block_element timestamp b))
+    → found_at (without_limits scale) bytes (Some timestamp) (header_in_place p (block_element timestamp b)) ≡ Ok (block_in_place scale p b) ∷ []
+
+-- A sound Cluster that stands in a content gives its blocks, whatever follows it.
+abbrev pub ClustersAreRead : Type 0
+ClustersAreRead =
+    (scale : ℕ) (bytes : List ℕ) (c : OutputCluster) (p e : ℕ) → IsSoundCluster MOST_LANES c → HasSize (cluster_element c)
+    → HoldsAt bytes p (octets_of (cluster_element c)) → p + length (octets_of (cluster_element c)) ≤ e
+    → found_in (without_limits scale) bytes e (header_in_place p (cluster_element c)) ≡ found_blocks (cluster_blocks scale p c)
+
+-- The Elements of a Segment that stands at a place are those of level 1, without damage; its blocks are those of its
+-- Clusters, without damage.
+pub record SegmentIsRead (scale : ℕ) (bytes : List ℕ) (s : OutputSegment) (p : ℕ) : Type 0 where
+  pub level_1 : (segment_run bytes (header_in_place p (segment_element s))).list ≡ headers_in_place (p + length (header_of (segment_element s))) (segment_elements s)
+  pub unbroken : (segment_run bytes (header_in_place p (segment_element s))).damage ≡ None
+  pub events : events_of (without_limits scale) bytes (header_in_place p (segment_element s)) ≡ block_events (segment_blocks scale p s)
+
+abbrev pub SegmentsAreRead : Type 0
+SegmentsAreRead =
+    (scale : ℕ) (bytes : List ℕ) (s : OutputSegment) (p : ℕ) → IsSoundSegment s → HoldsAt bytes p (octets_of (segment_element s))
+    → SegmentIsRead scale bytes s p
+
+-- The point of each block of a sound Segment points at that block, whichever blocks have one.
+abbrev pub PointsAreRead : Type 0
+PointsAreRead =
+    (scale : ℕ) (bytes : List ℕ) (cued : OutputBlock → Bool) (s : OutputSegment) (p : ℕ) → IsSoundSegment s → HoldsAt bytes p (octets_of (segment_element s))
+    → All (PointsAtBlock scale bytes (header_in_place p (segment_element s))) (points_from cued (length (joined s.front)) s.clusters)
+
+-- What is kept of a group that was read can be written, and read again.
+abbrev pub KeptCanBeWritten : Type 0
+KeptCanBeWritten =
+    (r : Rules) (bytes : List ℕ) (timestamp : Option ℕ) (h : Header) (b : Block) → AreOctets bytes → stated_end h ≤ length bytes
+    → block_group r bytes timestamp h ≡ Ok b → AreKept b.kept
+
+-- Frames that were read with a reader's limits can be laced as they were, with 4,096 octets in front of each at most.
+abbrev pub FramesCanBeWritten : Type 0
+FramesCanBeWritten =
+    (kind : Lace) (prefix : List ℕ) (frames : List (List ℕ)) → CanBeLaced kind (map length frames) → length prefix ≤ MOST_OF_PREFIX
+    → CanLace kind (map length (prefixed prefix frames))

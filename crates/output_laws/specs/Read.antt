@@ -1,0 +1,40 @@
+-- Blocks that were read, as far as they can be written: RFC 9559, section 10 (Cluster Blocks).
+use Rattle.std.specs.Prelude.{◌≡◌, ◌≤◌, ◌<◌, ℕ, ◌==◌, nat_abs, true, false, [], length, None}
+use Rattle.block_format.specs.Block.{Block}
+use Rattle.output_laws.specs.Blocks.{IsSmall}
+use Rattle.output_model.specs.declared.TheConstants.{MOST_OF_PREFIX}
+use Rattle.output_model.specs.Sound.{AreKept}
+use Rattle.merge_model.specs.declared.limits.TheConstants.{MOST_SHIFT, TOO_LARGE_DELAY}
+use Rattle.merge_model.specs.Links.{Placing}
+
+-- A SimpleBlock says nothing besides its frames and its flags.
+pub record IsReadSimple (b : Block) : Type 0 where
+  pub duration : b.duration ≡ None
+  pub references : b.references ≡ []
+  pub kept : b.kept ≡ []
+
+-- A group is key where it refers to nothing; nothing says that it may be left out.
+pub record IsReadGroup (b : Block) : Type 0 where
+  pub key : b.key ≡ (length b.references == 0)
+  pub discardable : b.discardable ≡ false
+  pub kept : AreKept b.kept
+
+-- What a block says besides its frames is what its kind can say.
+pub record IsOfItsKind (b : Block) : Type 0 where
+  pub simple : b.group ≡ false → IsReadSimple b
+  pub group : b.group ≡ true → IsReadGroup b
+
+-- A block as a reader with limits finds it.
+pub record IsReadBlock (b : Block) : Type 0 where
+  pub small : IsSmall b
+  pub kind : IsOfItsKind b
+
+-- A delay, a shift and what stands in front of frames are within the limits.
+pub record IsPlacing (p : Placing) : Type 0 where
+  pub delay : nat_abs p.delay < TOO_LARGE_DELAY
+  pub shift : p.shift ≤ MOST_SHIFT
+  pub prefix : length p.prefix ≤ MOST_OF_PREFIX
+
+-- the least number of nanoseconds a tick that an output can have
+abbrev pub LEAST_SCALE : ℕ
+LEAST_SCALE = 1000

@@ -1,0 +1,113 @@
+-- A content that is read as a document: RFC 8794, section 8 (EBML Document), and RFC 9559, sections 4.5 (Data Layout) and 5.1 (Segment Element).
+use Rattle.std.specs.Prelude.{◌≡◌, ℕ, ◌+◌, false, List, [], ◌∷◌, ◌++◌, length, map, All, Option, None, Some, Ok}
+use Rattle.std.specs.List.{AllZip}
+use Rattle.mkv_schema.specs.declared.ids.TheConstants.{INFO, TRACKS, ATTACHMENTS, CUES, CHAPTERS, TAGS}
+use Rattle.mkv_schema.specs.declared.element.Header.{Header}
+use Rattle.mkv_schema.specs.Element.{in_master, in_segment, element_at, stated_end}
+use Rattle.mkv_schema.specs.Elements.{children_in}
+use Rattle.mkv_schema.specs.Value.{body_of, first_of}
+use Rattle.mkv_schema.specs.Outline.{segment_bound, Outlined}
+use Rattle.mkv_schema.specs.WithoutLimits.{outline_without_limits}
+use Rattle.tree_format.specs.Node.{Node, id_of}
+use Rattle.tree_format.specs.Order.{tree_without_limits}
+use Rattle.tree_format.specs.Standing.{placed_in}
+use Rattle.file_format.specs.Info.{scale_of, scale_without_limits}
+use Rattle.block_format.specs.Block.{Block}
+use Rattle.file_format.specs.FileBlocks.{file_events}
+use Rattle.output_model.specs.Element.{octets_of, joined, header_in_place, headers_in_place}
+use Rattle.output_model.specs.declared.places.CuePoint.{CuePoint}
+use Rattle.output_model.specs.declared.places.Seek.{Seek}
+use Rattle.output_model.specs.Cues.{point_element}
+use Rattle.output_model.specs.SeekHead.{area_elements}
+use Rattle.output_model.specs.Document.{Document, ebml_element, front_elements, back_elements, seeks_of}
+use Rattle.output_laws.specs.Places.{OutputSegment, segment_elements, segment_element, segment_blocks, block_events}
+use Rattle.output_laws.specs.Points.{PointsAtBlock}
+
+-- ---- where a document's Elements stand
+
+-- the area and what stands in front, the Clusters, and what stands behind them
+abbrev pub segment_of_document : Document → OutputSegment
+segment_of_document d = record {
+  front = area_elements (seeks_of d) ++ front_elements d.front;
+  clusters = d.clusters;
+  behind = back_elements d;
+}
+
+abbrev pub header_of_ebml : Document → Header
+header_of_ebml d = header_in_place 0 (ebml_element d.front.webm)
+
+-- the Segment stands behind the EBML header
+abbrev pub segment_place : Document → ℕ
+segment_place d = length (octets_of (ebml_element d.front.webm))
+
+abbrev pub header_of_segment : Document → Header
+header_of_segment d = header_in_place (segment_place d) (segment_element (segment_of_document d))
+
+-- the Elements of level 1
+abbrev pub level_1_of : Document → List Header
+level_1_of d = headers_in_place (header_of_segment d).body (segment_elements (segment_of_document d))
+
+-- the outline of a document that has so many octets
+abbrev pub outline_of_document : Document → ℕ → Outlined
+outline_of_document d total = record { ebml = header_of_ebml d; segment = header_of_segment d; list = level_1_of d; damage = None; end = total }
+
+-- the blocks of its Clusters, at the scale of its Info
+abbrev pub blocks_of_document : Document → List Block
+blocks_of_document d = segment_blocks (scale_of d.front.info) (segment_place d) (segment_of_document d)
+
+-- ---- its records
+
+-- An Element of a content is a record: without a reader's limits it is read as that record's tree in normal form, in
+-- which each Element has its own place.
+pub record IsRecordAt (bytes : List ℕ) (h : Header) (n : Node) : Type 0 where
+  pub id : h.id ≡ id_of n
+  pub read : tree_without_limits h.id h.offset (body_of bytes h) h.body ≡ Ok (placed_in h.offset h.body n)
+
+-- The first Element of an ID is this record; where there is no record, there is no such Element.
+abbrev pub FirstIs : List ℕ → List Header → ℕ → Option Node → Type 0
+FirstIs bytes list id None = first_of id list ≡ None
+FirstIs bytes list id (Some n) = (h : Header) × (first_of id list ≡ Some h) × IsRecordAt bytes h n
+
+-- the children of a master are these records, without damage
+pub record ChildrenAre (bytes : List ℕ) (h : Header) (ns : List Node) : Type 0 where
+  pub unbroken : (children_in in_master bytes h.body (stated_end h)).damage ≡ None
+  pub are : AllZip (IsRecordAt bytes) (children_in in_master bytes h.body (stated_end h)).list ns
+
+-- The children of the first Attachments are these AttachedFiles; where there are none, there is no Attachments.
+abbrev pub AttachmentsAre : List ℕ → List Header → List Node → Type 0
+AttachmentsAre bytes list [] = first_of ATTACHMENTS list ≡ None
+AttachmentsAre bytes list (n ∷ ns) = (h : Header) × (first_of ATTACHMENTS list ≡ Some h) × ChildrenAre bytes h (n ∷ ns)
+
+-- The first Cues has these points as its body; where there are none, there is no Cues.
+abbrev pub CuesAre : List ℕ → List Header → List CuePoint → Type 0
+CuesAre bytes list [] = first_of CUES list ≡ None
+CuesAre bytes list (p ∷ ps) = (h : Header) × (first_of CUES list ≡ Some h) × (body_of bytes h ≡ joined (map point_element (p ∷ ps)))
+
+-- Of the Elements of level 1 these are the document's records, and its cue points.
+pub record RecordsAre (bytes : List ℕ) (list : List Header) (d : Document) : Type 0 where
+  pub info : FirstIs bytes list INFO (Some d.front.info)
+  pub tracks : FirstIs bytes list TRACKS (Some d.front.tracks)
+  pub attachments : AttachmentsAre bytes list d.front.attachments
+  pub cues : CuesAre bytes list d.cues
+  pub chapters : FirstIs bytes list CHAPTERS d.chapters
+  pub tags : FirstIs bytes list TAGS d.tags
+
+-- ---- its Seeks
+
+-- So many octets inside the Segment stands an Element of this ID.
+abbrev pub SeeksElement : List ℕ → Header → Seek → Type 0
+SeeksElement bytes segment s =
+    (h : Header) × (element_at in_segment bytes (segment.body + s.position) (segment_bound bytes segment) ≡ Ok h) × (h.id ≡ s.id)
+
+-- ---- the whole
+
+-- A content is read as a document, without a reader's limits: it has the document's outline, which no damage ends; its
+-- scale, its records and its cue points are the document's; its blocks are those of the Clusters, without damage; each Seek names
+-- where its Element stands; and each cue point points at its block.
+pub record IsReadAs (d : Document) (bytes : List ℕ) : Type 0 where
+  pub outline : outline_without_limits bytes ≡ Ok (outline_of_document d (length bytes))
+  pub scale : scale_without_limits bytes (header_of_segment d) ≡ scale_of d.front.info
+  pub records : RecordsAre bytes (level_1_of d) d
+  pub events : file_events false bytes (header_of_segment d) ≡ block_events (blocks_of_document d)
+  pub seeks : All (SeeksElement bytes (header_of_segment d)) (seeks_of d)
+  pub cues : All (PointsAtBlock (scale_of d.front.info) bytes (header_of_segment d)) d.cues

@@ -1,0 +1,14 @@
+//! What is written of a whole output is read back by the format's definitions (RFC 8794, section 8, EBML Document, and
+//! RFC 9559, section 5.1, Segment Element). Laws alone: no code that reads or writes stands on this crate.
+
+ghost use Rattle.output_laws.specs.Layouts.{LayoutsAreRead, OpenedIsOverwritten};
+
+/// A written document is read as that document: its outline, its records, its blocks, its Seeks and its cue points.
+pub fn layouts_are_read()
+    ensures { LayoutsAreRead }
+{}
+
+/// An output before its last two writes differs from the finished one in the Segment's size and in the area alone.
+pub fn opened_is_overwritten()
+    ensures { OpenedIsOverwritten }
+{}

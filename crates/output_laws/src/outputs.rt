@@ -1,0 +1,35 @@
+//! What is written of blocks and Clusters is read back by the format's definitions (RFC 9559, sections 5.1.3, Cluster
+//! Element, 5.1.5, Cues Element, and 10, Cluster Blocks), and what was read of them can be written again. Laws alone:
+//! no code that reads or writes stands on this crate.
+
+ghost use Rattle.output_laws.specs.Outputs.{BlocksAreRead, ClustersAreRead, FramesCanBeWritten, KeptCanBeWritten, PointsAreRead, SegmentsAreRead};
+
+/// A written block is read as that block, wherever it stands.
+pub fn blocks_are_read()
+    ensures { BlocksAreRead }
+{}
+
+/// A written Cluster gives its blocks, whatever follows it.
+pub fn clusters_are_read()
+    ensures { ClustersAreRead }
+{}
+
+/// A written Segment has its Elements at level 1, and gives the blocks of its Clusters, without damage.
+pub fn segments_are_read()
+    ensures { SegmentsAreRead }
+{}
+
+/// Each cue point of a written Segment points at its block.
+pub fn points_are_read()
+    ensures { PointsAreRead }
+{}
+
+/// What is kept of a group that was read can be written again.
+pub fn kept_can_be_written()
+    ensures { KeptCanBeWritten }
+{}
+
+/// The frames of a block that was read can be written again, with octets in front of each.
+pub fn frames_can_be_written()
+    ensures { FramesCanBeWritten }
+{}

@@ -1,0 +1,31 @@
+-- Attached files: RFC 9559, section 5.1.6 (Attachments Element).
+use Rattle.std.specs.Prelude.{ℕ, ◌+◌, List, length, replicate, Option, Some, None}
+use Rattle.mkv_schema.specs.declared.ids.TheConstants.{FILE_DATA}
+use Rattle.mkv_io.specs.Contents.{octets_from}
+use Rattle.mkv_io.specs.LiveFiles.{LiveFiles}
+use Rattle.tree_format.specs.Node.{Node, leaf, children, with_children}
+use Rattle.tree_format.specs.NormalForm.{octets}
+use Rattle.tree_format.specs.Changes.{with_child}
+use Rattle.output_model.specs.declared.attachment.Attachment.{Attachment}
+
+-- So many octets of a content, from a place on. Where it isn't told, as many zeros stand for them.
+abbrev pub octets_told : Option (List ℕ) → ℕ → ℕ → List ℕ
+octets_told None at n = replicate n 0
+octets_told (Some bytes) at n = octets_from bytes at n
+
+-- the data of an attached file
+abbrev pub data_of : LiveFiles → Attachment → List ℕ
+data_of files a = octets_told (files.content a.file.n) a.at a.len
+
+-- An AttachedFile that has these octets as its FileData, in the place of its first FileData, and of no other; where it
+-- has none, behind all else.
+abbrev pub with_data : List ℕ → Node → Node
+with_data bytes entry = with_children entry (with_child (leaf FILE_DATA 0 bytes) (children entry))
+
+-- the AttachedFile with its data
+abbrev pub attached_file : LiveFiles → Attachment → Node
+attached_file files a = with_data (data_of files a) a.entry
+
+-- how many octets an attached file may take at most
+abbrev pub most_taken : Attachment → ℕ
+most_taken a = a.len + length (octets a.entry)

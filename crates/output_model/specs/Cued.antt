@@ -1,0 +1,30 @@
+-- The cue points of an output, and the document that is made of blocks.
+use Rattle.std.specs.Prelude.{◌-◌, Bool, true, false, List, Option}
+use Rattle.std.specs.List.{slice_get}
+use Rattle.std.specs.Option.{unwrap_or}
+use Rattle.tree_format.specs.Node.{Node}
+use Rattle.output_model.specs.declared.heads.ClusterLimits.{ClusterLimits}
+use Rattle.output_model.specs.OutputBlock.{OutputBlock}
+use Rattle.output_model.specs.Cluster.{clusters}
+use Rattle.output_model.specs.Document.{Front, Document, cues_for}
+use Rattle.output_model.specs.declared.rule.CueRule.{CueRule}
+use Rattle.output_model.specs.declared.rule.CueRule.TheVariants.{Never, Key, All}
+
+abbrev pub is_cue_by : CueRule → Bool → Bool
+is_cue_by Never key = false
+is_cue_by Key key = key
+is_cue_by All key = true
+
+-- A block gets a point by the rule of its lane; the rules are those of the lanes from 1 on.
+abbrev pub is_cue : List CueRule → OutputBlock → Bool
+is_cue rules b = is_cue_by (unwrap_or (slice_get rules (b.lane - 1)) Never) b.key
+
+-- An output with this in front of its Clusters, these blocks, cue points by these rules, and this behind.
+abbrev pub document_of : ClusterLimits → List CueRule → Front → Option Node → Option Node → List OutputBlock → Document
+document_of limits rules front chapters tags blocks = record {
+  front = front;
+  clusters = clusters limits blocks;
+  cues = cues_for (is_cue rules) front (clusters limits blocks);
+  chapters = chapters;
+  tags = tags;
+}

@@ -1,0 +1,27 @@
+-- What is written is read, and what was read is written so: RFC 8794, section 7.7 (Master Element).
+use Rattle.std.specs.Prelude.{◌≡◌, ◌≤◌, ℕ, ◌+◌, false, List, length, All, None}
+use Rattle.ebml_numbers.specs.Number.{AreOctets}
+use Rattle.mkv_schema.specs.declared.element.Header.{Header}
+use Rattle.mkv_schema.specs.Element.{Setting, in_master}
+use Rattle.mkv_schema.specs.Elements.{children_in}
+use Rattle.output_model.specs.Element.{Element, IsElement, HoldsAt, joined, headers_in_place}
+
+-- The children of a master whose body is Elements, one behind the other, are these, at their places.
+abbrev pub ElementsAreRead : Type 0
+ElementsAreRead =
+    (s : Setting) (bytes : List ℕ) (es : List Element) (p : ℕ) → s.display ≡ false → All IsElement es → HoldsAt bytes p (joined es)
+    → children_in s bytes p (p + length (joined es)) ≡ record { list = headers_in_place p es; damage = None; end = p + length (joined es) }
+
+-- Headers are those of Elements that a content holds from a place up to an end.
+pub record AreWritten (bytes : List ℕ) (p e : ℕ) (hs : List Header) : Type 0 where
+  pub elements : List Element
+  pub headers : hs ≡ headers_in_place p elements
+  pub are : All IsElement elements
+  pub held : HoldsAt bytes p (joined elements)
+  pub whole : p + length (joined elements) ≡ e
+
+-- The children of a master that no damage ends are Elements that fill its body, each with a valid ID and a size.
+abbrev pub ChildrenAreWritten : Type 0
+ChildrenAreWritten =
+    (bytes : List ℕ) (p e : ℕ) → AreOctets bytes → p ≤ e → e ≤ length bytes → (children_in in_master bytes p e).damage ≡ None
+    → AreWritten bytes p e (children_in in_master bytes p e).list

@@ -1,3 +1,0 @@
-pub mod Info
-pub mod Tracks
-pub mod Limits

@@ -1,0 +1,11 @@
+-- What is written of the children so far.
+use Rattle.std.proofs.Common.{take, flat_map}
+use Rattle.mkv_schema.specs.declared.ids.TheConstants.{TAGS}
+use Rattle.tree_format.specs.Node.{offset_of, nodes_of, depth_all}
+use Rattle.record_changes.specs.Tags.{written_child}
+use Rattle.record_changes.specs.Numbers.{numbers_in}
+use Rattle.ebml_tree.specs.Building.{IsBuilt}
+use Rattle.record_changes.proofs.tags.merge_tags.Given as goal
+
+abbrev pub invariant-loop-child : goal.invariant-loop-child
+invariant-loop-child l = IsBuilt TAGS (offset_of l.tags) (depth_all (nodes_of l.child-items)) (flat_map (written_child l.keep (numbers_in l.map)) (take l.child-index l.child-items)) l.written

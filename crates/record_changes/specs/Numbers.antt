@@ -1,0 +1,13 @@
+-- The identifiers that targets have in the output.
+use Rattle.std.specs.Prelude.{ℕ, ◌==◌, nat_eq, if◌then◌else◌, Option, None}
+use Rattle.indexmap.specs.IndexMap.{get}
+use Rattle.mkv_schema.specs.declared.ids.TheConstants.{TAG_TRACK_UID, TAG_EDITION_UID, TAG_CHAPTER_UID, TAG_ATTACHMENT_UID}
+use Rattle.record_changes.specs.declared.uid_map.UidMap.{UidMap}
+
+-- the number that a target of this ID has for an identifier
+abbrev pub numbers_in : UidMap → ℕ → ℕ → Option ℕ
+numbers_in map id uid =
+    if id == TAG_TRACK_UID then get nat_eq map.tracks uid else
+    (if id == TAG_EDITION_UID then get nat_eq map.editions uid else
+    (if id == TAG_CHAPTER_UID then get nat_eq map.chapters uid else
+    (if id == TAG_ATTACHMENT_UID then get nat_eq map.attachments uid else None)))

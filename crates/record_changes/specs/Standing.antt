@@ -1,0 +1,29 @@
+-- What is changed still stands where it stood.
+use Rattle.std.specs.Prelude.{◌≡◌, ◌≤◌, ℕ, true, List}
+use Rattle.mkv_schema.specs.declared.ids.TheConstants.{CHAPTER_ATOM}
+use Rattle.mkv_schema.specs.Schema.{is_master}
+use Rattle.tree_format.specs.Node.{Node, id_of, depth}
+use Rattle.tree_format.specs.Reading.{is_master_in}
+use Rattle.tree_format.specs.Standing.{StandsIn}
+use Rattle.tree_format.specs.Children.{set_each}
+use Rattle.ebml_tree.specs.Building.{IsInPlace, IsRead}
+
+-- a master that was read, where it is one of this ID
+abbrev pub IsReadIf : ℕ → Node → Type 0
+IsReadIf own n = id_of n ≡ own → IsRead own n
+
+-- a master that was read, in which the table has atoms
+pub record HoldsAtoms (n : Node) : Type 0 where
+  pub read : IsRead (id_of n) n
+  pub known : is_master (id_of n) ≡ true
+  pub atoms : is_master_in (id_of n) CHAPTER_ATOM ≡ true
+
+-- wherever the one stands, the other may take its place
+abbrev pub MayReplace : Node → Node → Type 0
+MayReplace old new = (parent : ℕ) → StandsIn parent old → IsInPlace parent old new
+
+-- each of these times was set in an atom, which still is one, no deeper than it was
+pub record SetsTimes (times : List Node) (old new : Node) : Type 0 where
+  pub changed : new ≡ set_each times old
+  pub read : IsRead CHAPTER_ATOM new
+  pub shallow : depth new ≤ depth old

@@ -1,0 +1,195 @@
+//! What of chapters lies in a stretch of time: RFC 9559, section 5.1.7 (Chapters Element).
+
+ghost use Rattle.std.specs.Prelude.{◌≡◌, ◌≤◌, ◌==◌, ◌∷◌, [], All, find, IfOk, IfSome, OnOk};
+ghost use Rattle.std.specs.Option.{option_copied, option_to_list};
+ghost use Rattle.mkv_schema.specs.declared.ids.TheConstants as ids;
+ghost use Rattle.tree_format.specs.Node.{id_of};
+ghost use Rattle.tree_format.specs.Standing.{KeepsLimits};
+ghost use Rattle.tree_format.specs.Values.{integer_in};
+ghost use Rattle.tree_format.specs.Children.{uint_leaf};
+ghost use Rattle.ebml_tree.specs.Building.{IsRead};
+ghost use Rattle.ebml_tree.specs.Leaves.{IsUintIn};
+ghost use Rattle.record_changes.specs.Cut.{start_of, next_start, end_of, end_within, cut_at, cut_inside, has_atom, edition_within, cut};
+ghost use Rattle.record_changes.specs.Standing.{HoldsAtoms, IsReadIf, MayReplace, SetsTimes};
+
+use crate::stretch::Stretch;
+use crate::uids::value_in;
+use ebml_tree::{Tree, empty, uint_leaf};
+use mkv_schema::ids::{
+    CHAPTER_ATOM, CHAPTER_TIME_END, CHAPTER_TIME_START, CHAPTERS, EDITION_ENTRY,
+};
+use std::alloc::{AllocError, Global};
+
+// Where an atom starts.
+pub(crate) fn start_of(atom: &Tree) -> u64
+    requires { IsRead ids.CHAPTER_ATOM atom.now }
+    ensures { result ≡ start_of atom.now }
+{
+    value_in(atom, CHAPTER_TIME_START)
+}
+
+// Where it says that it ends.
+fn own_end(atom: &Tree) -> Option<u64>
+    requires { IsRead ids.CHAPTER_ATOM atom.now }
+    ensures { result ≡ integer_in ids.CHAPTER_TIME_END atom.now }
+{
+    let end = atom.child(CHAPTER_TIME_END)?;
+    Some(end.uint())
+}
+
+fn first_atom(trees: &[Tree]) -> Option<&Tree>
+    ensures { option_copied result ≡ find (λ n. id_of n == ids.CHAPTER_ATOM) trees.now }
+{
+    trees.iter().find(|tree| tree.id() == CHAPTER_ATOM)
+}
+
+// Where the first atom of these starts.
+fn next_start(behind: &[Tree]) -> Option<u64>
+    requires { All (IsReadIf ids.CHAPTER_ATOM) behind.now }
+    ensures { result ≡ next_start behind.now }
+{
+    let atom = first_atom(behind)?;
+    Some(start_of(atom))
+}
+
+// Where an atom before these ends.
+fn end_of(atom: &Tree, behind: &[Tree]) -> Option<u64>
+    requires atom { IsRead ids.CHAPTER_ATOM atom.now }
+    requires behind { All (IsReadIf ids.CHAPTER_ATOM) behind.now }
+    ensures { result ≡ end_of atom.now (next_start behind.now) }
+{
+    match own_end(atom) {
+        Some(end) => Some(end),
+        None => next_start(behind),
+    }
+}
+
+fn set_time(alloc: Global, atom: &mut Tree, id: u32, time: u64) -> Result<(), AllocError>
+    requires id { IsUintIn ids.CHAPTER_ATOM id }
+    requires read { IsRead ids.CHAPTER_ATOM atom.old }
+    ensures { OnOk result (SetsTimes (uint_leaf id time ∷ []) atom.old atom.new) }
+{
+    atom.set(uint_leaf(alloc, id, time)?)
+}
+
+// Sets the end of an atom that says one.
+fn set_end(
+    alloc: Global,
+    atom: &mut Tree,
+    end: Option<u64>,
+    stretch: Stretch,
+) -> Result<(), AllocError>
+    requires read { IsRead ids.CHAPTER_ATOM atom.old }
+    requires stretch { IfSome stretch.to (λ to. stretch.from ≤ to) }
+    ensures { OnOk result (SetsTimes (end_within stretch end) atom.old atom.new) }
+{
+    match end {
+        Some(end) => set_time(alloc, atom, CHAPTER_TIME_END, stretch.within(end)),
+        None => Ok(()),
+    }
+}
+
+// What goes into a stretch of a child of an edition or of an atom, with those behind it.
+#[cycle(cutting)]
+fn cut_child(
+    alloc: Global,
+    child: &Tree,
+    behind: &[Tree],
+    stretch: Stretch,
+) -> Result<Option<Tree>, AllocError>
+    requires atom { IsReadIf ids.CHAPTER_ATOM child.now }
+    requires behind { All (IsReadIf ids.CHAPTER_ATOM) behind.now }
+    requires stretch { IfSome stretch.to (λ to. stretch.from ≤ to) }
+    ensures exact { IfOk result (λ o. option_to_list o ≡ cut_at stretch child.now (next_start behind.now)) }
+    ensures place { IfOk result (λ o. IfSome o (MayReplace child.now)) }
+{
+    if child.id() != CHAPTER_ATOM {
+        return Ok(Some(child.copy(alloc)?));
+    }
+    let start = start_of(child);
+    if !stretch.takes(start, end_of(child, behind)) {
+        return Ok(None);
+    }
+    let mut atom = cut_inside(alloc, child, stretch)?;
+    set_time(alloc, &mut atom, CHAPTER_TIME_START, stretch.within(start))?;
+    set_end(alloc, &mut atom, own_end(child), stretch)?;
+    Ok(Some(atom))
+}
+
+// An edition or an atom with what goes into a stretch of its children.
+#[cycle(cutting)]
+fn cut_inside(alloc: Global, parent: &Tree, stretch: Stretch) -> Result<Tree, AllocError>
+    requires holds { HoldsAtoms parent.now }
+    requires stretch { IfSome stretch.to (λ to. stretch.from ≤ to) }
+    ensures exact { IfOk result (λ tree. tree ≡ cut_inside stretch parent.now) }
+    ensures read { IfOk result (IsRead (id_of parent.now)) }
+    ensures place { IfOk result (MayReplace parent.now) }
+{
+    let mut written = empty(alloc, parent.id(), parent.offset())?;
+    let children = parent.children();
+    for (k, child) in children.iter().enumerate() {
+        match cut_child(alloc, child, &children[k + 1..], stretch)? {
+            Some(part) => written.push(part)?,
+            None => {}
+        }
+    }
+    Ok(written)
+}
+
+fn has_atom(edition: &Tree) -> bool
+    ensures { result ≡ has_atom edition.now }
+{
+    edition
+        .children()
+        .iter()
+        .any(|child| child.id() == CHAPTER_ATOM)
+}
+
+// What goes into a stretch of a child of Chapters.
+fn cut_edition(alloc: Global, child: &Tree, stretch: Stretch) -> Result<Option<Tree>, AllocError>
+    requires edition { IsReadIf ids.EDITION_ENTRY child.now }
+    requires stretch { IfSome stretch.to (λ to. stretch.from ≤ to) }
+    ensures exact { IfOk result (λ o. option_to_list o ≡ edition_within stretch child.now) }
+    ensures place { IfOk result (λ o. IfSome o (MayReplace child.now)) }
+{
+    if child.id() != EDITION_ENTRY {
+        return Ok(None);
+    }
+    let edition = cut_inside(alloc, child, stretch)?;
+    if !has_atom(&edition) {
+        return Ok(None);
+    }
+    Ok(Some(edition))
+}
+
+/// The chapters that lie in a stretch of time, from its begin on: each chapter that starts in it, or starts
+/// before it and ends behind its begin, with its times moved into the stretch. A chapter ends where it says,
+/// else where the next one beside it starts, else never. Editions of which no chapter goes into it are left
+/// out, and nothing is written where that is so of all.
+pub fn cut(
+    alloc: Global,
+    chapters: &Tree,
+    from: u64,
+    to: Option<u64>,
+) -> Result<Option<Tree>, AllocError>
+    requires read { IsRead ids.CHAPTERS chapters.now }
+    requires stretch { IfSome to (λ to. from ≤ to) }
+    ensures exact { IfOk result (λ part. part ≡ cut (record { from = from; to = to }) chapters.now) }
+
+    // It is a sound master, and in what is written it can be read again.
+    ensures read { IfOk result (λ part. IfSome part (IsRead ids.CHAPTERS)) }
+    ensures limits { IfOk result (λ part. IfSome part KeepsLimits) }
+{
+    let stretch = Stretch { from, to };
+    let mut part = empty(alloc, CHAPTERS, chapters.offset())?;
+    for child in chapters.children() {
+        match cut_edition(alloc, child, stretch)? {
+            Some(edition) => part.push(edition)?,
+            None => {}
+        }
+    }
+    if part.children().is_empty() {
+        return Ok(None);
+    }
+    Ok(Some(part))
+}

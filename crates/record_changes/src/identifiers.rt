@@ -1,0 +1,77 @@
+//! The identifiers that are given to what is written: RFC 9559, sections 5.1.4.1.2 (TrackUID Element),
+//! 5.1.6.1.5 (FileUID Element) and the like.
+
+ghost use Rattle.std.specs.Prelude.{◌≡◌, ◌<◌, ◌+◌, ◌^◌, false, length, nat_eq, IfOk};
+ghost use Rattle.indexmap.specs.IndexSet.{IsFromIterResult};
+ghost use Rattle.record_changes.specs.Identifiers.{number_for, renumbered};
+ghost use Rattle.record_changes.specs.Taken.{is_taken, IsNext, HasRoom};
+
+use indexmap::IndexSet;
+use mkv_io::List;
+use std::alloc::{AllocError, Global};
+
+fn is_taken(source: &IndexSet<u64>, given: &IndexSet<u64>, number: u64) -> bool
+    ensures { result ≡ is_taken source.now given.now number }
+{
+    source.contains(&number) || given.contains(&number)
+}
+
+// The first number that isn't taken, where those below `least` are.
+fn free_from(source: &IndexSet<u64>, given: &IndexSet<u64>, least: u64) -> u64
+    requires next { IsNext (is_taken source.now given.now) least }
+    requires room { HasRoom source.now given.now }
+    ensures next { IsNext (is_taken source.now given.now) result }
+    ensures free { is_taken source.now given.now result ≡ false }
+{
+    let mut number = least;
+    while is_taken(source, given, number) {
+        number += 1;
+    }
+    number
+}
+
+// The number that an identifier gets, where those below `least` are taken.
+fn number_for(source: &IndexSet<u64>, given: &IndexSet<u64>, uid: u64, least: &mut u64) -> u64
+    requires next { IsNext (is_taken source.now given.now) least.old }
+    requires room { HasRoom source.now given.now }
+    ensures exact { result ≡ number_for source.now.keys given.now.keys uid }
+    ensures next { IsNext (is_taken source.now given.now) least.new }
+{
+    if uid != 0 && !given.contains(&uid) {
+        return uid;
+    }
+    *least = free_from(source, given, *least);
+    *least
+}
+
+// The numbers that the identifiers of a source get.
+fn numbers_of(
+    alloc: Global,
+    source: &IndexSet<u64>,
+    uids: &[u64],
+) -> Result<IndexSet<u64>, AllocError>
+    requires source { IsFromIterResult nat_eq uids.now source.now }
+    requires few { length source.now.keys < 2 ^ 63 }
+    ensures { IfOk result (λ numbers. numbers.keys ≡ renumbered uids.now) }
+{
+    let mut given = IndexSet::new(alloc);
+    let mut least = 1;
+    for uid in uids {
+        given.insert(number_for(source, &given, *uid, &mut least))?;
+    }
+    Ok(given)
+}
+
+/// The numbers that these identifiers get, in the order in which they are written; 0 stands for one that
+/// is missing.
+///
+/// The first use of a positive one keeps it. Any other gets the smallest positive number that is none of
+/// these and wasn't given before.
+pub fn renumber(alloc: Global, uids: &[u64]) -> Result<List<u64>, AllocError>
+    ensures { IfOk result (λ numbers. numbers ≡ renumbered uids.now) }
+{
+    let source: IndexSet<u64> = uids.iter().copied().collect(alloc)?;
+    prove!(source.len() < 1 << 63);
+    let numbers = numbers_of(alloc, &source, uids)?;
+    Ok(List::from_vec(numbers.as_slice().to_vec(alloc)?))
+}

@@ -1,0 +1,47 @@
+//! A stretch of time.
+
+ghost use Rattle.std.specs.Prelude.{◌≡◌, ◌≤◌, IfSome};
+ghost use Rattle.record_changes.specs.Before.{is_before};
+
+/// The times from one on, in nanoseconds, and before another, where it ends.
+#[derive(Clone, Copy)]
+pub struct Stretch {
+    pub from: u64,
+    pub to: Option<u64>,
+}
+
+impl Stretch {
+    ghost use Rattle.record_changes.specs.Cut.{takes, within};
+
+    /// Whether it takes what starts and ends there.
+    pub(crate) fn takes(self, start: u64, end: Option<u64>) -> bool
+        ensures { result ≡ takes self start end }
+    {
+        if start < self.from {
+            is_before(self.from, end)
+        } else {
+            is_before(start, self.to)
+        }
+    }
+
+    /// A time, moved into it and counted from its begin.
+    pub(crate) fn within(self, time: u64) -> u64
+        requires { IfSome self.to (λ to. self.from ≤ to) }
+        ensures { result ≡ within self time }
+    {
+        let late = time.max(self.from);
+        match self.to {
+            Some(to) => late.min(to) - self.from,
+            None => late - self.from,
+        }
+    }
+}
+
+fn is_before(time: u64, limit: Option<u64>) -> bool
+    ensures { result ≡ is_before limit time }
+{
+    match limit {
+        Some(limit) => time < limit,
+        None => true,
+    }
+}

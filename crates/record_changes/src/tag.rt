@@ -1,0 +1,83 @@
+//! A Tag: RFC 9559, section 5.1.8 (Tags Element).
+
+ghost use Rattle.std.specs.Prelude.{◌≡◌, IfOk};
+ghost use Rattle.mkv_schema.specs.declared.ids.TheConstants.{TAG as TAG_ID, TAGS as TAGS_ID, TARGETS as TARGETS_ID};
+ghost use Rattle.tree_format.specs.Standing.{StandsIn};
+ghost use Rattle.record_changes.specs.Tags.{written_part, written_tag, targets_in, aims_of, aims_in};
+ghost use Rattle.record_changes.specs.Numbers.{numbers_in};
+ghost use Rattle.ebml_tree.specs.Building.{IsInPlace, IsRead};
+
+use crate::aims::Aims;
+use crate::target;
+use crate::uid_map::UidMap;
+use ebml_tree::{Tree, empty};
+use mkv_schema::ids::{TAG, TARGETS};
+use std::alloc::{AllocError, Global};
+
+// What is written of Targets.
+fn written_targets(alloc: Global, targets: &Tree, map: &UidMap) -> Result<Tree, AllocError>
+    requires { IsRead TARGETS_ID targets.now }
+    ensures exact { IfOk result (λ tree. tree ≡ written_part (numbers_in map.now) targets.now) }
+    ensures place { IfOk result (IsInPlace TAG_ID targets.now) }
+{
+    let mut written = empty(alloc, TARGETS, targets.offset())?;
+    for child in targets.children() {
+        match target::written_target(alloc, child, map)? {
+            Some(target) => written.push(target)?,
+            None => {}
+        }
+    }
+    Ok(written)
+}
+
+// What is written of a child of a Tag.
+fn written_part(alloc: Global, part: &Tree, map: &UidMap) -> Result<Tree, AllocError>
+    requires { StandsIn TAG_ID part.now }
+    ensures exact { IfOk result (λ tree. tree ≡ written_part (numbers_in map.now) part.now) }
+    ensures place { IfOk result (IsInPlace TAG_ID part.now) }
+{
+    if part.id() == TARGETS {
+        written_targets(alloc, part, map)
+    } else {
+        part.copy(alloc)
+    }
+}
+
+/// What is written of a Tag.
+pub(crate) fn written_tag(alloc: Global, tag: &Tree, map: &UidMap) -> Result<Tree, AllocError>
+    requires { IsRead TAG_ID tag.now }
+    ensures exact { IfOk result (λ tree. tree ≡ written_tag (numbers_in map.now) tag.now) }
+    ensures place { IfOk result (IsInPlace TAGS_ID tag.now) }
+{
+    let mut written = empty(alloc, TAG, tag.offset())?;
+    for part in tag.children() {
+        written.push(written_part(alloc, part, map)?)?;
+    }
+    Ok(written)
+}
+
+// What a child of a Tag names.
+fn aims_in_part(part: &Tree, map: &UidMap) -> Aims
+    requires { StandsIn TAG_ID part.now }
+    ensures { result ≡ aims_of (numbers_in map.now) (targets_in part.now) }
+{
+    let mut aims = Aims::NONE;
+    if part.id() == TARGETS {
+        for child in part.children() {
+            aims = aims.or(target::aims_of(child, map));
+        }
+    }
+    aims
+}
+
+/// What the targets of a Tag name.
+pub(crate) fn aims_in(tag: &Tree, map: &UidMap) -> Aims
+    requires { IsRead TAG_ID tag.now }
+    ensures { result ≡ aims_in (numbers_in map.now) tag.now }
+{
+    let mut aims = Aims::NONE;
+    for part in tag.children() {
+        aims = aims.or(aims_in_part(part, map));
+    }
+    aims
+}

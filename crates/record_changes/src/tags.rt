@@ -1,0 +1,66 @@
+//! All Tags of an input: RFC 9559, section 5.1.8 (Tags Element).
+
+ghost use Rattle.std.specs.Prelude.{◌≡◌, IfOk, IfSome};
+ghost use Rattle.mkv_schema.specs.declared.ids.TheConstants.{TAGS as TAGS_ID};
+ghost use Rattle.std.specs.Option.{option_to_list};
+ghost use Rattle.tree_format.specs.Standing.{StandsIn};
+ghost use Rattle.record_changes.specs.Tags.{are_kept, written_child, written_tags};
+ghost use Rattle.record_changes.specs.Numbers.{numbers_in};
+ghost use Rattle.ebml_tree.specs.Building.{IsInPlace, IsRead};
+
+use crate::aims::Aims;
+use crate::tag;
+use crate::uid_map::{TagKeep, UidMap};
+use ebml_tree::{Tree, empty};
+use mkv_schema::ids::{TAG, TAGS};
+use std::alloc::{AllocError, Global};
+
+fn are_kept(keep: TagKeep, aims: Aims) -> bool
+    ensures { result ≡ are_kept keep aims }
+{
+    let wanted = if aims.track { keep.tracks } else { keep.global };
+    wanted && (!aims.any || aims.written)
+}
+
+// What is written of a child of Tags.
+fn written_child(
+    alloc: Global,
+    child: &Tree,
+    map: &UidMap,
+    keep: TagKeep,
+) -> Result<Option<Tree>, AllocError>
+    requires { StandsIn TAGS_ID child.now }
+    ensures exact { IfOk result (λ o. option_to_list o ≡ written_child keep (numbers_in map.now) child.now) }
+    ensures place { IfOk result (λ o. IfSome o (IsInPlace TAGS_ID child.now)) }
+{
+    if child.id() != TAG {
+        return Ok(None);
+    }
+    if !are_kept(keep, tag::aims_in(child, map)) {
+        return Ok(None);
+    }
+    Ok(Some(tag::written_tag(alloc, child, map)?))
+}
+
+/// The Tags that are written of an input's: those that are wanted, with the identifiers that their targets
+/// have in the output. A target whose thing isn't written goes; so does a Tag that had targets and keeps
+/// none. What names all of a kind, by 0, stays.
+pub fn merge_tags(
+    alloc: Global,
+    tags: &Tree,
+    map: &UidMap,
+    keep: TagKeep,
+) -> Result<Tree, AllocError>
+    requires { IsRead TAGS_ID tags.now }
+    ensures exact { IfOk result (λ tree. tree ≡ written_tags keep (numbers_in map.now) tags.now) }
+    ensures read { IfOk result (IsRead TAGS_ID) }
+{
+    let mut written = empty(alloc, TAGS, tags.offset())?;
+    for child in tags.children() {
+        match written_child(alloc, child, map, keep)? {
+            Some(tag) => written.push(tag)?,
+            None => {}
+        }
+    }
+    Ok(written)
+}

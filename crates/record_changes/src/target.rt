@@ -1,0 +1,89 @@
+//! The targets of a Tag: RFC 9559, section 5.1.8 (Tags Element).
+
+ghost use Rattle.std.specs.Prelude.{◌≡◌, ◌<◌, ◌^◌, true, [], ◌∷◌, filter, IfOk, IfSome, IsTrue};
+ghost use Rattle.std.specs.Option.{option_to_list};
+ghost use Rattle.mkv_schema.specs.declared.ids.TheConstants.{TARGETS as TARGETS_ID};
+ghost use Rattle.tree_format.specs.Node.{id_of};
+ghost use Rattle.tree_format.specs.Standing.{StandsIn};
+ghost use Rattle.record_changes.specs.Tags.{is_target_id, is_target, number_of, written_target, aims_of};
+ghost use Rattle.record_changes.specs.Numbers.{numbers_in};
+ghost use Rattle.ebml_tree.specs.Building.{IsInPlace};
+
+use crate::aims::Aims;
+use crate::uid_map::UidMap;
+use ebml_tree::{Tree, uint_leaf};
+use mkv_schema::ids::{TAG_ATTACHMENT_UID, TAG_CHAPTER_UID, TAG_EDITION_UID, TAG_TRACK_UID};
+use std::alloc::{AllocError, Global};
+
+fn is_target_id(id: u32) -> bool
+    ensures { result ≡ is_target_id id }
+{
+    id == TAG_TRACK_UID
+        || id == TAG_EDITION_UID
+        || id == TAG_CHAPTER_UID
+        || id == TAG_ATTACHMENT_UID
+}
+
+// A child of Targets that names one thing.
+fn is_target(child: &Tree) -> bool
+    requires { StandsIn TARGETS_ID child.now }
+    ensures { result ≡ is_target child.now }
+{
+    is_target_id(child.id()) && child.uint() != 0
+}
+
+// The number that a target of an ID has for an identifier.
+fn number_in(map: &UidMap, id: u32, uid: u64) -> Option<u64>
+    ensures { result ≡ numbers_in map.now id uid }
+{
+    match id {
+        TAG_TRACK_UID => map.tracks.get(&uid).copied(),
+        TAG_EDITION_UID => map.editions.get(&uid).copied(),
+        TAG_CHAPTER_UID => map.chapters.get(&uid).copied(),
+        TAG_ATTACHMENT_UID => map.attachments.get(&uid).copied(),
+        _ => None,
+    }
+}
+
+// The number of a target in the output.
+fn number_of(target: &Tree, map: &UidMap) -> Option<u64>
+    requires stands { StandsIn TARGETS_ID target.now }
+    requires target { is_target_id (id_of target.now) ≡ true }
+    ensures { result ≡ number_of (numbers_in map.now) target.now }
+{
+    number_in(map, target.id(), target.uint())
+}
+
+/// What is written of a child of Targets.
+pub(crate) fn written_target(
+    alloc: Global,
+    child: &Tree,
+    map: &UidMap,
+) -> Result<Option<Tree>, AllocError>
+    requires { StandsIn TARGETS_ID child.now }
+    ensures exact { IfOk result (λ o. option_to_list o ≡ written_target (numbers_in map.now) child.now) }
+    ensures place { IfOk result (λ o. IfSome o (IsInPlace TARGETS_ID child.now)) }
+{
+    if !is_target(child) {
+        return Ok(Some(child.copy(alloc)?));
+    }
+    match number_of(child, map) {
+        Some(number) => Ok(Some(uint_leaf(alloc, child.id(), number)?)),
+        None => Ok(None),
+    }
+}
+
+/// What a child of Targets names.
+pub(crate) fn aims_of(child: &Tree, map: &UidMap) -> Aims
+    requires { StandsIn TARGETS_ID child.now }
+    ensures { result ≡ aims_of (numbers_in map.now) (filter is_target (child.now ∷ [])) }
+{
+    if !is_target(child) {
+        return Aims::NONE;
+    }
+    Aims {
+        any: true,
+        track: child.id() == TAG_TRACK_UID,
+        written: number_of(child, map).is_some(),
+    }
+}

@@ -1,0 +1,91 @@
+//! The identifiers of editions and chapters: RFC 9559, section 5.1.7 (Chapters Element).
+
+ghost use Rattle.std.specs.Prelude.{◌≡◌, ◌++◌, map, OnOk};
+ghost use Rattle.mkv_schema.specs.declared.ids.TheConstants as ids;
+ghost use Rattle.tree_format.specs.Node.{id_of};
+ghost use Rattle.tree_format.specs.Standing.{IsSound};
+ghost use Rattle.tree_format.specs.Values.{HasUint};
+ghost use Rattle.ebml_tree.specs.Building.{IsRead};
+ghost use Rattle.record_changes.specs.Atoms.{value_in, atoms_at, own_uids, inner_uids, edition_uids, chapter_uids};
+ghost use Rattle.record_changes.specs.Standing.{IsReadIf};
+
+use ebml_tree::Tree;
+use mkv_io::List;
+use mkv_schema::ids::{CHAPTER_ATOM, CHAPTER_UID, EDITION_ENTRY, EDITION_UID};
+use std::alloc::AllocError;
+
+/// The unsigned integer of an ID among the children, 0 where it is missing.
+pub(crate) fn value_in(tree: &Tree, id: u32) -> u64
+    requires sound { IsSound tree.now }
+    requires uint { HasUint (id_of tree.now) id }
+    ensures { result ≡ value_in id tree.now }
+{
+    match tree.child(id) {
+        Some(uid) => uid.uint(),
+        None => 0,
+    }
+}
+
+// Adds the identifier of a child of Chapters, if it is an edition.
+fn push_edition_uid(child: &Tree, uids: &mut List<u64>) -> Result<(), AllocError>
+    requires { IsReadIf ids.EDITION_ENTRY child.now }
+    ensures { OnOk result (uids.new ≡ uids.old ++ own_uids child.now) }
+{
+    if child.id() != EDITION_ENTRY {
+        return Ok(());
+    }
+    uids.push(value_in(child, EDITION_UID))
+}
+
+/// Adds the identifiers of the editions, in their order; one that is missing is 0. On a refusal some of them
+/// may have been added.
+pub fn push_edition_uids(chapters: &Tree, uids: &mut List<u64>) -> Result<(), AllocError>
+    requires { IsRead ids.CHAPTERS chapters.now }
+    ensures { OnOk result (uids.new ≡ uids.old ++ edition_uids chapters.now) }
+{
+    for child in chapters.children() {
+        push_edition_uid(child, uids)?;
+    }
+    Ok(())
+}
+
+// Adds the identifiers of a child of an edition or of an atom, if it is an atom, and of the atoms inside it.
+fn push_atom_uids(child: &Tree, uids: &mut List<u64>) -> Result<(), AllocError>
+    requires { IsReadIf ids.CHAPTER_ATOM child.now }
+    ensures { OnOk result (uids.new ≡ uids.old ++ map (value_in ids.CHAPTER_UID) (atoms_at child.now)) }
+{
+    if child.id() != CHAPTER_ATOM {
+        return Ok(());
+    }
+    uids.push(value_in(child, CHAPTER_UID))?;
+    for inner in child.children() {
+        push_atom_uids(inner, uids)?;
+    }
+    Ok(())
+}
+
+// Adds those of a child of Chapters, if it is an edition.
+fn push_uids_inside(child: &Tree, uids: &mut List<u64>) -> Result<(), AllocError>
+    requires { IsReadIf ids.EDITION_ENTRY child.now }
+    ensures { OnOk result (uids.new ≡ uids.old ++ inner_uids child.now) }
+{
+    if child.id() != EDITION_ENTRY {
+        return Ok(());
+    }
+    for inner in child.children() {
+        push_atom_uids(inner, uids)?;
+    }
+    Ok(())
+}
+
+/// Adds the identifiers of the chapters, edition by edition: of an atom, and then of those inside it. One
+/// that is missing is 0. On a refusal some of them may have been added.
+pub fn push_chapter_uids(chapters: &Tree, uids: &mut List<u64>) -> Result<(), AllocError>
+    requires { IsRead ids.CHAPTERS chapters.now }
+    ensures { OnOk result (uids.new ≡ uids.old ++ chapter_uids chapters.now) }
+{
+    for child in chapters.children() {
+        push_uids_inside(child, uids)?;
+    }
+    Ok(())
+}

@@ -1,0 +1,111 @@
+-- Where chapters stand, and what stands beside them, is nothing to their identifiers.
+use Rattle.std.proofs.Common.{◌≡◌, ℕ, ◌+◌, ◌==◌, Bool, true, false, cond, if◌then◌else◌, List, [], ◌∷◌, ◌++◌, length, map, flat_map, Option, None, Some, refl, sym, ap, ap₂, ◌∙◌, arith}
+use Rattle.std.specs.Prelude.{find, unwrap_or}
+use Rattle.std.specs.Option.{option_map, option_map_or}
+use Rattle.std.proofs.lemmas.Bool.Decides.{nat_tests}
+use Rattle.std.proofs.lemmas.List.{length-map, map-append}
+use Rattle.mkv_schema.specs.declared.ids.TheConstants.{CHAPTER_ATOM, CHAPTER_UID}
+use Rattle.tree_format.specs.Node.{Node, Nodes, leaf, master, none, node, nodes_of, list_of, id_of}
+use Rattle.tree_format.specs.NormalForm.{is_filler, header_octets, octets, octets_all}
+use Rattle.tree_format.specs.Changes.{part, with_child}
+use Rattle.tree_format.specs.Standing.{placed, placed_all}
+use Rattle.tree_format.specs.Values.{integer_of}
+use Rattle.tree_format.proofs.PartLemmas.{part-other}
+use Rattle.record_laws.proofs.TrackLemmas.{placed-integer}
+use Rattle.record_changes.specs.Atoms.{atoms_among, atoms_at, value_in}
+
+-- the ChapterUIDs of an Element, if it is an atom, and of the atoms inside it; and of Elements one behind the other
+abbrev pub uids_at : Node → List ℕ
+uids_at n = map (value_in CHAPTER_UID) (atoms_at n)
+
+abbrev pub uids_among : Nodes → List ℕ
+uids_among ns = map (value_in CHAPTER_UID) (atoms_among ns)
+
+uids-more : (n : Node) (ns : Nodes) → uids_among (node n ns) ≡ uids_at n ++ uids_among ns
+uids-more n ns = map-append (value_in CHAPTER_UID) (atoms_at n) (atoms_among ns)
+
+-- ---- an Element that is an atom, or none
+
+pub atoms-atom : (id at : ℕ) (kids : Nodes) → (id == CHAPTER_ATOM) ≡ true → atoms_at (master id at kids) ≡ master id at kids ∷ atoms_among kids
+atoms-atom id at kids is = ap (λ (b : Bool). if b then master id at kids ∷ atoms_among kids else []) is
+
+pub atoms-none : (n : Node) → (id_of n == CHAPTER_ATOM) ≡ false → atoms_at n ≡ []
+atoms-none (leaf id at body) is = refl
+atoms-none (master id at kids) is = ap (λ (b : Bool). if b then master id at kids ∷ atoms_among kids else []) is
+
+-- what is left out is none
+pub filler-none : (n : Node) → is_filler (id_of n) ≡ true → atoms_at n ≡ []
+filler-none n filler = atoms-none n (of (id_of n == CHAPTER_ATOM) refl)
+  where
+    of : (t : Bool) → (id_of n == CHAPTER_ATOM) ≡ t → t ≡ false
+    of true is =
+        let same : id_of n ≡ CHAPTER_ATOM = grind (arith, nat_tests) in
+        let never : true ≡ false = sym filler ∙ ap is_filler same in
+        absurd (cc)
+    of false is = refl
+
+-- ---- where they stand
+
+pub map-or : {A : Type 0} (f : A → ℕ) (o : Option A) → option_map_or f o 0 ≡ unwrap_or (option_map f o) 0
+map-or f None = refl
+map-or f (Some x) = refl
+
+pub value-placed : (id : ℕ) (n : Node) (p : ℕ) → is_filler id ≡ false → value_in id (placed p n) ≡ value_in id n
+value-placed id (leaf i at body) p kept = refl
+value-placed id (master i at kids) p kept =
+    let q : ℕ = p + length (header_octets i (length (octets_all kids))) in
+    map-or integer_of (find (λ n. id_of n == id) (list_of (placed_all q kids)))
+    ∙ ap (λ (o : Option ℕ). unwrap_or o 0) (placed-integer id kids q kept)
+    ∙ sym (map-or integer_of (find (λ n. id_of n == id) (list_of kids)))
+
+-- one Element, and then the others
+placed-step : (p : ℕ) (n there : Node) (ns : Nodes) → uids_at there ≡ uids_at n → ((q : ℕ) → uids_among (placed_all q ns) ≡ uids_among ns) → (f : Bool) → is_filler (id_of n) ≡ f
+    → uids_among (if f then placed_all p ns else node there (placed_all (p + length (octets n)) ns)) ≡ uids_among (node n ns)
+placed-step p n there ns same rest true filler =
+    rest p ∙ sym (ap (λ l. map (value_in CHAPTER_UID) l ++ uids_among ns) (filler-none n filler)) ∙ sym (uids-more n ns)
+placed-step p n there ns same rest false filler =
+    uids-more there (placed_all (p + length (octets n)) ns) ∙ ap₂ (λ (a b : List ℕ). a ++ b) same (rest (p + length (octets n))) ∙ sym (uids-more n ns)
+
+placed-master : (id at p : ℕ) (kids : Nodes) → ((q : ℕ) → uids_among (placed_all q kids) ≡ uids_among kids) → uids_at (placed p (master id at kids)) ≡ uids_at (master id at kids)
+placed-master id at p kids inside = of (id == CHAPTER_ATOM)
+  where
+    q : ℕ
+    q = p + length (header_octets id (length (octets_all kids)))
+
+    of : (t : Bool) → map (value_in CHAPTER_UID) (if t then placed p (master id at kids) ∷ atoms_among (placed_all q kids) else []) ≡ map (value_in CHAPTER_UID) (if t then master id at kids ∷ atoms_among kids else [])
+    of true = ap₂ (λ u (us : List ℕ). u ∷ us) (value-placed CHAPTER_UID (master id at kids) p refl) (inside q)
+    of false = refl
+
+pub uids-placed_all : (ns : Nodes) (p : ℕ) → uids_among (placed_all p ns) ≡ uids_among ns
+uids-placed_all none p = refl
+uids-placed_all (node (leaf id at body) ns) p = placed-step p (leaf id at body) (leaf id p body) ns refl (λ q. uids-placed_all ns q) (is_filler id) refl
+uids-placed_all (node (master id at kids) ns) p =
+    placed-step p (master id at kids) (placed p (master id at kids)) ns (placed-master id at p kids (λ q. uids-placed_all kids q)) (λ q. uids-placed_all ns q) (is_filler id) refl
+
+pub uids-placed : (n : Node) (p : ℕ) → uids_at (placed p n) ≡ uids_at n
+uids-placed (leaf id at body) p = refl
+uids-placed (master id at kids) p = placed-master id at p kids (λ q. uids-placed_all kids q)
+
+-- there are as many
+pub count-placed : (n : Node) (p : ℕ) → length (atoms_at (placed p n)) ≡ length (atoms_at n)
+count-placed n p = sym (length-map (atoms_at (placed p n)) (value_in CHAPTER_UID)) ∙ ap length (uids-placed n p) ∙ length-map (atoms_at n) (value_in CHAPTER_UID)
+
+-- ---- what stands beside them
+
+pub atoms-flat : (ns : List Node) → atoms_among (nodes_of ns) ≡ flat_map atoms_at ns
+atoms-flat [] = refl
+atoms-flat (n ∷ ns) = ap (λ l. atoms_at n ++ l) (atoms-flat ns)
+
+atoms-part : (ns : List Node) → flat_map atoms_at ns ≡ flat_map atoms_at (part CHAPTER_ATOM ns)
+atoms-part [] = refl
+atoms-part (n ∷ ns) = split (id_of n == CHAPTER_ATOM) refl (atoms-part ns)
+  where
+    split : (t : Bool) → (id_of n == CHAPTER_ATOM) ≡ t → flat_map atoms_at ns ≡ flat_map atoms_at (part CHAPTER_ATOM ns)
+        → atoms_at n ++ flat_map atoms_at ns ≡ flat_map atoms_at (cond t (n ∷ part CHAPTER_ATOM ns) (part CHAPTER_ATOM ns))
+    split true is rest = ap (λ l. atoms_at n ++ l) rest
+    split false is rest = ap (λ l. l ++ flat_map atoms_at ns) (atoms-none n is) ∙ rest
+
+-- a child that is set and isn't an atom
+pub atoms-set : (child : Node) (ns : List Node) → (id_of child == CHAPTER_ATOM) ≡ false → atoms_among (nodes_of (with_child child ns)) ≡ atoms_among (nodes_of ns)
+atoms-set child ns other =
+    atoms-flat (with_child child ns) ∙ atoms-part (with_child child ns) ∙ ap (flat_map atoms_at) (part-other CHAPTER_ATOM child ns other) ∙ sym (atoms-part ns) ∙ sym (atoms-flat ns)

@@ -1,0 +1,119 @@
+-- Lines that are written are read back.
+use Rattle.std.proofs.Common.{◌≡◌, ℕ, suc, ◌+◌, ◌-◌, ◌*◌, ◌/◌, ◌%◌, ◌^◌, ◌<◌, Bool, true, false, not, ◌&&◌, List, [], ◌∷◌, ◌++◌, length, take, Some, refl, sym, ◌∙◌, ap, arith, append_assoc, All}
+use Rattle.std.proofs.lemmas.Grind.{common_steps}
+use Rattle.std.proofs.lemmas.Bool.Decides.{nat_tests}
+use Rattle.std.proofs.lemmas.List.Splits.{slice_split_at, length-slice_split}
+use Rattle.std.proofs.lemmas.List.Folds.{list_all-append}
+use Rattle.std.proofs.lemmas.List.Elements.{All-nil, All-cons}
+use Rattle.std.proofs.Math.Seq.{drop-append_seam}
+use Rattle.std.proofs.Math.Nat.{div-div-eq-div-mul}
+use Rattle.std.specs.Prelude.{◌==◌}
+use Rattle.std.specs.List.{slice_split}
+use Rattle.std.specs.Char.{is_ascii_digit}
+use Rattle.std.specs.Str.{bytes_eq}
+use Rattle.std.specs.Str.Lines.{lines, lines_of_parts, strip_carriage_return}
+use Rattle.srt_texts.specs.Fields.{behind}
+use Rattle.srt_texts.specs.Pieces.{digit, two_digits, three_digits, two_or_more, stamp}
+use Rattle.record_laws.specs.Plain.{lacks, ends_with_return, IsLine}
+use Rattle.record_laws.proofs.DigitsLemmas.{digits_lack, two_all, three_all, padded_all}
+
+-- ---- what a text lacks
+both_true : (a b : Bool) → a ≡ true → b ≡ true → (a && b) ≡ true
+both_true a b p q = rw (p, q) refl
+
+pub lacks_both : (o : ℕ) (a b : List ℕ) → lacks o a ≡ true → lacks o b ≡ true → lacks o (a ++ b) ≡ true
+lacks_both o a b p q = rw (list_all-append (λ c. not (c == o)) a b) (both_true (lacks o a) (lacks o b) p q)
+
+pub lacks_more : (o b : ℕ) (w : List ℕ) → (b == o) ≡ false → lacks o w ≡ true → lacks o (b ∷ w) ≡ true
+lacks_more o b w other none = both_true (not (b == o)) (lacks o w) (rw other refl) none
+
+lacks_each : (o : ℕ) (w : List ℕ) → lacks o w ≡ true → All (λ b. (b == o) ≡ false) w
+lacks_each o [] none = All-nil (λ b. (b == o) ≡ false)
+lacks_each o (b ∷ bs) none = split (b == o) refl none (λ h. lacks_each o bs h)
+  where
+    split : (c : Bool) → (b == o) ≡ c → (not c && lacks o bs) ≡ true → (lacks o bs ≡ true → All (λ d. (d == o) ≡ false) bs) → All (λ d. (d == o) ≡ false) (b ∷ bs)
+    split true is none more = absurd (cc)
+    split false is none more = All-cons (λ d. (d == o) ≡ false) b bs is (more none)
+
+-- ---- the end of a text
+pub ends_more : (x y : ℕ) (ys : List ℕ) → ends_with_return (x ∷ y ∷ ys) ≡ ends_with_return (y ∷ ys)
+ends_more x y ys =
+    let a : suc (suc (length ys)) - 1 ≡ suc (length ys) = omega arith in
+    let b : suc (length ys) - 1 ≡ length ys = omega arith in
+    rw (a, b) refl
+
+pub ends_both : (a : List ℕ) (y : ℕ) (ys : List ℕ) → ends_with_return (a ++ (y ∷ ys)) ≡ ends_with_return (y ∷ ys)
+ends_both [] y ys = refl
+ends_both (x ∷ []) y ys = ends_more x y ys
+ends_both (x ∷ z ∷ zs) y ys = let more = ends_both (z ∷ zs) y ys in let first = ends_more x z (zs ++ (y ∷ ys)) in cc (more, first)
+
+-- ---- one line
+part_more : (x : List ℕ) (parts : List (List ℕ)) → 0 < length parts → lines_of_parts (x ∷ parts) ≡ strip_carriage_return x ∷ lines_of_parts parts
+part_more x [] some = absurd (omega arith)
+part_more x (y ∷ more) some = refl
+
+stripped : (x : List ℕ) → ends_with_return x ≡ false → strip_carriage_return x ≡ x
+stripped x none = rw none refl
+
+-- a text of one line that LF ends is a line
+pub line_first : (x rest : List ℕ) → IsLine x → lines (x ++ (10 ∷ rest)) ≡ x ∷ lines rest
+line_first x rest line =
+    let is_lf : ℕ → Bool = λ b. b == 10 in
+    let split : slice_split (λ b. b == 10) (x ++ (10 ∷ rest)) ≡ x ∷ slice_split (λ b. b == 10) rest = slice_split_at (λ b. b == 10) x 10 rest (lacks_each 10 x line.no_break) refl in
+    let some : 0 < length (slice_split (λ b. b == 10) rest) = (let e = length-slice_split (λ b. b == 10) rest in omega arith) in
+    let more = part_more x (slice_split (λ b. b == 10) rest) some in
+    let same = stripped x line.no_return in
+    rw split (rw same at more)
+
+-- ---- what stands in front
+pub behind_front : (front rest : List ℕ) → behind front (front ++ rest) ≡ Some rest
+behind_front front rest =
+    let e : take (length front) (front ++ rest) ≡ front = grind (arith, common_steps) in
+    let same : bytes_eq front front ≡ true = equal front in
+    rw (e, same, drop-append_seam front rest) refl
+  where
+    equal : (w : List ℕ) → bytes_eq w w ≡ true
+    equal [] = refl
+    equal (b ∷ bs) = let e : (b == b) ≡ true = grind (arith, nat_tests) in rw (e, equal bs) refl
+
+-- ---- a time
+-- its parts
+pub record Parts (ms h m s t : ℕ) : Type 0 where
+  pub minutes : m < 60
+  pub seconds : s < 60
+  pub thousandths : t < 1000
+  pub whole : ((h * 60 + m) * 60000 + (s * 1000 + t)) ≡ ms
+
+pub parts_of : (ms : ℕ) → Parts ms (ms / 3600000) (ms / 60000 % 60) (ms / 1000 % 60) (ms % 1000)
+parts_of ms =
+    let a : ms / 1000 / 60 ≡ ms / 60000 = div-div-eq-div-mul ms 1000 60 in
+    let b : ms / 60000 / 60 ≡ ms / 3600000 = div-div-eq-div-mul ms 60000 60 in
+    let s = ms / 1000 in let m = ms / 60000 in
+    record { minutes = omega arith; seconds = omega arith; thousandths = omega arith; whole = omega arith }
+
+-- the octets of a time are digits, colons and the point
+pub stamp_lacks : (o point ms : ℕ) → is_ascii_digit o ≡ false → (58 == o) ≡ false → (point == o) ≡ false → ms < 2 ^ 64 → lacks o (stamp point ms) ≡ true
+unfolding stamp
+stamp_lacks o point ms other colon at small =
+    let h = digits_lack o (two_or_more (ms / 3600000)) other (padded_all (ms / 3600000) (omega arith)) in
+    let m = digits_lack o (two_digits (ms / 60000 % 60)) other (two_all (ms / 60000 % 60)) in
+    let s = digits_lack o (two_digits (ms / 1000 % 60)) other (two_all (ms / 1000 % 60)) in
+    let t = digits_lack o (three_digits (ms % 1000)) other (three_all (ms % 1000)) in
+    let last = lacks_more o point (three_digits (ms % 1000)) at t in
+    let seconds : List ℕ = two_digits (ms / 1000 % 60) ++ (point ∷ three_digits (ms % 1000)) in
+    let minutes : List ℕ = two_digits (ms / 60000 % 60) ++ (58 ∷ seconds) in
+    let from_seconds = lacks_both o (two_digits (ms / 1000 % 60)) (point ∷ three_digits (ms % 1000)) s last in
+    let from_minutes = lacks_both o (two_digits (ms / 60000 % 60)) (58 ∷ seconds) m (lacks_more o 58 seconds colon from_seconds) in
+    lacks_both o (two_or_more (ms / 3600000)) (58 ∷ minutes) h (lacks_more o 58 minutes colon from_minutes)
+
+-- it ends with a digit
+pub digit_no_return : (n : ℕ) → (digit n == 13) ≡ false
+digit_no_return n = grind (arith, nat_tests)
+
+pub stamp_ends : (front : List ℕ) (point ms : ℕ) → ends_with_return (front ++ stamp point ms) ≡ false
+unfolding stamp
+stamp_ends front point ms =
+    let h = two_or_more (ms / 3600000) in
+    let tail : List ℕ = two_digits (ms / 60000 % 60) ++ (58 ∷ (two_digits (ms / 1000 % 60) ++ (point ∷ three_digits (ms % 1000)))) in
+    let whole : ends_with_return (front ++ (h ++ (58 ∷ tail))) ≡ ends_with_return ((front ++ h) ++ (58 ∷ tail)) = ap ends_with_return (sym (append_assoc front h (58 ∷ tail))) in
+    whole ∙ (ends_both (front ++ h) 58 tail ∙ digit_no_return (ms % 1000))

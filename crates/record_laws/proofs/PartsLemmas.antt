@@ -1,0 +1,110 @@
+-- The lines of a text, and what is read of them.
+use Rattle.std.proofs.Common.{◌≡◌, ℕ, suc, ◌-◌, ◌<◌, Bool, true, false, cond, List, [], ◌∷◌, ◌++◌, length, refl, sym, ◌∙◌, ap, arith, append_assoc}
+use Rattle.std.proofs.lemmas.List.Splits.{join_with_byte-slice_split, length-slice_split}
+use Rattle.std.specs.Prelude.{◌==◌}
+use Rattle.std.specs.List.{onto_first, join_with_byte}
+use Rattle.std.specs.Str.Lines.{lines}
+use Rattle.srt_texts.specs.Srt.{trimmed, onto_lines, text_of}
+use Rattle.record_laws.specs.Plain.{lacks, IsLine}
+use Rattle.record_laws.specs.SubRip.{lines_in, ends_with_break}
+use Rattle.record_laws.proofs.LineLemmas.{lacks_more, line_first}
+
+-- ---- no line has LF
+abbrev pub AllLack : List (List ℕ) → Type 0
+AllLack [] = Unit {0}
+AllLack (l ∷ ls) = (lacks 10 l ≡ true) × AllLack ls
+
+onto_lack : (x : ℕ) (ls : List (List ℕ)) → (x == 10) ≡ false → AllLack ls → AllLack (onto_first x ls)
+onto_lack x [] other all = (lacks_more 10 x [] other refl, tt)
+onto_lack x (l ∷ ls) other all = (lacks_more 10 x l other all.0, all.1)
+
+pub lines_lack : (w : List ℕ) → AllLack (lines_in w)
+lines_lack [] = (refl, tt)
+lines_lack (x ∷ xs) = split (x == 10) refl (lines_lack xs)
+  where
+    split : (c : Bool) → (x == 10) ≡ c → AllLack (lines_in xs) → AllLack (cond c ([] ∷ lines_in xs) (onto_first x (lines_in xs)))
+    split true is all = (refl, all)
+    split false is all = onto_lack x (lines_in xs) is all
+
+-- ---- the last line has octets
+abbrev pub IsFilled : List (List ℕ) → Type 0
+IsFilled [] = ⊥
+IsFilled (l ∷ []) = 0 < length l
+IsFilled (l ∷ m ∷ ms) = IsFilled (m ∷ ms)
+
+front_filled : (l : List ℕ) (ls : List (List ℕ)) → IsFilled ls → IsFilled (l ∷ ls)
+front_filled l [] filled = absurd filled
+front_filled l (m ∷ ms) filled = filled
+
+onto_filled : (x : ℕ) (ls : List (List ℕ)) → IsFilled ls → IsFilled (onto_first x ls)
+onto_filled x [] filled = absurd filled
+onto_filled x (l ∷ []) filled = omega arith
+onto_filled x (l ∷ m ∷ ms) filled = filled
+
+break_more : (x y : ℕ) (ys : List ℕ) → ends_with_break (x ∷ y ∷ ys) ≡ ends_with_break (y ∷ ys)
+break_more x y ys =
+    let a : suc (suc (length ys)) - 1 ≡ suc (length ys) = omega arith in
+    let b : suc (length ys) - 1 ≡ length ys = omega arith in
+    rw (a, b) refl
+
+one_filled : (x : ℕ) (c : Bool) → (x == 10) ≡ c → c ≡ false → IsFilled (cond c ([] ∷ [] ∷ []) (onto_first x ([] ∷ [])))
+one_filled x true is none = absurd (cc)
+one_filled x false is none = omega arith
+
+pub lines_filled : (x : ℕ) (xs : List ℕ) → ends_with_break (x ∷ xs) ≡ false → IsFilled (lines_in (x ∷ xs))
+lines_filled x [] none = one_filled x (x == 10) refl none
+lines_filled x (y ∷ ys) none = split (x == 10) (lines_filled y ys (sym (break_more x y ys) ∙ none))
+  where
+    split : (c : Bool) → IsFilled (lines_in (y ∷ ys)) → IsFilled (cond c ([] ∷ lines_in (y ∷ ys)) (onto_first x (lines_in (y ∷ ys))))
+    split true rest = front_filled [] (lines_in (y ∷ ys)) rest
+    split false rest = onto_filled x (lines_in (y ∷ ys)) rest
+
+-- ---- what is read of the lines and an empty one
+onto_more : (l m : List ℕ) (ms : List (List ℕ)) → onto_lines l (m ∷ ms) ≡ l ∷ m ∷ ms
+onto_more [] m ms = refl
+onto_more (b ∷ bs) m ms = refl
+
+onto_last : (l : List ℕ) → 0 < length l → onto_lines l [] ≡ l ∷ []
+onto_last [] some = absurd (omega arith)
+onto_last (b ∷ bs) some = refl
+
+trimmed_filled : (ls : List (List ℕ)) → IsFilled ls → trimmed (ls ++ ([] ∷ [])) ≡ ls
+unfolding trimmed
+trimmed_filled [] filled = absurd filled
+trimmed_filled (l ∷ []) filled = onto_last l filled
+trimmed_filled (l ∷ m ∷ ms) filled = let rest = trimmed_filled (m ∷ ms) filled in ap (onto_lines l) rest ∙ onto_more l m ms
+
+-- the text of its lines and an empty one is the text
+pub text_back : (w : List ℕ) → ends_with_break w ≡ false → text_of (lines_in w ++ ([] ∷ [])) ≡ w
+unfolding trimmed
+text_back [] none = refl
+text_back (x ∷ xs) none = ap (join_with_byte 10) (trimmed_filled (lines_in (x ∷ xs)) (lines_filled x xs none)) ∙ join_with_byte-slice_split 10 (x ∷ xs)
+
+-- ---- the lines of a text that is written
+abbrev pub AreLines : List (List ℕ) → Type 0
+AreLines [] = Unit {0}
+AreLines (l ∷ ls) = IsLine l × AreLines ls
+
+lines_joined : (l : List ℕ) (ls : List (List ℕ)) (rest : List ℕ) → AreLines (l ∷ ls) → lines (join_with_byte 10 (l ∷ ls) ++ (10 ∷ rest)) ≡ (l ∷ ls) ++ lines rest
+lines_joined l [] rest are = line_first l rest are.0
+lines_joined l (m ∷ ms) rest are =
+    let more = join_with_byte 10 (m ∷ ms) in
+    let joined = append_assoc l (10 ∷ more) (10 ∷ rest) in
+    ap lines joined ∙ (line_first l (more ++ (10 ∷ rest)) are.0 ∙ ap (λ ls. l ∷ ls) (lines_joined m ms rest are.1))
+
+some_joined : (ls : List (List ℕ)) (rest : List ℕ) → 0 < length ls → AreLines ls → lines (join_with_byte 10 ls ++ (10 ∷ rest)) ≡ ls ++ lines rest
+some_joined [] rest some are = absurd (omega arith)
+some_joined (l ∷ ls) rest some are = lines_joined l ls rest are
+
+empty_line : (rest : List ℕ) → lines (10 ∷ rest) ≡ [] ∷ lines rest
+empty_line rest = line_first [] rest (record { no_break = refl; no_return = refl })
+
+some_lines : (w : List ℕ) → 0 < length (lines_in w)
+some_lines w = let long = length-slice_split (λ b. b == 10) w in omega arith
+
+-- a text with an empty line behind it
+pub text_lines : (w rest : List ℕ) → AreLines (lines_in w) → lines (w ++ (10 ∷ 10 ∷ rest)) ≡ lines_in w ++ ([] ∷ lines rest)
+text_lines w rest are =
+    let back = join_with_byte-slice_split 10 w in
+    let whole = some_joined (lines_in w) (10 ∷ rest) (some_lines w) are in
+    ap (λ t. lines (t ++ (10 ∷ 10 ∷ rest))) (sym back) ∙ (whole ∙ ap (λ ls. lines_in w ++ ls) (empty_line rest))

@@ -1,5 +1,0 @@
-use Rattle.record_laws.proofs.DifferenceLemmas.{differences-told}
-use Rattle.record_laws.proofs.differences_are_told.Goals as goal
-
-pub returns : goal.returns
-returns c = differences-told

@@ -1,5 +1,0 @@
-use Rattle.record_laws.proofs.EntryLemmas.{entries-stay}
-use Rattle.record_laws.proofs.entries_stay.Goals as goal
-
-pub returns : goal.returns
-returns c = entries-stay

@@ -1,5 +1,0 @@
-use Rattle.record_laws.proofs.WholeLemmas.{read-entries-whole}
-use Rattle.record_laws.proofs.read_entries_are_whole.Goals as goal
-
-pub returns : goal.returns
-returns c = read-entries-whole

@@ -1,0 +1,30 @@
+-- The block that was given, at its place.
+use Rattle.std.proofs.Common.{◌≡◌, ℕ, Bool, false, ◌&&◌, get_or, List, Some, sym, ◌∙◌, ap, ap₂}
+use Rattle.std.specs.List.{slice_get}
+use Rattle.std.specs.Option.{option_map}
+use Rattle.std.proofs.lemmas.Option.{unwrap_or-slice_get}
+use Rattle.output_model.specs.declared.heads.OutHead.{OutHead}
+use Rattle.lanes.specs.Lane.{LaneSeen, lent}
+use Rattle.time_merge.specs.Merge.{MergeSeen, StepsTo}
+use Rattle.time_merge.specs.declared.queue.Queue.{Queue}
+use Rattle.splitter.specs.declared.cuts.Place.{Place}
+use Rattle.splitter.specs.Steps.{CutsSeen, place_of, stepped}
+use Rattle.remuxer.specs.Placed.{PlacesOne, drives_at}
+
+pub places-one : (drives : List Bool) (old new : MergeSeen) (k : ℕ) (l : LaneSeen) (head : OutHead) (place : Place) (cuts after : CutsSeen) → StepsTo old new k
+    → option_map (λ (q : Queue). q.lane) (slice_get new.queues k) ≡ Some l → head ≡ (lent l).head
+    → place ≡ place_of cuts (head.key && get_or drives k false) head.tick → after ≡ stepped cuts (head.key && get_or drives k false) head.tick
+    → PlacesOne drives new cuts after (record { lane = k; place = place })
+places-one drives old new k l head place cuts after steps lane its placed on =
+    let found : Some l ≡ Some steps.queue.lane = sym lane ∙ ap (option_map (λ (q : Queue). q.lane)) steps.here in
+    let same : l ≡ steps.queue.lane = cc in
+    let says : head ≡ (lent steps.queue.lane).head = its ∙ ap (λ (x : LaneSeen). (lent x).head) same in
+    let driving : get_or drives k false ≡ drives_at drives k = sym (unwrap_or-slice_get drives k false) in
+    record {
+      queue = steps.queue;
+      here = steps.here;
+      placed = record {
+        place = placed ∙ ap₂ (λ (h : OutHead) (d : Bool). place_of cuts (h.key && d) h.tick) says driving;
+        steps = on ∙ ap₂ (λ (h : OutHead) (d : Bool). stepped cuts (h.key && d) h.tick) says driving;
+      };
+    }

@@ -1,0 +1,225 @@
+-- An output on the way, one block more at a time.
+use Rattle.std.proofs.Common.{◌≡◌, ◌≤◌, ◌<◌, ℕ, ◌+◌, List, [], ◌∷◌, ◌++◌, length, take, refl, sym, ap, subst, ◌∙◌, append_assoc, append-nil, arith, nat_eq, Option, Some, None, true, false, if◌then◌else◌, ◌⊎◌, inl, inr}
+use Rattle.std.proofs.lemmas.List.{map-append}
+use Rattle.std.proofs.lemmas.List.Concat.{flat_map-append}
+use Rattle.std.proofs.lemmas.Bool.{cases_lt}
+use Rattle.std.proofs.lemmas.Bool.Decides.{nat_tests}
+use Rattle.mkv_io.specs.Contents.{with_appended}
+use Rattle.mkv_io.specs.Names.{Names, with_change, with_content}
+use Rattle.mkv_io.specs.declared.reads.Reads.{Ghosts}
+use Rattle.mkv_io.specs.declared.files.Files as writing
+use Rattle.mkv_outputs.specs.Written.{PassesSome}
+use Rattle.output_model.specs.Element.{joined, octets_of}
+use Rattle.output_model.specs.declared.TheConstants.{MOST_CUES}
+use Rattle.output_model.specs.declared.heads.ClusterLimits.{ClusterLimits}
+use Rattle.output_model.specs.declared.places.CuePoint.{CuePoint}
+use Rattle.output_model.specs.OutputBlock.{OutputBlock}
+use Rattle.output_model.specs.Cluster.{OutputCluster, begun, cluster_element, cut_from, joins, with_block}
+use Rattle.output_model.specs.Cues.{point_of, points_from, points_where}
+use Rattle.output_model.specs.Document.{Document, back_elements, clusters_at, clusters_elements, cues_for, opened, opened_with}
+use Rattle.cluster_writer.specs.Gathered.{Gathered, Holds, cluster_with, gathered_with, joins_next, place_in, with_next}
+use Rattle.cues_seekhead.specs.Draft.{StandsDrafted, draft_of}
+use Rattle.cues_seekhead.specs.OpenOutput.{OpenOutput, IsOpen, StandsOpen, grown, with_cue}
+use Rattle.cues_seekhead.proofs.AppendingLemmas.{PassesSome-more, PassesSome-none}
+use Rattle.cues_seekhead.proofs.DraftLemmas.{StandsDrafted-begun}
+use Rattle.cues_seekhead.proofs.LayoutLemmas.{opened-more}
+use Rattle.cues_seekhead.proofs.OpenLemmas.{StandsOpen-cued, StandsOpen-grown}
+use Rattle.output_model.specs.Cued.{is_cue}
+use Rattle.remuxer.specs.Stands.{HasAll, Stands, cut_on, held}
+use Rattle.output_model.specs.declared.rule.CueRule.{CueRule}
+use Rattle.remuxer.proofs.PointLemmas.{kept-more, points_from-push}
+
+pub empty-octets : (bytes : List ℕ) → nat_eq (length bytes) 0 ≡ true → bytes ≡ []
+empty-octets [] none = refl
+empty-octets (x ∷ bytes) none = absurd (grind (arith, nat_tests, none))
+
+-- ---- where Clusters end
+
+cut-joins : (limits : ClusterLimits) (cl : Option OutputCluster) (left : List OutputBlock) (b : OutputBlock) → joins_next limits cl b ≡ true → cut_on limits (Some (with_next cl b)) left ≡ cut_on limits cl (b ∷ left)
+cut-joins limits None left b fits = refl
+cut-joins limits (Some c) left b fits = sym (ap (λ t. if t then cut_from limits (with_block c b) left else c ∷ cut_from limits (begun b) left) fits)
+
+cut-breaks : (limits : ClusterLimits) (c : OutputCluster) (left : List OutputBlock) (b : OutputBlock) → joins limits c b ≡ false → cut_on limits (Some c) (b ∷ left) ≡ c ∷ cut_on limits None (b ∷ left)
+cut-breaks limits c left b never = ap (λ t. if t then cut_from limits (with_block c b) left else c ∷ cut_from limits (begun b) left) never
+
+-- ---- octets of Clusters
+
+clusters-append : (xs ys : List OutputCluster) → joined (clusters_elements (xs ++ ys)) ≡ joined (clusters_elements xs) ++ joined (clusters_elements ys)
+clusters-append xs ys = ap joined (map-append cluster_element xs ys) ∙ flat_map-append octets_of (clusters_elements xs) (clusters_elements ys)
+
+clusters-push : (xs : List OutputCluster) (c : OutputCluster) → joined (clusters_elements xs) ++ octets_of (cluster_element c) ≡ joined (clusters_elements (xs ++ c ∷ []))
+clusters-push xs c = sym (clusters-append xs (c ∷ []) ∙ ap (λ w. joined (clusters_elements xs) ++ w) (append-nil (octets_of (cluster_element c))))
+
+-- an output with some of its Clusters is a first part of the open one
+open-part : (d : Document) (done rest : List OutputCluster) → done ++ rest ≡ d.clusters → opened_with d.front (joined (clusters_elements done)) ++ (joined (clusters_elements rest) ++ joined (back_elements d)) ≡ opened d
+open-part d done rest cut =
+    let first = joined (clusters_elements done) in
+    opened-more d.front first (joined (clusters_elements rest) ++ joined (back_elements d))
+    ∙ ap (λ w. opened_with d.front w) (sym (append_assoc first (joined (clusters_elements rest)) (joined (back_elements d)))
+    ∙ ap (λ w. w ++ joined (back_elements d)) (sym (clusters-append done rest) ∙ ap (λ cs. joined (clusters_elements cs)) cut))
+
+module _ {S : Type 0} (r : Ghosts S) (f : writing.Ghosts S) (before : Names) (name : List ℕ) (rules : List CueRule) (d : Document) where
+  -- some first octets were added behind some Clusters
+  drafted : (old now : Names) (done rest : List OutputCluster) (bytes more : List ℕ) → done ++ rest ≡ d.clusters → bytes ++ more ≡ joined (clusters_elements rest) ++ joined (back_elements d)
+      → old ≡ with_content before name (opened_with d.front (joined (clusters_elements done))) → PassesSome old now name bytes → StandsDrafted before now (draft_of name d)
+  drafted old now done rest bytes more cut whole had some =
+      let P : List ℕ → Type 0 = λ w. StandsDrafted before now (record { name = name; appended = w; patches = (draft_of name d).patches }) in
+      subst P (ap (λ w. opened_with d.front (joined (clusters_elements done)) ++ w) whole ∙ open-part d done rest cut)
+      (StandsDrafted-begun before old now name (opened_with d.front (joined (clusters_elements done))) (bytes ++ more) (draft_of name d).patches had (PassesSome-more old now name bytes more some))
+
+  -- what stands is a draft
+  pub stands-drafted : (files : S) (o : OpenOutput) (g : Gathered) (left : List OutputBlock) → Stands r f before name rules d files o g left → StandsDrafted before (f.names files) (draft_of name d)
+  stands-drafted files o g left stands =
+      let rest = cut_on g.limits stands.cluster left in
+      drafted (f.names files) (f.names files) stands.done rest [] (joined (clusters_elements rest) ++ joined (back_elements d)) stands.cut refl stands.stands.names (PassesSome-none (f.names files) (f.names files) name [] refl)
+
+  -- room was made in the buffer
+  pub stands-room : (files : S) (o : OpenOutput) (old new : Gathered) (left : List OutputBlock) → ((c : Option OutputCluster) → Holds c old → Holds c new) → new.limits ≡ old.limits
+      → Stands r f before name rules d files o old left → Stands r f before name rules d files o new left
+  stands-room files o old new left same limits stands = record {
+    done = stands.done;
+    cluster = stands.cluster;
+    cut = ap (λ l. stands.done ++ cut_on l stands.cluster left) limits ∙ stands.cut;
+    cues = stands.cues;
+    holds = same stands.cluster stands.holds;
+    stands = stands.stands;
+  }
+
+  -- ---- a Cluster is written
+
+  module _ (old new : S) (o : OpenOutput) (g g' : Gathered) (bytes : List ℕ) (b : OutputBlock) (left : List OutputBlock) where
+    pub stands-broken : Stands r f before name rules d old o g (b ∷ left) → ((c : Option OutputCluster) → Holds c g → joins_next g.limits c b ≡ false) → ((c : OutputCluster) → Holds (Some c) g → bytes ≡ octets_of (cluster_element c))
+        → f.names new ≡ with_change (f.names old) (f.holder old o.file.n) (with_appended bytes) → f.holder new o.file.n ≡ f.holder old o.file.n → IsOpen r new (grown o (length bytes)) → Holds None g' → g'.limits ≡ g.limits
+        → Stands r f before name rules d new (grown o (length bytes)) g' (b ∷ left)
+    stands-broken stands never is added holder is_open empty limits = by-cluster stands.cluster stands.cut stands.cues stands.holds
+      where
+        by-cluster : (cl : Option OutputCluster) → stands.done ++ cut_on g.limits cl (b ∷ left) ≡ d.clusters → o.cues ≡ cues_for (is_cue rules) d.front (stands.done ++ held cl) → Holds cl g
+            → Stands r f before name rules d new (grown o (length bytes)) g' (b ∷ left)
+        by-cluster None cut cues holds = absurd (let no : joins_next g.limits None b ≡ false = never None holds in cc)
+        by-cluster (Some c) cut cues holds =
+            let octets : joined (clusters_elements stands.done) ++ bytes ≡ joined (clusters_elements (stands.done ++ c ∷ [])) =
+            ap (λ w. joined (clusters_elements stands.done) ++ w) (is c holds) ∙ clusters-push stands.done c in
+            let grows = StandsOpen-grown r f before name d.front (joined (clusters_elements stands.done)) bytes old new o stands.stands added holder is_open in
+            record {
+              done = stands.done ++ c ∷ [];
+              cluster = None;
+              cut = ap (λ l. (stands.done ++ c ∷ []) ++ cut_on l None (b ∷ left)) limits ∙ append_assoc stands.done (c ∷ []) (cut_on g.limits None (b ∷ left))
+                  ∙ ap (λ cs. stands.done ++ cs) (sym (cut-breaks g.limits c left b (never (Some c) holds))) ∙ cut;
+              cues = cues ∙ ap (cues_for (is_cue rules) d.front) (sym (append-nil (stands.done ++ c ∷ [])));
+              holds = empty;
+              stands = subst (λ (w : List ℕ). StandsOpen r f before name d.front w new (grown o (length bytes))) octets grows;
+            }
+
+    -- or a first part of it
+    pub broken-drafted : Stands r f before name rules d old o g (b ∷ left) → ((c : Option OutputCluster) → Holds c g → joins_next g.limits c b ≡ false) → ((c : OutputCluster) → Holds (Some c) g → bytes ≡ octets_of (cluster_element c))
+        → PassesSome (f.names old) (f.names new) (f.holder old o.file.n) bytes → StandsDrafted before (f.names new) (draft_of name d)
+    broken-drafted stands never is some = by-cluster stands.cluster stands.cut stands.holds
+      where
+        by-cluster : (cl : Option OutputCluster) → stands.done ++ cut_on g.limits cl (b ∷ left) ≡ d.clusters → Holds cl g → StandsDrafted before (f.names new) (draft_of name d)
+        by-cluster None cut holds = absurd (let no : joins_next g.limits None b ≡ false = never None holds in cc)
+        by-cluster (Some c) cut holds =
+            let rest = cut_on g.limits None (b ∷ left) in
+            let behind = joined (clusters_elements rest) ++ joined (back_elements d) in
+            drafted (f.names old) (f.names new) stands.done (c ∷ rest) bytes behind
+            (ap (λ cs. stands.done ++ cs) (sym (cut-breaks g.limits c left b (never (Some c) holds))) ∙ cut)
+            (ap (λ w. w ++ behind) (is c holds) ∙ sym (append_assoc (octets_of (cluster_element c)) (joined (clusters_elements rest)) (joined (back_elements d))))
+            stands.stands.names (subst (λ (h : List ℕ). PassesSome (f.names old) (f.names new) h bytes) stands.stands.holder some)
+
+  -- ---- a block is held
+
+  module _ (files : S) (o : OpenOutput) (old new : Gathered) (b : OutputBlock) (left : List OutputBlock) where
+    cut-held : (stands : Stands r f before name rules d files o old (b ∷ left)) → joins_next old.limits stands.cluster b ≡ true → new.limits ≡ old.limits → stands.done ++ cut_on new.limits (Some (with_next stands.cluster b)) left ≡ d.clusters
+    cut-held stands fits limits =
+        ap (λ l. stands.done ++ cut_on l (Some (with_next stands.cluster b)) left) limits ∙ ap (λ cs. stands.done ++ cs) (cut-joins old.limits stands.cluster left b fits) ∙ stands.cut
+
+    pub stands-kept : (stands : Stands r f before name rules d files o old (b ∷ left)) → joins_next old.limits stands.cluster b ≡ true → ((c : Option OutputCluster) → Holds c old → Holds (Some (with_next c b)) new) → new.limits ≡ old.limits → is_cue rules b ≡ false
+        → Stands r f before name rules d files o new left
+    stands-kept stands fits puts limits plain =
+        let cued = is_cue rules in
+        let c = clusters_at d.front in
+        let ps = points_from cued c (stands.done ++ held stands.cluster) in
+        record {
+          done = stands.done;
+          cluster = Some (with_next stands.cluster b);
+          cut = cut-held stands fits limits;
+          cues = stands.cues ∙ ap (take MOST_CUES) (sym (points_from-push cued old.limits old.spare c stands.done stands.cluster b
+              ∙ ap (λ t. ps ++ points_where t (point_of (c + length (joined (clusters_elements stands.done))) (place_in (gathered_with old.limits old.spare stands.cluster) b.tick) b)) plain ∙ append-nil ps));
+          holds = puts stands.cluster stands.holds;
+          stands = stands.stands;
+        }
+
+    -- with its point
+    pub stands-cued : (o' : OpenOutput) (relative : ℕ) (stands : Stands r f before name rules d files o old (b ∷ left)) → joins_next old.limits stands.cluster b ≡ true → ((c : Option OutputCluster) → Holds c old → Holds (Some (with_next c b)) new) → new.limits ≡ old.limits → is_cue rules b ≡ true
+        → relative ≡ place_in old b.tick → (length o.cues < MOST_CUES → o' ≡ with_cue o (record { tick = b.tick; lane = b.lane; cluster = o.len; relative = relative })) → (MOST_CUES ≤ length o.cues → o' ≡ o)
+        → Stands r f before name rules d files o' new left
+    stands-cued o' relative stands fits puts limits cue is added full =
+        let cued = is_cue rules in
+        let c = clusters_at d.front in
+        let at = c + length (joined (clusters_elements stands.done)) in
+        let ps = points_from cued c (stands.done ++ held stands.cluster) in
+        let place = place_in (gathered_with old.limits old.spare stands.cluster) b.tick in
+        let there : o.len ≡ at = stands.stands.known.len in
+        let inside : relative ≡ place = is ∙ ap (λ (g : Gathered). place_in g b.tick) stands.holds in
+        let p : CuePoint = record { tick = b.tick; lane = b.lane; cluster = o.len; relative = relative } in
+        let point : p ≡ point_of at place b = λ i. record { tick = b.tick; lane = b.lane; cluster = there i; relative = inside i } in
+        record {
+          done = stands.done;
+          cluster = Some (with_next stands.cluster b);
+          cut = cut-held stands fits limits;
+          cues = kept-more MOST_CUES ps o.cues o'.cues p stands.cues (λ less. ap (λ (each : OpenOutput). each.cues) (added less)) (λ most. ap (λ (each : OpenOutput). each.cues) (full most))
+              ∙ ap (λ (each : CuePoint). take MOST_CUES (ps ++ each ∷ [])) point
+              ∙ ap (take MOST_CUES) (sym (points_from-push cued old.limits old.spare c stands.done stands.cluster b ∙ ap (λ t. ps ++ points_where t (point_of at place b)) cue));
+          holds = puts stands.cluster stands.holds;
+          stands = either (cases_lt (length o.cues) MOST_CUES);
+        }
+      where
+        P : OpenOutput → Type 0
+        P = λ each. StandsOpen r f before name d.front (joined (clusters_elements stands.done)) files each
+
+        either : (length o.cues < MOST_CUES) ⊎ (MOST_CUES ≤ length o.cues) → StandsOpen r f before name d.front (joined (clusters_elements stands.done)) files o'
+        either (inl less) = subst P (sym (added less)) (StandsOpen-cued r f before name d.front (joined (clusters_elements stands.done)) files o (record { tick = b.tick; lane = b.lane; cluster = o.len; relative = relative }) stands.stands)
+        either (inr more) = subst P (sym (full more)) stands.stands
+
+  -- ---- the last Cluster
+
+  held-octets : (cl : Option OutputCluster) (g : Gathered) → Holds cl g → cluster_with g.timestamp g.elements ≡ joined (clusters_elements (held cl))
+  held-octets None g holds = ap (λ (x : Gathered). cluster_with x.timestamp x.elements) holds
+  held-octets (Some c) g holds = ap (λ (x : Gathered). cluster_with x.timestamp x.elements) holds ∙ sym (append-nil (octets_of (cluster_element c)))
+
+  held-cut : (limits : ClusterLimits) (cl : Option OutputCluster) → cut_on limits cl [] ≡ held cl
+  held-cut limits None = refl
+  held-cut limits (Some c) = refl
+
+  module _ (old : S) (o : OpenOutput) (g : Gathered) (bytes : List ℕ) (stands : Stands r f before name rules d old o g []) (is : bytes ≡ cluster_with g.timestamp g.elements) where
+    all : stands.done ++ held stands.cluster ≡ d.clusters
+    all = ap (λ cs. stands.done ++ cs) (sym (held-cut g.limits stands.cluster)) ∙ stands.cut
+
+    octets : joined (clusters_elements stands.done) ++ bytes ≡ joined (clusters_elements d.clusters)
+    octets =
+        ap (λ w. joined (clusters_elements stands.done) ++ w) (is ∙ held-octets stands.cluster g stands.holds)
+        ∙ sym (clusters-append stands.done (held stands.cluster)) ∙ ap (λ cs. joined (clusters_elements cs)) all
+
+    cues : d.cues ≡ cues_for (is_cue rules) d.front d.clusters → d.cues ≡ o.cues
+    cues points = points ∙ sym (ap (cues_for (is_cue rules) d.front) all) ∙ sym stands.cues
+
+    -- it is written
+    pub all-written : (new : S) → d.cues ≡ cues_for (is_cue rules) d.front d.clusters → f.names new ≡ with_change (f.names old) (f.holder old o.file.n) (with_appended bytes) → f.holder new o.file.n ≡ f.holder old o.file.n → IsOpen r new (grown o (length bytes))
+        → HasAll r f before name d new (grown o (length bytes))
+    all-written new points added holder is_open = record {
+      cues = cues points;
+      stands = subst (λ (w : List ℕ). StandsOpen r f before name d.front w new (grown o (length bytes))) octets
+          (StandsOpen-grown r f before name d.front (joined (clusters_elements stands.done)) bytes old new o stands.stands added holder is_open);
+    }
+
+    -- there is none
+    pub all-stand : d.cues ≡ cues_for (is_cue rules) d.front d.clusters → bytes ≡ [] → HasAll r f before name d old o
+    all-stand points none = record {
+      cues = cues points;
+      stands = subst (λ (w : List ℕ). StandsOpen r f before name d.front w old o) (sym (append-nil (joined (clusters_elements stands.done))) ∙ ap (λ w. joined (clusters_elements stands.done) ++ w) (sym none) ∙ octets) stands.stands;
+    }
+
+    -- or a first part of it is
+    pub rest-drafted : (new : S) → PassesSome (f.names old) (f.names new) (f.holder old o.file.n) bytes → StandsDrafted before (f.names new) (draft_of name d)
+    rest-drafted new some =
+        drafted (f.names old) (f.names new) stands.done (held stands.cluster) bytes (joined (back_elements d)) all (ap (λ w. w ++ joined (back_elements d)) (is ∙ held-octets stands.cluster g stands.holds))
+        stands.stands.names (subst (λ (h : List ℕ). PassesSome (f.names old) (f.names new) h bytes) stands.stands.holder some)

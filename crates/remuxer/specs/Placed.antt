@@ -1,0 +1,37 @@
+-- The blocks of a merge, each at its place.
+use Rattle.std.specs.Prelude.{◌≡◌, ℕ, Bool, false, ◌&&◌, List, Option, Some, None, Result, Ok, Err}
+use Rattle.std.specs.List.{slice_get}
+use Rattle.std.specs.Option.{unwrap_or}
+use Rattle.mkv_io.specs.declared.outside.ReadEnd.{ReadEnd}
+use Rattle.output_model.specs.declared.heads.OutHead.{OutHead}
+use Rattle.lanes.specs.Lane.{lent}
+use Rattle.time_merge.specs.Merge.{MergeSeen}
+use Rattle.time_merge.specs.declared.queue.Queue.{Queue}
+use Rattle.splitter.specs.Steps.{CutsSeen, place_of, stepped}
+use Rattle.remuxer.specs.declared.placing.Ahead.{Ahead}
+
+-- the lane that lends the block that was given, as the merge answers it
+abbrev pub lane_in : Result (Option Ahead) ReadEnd → Result (Option ℕ) ReadEnd
+lane_in (Ok (Some a)) = Ok (Some a.lane)
+lane_in (Ok None) = Ok None
+lane_in (Err end) = Err end
+
+-- a lane drives, counted from 0
+abbrev pub drives_at : List Bool → ℕ → Bool
+drives_at drives lane = unwrap_or (slice_get drives lane) false
+
+-- A block that says this of itself, in a lane that drives or doesn't, stands at this place behind the ones before it.
+pub record IsPlaced (head : OutHead) (drives : Bool) (old new : CutsSeen) (a : Ahead) : Type 0 where
+  pub place : a.place ≡ place_of old (head.key && drives) head.tick
+  pub steps : new ≡ stepped old (head.key && drives) head.tick
+
+-- The block that is lent stands at its place; where none was given, nothing was placed.
+pub record PlacesOne (drives : List Bool) (m : MergeSeen) (old new : CutsSeen) (a : Ahead) : Type 0 where
+  pub queue : Queue
+  pub here : slice_get m.queues a.lane ≡ Some queue
+  pub placed : IsPlaced (lent queue.lane).head (drives_at drives a.lane) old new a
+
+abbrev pub Places : List Bool → MergeSeen → CutsSeen → CutsSeen → Result (Option Ahead) ReadEnd → Type 0
+Places drives m old new (Ok (Some a)) = PlacesOne drives m old new a
+Places drives m old new (Ok None) = new ≡ old
+Places drives m old new (Err end) = new ≡ old

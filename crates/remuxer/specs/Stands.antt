@@ -1,0 +1,62 @@
+-- An output on the way: what of its document stands in the file, what is held in the buffer, and what is left.
+use Rattle.std.specs.Prelude.{◌≡◌, ℕ, Bool, List, [], ◌∷◌, ◌++◌, Option, Some, None, Result, Ok, Err}
+use Rattle.mkv_io.specs.Names.{Names}
+use Rattle.mkv_io.specs.declared.reads.Reads.{Ghosts}
+use Rattle.mkv_io.specs.declared.files.Files as writing
+use Rattle.output_model.specs.Element.{joined}
+use Rattle.output_model.specs.declared.heads.ClusterLimits.{ClusterLimits}
+use Rattle.output_model.specs.OutputBlock.{OutputBlock}
+use Rattle.output_model.specs.Cluster.{OutputCluster, clusters, cut_from}
+use Rattle.output_model.specs.Document.{Document, clusters_elements, cues_for}
+use Rattle.cluster_writer.specs.Gathered.{Gathered, Holds}
+use Rattle.cues_seekhead.specs.OpenOutput.{OpenOutput, StandsOpen}
+use Rattle.cues_seekhead.specs.Draft.{StandsDrafted, draft_of}
+use Rattle.output_model.specs.Cued.{is_cue}
+use Rattle.output_model.specs.declared.rule.CueRule.{CueRule}
+
+-- the Clusters that blocks make behind one that is held, or behind none
+abbrev pub cut_on : ClusterLimits → Option OutputCluster → List OutputBlock → List OutputCluster
+cut_on limits None left = clusters limits left
+cut_on limits (Some c) left = cut_from limits c left
+
+abbrev pub held : Option OutputCluster → List OutputCluster
+held None = []
+held (Some c) = c ∷ []
+
+-- Some Clusters of the document stand in the file, the buffer holds the one behind them, if there is one, and these
+-- blocks are left; the cue points so far are those of these Clusters.
+pub record Stands {S : Type 0} (r : Ghosts S) (f : writing.Ghosts S) (before : Names) (name : List ℕ) (rules : List CueRule) (d : Document) (files : S) (o : OpenOutput) (g : Gathered) (left : List OutputBlock) : Type 0 where
+  pub done : List OutputCluster
+  pub cluster : Option OutputCluster
+  pub cut : done ++ cut_on g.limits cluster left ≡ d.clusters
+  pub cues : o.cues ≡ cues_for (is_cue rules) d.front (done ++ held cluster)
+  pub holds : Holds cluster g
+  pub stands : StandsOpen r f before name d.front (joined (clusters_elements done)) files o
+
+-- All Clusters of the document stand in the file, and its cue points are known.
+pub record HasAll {S : Type 0} (r : Ghosts S) (f : writing.Ghosts S) (before : Names) (name : List ℕ) (d : Document) (files : S) (o : OpenOutput) : Type 0 where
+  pub cues : d.cues ≡ o.cues
+  pub stands : StandsOpen r f before name d.front (joined (clusters_elements d.clusters)) files o
+
+-- ---- what a call makes of it; after a refusal the output stands as a draft
+
+-- the next block is still left
+abbrev pub MakesRoom : {S T E : Type 0} → Ghosts S → writing.Ghosts S → OutputBlock → S → S → OpenOutput → OpenOutput → Gathered → Gathered → Result T E → Type 0
+MakesRoom r f b old new o o' g g' (Ok _) =
+    (before : Names) (name : List ℕ) (rules : List CueRule) (d : Document) (left : List OutputBlock) → Stands r f before name rules d old o g (b ∷ left) → Stands r f before name rules d new o' g' (b ∷ left)
+MakesRoom r f b old new o o' g g' (Err _) =
+    (before : Names) (name : List ℕ) (rules : List CueRule) (d : Document) (left : List OutputBlock) → Stands r f before name rules d old o g (b ∷ left) → StandsDrafted before (f.names new) (draft_of name d)
+
+-- the next block isn't left any more
+abbrev pub Adds : {S T E : Type 0} → Ghosts S → writing.Ghosts S → OutputBlock → Bool → S → S → OpenOutput → OpenOutput → Gathered → Gathered → Result T E → Type 0
+Adds r f b cued old new o o' g g' (Ok _) =
+    (before : Names) (name : List ℕ) (rules : List CueRule) (d : Document) (left : List OutputBlock) → cued ≡ is_cue rules b → Stands r f before name rules d old o g (b ∷ left) → Stands r f before name rules d new o' g' left
+Adds r f b cued old new o o' g g' (Err _) =
+    (before : Names) (name : List ℕ) (rules : List CueRule) (d : Document) (left : List OutputBlock) → Stands r f before name rules d old o g (b ∷ left) → StandsDrafted before (f.names new) (draft_of name d)
+
+-- no block was left
+abbrev pub Ends : {S T E : Type 0} → Ghosts S → writing.Ghosts S → S → S → OpenOutput → OpenOutput → Gathered → Result T E → Type 0
+Ends r f old new o o' g (Ok _) =
+    (before : Names) (name : List ℕ) (rules : List CueRule) (d : Document) → Stands r f before name rules d old o g [] → d.cues ≡ cues_for (is_cue rules) d.front d.clusters → HasAll r f before name d new o'
+Ends r f old new o o' g (Err _) =
+    (before : Names) (name : List ℕ) (rules : List CueRule) (d : Document) → Stands r f before name rules d old o g [] → StandsDrafted before (f.names new) (draft_of name d)

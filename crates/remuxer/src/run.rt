@@ -1,0 +1,89 @@
+//! Blocks, one after the other, into a buffer and an output.
+
+ghost use Rattle.std.specs.Prelude.{◌≡◌, ◌≤◌, [], ◌∷◌, true, OnOk};
+ghost use Rattle.mkv_io.specs.Writing.{WritesOnly};
+ghost use Rattle.mkv_io.specs.Ends.{HasRemuxCause};
+ghost use Rattle.cluster_writer.specs.Gathered.{has_place};
+ghost use Rattle.cluster_writer.specs.Lengths.{octets_taken};
+ghost use Rattle.cluster_writer.specs.Lent.{CanBePut, block_of};
+ghost use Rattle.cues_seekhead.specs.OpenOutput.{IsOpen};
+ghost use Rattle.remuxer.specs.Stands.{Adds, Ends, MakesRoom};
+
+use cluster_writer::{ClusterBuf, LentBlock};
+use cues_seekhead::OutFile;
+use mkv_io::{Files, Reads, RemuxEnd as OutEnd};
+
+// Makes sure that a block, whose Element has so many octets, joins the Cluster that is held: where it doesn't, that
+// is written, and the buffer holds none.
+fn make_room<F: Files>(
+    files: &mut F,
+    out: &mut OutFile,
+    buffer: &mut ClusterBuf,
+    block: &LentBlock<'_>,
+    len: u64,
+) -> Result<(), OutEnd>
+    requires open { IsOpen F.Reads files.old out.old }
+    requires len { len ≡ octets_taken (block_of block.now) }
+    ensures makes { MakesRoom F.Reads F.Files.own (block_of block.now) files.old files.new out.old out.new buffer.old buffer.new result }
+    ensures joins { OnOk result (has_place buffer.new block.now.tick len ≡ true) }
+    ensures spare { OnOk result (buffer.old.spare ≤ buffer.new.spare) }
+    ensures limits { buffer.new.limits ≡ buffer.old.limits }
+    ensures file { out.new.file ≡ out.old.file }
+    ensures open { OnOk result (IsOpen F.Reads files.new out.new) }
+    ensures only { WritesOnly F.Reads F.Files.own (F.holder files.old out.old.file.n ∷ []) files.old files.new }
+    ensures cause { HasRemuxCause F.Reads F.Files.own files.old files.new result }
+{
+    if !buffer.fits(block.tick, len) {
+        out.cluster(files, buffer.octets())?;
+        buffer.clear();
+    }
+    Ok(())
+}
+
+/// Adds the next block of an output, and its cue point, where it gets one. A Cluster that it doesn't join is
+/// written first.
+pub fn add_block<F: Files>(
+    files: &mut F,
+    out: &mut OutFile,
+    buffer: &mut ClusterBuf,
+    block: &LentBlock<'_>,
+    cued: bool,
+) -> Result<(), OutEnd>
+    requires block { CanBePut block.now }
+    requires open { IsOpen F.Reads files.old out.old }
+    ensures adds { Adds F.Reads F.Files.own (block_of block.now) cued files.old files.new out.old out.new buffer.old buffer.new result }
+    ensures limits { buffer.new.limits ≡ buffer.old.limits }
+    ensures file { out.new.file ≡ out.old.file }
+    ensures open { OnOk result (IsOpen F.Reads files.new out.new) }
+    ensures only { WritesOnly F.Reads F.Files.own (F.holder files.old out.old.file.n ∷ []) files.old files.new }
+    ensures cause { HasRemuxCause F.Reads F.Files.own files.old files.new result }
+{
+    let len = block.element_len();
+    buffer.reserve(len)?;
+    make_room(files, out, buffer, block, len)?;
+    let relative = buffer.put_block(block);
+    if cued {
+        out.cue(block.tick, block.lane, relative)?;
+    }
+    Ok(())
+}
+
+/// Writes the Cluster that is held, if there is one. All blocks have been added then.
+pub fn add_rest<F: Files>(
+    files: &mut F,
+    out: &mut OutFile,
+    buffer: &mut ClusterBuf,
+) -> Result<(), OutEnd>
+    requires { IsOpen F.Reads files.old out.old }
+    ensures ends { Ends F.Reads F.Files.own files.old files.new out.old out.new buffer.old result }
+    ensures file { out.new.file ≡ out.old.file }
+    ensures open { OnOk result (IsOpen F.Reads files.new out.new) }
+    ensures only { WritesOnly F.Reads F.Files.own (F.holder files.old out.old.file.n ∷ []) files.old files.new }
+    ensures cause { HasRemuxCause F.Reads F.Files.own files.old files.new result }
+{
+    let octets = buffer.octets();
+    if !octets.is_empty() {
+        out.cluster(files, octets)?;
+    }
+    Ok(())
+}

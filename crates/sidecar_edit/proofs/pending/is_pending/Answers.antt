@@ -1,0 +1,42 @@
+use Rattle.std.proofs.Common.{◌≡◌, List, ℕ, ◌∙◌, ap}
+use Rattle.sidecar_edit.specs.Name.{sidecar_of}
+use Rattle.sidecar_edit.specs.Pending.{holds_edit}
+use Rattle.sidecar_edit.proofs.LooksLemmas.{KeepsOthers-looked, holds-read}
+use Rattle.sidecar_edit.proofs.pending.is_pending.Goals as goal
+
+-- the sidecar was there, and what it holds was read
+pub returns-clause-exact : goal.returns-clause-exact
+returns-clause-exact g c = λ world told.
+    let name = c.as_str.result.now in
+    let named : name ≡ sidecar_of c.args.name.now = c.as_str.ensures.same ∙ c.in_ok-sidecar.ensures in
+    c.is_begun.ensures
+    ∙ holds-read (world name) c.in_ok-held.field-0
+    (λ none. let refused = (c.in-Ok.ensures.missing world told).1 none in absurd (cc))
+    (λ bytes is. c.in_ok-held.ensures.ok bytes (c.in-Ok.ensures.content world told ∙ is))
+    ∙ ap (λ (n : List ℕ). holds_edit (world n)) named
+
+-- the sidecar was opened, read and closed
+pub returns-clause-looks : goal.returns-clause-looks
+returns-clause-looks g c =
+    let laws = g.met.F.Files in
+    let opened = c.open_file.new.self in
+    let read = c.state-held.new.src in
+    let standing = c.state-held.ensures.only.standing in
+    record {
+      kept = KeepsOthers-looked g.F.Reads g.F.Files c.args.files.now opened read c.close.new.self c.in-Ok.file.n laws.numbered (record {
+        least = c.in-Ok.ensures.number.0;
+        most = c.in-Ok.ensures.number.1;
+        alone = c.in-Ok.ensures.alone;
+        holders = c.open_file.ensures.holders;
+        others = c.open_file.ensures.others;
+        standing = standing;
+        given = laws.given_stands read opened standing;
+        held = laws.holders_stand read opened standing;
+        ended = c.close.ensures.ended;
+        closed_given = c.close.ensures.given;
+        closed_others = c.close.ensures.others;
+        closed_holders = c.close.ensures.holders;
+      });
+      names = c.close.ensures.names ∙ laws.names_stand read opened standing ∙ c.open_file.ensures.names;
+      writing = c.close.ensures.writing ∙ laws.writing_stands read opened standing ∙ c.open_file.ensures.writing;
+    }

@@ -1,0 +1,30 @@
+-- Whether an edit of a file is pending, and what a call leaves that only looks.
+use Rattle.std.specs.Prelude.{◌≡◌, ℕ, Bool, true, false, List, [], Option, Some, None}
+use Rattle.mkv_io.specs.Writing.{KeepsOthers}
+use Rattle.mkv_io.specs.declared.reads.Reads.{Ghosts}
+use Rattle.mkv_io.specs.declared.files.Files as writing
+use Rattle.sidecar_edit.specs.declared.held.Gate.{Gate}
+use Rattle.sidecar_edit.specs.declared.held.Gate.TheVariants.{Live, Quiet, Bad}
+use Rattle.sidecar_edit.specs.Gate.{state}
+use Rattle.sidecar_edit.specs.Name.{sidecar_of}
+
+-- an edit was begun, and is to be redone
+abbrev pub is_begun : Gate → Bool
+is_begun Live = true
+is_begun Quiet = false
+is_begun (Bad offset) = false
+
+-- a sidecar, if it is there, holds such an edit
+abbrev pub holds_edit : Option (List ℕ) → Bool
+holds_edit None = false
+holds_edit (Some sidecar) = is_begun (state sidecar)
+
+-- in a world of names, an edit of the file of this name is pending
+abbrev pub is_pending : (List ℕ → Option (List ℕ)) → List ℕ → Bool
+is_pending world name = holds_edit (world (sidecar_of name))
+
+-- A call that only looks into files leaves which of them are live, each live one as it was, and the content of every name.
+pub record LooksOnly {S : Type 0} (r : Ghosts S) (f : writing.Ghosts S) (old new : S) : Type 0 where
+  pub kept : KeepsOthers r f [] old new
+  pub names : f.names new ≡ f.names old
+  pub writing : f.writing_faults new ≡ f.writing_faults old

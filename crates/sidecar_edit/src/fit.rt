@@ -1,0 +1,133 @@
+//! Whether the file beside a live record is the one that the record was made for.
+
+ghost use Rattle.std.specs.Prelude.{◌≡◌, ◌≢◌, ◌≤◌, ◌<◌, ℕ, ◌+◌, ◌&&◌, ◌||◌, nat_le, nat_lt, min, length, slice_index, Option, IfSome, false};
+ghost use Rattle.sidecar_edit.specs.Fields.{count_in, new_len_in, old_len_in, used_in, version_in};
+ghost use Rattle.sidecar_edit.specs.Recovery.{differs, first_place, foreign_of, gap_of, is_disk_fault, is_touched, octet_mark, unfit};
+
+use crate::head::{number_at, place_in};
+use crate::outcome::{Mark, RecoverEnd};
+use crate::place::{HEAD, HEAD_1, KEPT, MOST_WRITES, Place};
+
+/// Whether a write writes an octet.
+fn touches(place: Place, k: u64) -> bool
+    ensures { result ≡ (nat_le place.at k && nat_lt k (place.at + place.len)) }
+{
+    place.at <= k && u128::from(k) < u128::from(place.at) + u128::from(place.len)
+}
+
+/// Whether a write of a record writes an octet.
+fn is_touched(head: &[u8], k: u64) -> bool
+    requires long { HEAD_1 ≤ length head.now }
+    requires few { count_in head.now ≤ MOST_WRITES }
+    ensures { result ≡ is_touched (used_in head.now) k }
+{
+    for i in 0..usize::from(head[25]) {
+        let place = place_in(head, i);
+        if touches(place, k) {
+            return true;
+        }
+    }
+    false
+}
+
+/// An octet of a file's first ones, 0 past their end.
+fn octet_at(media: &[u8], k: usize) -> u8
+    ensures { result ≡ slice_index media.now k }
+{
+    media.get(k).copied().unwrap_or(0)
+}
+
+/// Whether an octet that the edit doesn't change isn't the one that is kept.
+fn differs(head: &[u8], media: &[u8], k: usize) -> bool
+    requires head { length head.now ≡ HEAD }
+    requires few { count_in head.now ≤ MOST_WRITES }
+    requires octet { k < KEPT }
+    ensures { result ≡ differs head.now media.now k }
+{
+    (k as u64) < number_at(head, 160)
+        && !is_touched(head, k as u64)
+        && octet_at(media, k) != head[168 + k]
+}
+
+/// Where a file's first octets differ from what is kept of them.
+fn octet_mark(head: &[u8], media: &[u8]) -> Option<RecoverEnd>
+    requires head { length head.now ≡ HEAD }
+    requires few { count_in head.now ≤ MOST_WRITES }
+    ensures { result ≡ octet_mark head.now media.now (first_place (differs head.now media.now) 0 KEPT) }
+{
+    for k in 0..KEPT as usize {
+        if differs(head, media, k) {
+            return Some(RecoverEnd::Foreign {
+                mark: Mark::Octet { at: k as u64 },
+                kept: u64::from(head[168 + k]),
+                found: u64::from(octet_at(media, k)),
+            });
+        }
+    }
+    None
+}
+
+/// Whether a file's length is none that the edit passes through.
+fn has_other_length(head: &[u8], size: u64) -> bool
+    requires { HEAD_1 + 8 ≤ length head.now }
+    ensures { result ≡ (nat_lt size (old_len_in head.now) || nat_lt (new_len_in head.now) size) }
+{
+    size < number_at(head, 160) || number_at(head, 16) < size
+}
+
+/// By what a file of so many octets, with these first ones, differs from that of a record of version 2.
+fn foreign_of(head: &[u8], size: u64, media: &[u8]) -> Option<RecoverEnd>
+    requires head { length head.now ≡ HEAD }
+    requires few { count_in head.now ≤ MOST_WRITES }
+    ensures { result ≡ foreign_of head.now size media.now }
+{
+    if has_other_length(head, size) {
+        return Some(RecoverEnd::Foreign {
+            mark: Mark::Length,
+            kept: number_at(head, 160),
+            found: size,
+        });
+    }
+    octet_mark(head, media)
+}
+
+/// Whether a write begins no farther than an end.
+fn begins_within(place: Place, end: u128) -> bool
+    ensures { result ≡ nat_le place.at end }
+{
+    u128::from(place.at) <= end
+}
+
+/// Where a record of version 1 begins to write past the end of a file of so many octets.
+fn gap_of(head: &[u8], size: u64) -> Option<RecoverEnd>
+    requires long { HEAD_1 ≤ length head.now }
+    requires few { count_in head.now ≤ MOST_WRITES }
+    ensures { result ≡ gap_of 32 size (used_in head.now) }
+{
+    let mut end = u128::from(size);
+    for k in 0..usize::from(head[25]) {
+        let place = place_in(head, k);
+        if !begins_within(place, end) {
+            return Some(RecoverEnd::BadSidecar {
+                offset: 32 + 16 * k as u64,
+            });
+        }
+        end = end.max(u128::from(place.at) + u128::from(place.len));
+    }
+    None
+}
+
+/// What keeps the writes of a live record from being made in a file of so many octets, with these first ones.
+pub fn unfit(head: &[u8], size: u64, media: &[u8]) -> Option<RecoverEnd>
+    requires long { HEAD_1 ≤ length head.now }
+    requires few { count_in head.now ≤ MOST_WRITES }
+    requires second { version_in head.now ≢ 1 → length head.now ≡ HEAD }
+    ensures exact { result ≡ unfit head.now size media.now }
+    ensures refused { IfSome result (λ end. is_disk_fault end ≡ false) }
+{
+    if head[24] == 1 {
+        gap_of(head, size)
+    } else {
+        foreign_of(head, size, media)
+    }
+}

@@ -1,0 +1,239 @@
+//! What a sidecar's first octets say.
+
+ghost use Rattle.std.specs.Prelude.{◌≡◌, ◌≤◌, ◌<◌, ℕ, ◌+◌, ◌*◌, ◌^◌, ◌&&◌, ◌==◌, nat_le, drop, length, min, Option};
+ghost use Rattle.sidecar_edit.specs.Fields.{count_in, head_len, last_end, new_len_in, number_at, place_in, places_in, sum_of, total_in, used_in, version_in};
+ghost use Rattle.sidecar_edit.specs.Gate.{IsLiveHead, are_zeros, counted_rules, first_breach, gate_of, is_count, is_joined, is_new_len, is_padded, is_total, is_version, old_len_of, place_rules, rules_of};
+
+use crate::held::Gate;
+use crate::place::{HEAD, HEAD_1, KEPT, MOST_OCTETS, MOST_WRITES, OPEN, Place};
+use byteorder::{BigEndian, ByteOrder};
+
+/// A number of eight octets.
+#[tactic(auto, unfolding(crate::specs::Fields::number_at))]
+pub fn number_at(head: &[u8], at: usize) -> u64
+    requires { at + 8 ≤ length head.now }
+    ensures { result ≡ number_at head.now at }
+{
+    BigEndian::read_u64(&head[at..])
+}
+
+/// The place of a write, from 0.
+pub fn place_in(head: &[u8], k: usize) -> Place
+    requires { 48 + 16 * k ≤ length head.now }
+    ensures { result ≡ place_in head.now k }
+{
+    Place {
+        at: number_at(head, 32 + 16 * k),
+        len: number_at(head, 40 + 16 * k),
+    }
+}
+
+/// How many writes a record has.
+pub fn count_in(head: &[u8]) -> usize
+    requires { HEAD_1 ≤ length head.now }
+    ensures { result ≡ count_in head.now }
+{
+    usize::from(head[25])
+}
+
+/// How many octets stand before those of the writes.
+pub fn head_len(head: &[u8]) -> u64
+    requires { HEAD_1 ≤ length head.now }
+    ensures { result ≡ head_len (version_in head.now) }
+{
+    if head[24] == 1 { HEAD_1 } else { HEAD }
+}
+
+/// How many octets the writes write.
+#[tactic(auto, using(crate::proofs::ReadingLemmas::sum_next))]
+fn sum_in(head: &[u8]) -> u128
+    requires long { HEAD_1 ≤ length head.now }
+    requires few { count_in head.now ≤ MOST_WRITES }
+    ensures { result ≡ sum_of (used_in head.now) }
+{
+    let mut sum = 0;
+    for k in 0..usize::from(head[25]) {
+        sum += u128::from(place_in(head, k).len);
+    }
+    sum
+}
+
+/// Where the last write ends.
+#[tactic(auto, using(crate::proofs::ReadingLemmas::end_next))]
+fn end_in(head: &[u8]) -> u128
+    requires long { HEAD_1 ≤ length head.now }
+    requires few { count_in head.now ≤ MOST_WRITES }
+    ensures { result ≡ last_end 0 (used_in head.now) }
+{
+    let mut end = 0;
+    for k in 0..usize::from(head[25]) {
+        let place = place_in(head, k);
+        end = u128::from(place.at) + u128::from(place.len);
+    }
+    end
+}
+
+fn are_zeros(octets: &[u8]) -> bool
+    ensures { result ≡ are_zeros octets.now }
+{
+    octets.iter().all(|&octet| octet == 0)
+}
+
+/// The file's length before the edit, where the record has it and the sidecar is long enough for it.
+fn old_len_of(head: &[u8]) -> Option<u64>
+    requires { HEAD_1 ≤ length head.now }
+    ensures { result ≡ old_len_of head.now }
+{
+    if head[24] == 2 && head.len() >= 168 {
+        Some(number_at(head, 160))
+    } else {
+        None
+    }
+}
+
+/// Whether the record's length is that of what stands in it, and it writes at most 16 MiB.
+fn is_total(head: &[u8]) -> bool
+    requires long { HEAD_1 ≤ length head.now }
+    requires few { count_in head.now ≤ MOST_WRITES }
+    ensures { result ≡ is_total head.now }
+{
+    let sum = sum_in(head);
+    sum <= u128::from(MOST_OCTETS)
+        && u128::from(number_at(head, 8)) == u128::from(head_len(head)) + sum
+}
+
+/// Whether the length after the edit is right.
+fn is_new_len(head: &[u8]) -> bool
+    requires long { HEAD_1 ≤ length head.now }
+    requires few { count_in head.now ≤ MOST_WRITES }
+    ensures { result ≡ is_new_len (version_in head.now) (old_len_of head.now) (new_len_in head.now) (last_end 0 (used_in head.now)) }
+{
+    let new_len = u128::from(number_at(head, 16));
+    let end = end_in(head);
+    match old_len_of(head) {
+        None => head[24] == 2 || end <= new_len,
+        Some(old_len) => new_len == end.max(u128::from(old_len)),
+    }
+}
+
+/// Whether the octets past the end of a file that has fewer than are kept are zero.
+fn is_padded(head: &[u8]) -> bool
+    requires { HEAD_1 ≤ length head.now }
+    ensures { result ≡ is_padded head.now }
+{
+    if head[24] != 2 || (head.len() as u64) < HEAD {
+        return true;
+    }
+    let first = &head[168..232];
+    let old_len = number_at(head, 160).min(KEPT);
+    are_zeros(&first[old_len as usize..])
+}
+
+/// Whether a place that is used has octets, begins no sooner than the one before it ends, and is joined.
+fn is_used(place: Place, from: u128, old_len: Option<u64>) -> bool
+    ensures { result ≡ (nat_le 1 place.len && nat_le from place.at && is_joined old_len from place) }
+{
+    let joined = match old_len {
+        None => true,
+        Some(old_len) => u128::from(place.at) <= from.max(u128::from(old_len)),
+    };
+    place.len >= 1 && from <= u128::from(place.at) && joined
+}
+
+/// Whether a place is as one that isn't used.
+fn is_zero(place: Place) -> bool
+    ensures { result ≡ ((place.at == 0) && (place.len == 0)) }
+{
+    place.at == 0 && place.len == 0
+}
+
+/// The first octet to which a breach of the rules of places is laid.
+fn place_breach(head: &[u8], old_len: Option<u64>) -> Option<u64>
+    requires long { HEAD_1 ≤ length head.now }
+    requires few { count_in head.now ≤ MOST_WRITES }
+    ensures { result ≡ first_breach (place_rules old_len 32 (count_in head.now) 0 (places_in head.now)) }
+{
+    let mut from = 0;
+    for k in 0..usize::from(head[25]) {
+        let place = place_in(head, k);
+        if !is_used(place, from, old_len) {
+            return Some(32 + 16 * k as u64);
+        }
+        from = u128::from(place.at) + u128::from(place.len);
+    }
+    unused_breach(head)
+}
+
+/// The same of the places that aren't used.
+fn unused_breach(head: &[u8]) -> Option<u64>
+    requires long { HEAD_1 ≤ length head.now }
+    requires few { count_in head.now ≤ MOST_WRITES }
+    ensures { (old : Option ℕ) (from : ℕ) → result ≡ first_breach (place_rules old (32 + 16 * count_in head.now) 0 from (drop (count_in head.now) (places_in head.now))) }
+{
+    for k in usize::from(head[25])..MOST_WRITES as usize {
+        let place = place_in(head, k);
+        if !is_zero(place) {
+            return Some(32 + 16 * k as u64);
+        }
+    }
+    None
+}
+
+/// The first octet to which a breach of the record's rules is laid.
+pub fn first_breach(head: &[u8]) -> Option<u64>
+    requires { HEAD_1 ≤ length head.now }
+    ensures { result ≡ first_breach (rules_of head.now) }
+{
+    let magic: &[u8] = b"MKVEDIT";
+    if &head[1..8] != magic {
+        return Some(1);
+    }
+    if head[24] != 1 && head[24] != 2 {
+        return Some(24);
+    }
+    if head[25] < 1 || u64::from(head[25]) > MOST_WRITES {
+        return Some(25);
+    }
+    counted_breach(head)
+}
+
+/// The same of the rules that count writes.
+fn counted_breach(head: &[u8]) -> Option<u64>
+    requires long { HEAD_1 ≤ length head.now }
+    requires few { count_in head.now ≤ MOST_WRITES }
+    ensures { result ≡ first_breach (counted_rules head.now) }
+{
+    if !is_total(head) {
+        return Some(8);
+    }
+    if !is_new_len(head) {
+        return Some(16);
+    }
+    if !are_zeros(&head[26..32]) {
+        return Some(26);
+    }
+    match place_breach(head, old_len_of(head)) {
+        Some(octet) => Some(octet),
+        None if !is_padded(head) => Some(168),
+        None => None,
+    }
+}
+
+/// What a sidecar of so many octets holds, by the first of them.
+pub fn gate_of(head: &[u8], size: u64) -> Gate
+    requires { length head.now ≡ min HEAD size }
+    ensures exact { result ≡ gate_of head.now size }
+    ensures live { result ≡ Gate.Live → IsLiveHead head.now size }
+{
+    if size <= 1 || head[0] != OPEN {
+        return Gate::Quiet;
+    }
+    if size < HEAD_1 {
+        return Gate::Bad { offset: size };
+    }
+    match first_breach(head) {
+        Some(offset) => Gate::Bad { offset },
+        None if size < number_at(head, 8) => Gate::Bad { offset: size },
+        None => Gate::Live,
+    }
+}

@@ -1,0 +1,43 @@
+//! The sidecar of a file is looked into.
+
+ghost use Rattle.std.specs.Prelude.{◌≡◌, ◌+◌, ◌≤◌, IfOk};
+ghost use Rattle.mkv_io.specs.Faults.{HasCause, is_read_fault};
+ghost use Rattle.mkv_io.specs.Told.{Told};
+ghost use Rattle.sidecar_edit.specs.declared.place.TheConstants.{HEAD};
+ghost use Rattle.sidecar_edit.specs.Pending.{LooksOnly, is_begun, is_pending};
+
+use crate::held::Gate;
+use crate::name::sidecar_name;
+use crate::reading::state;
+use mkv_io::{Files, OpenFault, ReadEnd};
+use std::alloc::Global;
+
+/// Whether an edit of the file of a name is pending. A sidecar that isn't there has none; one that can't be opened or
+/// read is a `ReadFault`.
+pub fn is_pending<F: Files>(alloc: Global, name: &str, files: &mut F) -> Result<bool, ReadEnd>
+    ensures exact { Told (F.names files.old) (λ world. IfOk result (λ pending. pending ≡ is_pending world name.now)) }
+    ensures looks { LooksOnly F.Reads F.Files.own files.old files.new }
+    ensures cause { HasCause is_read_fault (F.reading_faults files.old) (F.reading_faults files.new) result }
+    ensures octets { F.octets_read files.new ≤ F.octets_read files.old + HEAD }
+{
+    let sidecar = sidecar_name(alloc, name)?;
+    let file = match files.open_file(sidecar.as_str()) {
+        Ok(file) => file,
+        Err(OpenFault::Missing) => return Ok(false),
+        Err(OpenFault::Failed) => return Err(ReadEnd::ReadFault),
+        Err(OpenFault::Memory) => return Err(ReadEnd::Memory),
+    };
+    let held = state(files, file);
+    files.close(file);
+    Ok(is_begun(held?))
+}
+
+/// Whether a sidecar holds an edit that is to be redone.
+fn is_begun(held: Gate) -> bool
+    ensures { result ≡ is_begun held }
+{
+    match held {
+        Gate::Live => true,
+        Gate::Quiet | Gate::Bad { .. } => false,
+    }
+}

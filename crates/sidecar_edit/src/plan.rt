@@ -1,0 +1,170 @@
+//! The plan of an edit.
+
+ghost use Rattle.std.specs.Prelude.{◌≡◌, ◌≤◌, ◌<◌, ℕ, ◌+◌, ◌*◌, ◌++◌, ◌-◌, min, length, List, OnOk, OnErr, IfOk};
+ghost use Rattle.sidecar_edit.specs.Fields.{IsPlan, body_of, front_octets, mark_octets, slot, slots, sum_of, zeros};
+ghost use Rattle.sidecar_edit.specs.Plan.{planned};
+
+use crate::place::{HEAD, KEPT, MOST_WRITES, Place};
+use mkv_io::Bytes;
+use std::alloc::{AllocError, Global};
+use std::marker::Model;
+
+const ZEROS: [u8; KEPT as usize] = [0; KEPT as usize];
+
+/// What is written over a file, as the record of it that stands in a sidecar. The record knows the file by its
+/// length and its first octets, and holds what is written, and no copy of the file.
+#[derive(Debug, Drop)]
+pub struct Plan {
+    old_len: u64,
+    new_len: u64,
+    first: Bytes,
+    places: Vec<Place>,
+    /// The record from the gate's end on.
+    octets: Bytes,
+}
+
+impl Model for Plan {
+    ghost use Rattle.sidecar_edit.specs.Fields.{Planned};
+    ghost use Rattle.sidecar_edit.specs.Plan.{IsRecorded, planned_in};
+
+    ghost Value = { Planned };
+
+    ghost view = { λ p. planned_in p.old_len p.new_len p.first p.places.items p.octets };
+
+    ghost invariant = { λ p. IsRecorded (planned_in p.old_len p.new_len p.first p.places.items p.octets) p.octets };
+}
+
+impl Plan {
+    /// A plan of writes at these places, of these octets in order, over a file of a length, which is then
+    /// another, and with these first octets.
+    pub fn new(
+        alloc: Global,
+        old_len: u64,
+        new_len: u64,
+        first: &[u8],
+        places: Vec<Place>,
+        payload: &[u8],
+    ) -> Result<Plan, AllocError>
+        requires { IsPlan (planned old_len new_len first.now places.items payload.now) }
+        ensures { IfOk result (λ plan. plan ≡ planned old_len new_len first.now places.items payload.now) }
+    {
+        let mut octets = Bytes::with_room(alloc, HEAD as usize - 1 + payload.len())?;
+        append_front(
+            &mut octets,
+            HEAD + payload.len() as u64,
+            new_len,
+            places.len() as u8,
+        )?;
+        append_places(&mut octets, &places)?;
+        append_marks(&mut octets, old_len, first)?;
+        octets.append(payload)?;
+        Ok(Plan {
+            old_len,
+            new_len,
+            first: Bytes::from_vec(first.to_vec(alloc)?),
+            places,
+            octets,
+        })
+    }
+
+    /// How many writes there are.
+    pub fn count(&self) -> usize
+        ensures { result ≡ length self.now.head.places }
+    {
+        self.places.len()
+    }
+
+    /// Where they write, in order.
+    pub fn places(&self) -> &[Place]
+        ensures { result.now ≡ self.now.head.places }
+    {
+        self.places.as_slice()
+    }
+
+    /// What they write, one's octets behind the other's.
+    pub fn payload(&self) -> &[u8]
+        ensures same { result.now ≡ self.now.payload }
+        ensures full { length result.now ≡ sum_of self.now.head.places }
+    {
+        &self.octets.as_slice()[HEAD as usize - 1..]
+    }
+
+    /// What stands in the sidecar behind the gate.
+    pub fn body(&self) -> &[u8]
+        ensures same { result.now ≡ body_of self.now }
+        ensures sound { IsPlan self.now }
+    {
+        self.octets.as_slice()
+    }
+
+    /// The file's length in octets before the edit.
+    pub fn old_len(&self) -> u64
+        ensures { result ≡ self.now.head.old_len }
+    {
+        self.old_len
+    }
+
+    /// The file's length in octets after it.
+    pub fn new_len(&self) -> u64
+        ensures { result ≡ self.now.head.new_len }
+    {
+        self.new_len
+    }
+
+    /// The file's first octets before the edit, 64 or as many as it has.
+    pub fn first(&self) -> &[u8]
+        ensures { result.now ≡ self.now.head.first }
+    {
+        self.first.as_slice()
+    }
+}
+
+/// Adds what stands before the places of so many writes, in a record of so many octets.
+fn append_front(octets: &mut Bytes, total: u64, new_len: u64, count: u8) -> Result<(), AllocError>
+    ensures { OnOk result (octets.new ≡ octets.old ++ front_octets total new_len count) }
+{
+    octets.append(b"MKVEDIT")?;
+    octets.append(&total.to_be_bytes())?;
+    octets.append(&new_len.to_be_bytes())?;
+    octets.append(&[2, count, 0, 0, 0, 0, 0, 0])?;
+    Ok(())
+}
+
+/// Adds the eight places, of which those that aren't used are zero.
+fn append_places(octets: &mut Bytes, places: &[Place]) -> Result<(), AllocError>
+    ensures { OnOk result (octets.new ≡ octets.old ++ slots MOST_WRITES places.now) }
+{
+    for k in 0..MOST_WRITES as usize {
+        append_place(octets, places, k)?;
+    }
+    Ok(())
+}
+
+/// Adds the k-th place, zeros where there are not so many.
+fn append_place(octets: &mut Bytes, places: &[Place], k: usize) -> Result<(), AllocError>
+    ensures { OnOk result (octets.new ≡ octets.old ++ slot places.now k) }
+{
+    let place = places.get(k).copied().unwrap_or(Place { at: 0, len: 0 });
+    octets.append(&place.at.to_be_bytes())?;
+    octets.append(&place.len.to_be_bytes())?;
+    Ok(())
+}
+
+/// The zeros past the end of a file that has fewer octets than are kept.
+fn zeros_behind(first: &[u8]) -> &'static [u8]
+    requires { length first.now ≤ KEPT }
+    ensures { result.now ≡ zeros (KEPT - length first.now) }
+{
+    &ZEROS[first.len()..]
+}
+
+/// Adds what the record knows the file by: its length before the edit, and its first octets.
+fn append_marks(octets: &mut Bytes, old_len: u64, first: &[u8]) -> Result<(), AllocError>
+    requires { length first.now ≤ KEPT }
+    ensures { OnOk result (octets.new ≡ octets.old ++ mark_octets old_len first.now) }
+{
+    octets.append(&old_len.to_be_bytes())?;
+    octets.append(first)?;
+    octets.append(zeros_behind(first))?;
+    Ok(())
+}

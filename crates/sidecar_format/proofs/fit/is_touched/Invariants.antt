@@ -1,7 +1,0 @@
-use Rattle.std.proofs.Common.{◌≡◌, drop}
-use Rattle.sidecar_format.specs.Fields.{used_in}
-use Rattle.sidecar_format.specs.Recovery.{is_touched}
-use Rattle.sidecar_format.proofs.fit.is_touched.Given as goal
-
-abbrev pub invariant-loop-i : goal.invariant-loop-i
-invariant-loop-i l = is_touched (used_in l.head) l.k ≡ is_touched (drop l.i (used_in l.head)) l.k

@@ -1,6 +1,0 @@
-use Rattle.std.proofs.Common.{◌≡◌, ◌++◌}
-use Rattle.sidecar_format.specs.Fields.{slots}
-use Rattle.sidecar_format.proofs.plan.append_places.Given as goal
-
-abbrev pub invariant-loop-k : goal.invariant-loop-k
-invariant-loop-k l = l.octets ≡ l.fn.octets ++ slots l.k l.places

@@ -1,6 +1,0 @@
-use Rattle.std.proofs.Common.{◌≡◌, take}
-use Rattle.sidecar_format.specs.Fields.{last_end, places_in}
-use Rattle.sidecar_format.proofs.reading.end_in.Given as goal
-
-abbrev pub invariant-loop-k : goal.invariant-loop-k
-invariant-loop-k l = l.end ≡ last_end 0 (take l.k (places_in l.head))

@@ -1,9 +1,0 @@
-use Rattle.std.proofs.Common.{◌≡◌, ◌+◌, ◌*◌, ℕ, Option, drop}
-use Rattle.sidecar_format.specs.Fields.{count_in, places_in}
-use Rattle.sidecar_format.specs.Gate.{first_breach, place_rules}
-use Rattle.sidecar_format.proofs.reading.unused_breach.Given as goal
-
-abbrev pub invariant-loop-k : goal.invariant-loop-k
-invariant-loop-k l = (old : Option ℕ) (from : ℕ) →
-    first_breach (place_rules old (32 + 16 * count_in l.head) 0 from (drop (count_in l.head) (places_in l.head)))
-    ≡ first_breach (place_rules old (32 + 16 * l.k) 0 from (drop l.k (places_in l.head)))

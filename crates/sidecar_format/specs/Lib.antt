@@ -1,6 +1,0 @@
-pub mod Fields
-pub mod Gate
-pub mod Name
-pub mod Plan
-pub mod Recovery
-pub mod Writes

@@ -1,6 +1,0 @@
--- A child of a Tag stands there.
-use Rattle.tree_building.proofs.BuildLemmas.{child-of}
-use Rattle.tag_records.proofs.tag.aims_in.Goals as goal
-
-pub aims_in_part-requires : goal.aims_in_part-requires
-aims_in_part-requires c = child-of _ _ _ _ _ c.requires c.children-part-items.ensures.exact c.loop-part-test.true c.part-item.is

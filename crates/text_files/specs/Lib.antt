@@ -1,2 +1,0 @@
-pub mod TextFile
-pub mod ChapterFile

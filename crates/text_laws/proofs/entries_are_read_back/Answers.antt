@@ -1,5 +1,0 @@
-use Rattle.text_laws.proofs.SubRipLemmas.{entries_read_back}
-use Rattle.text_laws.proofs.entries_are_read_back.Goals as goal
-
-pub returns : goal.returns
-returns c = entries_read_back

@@ -1,3 +1,0 @@
-pub mod Plain
-pub mod Chapters
-pub mod SubRip

@@ -1,2 +1,0 @@
-pub mod TrackLemmas
-pub mod TextFacts

@@ -1,5 +1,0 @@
-pub mod FirstLemmas
-pub mod EncodingLemmas
-pub mod TracksLemmas
-pub mod FileLemmas
-pub mod StandardFacts

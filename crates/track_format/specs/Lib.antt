@@ -1,6 +1,0 @@
-pub mod Entry
-pub mod Refusal
-pub mod Tracks
-pub mod TrackType
-pub mod Encoding
-pub mod File

@@ -1,0 +1,10 @@
+-- One step of a change.
+use Rattle.std.specs.Prelude.{◌≡◌, List}
+use Rattle.tree_format.specs.Node.{Node}
+use Rattle.tree_format.specs.Children.{set_each}
+use Rattle.track_records.specs.Entry.{IsWholeEntry}
+
+-- each of these children was set, and it is still a whole entry
+pub record SetsEach (children : List Node) (old new : Node) : Type 0 where
+  pub changed : new ≡ set_each children old
+  pub whole : IsWholeEntry new

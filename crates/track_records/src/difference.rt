@@ -1,0 +1,52 @@
+//! Whether a track may follow another: RFC 9559, section 5.1.4 (Tracks Element).
+
+ghost use Rattle.std.specs.Prelude.{◌≡◌};
+ghost use Rattle.std.specs.Option.{option_copied};
+ghost use Rattle.track_records.specs.Difference.{in_master, octets_at, are_alike, first_difference};
+
+use crate::fields::{FIELDS, Field};
+use crate::track::Track;
+use ebml_tree::Tree;
+
+// The first Element of a field.
+fn in_master<'a>(entry: &'a Tree, field: &Field) -> Option<&'a Tree>
+    ensures { option_copied result ≡ in_master field.now.master field.now.id entry.now }
+{
+    match field.master {
+        Some(master) => entry.child(master)?.child(field.id),
+        None => entry.child(field.id),
+    }
+}
+
+// Its octets as they are written.
+fn octets_at<'a>(entry: &'a Tree, field: &Field) -> Option<&'a [u8]>
+    ensures { option_copied result ≡ octets_at field.now entry.now }
+{
+    match in_master(entry, field) {
+        Some(element) => Some(element.body()),
+        None => None,
+    }
+}
+
+fn are_alike(p: Option<&[u8]>, q: Option<&[u8]>) -> bool
+    ensures { result ≡ are_alike (option_copied p.entry) (option_copied q.entry) }
+{
+    match (p, q) {
+        (None, None) => true,
+        (Some(p), Some(q)) => p == q,
+        _ => false,
+    }
+}
+
+/// The ID of the first Element in which the second track differs from the first, so that it may not follow
+/// it; none where it may. Of each field the first Element counts, with its octets as they are written, or
+/// that it is missing.
+pub fn differs(a: &Track, b: &Track) -> Option<u32>
+    ensures { result ≡ first_difference a.now.entry b.now.entry }
+{
+    let differing = FIELDS.iter().find(|field| !are_alike(
+        octets_at(&a.entry, field),
+        octets_at(&b.entry, field),
+    ))?;
+    Some(differing.id)
+}

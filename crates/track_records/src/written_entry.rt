@@ -1,0 +1,82 @@
+//! The TrackEntry that is written: RFC 9559, section 5.1.4 (Tracks Element).
+
+ghost use Rattle.std.specs.Prelude.{◌≡◌, [], ◌∷◌, OnOk, IfOk};
+ghost use Rattle.tree_format.specs.Node.{leaf};
+ghost use Rattle.tree_format.specs.Children.{uint_leaf, removed_each, given};
+ghost use Rattle.track_records.specs.Entry.{flag_leaf, ids_removed, written_entry, IsWholeEntry};
+ghost use Rattle.mkv_schema.specs.declared.ids.TheConstants.{TRACK_ENTRY};
+ghost use Rattle.ebml_tree.specs.Leaves.{IsUintIn, IsTextIn};
+ghost use Rattle.track_records.specs.Step.{SetsEach};
+
+use crate::track::Track;
+use crate::track_change::TrackChange;
+use ebml_tree::{Tree, text_leaf, uint_leaf};
+use mkv_io::Text;
+use mkv_schema::ids::{
+    CONTENT_ENCODINGS, FLAG_DEFAULT, FLAG_FORCED, LANGUAGE, LANGUAGE_BCP47, NAME, TRACK_NUMBER,
+    TRACK_UID,
+};
+use std::alloc::{AllocError, Global};
+
+// A copy of the entry without what goes.
+fn bare(alloc: Global, entry: &Tree, language: &Option<Text>) -> Result<Tree, AllocError>
+    requires { IsWholeEntry entry.now }
+    ensures exact { IfOk result (λ bare. bare ≡ removed_each (ids_removed language.now) entry.now) }
+    ensures whole { IfOk result IsWholeEntry }
+{
+    let mut bare = entry.copy(alloc)?;
+    bare.remove(CONTENT_ENCODINGS);
+    if language.is_some() {
+        bare.remove(LANGUAGE_BCP47);
+    }
+    Ok(bare)
+}
+
+fn set_uint(alloc: Global, entry: &mut Tree, id: u32, value: u64) -> Result<(), AllocError>
+    requires id { IsUintIn TRACK_ENTRY id }
+    requires whole { IsWholeEntry entry.old }
+    ensures { OnOk result (SetsEach (uint_leaf id value ∷ []) entry.old entry.new) }
+{
+    entry.set(uint_leaf(alloc, id, value)?)
+}
+
+// Sets a text where one is given.
+fn set_text(alloc: Global, entry: &mut Tree, id: u32, text: &Option<Text>) -> Result<(), AllocError>
+    requires id { IsTextIn TRACK_ENTRY id }
+    requires whole { IsWholeEntry entry.old }
+    ensures { OnOk result (SetsEach (given (leaf id 0) text.now) entry.old entry.new) }
+{
+    match text {
+        Some(text) => entry.set(text_leaf(alloc, id, text.as_str())?),
+        None => Ok(()),
+    }
+}
+
+// Sets a flag where one is given.
+fn set_flag(alloc: Global, entry: &mut Tree, id: u32, flag: Option<bool>) -> Result<(), AllocError>
+    requires id { IsUintIn TRACK_ENTRY id }
+    requires whole { IsWholeEntry entry.old }
+    ensures { OnOk result (SetsEach (given (flag_leaf id) flag) entry.old entry.new) }
+{
+    match flag {
+        Some(flag) => set_uint(alloc, entry, id, u64::from(flag)),
+        None => Ok(()),
+    }
+}
+
+/// The entry that is written of a source's track: without ContentEncodings, with the number and the
+/// identifier that it gets, and then with what the user gives. All else stays, each Element in its order.
+pub fn written(alloc: Global, track: &Track, change: &TrackChange) -> Result<Tree, AllocError>
+    requires { IsWholeEntry track.now.entry }
+    ensures exact { IfOk result (λ entry. entry ≡ written_entry change.now track.now.entry) }
+    ensures whole { IfOk result IsWholeEntry }
+{
+    let mut entry = bare(alloc, &track.entry, &change.language)?;
+    set_uint(alloc, &mut entry, TRACK_NUMBER, change.number)?;
+    set_uint(alloc, &mut entry, TRACK_UID, change.uid)?;
+    set_text(alloc, &mut entry, NAME, &change.name)?;
+    set_text(alloc, &mut entry, LANGUAGE, &change.language)?;
+    set_flag(alloc, &mut entry, FLAG_DEFAULT, change.flag_default)?;
+    set_flag(alloc, &mut entry, FLAG_FORCED, change.flag_forced)?;
+    Ok(entry)
+}

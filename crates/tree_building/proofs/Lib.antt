@@ -1,2 +1,0 @@
-pub mod BuildLemmas
-pub mod LeafLemmas

@@ -1,6 +1,0 @@
--- A text stands where the table has one.
-use Rattle.tree_building.proofs.LeafLemmas.{text-made}
-use Rattle.tree_building.proofs.leaves.text_leaf.Goals as goal
-
-pub returns-clause-stands : goal.returns-clause-stands
-returns-clause-stands c = text-made _ _ _ _ c.leaf.ensures.exact c.as_bytes.ensures.value c.utf8.text

@@ -1,6 +1,0 @@
--- No octets are no children.
-use Rattle.tree_building.proofs.BuildLemmas.{empty-built}
-use Rattle.tree_building.proofs.masters.empty.Goals as goal
-
-pub returns-in-Ok : goal.returns-in-Ok
-returns-in-Ok c = λ deep. empty-built c.args.id c.args.offset deep c.in-Ok.tree c.in-Ok.ensures.exact
