@@ -9,7 +9,6 @@ use crate::system::{Node, above_streams, folder_of, node_of};
 use mkv_io::{LONGEST_FILE, Text};
 use std::fs::{File, Metadata, OpenOptions};
 use std::io::ErrorKind;
-use std::os::fd::AsRawFd;
 use std::os::unix::fs::{MetadataExt, OpenOptionsExt};
 use std::{fs, io};
 
@@ -96,15 +95,9 @@ fn only_name(found: &Metadata) -> io::Result<Node> {
     node_of(found)
 }
 
-/// Makes sure of a file as it is read. The system's copies are dropped, which the failed sync of an earlier process may have left
-/// other than the disk has them.
+/// Makes sure of a file as it is read.
 pub fn settle(file: &File) -> io::Result<()> {
-    file.sync_all()?;
-    let advised = libc::posix_fadvise(file.as_raw_fd(), 0, 0, libc::POSIX_FADV_DONTNEED);
-    if advised != 0 {
-        return Err(io::Error::from_raw_os_error(advised));
-    }
-    Ok(())
+    file.sync_all()
 }
 
 /// Makes sure that the folder of a file has its name.
