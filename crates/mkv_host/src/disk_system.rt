@@ -7,12 +7,12 @@ use crate::outputs::copy_access;
 use crate::pair::OpenFile;
 use crate::system::{Node, above_streams, folder_of, node_of};
 use mkv_io::{LONGEST_FILE, Text};
-use std::fs::{File, Metadata, OpenOptions};
+use std::fs::{File, Metadata, OpenOptions, TryLockError};
 use std::io::ErrorKind;
 use std::os::unix::fs::{MetadataExt, OpenOptionsExt};
 use std::{fs, io};
 
-/// Opens a regular file to be read and written, and locks it. A link, and a file that another process has locked, are refused.
+/// Opens a regular file to be read and written, and locks it. A link, and a file whose lock another holds, are refused.
 /// What isn't regular isn't opened, since that may wait for ever.
 pub fn open_media<R: fs::Files<File = File>>(
     system: &R,
@@ -22,12 +22,21 @@ pub fn open_media<R: fs::Files<File = File>>(
 {
     let seen = node_of(&fs::symlink_metadata(system, name.as_str())?)?;
     let file = above_streams(open_again(system, name.as_str())?)?;
-    file.try_lock()?;
+    lock(&file)?;
     let found = file.metadata()?;
     if node_of(&found)? != seen {
         return Err(ErrorKind::ResourceBusy.into());
     }
     Ok((measured(file, name, &found)?, found))
+}
+
+/// Takes the lock of a file, which is held until the file is closed. Only a lock that another holds is refused: where a file
+/// system has no locks, it is gone on without.
+fn lock(file: &File) -> io::Result<()> {
+    match file.try_lock() {
+        Err(TryLockError::WouldBlock) => Err(ErrorKind::WouldBlock.into()),
+        Ok(()) | Err(TryLockError::Error(_)) => Ok(()),
+    }
 }
 
 fn open_again<R: fs::Files<File = File>>(system: &R, name: &str) -> io::Result<File> {

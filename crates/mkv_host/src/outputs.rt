@@ -85,6 +85,22 @@ pub fn replaced<R: fs::Files<File = File>>(
     Err(ErrorKind::AlreadyExists.into())
 }
 
+/// Cuts a file to nothing. One to which its name doesn't lead any more keeps its octets, and is refused: what is written to it
+/// would stand under another name, or under none.
+pub fn emptied<R: fs::Files<File = File>>(
+    system: &R,
+    name: &str,
+    output: Output,
+) -> io::Result<Output>
+    ensures { IfOk result (λ same. same ≡ output) }
+{
+    if node_of(&fs::metadata(system, name)?)? != output.node {
+        return Err(ErrorKind::ResourceBusy.into());
+    }
+    output.file.set_len(0)?;
+    Ok(output)
+}
+
 /// Makes a file that none but its owner may read or write.
 fn make_beside<R: fs::Files<File = File>>(system: &R, name: &str) -> io::Result<File> {
     OpenOptions::new()
@@ -123,7 +139,7 @@ fn dressed(file: File, was: &Metadata) -> io::Result<Output>
     let file = above_streams(file)?;
     copy_access(&file, was)?;
     let found = file.metadata()?;
-    if (found.uid(), found.gid()) != (was.uid(), was.gid()) {
+    if (found.uid(), found.gid(), found.mode()) != (was.uid(), was.gid(), was.mode()) {
         return Err(ErrorKind::PermissionDenied.into());
     }
     let node = node_of(&found)?;
@@ -134,17 +150,25 @@ fn dressed(file: File, was: &Metadata) -> io::Result<Output>
     })
 }
 
-/// Gives a file the mode of another, and its owner and group where that may be set.
+/// Gives a file the mode of another, and its owner and group, where these may be set.
 pub fn copy_access(file: &File, was: &Metadata) -> io::Result<()> {
     // Only root sets the owner, and a member of the group may still set that.
-    unless_denied(fchown(file, None, Some(was.gid())))?;
-    unless_denied(fchown(file, Some(was.uid()), None))?;
-    unless_denied(file.set_permissions(Permissions::from_mode(was.mode() & 0o7777)))
+    unless_refused(fchown(file, None, Some(was.gid())))?;
+    unless_refused(fchown(file, Some(was.uid()), None))?;
+    unless_refused(file.set_permissions(Permissions::from_mode(was.mode() & 0o7777)))
 }
 
-fn unless_denied(outcome: io::Result<()>) -> io::Result<()> {
+/// Passes over that a process may not set this, that the file system doesn't keep it, or that there is no such owner here.
+fn unless_refused(outcome: io::Result<()>) -> io::Result<()> {
     match outcome {
-        Err(error) if error.kind() == ErrorKind::PermissionDenied => Ok(()),
+        Err(error) if is_refusal(error.kind()) => Ok(()),
         other => other,
     }
+}
+
+fn is_refusal(kind: ErrorKind) -> bool {
+    matches!(
+        kind,
+        ErrorKind::PermissionDenied | ErrorKind::Unsupported | ErrorKind::InvalidInput
+    )
 }

@@ -7,7 +7,7 @@ ghost use Rattle.std.specs.List.{list_any};
 
 use crate::open_files::{add, is_seen, lengthen, open_at, prepare};
 use crate::opened::Opened;
-use crate::outputs::{Output, open_or_make, replaced};
+use crate::outputs::{Output, emptied, open_or_make, replaced};
 use crate::system::{Node, is_missing, node_of, open_to_read};
 use crate::writer::write_from;
 use mkv_io::{Failed, FileId, Files, LONGEST_FILE, MakeFault, OpenFault, Reads};
@@ -72,8 +72,7 @@ impl<'a, R: fs::Files<File = File>> RealFiles<'a, R> {
         }
         match replaced(self.alloc, self.system, name, &found) {
             Err(error) if error.kind() != ErrorKind::OutOfMemory => {
-                output.file.set_len(0)?;
-                Ok(output)
+                emptied(self.system, name, output)
             }
             made => made,
         }
