@@ -1,5 +1,0 @@
-use Rattle.cluster_reader.specs.Reading.{CanRead}
-use Rattle.reading_tests.proofs.telling.damages_of.Given as goal
-
-abbrev pub invariant-loop : goal.invariant-loop
-invariant-loop g l = CanRead (g.R.Reads.files (g.R.Reads.standing l.src)) l.cursor
