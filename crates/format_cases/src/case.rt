@@ -1,0 +1,71 @@
+//! A case, as a line spells it.
+
+use std::alloc::{AllocError, Global};
+
+/// What a call is asked.
+#[derive(Drop)]
+pub struct Case {
+    /// An ID, or 0.
+    pub id: u32,
+    /// A number, or 0.
+    pub number: u64,
+    pub octets: Vec<u8>,
+}
+
+impl Case {
+    /// The case that a line spells: behind the word an ID in hexadecimal digits, a number, and octets. Of a repeated
+    /// word, as `A3B4*3`, the octets stand so many times.
+    pub fn read(alloc: Global, line: &str) -> Result<Case, AllocError> {
+        let mut words = line.split_whitespace().skip(1);
+        let id = id_of(words.next());
+        let number = number_of(words.next());
+        let mut octets = Vec::new(alloc);
+        for word in words {
+            add_word(alloc, word, &mut octets)?;
+        }
+        Ok(Case { id, number, octets })
+    }
+}
+
+/// The word for the call.
+pub fn word_of(line: &str) -> &str {
+    line.split_whitespace().next().unwrap_or("")
+}
+
+fn id_of(word: Option<&str>) -> u32 {
+    match word {
+        Some(digits) => u32::from_str_radix(digits, 16).unwrap_or(0),
+        None => 0,
+    }
+}
+
+fn number_of(word: Option<&str>) -> u64 {
+    match word {
+        Some(digits) => digits.parse().unwrap_or(0),
+        None => 0,
+    }
+}
+
+/// Adds the octets of a word, none where it spells none.
+fn add_word(alloc: Global, word: &str, octets: &mut Vec<u8>) -> Result<(), AllocError> {
+    let (digits, times) = repeated(word);
+    match hex::decode(alloc, digits) {
+        Ok(once) => add_times(once.as_slice(), times, octets),
+        Err(_) => Ok(()),
+    }
+}
+
+/// A word's digits, and how many times they stand.
+fn repeated(word: &str) -> (&str, u32) {
+    match word.split_once('*') {
+        Some((digits, times)) => (digits, times.parse().unwrap_or(0)),
+        None => (word, 1),
+    }
+}
+
+fn add_times(once: &[u8], times: u32, octets: &mut Vec<u8>) -> Result<(), AllocError> {
+    for _ in 0..times {
+        octets.extend_from_slice(once)?;
+    }
+    Ok(())
+}

@@ -1,0 +1,72 @@
+#![tactic(auto)]
+
+//! Says what comes of cases with octets from outside. A line has a case: a word for a call, an ID, a number and
+//! octets, each `-` where the call takes none; what comes of it is said behind the line. Other lines are said again.
+
+use mkv_io::Damage;
+use std::alloc::{AllocError, Global};
+use std::fmt::Write;
+use std::io;
+
+mod attached;
+mod blocks;
+mod case;
+mod ends;
+mod files;
+mod level_one;
+mod numbers;
+mod tracks;
+mod trees;
+
+use case::Case;
+
+/// Adds what is wrong, with the ID and the place of it.
+fn tell_damage(damage: Damage, text: &mut String) -> Result<(), AllocError> {
+    let kind = damage.kind;
+    let id = damage.id;
+    let offset = damage.offset;
+    write!(text, "  {kind:?} {id:X} {offset}\n")
+}
+
+/// Adds octets, each behind a space.
+fn tell_octets(octets: &[u8], text: &mut String) -> Result<(), AllocError> {
+    for octet in octets {
+        write!(text, " {octet:02X}")?;
+    }
+    Ok(())
+}
+
+/// Adds what comes of a case, in lines.
+fn tell(alloc: Global, word: &str, case: &Case, text: &mut String) -> Result<(), AllocError> {
+    match word {
+        "element" => numbers::tell_element(case, text),
+        "row" => numbers::tell_row(case, text),
+        "tree" | "uint" | "int" | "text" => trees::tell_master(alloc, word, case, text),
+        "nth" | "child" | "at" | "children" => trees::tell_entry(alloc, word, case, text),
+        "remove" | "set" | "push" => trees::tell_changed(alloc, word, case, text),
+        "info" => tracks::tell_info(alloc, case, text),
+        "tracks" => tracks::tell_tracks(alloc, case, text),
+        "usable" => tracks::tell_usable(alloc, case, text),
+        "ends" => ends::tell_ends(text),
+        "level1" | "blocks" | "attachments" => files::tell_file(alloc, word, case, text),
+        _ => Ok(()),
+    }
+}
+
+/// What comes of a line.
+fn answer(alloc: Global, line: &str) -> Result<String, AllocError> {
+    let mut text = String::new(alloc);
+    let case = Case::read(alloc, line)?;
+    tell(alloc, case::word_of(line), &case, &mut text)?;
+    Ok(text)
+}
+
+fn main(rt: HostRuntime) -> io::Result<()> {
+    for line in rt.lines(rt.alloc()) {
+        let line = line?;
+        println!(rt; "{line}")?;
+        let text = answer(rt.alloc(), line.as_str())?;
+        print!(rt; "{text}")?;
+    }
+    Ok(())
+}

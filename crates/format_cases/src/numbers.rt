@@ -1,0 +1,59 @@
+//! Headers of Elements, and rows of the table.
+
+ghost use Rattle.std.specs.Prelude.{IfOk, IsTrue};
+ghost use Rattle.ebml_numbers.specs.Number.{is_id};
+
+use crate::case::Case;
+use crate::tell_octets;
+use ebml_numbers::{
+    IdRead, NumFault, Size, SizeRead, put_id, put_size, read_id, read_size, size_width,
+};
+use mkv_io::LONGEST_FILE;
+use mkv_schema::row;
+use std::alloc::AllocError;
+use std::fmt::Write;
+
+/// The ID and the size at the front.
+fn header_of(octets: &[u8]) -> Result<(IdRead, SizeRead), NumFault>
+    ensures { IfOk result (λ header. IsTrue (is_id header.0.id)) }
+{
+    let id = read_id(octets)?;
+    let size = read_size(&octets[usize::from(id.len)..])?;
+    Ok((id, size))
+}
+
+/// Adds the ID and the size at the front, and how both are written again.
+pub fn tell_element(case: &Case, text: &mut String) -> Result<(), AllocError> {
+    match header_of(case.octets.as_slice()) {
+        Ok((id, size)) => tell_header(id.id, size.size, text),
+        Err(_) => text.push_str("  none\n"),
+    }
+}
+
+#[tactic(auto, unfolding(ebml_numbers::specs::Number::is_id))]
+fn tell_header(id: u32, size: Size, text: &mut String) -> Result<(), AllocError>
+    requires { IsTrue (is_id id) }
+{
+    write!(text, "  {id:X}")?;
+    tell_octets(put_id(id).as_slice(), text)?;
+    tell_size(size, text)
+}
+
+fn tell_size(size: Size, text: &mut String) -> Result<(), AllocError> {
+    match size {
+        Size::Known(size) if size < LONGEST_FILE => {
+            write!(text, " for {size}")?;
+            tell_octets(put_size(size, size_width(size)).as_slice(), text)?;
+            text.push_str("\n")
+        }
+        _ => text.push_str(" unknown\n"),
+    }
+}
+
+/// Adds the name and the kind of an ID's row.
+pub fn tell_row(case: &Case, text: &mut String) -> Result<(), AllocError> {
+    match row(case.id) {
+        Some(row) => write!(text, "  {:X} {} {:?}\n", row.id, row.name, row.kind),
+        None => text.push_str("  none\n"),
+    }
+}

@@ -1,0 +1,113 @@
+//! Infos and tracks, of masters whose header stands at 21, and its body at 26.
+
+ghost use Rattle.std.specs.Prelude.{IfOk, All};
+ghost use Rattle.mkv_schema.specs.declared.ids.TheConstants.{INFO as INFO_ID};
+ghost use Rattle.tree_format.specs.Standing.{IsSoundOf};
+ghost use Rattle.track_records.specs.Sound.{IsEntry};
+
+use crate::case::Case;
+use crate::trees::tell_end;
+use crate::{tell_damage, tell_octets};
+use ebml_tree::{Tree, TreeEnd};
+use meta_records::read_info;
+use mkv_io::List;
+use mkv_schema::ids::{INFO, TRACKS};
+use mkv_schema::is_master;
+use std::alloc::{AllocError, Global};
+use std::fmt::Write;
+use track_records::{Track, read_tracks, usable};
+
+/// The most octets of a body here.
+const MOST: usize = 1000;
+
+/// The tree of a master of an ID.
+fn master_of(alloc: Global, id: u32, body: &[u8]) -> Result<Tree, TreeEnd>
+    ensures { IfOk result (IsSoundOf id) }
+{
+    if !is_master(id) || body.len() > MOST {
+        return Err(TreeEnd::Memory);
+    }
+    Tree::parse(alloc, id, 21, body, 26, 99)
+}
+
+/// Adds the scale of an Info.
+pub fn tell_info(alloc: Global, case: &Case, text: &mut String) -> Result<(), AllocError> {
+    match master_of(alloc, INFO, case.octets.as_slice()) {
+        Ok(info) => tell_scale(&info, text),
+        Err(end) => tell_end(end, text),
+    }
+}
+
+fn tell_scale(info: &Tree, text: &mut String) -> Result<(), AllocError>
+    requires { IsSoundOf INFO_ID info.now }
+{
+    match read_info(info) {
+        Ok(values) => write!(text, "  {} ns\n", values.scale),
+        Err(damage) => tell_damage(damage, text),
+    }
+}
+
+/// The tracks of a Tracks Element.
+fn tracks_of(alloc: Global, body: &[u8]) -> Result<List<Track>, TreeEnd>
+    ensures { IfOk result (All (λ track. IsEntry track.entry)) }
+{
+    let tracks = master_of(alloc, TRACKS, body)?;
+    read_tracks(alloc, &tracks)
+}
+
+/// Adds the tracks of a Tracks Element in words.
+pub fn tell_tracks(alloc: Global, case: &Case, text: &mut String) -> Result<(), AllocError> {
+    match tracks_of(alloc, case.octets.as_slice()) {
+        Ok(tracks) => tell_each(tracks.as_slice(), text),
+        Err(end) => tell_end(end, text),
+    }
+}
+
+fn tell_each(tracks: &[Track], text: &mut String) -> Result<(), AllocError> {
+    for track in tracks {
+        tell_track(track, text)?;
+    }
+    Ok(())
+}
+
+fn tell_track(track: &Track, text: &mut String) -> Result<(), AllocError> {
+    let offset = track.offset;
+    let kind = track.type_name();
+    let codec = track.codec.as_str();
+    let number = track.number;
+    let uid = track.uid;
+    write!(text, "  {offset}: {kind} {codec} number {number} uid {uid}")?;
+    let language = track.language.as_str();
+    let length = track.entry.written_len();
+    write!(text, " language {language}, {length} octets\n")
+}
+
+/// Adds what is put back in front of the frames of the first track, or why they can't be used.
+pub fn tell_usable(alloc: Global, case: &Case, text: &mut String) -> Result<(), AllocError> {
+    match tracks_of(alloc, case.octets.as_slice()) {
+        Ok(tracks) => tell_first(&tracks, text),
+        Err(end) => tell_end(end, text),
+    }
+}
+
+fn tell_first(tracks: &List<Track>, text: &mut String) -> Result<(), AllocError>
+    requires { All (λ track. IsEntry track.entry) tracks.now }
+{
+    match tracks.get(0) {
+        Some(track) => tell_prefix(track, text),
+        None => text.push_str("  none\n"),
+    }
+}
+
+fn tell_prefix(track: &Track, text: &mut String) -> Result<(), AllocError>
+    requires { IsEntry track.now.entry }
+{
+    match usable(track) {
+        Ok(prefix) => {
+            text.push_str("  before each frame:")?;
+            tell_octets(prefix, text)?;
+            text.push_str("\n")
+        }
+        Err(damage) => tell_damage(damage, text),
+    }
+}
