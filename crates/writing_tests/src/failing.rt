@@ -1,30 +1,37 @@
-//! Each call of the files fails in turn.
+//! A merge goes on behind a call of the files that fails.
 
 ghost use Rattle.std.specs.Prelude.{◌≡◌};
 ghost use Rattle.mkv_memory.specs.FilesIn.{seen};
 
-use crate::links::{FIRST, SECOND, Taken, lane_of, merge_of};
-use crate::runs::{files_of, open_all};
-use crate::spelled::{LARGE, SHORT, SMALL, block, file_of};
-use crate::telling::{tell_lane, tell_merge};
+use crate::links::merge_of;
+use crate::runs::{files_of, open_both};
+use crate::spelled::{SMALL, damaged};
+use crate::telling::{Given, Told, tell_merge};
+use lanes::LinkDamage;
+use mkv_io::{Damage, Kind};
 use mkv_memory::MemFiles;
 use std::alloc::{AllocError, Global};
-use std::process::Abort;
 use std::test::Fail;
 
-const EARLY: Taken = Taken {
-    delay: -10,
-    shift: 0,
-    ..SECOND
-};
+/// The first lane has the damaged file and then the small one, 20 ticks later; the second has the small one, 10 ticks
+/// earlier.
+const BLOCKS: [Given; 5] = [
+    (0, 0, 70_000, Some(0)),
+    (1, 10, 1, Some(0xBB)),
+    (0, 20, 1, Some(2)),
+    (0, 20, 1, Some(0xAA)),
+    (0, 40, 1, Some(0xBB)),
+];
 
-/// A file with a SimpleBlock that is cut short, one of 70,000 octets, and a small one; and a small file behind it.
-fn two_files(rt: &impl Abort, alloc: Global) -> Result<MemFiles, Fail> {
-    let frame = vec![in alloc; 0; 70_000]?;
-    let last = block(1, 20, 2);
-    let first = file_of(alloc, &[&SHORT, &LARGE, frame.as_slice(), &last])?;
-    files_of(rt, alloc, &[first.as_slice(), &SMALL])
-}
+/// The block that is cut short.
+const SHORT: LinkDamage = LinkDamage {
+    link: 0,
+    damage: Damage {
+        kind: Kind::ShortBlock,
+        id: 0xA3,
+        offset: 29,
+    },
+};
 
 /// Lets a call fail; the files stay as they are.
 fn let_fail(files: &mut MemFiles, call: u64) -> Result<(), AllocError>
@@ -33,42 +40,23 @@ fn let_fail(files: &mut MemFiles, call: u64) -> Result<(), AllocError>
     files.fail_at(call, 0)
 }
 
-#[test]
-fn a_failed_read_changes_no_line_of_a_lane(rt: HostRuntime) -> Result<(), Fail> {
-    let lines = "0 70000 octets\n20 [2]\n20 [170]\n40 [187]\nlink 0: ShortBlock A3 29\n";
-    let mut failed: u64 = 0;
-    for call in 0..40 {
-        let mut files = two_files(&rt, rt.alloc())?;
-        let opened = open_all(rt.alloc(), &mut files, 2)?;
-        let mut lane = lane_of(rt.alloc(), &mut files, opened.as_slice(), &[FIRST, SECOND])?;
-        let_fail(&mut files, call)?;
-        let told = tell_lane(rt.alloc(), &mut lane, 2, &mut files)?;
-        assert_eq!(rt; told.lines.as_str(), lines, "at call {call}");
-        assert!(rt; told.faults <= 1);
-        failed = failed.saturating_add(told.faults);
-    }
-    assert!(rt; failed >= 3);
-    Ok(())
+/// What the merge gives where a call fails.
+fn told_behind(alloc: Global, call: u64) -> Result<Told, Fail> {
+    let first = damaged(alloc)?;
+    let mut files = files_of(alloc, [first.as_slice(), SMALL])?;
+    let opened = open_both(alloc, &mut files)?;
+    let mut merge = merge_of(alloc, &mut files, opened.as_slice())?;
+    let_fail(&mut files, call)?;
+    Ok(tell_merge(alloc, &mut merge, &mut files)?)
 }
 
 #[test]
-fn a_failed_read_changes_no_line_of_a_merge(rt: HostRuntime) -> Result<(), Fail> {
-    let lines = "lane 0: 0 70000 octets\nlane 1: 10 [187]\n\
-        lane 0: 20 [2]\nlane 0: 20 [170]\nlane 0: 40 [187]\n";
+fn a_failed_read_changes_no_block_of_a_merge(rt: HostRuntime) -> Result<(), Fail> {
     let mut failed: u64 = 0;
     for call in 0..40 {
-        let mut files = two_files(&rt, rt.alloc())?;
-        let opened = open_all(rt.alloc(), &mut files, 2)?;
-        let mut merge = merge_of(
-            rt.alloc(),
-            &mut files,
-            opened.as_slice(),
-            &[FIRST, SECOND],
-            &[EARLY],
-        )?;
-        let_fail(&mut files, call)?;
-        let told = tell_merge(rt.alloc(), &mut merge, &mut files)?;
-        assert_eq!(rt; told.lines.as_str(), lines, "at call {call}");
+        let told = told_behind(rt.alloc(), call)?;
+        assert_eq!(rt; told.blocks.as_slice(), BLOCKS.as_slice(), "at call {call}");
+        assert_eq!(rt; told.damage, Some(SHORT), "at call {call}");
         assert!(rt; told.faults <= 1);
         failed = failed.saturating_add(told.faults);
     }

@@ -1,19 +1,16 @@
 #![tactic(auto)]
 
-//! Clusters, files and lanes as they are written, against octets from outside: tests alone.
+//! What a merge gives and what stands of an output where a call of the files fails, the most blocks of a Cluster, and the
+//! longest block: tests alone.
 
 #[cfg(test)]
 mod clusters;
 #[cfg(test)]
+mod drafts;
+#[cfg(test)]
 mod failing;
 #[cfg(test)]
-mod files;
-#[cfg(test)]
 mod links;
-#[cfg(test)]
-mod merged;
-#[cfg(test)]
-mod one_lane;
 #[cfg(test)]
 mod runs;
 #[cfg(test)]

@@ -1,62 +1,25 @@
-//! Files that are spelled for a test.
+//! Two files, spelled for a test.
 
 use std::alloc::{AllocError, Global};
 
-/// A file of 68 octets: an EBML header, a Segment of 47 octets with an audio track, and a Cluster with
-/// SimpleBlocks at 0 and 20.
-pub static SMALL: [u8; 68] = [
-    0x1A, 0x45, 0xDF, 0xA3, 0x8B, 0x42, 0x82, 0x88, 0x6D, 0x61, 0x74, 0x72, 0x6F, 0x73, 0x6B, 0x61,
-    0x18, 0x53, 0x80, 0x67, 0xAF, 0x16, 0x54, 0xAE, 0x6B, 0x94, 0xAE, 0x92, 0xD7, 0x81, 0x01, 0x73,
-    0xC5, 0x81, 0x05, 0x83, 0x81, 0x02, 0x86, 0x86, 0x41, 0x5F, 0x4F, 0x50, 0x55, 0x53, 0x1F, 0x43,
-    0xB6, 0x75, 0x91, 0xE7, 0x81, 0x00, 0xA3, 0x85, 0x81, 0x00, 0x00, 0x80, 0xAA, 0xA3, 0x85, 0x81,
-    0x00, 0x14, 0x80, 0xBB,
-];
+/// A file of 68 octets: an EBML header, a Segment of 47 octets with an audio track, and a Cluster with SimpleBlocks at 0
+/// and 20.
+pub const SMALL: &[u8] =
+    b"\x1A\x45\xDF\xA3\x8B\x42\x82\x88matroska\x18\x53\x80\x67\xAF\x16\x54\xAE\x6B\x94\xAE\x92\xD7\x81\x01\x73\xC5\x81\x05\x83\x81\x02\x86\x86A_OPUS\x1F\x43\xB6\x75\x91\xE7\x81\x00\xA3\x85\x81\x00\x00\x80\xAA\xA3\x85\x81\x00\x14\x80\xBB";
 
-/// An EBML header, and a Segment of unknown size.
-static HEAD: [u8; 21] = [
-    0x1A, 0x45, 0xDF, 0xA3, 0x8B, 0x42, 0x82, 0x88, 0x6D, 0x61, 0x74, 0x72, 0x6F, 0x73, 0x6B, 0x61,
-    0x18, 0x53, 0x80, 0x67, 0xFF,
-];
+/// An EBML header, and a Segment of unknown size: a Cluster at 0 with a SimpleBlock that ends before its flags, and one with
+/// a SimpleBlock of 70,000 octets, which follow.
+const FRONT: &[u8] =
+    b"\x1A\x45\xDF\xA3\x8B\x42\x82\x88matroska\x18\x53\x80\x67\xFF\x1F\x43\xB6\x75\x88\xE7\x81\x00\xA3\x83\x81\x00\x00\x1F\x43\xB6\x75\x21\x11\x7B\xE7\x81\x00\xA3\x21\x11\x74\x81\x00\x00\x80";
 
-/// A Cluster at 0 with a SimpleBlock that ends before its flags: 13 octets.
-pub static SHORT: [u8; 13] = [
-    0x1F, 0x43, 0xB6, 0x75, 0x88, 0xE7, 0x81, 0x00, 0xA3, 0x83, 0x81, 0x00, 0x00,
-];
+/// A Cluster at 0 with a SimpleBlock of one octet at 20.
+const LAST: &[u8] = b"\x1F\x43\xB6\x75\x8A\xE7\x81\x00\xA3\x85\x81\x00\x14\x80\x02";
 
-/// A Cluster at 0 with a SimpleBlock of 70,000 octets, which follow.
-pub static LARGE: [u8; 18] = [
-    0x1F, 0x43, 0xB6, 0x75, 0x21, 0x11, 0x7B, 0xE7, 0x81, 0x00, 0xA3, 0x21, 0x11, 0x74, 0x81, 0x00,
-    0x00, 0x80,
-];
-
-/// A Cluster at 0 with a SimpleBlock of one octet at a tick: 15 octets.
-pub fn block(track: u8, tick: u16, frame: u8) -> [u8; 15] {
-    let [high, low] = tick.to_be_bytes();
-    [
-        0x1F,
-        0x43,
-        0xB6,
-        0x75,
-        0x8A,
-        0xE7,
-        0x81,
-        0x00,
-        0xA3,
-        0x85,
-        0x80 | track,
-        high,
-        low,
-        0x80,
-        frame,
-    ]
-}
-
-/// A file with these Clusters.
-pub fn file_of(alloc: Global, clusters: &[&[u8]]) -> Result<Vec<u8>, AllocError> {
-    let mut file = Vec::new(alloc);
-    file.extend_from_slice(&HEAD)?;
-    for cluster in clusters {
-        file.extend_from_slice(cluster)?;
-    }
+/// A file with a SimpleBlock that is cut short, one of 70,000 octets, and a small one.
+pub fn damaged(alloc: Global) -> Result<Vec<u8>, AllocError> {
+    let frame = vec![in alloc; 0; 70_000]?;
+    let mut file = FRONT.to_vec(alloc)?;
+    file.extend_from_slice(frame.as_slice())?;
+    file.extend_from_slice(LAST)?;
     Ok(file)
 }
