@@ -1,19 +1,16 @@
 #![tactic(auto)]
 
-//! The outside, used from the clauses of its traits alone; the objects in memory and the system's files;
-//! and each plain value once: tests alone.
+//! The system's files and its output, and the objects in memory: what no clause says of them. Tests alone.
 
-#[cfg(test)]
-mod copying;
 #[cfg(test)]
 mod disks;
 #[cfg(test)]
+mod folders;
+#[cfg(test)]
 mod host;
 #[cfg(test)]
-mod jobs;
+mod refusals;
 #[cfg(test)]
-mod memory;
+mod reports;
 #[cfg(test)]
-mod outputs;
-#[cfg(test)]
-mod values;
+mod writes;

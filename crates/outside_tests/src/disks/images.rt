@@ -1,13 +1,31 @@
 //! What a crash leaves of a disk in memory, and which of its calls fail.
 
+ghost use Rattle.std.specs.Prelude.{◌<◌};
 ghost use Rattle.mkv_io.specs.Sources.{IsLive};
 
-use crate::disks::calls::{cut, open, sync, write};
-use crate::disks::running::octets_of;
+use crate::disks::calls::{cut, octets, open, sync, write};
 use mkv_disk::{Disk, MEDIA, SIDECAR};
-use mkv_io::Failed;
+use mkv_io::{Failed, FileId};
 use mkv_memory::MemDisk;
+use std::alloc::Global;
 use std::test::Fail;
+
+/// What is read of a file of a disk, which is opened.
+fn opened_octets<D: Disk>(alloc: Global, disk: &mut D, file: FileId) -> Result<Vec<u8>, Fail>
+    requires { file.n < 2 }
+{
+    open(disk, "out.mkv")?;
+    octets(alloc, disk, file)
+}
+
+/// Whether a file of a disk reads as these octets, by a copy of what is read of it.
+fn reads(alloc: Global, disk: &MemDisk, file: FileId, due: &[u8]) -> Result<bool, Fail>
+    requires { file.n < 2 }
+{
+    let mut copy = disk.crashed(alloc, 0)?;
+    let found = opened_octets(alloc, &mut copy, file)?;
+    Ok(found.as_slice() == due)
+}
 
 /// Writes to both files, and makes sure of the sidecar's first write alone.
 fn write_both<D: Disk>(disk: &mut D) -> Result<(), Failed>
@@ -19,6 +37,32 @@ fn write_both<D: Disk>(disk: &mut D) -> Result<(), Failed>
     write(disk, SIDECAR, 0, b"12")?;
     sync(disk, SIDECAR)?;
     write(disk, SIDECAR, 1, b"345")
+}
+
+/// Whether a crash leaves these files by a pick.
+fn leaves(
+    alloc: Global,
+    disk: &MemDisk,
+    pick: u64,
+    media: &[u8],
+    sidecar: &[u8],
+) -> Result<bool, Fail> {
+    let left = disk.crashed(alloc, pick)?;
+    Ok(reads(alloc, &left, MEDIA, media)? && reads(alloc, &left, SIDECAR, sidecar)?)
+}
+
+/// The first pick by which a crash doesn't leave the files of a row.
+fn first_other(
+    alloc: Global,
+    disk: &MemDisk,
+    images: &[(&[u8], &[u8])],
+) -> Result<Option<usize>, Fail> {
+    for (pick, (media, sidecar)) in images.iter().enumerate() {
+        if !leaves(alloc, disk, pick as u64, media, sidecar)? {
+            return Ok(Some(pick));
+        }
+    }
+    Ok(None)
 }
 
 #[test]
@@ -34,12 +78,22 @@ fn a_crash_leaves_the_image_that_is_picked(rt: HostRuntime) -> Result<(), Fail> 
         (b"a\xFF\xFFd\xFF", b"1\xFF\xFF\xFF"),
         (b"abQdX", b"12"),
     ];
-    for (pick, (media, sidecar)) in images.iter().enumerate() {
-        let left = disk.crashed(rt.alloc(), pick as u64)?;
-        assert_eq!(rt; octets_of(rt.alloc(), &left, MEDIA)?.as_slice(), *media);
-        assert_eq!(rt; octets_of(rt.alloc(), &left, SIDECAR)?.as_slice(), *sidecar);
-    }
+    assert_eq!(rt; first_other(rt.alloc(), &disk, &images)?, None);
     Ok(())
+}
+
+/// Whether calls of a disk on `abc` fail, of which call 1 is to fail and which has room for two calls and four octets:
+/// the second, one of more octets, and a third.
+fn fail_where_due<D: Disk>(disk: &mut D) -> bool
+    requires { (IsLive D.Reads disk.old MEDIA) × (IsLive D.Reads disk.old SIDECAR) }
+{
+    let first = write(disk, MEDIA, 0, b"X");
+    let large = write(disk, MEDIA, 3, b"defgh");
+    let second = write(disk, MEDIA, 3, b"de");
+    let third = sync(disk, MEDIA);
+    let spent = cut(disk, MEDIA, 1);
+    (first, large, second) == (Err(Failed), Err(Failed), Ok(()))
+        && (third, spent) == (Ok(()), Err(Failed))
 }
 
 #[test]
@@ -47,15 +101,8 @@ fn a_call_fails_where_it_is_to_and_where_room_is_spent(rt: HostRuntime) -> Resul
     let mut disk = MemDisk::new(rt.alloc(), b"abc", b"", 2, 4)?;
     disk.fail_at(1)?;
     open(&mut disk, "out.mkv")?;
-    assert_eq!(rt; write(&mut disk, MEDIA, 0, b"X"), Err(Failed));
-    assert_eq!(rt; write(&mut disk, MEDIA, 3, b"defgh"), Err(Failed));
-    assert_eq!(rt; write(&mut disk, MEDIA, 3, b"de"), Ok(()));
-    assert_eq!(rt; sync(&mut disk, MEDIA), Ok(()));
-    assert_eq!(rt; cut(&mut disk, MEDIA, 1), Err(Failed));
-    assert_eq!(rt;
-        octets_of(rt.alloc(), &disk, MEDIA)?.as_slice(),
-        b"abcde".as_slice()
-    );
+    assert!(rt; fail_where_due(&mut disk));
+    assert!(rt; reads(rt.alloc(), &disk, MEDIA, b"abcde")?);
     disk.stop_at(6);
     assert!(rt; open(&mut disk, "out.mkv").is_err());
     Ok(())

@@ -1,2 +1,0 @@
-pub mod CopyingLemmas
-mod TwoLemmas

@@ -1,0 +1,68 @@
+//! Why a case doesn't hold.
+
+use std::alloc::{AllocError, AllocFailed};
+use std::fmt;
+
+/// Why a case doesn't hold, or can't be tried.
+#[derive(Clone, Copy, Debug)]
+pub enum Fault {
+    /// There is no memory.
+    Memory,
+    /// A line of the cases isn't written as it has to be.
+    Unread,
+    /// Something differs in the run without a failure.
+    Differs { what: &'static str },
+    /// Something differs where this call fails.
+    DiffersAt { what: &'static str, call: u64 },
+}
+
+impl Fault {
+    /// The fault where something differs, which holds or doesn't.
+    pub fn unless(holds: bool, what: &'static str) -> Result<(), Fault> {
+        if holds {
+            Ok(())
+        } else {
+            Err(Fault::Differs { what })
+        }
+    }
+
+    /// The same where a call fails.
+    pub fn unless_at(holds: bool, what: &'static str, call: u64) -> Result<(), Fault> {
+        if holds {
+            Ok(())
+        } else {
+            Err(Fault::DiffersAt { what, call })
+        }
+    }
+}
+
+impl fmt::Display for Fault {
+    fn fmt<W: fmt::Write>(&self, f: &mut fmt::Formatter<W>) -> fmt::Result {
+        match self {
+            Fault::Memory => write!(f, "no memory"),
+            Fault::Unread => write!(f, "can't be read"),
+            Fault::Differs { what } => write!(f, "{what}"),
+            Fault::DiffersAt { what, call } => write!(f, "{what}, where call {call} fails"),
+        }
+    }
+}
+
+impl From<AllocError> for Fault {
+    ghost use Rattle.run_cases.specs.declared.fault.Fault.TheVariants.{Memory};
+
+    ghost from_gives = { λ _ fault. fault ≡ Memory };
+
+    fn from(_: AllocError) -> Fault {
+        Fault::Memory
+    }
+}
+
+impl<T: Drop> From<AllocFailed<T>> for Fault {
+    ghost use Rattle.run_cases.specs.declared.fault.Fault.TheVariants.{Memory};
+
+    ghost from_gives = { λ _ fault. fault ≡ Memory };
+
+    fn from(_: AllocFailed<T>) -> Fault {
+        Fault::Memory
+    }
+}

@@ -1,0 +1,249 @@
+//! Runs over files and a report in memory, of which a call fails.
+
+use crate::case::Case;
+use crate::fault::Fault;
+use crate::outputs::{are_untouched, are_whole, stopped_at};
+use mkv_io::LONGEST_FILE;
+use mkv_lines::Status;
+use mkv_memory::{MemDisk, MemFiles, MemReport};
+use mkv_run::run;
+use std::alloc::Global;
+
+/// Which call fails.
+#[derive(Clone, Copy)]
+enum Failing {
+    Nothing,
+    /// A call of the files, where an append keeps so many octets.
+    Files { call: u64, kept: u64 },
+    Line { call: u64 },
+}
+
+/// What came of a run.
+#[derive(Drop)]
+struct Ran {
+    files: MemFiles,
+    report: MemReport,
+    status: Status,
+}
+
+/// A stop of a run: at which output, and how many octets the first output then has.
+#[derive(Clone, Copy)]
+struct Stop {
+    at: usize,
+    length: u64,
+}
+
+/// The files that lie there before.
+fn files_before(alloc: Global, case: &Case) -> Result<MemFiles, Fault> {
+    let mut files = MemFiles::new(alloc)?;
+    for input in &case.inputs {
+        if input.octets.len() as u64 > LONGEST_FILE {
+            return Err(Fault::Unread);
+        }
+        files.put(input.name.as_str(), input.octets.as_slice())?;
+    }
+    Ok(files)
+}
+
+/// Runs a case over files and a report.
+fn run_over(
+    alloc: Global,
+    case: &Case,
+    mut files: MemFiles,
+    mut report: MemReport,
+) -> Result<Ran, Fault> {
+    let mut disk = MemDisk::new(alloc, &[], &[], 0, 0)?;
+    let status = run(alloc, &case.words, &mut files, &mut disk, &mut report);
+    Ok(Ran {
+        files,
+        report,
+        status,
+    })
+}
+
+/// Runs a case of which a call fails.
+fn run_failing(alloc: Global, case: &Case, failing: Failing) -> Result<Ran, Fault> {
+    let mut files = files_before(alloc, case)?;
+    let mut report = MemReport::new(alloc, 1000, 65_536)?;
+    match failing {
+        Failing::Nothing => {}
+        Failing::Files { call, kept } => files.fail_at(call, kept)?,
+        Failing::Line { call } => report.fail_at(call)?,
+    }
+    run_over(alloc, case, files, report)
+}
+
+/// How many of these lines a report begins with.
+fn lines_said(lines: &[String], report: &MemReport) -> usize {
+    for (k, line) in lines.iter().enumerate() {
+        if report.line(k) != Some(line.as_str()) {
+            return k;
+        }
+    }
+    lines.len()
+}
+
+/// Whether a report has these lines and no other.
+fn has_said(lines: &[String], report: &MemReport) -> bool {
+    lines_said(lines, report) == lines.len() && report.line(lines.len()).is_none()
+}
+
+/// Whether a report has a first part of these lines, and then a fault of the files.
+fn has_told_fault(lines: &[String], report: &MemReport) -> bool {
+    let said = lines_said(lines, report);
+    report.line(said) == Some("fault: files") && report.line(said.saturating_add(1)).is_none()
+}
+
+/// Whether each file that isn't an output is as it was.
+fn keeps_inputs(case: &Case, files: &MemFiles) -> bool {
+    case.inputs.iter().all(|input| {
+        let name = input.name.as_str();
+        case.is_output(name) || files.bytes(name) == Some(input.octets.as_slice())
+    })
+}
+
+/// Whether it ended as it does where no call fails.
+fn is_ordinary(case: &Case, ran: &Ran) -> bool {
+    u64::from(ran.status.code()) == case.status
+        && has_said(case.lines.as_slice(), &ran.report)
+        && are_whole(case.outputs.as_slice(), &ran.files)
+        && keeps_inputs(case, &ran.files)
+}
+
+/// The length of the first output.
+fn first_length(case: &Case, files: &MemFiles) -> u64 {
+    match case.outputs.first() {
+        Some(output) => files
+            .bytes(output.name.as_str())
+            .map_or(0, |octets| octets.len() as u64),
+        None => 0,
+    }
+}
+
+/// What a run left that a call of the files stopped.
+fn stop_in(case: &Case, ran: &Ran, call: u64) -> Result<Stop, Fault> {
+    Fault::unless_at(
+        has_told_fault(case.lines.as_slice(), &ran.report),
+        "other lines",
+        call,
+    )?;
+    Fault::unless_at(keeps_inputs(case, &ran.files), "other inputs", call)?;
+    match stopped_at(case.in_turn, case.outputs.as_slice(), &ran.files) {
+        Some(at) => Ok(Stop {
+            at,
+            length: first_length(case, &ran.files),
+        }),
+        None => Err(Fault::DiffersAt {
+            what: "other outputs",
+            call,
+        }),
+    }
+}
+
+/// Lets a call of the files fail, and answers what it left, or None where the run ended as it does without.
+fn stop_by(alloc: Global, case: &Case, call: u64, kept: u64) -> Result<Option<Stop>, Fault> {
+    let ran = run_failing(alloc, case, Failing::Files { call, kept })?;
+    if ran.status == Status::Outside {
+        return Ok(Some(stop_in(case, &ran, call)?));
+    }
+    Fault::unless_at(is_ordinary(case, &ran), "another end", call)?;
+    Ok(None)
+}
+
+/// Lets each call of the files fail in turn, up to the last. A call for a sidecar that isn't there doesn't fail, so that
+/// some runs behind which others stop end as they do without.
+fn stops_by(alloc: Global, case: &Case, kept: u64) -> Result<Vec<Stop>, Fault> {
+    let mut stops = Vec::new(alloc);
+    let mut ended = 0;
+    for call in 0..1000 {
+        match stop_by(alloc, case, call, kept)? {
+            Some(stop) => {
+                stops.push(stop)?;
+                ended = 0;
+            }
+            None => ended += 1,
+        }
+        if ended == 8 {
+            break;
+        }
+    }
+    Ok(stops)
+}
+
+/// How many outputs a run may be stopped at one by one.
+fn places(case: &Case) -> usize {
+    if case.in_turn { case.outputs.len() } else { 1 }
+}
+
+/// Whether it is stopped at each output so often at least.
+fn stops_enough(case: &Case, stops: &[Stop]) -> bool {
+    (0..places(case)).all(|at| {
+        let count = stops.iter().filter(|stop| stop.at == at).count();
+        count as u64 >= case.stops
+    })
+}
+
+/// Whether the first output is left with each length that it has to reach.
+fn reaches_all(case: &Case, kept: u64, stops: &[Stop]) -> bool {
+    case.reached.iter().all(|reached| {
+        reached.kept != kept || stops.iter().any(|stop| stop.length == reached.length)
+    })
+}
+
+/// What each call of the files leaves that fails, where an append keeps so many octets; and how many stop the run.
+fn check_kept(alloc: Global, case: &Case, kept: u64) -> Result<usize, Fault> {
+    let stops = stops_by(alloc, case, kept)?;
+    Fault::unless(stops_enough(case, stops.as_slice()), "too few calls fail")?;
+    Fault::unless(
+        reaches_all(case, kept, stops.as_slice()),
+        "a length isn't left",
+    )?;
+    Ok(stops.len())
+}
+
+/// The same for each number of octets that an append keeps. As many calls stop the run.
+fn check_calls(alloc: Global, case: &Case) -> Result<(), Fault> {
+    let mut first = None;
+    for kept in &case.kept {
+        let count = check_kept(alloc, case, *kept)?;
+        let before = first.unwrap_or(count);
+        Fault::unless(before == count, "as many calls don't fail")?;
+        first = Some(count);
+    }
+    Ok(())
+}
+
+/// What a line leaves that fails: the lines before it, and outputs that are whole or untouched.
+fn check_line(alloc: Global, case: &Case, line: usize, whole: bool) -> Result<(), Fault> {
+    let call = line as u64;
+    let ran = run_failing(alloc, case, Failing::Line { call })?;
+    let lines = &case.lines.as_slice()[..line.min(case.lines.len())];
+    let outputs = case.outputs.as_slice();
+    let left = if whole {
+        are_whole(outputs, &ran.files)
+    } else {
+        are_untouched(outputs, &ran.files)
+    };
+    Fault::unless_at(ran.status == Status::Outside, "another status", call)?;
+    Fault::unless_at(has_said(lines, &ran.report), "other lines", call)?;
+    Fault::unless_at(left && keeps_inputs(case, &ran.files), "other files", call)
+}
+
+/// Lets each line fail in turn.
+fn check_lines(alloc: Global, case: &Case, from: u64) -> Result<(), Fault> {
+    for line in 0..case.lines.len() {
+        check_line(alloc, case, line, line as u64 >= from)?;
+    }
+    Ok(())
+}
+
+/// What comes of a case over files.
+pub fn check(alloc: Global, case: &Case) -> Result<(), Fault> {
+    let ran = run_failing(alloc, case, Failing::Nothing)?;
+    Fault::unless(is_ordinary(case, &ran), "another end")?;
+    check_calls(alloc, case)?;
+    match case.lines_from {
+        Some(from) => check_lines(alloc, case, from),
+        None => Ok(()),
+    }
+}
