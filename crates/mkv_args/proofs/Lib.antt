@@ -2,3 +2,4 @@ pub mod PropeditLemmas
 pub mod HelpLemmas
 pub mod SoundLemmas
 pub mod TextLemmas
+pub mod StandardFacts

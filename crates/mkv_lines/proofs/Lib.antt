@@ -1,3 +1,4 @@
 pub mod SaidLemmas
 pub mod ShownLemmas
 pub mod VerdictLemmas
+pub mod StandardFacts
