@@ -1,10 +1,12 @@
 //! Why a case doesn't hold.
 
+ghost use Rattle.std.specs.Prelude.{◌≡◌};
+
 use std::alloc::{AllocError, AllocFailed};
 use std::fmt;
 
 /// Why a case doesn't hold, or can't be tried.
-#[derive(Clone, Copy, Debug)]
+#[derive(Clone, Copy)]
 pub enum Fault {
     /// There is no memory.
     Memory,

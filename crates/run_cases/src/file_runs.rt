@@ -154,14 +154,14 @@ fn stop_by(alloc: Global, case: &Case, call: u64, kept: u64) -> Result<Option<St
 /// some runs behind which others stop end as they do without.
 fn stops_by(alloc: Global, case: &Case, kept: u64) -> Result<Vec<Stop>, Fault> {
     let mut stops = Vec::new(alloc);
-    let mut ended = 0;
+    let mut ended: u32 = 0;
     for call in 0..1000 {
         match stop_by(alloc, case, call, kept)? {
             Some(stop) => {
                 stops.push(stop)?;
                 ended = 0;
             }
-            None => ended += 1,
+            None => ended = ended.saturating_add(1),
         }
         if ended == 8 {
             break;
