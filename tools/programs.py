@@ -4,7 +4,6 @@ for checks, which is made in some 80 seconds.
 The kit's `rt try` compiles the sources without proving them, with checks at run time, runs the program once and removes it. While
 it runs, the program stands below the TMPDIR that it was given. So it is given a merge of many small blocks to do, and the
 program is copied meanwhile."""
-import contextlib
 import fcntl
 import os
 import shutil
@@ -109,6 +108,16 @@ class Progress:
             sys.stderr.flush()
 
 
+def end(ran):
+    """Ends `rt`, which then ends what it has started."""
+    ran.terminate()
+    try:
+        ran.wait(10)
+    except subprocess.TimeoutExpired:
+        os.killpg(ran.pid, signal.SIGKILL)
+        ran.wait()
+
+
 def copied_while_it_runs(room):
     """Compiles the sources, runs what comes of them, and copies it meanwhile; answers the copy, or None, and what was said."""
     words = ["rt", "try", "--seconds", "60", "--", "merge", "-o", f"{room}/out.mkv", f"{room}/in.mkv"]
@@ -124,9 +133,7 @@ def copied_while_it_runs(room):
                     copy = shutil.copy2(program, f"{room}/mkvsuite")
                 time.sleep(0.05)
         finally:
-            with contextlib.suppress(ProcessLookupError):
-                os.killpg(ran.pid, signal.SIGKILL)
-            ran.wait()
+            end(ran)
             progress.close()
         said.seek(0)
         return copy, said.read()
