@@ -1,4 +1,7 @@
 pub mod BlocksLemmas
+pub mod BadFramesLemmas
+pub mod CodecLemmas
+pub mod StreamLemmas
 pub mod CuesLemmas
 pub mod FramesLemmas
 pub mod JobLemmas
