@@ -1,7 +1,4 @@
 pub mod BlocksLemmas
-pub mod BadFramesLemmas
-pub mod CodecLemmas
-pub mod StreamLemmas
 pub mod CuesLemmas
 pub mod FramesLemmas
 pub mod JobLemmas

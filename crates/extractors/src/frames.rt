@@ -1,23 +1,18 @@
 //! The frames of one block are written into one output.
 
-ghost use Rattle.std.specs.Prelude.{◌≡◌, ◌<◌, ◌+◌, [], ◌++◌, ◌^◌, length, IfOk, OnOk, unwrap_or};
+ghost use Rattle.std.specs.Prelude.{◌≡◌, ◌<◌, ◌+◌, ◌++◌, ◌^◌, length, IfOk, OnOk};
 ghost use Rattle.mkv_io.specs.Faults.{HasCause, is_make_failure};
 ghost use Rattle.block_records.specs.Buffered.{block_of};
 ghost use Rattle.mkv_outputs.specs.Outputs.{with_more};
 ghost use Rattle.mkv_outputs.specs.Sinks.{AreOpen, Gives, WritesOutputs};
-ghost use Rattle.elementary.specs.Aac.{IsAac, adts};
-ghost use Rattle.elementary.specs.Avc.{IsLengthSize, annex_b};
-ghost use Rattle.extractors.specs.Codec.{CanWrite};
 ghost use Rattle.extractors.specs.Content.{counted, entries_from, entry_of};
 ghost use Rattle.extractors.specs.Frames.{frames_in};
 ghost use Rattle.extractors.specs.Times.{time_line};
 ghost use Rattle.extractors.specs.Walks.{frame_of, text_entry};
 
-use crate::frame_form::FrameForm;
 use crate::times::{frame_time, push_time};
-use crate::track_output::TrackOutput;
+use crate::track_output::{Format, TrackOutput};
 use cluster_reader::Cursor;
-use elementary::{Aac, FrameEnd, LONGEST_FRAME, adts_header, put_annex_b};
 use mkv_io::{Bytes, Files, MakeFault};
 use mkv_outputs::Outputs;
 use srt_texts::put_srt;
@@ -38,7 +33,7 @@ struct Framed<'a> {
 #[derive(Drop)]
 pub struct Scratch {
     line: String,
-    pub(crate) text: Bytes,
+    text: Bytes,
     entry: Bytes,
 }
 
@@ -50,23 +45,6 @@ impl Scratch {
             entry: Bytes::new(alloc),
         }
     }
-}
-
-/// Octets behind a prefix. They are put together only where the prefix has octets.
-pub(crate) fn whole<'a>(
-    text: &'a mut Bytes,
-    prefix: &[u8],
-    octets: &'a [u8],
-) -> Result<&'a [u8], AllocError>
-    ensures { IfOk result (λ all. all.now ≡ prefix.now ++ octets.now) }
-{
-    if prefix.is_empty() {
-        return Ok(octets);
-    }
-    text.truncate(0);
-    text.append(prefix)?;
-    text.append(octets)?;
-    Ok(text.as_slice())
 }
 
 /// Gives the frames of a block to the k-th output, of which the first has this number among those of its track, and
@@ -83,9 +61,8 @@ pub fn give_frames<F: Files>(
     requires below { k < length outputs.old }
     requires open { AreOpen F.Reads files.old outputs.old }
     requires step { output.now.step < 2 ^ 48 }
-    requires can { CanWrite output.now.form }
     ensures gives { Gives F.Files.own files.old files.new outputs.old outputs.new
-        (with_more k (entries_from output.now number (frames_in output.now.step (block_of cursor.now.block)))) result }
+        (with_more k (entries_from output.now.format number (frames_in output.now.step (block_of cursor.now.block)))) result }
     ensures number { IfOk result (λ next. next ≡ counted (number + length (frames_in output.now.step (block_of cursor.now.block)))) }
     ensures only { WritesOutputs F.Reads F.Files.own files.old files.new outputs.old outputs.new }
     ensures cause { HasCause is_make_failure (F.writing_faults files.old) (F.writing_faults files.new) result }
@@ -101,46 +78,36 @@ pub fn give_frames<F: Files>(
             time: frame_time(head, i, output.step),
             duration,
         };
-        give_frame(outputs, files, k, output, frame, scratch)?;
+        give_frame(outputs, files, k, &output.format, frame, scratch)?;
         at = end;
     }
     Ok(number.saturating_add(sizes.len() as u64))
 }
 
-/// Gives a frame to the k-th output; nothing of a bad one.
+/// Gives a frame to the k-th output.
 fn give_frame<F: Files>(
     outputs: &mut Outputs,
     files: &mut F,
     k: usize,
-    output: &TrackOutput,
+    format: &Format,
     frame: Framed<'_>,
     scratch: &mut Scratch,
 ) -> Result<(), MakeFault>
     requires below { k < length outputs.old }
     requires open { AreOpen F.Reads files.old outputs.old }
-    requires can { CanWrite output.now.form }
     ensures gives { Gives F.Files.own files.old files.new outputs.old outputs.new
-        (with_more k (entry_of output.now frame.entry.number (frame_of frame.entry))) result }
+        (with_more k (entry_of format.now frame.entry.number (frame_of frame.entry))) result }
     ensures only { WritesOutputs F.Reads F.Files.own files.old files.new outputs.old outputs.new }
     ensures cause { HasCause is_make_failure (F.writing_faults files.old) (F.writing_faults files.new) result }
 {
-    let prefix = output.prefix.as_slice();
-    match output.form {
-        FrameForm::Plain => give_behind(outputs, files, k, prefix, frame.octets),
-        FrameForm::SubRip => give_text(outputs, files, k, prefix, frame, scratch),
-        FrameForm::AnnexB { length_size } => {
-            give_units(
-                outputs,
-                files,
-                k,
-                prefix,
-                frame.octets,
-                length_size,
-                scratch,
-            )
+    match format {
+        Format::Frames { prefix, .. } => {
+            give_behind(outputs, files, k, prefix.as_slice(), frame.octets)
         }
-        FrameForm::Adts { aac } => give_headed(outputs, files, k, prefix, frame.octets, &aac),
-        FrameForm::Time => give_time(outputs, files, k, frame.time, &mut scratch.line),
+        Format::SubRip { prefix } => {
+            give_text(outputs, files, k, prefix.as_slice(), frame, scratch)
+        }
+        Format::Times => give_time(outputs, files, k, frame.time, &mut scratch.line),
     }
 }
 
@@ -205,8 +172,11 @@ fn give_text<F: Files>(
 fn put_text(prefix: &[u8], frame: Framed<'_>, scratch: &mut Scratch) -> Result<(), AllocError>
     ensures { OnOk result (scratch.new.entry ≡ text_entry prefix.now frame.entry) }
 {
-    let text = whole(&mut scratch.text, prefix, frame.octets)?;
+    scratch.text.truncate(0);
+    scratch.text.append(prefix)?;
+    scratch.text.append(frame.octets)?;
     scratch.entry.truncate(0);
+    let text = scratch.text.as_slice();
     put_srt(
         frame.number,
         frame.time,
@@ -214,77 +184,4 @@ fn put_text(prefix: &[u8], frame: Framed<'_>, scratch: &mut Scratch) -> Result<(
         text,
         &mut scratch.entry,
     )
-}
-
-/// Gives the units of a frame behind a prefix, each behind a start code, to the k-th output; nothing of a bad frame.
-fn give_units<F: Files>(
-    outputs: &mut Outputs,
-    files: &mut F,
-    k: usize,
-    prefix: &[u8],
-    octets: &[u8],
-    length_size: u8,
-    scratch: &mut Scratch,
-) -> Result<(), MakeFault>
-    requires below { k < length outputs.old }
-    requires open { AreOpen F.Reads files.old outputs.old }
-    requires size { IsLengthSize length_size }
-    ensures gives { Gives F.Files.own files.old files.new outputs.old outputs.new
-        (with_more k (unwrap_or (annex_b length_size (prefix.now ++ octets.now)) [])) result }
-    ensures only { WritesOutputs F.Reads F.Files.own files.old files.new outputs.old outputs.new }
-    ensures cause { HasCause is_make_failure (F.writing_faults files.old) (F.writing_faults files.new) result }
-{
-    put_behind(prefix, octets, length_size, scratch)?;
-    outputs.write(files, k, scratch.entry.as_slice())
-}
-
-/// Puts the units of a frame behind a prefix, each behind a start code, into the scratch.
-fn put_behind(
-    prefix: &[u8],
-    octets: &[u8],
-    length_size: u8,
-    scratch: &mut Scratch,
-) -> Result<(), AllocError>
-    requires { IsLengthSize length_size }
-    ensures { OnOk result (scratch.new.entry ≡ unwrap_or (annex_b length_size (prefix.now ++ octets.now)) []) }
-{
-    let frame = whole(&mut scratch.text, prefix, octets)?;
-    put_units(frame, length_size, &mut scratch.entry)
-}
-
-/// Makes of octets the units of a frame, each behind a start code; nothing of a bad frame.
-fn put_units(frame: &[u8], length_size: u8, entry: &mut Bytes) -> Result<(), AllocError>
-    requires { IsLengthSize length_size }
-    ensures { OnOk result (entry.new ≡ unwrap_or (annex_b length_size frame.now) []) }
-{
-    entry.truncate(0);
-    match put_annex_b(frame, length_size, entry) {
-        Ok(()) | Err(FrameEnd::Bad) => Ok(()),
-        Err(FrameEnd::Memory) => Err(AllocError),
-    }
-}
-
-/// Gives a frame behind a prefix, both behind a header, to the k-th output; nothing of a bad frame.
-fn give_headed<F: Files>(
-    outputs: &mut Outputs,
-    files: &mut F,
-    k: usize,
-    prefix: &[u8],
-    octets: &[u8],
-    aac: &Aac,
-) -> Result<(), MakeFault>
-    requires below { k < length outputs.old }
-    requires open { AreOpen F.Reads files.old outputs.old }
-    requires can { IsAac aac.now }
-    ensures gives { Gives F.Files.own files.old files.new outputs.old outputs.new
-        (with_more k (unwrap_or (adts aac.now (prefix.now ++ octets.now)) [])) result }
-    ensures only { WritesOutputs F.Reads F.Files.own files.old files.new outputs.old outputs.new }
-    ensures cause { HasCause is_make_failure (F.writing_faults files.old) (F.writing_faults files.new) result }
-{
-    let len = prefix.len().saturating_add(octets.len());
-    if len > LONGEST_FRAME {
-        return outputs.write(files, k, &[]);
-    }
-    outputs.write(files, k, &adts_header(aac, len as u64))?;
-    give_behind(outputs, files, k, prefix, octets)
 }

@@ -5,8 +5,10 @@ use mkv_io::{List, Text};
 /// What an extraction writes, and into which files.
 #[derive(Debug, Drop)]
 pub enum Job {
-    /// The frames of tracks, or their times.
+    /// The frames of tracks.
     Tracks { form: Form, list: List<Target> },
+    /// The times of the frames of tracks.
+    Timestamps { list: List<Target> },
     /// The data of attached files.
     Attachments { list: List<Target> },
     /// The cue points of tracks.
@@ -15,17 +17,15 @@ pub enum Job {
     Chapters { name: Text },
 }
 
-/// What is written of the frames of a track.
+/// How the frames of a track are written.
 #[derive(Clone, Copy, Debug, PartialEq, Eq)]
 pub enum Form {
     /// The frames, one after the other.
     Raw,
     /// The track's CodecPrivate, then the frames.
     Full,
-    /// The frames as the track's codec has them in a file of their own: a SubRip text, or a stream that players read.
-    ByCodec,
-    /// The times of the frames.
-    Times,
+    /// As the track's codec says: SubRip text, or a stream that players read.
+    SubRip,
 }
 
 /// One thing that is taken out, and the file that it goes to.

@@ -11,14 +11,14 @@ loop-target-init c = refl
 pub loop-target-preserved : goal.loop-target-preserved
 loop-target-preserved c =
     c.loop-target.invariant
-    ∙ unfit-passed c.args.why c.args.form (map entry_in c.args.tracks.now) c.args.targets.now c.loop-target.target-index c.target-item.result c.loop-target-test.true c.target-item.is (sym c.in_ok-unfit.ensures ∙ c.if-unfit.false)
+    ∙ unfit-passed c.args.taken (map entry_in c.args.tracks.now) c.args.targets.now c.loop-target.target-index c.target-item.result c.loop-target-test.true c.target-item.is (sym c.is_unfit.ensures ∙ c.if-is_unfit.false)
 
 -- or not
-pub returns-then-unfit : goal.returns-then-unfit
-returns-then-unfit c =
+pub returns-then-is_unfit : goal.returns-then-is_unfit
+returns-then-is_unfit c =
     sym (c.loop-target.invariant
-    ∙ unfit-found c.args.why c.args.form (map entry_in c.args.tracks.now) c.args.targets.now c.loop-target.target-index c.target-item.result c.loop-target-test.true c.target-item.is (sym c.in_ok-unfit.ensures ∙ c.if-unfit.true))
+    ∙ unfit-found c.args.taken (map entry_in c.args.tracks.now) c.args.targets.now c.loop-target.target-index c.target-item.result c.loop-target-test.true c.target-item.is (sym c.is_unfit.ensures ∙ c.if-is_unfit.true))
 
 -- of all of them
 pub returns : goal.returns
-returns c = sym (c.loop-target.invariant ∙ unfit-none c.args.why c.args.form (map entry_in c.args.tracks.now) c.args.targets.now c.loop-target.target-index c.loop-target-test.false)
+returns c = sym (c.loop-target.invariant ∙ unfit-none c.args.taken (map entry_in c.args.tracks.now) c.args.targets.now c.loop-target.target-index c.loop-target-test.false)
