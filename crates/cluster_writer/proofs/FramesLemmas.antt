@@ -101,6 +101,11 @@ fits-prefixed lace.Xiph p sizes fits = fits
 fits-prefixed lace.Fixed p sizes fits = equal-prefixed p sizes fits
 fits-prefixed lace.Ebml p sizes fits = fits
 
+-- without a prefix frames keep their sizes
+pub prefixed-none : (sizes : List ℕ) → prefixed_sizes 0 sizes ≡ sizes
+prefixed-none [] = refl
+prefixed-none (size ∷ sizes) = ap₂ (λ x (xs : List ℕ). x ∷ xs) (omega arith) (prefixed-none sizes)
+
 -- what a lane lends can be laced with its prefix
 pub can-prefixed : (kind : Lace) (p : ℕ) (sizes : List ℕ) (references kept : ℕ) → CanBeLent kind p sizes references kept → CanLace kind (prefixed_sizes p sizes)
 can-prefixed kind p sizes references kept lent =

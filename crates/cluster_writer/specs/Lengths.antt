@@ -43,8 +43,12 @@ group_len head block references kept = whole_len BLOCK block + behind_len head.d
 abbrev pub behind_octets : OutputBlock → List ℕ
 behind_octets b = joined (duration_elements b.duration ++ map reference_element b.references) ++ b.kept
 
+-- the Element of a block whose frames have these sizes with their prefix
+abbrev pub sized_len : OutHead → List ℕ → List ℤ → ℕ → ℕ
+sized_len head sizes references kept =
+    let block = block_len head.lace sizes in
+    if head.group then whole_len BLOCK_GROUP (group_len head block references kept) else whole_len SIMPLE_BLOCK block
+
 -- the Element of a block
 abbrev pub taken_len : OutHead → ℕ → List ℕ → List ℤ → ℕ → ℕ
-taken_len head prefix sizes references kept =
-    let block = block_len head.lace (prefixed_sizes prefix sizes) in
-    if head.group then whole_len BLOCK_GROUP (group_len head block references kept) else whole_len SIMPLE_BLOCK block
+taken_len head prefix sizes references kept = sized_len head (prefixed_sizes prefix sizes) references kept

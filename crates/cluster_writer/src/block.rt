@@ -150,10 +150,23 @@ pub(crate) fn add_element(out: &mut Vec<u8>, timestamp: u64, block: &LentBlock<'
     requires room { HasRoom out.old (octets_taken (block_of block.now)) }
     ensures { Adds out.old out.new (octets_of (block_element timestamp (block_of block.now))) }
 {
+    if block.prefix.is_empty() {
+        return add_sized(out, timestamp, block, block.sizes);
+    }
     let sizes = prefixed_sizes(block.prefix.len() as u32, block.sizes);
+    add_sized(out, timestamp, block, &sizes);
+}
+
+// Adds the Element of a block whose frames have these sizes with their prefix.
+#[tactic(auto, unfolding(ebml_numbers::specs::Number::is_id))]
+fn add_sized(out: &mut Vec<u8>, timestamp: u64, block: &LentBlock<'_>, sizes: &[u32])
+    requires block { CanStand timestamp block.now sizes.now }
+    requires room { HasRoom out.old (octets_taken (block_of block.now)) }
+    ensures { Adds out.old out.new (octets_of (block_element timestamp (block_of block.now))) }
+{
     if block.head.group {
-        add_group(out, timestamp, block, &sizes);
+        add_group(out, timestamp, block, sizes);
     } else {
-        add_block_element(out, SIMPLE_BLOCK, timestamp, block, &sizes);
+        add_block_element(out, SIMPLE_BLOCK, timestamp, block, sizes);
     }
 }

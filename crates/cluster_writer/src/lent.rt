@@ -1,9 +1,11 @@
 //! A block that is put into a Cluster, and how long its Element is.
 
 ghost use Rattle.std.specs.Prelude.{◌≡◌, ◌≤◌, ◌^◌, ℕ, List, length, map, sum};
+ghost use Rattle.lacing.specs.Writing.{CanLace};
 ghost use Rattle.output_model.specs.OutputBlock.{CanBeLent, IsLent, Lent, lent_block};
+ghost use Rattle.block_format.specs.declared.limits.TheConstants.{MOST_OF_BLOCK, MOST_REFERENCES};
 ghost use Rattle.cluster_writer.specs.Lent.{Measures, block_of, lent_of};
-ghost use Rattle.cluster_writer.specs.Lengths.{octets_taken, taken_len, prefixed_sizes};
+ghost use Rattle.cluster_writer.specs.Lengths.{octets_taken, sized_len, taken_len, prefixed_sizes};
 
 use crate::block::block_len;
 use crate::element::element_len as whole_len;
@@ -61,8 +63,23 @@ fn taken_len(head: &OutHead, prefix: usize, sizes: &[u32], references: &[i64], k
     ensures exact { result ≡ taken_len head.now prefix sizes.now references.now kept }
     ensures most { result ≤ 2 ^ 27 }
 {
+    if prefix == 0 {
+        return sized_len(head, sizes, references, kept);
+    }
     let all = prefixed_sizes(prefix as u32, sizes);
-    let block = block_len(head.lace, &all);
+    sized_len(head, &all, references, kept)
+}
+
+// How many octets the Element of a block has whose frames have these sizes with their prefix.
+#[tactic(auto, unfolding(ebml_numbers::specs::Number::is_id))]
+fn sized_len(head: &OutHead, sizes: &[u32], references: &[i64], kept: usize) -> u64
+    requires lace { CanLace head.now.lace sizes.now }
+    requires references { length references.now ≤ MOST_REFERENCES }
+    requires kept { kept ≤ MOST_OF_BLOCK }
+    ensures exact { result ≡ sized_len head.now sizes.now references.now kept }
+    ensures most { result ≤ 2 ^ 27 }
+{
+    let block = block_len(head.lace, sizes);
     if head.group {
         whole_len(BLOCK_GROUP, group_len(head, block, references, kept as u64))
     } else {

@@ -3,7 +3,7 @@ use Rattle.mkv_schema.specs.declared.ids.TheConstants.{BLOCK_GROUP, SIMPLE_BLOCK
 use Rattle.cluster_writer.specs.Lent.{lent_of, alone_len, grouped_len}
 use Rattle.cluster_writer.specs.Lengths.{block_len, group_len, whole_len, prefixed_sizes}
 use Rattle.cluster_writer.proofs.LengthLemmas.{length-lent}
-use Rattle.cluster_writer.proofs.block.add_element.Goals as goal
+use Rattle.cluster_writer.proofs.block.add_sized.Goals as goal
 
 pub add_group-requires-clause-room : goal.add_group-requires-clause-room
 add_group-requires-clause-room c =
@@ -13,8 +13,8 @@ add_group-requires-clause-room c =
     omega (
       arith,
       c.requires.room,
-      length-lent b.tick b.lane b.tick (lent_of b) c.requires.block.lent ∙ ap P c.if-block.true,
-      ap (λ ss. grouped_len b ss) (c.deref.ensures.0 ∙ c.prefixed_sizes-sizes.ensures.exact),
+      length-lent b.tick b.lane b.tick (lent_of b) c.requires.block.put.lent ∙ ap P c.if-block.true,
+      ap (λ ss. grouped_len b ss) c.requires.block.sizes,
     )
 
 pub add_block_element-requires-clause-room : goal.add_block_element-requires-clause-room
@@ -25,6 +25,6 @@ add_block_element-requires-clause-room c =
     omega (
       arith,
       c.requires.room,
-      length-lent b.tick b.lane b.tick (lent_of b) c.requires.block.lent ∙ ap P c.if-block.false,
-      ap (λ ss. alone_len SIMPLE_BLOCK b ss) (c.deref-else-block.ensures.0 ∙ c.prefixed_sizes-sizes.ensures.exact),
+      length-lent b.tick b.lane b.tick (lent_of b) c.requires.block.put.lent ∙ ap P c.if-block.false,
+      ap (λ ss. alone_len SIMPLE_BLOCK b ss) c.requires.block.sizes,
     )
