@@ -36,8 +36,13 @@ pub fn tick_of(scale: u64, t: u64) -> u64
     requires { 1 ≤ scale }
     ensures { result ≡ tick_of scale t }
 {
-    let from = u128::from(t) + u128::from(scale / 2);
-    (from / u128::from(scale)) as u64
+    match t.checked_add(scale / 2) {
+        Some(from) => from / scale,
+        None => {
+            let from = u128::from(t) + u128::from(scale / 2);
+            (from / u128::from(scale)) as u64
+        }
+    }
 }
 
 /// So many nanoseconds from a time on, in ticks.
