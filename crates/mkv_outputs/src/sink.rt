@@ -10,7 +10,7 @@ ghost use Rattle.mkv_outputs.specs.Waiting.{WaitFew};
 use mkv_io::{Bytes, FileId, Files, MakeFault};
 
 /// How many octets wait at most.
-pub const ROOM: usize = 65536;
+pub const ROOM: usize = 262_144;
 
 /// A live file, and the octets that wait to be written to it.
 #[derive(Debug, Drop)]
