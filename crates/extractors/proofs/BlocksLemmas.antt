@@ -26,7 +26,7 @@ frames_for-none o b other = step (b.track == o.track) (λ same. other (eqb-true 
     step false differs = refl
 
 pub piece-none : (o : TrackOutput) (n : ℕ) (b : Block) → b.track ≢ o.track → piece o n b ≡ []
-piece-none o n b other = ap (entries_from o.format n) (frames_for-none o b other)
+piece-none o n b other = ap (entries_from o n) (frames_for-none o b other)
 
 -- and has no frames for it
 pub count-none : (o : TrackOutput) (n : ℕ) (b : Block) → b.track ≢ o.track → n < 2 ^ 64 → n ≡ counted (n + count_in o b)

@@ -17,7 +17,7 @@ use Rattle.extractors.specs.Content.{counted, entries_from, entry_of}
 use Rattle.block_records.specs.Buffered.{Buffered, block_of}
 use Rattle.block_records.specs.declared.head.BlockHead.{BlockHead}
 use Rattle.extractors.specs.Frames.{Frame, frames_from, frames_in}
-use Rattle.extractors.specs.declared.track_output.Format.{Format}
+use Rattle.extractors.specs.declared.track_output.TrackOutput.{TrackOutput}
 use Rattle.extractors.proofs.ContentLemmas.{entry_of-counted}
 
 -- a frame of these octets, this time and this duration
@@ -89,22 +89,26 @@ pub GivesUpTo-ends : {S : Type 0} (f : Ghosts S) (old new : S) (sinks later : Li
 GivesUpTo-ends f old new sinks later k all left so none = λ since given has.
     subst (λ (octets : List ℕ). HaveBeenGiven since (f.names new) (f.holder new) later (with_more k octets given)) (sym (so.whole ∙ ap (λ (rest : List ℕ). so.done ++ rest) none ∙ append-nil so.done)) (so.has since given has)
 
+-- nothing was to be given
+pub HasGiven-none : {S : Type 0} (f : Ghosts S) (files : S) (sinks : List Sink) (k : ℕ) (octets : List ℕ) → octets ≡ [] → HasGiven f files files sinks sinks k octets
+HasGiven-none f files sinks k octets none = GivesUpTo-ends f files files sinks sinks k octets octets (GivesUpTo-begins f files sinks k octets) none
+
 -- ---- the frames of a block
 
 -- what is written of those that are left, from the i-th on, where the first has this number
-pub entries_left : Format → ℕ → ℕ → ℤ → ℕ → List ℕ → List ℕ → ℕ → ℕ → List ℕ
-entries_left format number step time duration sizes body i at = entries_from format (number + i) (frames_from step time duration i (frames_cut (drop i sizes) (drop at body)))
+pub entries_left : TrackOutput → ℕ → ℕ → ℤ → ℕ → List ℕ → List ℕ → ℕ → ℕ → List ℕ
+entries_left o number step time duration sizes body i at = entries_from o (number + i) (frames_from step time duration i (frames_cut (drop i sizes) (drop at body)))
 
 -- the next frame is the first of them
-pub entries_left-next : (format : Format) (number step : ℕ) (time : ℤ) (duration : ℕ) (sizes body : List ℕ) (i at size n : ℕ) (f : Frame) → i < length sizes → size ≡ get_or sizes i 0 → n ≡ counted (number + i) → f ≡ framed (take size (drop at body)) (time +ℤ pos (i * step)) duration → entries_left format number step time duration sizes body i at ≡ entry_of format n f ++ entries_left format number step time duration sizes body (i + 1) (at + size)
+pub entries_left-next : (o : TrackOutput) (number step : ℕ) (time : ℤ) (duration : ℕ) (sizes body : List ℕ) (i at size n : ℕ) (f : Frame) → i < length sizes → size ≡ get_or sizes i 0 → n ≡ counted (number + i) → f ≡ framed (take size (drop at body)) (time +ℤ pos (i * step)) duration → entries_left o number step time duration sizes body i at ≡ entry_of o n f ++ entries_left o number step time duration sizes body (i + 1) (at + size)
 unfolding entries_left
-entries_left-next format number step time duration sizes body i at size n f below is named cut =
-    ap (λ (ss : List ℕ). entries_from format (number + i) (frames_from step time duration i (frames_cut ss (drop at body)))) (drop-cons sizes i 0 below ∙ ap (λ (s : ℕ). s ∷ drop (suc i) sizes) (sym is))
-    ∙ ap (λ (left : List ℕ). entry_of format (number + i) (framed (take size (drop at body)) (time +ℤ pos (i * step)) duration) ++ entries_from format ((number + i) + 1) (frames_from step time duration (i + 1) (frames_cut (drop (suc i) sizes) left))) (drop-drop size at body)
-    ∙ ap (λ (k : ℕ). entry_of format (number + i) (framed (take size (drop at body)) (time +ℤ pos (i * step)) duration) ++ entries_from format ((number + i) + 1) (frames_from step time duration (i + 1) (frames_cut (drop k sizes) (drop (at + size) body)))) (one_more i)
-    ∙ ap (λ (k : ℕ). entry_of format (number + i) (framed (take size (drop at body)) (time +ℤ pos (i * step)) duration) ++ entries_from format k (frames_from step time duration (i + 1) (frames_cut (drop (i + 1) sizes) (drop (at + size) body)))) (one_further number i)
-    ∙ ap (λ (one : Frame). entry_of format (number + i) one ++ entries_left format number step time duration sizes body (i + 1) (at + size)) (sym cut)
-    ∙ ap (λ (octets : List ℕ). octets ++ entries_left format number step time duration sizes body (i + 1) (at + size)) (entry_of-counted format (number + i) n f (stands (number + i) named))
+entries_left-next o number step time duration sizes body i at size n f below is named cut =
+    ap (λ (ss : List ℕ). entries_from o (number + i) (frames_from step time duration i (frames_cut ss (drop at body)))) (drop-cons sizes i 0 below ∙ ap (λ (s : ℕ). s ∷ drop (suc i) sizes) (sym is))
+    ∙ ap (λ (left : List ℕ). entry_of o (number + i) (framed (take size (drop at body)) (time +ℤ pos (i * step)) duration) ++ entries_from o ((number + i) + 1) (frames_from step time duration (i + 1) (frames_cut (drop (suc i) sizes) left))) (drop-drop size at body)
+    ∙ ap (λ (k : ℕ). entry_of o (number + i) (framed (take size (drop at body)) (time +ℤ pos (i * step)) duration) ++ entries_from o ((number + i) + 1) (frames_from step time duration (i + 1) (frames_cut (drop k sizes) (drop (at + size) body)))) (one_more i)
+    ∙ ap (λ (k : ℕ). entry_of o (number + i) (framed (take size (drop at body)) (time +ℤ pos (i * step)) duration) ++ entries_from o k (frames_from step time duration (i + 1) (frames_cut (drop (i + 1) sizes) (drop (at + size) body)))) (one_further number i)
+    ∙ ap (λ (one : Frame). entry_of o (number + i) one ++ entries_left o number step time duration sizes body (i + 1) (at + size)) (sym cut)
+    ∙ ap (λ (octets : List ℕ). octets ++ entries_left o number step time duration sizes body (i + 1) (at + size)) (entry_of-counted o (number + i) n f (stands (number + i) named))
   where
     one_more : (k : ℕ) → suc k ≡ k + 1
     one_more k = omega arith
@@ -116,22 +120,22 @@ entries_left-next format number step time duration sizes body i at size n f belo
     stands m same = omega (arith, same)
 
 -- at first those of the whole block are left
-pub entries_left-block : (format : Format) (number step : ℕ) (sizes body : List ℕ) (head : BlockHead) (duration : ℕ) (b : Buffered) → head ≡ b.head → sizes ≡ b.sizes → body ≡ b.body → duration ≡ unwrap_or head.duration 0 → entries_left format number step head.time duration sizes body 0 0 ≡ entries_from format number (frames_in step (block_of b))
+pub entries_left-block : (o : TrackOutput) (number step : ℕ) (sizes body : List ℕ) (head : BlockHead) (duration : ℕ) (b : Buffered) → head ≡ b.head → sizes ≡ b.sizes → body ≡ b.body → duration ≡ unwrap_or head.duration 0 → entries_left o number step head.time duration sizes body 0 0 ≡ entries_from o number (frames_in step (block_of b))
 unfolding entries_left
-entries_left-block format number step sizes body head duration b heads cut octets lasts =
-    ap (λ (d : ℕ). entries_from format (number + 0) (frames_from step head.time d 0 (frames_cut sizes body))) lasts
-    ∙ ap (λ (h : BlockHead). entries_from format (number + 0) (frames_from step h.time (unwrap_or h.duration 0) 0 (frames_cut sizes body))) heads
-    ∙ ap (λ (ss : List ℕ). entries_from format (number + 0) (frames_from step b.head.time (unwrap_or b.head.duration 0) 0 (frames_cut ss body))) cut
-    ∙ ap (λ (os : List ℕ). entries_from format (number + 0) (frames_from step b.head.time (unwrap_or b.head.duration 0) 0 (frames_cut b.sizes os))) octets
-    ∙ ap (λ (n : ℕ). entries_from format n (frames_in step (block_of b))) (plus_none number)
+entries_left-block o number step sizes body head duration b heads cut octets lasts =
+    ap (λ (d : ℕ). entries_from o (number + 0) (frames_from step head.time d 0 (frames_cut sizes body))) lasts
+    ∙ ap (λ (h : BlockHead). entries_from o (number + 0) (frames_from step h.time (unwrap_or h.duration 0) 0 (frames_cut sizes body))) heads
+    ∙ ap (λ (ss : List ℕ). entries_from o (number + 0) (frames_from step b.head.time (unwrap_or b.head.duration 0) 0 (frames_cut ss body))) cut
+    ∙ ap (λ (os : List ℕ). entries_from o (number + 0) (frames_from step b.head.time (unwrap_or b.head.duration 0) 0 (frames_cut b.sizes os))) octets
+    ∙ ap (λ (n : ℕ). entries_from o n (frames_in step (block_of b))) (plus_none number)
   where
     plus_none : (k : ℕ) → k + 0 ≡ k
     plus_none k = omega arith
 
 -- and at last none
-pub entries_left-none : (format : Format) (number step : ℕ) (time : ℤ) (duration : ℕ) (sizes body : List ℕ) (i at : ℕ) → length sizes ≤ i → entries_left format number step time duration sizes body i at ≡ []
+pub entries_left-none : (o : TrackOutput) (number step : ℕ) (time : ℤ) (duration : ℕ) (sizes body : List ℕ) (i at : ℕ) → length sizes ≤ i → entries_left o number step time duration sizes body i at ≡ []
 unfolding entries_left
-entries_left-none format number step time duration sizes body i at all = ap (λ (ss : List ℕ). entries_from format (number + i) (frames_from step time duration i (frames_cut ss (drop at body)))) (drop_all i sizes all)
+entries_left-none o number step time duration sizes body i at all = ap (λ (ss : List ℕ). entries_from o (number + i) (frames_from step time duration i (frames_cut ss (drop at body)))) (drop_all i sizes all)
 
 -- a block has as many frames as sizes
 length-frames_from : (step : ℕ) (time : ℤ) (duration i : ℕ) (sizes body : List ℕ) → length (frames_from step time duration i (frames_cut sizes body)) ≡ length sizes

@@ -1,7 +1,8 @@
 -- The outputs of targets.
-use Rattle.std.proofs.Common.{◌≡◌, ℕ, zero, suc, ◌+◌, ◌<◌, ◌≤◌, ◌^◌, Bool, true, false, if◌then◌else◌, List, [], ◌∷◌, ◌++◌, length, take, drop, get_or, map, Option, Some, None, IfSome, slice_get, unwrap_or, refl, sym, ◌∙◌, ap, subst, arith, append-nil}
+use Rattle.std.proofs.Common.{◌≡◌, ℕ, zero, suc, ◌+◌, ◌<◌, ◌≤◌, ◌^◌, Bool, true, false, if◌then◌else◌, List, [], ◌∷◌, ◌++◌, length, take, drop, get_or, map, Option, Some, None, IfSome, slice_get, unwrap_or, Result, Ok, Err, refl, sym, ◌∙◌, ap, subst, arith, append-nil}
 use Rattle.std.specs.List.{All, find}
-use Rattle.std.specs.Option.{option_map}
+use Rattle.std.specs.Option.{option_map, option_map_or, option_or}
+use Rattle.std.specs.Result.{result_err}
 use Rattle.std.proofs.Math.Seq.{drop-cons, take-suc}
 use Rattle.std.proofs.lemmas.List.{drop_all}
 use Rattle.std.proofs.lemmas.Grind.{flat_map-append}
@@ -15,11 +16,16 @@ use Rattle.file_format.specs.Tracks.{IsTrack}
 use Rattle.track_records.specs.declared.track.Track.{Track}
 use Rattle.meta_records.specs.Records.{AreRead}
 use Rattle.extractors.specs.Content.{names_in}
-use Rattle.extractors.specs.Job.{first_unfit, is_unfit, job_outputs, names_of, output_for, outputs_for, outputs_taken, taken_of, targets_of, track_output}
-use Rattle.extractors.specs.declared.taken.Taken.{Taken}
+use Rattle.extractors.specs.Job.{first_unfit, is_unfit, job_outputs, names_unfit, output_with, names_of, output_for, outputs_for, outputs_taken, form_of, refusal_of, refusal_taken, targets_of, track_output, unfit_of}
+use Rattle.extractors.specs.Codec.{coding_of}
+use Rattle.extractors.proofs.CodecLemmas.{coding_of-can}
+use Rattle.extractors.specs.declared.frame_form.Coding.{Coding}
+use Rattle.extractors.specs.declared.frame_form.Unfit.{Unfit}
+use Rattle.extractors.specs.declared.frame_form.Unfit.TheVariants.{NoExtractor, BadConfig}
+use Rattle.word_values.specs.declared.job.Form.{Form}
 use Rattle.extractors.specs.declared.track_output.TrackOutput.{TrackOutput}
 use Rattle.extractors.specs.Source.{AreUsableOf, IsUsable, entry_in}
-use Rattle.extractors.specs.Walks.{HasSmallStep}
+use Rattle.extractors.specs.Walks.{IsReady}
 
 -- ---- one target after the other
 
@@ -30,7 +36,7 @@ entry-at (t ∷ ts) zero = refl
 entry-at (t ∷ ts) (suc k) = entry-at ts k
 
 -- the outputs of one more target
-outputs_for-next : (kind : Taken) (targets : List Target) (entries : List Node) (k : ℕ) (t : Target) → k < length targets → t ≡ get_or targets k t → outputs_for kind (take (k + 1) targets) entries ≡ outputs_for kind (take k targets) entries ++ output_for kind t (slice_get entries t.id)
+outputs_for-next : (kind : Form) (targets : List Target) (entries : List Node) (k : ℕ) (t : Target) → k < length targets → t ≡ get_or targets k t → outputs_for kind (take (k + 1) targets) entries ≡ outputs_for kind (take k targets) entries ++ output_for kind t (slice_get entries t.id)
 outputs_for-next kind targets entries k t below is =
     ap (λ (n : ℕ). outputs_for kind (take n targets) entries) (one_more k)
     ∙ ap (λ (ts : List Target). outputs_for kind ts entries) (take-suc targets k t below ∙ ap (λ (each : Target). take k targets ++ each ∷ []) (sym is))
@@ -41,13 +47,13 @@ outputs_for-next kind targets entries k t below is =
     one_more n = omega arith
 
 -- its track is there
-pub outputs_for-found : (kind : Taken) (targets : List Target) (tracks : List Track) (k : ℕ) (t : Target) (track : Track) → k < length targets → t ≡ get_or targets k t → slice_get tracks t.id ≡ Some track → outputs_for kind (take (k + 1) targets) (map entry_in tracks) ≡ outputs_for kind (take k targets) (map entry_in tracks) ++ track_output kind t.name track.entry ∷ []
+pub outputs_for-found : (kind : Form) (targets : List Target) (tracks : List Track) (k : ℕ) (t : Target) (track : Track) → k < length targets → t ≡ get_or targets k t → slice_get tracks t.id ≡ Some track → outputs_for kind (take (k + 1) targets) (map entry_in tracks) ≡ outputs_for kind (take k targets) (map entry_in tracks) ++ track_output t.name track.entry (coding_of kind track.entry)
 outputs_for-found kind targets tracks k t track below is found =
     outputs_for-next kind targets (map entry_in tracks) k t below is
     ∙ ap (λ (entry : Option Node). outputs_for kind (take k targets) (map entry_in tracks) ++ output_for kind t entry) (entry-at tracks t.id ∙ ap (option_map entry_in) found)
 
 -- or it isn't
-pub outputs_for-none : (kind : Taken) (targets : List Target) (tracks : List Track) (k : ℕ) (t : Target) → k < length targets → t ≡ get_or targets k t → slice_get tracks t.id ≡ None → outputs_for kind (take (k + 1) targets) (map entry_in tracks) ≡ outputs_for kind (take k targets) (map entry_in tracks)
+pub outputs_for-none : (kind : Form) (targets : List Target) (tracks : List Track) (k : ℕ) (t : Target) → k < length targets → t ≡ get_or targets k t → slice_get tracks t.id ≡ None → outputs_for kind (take (k + 1) targets) (map entry_in tracks) ≡ outputs_for kind (take k targets) (map entry_in tracks)
 outputs_for-none kind targets tracks k t below is found =
     outputs_for-next kind targets (map entry_in tracks) k t below is
     ∙ ap (λ (entry : Option Node). outputs_for kind (take k targets) (map entry_in tracks) ++ output_for kind t entry) (entry-at tracks t.id ∙ ap (option_map entry_in) found)
@@ -62,13 +68,13 @@ usable-at targets tracks k t track usable below is found =
 -- ---- targets of whose tracks something can't be written
 
 -- the next one is passed
-pub unfit-passed : (kind : Taken) (entries : List Node) (targets : List Target) (k : ℕ) (t : Target) → k < length targets → t ≡ get_or targets k t → is_unfit kind entries t ≡ false → first_unfit kind (drop k targets) entries ≡ first_unfit kind (drop (k + 1) targets) entries
-unfit-passed kind entries targets k t below is fine =
-    ap (λ (ts : List Target). first_unfit kind ts entries) (drop-cons targets k t below ∙ ap (λ (each : Target). each ∷ drop (suc k) targets) (sym is))
-    ∙ step (is_unfit kind entries t) fine
-    ∙ ap (λ (n : ℕ). first_unfit kind (drop n targets) entries) (one_more k)
+pub unfit-passed : (why : Unfit) (kind : Form) (entries : List Node) (targets : List Target) (k : ℕ) (t : Target) → k < length targets → t ≡ get_or targets k t → names_unfit why kind entries t ≡ false → first_unfit why kind (drop k targets) entries ≡ first_unfit why kind (drop (k + 1) targets) entries
+unfit-passed why kind entries targets k t below is fine =
+    ap (λ (ts : List Target). first_unfit why kind ts entries) (drop-cons targets k t below ∙ ap (λ (each : Target). each ∷ drop (suc k) targets) (sym is))
+    ∙ step (names_unfit why kind entries t) fine
+    ∙ ap (λ (n : ℕ). first_unfit why kind (drop n targets) entries) (one_more k)
   where
-    step : (a : Bool) → a ≡ false → option_map (λ (each : Target). each.id) (if a then Some t else find (is_unfit kind entries) (drop (suc k) targets)) ≡ first_unfit kind (drop (suc k) targets) entries
+    step : (a : Bool) → a ≡ false → option_map (λ (each : Target). each.id) (if a then Some t else find (names_unfit why kind entries) (drop (suc k) targets)) ≡ first_unfit why kind (drop (suc k) targets) entries
     step true same = absurd (cc)
     step false same = refl
 
@@ -76,36 +82,114 @@ unfit-passed kind entries targets k t below is fine =
     one_more n = omega arith
 
 -- or is the first
-pub unfit-found : (kind : Taken) (entries : List Node) (targets : List Target) (k : ℕ) (t : Target) → k < length targets → t ≡ get_or targets k t → is_unfit kind entries t ≡ true → first_unfit kind (drop k targets) entries ≡ Some t.id
-unfit-found kind entries targets k t below is unfit =
-    ap (λ (ts : List Target). first_unfit kind ts entries) (drop-cons targets k t below ∙ ap (λ (each : Target). each ∷ drop (suc k) targets) (sym is))
-    ∙ step (is_unfit kind entries t) unfit
+pub unfit-found : (why : Unfit) (kind : Form) (entries : List Node) (targets : List Target) (k : ℕ) (t : Target) → k < length targets → t ≡ get_or targets k t → names_unfit why kind entries t ≡ true → first_unfit why kind (drop k targets) entries ≡ Some t.id
+unfit-found why kind entries targets k t below is unfit =
+    ap (λ (ts : List Target). first_unfit why kind ts entries) (drop-cons targets k t below ∙ ap (λ (each : Target). each ∷ drop (suc k) targets) (sym is))
+    ∙ step (names_unfit why kind entries t) unfit
   where
-    step : (a : Bool) → a ≡ true → option_map (λ (each : Target). each.id) (if a then Some t else find (is_unfit kind entries) (drop (suc k) targets)) ≡ Some t.id
+    step : (a : Bool) → a ≡ true → option_map (λ (each : Target). each.id) (if a then Some t else find (names_unfit why kind entries) (drop (suc k) targets)) ≡ Some t.id
     step true same = refl
     step false same = absurd (cc)
 
 -- at last none is left
-pub unfit-none : (kind : Taken) (entries : List Node) (targets : List Target) (k : ℕ) → length targets ≤ k → first_unfit kind (drop k targets) entries ≡ None
-unfit-none kind entries targets k all = ap (λ (ts : List Target). first_unfit kind ts entries) (drop_all k targets all)
+pub unfit-none : (why : Unfit) (kind : Form) (entries : List Node) (targets : List Target) (k : ℕ) → length targets ≤ k → first_unfit why kind (drop k targets) entries ≡ None
+unfit-none why kind entries targets k all = ap (λ (ts : List Target). first_unfit why kind ts entries) (drop_all k targets all)
+
+-- whether this is the reason, of one that there may be
+abbrev is_for : Unfit → Option Unfit → Bool
+is_for why None = false
+is_for NoExtractor (Some NoExtractor) = true
+is_for NoExtractor (Some BadConfig) = false
+is_for BadConfig (Some NoExtractor) = false
+is_for BadConfig (Some BadConfig) = true
+
+unfit-for : (why : Unfit) (kind : Form) (entries : List Node) (t : Target) → names_unfit why kind entries t ≡ is_for why (unfit_of kind entries t)
+unfit-for why kind entries t = named why (slice_get entries t.id)
+  where
+    same : (w : Unfit) (read : Result Coding Unfit) → is_unfit w read ≡ is_for w (result_err read)
+    same NoExtractor (Ok coding) = refl
+    same BadConfig (Ok coding) = refl
+    same NoExtractor (Err NoExtractor) = refl
+    same NoExtractor (Err BadConfig) = refl
+    same BadConfig (Err NoExtractor) = refl
+    same BadConfig (Err BadConfig) = refl
+
+    named : (w : Unfit) (found : Option Node) → option_map_or (λ (e : Node). is_unfit w (coding_of kind e)) found false ≡ is_for w (option_map_or (λ (e : Node). result_err (coding_of kind e)) found None)
+    named NoExtractor None = refl
+    named BadConfig None = refl
+    named w (Some e) = same w (coding_of kind e)
+
+-- What is left of targets to be looked at: no codec without a form was met, and this is the first bad configuration.
+pub record AreLeft (kind : Form) (targets : List Target) (entries : List Node) (k : ℕ) (bad_config : Option ℕ) : Type 0 where
+  pub codec : first_unfit NoExtractor kind targets entries ≡ first_unfit NoExtractor kind (drop k targets) entries
+  pub config : first_unfit BadConfig kind targets entries ≡ option_or bad_config (first_unfit BadConfig kind (drop k targets) entries)
+
+pub AreLeft-begins : (kind : Form) (targets : List Target) (entries : List Node) → AreLeft kind targets entries 0 None
+AreLeft-begins kind targets entries = record { codec = refl; config = refl }
+
+-- the next one is taken so
+pub AreLeft-passed : (kind : Form) (targets : List Target) (entries : List Node) (k : ℕ) (bad_config : Option ℕ) (t : Target) → k < length targets → t ≡ get_or targets k t → unfit_of kind entries t ≡ None → AreLeft kind targets entries k bad_config → AreLeft kind targets entries (k + 1) bad_config
+AreLeft-passed kind targets entries k bad_config t below is fine left = record {
+  codec = left.codec ∙ unfit-passed NoExtractor kind entries targets k t below is (unfit-for NoExtractor kind entries t ∙ ap (is_for NoExtractor) fine);
+  config = left.config
+      ∙ ap (option_or bad_config) (unfit-passed BadConfig kind entries targets k t below is (unfit-for BadConfig kind entries t ∙ ap (is_for BadConfig) fine));
+}
+
+-- or has a bad configuration
+pub AreLeft-config : (kind : Form) (targets : List Target) (entries : List Node) (k : ℕ) (bad_config : Option ℕ) (t : Target) → k < length targets → t ≡ get_or targets k t → unfit_of kind entries t ≡ Some BadConfig → AreLeft kind targets entries k bad_config → AreLeft kind targets entries (k + 1) (option_or bad_config (Some t.id))
+AreLeft-config kind targets entries k bad_config t below is bad left = record {
+  codec = left.codec ∙ unfit-passed NoExtractor kind entries targets k t below is (unfit-for NoExtractor kind entries t ∙ ap (is_for NoExtractor) bad);
+  config = left.config
+      ∙ ap (option_or bad_config) (unfit-found BadConfig kind entries targets k t below is (unfit-for BadConfig kind entries t ∙ ap (is_for BadConfig) bad))
+      ∙ first bad_config (first_unfit BadConfig kind (drop (k + 1) targets) entries);
+}
+  where
+    first : (o rest : Option ℕ) → option_or o (Some t.id) ≡ option_or (option_or o (Some t.id)) rest
+    first None rest = refl
+    first (Some n) rest = refl
+
+-- or a codec without a form
+pub AreLeft-codec : (kind : Form) (targets : List Target) (entries : List Node) (k : ℕ) (bad_config : Option ℕ) (t : Target) → k < length targets → t ≡ get_or targets k t → unfit_of kind entries t ≡ Some NoExtractor → AreLeft kind targets entries k bad_config → refusal_of (Some t.id) None ≡ refusal_taken (Some kind) targets entries
+AreLeft-codec kind targets entries k bad_config t below is unknown left =
+    ap (λ (n : Option ℕ). refusal_of n (first_unfit BadConfig kind targets entries))
+    (sym (left.codec ∙ unfit-found NoExtractor kind entries targets k t below is (unfit-for NoExtractor kind entries t ∙ ap (is_for NoExtractor) unknown)))
+
+-- at last none is left
+pub AreLeft-ends : (kind : Form) (targets : List Target) (entries : List Node) (k : ℕ) (bad_config : Option ℕ) → length targets ≤ k → AreLeft kind targets entries k bad_config → refusal_of None bad_config ≡ refusal_taken (Some kind) targets entries
+AreLeft-ends kind targets entries k bad_config all left =
+    ap (λ (n : Option ℕ). refusal_of n bad_config) (sym (left.codec ∙ unfit-none NoExtractor kind entries targets k all))
+    ∙ ap (refusal_of (first_unfit NoExtractor kind targets entries))
+    (sym (left.config ∙ ap (option_or bad_config) (unfit-none BadConfig kind entries targets k all) ∙ alone bad_config))
+  where
+    alone : (o : Option ℕ) → option_or o None ≡ o
+    alone None = refl
+    alone (Some n) = refl
 
 -- ---- their names
 
-pub outputs_for-others : (kind : Taken) (targets : List Target) (entries : List Node) (name : List ℕ) → AreOthers name (names_of targets) → AreOthers name (names_in (outputs_for kind targets entries))
+pub outputs_for-others : (kind : Form) (targets : List Target) (entries : List Node) (name : List ℕ) → AreOthers name (names_of targets) → AreOthers name (names_in (outputs_for kind targets entries))
 outputs_for-others kind [] entries name others = tt
 outputs_for-others kind (t ∷ ts) entries name others = step (slice_get entries t.id) (outputs_for-others kind ts entries name others.1)
   where
+    coded : (e : Node) (read : Result Coding Unfit) → AreOthers name (names_in (outputs_for kind ts entries)) → AreOthers name (names_in (track_output t.name e read ++ outputs_for kind ts entries))
+    coded e (Err why) rest = rest
+    coded e (Ok coding) rest = (others.0, rest)
+
     step : (entry : Option Node) → AreOthers name (names_in (outputs_for kind ts entries)) → AreOthers name (names_in (output_for kind t entry ++ outputs_for kind ts entries))
     step None rest = rest
-    step (Some e) rest = (others.0, rest)
+    step (Some e) rest = coded e (coding_of kind e) rest
 
-pub outputs_for-apart : (kind : Taken) (targets : List Target) (entries : List Node) → AreApart (names_of targets) → AreApart (names_in (outputs_for kind targets entries))
+pub outputs_for-apart : (kind : Form) (targets : List Target) (entries : List Node) → AreApart (names_of targets) → AreApart (names_in (outputs_for kind targets entries))
 outputs_for-apart kind [] entries apart = tt
 outputs_for-apart kind (t ∷ ts) entries apart = step (slice_get entries t.id) (outputs_for-others kind ts entries t.name apart.0) (outputs_for-apart kind ts entries apart.1)
   where
+    coded : (e : Node) (read : Result Coding Unfit) → AreOthers t.name (names_in (outputs_for kind ts entries)) → AreApart (names_in (outputs_for kind ts entries)) → AreApart (names_in (track_output t.name e read ++ outputs_for kind ts entries))
+    coded e (Err why) others rest = rest
+    coded e (Ok coding) others rest = (others, rest)
+
     step : (entry : Option Node) → AreOthers t.name (names_in (outputs_for kind ts entries)) → AreApart (names_in (outputs_for kind ts entries)) → AreApart (names_in (output_for kind t entry ++ outputs_for kind ts entries))
     step None others rest = rest
-    step (Some e) others rest = (others, rest)
+    step (Some e) others rest = coded e (coding_of kind e) others rest
 
 -- ---- their steps
 
@@ -119,17 +203,23 @@ step-small : (duration : Option ℕ) → IfSome duration (λ d. d < too_long) �
 step-small None short = omega arith
 step-small (Some d) short = short
 
-pub outputs_for-steps : (kind : Taken) (targets : List Target) (entries : List Node) → All IsTrack entries → All HasSmallStep (outputs_for kind targets entries)
+pub outputs_for-steps : (kind : Form) (targets : List Target) (entries : List Node) → All IsTrack entries → All IsReady (outputs_for kind targets entries)
 outputs_for-steps kind [] entries each = λ k d below. absurd (omega arith)
 outputs_for-steps kind (t ∷ ts) entries each = step (slice_get entries t.id) (track-at entries t.id each) (outputs_for-steps kind ts entries each)
   where
-    behind : (o : TrackOutput) (os : List TrackOutput) → HasSmallStep o → All HasSmallStep os → (k : ℕ) (d : TrackOutput) → k < suc (length os) → HasSmallStep (get_or (o ∷ os) k d)
+    behind : (o : TrackOutput) (os : List TrackOutput) → IsReady o → All IsReady os → (k : ℕ) (d : TrackOutput) → k < suc (length os) → IsReady (get_or (o ∷ os) k d)
     behind o os small rest zero d below = small
     behind o os small rest (suc k) d below = rest k d (omega arith)
 
-    step : (entry : Option Node) → IfSome entry IsTrack → All HasSmallStep (outputs_for kind ts entries) → All HasSmallStep (output_for kind t entry ++ outputs_for kind ts entries)
+    coded : (e : Node) (read : Result Coding Unfit) → IsTrack e → coding_of kind e ≡ read → All IsReady (outputs_for kind ts entries) → All IsReady (track_output t.name e read ++ outputs_for kind ts entries)
+    coded e (Err why) track is rest = rest
+    coded e (Ok coding) track is rest =
+        behind (output_with t.name e coding) (outputs_for kind ts entries)
+        (record { step = step-small (default_duration_of e) track.duration; can = coding_of-can kind e coding is }) rest
+
+    step : (entry : Option Node) → IfSome entry IsTrack → All IsReady (outputs_for kind ts entries) → All IsReady (output_for kind t entry ++ outputs_for kind ts entries)
     step None track rest = rest
-    step (Some e) track rest = behind (track_output kind t.name e) (outputs_for kind ts entries) (step-small (default_duration_of e) track.duration) rest
+    step (Some e) track rest = coded e (coding_of kind e) track refl rest
 
 -- the entries of tracks that were read are such
 pub each-entry : (tracks : List Track) → AreRead tracks → All IsTrack (map entry_in tracks)
@@ -146,5 +236,5 @@ each-entry tracks read = mapped tracks read.each
 -- ---- of a job
 
 -- the outputs that a job comes to
-pub job_outputs-taken : (job : Job) (kind : Taken) (entries : List Node) → taken_of job ≡ Some kind → outputs_for kind (targets_of job) entries ≡ job_outputs job entries
-job_outputs-taken job kind entries is = sym (ap (λ (taken : Option Taken). outputs_taken taken (targets_of job) entries) is)
+pub job_outputs-taken : (job : Job) (kind : Form) (entries : List Node) → form_of job ≡ Some kind → outputs_for kind (targets_of job) entries ≡ job_outputs job entries
+job_outputs-taken job kind entries is = sym (ap (λ (form : Option Form). outputs_taken form (targets_of job) entries) is)

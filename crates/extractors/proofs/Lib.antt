@@ -1,9 +1,13 @@
 pub mod BlocksLemmas
+pub mod BadFramesLemmas
+pub mod CodecLemmas
+pub mod StreamLemmas
 pub mod CuesLemmas
 pub mod FramesLemmas
 pub mod JobLemmas
 pub mod MakeLemmas
 pub mod TargetLemmas
+pub mod UnitsLemmas
 pub mod WalkLemmas
 pub mod ContentLemmas
 pub mod WholeLemmas

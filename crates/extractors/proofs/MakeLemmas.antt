@@ -13,7 +13,7 @@ use Rattle.mkv_outputs.specs.declared.sink.Sink.{Sink}
 use Rattle.mkv_outputs.proofs.FilesLemmas.{MadeSince-kept}
 use Rattle.mkv_outputs.proofs.GivenLemmas.{HaveBeenGiven-apart, HaveBeenGiven-names, length_of_map}
 use Rattle.mkv_outputs.proofs.StartsLemmas.{AreBegun-then, IsBegun-whole}
-use Rattle.extractors.specs.Content.{head_of, names_in, output_of, outputs_of}
+use Rattle.extractors.specs.Content.{names_in, output_of, outputs_of}
 use Rattle.extractors.specs.declared.track_output.TrackOutput.{TrackOutput}
 use Rattle.extractors.proofs.ContentLemmas.{names_of-outputs, output_of-none}
 use Rattle.extractors.specs.Walks.{Makes, Writes, WritesAndReads}
@@ -70,14 +70,14 @@ count-next list k name below count is =
     omega (arith, first, more, is)
 
 -- another output is made and given its head
-pub made-next : (list : List TrackOutput) (k : ℕ) (o : TrackOutput) → k < length list → o ≡ get_or list k o → with_more k (head_of o.format) (with_empty o.name (outputs_of (take k list) [])) ≡ outputs_of (take (k + 1) list) []
+pub made-next : (list : List TrackOutput) (k : ℕ) (o : TrackOutput) → k < length list → o ≡ get_or list k o → with_more k o.head (with_empty o.name (outputs_of (take k list) [])) ≡ outputs_of (take (k + 1) list) []
 made-next list k o below is =
-    with_more-last (outputs_of (take k list) []) (empty o.name) k (head_of o.format) (length-first list k (omega arith))
+    with_more-last (outputs_of (take k list) []) (empty o.name) k o.head (length-first list k (omega arith))
     ∙ ap (λ (last : Output). outputs_of (take k list) [] ++ last ∷ []) (sym (output_of-none o))
     ∙ sym (outputs_of-next list k o below is)
 
 -- by the octets of its name and its head
-pub made-next-as : (list : List TrackOutput) (k : ℕ) (o : TrackOutput) (name head : List ℕ) → k < length list → o ≡ get_or list k o → name ≡ o.name → head ≡ head_of o.format → with_more k head (with_empty name (outputs_of (take k list) [])) ≡ outputs_of (take (k + 1) list) []
+pub made-next-as : (list : List TrackOutput) (k : ℕ) (o : TrackOutput) (name head : List ℕ) → k < length list → o ≡ get_or list k o → name ≡ o.name → head ≡ o.head → with_more k head (with_empty name (outputs_of (take k list) [])) ≡ outputs_of (take (k + 1) list) []
 made-next-as list k o name head below is named headed =
     ap (λ (n : List ℕ). with_more k head (with_empty n (outputs_of (take k list) []))) named
     ∙ ap (λ (h : List ℕ). with_more k h (with_empty o.name (outputs_of (take k list) []))) headed

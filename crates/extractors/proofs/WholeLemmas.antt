@@ -1,5 +1,5 @@
 -- A file that is made, written and closed.
-use Rattle.std.proofs.Common.{◌≡◌, ◌≢◌, ◌≤◌, ◌<◌, ℕ, ◌+◌, List, [], ◌∷◌, true, Result, Ok, Err, ◌⊎◌, refl, sym, ◌∙◌, ap, subst, arith}
+use Rattle.std.proofs.Common.{◌≡◌, ◌<◌, ℕ, List, [], ◌∷◌, true, Result, Ok, Err, ◌⊎◌, refl, sym, ◌∙◌, ap, subst, arith}
 use Rattle.mkv_io.specs.declared.outside.FileId.{FileId}
 use Rattle.mkv_io.specs.declared.outside.MakeFault.{MakeFault}
 use Rattle.mkv_io.specs.Contents.{with_appended}

@@ -1,38 +1,33 @@
 -- What a job takes of the tracks of a file: RFC 9559, section 5.1.4 (Tracks Element).
-use Rattle.std.specs.Prelude.{◌≤◌, ⊤, ℕ, Bool, true, false, not, List, [], ◌∷◌, map, codes, Option, Some, None, option_map, slice_get, unwrap_or}
+use Rattle.std.specs.Prelude.{◌≤◌, ⊤, ℕ, Bool, true, false, List, [], ◌∷◌, map, Option, Some, None, Result, Ok, Err, option_map, slice_get, unwrap_or}
 use Rattle.std.specs.List.{All, find, flat_map}
 use Rattle.std.specs.Option.{option_map_or}
-use Rattle.std.specs.Str.{bytes_eq}
+use Rattle.std.specs.Result.{result_err}
 use Rattle.mkv_io.specs.Names.{AreApart}
 use Rattle.word_values.specs.declared.job.Job.{Job}
 use Rattle.word_values.specs.declared.job.Job.TheVariants as jobs
-use Rattle.word_values.specs.declared.job.Form.TheVariants as form
+use Rattle.word_values.specs.declared.job.Form.{Form}
 use Rattle.word_values.specs.declared.job.Target.{Target}
-use Rattle.mkv_schema.specs.declared.ids.TheConstants.{CODEC_PRIVATE}
-use Rattle.tree_format.specs.Node.{Node, body_of}
-use Rattle.tree_format.specs.Values.{first_child}
-use Rattle.file_format.specs.Entry.{codec_of, default_duration_of, number_of}
+use Rattle.tree_format.specs.Node.{Node}
+use Rattle.file_format.specs.Entry.{default_duration_of, number_of}
 use Rattle.file_format.specs.Encoding.{prefix_of}
-use Rattle.extractors.specs.declared.taken.Taken.{Taken}
-use Rattle.extractors.specs.declared.taken.Taken.TheVariants as taken
-use Rattle.extractors.specs.declared.track_output.Format.{Format}
-use Rattle.extractors.specs.declared.track_output.Format.TheVariants as format
+use Rattle.extractors.specs.Codec.{coding_of}
+use Rattle.extractors.specs.declared.frame_form.Coding.{Coding}
+use Rattle.extractors.specs.declared.frame_form.Refusal.{Refusal}
+use Rattle.extractors.specs.declared.frame_form.Unfit.{Unfit}
+use Rattle.extractors.specs.declared.frame_form.Unfit.TheVariants.{NoExtractor, BadConfig}
 use Rattle.extractors.specs.declared.track_output.TrackOutput.{TrackOutput}
 
--- what a job takes of tracks; the other jobs take something else
-abbrev pub taken_of : Job → Option Taken
-taken_of (jobs.Tracks form.Raw list) = Some taken.Raw
-taken_of (jobs.Tracks form.Full list) = Some taken.Full
-taken_of (jobs.Tracks form.SubRip list) = Some taken.SubRip
-taken_of (jobs.Timestamps list) = Some taken.Times
-taken_of (jobs.Attachments list) = None
-taken_of (jobs.Cues list) = None
-taken_of (jobs.Chapters name) = None
+-- what a job writes of the frames of tracks; the other jobs take something else
+abbrev pub form_of : Job → Option Form
+form_of (jobs.Tracks form list) = Some form
+form_of (jobs.Attachments list) = None
+form_of (jobs.Cues list) = None
+form_of (jobs.Chapters name) = None
 
 -- the tracks that a job names, and where what it takes of each goes
 abbrev pub targets_of : Job → List Target
 targets_of (jobs.Tracks form list) = list
-targets_of (jobs.Timestamps list) = list
 targets_of (jobs.Attachments list) = []
 targets_of (jobs.Cues list) = list
 targets_of (jobs.Chapters name) = []
@@ -44,7 +39,6 @@ names_of targets = map (λ (t : Target). t.name) targets
 -- the names of the files that a job writes
 abbrev pub names_for : Job → List (List ℕ)
 names_for (jobs.Tracks form list) = names_of list
-names_for (jobs.Timestamps list) = names_of list
 names_for (jobs.Attachments list) = names_of list
 names_for (jobs.Cues list) = names_of list
 names_for (jobs.Chapters name) = name ∷ []
@@ -52,7 +46,6 @@ names_for (jobs.Chapters name) = name ∷ []
 -- Attached files are counted from 1.
 abbrev pub AreNumbered : Job → Type 0
 AreNumbered (jobs.Tracks form list) = ⊤
-AreNumbered (jobs.Timestamps list) = ⊤
 AreNumbered (jobs.Attachments list) = All (λ (t : Target). 1 ≤ t.id) list
 AreNumbered (jobs.Cues list) = ⊤
 AreNumbered (jobs.Chapters name) = ⊤
@@ -62,66 +55,69 @@ pub record CanBeDone (job : Job) : Type 0 where
   pub apart : AreApart (names_for job)
   pub numbers : AreNumbered job
 
--- the CodecPrivate of a track, empty where it has none
-abbrev pub private_of : Node → List ℕ
-private_of entry = option_map_or body_of (first_child CODEC_PRIVATE entry) []
+-- a track isn't taken so, for this reason
+abbrev pub is_unfit : Unfit → Result Coding Unfit → Bool
+is_unfit why (Ok coding) = false
+is_unfit NoExtractor (Err NoExtractor) = true
+is_unfit NoExtractor (Err BadConfig) = false
+is_unfit BadConfig (Err NoExtractor) = false
+is_unfit BadConfig (Err BadConfig) = true
 
--- what is written of the frames of a track
-abbrev pub format_of : Taken → Node → Format
-format_of taken.Raw entry = format.Frames [] (prefix_of entry)
-format_of taken.Full entry = format.Frames (private_of entry) (prefix_of entry)
-format_of taken.SubRip entry = format.SubRip (prefix_of entry)
-format_of taken.Times entry = format.Times
+-- a target names such a track
+abbrev pub names_unfit : Unfit → Form → List Node → Target → Bool
+names_unfit why kind entries t = option_map_or (λ entry. is_unfit why (coding_of kind entry)) (slice_get entries t.id) false
 
--- the CodecID of tracks of SubRip texts
-abbrev pub subrip_codec : List ℕ
-subrip_codec = codes "S_TEXT/UTF8"
+-- why the track of a target isn't taken so, if it isn't; one that isn't there is passed
+abbrev pub unfit_of : Form → List Node → Target → Option Unfit
+unfit_of kind entries t = option_map_or (λ entry. result_err (coding_of kind entry)) (slice_get entries t.id) None
 
--- this can be written of a track: texts only where it has them
-abbrev pub fits : Taken → Node → Bool
-fits taken.Raw entry = true
-fits taken.Full entry = true
-fits taken.SubRip entry = bytes_eq (codec_of entry) subrip_codec
-fits taken.Times entry = true
+-- the number, from 0, of the first track that is named and isn't taken so, for this reason
+abbrev pub first_unfit : Unfit → Form → List Target → List Node → Option ℕ
+first_unfit why kind targets entries = option_map (λ (t : Target). t.id) (find (names_unfit why kind entries) targets)
 
--- a target names a track of which this can't be written
-abbrev pub is_unfit : Taken → List Node → Target → Bool
-is_unfit kind entries t = option_map_or (λ entry. not (fits kind entry)) (slice_get entries t.id) false
+-- A codec without a form is told before a bad configuration.
+abbrev pub refusal_of : Option ℕ → Option ℕ → Option Refusal
+refusal_of (Some track) bad_config = Some (record { why = NoExtractor; track = track })
+refusal_of None (Some track) = Some (record { why = BadConfig; track = track })
+refusal_of None None = None
 
--- the number, from 0, of the first track that is named and of which this can't be written
-abbrev pub first_unfit : Taken → List Target → List Node → Option ℕ
-first_unfit kind targets entries = option_map (λ (t : Target). t.id) (find (is_unfit kind entries) targets)
-
--- the output of a target whose track has this entry
-abbrev pub track_output : Taken → List ℕ → Node → TrackOutput
-track_output kind name entry = record {
+-- the output of a name, which takes the frames of the track of this entry so
+abbrev pub output_with : List ℕ → Node → Coding → TrackOutput
+output_with name entry coding = record {
   name = name;
   track = number_of entry;
   step = unwrap_or (default_duration_of entry) 0;
-  format = format_of kind entry;
+  head = coding.head;
+  prefix = prefix_of entry;
+  form = coding.form;
 }
 
+-- it, if the track is taken so
+abbrev pub track_output : List ℕ → Node → Result Coding Unfit → List TrackOutput
+track_output name entry (Err why) = []
+track_output name entry (Ok coding) = output_with name entry coding ∷ []
+
 -- the output of a target, if the file has the track: by its place in Tracks, from 0
-abbrev pub output_for : Taken → Target → Option Node → List TrackOutput
+abbrev pub output_for : Form → Target → Option Node → List TrackOutput
 output_for kind t None = []
-output_for kind t (Some entry) = track_output kind t.name entry ∷ []
+output_for kind t (Some entry) = track_output t.name entry (coding_of kind entry)
 
 -- the outputs of targets, in their order
-abbrev pub outputs_for : Taken → List Target → List Node → List TrackOutput
+abbrev pub outputs_for : Form → List Target → List Node → List TrackOutput
 outputs_for kind targets entries = flat_map (λ (t : Target). output_for kind t (slice_get entries t.id)) targets
 
-abbrev pub outputs_taken : Option Taken → List Target → List Node → List TrackOutput
+abbrev pub outputs_taken : Option Form → List Target → List Node → List TrackOutput
 outputs_taken None targets entries = []
 outputs_taken (Some kind) targets entries = outputs_for kind targets entries
 
 -- the outputs that a job comes to, where these are the entries of the tracks
 abbrev pub job_outputs : Job → List Node → List TrackOutput
-job_outputs job entries = outputs_taken (taken_of job) (targets_of job) entries
+job_outputs job entries = outputs_taken (form_of job) (targets_of job) entries
 
--- the number, from 0, of the first track that a job names and that it can't take so
-abbrev pub unfit_taken : Option Taken → List Target → List Node → Option ℕ
-unfit_taken None targets entries = None
-unfit_taken (Some kind) targets entries = first_unfit kind targets entries
+-- why a job is refused for one of these tracks
+abbrev pub refusal_taken : Option Form → List Target → List Node → Option Refusal
+refusal_taken None targets entries = None
+refusal_taken (Some kind) targets entries = refusal_of (first_unfit NoExtractor kind targets entries) (first_unfit BadConfig kind targets entries)
 
-abbrev pub job_unfit : Job → List Node → Option ℕ
-job_unfit job entries = unfit_taken (taken_of job) (targets_of job) entries
+abbrev pub job_refusal : Job → List Node → Option Refusal
+job_refusal job entries = refusal_taken (form_of job) (targets_of job) entries

@@ -3,9 +3,12 @@ pub mod Cues
 pub mod Source
 pub mod Walks
 pub mod Chapters
+pub mod BadFrames
+pub mod Codec
 pub mod Content
 pub mod Frames
 pub mod Job
+pub mod Laws
 pub mod Times
 pub mod Whole
 pub mod Lines

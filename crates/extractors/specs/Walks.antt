@@ -11,6 +11,7 @@ use Rattle.mkv_outputs.specs.Sinks.{AreOpen, HaveBeenGiven, ids_of, names_under}
 use Rattle.mkv_outputs.specs.Starts.{StandsInPart}
 use Rattle.mkv_outputs.specs.declared.sink.Sink.{Sink}
 use Rattle.extractors.specs.Content.{counted, entries_from, outputs_of}
+use Rattle.extractors.specs.Codec.{CanWrite}
 use Rattle.extractors.specs.Frames.{Frame, frames_for, frames_of}
 use Rattle.extractors.specs.declared.track_output.TrackOutput.{TrackOutput}
 use Rattle.extractors.specs.declared.frames.Framed.{Framed}
@@ -31,11 +32,12 @@ count_in o b = length (frames_for o.step o.track b)
 
 -- what a block adds to an output whose next frame has this number: what is written of its frames
 abbrev pub piece : TrackOutput → ℕ → Block → List ℕ
-piece o n b = entries_from o.format n (frames_for o.step o.track b)
+piece o n b = entries_from o n (frames_for o.step o.track b)
 
--- From one frame to the next it isn't too long: a DefaultDuration is below 2^48.
-abbrev pub HasSmallStep : TrackOutput → Type 0
-HasSmallStep o = o.step < 2 ^ 48
+-- From one frame to the next it isn't too long: a DefaultDuration is below 2^48. And what its form says can be written.
+pub record IsReady (o : TrackOutput) : Type 0 where
+  pub step : o.step < 2 ^ 48
+  pub can : CanWrite o.form
 
 -- ---- many blocks
 

@@ -1,20 +1,22 @@
 //! The blocks of a file are written into the outputs.
 
-ghost use Rattle.std.specs.Prelude.{◌≡◌, ◌<◌, ◌+◌, length, IfOk};
+ghost use Rattle.std.specs.Prelude.{◌≡◌, ◌<◌, ◌+◌, length, IfOk, OnOk};
 ghost use Rattle.std.specs.List.{All};
 ghost use Rattle.mkv_io.specs.Faults.{HasCause, is_make_failure};
 ghost use Rattle.mkv_io.specs.Names.{AreOthers};
 ghost use Rattle.mkv_io.specs.Sources.{IfTold, file_size, live_files};
 ghost use Rattle.mkv_io.specs.Ends.{HasRemuxCause};
-ghost use Rattle.block_format.specs.Events.{blocks_of, damages_of};
+ghost use Rattle.block_format.specs.Events.{blocks_of};
 ghost use Rattle.block_records.specs.Buffered.{block_of};
 ghost use Rattle.cluster_reader.specs.Reading.{CanRead, left_of};
-ghost use Rattle.cluster_reader.specs.ToldDamages.{told_damages};
+ghost use Rattle.extractors.specs.BadFrames.{TellsMore, bad_in, told_of};
 ghost use Rattle.extractors.specs.Content.{counted};
 ghost use Rattle.mkv_outputs.specs.Outputs.{with_more};
 ghost use Rattle.mkv_outputs.specs.Sinks.{AreOpen, Gives, WritesOutputs, names_under};
-ghost use Rattle.extractors.specs.Walks.{GivesBlock, GivesBlocks, HasSmallStep, ReadsFew, WritesAndReads, count_in, piece};
+ghost use Rattle.extractors.specs.Walks.{GivesBlock, GivesBlocks, IsReady, ReadsFew, WritesAndReads, count_in, piece};
 
+use crate::bad_frames::add_bad_frames;
+use crate::extracted::Extracted;
 use crate::frames::{Scratch, give_frames};
 use crate::track_output::TrackOutput;
 use cluster_reader::{Cursor, Damages, Step};
@@ -35,7 +37,7 @@ fn give_to<F: Files>(
 ) -> Result<u64, MakeFault>
     requires below { k < length outputs.old }
     requires open { AreOpen F.Reads files.old outputs.old }
-    requires step { HasSmallStep output.now }
+    requires ready { IsReady output.now }
     ensures gives { Gives F.Files.own files.old files.new outputs.old outputs.new
         (with_more k (piece output.now number (block_of cursor.now.block))) result }
     ensures number { IfOk result (λ next. next ≡ counted (number + count_in output.now (block_of cursor.now.block))) }
@@ -60,7 +62,7 @@ fn give_block<F: Files>(
     requires count { length list.now ≡ length outputs.old }
     requires numbers { length list.now ≡ length numbers.old.items }
     requires open { AreOpen F.Reads files.old outputs.old }
-    requires steps { All HasSmallStep list.now }
+    requires steps { All IsReady list.now }
     ensures gives { GivesBlock F.Files.own list.now files.old files.new outputs.old outputs.new
         numbers.old.items numbers.new.items (block_of cursor.now.block) result }
     ensures count { length numbers.new.items ≡ length numbers.old.items }
@@ -73,37 +75,72 @@ fn give_block<F: Files>(
     Ok(())
 }
 
-/// Gives all blocks that a cursor has left to the outputs of their tracks, which have none yet, and answers the damages.
+/// Tells the bad frames of a block, and gives the others to the outputs of its track.
+fn take_block<F: Files>(
+    list: &[TrackOutput],
+    outputs: &mut Outputs,
+    files: &mut F,
+    numbers: &mut Vec<u64>,
+    cursor: &Cursor,
+    scratch: &mut Scratch,
+    bad: &mut Damages,
+) -> Result<(), MakeFault>
+    requires count { length list.now ≡ length outputs.old }
+    requires numbers { length list.now ≡ length numbers.old.items }
+    requires open { AreOpen F.Reads files.old outputs.old }
+    requires ready { All IsReady list.now }
+    ensures gives { GivesBlock F.Files.own list.now files.old files.new outputs.old outputs.new
+        numbers.old.items numbers.new.items (block_of cursor.now.block) result }
+    ensures count { length numbers.new.items ≡ length numbers.old.items }
+    ensures tells { OnOk result (TellsMore bad.old bad.new (bad_in list.now (block_of cursor.now.block))) }
+    ensures only { WritesOutputs F.Reads F.Files.own files.old files.new outputs.old outputs.new }
+    ensures cause { HasCause is_make_failure (F.writing_faults files.old) (F.writing_faults files.new) result }
+{
+    add_bad_frames(list, cursor, scratch, bad)?;
+    give_block(list, outputs, files, numbers, cursor, scratch)
+}
+
+/// Gives all blocks that a cursor has left to the outputs of their tracks, which have none yet, and answers what is wrong
+/// with the file.
 pub fn write_blocks<F: Files>(
     alloc: Global,
     list: &[TrackOutput],
     outputs: &mut Outputs,
     files: &mut F,
     cursor: &mut Cursor,
-) -> Result<Damages, RemuxEnd>
+) -> Result<Extracted, RemuxEnd>
     requires count { length list.now ≡ length outputs.old }
     requires open { AreOpen F.Reads files.old outputs.old }
-    requires steps { All HasSmallStep list.now }
+    requires steps { All IsReady list.now }
     requires stands { CanRead (live_files F.Reads files.old) cursor.old }
     requires other { AreOthers (F.holder files.old cursor.old.file.n) (names_under F.Files.own files.old outputs.old) }
     ensures gives { IfTold F.Reads files.old cursor.old.file (λ bytes.
         GivesBlocks F.Files.own list.now files.old files.new outputs.old outputs.new (blocks_of (left_of bytes cursor.old)) result) }
-    ensures damages { IfTold F.Reads files.old cursor.old.file (λ bytes.
-        IfOk result (λ damages. damages ≡ told_damages (damages_of (left_of bytes cursor.old)))) }
+    ensures tells { IfTold F.Reads files.old cursor.old.file (λ bytes.
+        IfOk result (λ extracted. extracted ≡ told_of list.now (left_of bytes cursor.old))) }
     ensures walks { WritesAndReads F.Reads F.Files.own files.old files.new outputs.old outputs.new }
     ensures cause { HasRemuxCause F.Reads F.Files.own files.old files.new result }
     ensures octets { ReadsFew (file_size F.Reads files.old cursor.old.file) (F.octets_read files.old) (F.octets_read files.new) result }
 {
     let mut scratch = Scratch::new(alloc);
     let mut numbers = vec![in alloc; 1; list.len()]?;
-    let mut damages = Damages::new(alloc)?;
+    let mut told = Extracted::new(alloc)?;
     'steps: loop {
         match cursor.advance(files)? {
             Step::Block => {
-                give_block(list, outputs, files, &mut numbers, cursor, &mut scratch)?
+                let bad = &mut told.bad_frames;
+                take_block(
+                    list,
+                    outputs,
+                    files,
+                    &mut numbers,
+                    cursor,
+                    &mut scratch,
+                    bad,
+                )?
             },
-            Step::Damaged(damage) => damages.add(damage),
-            Step::End => return Ok(damages),
+            Step::Damaged(damage) => told.damages.add(damage),
+            Step::End => return Ok(told),
         }
     }
 }

@@ -7,20 +7,21 @@ ghost use Rattle.mkv_io.specs.Names.{AreApart, AreOthers};
 ghost use Rattle.mkv_io.specs.Sources.{IfTold, file_size, live_files};
 ghost use Rattle.mkv_io.specs.Writing.{KeepsOthers};
 ghost use Rattle.mkv_io.specs.Ends.{HasRemuxCause};
-ghost use Rattle.block_format.specs.Events.{blocks_of, damages_of};
+ghost use Rattle.block_format.specs.Events.{blocks_of};
 ghost use Rattle.cluster_reader.specs.Reading.{CanRead, left_of};
-ghost use Rattle.cluster_reader.specs.ToldDamages.{told_damages};
 ghost use Rattle.mkv_outputs.specs.Sinks.{AreOpen, HaveBeenGiven, MadeSince};
-ghost use Rattle.extractors.specs.Content.{head_of, names_in, outputs_of};
-ghost use Rattle.extractors.specs.Job.{names_of, taken_of, targets_of};
+ghost use Rattle.extractors.specs.BadFrames.{told_of};
+ghost use Rattle.extractors.specs.Content.{names_in, outputs_of};
+ghost use Rattle.extractors.specs.Job.{form_of, names_of, targets_of};
 ghost use Rattle.extractors.specs.Source.{AreUsable, IsSource, events_in, outputs_in};
-ghost use Rattle.extractors.specs.Walks.{HasSmallStep, Makes, ReadsFew, Writes};
+ghost use Rattle.extractors.specs.Walks.{IsReady, Makes, ReadsFew, Writes};
 
 use crate::blocks::write_blocks;
-use crate::job::{taken_of, targets_of, track_outputs};
+use crate::extracted::Extracted;
+use crate::job::{form_of, targets_of, track_outputs};
 use crate::source::Source;
-use crate::track_output::{Format, TrackOutput};
-use cluster_reader::{Cursor, Damages};
+use crate::track_output::TrackOutput;
+use cluster_reader::Cursor;
 use meta_records::scale_of;
 use mkv_io::{Files, MakeFault, RemuxEnd};
 use mkv_outputs::Outputs;
@@ -28,7 +29,8 @@ use std::alloc::Global;
 use word_values::Job;
 
 /// Takes frames of tracks, or their times, out of a file, each target into a file of its own, and answers what
-/// is wrong with the file that they are taken from. A target whose track the file hasn't makes no file.
+/// is wrong with the file that they are taken from. A target whose track the file hasn't makes no file; nor does one whose
+/// track can't be taken so, of which `job_refusal` tells. A frame that its codec has no form for is left out.
 ///
 /// The records of the source were read from its file; what is asked for can be taken of its tracks, whose frames
 /// can be used.
@@ -37,9 +39,9 @@ pub fn extract<F: Files>(
     files: &mut F,
     source: &Source,
     job: &Job,
-) -> Result<Damages, RemuxEnd>
+) -> Result<Extracted, RemuxEnd>
     requires source { IsSource F.Reads files.old source.now }
-    requires takes { IsSome (taken_of job.now) }
+    requires takes { IsSome (form_of job.now) }
     requires usable { AreUsable source.now (targets_of job.now) }
     requires apart { AreApart (names_of (targets_of job.now)) }
     requires other { AreOthers (F.holder files.old source.now.file.n) (names_of (targets_of job.now)) }
@@ -48,18 +50,18 @@ pub fn extract<F: Files>(
     // first part.
     ensures writes { IfTold F.Reads files.old source.now.file (λ bytes. Writes F.Files.own files.old files.new
         (outputs_of (outputs_in source.now job.now) (blocks_of (events_in source.now bytes))) result) }
-    ensures damages { IfTold F.Reads files.old source.now.file (λ bytes.
-        IfOk result (λ damages. damages ≡ told_damages (damages_of (events_in source.now bytes)))) }
+    ensures tells { IfTold F.Reads files.old source.now.file (λ bytes.
+        IfOk result (λ extracted. extracted ≡ told_of (outputs_in source.now job.now) (events_in source.now bytes))) }
 
     // No file stays open, whatever the answer.
     ensures kept { KeepsOthers F.Reads F.Files.own (names_in (outputs_in source.now job.now)) files.old files.new }
     ensures cause { HasRemuxCause F.Reads F.Files.own files.old files.new result }
     ensures octets { ReadsFew (file_size F.Reads files.old source.now.file) (F.octets_read files.old) (F.octets_read files.new) result }
 {
-    let Some(taken) = taken_of(job) else {
+    let Some(form) = form_of(job) else {
         unreachable!()
     };
-    let list = track_outputs(alloc, taken, targets_of(job), &source.tracks)?;
+    let list = track_outputs(alloc, form, targets_of(job), &source.tracks)?;
     let mut cursor = Cursor::start(alloc, &source.outline, source.file, scale_of(&source.info))?;
     write_tracks(alloc, &list, files, &mut cursor)
 }
@@ -70,15 +72,15 @@ fn write_tracks<F: Files>(
     list: &[TrackOutput],
     files: &mut F,
     cursor: &mut Cursor,
-) -> Result<Damages, RemuxEnd>
+) -> Result<Extracted, RemuxEnd>
     requires apart { AreApart (names_in list.now) }
-    requires steps { All HasSmallStep list.now }
+    requires steps { All IsReady list.now }
     requires stands { CanRead (live_files F.Reads files.old) cursor.old }
     requires other { AreOthers (F.holder files.old cursor.old.file.n) (names_in list.now) }
     ensures writes { IfTold F.Reads files.old cursor.old.file (λ bytes. Writes F.Files.own files.old files.new
         (outputs_of list.now (blocks_of (left_of bytes cursor.old))) result) }
-    ensures damages { IfTold F.Reads files.old cursor.old.file (λ bytes.
-        IfOk result (λ damages. damages ≡ told_damages (damages_of (left_of bytes cursor.old)))) }
+    ensures tells { IfTold F.Reads files.old cursor.old.file (λ bytes.
+        IfOk result (λ extracted. extracted ≡ told_of list.now (left_of bytes cursor.old))) }
     ensures kept { KeepsOthers F.Reads F.Files.own (names_in list.now) files.old files.new }
     ensures cause { HasRemuxCause F.Reads F.Files.own files.old files.new result }
     ensures octets { ReadsFew (file_size F.Reads files.old cursor.old.file) (F.octets_read files.old) (F.octets_read files.new) result }
@@ -96,36 +98,25 @@ fn write_all<F: Files>(
     outputs: &mut Outputs,
     files: &mut F,
     cursor: &mut Cursor,
-) -> Result<Damages, RemuxEnd>
+) -> Result<Extracted, RemuxEnd>
     requires none { outputs.old ≡ [] }
     requires apart { AreApart (names_in list.now) }
-    requires steps { All HasSmallStep list.now }
+    requires steps { All IsReady list.now }
     requires stands { CanRead (live_files F.Reads files.old) cursor.old }
     requires other { AreOthers (F.holder files.old cursor.old.file.n) (names_in list.now) }
     ensures writes { IfTold F.Reads files.old cursor.old.file (λ bytes. Writes F.Files.own files.old files.new
         (outputs_of list.now (blocks_of (left_of bytes cursor.old))) result) }
-    ensures damages { IfTold F.Reads files.old cursor.old.file (λ bytes.
-        IfOk result (λ damages. damages ≡ told_damages (damages_of (left_of bytes cursor.old)))) }
+    ensures tells { IfTold F.Reads files.old cursor.old.file (λ bytes.
+        IfOk result (λ extracted. extracted ≡ told_of list.now (left_of bytes cursor.old))) }
     ensures open { AreOpen F.Reads files.new outputs.new }
     ensures made { MadeSince F.Reads F.Files.own (names_in list.now) files.old files.new outputs.new }
     ensures cause { HasRemuxCause F.Reads F.Files.own files.old files.new result }
     ensures octets { ReadsFew (file_size F.Reads files.old cursor.old.file) (F.octets_read files.old) (F.octets_read files.new) result }
 {
     make_all(list, outputs, files)?;
-    let damages = write_blocks(alloc, list, outputs, files, cursor)?;
+    let extracted = write_blocks(alloc, list, outputs, files, cursor)?;
     outputs.flush(files)?;
-    Ok(damages)
-}
-
-/// What stands before the first frame.
-fn head_of(format: &Format) -> &[u8]
-    ensures { result.now ≡ head_of format.now }
-{
-    match format {
-        Format::Frames { head, .. } => head.as_slice(),
-        Format::SubRip { .. } => &[],
-        Format::Times => b"# timestamp format v2\n",
-    }
+    Ok(extracted)
 }
 
 /// Makes the outputs, and gives each of them what stands before the first frame.
@@ -146,7 +137,7 @@ fn make_all<F: Files>(
     for k in 0..list.len() {
         let output = &list[k];
         outputs.add(files, output.name.as_str())?;
-        outputs.write(files, k, head_of(&output.format))?;
+        outputs.write(files, k, output.head.as_slice())?;
     }
     Ok(())
 }

@@ -1,18 +1,23 @@
 //! The frames of one block are written into one output.
 
-ghost use Rattle.std.specs.Prelude.{◌≡◌, ◌<◌, ◌+◌, ◌++◌, ◌^◌, length, IfOk, OnOk};
+ghost use Rattle.std.specs.Prelude.{◌≡◌, ◌<◌, ◌+◌, [], ◌++◌, ◌^◌, length, IfOk, OnOk, unwrap_or};
 ghost use Rattle.mkv_io.specs.Faults.{HasCause, is_make_failure};
 ghost use Rattle.block_records.specs.Buffered.{block_of};
 ghost use Rattle.mkv_outputs.specs.Outputs.{with_more};
 ghost use Rattle.mkv_outputs.specs.Sinks.{AreOpen, Gives, WritesOutputs};
+ghost use Rattle.elementary.specs.Aac.{IsAac, adts};
+ghost use Rattle.elementary.specs.Avc.{IsLengthSize, annex_b};
+ghost use Rattle.extractors.specs.Codec.{CanWrite};
 ghost use Rattle.extractors.specs.Content.{counted, entries_from, entry_of};
 ghost use Rattle.extractors.specs.Frames.{frames_in};
 ghost use Rattle.extractors.specs.Times.{time_line};
 ghost use Rattle.extractors.specs.Walks.{frame_of, text_entry};
 
+use crate::frame_form::FrameForm;
 use crate::times::{frame_time, push_time};
-use crate::track_output::{Format, TrackOutput};
+use crate::track_output::TrackOutput;
 use cluster_reader::Cursor;
+use elementary::{Aac, LONGEST_FRAME, START_CODE, adts_header, is_join, unit_at};
 use mkv_io::{Bytes, Files, MakeFault};
 use mkv_outputs::Outputs;
 use srt_texts::put_srt;
@@ -33,7 +38,7 @@ struct Framed<'a> {
 #[derive(Drop)]
 pub struct Scratch {
     line: String,
-    text: Bytes,
+    pub(crate) text: Bytes,
     entry: Bytes,
 }
 
@@ -45,6 +50,23 @@ impl Scratch {
             entry: Bytes::new(alloc),
         }
     }
+}
+
+/// Octets behind a prefix. They are put together only where the prefix has octets.
+pub(crate) fn whole<'a>(
+    text: &'a mut Bytes,
+    prefix: &[u8],
+    octets: &'a [u8],
+) -> Result<&'a [u8], AllocError>
+    ensures { IfOk result (λ all. all.now ≡ prefix.now ++ octets.now) }
+{
+    if prefix.is_empty() {
+        return Ok(octets);
+    }
+    text.truncate(0);
+    text.append(prefix)?;
+    text.append(octets)?;
+    Ok(text.as_slice())
 }
 
 /// Gives the frames of a block to the k-th output, of which the first has this number among those of its track, and
@@ -61,8 +83,9 @@ pub fn give_frames<F: Files>(
     requires below { k < length outputs.old }
     requires open { AreOpen F.Reads files.old outputs.old }
     requires step { output.now.step < 2 ^ 48 }
+    requires can { CanWrite output.now.form }
     ensures gives { Gives F.Files.own files.old files.new outputs.old outputs.new
-        (with_more k (entries_from output.now.format number (frames_in output.now.step (block_of cursor.now.block)))) result }
+        (with_more k (entries_from output.now number (frames_in output.now.step (block_of cursor.now.block)))) result }
     ensures number { IfOk result (λ next. next ≡ counted (number + length (frames_in output.now.step (block_of cursor.now.block)))) }
     ensures only { WritesOutputs F.Reads F.Files.own files.old files.new outputs.old outputs.new }
     ensures cause { HasCause is_make_failure (F.writing_faults files.old) (F.writing_faults files.new) result }
@@ -78,36 +101,46 @@ pub fn give_frames<F: Files>(
             time: frame_time(head, i, output.step),
             duration,
         };
-        give_frame(outputs, files, k, &output.format, frame, scratch)?;
+        give_frame(outputs, files, k, output, frame, scratch)?;
         at = end;
     }
     Ok(number.saturating_add(sizes.len() as u64))
 }
 
-/// Gives a frame to the k-th output.
+/// Gives a frame to the k-th output; nothing of a bad one.
 fn give_frame<F: Files>(
     outputs: &mut Outputs,
     files: &mut F,
     k: usize,
-    format: &Format,
+    output: &TrackOutput,
     frame: Framed<'_>,
     scratch: &mut Scratch,
 ) -> Result<(), MakeFault>
     requires below { k < length outputs.old }
     requires open { AreOpen F.Reads files.old outputs.old }
+    requires can { CanWrite output.now.form }
     ensures gives { Gives F.Files.own files.old files.new outputs.old outputs.new
-        (with_more k (entry_of format.now frame.entry.number (frame_of frame.entry))) result }
+        (with_more k (entry_of output.now frame.entry.number (frame_of frame.entry))) result }
     ensures only { WritesOutputs F.Reads F.Files.own files.old files.new outputs.old outputs.new }
     ensures cause { HasCause is_make_failure (F.writing_faults files.old) (F.writing_faults files.new) result }
 {
-    match format {
-        Format::Frames { prefix, .. } => {
-            give_behind(outputs, files, k, prefix.as_slice(), frame.octets)
+    let prefix = output.prefix.as_slice();
+    match output.form {
+        FrameForm::Plain => give_behind(outputs, files, k, prefix, frame.octets),
+        FrameForm::SubRip => give_text(outputs, files, k, prefix, frame, scratch),
+        FrameForm::AnnexB { length_size } => {
+            give_units(
+                outputs,
+                files,
+                k,
+                prefix,
+                frame.octets,
+                length_size,
+                &mut scratch.text,
+            )
         }
-        Format::SubRip { prefix } => {
-            give_text(outputs, files, k, prefix.as_slice(), frame, scratch)
-        }
-        Format::Times => give_time(outputs, files, k, frame.time, &mut scratch.line),
+        FrameForm::Adts { aac } => give_headed(outputs, files, k, prefix, frame.octets, &aac),
+        FrameForm::Time => give_time(outputs, files, k, frame.time, &mut scratch.line),
     }
 }
 
@@ -172,11 +205,8 @@ fn give_text<F: Files>(
 fn put_text(prefix: &[u8], frame: Framed<'_>, scratch: &mut Scratch) -> Result<(), AllocError>
     ensures { OnOk result (scratch.new.entry ≡ text_entry prefix.now frame.entry) }
 {
-    scratch.text.truncate(0);
-    scratch.text.append(prefix)?;
-    scratch.text.append(frame.octets)?;
+    let text = whole(&mut scratch.text, prefix, frame.octets)?;
     scratch.entry.truncate(0);
-    let text = scratch.text.as_slice();
     put_srt(
         frame.number,
         frame.time,
@@ -184,4 +214,78 @@ fn put_text(prefix: &[u8], frame: Framed<'_>, scratch: &mut Scratch) -> Result<(
         text,
         &mut scratch.entry,
     )
+}
+
+/// Gives the units of a frame behind a prefix, each behind a start code, to the k-th output; nothing of a bad frame.
+fn give_units<F: Files>(
+    outputs: &mut Outputs,
+    files: &mut F,
+    k: usize,
+    prefix: &[u8],
+    octets: &[u8],
+    length_size: u8,
+    text: &mut Bytes,
+) -> Result<(), MakeFault>
+    requires below { k < length outputs.old }
+    requires open { AreOpen F.Reads files.old outputs.old }
+    requires size { IsLengthSize length_size }
+    ensures gives { Gives F.Files.own files.old files.new outputs.old outputs.new
+        (with_more k (unwrap_or (annex_b length_size (prefix.now ++ octets.now)) [])) result }
+    ensures only { WritesOutputs F.Reads F.Files.own files.old files.new outputs.old outputs.new }
+    ensures cause { HasCause is_make_failure (F.writing_faults files.old) (F.writing_faults files.new) result }
+{
+    let frame = whole(text, prefix, octets)?;
+    give_join(outputs, files, k, frame, length_size)
+}
+
+/// Gives the units of a frame, each behind a start code, to the k-th output; nothing of a bad frame.
+fn give_join<F: Files>(
+    outputs: &mut Outputs,
+    files: &mut F,
+    k: usize,
+    frame: &[u8],
+    length_size: u8,
+) -> Result<(), MakeFault>
+    requires below { k < length outputs.old }
+    requires open { AreOpen F.Reads files.old outputs.old }
+    requires size { IsLengthSize length_size }
+    ensures gives { Gives F.Files.own files.old files.new outputs.old outputs.new
+        (with_more k (unwrap_or (annex_b length_size frame.now) [])) result }
+    ensures only { WritesOutputs F.Reads F.Files.own files.old files.new outputs.old outputs.new }
+    ensures cause { HasCause is_make_failure (F.writing_faults files.old) (F.writing_faults files.new) result }
+{
+    if !is_join(frame, length_size) {
+        return Ok(());
+    }
+    let mut rest = frame;
+    while let Some((unit, behind)) = unit_at(length_size, rest) {
+        give_behind(outputs, files, k, &START_CODE, unit)?;
+        rest = behind;
+    }
+    Ok(())
+}
+
+/// Gives a frame behind a prefix, both behind a header, to the k-th output; nothing of a bad frame.
+fn give_headed<F: Files>(
+    outputs: &mut Outputs,
+    files: &mut F,
+    k: usize,
+    prefix: &[u8],
+    octets: &[u8],
+    aac: &Aac,
+) -> Result<(), MakeFault>
+    requires below { k < length outputs.old }
+    requires open { AreOpen F.Reads files.old outputs.old }
+    requires can { IsAac aac.now }
+    ensures gives { Gives F.Files.own files.old files.new outputs.old outputs.new
+        (with_more k (unwrap_or (adts aac.now (prefix.now ++ octets.now)) [])) result }
+    ensures only { WritesOutputs F.Reads F.Files.own files.old files.new outputs.old outputs.new }
+    ensures cause { HasCause is_make_failure (F.writing_faults files.old) (F.writing_faults files.new) result }
+{
+    let len = prefix.len().saturating_add(octets.len());
+    if len > LONGEST_FRAME {
+        return Ok(());
+    }
+    outputs.write(files, k, &adts_header(aac, len as u64))?;
+    give_behind(outputs, files, k, prefix, octets)
 }

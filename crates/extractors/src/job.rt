@@ -1,41 +1,27 @@
-//! What a job takes of tracks, and the outputs that it comes to.
+//! The outputs that a job comes to, or why it is refused.
 
-ghost use Rattle.std.specs.Prelude.{◌≡◌, map, Ok, IfOk, IfSome, slice_get};
-ghost use Rattle.std.specs.List.{All};
-ghost use Rattle.file_format.specs.Encoding.{prefix_of, usable_prefix};
+ghost use Rattle.std.specs.Prelude.{◌≡◌, map, IfOk, Some};
 ghost use Rattle.track_records.specs.Sound.{IsEntry};
 ghost use Rattle.track_records.specs.Track.{track_of};
-ghost use Rattle.extractors.specs.Job.{first_unfit, fits, format_of, is_unfit, job_unfit, outputs_for, private_of, taken_of, targets_of, track_output};
+ghost use Rattle.extractors.specs.Job.{form_of, job_refusal, output_with, outputs_for, refusal_of, refusal_taken, targets_of, unfit_of};
 ghost use Rattle.meta_records.specs.Records.{AreRead};
 ghost use Rattle.extractors.specs.Source.{AreUsableOf, IsUsable, entry_in};
 
-use crate::taken::Taken;
-use crate::track_output::{Format, TrackOutput};
-use mkv_io::{Bytes, List, Text};
-use mkv_schema::ids::CODEC_PRIVATE;
+use crate::coding::{bytes_of, coding_of};
+use crate::frame_form::{Coding, Refusal, Unfit};
+use crate::track_output::TrackOutput;
+use mkv_io::{List, Text};
 use std::alloc::{AllocError, Global};
 use track_records::{Track, usable};
 use word_values::{Form, Job, Target};
 
-/// What a job takes of tracks; None where it takes something else.
-pub fn taken_of(job: &Job) -> Option<Taken>
-    ensures { result ≡ taken_of job.now }
+/// What a job writes of the frames of tracks; None where it takes something else.
+pub fn form_of(job: &Job) -> Option<Form>
+    ensures { result ≡ form_of job.now }
 {
     match job {
-        Job::Tracks {
-            form: Form::Raw,
-            ..
-        } => Some(Taken::Raw),
-        Job::Tracks {
-            form: Form::Full,
-            ..
-        } => Some(Taken::Full),
-        Job::Tracks {
-            form: Form::SubRip,
-            ..
-        } => Some(Taken::SubRip),
-        Job::Timestamps { .. } => Some(Taken::Times),
-        _ => None,
+        Job::Tracks { form, .. } => Some(*form),
+        Job::Attachments { .. } | Job::Cues { .. } | Job::Chapters { .. } => None,
     }
 }
 
@@ -44,91 +30,47 @@ pub fn targets_of(job: &Job) -> &[Target]
     ensures { result.now ≡ targets_of job.now }
 {
     match job {
-        Job::Tracks { list, .. } | Job::Timestamps { list } | Job::Cues { list } => list.as_slice(),
+        Job::Tracks { list, .. } | Job::Cues { list } => list.as_slice(),
         Job::Attachments { .. } | Job::Chapters { .. } => &[],
     }
 }
 
-/// The outputs of targets, in their order. One whose track isn't there has none.
+/// The outputs of targets, in their order. One whose track isn't there, or isn't taken so, has none.
 pub fn track_outputs(
     alloc: Global,
-    taken: Taken,
+    form: Form,
     targets: &[Target],
     tracks: &List<Track>,
 ) -> Result<Vec<TrackOutput>, AllocError>
     requires read { AreRead tracks.now }
     requires usable { AreUsableOf (map entry_in tracks.now) targets.now }
-    ensures { IfOk result (λ list. list.items ≡ outputs_for taken targets.now (map entry_in tracks.now)) }
+    ensures { IfOk result (λ list. list.items ≡ outputs_for form targets.now (map entry_in tracks.now)) }
 {
     let mut list = Vec::new(alloc);
     for target in targets {
         let Some(track) = tracks.get(target.id as usize) else {
             continue;
         };
-        list.push(track_output(alloc, taken, &target.name, track)?)?;
+        let read = coding_of(alloc, form, track)?;
+        match read {
+            Ok(coding) => list.push(output_with(alloc, coding, &target.name, track)?)?,
+            Err(_) => continue,
+        }
     }
     Ok(list)
 }
 
-/// The number, from 0, of the first track that a job names and that it can't take so, since the track's codec has no form
-/// of its own that is known.
-pub fn job_unfit(job: &Job, tracks: &[Track]) -> Option<u64>
-    requires { AreRead tracks.now }
-    ensures { result ≡ job_unfit job.now (map entry_in tracks.now) }
-{
-    match taken_of(job) {
-        Some(taken) => first_unfit(taken, targets_of(job), tracks),
-        None => None,
-    }
-}
-
-/// The number of the first track that a target names and of which this can't be written. Tracks that aren't there
-/// are passed.
-fn first_unfit(taken: Taken, targets: &[Target], tracks: &[Track]) -> Option<u64>
-    requires { AreRead tracks.now }
-    ensures { result ≡ first_unfit taken targets.now (map entry_in tracks.now) }
-{
-    for target in targets {
-        if is_unfit(taken, target, tracks) {
-            return Some(target.id);
-        }
-    }
-    None
-}
-
-/// Whether a target names a track of which this can't be written.
-fn is_unfit(taken: Taken, target: &Target, tracks: &[Track]) -> bool
-    requires { AreRead tracks.now }
-    ensures { result ≡ is_unfit taken (map entry_in tracks.now) target.now }
-{
-    match tracks.get(target.id as usize) {
-        Some(track) => !fits(taken, track),
-        None => false,
-    }
-}
-
-/// Whether this can be written of a track.
-fn fits(taken: Taken, track: &Track) -> bool
-    requires { track.now ≡ track_of track.now.entry }
-    ensures { result ≡ fits taken track.now.entry }
-{
-    match taken {
-        Taken::SubRip => track.codec.as_str() == "S_TEXT/UTF8",
-        _ => true,
-    }
-}
-
 /// The output of this name, which takes the frames of a track.
-fn track_output(
+fn output_with(
     alloc: Global,
-    taken: Taken,
+    coding: Coding,
     name: &Text,
     track: &Track,
 ) -> Result<TrackOutput, AllocError>
     requires track { track.now ≡ track_of track.now.entry }
     requires sound { IsEntry track.now.entry }
     requires usable { IsUsable track.now.entry }
-    ensures { IfOk result (λ output. output ≡ track_output taken name.now track.now.entry) }
+    ensures { IfOk result (λ output. output ≡ output_with name.now track.now.entry coding) }
 {
     let Ok(prefix) = usable(track) else {
         unreachable!()
@@ -137,53 +79,82 @@ fn track_output(
         name: text_of(alloc, name.as_str())?,
         track: track.number,
         step: track.default_duration.unwrap_or(0),
-        format: format_of(alloc, taken, track, prefix)?,
+        head: coding.head,
+        prefix: bytes_of(alloc, prefix)?,
+        form: coding.form,
     })
 }
 
-/// What is written of the frames of a track, where this was taken from the front of each.
-fn format_of(
+/// Why a job is refused for a track that it names.
+pub fn job_refusal(
     alloc: Global,
-    taken: Taken,
-    track: &Track,
-    prefix: &[u8],
-) -> Result<Format, AllocError>
-    requires { prefix.now ≡ prefix_of track.now.entry }
-    ensures { IfOk result (λ format. format ≡ format_of taken track.now.entry) }
+    job: &Job,
+    tracks: &[Track],
+) -> Result<Option<Refusal>, AllocError>
+    requires { AreRead tracks.now }
+    ensures { IfOk result (λ refusal. refusal ≡ job_refusal job.now (map entry_in tracks.now)) }
 {
-    Ok(match taken {
-        Taken::Raw => Format::Frames {
-            head: Bytes::new(alloc),
-            prefix: bytes_of(alloc, prefix)?,
-        },
-        Taken::Full => Format::Frames {
-            head: bytes_of(alloc, private_of(track))?,
-            prefix: bytes_of(alloc, prefix)?,
-        },
-        Taken::SubRip => Format::SubRip {
-            prefix: bytes_of(alloc, prefix)?,
-        },
-        Taken::Times => Format::Times,
-    })
-}
-
-/// The CodecPrivate of a track, empty where it has none.
-fn private_of(track: &Track) -> &[u8]
-    ensures { result.now ≡ private_of track.now.entry }
-{
-    match track.entry.child(CODEC_PRIVATE) {
-        Some(private) => private.body(),
-        None => &[],
+    match form_of(job) {
+        Some(form) => first_refusal(alloc, form, targets_of(job), tracks),
+        None => Ok(None),
     }
 }
 
-/// The same octets.
-fn bytes_of(alloc: Global, octets: &[u8]) -> Result<Bytes, AllocError>
-    ensures { IfOk result (λ bytes. bytes ≡ octets.now) }
+/// Why tracks that targets name aren't taken so: the first of a codec without a form, or else the first with a bad
+/// configuration.
+fn first_refusal(
+    alloc: Global,
+    form: Form,
+    targets: &[Target],
+    tracks: &[Track],
+) -> Result<Option<Refusal>, AllocError>
+    requires { AreRead tracks.now }
+    ensures { IfOk result (λ refusal. refusal ≡ refusal_taken (Some form) targets.now (map entry_in tracks.now)) }
 {
-    let mut bytes = Bytes::new(alloc);
-    bytes.append(octets)?;
-    Ok(bytes)
+    let mut bad_config = None;
+    for target in targets {
+        let unfit = unfit_of(alloc, form, target, tracks)?;
+        match unfit {
+            None => {}
+            Some(Unfit::BadConfig) => bad_config = bad_config.or(Some(target.id)),
+            Some(Unfit::NoExtractor) => return Ok(refusal_of(Some(target.id), None)),
+        }
+    }
+    Ok(refusal_of(None, bad_config))
+}
+
+/// What is told of a track whose codec has no form, and else of one with a bad configuration.
+fn refusal_of(no_extractor: Option<u64>, bad_config: Option<u64>) -> Option<Refusal>
+    ensures { result ≡ refusal_of no_extractor bad_config }
+{
+    match (no_extractor, bad_config) {
+        (Some(track), _) => Some(Refusal {
+            why: Unfit::NoExtractor,
+            track,
+        }),
+        (None, Some(track)) => Some(Refusal {
+            why: Unfit::BadConfig,
+            track,
+        }),
+        (None, None) => None,
+    }
+}
+
+/// Why the track of a target isn't taken so, if it isn't. One that isn't there is passed.
+fn unfit_of(
+    alloc: Global,
+    form: Form,
+    target: &Target,
+    tracks: &[Track],
+) -> Result<Option<Unfit>, AllocError>
+    requires { AreRead tracks.now }
+    ensures { IfOk result (λ unfit. unfit ≡ unfit_of form (map entry_in tracks.now) target.now) }
+{
+    let Some(track) = tracks.get(target.id as usize) else {
+        return Ok(None);
+    };
+    let read = coding_of(alloc, form, track)?;
+    Ok(read.err())
 }
 
 /// The same text.

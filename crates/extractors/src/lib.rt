@@ -4,17 +4,21 @@
 //! the blocks of the file; chapters and cue points are written as text, attached files as they are.
 
 mod attached;
+mod bad_frames;
 mod blocks;
 mod chapters;
+mod coding;
 mod cues;
+mod extracted;
 mod extraction;
+mod frame_form;
 mod frames;
 mod job;
+mod laws;
 mod limits;
 mod lines;
 mod reading;
 mod source;
-mod taken;
 mod times;
 mod track_output;
 mod whole;
@@ -22,8 +26,11 @@ mod whole;
 pub use attached::write_attachments;
 pub use chapters::write_chapters;
 pub use cues::write_cues;
+pub use extracted::Extracted;
 pub use extraction::extract;
-pub use job::{job_unfit, taken_of, targets_of};
+pub use frame_form::{Coding, FrameForm, Refusal, Unfit};
+pub use job::{form_of, job_refusal, targets_of};
+pub use laws::outputs_hold_the_good_frames;
 pub use limits::MOST_CUE_NODES;
 pub use reading::first_cues;
 pub use source::Source;

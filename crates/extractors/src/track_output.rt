@@ -1,17 +1,7 @@
 //! An output that takes the frames of a track.
 
+use crate::frame_form::FrameForm;
 use mkv_io::{Bytes, Text};
-
-/// What is written of the frames of a track.
-#[derive(Debug, Drop)]
-pub enum Format {
-    /// `head` once, and then each frame behind `prefix`.
-    Frames { head: Bytes, prefix: Bytes },
-    /// An entry of SubRip for each frame, whose text is the frame behind `prefix`.
-    SubRip { prefix: Bytes },
-    /// A first line that names the format, and then a line for each frame, with its time.
-    Times,
-}
 
 /// An output that takes the frames of one track.
 #[derive(Debug, Drop)]
@@ -22,6 +12,10 @@ pub struct TrackOutput {
     pub track: u64,
     /// Nanoseconds from one frame of a lace to the next: the track's DefaultDuration, 0 where it has none.
     pub step: u64,
-    /// What is written of the frames.
-    pub format: Format,
+    /// What stands before the first frame.
+    pub head: Bytes,
+    /// What was taken from the front of each frame.
+    pub prefix: Bytes,
+    /// How each frame is written.
+    pub form: FrameForm,
 }

@@ -123,10 +123,10 @@ tracks-sound : (words : List (List ℕ)) (j : Job) → tracks words ≡ Ok j →
 unfolding tracks
 tracks-sound words j is = ok-then (IsSoundJob j) (due_at words 3) _ j is (λ word here more. split (bytes_eq word (codes "--raw")) (bytes_eq word (codes "--fullraw")) word more)
   where
-    split : (a b : Bool) (word : List ℕ) → (if a then tracks_by form.Raw words 4 else if b then tracks_by form.Full words 4 else if is_option word then wrong 3 UnknownOption else tracks_by form.SubRip words 3) ≡ Ok j → IsSoundJob j
+    split : (a b : Bool) (word : List ℕ) → (if a then tracks_by form.Raw words 4 else if b then tracks_by form.Full words 4 else if is_option word then wrong 3 UnknownOption else tracks_by form.ByCodec words 3) ≡ Ok j → IsSoundJob j
     split true b word found = tracks_by-sound form.Raw words 4 j found
     split false true word found = tracks_by-sound form.Full words 4 j found
-    split false false word found = tracks_by-sound form.SubRip words 3 j (ok-else (is_option word) _ _ j found).1
+    split false false word found = tracks_by-sound form.ByCodec words 3 j (ok-else (is_option word) _ _ j found).1
 
 simple-sound : (words : List (List ℕ)) (j : Job) → simple words ≡ Ok j → IsSoundJob j
 simple-sound words j is =
@@ -149,7 +149,7 @@ job_of-sound : (o : Option Mode) (words : List (List ℕ)) (j : Job) → job_of 
 unfolding job_of
 job_of-sound None words j is = absurd (cc)
 job_of-sound (Some mode.Tracks) words j is = tracks-sound words j is
-job_of-sound (Some mode.Timestamps) words j is = listed-sound 0 jobs.Timestamps words j (λ list sound. sound) is
+job_of-sound (Some mode.Timestamps) words j is = tracks_by-sound form.Times words 3 j is
 job_of-sound (Some mode.Cues) words j is = listed-sound 0 jobs.Cues words j (λ list sound. sound) is
 job_of-sound (Some mode.Attachments) words j is = listed-sound 1 jobs.Attachments words j (λ list sound. sound) is
 job_of-sound (Some mode.Chapters) words j is = chapters-sound words j is

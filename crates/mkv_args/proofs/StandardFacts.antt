@@ -143,13 +143,13 @@ single-words = refl
 
 -- `extract`
 pub extractions : Hold (
-    asks (codes "extract f tracks 0:a 1:b") (commands.Extract (codes "f") (jobs.Tracks form.SubRip (taken 0 (codes "a") ∷ taken 1 (codes "b") ∷ []))) ∷
+    asks (codes "extract f tracks 0:a 1:b") (commands.Extract (codes "f") (jobs.Tracks form.ByCodec (taken 0 (codes "a") ∷ taken 1 (codes "b") ∷ []))) ∷
     asks (codes "extract f tracks --raw 0:r") (commands.Extract (codes "f") (jobs.Tracks form.Raw (taken 0 (codes "r") ∷ []))) ∷
     asks (codes "extract f tracks --fullraw 7:r 0:s") (commands.Extract (codes "f") (jobs.Tracks form.Full (taken 7 (codes "r") ∷ taken 0 (codes "s") ∷ []))) ∷
-    asks (codes "extract f tracks 0:") (commands.Extract (codes "f") (jobs.Tracks form.SubRip (taken 0 [] ∷ []))) ∷
-    asks (codes "extract f tracks 0:a:b") (commands.Extract (codes "f") (jobs.Tracks form.SubRip (taken 0 (codes "a:b") ∷ []))) ∷
-    asks (codes "extract f tracks 999999999999999999:r") (commands.Extract (codes "f") (jobs.Tracks form.SubRip (taken 999999999999999999 (codes "r") ∷ []))) ∷
-    asks (codes "extract f timestamps_v2 0:t") (commands.Extract (codes "f") (jobs.Timestamps (taken 0 (codes "t") ∷ []))) ∷
+    asks (codes "extract f tracks 0:") (commands.Extract (codes "f") (jobs.Tracks form.ByCodec (taken 0 [] ∷ []))) ∷
+    asks (codes "extract f tracks 0:a:b") (commands.Extract (codes "f") (jobs.Tracks form.ByCodec (taken 0 (codes "a:b") ∷ []))) ∷
+    asks (codes "extract f tracks 999999999999999999:r") (commands.Extract (codes "f") (jobs.Tracks form.ByCodec (taken 999999999999999999 (codes "r") ∷ []))) ∷
+    asks (codes "extract f timestamps_v2 0:t") (commands.Extract (codes "f") (jobs.Tracks form.Times (taken 0 (codes "t") ∷ []))) ∷
     asks (codes "extract f cues 0:c 0:d") (commands.Extract (codes "f") (jobs.Cues (taken 0 (codes "c") ∷ taken 0 (codes "d") ∷ []))) ∷
     asks (codes "extract f attachments 1:x 2:y") (commands.Extract (codes "f") (jobs.Attachments (taken 1 (codes "x") ∷ taken 2 (codes "y") ∷ []))) ∷
     asks (codes "extract f chapters --simple c.txt") (commands.Extract (codes "f") (jobs.Chapters (codes "c.txt"))) ∷

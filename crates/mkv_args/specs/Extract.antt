@@ -58,7 +58,7 @@ tracks words = do
   if bytes_eq word (codes "--raw") then tracks_by form.Raw words 4
       else if bytes_eq word (codes "--fullraw") then tracks_by form.Full words 4
       else if is_option word then wrong 3 UnknownOption
-      else tracks_by form.SubRip words 3
+      else tracks_by form.ByCodec words 3
 
 abbrev pub simple : List (List ℕ) → Result Job Usage
 simple words = do
@@ -82,7 +82,7 @@ listed make said = do
 -- the modes, with what `--help` says of them
 unfoldable pub modes : List (Entry Mode)
 modes =
-    entry (codes "") (codes "tracks") mode.Tracks (codes "[--raw or --fullraw] ID:FILE..") (codes "texts as SubRip, or frames") ∷
+    entry (codes "") (codes "tracks") mode.Tracks (codes "[--raw or --fullraw] ID:FILE..") (codes "as SubRip, Annex B or ADTS") ∷
     entry (codes "") (codes "timestamps_v2") mode.Timestamps (codes "ID:FILE..") (codes "times of the frames") ∷
     entry (codes "") (codes "cues") mode.Cues (codes "ID:FILE..") (codes "cue points") ∷
     entry (codes "") (codes "attachments") mode.Attachments (codes "ID:FILE..") (codes "attached files, from 1") ∷
@@ -92,7 +92,7 @@ modes =
 unfoldable pub job_of : Option Mode → List (List ℕ) → Result Job Usage
 job_of None words = wrong 2 UnknownCommand
 job_of (Some mode.Tracks) words = tracks words
-job_of (Some mode.Timestamps) words = listed jobs.Timestamps (targets 0 words 3)
+job_of (Some mode.Timestamps) words = tracks_by form.Times words 3
 job_of (Some mode.Cues) words = listed jobs.Cues (targets 0 words 3)
 job_of (Some mode.Attachments) words = listed jobs.Attachments (targets 1 words 3)
 job_of (Some mode.Chapters) words = chapters words

@@ -25,7 +25,6 @@ pub record AreTargets (least : ℕ) (targets : List Target) : Type 0 where
 -- attached files are counted from 1, and tracks from 0
 abbrev pub IsSoundJob : Job → Type 0
 IsSoundJob (jobs.Tracks form list) = AreTargets 0 list
-IsSoundJob (jobs.Timestamps list) = AreTargets 0 list
 IsSoundJob (jobs.Cues list) = AreTargets 0 list
 IsSoundJob (jobs.Attachments list) = AreTargets 1 list
 IsSoundJob (jobs.Chapters name) = ⊤

@@ -41,7 +41,7 @@ pub(crate) enum Mode {
 
 #[rattlefmt::skip]
 static MODES: [Entry<Mode>; 5] = [
-    Entry("", "tracks", Mode::Tracks, "[--raw or --fullraw] ID:FILE..", "texts as SubRip, or frames"),
+    Entry("", "tracks", Mode::Tracks, "[--raw or --fullraw] ID:FILE..", "as SubRip, Annex B or ADTS"),
     Entry("", "timestamps_v2", Mode::Timestamps, "ID:FILE..", "times of the frames"),
     Entry("", "cues", Mode::Cues, "ID:FILE..", "cue points"),
     Entry("", "attachments", Mode::Attachments, "ID:FILE..", "attached files, from 1"),
@@ -71,7 +71,8 @@ fn job(alloc: Global, mode: &str, words: &[String]) -> Result<Job, ArgsEnd>
     match mode_of(mode) {
         None => refused(2, Why::UnknownCommand),
         Some(Mode::Tracks) => tracks(alloc, words),
-        Some(Mode::Timestamps) => Ok(Job::Timestamps {
+        Some(Mode::Timestamps) => Ok(Job::Tracks {
+            form: Form::Times,
             list: targets(alloc, 0, words, 3)?,
         }),
         Some(Mode::Cues) => Ok(Job::Cues {
@@ -100,7 +101,7 @@ fn tracks(alloc: Global, words: &[String]) -> Result<Job, ArgsEnd>
         }),
         word if is_option(word) => refused(3, Why::UnknownOption),
         _ => Ok(Job::Tracks {
-            form: Form::SubRip,
+            form: Form::ByCodec,
             list: targets(alloc, 0, words, 3)?,
         }),
     }

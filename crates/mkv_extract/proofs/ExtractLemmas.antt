@@ -9,7 +9,7 @@ use Rattle.mkv_io.specs.Lines.{with_lines}
 use Rattle.mkv_io.specs.Names.{AreOthers}
 use Rattle.word_values.specs.declared.job.Job.{Job}
 use Rattle.word_values.specs.declared.job.Job.TheVariants as form
-use Rattle.word_values.specs.declared.job.Form.TheVariants as raw
+use Rattle.word_values.specs.declared.job.Form.{Form}
 use Rattle.word_values.specs.declared.job.Target.{Target}
 use Rattle.sidecar_edit.specs.Name.{sidecar_of}
 use Rattle.mkv_outputs.specs.Outputs.{Output, names_of, with_outputs}
@@ -21,11 +21,13 @@ use Rattle.mkv_io.specs.declared.damage.Damage.{Damage}
 use Rattle.tree_format.specs.Node.{Node}
 use Rattle.track_records.specs.declared.track.Track.{Track}
 use Rattle.block_format.specs.Events.{Event, blocks_of, damages_of}
-use Rattle.cluster_reader.specs.ToldDamages.{ToldDamages, told_damages}
 use Rattle.extractors.specs.Content.{names_in, outputs_of}
-use Rattle.extractors.specs.Job.{job_outputs, names_for, outputs_taken, taken_of, targets_of}
+use Rattle.extractors.specs.BadFrames.{bad_frames, told_of}
+use Rattle.extractors.specs.Job.{first_unfit, form_of, job_outputs, job_refusal, names_for, outputs_taken, refusal_of, refusal_taken, targets_of}
+use Rattle.extractors.specs.declared.extracted.Extracted.{Extracted}
+use Rattle.extractors.specs.declared.frame_form.Unfit.TheVariants.{NoExtractor, BadConfig}
+use Rattle.extractors.specs.declared.track_output.TrackOutput.{TrackOutput}
 use Rattle.extractors.specs.Job as jobs
-use Rattle.extractors.specs.declared.taken.Taken.{Taken}
 use Rattle.extractors.proofs.ContentLemmas.{names_of-outputs}
 use Rattle.extractors.specs.Source.{entry_in}
 use Rattle.mkv_lines.specs.Line.{no_track_line, wrote_line}
@@ -36,7 +38,7 @@ use Rattle.mkv_lines.specs.declared.status.Status.{Status}
 use Rattle.mkv_lines.specs.declared.status.Stop.{Stop}
 use Rattle.mkv_lines.proofs.SaidLemmas.{SaysPart-all}
 use Rattle.mkv_lines.proofs.VerdictLemmas.{Leaves-same, Reaches-behind}
-use Rattle.mkv_extract.specs.Extract.{absent, told_lines, fit_verdict, has_absent, held_status, job_verdict, outline_lines, status_of, taken_verdict, targets_verdict}
+use Rattle.mkv_extract.specs.Extract.{absent, told_bad, told_lines, fit_verdict, has_absent, held_status, job_verdict, outline_lines, status_of, taken_verdict, targets_verdict}
 use Rattle.mkv_extract.specs.Names.{first_written, is_read}
 use Rattle.mkv_extract.specs.Read.{FileRead}
 use Rattle.mkv_extract.specs.Told.{written}
@@ -70,33 +72,33 @@ found-name test (t ∷ ts) = split (test t.name) (found-name test ts)
 
 -- ---- a job that takes frames of tracks, or their times
 
-pub taken-job : (job : Job) → ((out : List ℕ) → job ≡ form.Chapters out → ⊥) → ((list : List Target) → job ≡ form.Attachments list → ⊥) → ((list : List Target) → job ≡ form.Cues list → ⊥) → IsSome (taken_of job)
-taken-job (form.Tracks raw.Raw list) chapters attached cues = refl
-taken-job (form.Tracks raw.Full list) chapters attached cues = refl
-taken-job (form.Tracks raw.SubRip list) chapters attached cues = refl
-taken-job (form.Timestamps list) chapters attached cues = refl
-taken-job (form.Attachments list) chapters attached cues = absurd (attached list refl)
-taken-job (form.Cues list) chapters attached cues = absurd (cues list refl)
-taken-job (form.Chapters out) chapters attached cues = absurd (chapters out refl)
+pub taken-job : (job : Job) (f : Form) (list : List Target) → job ≡ form.Tracks f list → IsSome (form_of job)
+taken-job job f list is = subst (λ (j : Job). IsSome (form_of j)) (sym is) refl
 
-pub names-job : (job : Job) → IsSome (taken_of job) → names_for job ≡ jobs.names_of (targets_of job)
+pub names-job : (job : Job) → IsSome (form_of job) → names_for job ≡ jobs.names_of (targets_of job)
 names-job (form.Tracks f list) some = refl
-names-job (form.Timestamps list) some = refl
 names-job (form.Attachments list) some = absurd (cc)
 names-job (form.Cues list) some = absurd (cc)
 names-job (form.Chapters out) some = absurd (cc)
 
-pub verdict-job : (name : List ℕ) (job : Job) (bytes : List ℕ) (file : FileRead) (events : List Event) → IsSome (taken_of job) → fit_verdict name job file.tracks events ≡ job_verdict name job bytes file events
+pub verdict-job : (name : List ℕ) (job : Job) (bytes : List ℕ) (file : FileRead) (events : List Event) → IsSome (form_of job) → fit_verdict name job file.tracks events ≡ job_verdict name job bytes file events
 verdict-job name (form.Tracks f list) bytes file events some = refl
-verdict-job name (form.Timestamps list) bytes file events some = refl
 verdict-job name (form.Attachments list) bytes file events some = absurd (cc)
 verdict-job name (form.Cues list) bytes file events some = absurd (cc)
 verdict-job name (form.Chapters out) bytes file events some = absurd (cc)
 
--- the outputs of a job have the names of those targets whose tracks the file has
-taken-names : (kind : Option Taken) (targets : List Target) (entries : List Node) → IsSome kind → names_in (outputs_taken kind targets entries) ≡ written (length entries) targets
-taken-names None targets entries some = absurd (cc)
-taken-names (Some kind) targets entries some = written-names kind targets entries
+-- nothing is refused where no target is unfit
+none-refused : (unknown bad : Option ℕ) → refusal_of unknown bad ≡ None → (unknown ≡ None) × (bad ≡ None)
+none-refused (Some k) bad is = absurd (cc)
+none-refused None (Some k) is = absurd (cc)
+none-refused None None is = (refl, refl)
+
+-- the outputs of a job that isn't refused have the names of those targets whose tracks the file has
+taken-names : (kind : Option Form) (targets : List Target) (entries : List Node) → IsSome kind → refusal_taken kind targets entries ≡ None → names_in (outputs_taken kind targets entries) ≡ written (length entries) targets
+taken-names None targets entries some fit = absurd (cc)
+taken-names (Some kind) targets entries some fit =
+    let none = none-refused (first_unfit NoExtractor kind targets entries) (first_unfit BadConfig kind targets entries) fit in
+    written-names kind targets entries none.0 none.1
 
 -- ---- lines and outputs
 
@@ -110,25 +112,28 @@ taken-begun old new why name job tracks events targets count is counted part nam
     )
 
 -- all that isn't there was warned of, and the outputs stand whole
-pub taken-told : (old new : Seen) (mid : ReportLines) (r : Result Status Stop) (name : List ℕ) (job : Job) (tracks : List Track) (events : List Event) (targets : List Target) (count : ℕ) (damages : ToldDamages) → IsSome (taken_of job) → targets ≡ targets_of job → count ≡ length tracks → damages ≡ told_damages (damages_of events) → mid ≡ with_lines old.lines (map (no_track_line name) (absent count targets)) → Says mid new.lines (map wrote_line (written count targets) ++ told_lines name damages) r → IfOk r (λ s. s ≡ status_of (has_absent count targets) (damages_of events)) → new.names ≡ with_outputs old.names (outputs_of (job_outputs job (map entry_in tracks)) (blocks_of events)) → Reaches old new r (taken_verdict name job tracks events)
-taken-told old new mid r name job tracks events targets count damages takes is counted whole said says status names =
-    Reaches-behind old new mid r (taken_verdict name job tracks events) (map wrote_line (names_of outputs) ++ told_lines name (told_damages (damages_of events))) refl
+pub taken-told : (old new : Seen) (mid : ReportLines) (r : Result Status Stop) (name : List ℕ) (job : Job) (tracks : List Track) (events : List Event) (targets : List Target) (count : ℕ) (told : Extracted) → IsSome (form_of job) → job_refusal job (map entry_in tracks) ≡ None → targets ≡ targets_of job → count ≡ length tracks → told ≡ told_of (job_outputs job (map entry_in tracks)) events → mid ≡ with_lines old.lines (map (no_track_line name) (absent count targets)) → Says mid new.lines (map wrote_line (written count targets) ++ (told_lines name told.damages ++ told_bad name told.bad_frames)) r → IfOk r (λ s. s ≡ status_of (has_absent count targets) (damages_of events ++ bad_frames (job_outputs job (map entry_in tracks)) (blocks_of events))) → new.names ≡ with_outputs old.names (outputs_of (job_outputs job (map entry_in tracks)) (blocks_of events)) → Reaches old new r (taken_verdict name job tracks events)
+taken-told old new mid r name job tracks events targets count told takes fit is counted whole said says status names =
+    Reaches-behind old new mid r (taken_verdict name job tracks events) (map wrote_line (names_of outputs) ++ (told_lines name (told_of list events).damages ++ told_bad name (told_of list events).bad_frames)) refl
     (said ∙ ap (λ (n : ℕ). with_lines old.lines (map (no_track_line name) (absent n targets))) counted ∙ ap (λ (ts : List Target). with_lines old.lines (map (no_track_line name) (absent (length tracks) ts))) is)
-    (subst (λ (d : ToldDamages). Says mid new.lines (map wrote_line (names_of outputs) ++ told_lines name d) r) whole
-    (subst (λ (names : List (List ℕ)). Says mid new.lines (map wrote_line names ++ told_lines name damages) r) named says))
-    (subst (λ (ts : List Target). IfOk r (λ s. s ≡ status_of (has_absent (length tracks) ts) (damages_of events))) is
-    (subst (λ (n : ℕ). IfOk r (λ s. s ≡ status_of (has_absent n targets) (damages_of events))) counted status))
+    (subst (λ (e : Extracted). Says mid new.lines (map wrote_line (names_of outputs) ++ (told_lines name e.damages ++ told_bad name e.bad_frames)) r) whole
+    (subst (λ (names : List (List ℕ)). Says mid new.lines (map wrote_line names ++ (told_lines name told.damages ++ told_bad name told.bad_frames)) r) named says))
+    (subst (λ (ts : List Target). IfOk r (λ s. s ≡ status_of (has_absent (length tracks) ts) (damages_of events ++ bad_frames list (blocks_of events)))) is
+    (subst (λ (n : ℕ). IfOk r (λ s. s ≡ status_of (has_absent n targets) (damages_of events ++ bad_frames list (blocks_of events)))) counted status))
     names
   where
+    list : List TrackOutput
+    list = job_outputs job (map entry_in tracks)
+
     outputs : List Output
-    outputs = outputs_of (job_outputs job (map entry_in tracks)) (blocks_of events)
+    outputs = outputs_of list (blocks_of events)
 
     named : written count targets ≡ names_of outputs
     named =
         ap (λ (ts : List Target). written count ts) is
         ∙ ap (λ (n : ℕ). written n (targets_of job)) (counted ∙ sym (length-map tracks entry_in))
-        ∙ sym (taken-names (taken_of job) (targets_of job) (map entry_in tracks) takes)
-        ∙ sym (names_of-outputs (job_outputs job (map entry_in tracks)) (blocks_of events))
+        ∙ sym (taken-names (form_of job) (targets_of job) (map entry_in tracks) takes fit)
+        ∙ sym (names_of-outputs list (blocks_of events))
 
 -- ---- attached files
 

@@ -1,17 +1,23 @@
 -- The lines of an extraction, one target after the other.
-use Rattle.std.proofs.Common.{◌≡◌, ℕ, zero, suc, ◌+◌, ◌<◌, ◌≤◌, ◌==◌, nat_le, nat_lt, Bool, true, false, not, ◌||◌, ◌&&◌, if◌then◌else◌, List, [], ◌∷◌, ◌++◌, length, take, drop, get_or, map, filter, Option, Some, None, slice_get, refl, sym, ◌∙◌, ap, subst, arith}
+use Rattle.std.proofs.Common.{◌≡◌, ℕ, zero, suc, ◌+◌, ◌<◌, ◌≤◌, ◌==◌, nat_le, nat_lt, Bool, true, false, not, ◌||◌, ◌&&◌, if◌then◌else◌, List, [], ◌∷◌, ◌++◌, length, take, drop, get_or, map, filter, Option, Some, None, slice_get, Result, Ok, Err, refl, sym, ◌∙◌, ap, subst, arith}
 use Rattle.std.proofs.Math.Seq.{drop-cons, take-suc}
 use Rattle.std.proofs.lemmas.Bool.{lt-ltb, le-ltb}
 use Rattle.std.proofs.lemmas.List.{drop_all}
 use Rattle.std.proofs.lemmas.List.Folds.{list_any-append}
+use Rattle.std.specs.List.{find}
+use Rattle.std.specs.Option.{option_map, option_map_or}
 use Rattle.mkv_io.specs.declared.damage.Damage.{Damage}
 use Rattle.word_values.specs.declared.job.Target.{Target}
 use Rattle.tree_format.specs.Node.{Node}
 use Rattle.mkv_lines.specs.Line.{warning_line, wrote_line}
 use Rattle.mkv_lines.specs.Said.{ReportLines, SaysUpTo}
 use Rattle.extractors.specs.Content.{names_in}
-use Rattle.extractors.specs.Job.{output_for, outputs_for}
-use Rattle.extractors.specs.declared.taken.Taken.{Taken}
+use Rattle.word_values.specs.declared.job.Form.{Form}
+use Rattle.extractors.specs.Codec.{coding_of}
+use Rattle.extractors.specs.Job.{first_unfit, is_unfit, names_unfit, output_for, outputs_for, track_output}
+use Rattle.extractors.specs.declared.frame_form.Coding.{Coding}
+use Rattle.extractors.specs.declared.frame_form.Unfit.{Unfit}
+use Rattle.extractors.specs.declared.frame_form.Unfit.TheVariants.{NoExtractor, BadConfig}
 use Rattle.mkv_extract.specs.Extract.{absent, once}
 use Rattle.mkv_extract.specs.Read.{is_named}
 use Rattle.mkv_extract.specs.Told.{written}
@@ -168,17 +174,47 @@ slice_get-within [] k x found = absurd (cc)
 slice_get-within (first ∷ xs) zero x found = omega arith
 slice_get-within (first ∷ xs) (suc k) x found = let rest = slice_get-within xs k x found in omega arith
 
--- the outputs of a job have these names
-pub written-names : (kind : Taken) (targets : List Target) (entries : List Node) → names_in (outputs_for kind targets entries) ≡ written (length entries) targets
-written-names kind [] entries = refl
-written-names kind (t ∷ ts) entries = step (written-names kind ts entries) (slice_get entries t.id) refl
+-- where none is unfit, the first isn't
+unfit-first : (why : Unfit) (kind : Form) (t : Target) (ts : List Target) (entries : List Node) → first_unfit why kind (t ∷ ts) entries ≡ None → (names_unfit why kind entries t ≡ false) × (first_unfit why kind ts entries ≡ None)
+unfit-first why kind t ts entries none = split (names_unfit why kind entries t) (find (names_unfit why kind entries) ts) none
   where
+    split : (unfit : Bool) (rest : Option Target) → option_map (λ (each : Target). each.id) (if unfit then Some t else rest) ≡ None → (unfit ≡ false) × (option_map (λ (each : Target). each.id) rest ≡ None)
+    split true rest is = absurd (cc)
+    split false rest is = (refl, is)
+
+-- a target whose track isn't taken so is unfit
+unfit-named : (why : Unfit) (kind : Form) (t : Target) (entries : List Node) (e : Node) → slice_get entries t.id ≡ Some e → coding_of kind e ≡ Err why → names_unfit why kind entries t ≡ true
+unfit-named why kind t entries e found read =
+    ap (λ (entry : Option Node). option_map_or (λ (each : Node). is_unfit why (coding_of kind each)) entry false) found
+    ∙ ap (is_unfit why) read ∙ same why
+  where
+    same : (w : Unfit) → is_unfit w (Err w) ≡ true
+    same NoExtractor = refl
+    same BadConfig = refl
+
+-- the outputs of a job of which no target is unfit have these names
+pub written-names : (kind : Form) (targets : List Target) (entries : List Node) → first_unfit NoExtractor kind targets entries ≡ None → first_unfit BadConfig kind targets entries ≡ None → names_in (outputs_for kind targets entries) ≡ written (length entries) targets
+written-names kind [] entries known good = refl
+written-names kind (t ∷ ts) entries known good =
+    step (written-names kind ts entries (unfit-first NoExtractor kind t ts entries known).1 (unfit-first BadConfig kind t ts entries good).1) (slice_get entries t.id) refl
+  where
+    told : names_in (outputs_for kind ts entries) ≡ written (length entries) ts → (e : Node) → slice_get entries t.id ≡ Some e → (read : Result Coding Unfit) → coding_of kind e ≡ read → names_in (track_output t.name e read ++ outputs_for kind ts entries) ≡ (if nat_lt t.id (length entries) then t.name ∷ [] else []) ++ written (length entries) ts
+    told rest e found (Ok coding) read =
+        ap (λ (names : List (List ℕ)). t.name ∷ names) rest
+        ∙ ap (λ (a : Bool). (if a then t.name ∷ [] else []) ++ written (length entries) ts) (sym (lt-ltb _ _ (slice_get-within entries t.id e found)))
+    told rest e found (Err NoExtractor) read =
+        let yes = unfit-named NoExtractor kind t entries e found read in
+        let no = (unfit-first NoExtractor kind t ts entries known).0 in
+        absurd (cc)
+    told rest e found (Err BadConfig) read =
+        let yes = unfit-named BadConfig kind t entries e found read in
+        let no = (unfit-first BadConfig kind t ts entries good).0 in
+        absurd (cc)
+
     step : names_in (outputs_for kind ts entries) ≡ written (length entries) ts → (entry : Option Node) → slice_get entries t.id ≡ entry → names_in (output_for kind t entry ++ outputs_for kind ts entries) ≡ (if nat_lt t.id (length entries) then t.name ∷ [] else []) ++ written (length entries) ts
     step rest None found =
         rest ∙ ap (λ (a : Bool). (if a then t.name ∷ [] else []) ++ written (length entries) ts) (sym (le-ltb _ _ (slice_get-past entries t.id found)))
-    step rest (Some e) found =
-        ap (λ (names : List (List ℕ)). t.name ∷ names) rest
-        ∙ ap (λ (a : Bool). (if a then t.name ∷ [] else []) ++ written (length entries) ts) (sym (lt-ltb _ _ (slice_get-within entries t.id e found)))
+    step rest (Some e) found = told rest e found (coding_of kind e) refl
 
 -- ---- the damages
 

@@ -11,14 +11,19 @@ use Rattle.file_format.specs.FileBlocks.{file_events}
 use Rattle.cluster_reader.specs.ToldDamages.{ToldDamages, told_damages}
 use Rattle.mkv_outputs.specs.Outputs.{Output, names_of}
 use Rattle.extractors.specs.Chapters.{chapters_output}
+use Rattle.extractors.specs.BadFrames.{bad_frames}
 use Rattle.extractors.specs.Content.{outputs_of}
-use Rattle.extractors.specs.Job.{job_outputs, job_unfit, targets_of}
+use Rattle.extractors.specs.Job.{job_outputs, job_refusal, targets_of}
+use Rattle.extractors.specs.declared.frame_form.Refusal.{Refusal}
+use Rattle.extractors.specs.declared.frame_form.Unfit.{Unfit}
+use Rattle.extractors.specs.declared.frame_form.Unfit.TheVariants as unfit
+use Rattle.extractors.specs.declared.track_output.TrackOutput.{TrackOutput}
 use Rattle.meta_records.specs.Attached.{AttachedFile}
 use Rattle.meta_records.specs.Records.{scale_of_info}
 use Rattle.extractors.specs.Attached.{attached_outputs}
 use Rattle.extractors.specs.Cues.{cues_outputs}
 use Rattle.extractors.specs.Source.{entry_in}
-use Rattle.mkv_lines.specs.Line.{damage_lines, missing_line, no_attachment_line, no_extractor_line, no_track_line, output_is_input_line, refusal_line, warning_line, wrote_line}
+use Rattle.mkv_lines.specs.Line.{bad_config_line, bad_frame_lines, damage_lines, missing_line, no_attachment_line, no_extractor_line, no_track_line, output_is_input_line, refusal_line, warning_line, wrote_line}
 use Rattle.mkv_lines.specs.Verdict.{Verdict, at_once, refused, unless_pending}
 use Rattle.mkv_lines.specs.declared.status.Status.{Status}
 use Rattle.mkv_lines.specs.declared.status.Status.TheVariants.{Done, Warned}
@@ -47,35 +52,49 @@ has_absent count targets = list_any (λ (t : Target). nat_le count t.id) targets
 abbrev pub told_lines : List ℕ → ToldDamages → List (List ℕ)
 told_lines name d = damage_lines name d.first d.more
 
+-- the same for each of the frames that aren't written
+abbrev pub told_bad : List ℕ → ToldDamages → List (List ℕ)
+told_bad name d = bad_frame_lines name d.first d.more
+
 -- ---- the verdict
 
--- all is done; a track that isn't there and a damage are warned of
+-- all is done; a track that isn't there and what is wrong with the file are warned of
 abbrev pub status_of : Bool → List Damage → Status
 status_of false [] = Done
 status_of false (d ∷ ds) = Warned
 status_of true damages = Warned
 
--- the tracks that the file hasn't; the outputs, in the order of the words; and what is wrong with the file
-abbrev pub extracted : List ℕ → List Target → ℕ → List Output → List Damage → Verdict
-extracted name targets count outputs damages = record {
-  status = status_of (has_absent count targets) damages;
-  lines = map (no_track_line name) (absent count targets) ++ (map wrote_line (names_of outputs) ++ told_lines name (told_damages damages));
+-- the tracks that the file hasn't; the outputs, in the order of the words; what is wrong with the file, and with frames
+abbrev pub extracted : List ℕ → List Target → ℕ → List Output → List Damage → List Damage → Verdict
+extracted name targets count outputs damages bad = record {
+  status = status_of (has_absent count targets) (damages ++ bad);
+  lines = map (no_track_line name) (absent count targets)
+      ++ (map wrote_line (names_of outputs) ++ (told_lines name (told_damages damages) ++ told_bad name (told_damages bad)));
   before = map (no_track_line name) (absent count targets);
   outputs = at_once outputs;
 }
 
+-- what outputs take of a file with so many tracks, and these blocks and damages
+abbrev pub outputs_verdict : List ℕ → List Target → ℕ → List TrackOutput → List Event → Verdict
+outputs_verdict name targets count list events =
+    extracted name targets count (outputs_of list (blocks_of events)) (damages_of events) (bad_frames list (blocks_of events))
+
 -- what a job takes of a file with these tracks, and these blocks and damages
 abbrev pub taken_verdict : List ℕ → Job → List Track → List Event → Verdict
-taken_verdict name job tracks events =
-    extracted name (targets_of job) (length tracks) (outputs_of (job_outputs job (map entry_in tracks)) (blocks_of events)) (damages_of events)
+taken_verdict name job tracks events = outputs_verdict name (targets_of job) (length tracks) (job_outputs job (map entry_in tracks)) events
+
+-- a track that isn't taken so, for this reason
+abbrev pub unfit_line : List ℕ → Unfit → ℕ → List ℕ
+unfit_line name unfit.NoExtractor number = no_extractor_line name number
+unfit_line name unfit.BadConfig number = bad_config_line name number
 
 -- a track that is named and that can't be taken so is refused
-abbrev pub unless_unfit : List ℕ → Option ℕ → Verdict → Verdict
+abbrev pub unless_unfit : List ℕ → Option Refusal → Verdict → Verdict
 unless_unfit name None v = v
-unless_unfit name (Some number) v = refused (no_extractor_line name number)
+unless_unfit name (Some r) v = refused (unfit_line name r.why r.track)
 
 abbrev pub fit_verdict : List ℕ → Job → List Track → List Event → Verdict
-fit_verdict name job tracks events = unless_unfit name (job_unfit job (map entry_in tracks)) (taken_verdict name job tracks events)
+fit_verdict name job tracks events = unless_unfit name (job_refusal job (map entry_in tracks)) (taken_verdict name job tracks events)
 
 -- ---- what isn't taken of blocks
 

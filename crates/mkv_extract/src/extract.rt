@@ -1,18 +1,19 @@
 //! A file is opened, its tracks are taken out, and it is closed.
 
-ghost use Rattle.std.specs.Prelude.{◌≡◌, ℕ, IfOk, IsSome};
+ghost use Rattle.std.specs.Prelude.{◌≡◌, ℕ, None, IfOk, IsSome};
 ghost use Rattle.mkv_io.specs.Names.{AreApart, AreOthers};
 ghost use Rattle.mkv_io.specs.Sources.{IfTold, IsLive, live_files};
 ghost use Rattle.mkv_io.specs.Told.{Told};
-ghost use Rattle.extractors.specs.Job.{CanBeDone, names_for, names_of, taken_of, targets_of};
-ghost use Rattle.extractors.specs.Source.{AreUsable, IsSource, events_in};
+ghost use Rattle.extractors.specs.Job.{CanBeDone, form_of, job_refusal, names_for, names_of, targets_of};
+ghost use Rattle.extractors.specs.Source.{AreUsable, IsSource, entries_in, events_in};
 ghost use Rattle.sidecar_edit.specs.Pending.{is_pending};
 ghost use Rattle.mkv_lines.specs.Faults.{HasStopCause};
+ghost use Rattle.mkv_lines.specs.Line.{text_of};
 ghost use Rattle.mkv_lines.specs.Ordinary.{IsOrdinary};
 ghost use Rattle.mkv_lines.specs.Seen.{seen};
 ghost use Rattle.mkv_lines.specs.Verdict.{Reaches, unless_pending};
 ghost use Rattle.mkv_extract.specs.End.{stop_of};
-ghost use Rattle.mkv_extract.specs.Extract.{extract_verdict, fit_verdict, job_verdict, read_verdict, taken_verdict};
+ghost use Rattle.mkv_extract.specs.Extract.{extract_verdict, fit_verdict, job_verdict, read_verdict, taken_verdict, unfit_line};
 ghost use Rattle.mkv_extract.specs.Read.{read_in, read_of};
 
 use crate::attachments::extract_attachments;
@@ -22,7 +23,7 @@ use crate::names::first_written;
 use crate::reading::read_source;
 use crate::telling::{Missing, say_absent, tell};
 use element_reader::OutlineEnd;
-use extractors::{Source, extract, job_unfit, targets_of};
+use extractors::{Refusal, Source, Unfit, extract, job_refusal, targets_of};
 use mkv_io::{FileId, Files, OpenFault, RemuxEnd, Report};
 use mkv_lines::{Line, Status, Stop, refuse};
 use sidecar_edit::is_pending;
@@ -164,7 +165,7 @@ fn extract_job<F: Files, P: Report>(
             extract_attachments(alloc, name, list.as_slice(), source, files, report)
         }
         Job::Cues { list } => extract_cues(alloc, name, list.as_slice(), source, files, report),
-        _ => extract_fit(alloc, name, job, source, files, report),
+        Job::Tracks { .. } => extract_fit(alloc, name, job, source, files, report),
     }
 }
 
@@ -177,7 +178,7 @@ fn extract_fit<F: Files, P: Report>(
     files: &mut F,
     report: &mut P,
 ) -> Result<Status, Stop>
-    requires takes { IsSome (taken_of job.now) }
+    requires takes { IsSome (form_of job.now) }
     requires apart { AreApart (names_of (targets_of job.now)) }
     requires source { IsSource F.Reads files.old source.now }
     requires usable { AreUsable source.now (targets_of job.now) }
@@ -192,10 +193,22 @@ fn extract_fit<F: Files, P: Report>(
         (seen F.Reads F.writing_faults F.names P.Report files.old report.old).counts
         (seen F.Reads F.writing_faults F.names P.Report files.new report.new).counts result }
 {
-    if let Some(number) = job_unfit(job, source.tracks.as_slice()) {
-        return refuse(alloc, &Line::NoExtractor { name, number }, report);
+    match job_refusal(alloc, job, source.tracks.as_slice()) {
+        Ok(None) => extract_source(alloc, name, job, source, files, report),
+        Ok(Some(refusal)) => refuse(alloc, &line_of(name, refusal), report),
+        Err(AllocError) => Err(Stop::Memory),
     }
-    extract_source(alloc, name, job, source, files, report)
+}
+
+/// The line of a track that isn't taken.
+fn line_of(name: &str, refusal: Refusal) -> Line<'_>
+    ensures { text_of result ≡ unfit_line name.now refusal.why refusal.track }
+{
+    let number = refusal.track;
+    match refusal.why {
+        Unfit::NoExtractor => Line::NoExtractor { name, number },
+        Unfit::BadConfig => Line::BadConfig { name, number },
+    }
 }
 
 /// Takes what a job asks for out of a source, and tells of it.
@@ -207,7 +220,8 @@ fn extract_source<F: Files, P: Report>(
     files: &mut F,
     report: &mut P,
 ) -> Result<Status, Stop>
-    requires takes { IsSome (taken_of job.now) }
+    requires takes { IsSome (form_of job.now) }
+    requires fit { job_refusal job.now (entries_in source.now) ≡ None }
     requires apart { AreApart (names_of (targets_of job.now)) }
     requires source { IsSource F.Reads files.old source.now }
     requires usable { AreUsable source.now (targets_of job.now) }
@@ -225,11 +239,11 @@ fn extract_source<F: Files, P: Report>(
     let targets = targets_of(job);
     let count = source.tracks.len() as u64;
     say_absent(alloc, Missing::Track, name, targets, count, report)?;
-    let damages = match extract(alloc, files, source, job) {
-        Ok(damages) => damages,
+    let extracted = match extract(alloc, files, source, job) {
+        Ok(extracted) => extracted,
         Err(end) => return Err(stop_of(end)),
     };
-    tell(alloc, name, targets, count, &damages, report)
+    tell(alloc, name, targets, count, &extracted, report)
 }
 
 /// Why a command stops whose extraction ended early.

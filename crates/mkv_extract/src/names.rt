@@ -53,10 +53,9 @@ pub fn first_written<'a>(
     let sidecar = sidecar_name(alloc, name)?;
     let sidecar = sidecar.as_str();
     match job {
-        Job::Tracks { list, .. }
-        | Job::Timestamps { list }
-        | Job::Attachments { list }
-        | Job::Cues { list } => Ok(written_among(name, sidecar, list.as_slice())),
+        Job::Tracks { list, .. } | Job::Attachments { list } | Job::Cues { list } => Ok(
+            written_among(name, sidecar, list.as_slice()),
+        ),
         Job::Chapters { name: out } if is_read(name, sidecar, out.as_str()) => Ok(Some(out)),
         Job::Chapters { .. } => Ok(None),
     }

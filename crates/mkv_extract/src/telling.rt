@@ -1,17 +1,18 @@
 //! What is told of an extraction.
 
-ghost use Rattle.std.specs.Prelude.{◌≡◌, false, ◌&&◌, not, nat_le, ◌++◌, ◌∷◌, [], List, map, IfOk};
+ghost use Rattle.std.specs.Prelude.{◌≡◌, false, ◌&&◌, not, nat_le, nat_lt, length, ◌++◌, ◌∷◌, [], List, map, IfOk};
 ghost use Rattle.mkv_io.specs.declared.damage.Damage.{Damage};
 ghost use Rattle.cluster_reader.specs.ToldDamages.{told_damages};
 ghost use Rattle.mkv_lines.specs.Line.{warning_line, wrote_line};
 ghost use Rattle.mkv_lines.specs.Ordinary.{IsOrdinary};
 ghost use Rattle.mkv_lines.specs.Said.{HasSayCause, Says};
-ghost use Rattle.mkv_extract.specs.Extract.{absent, has_absent, held_status, outline_lines, status_of, told_lines};
+ghost use Rattle.mkv_extract.specs.Extract.{absent, has_absent, held_status, outline_lines, status_of, told_bad, told_lines};
 ghost use Rattle.mkv_extract.specs.Read.{is_named};
-ghost use Rattle.mkv_extract.specs.Told.{line_of, written};
+ghost use Rattle.mkv_extract.specs.Told.{line_of, more_line, warnings, written};
 
 use crate::reading::is_named;
 use cluster_reader::Damages;
+use extractors::Extracted;
 use mkv_io::{Damage, Report};
 use mkv_lines::{Line, Status, Stop, say};
 use std::alloc::Global;
@@ -22,6 +23,15 @@ use word_values::Target;
 pub enum Missing {
     Track,
     Attachment,
+}
+
+/// What is warned of in a list.
+#[derive(Clone, Copy)]
+pub enum Wrong {
+    /// The damages of the file.
+    File,
+    /// The frames that aren't written.
+    Frames,
 }
 
 /// Warns of the numbers from `count` on that targets name, of each once: the file hasn't what they stand for.
@@ -70,25 +80,42 @@ fn is_told(before: &[Target], number: u64, count: u64) -> bool
     number >= count && !is_named(before, number)
 }
 
-/// Tells of the outputs, which stand whole, and warns of the damages.
+/// Tells of the outputs, which stand whole, and warns of what is wrong.
 pub fn tell<P: Report>(
     alloc: Global,
     name: &str,
     targets: &[Target],
     count: u64,
-    damages: &Damages,
+    extracted: &Extracted,
     report: &mut P,
 ) -> Result<Status, Stop>
     ensures said { Says (P.lines report.old) (P.lines report.new)
-        (map wrote_line (written count targets.now) ++ told_lines name.now damages.now) result }
-    ensures status { (list : List Damage) → damages.now ≡ told_damages list
-        → IfOk result (λ status. status ≡ status_of (has_absent count targets.now) list) }
+        (map wrote_line (written count targets.now)
+        ++ (told_lines name.now extracted.now.damages ++ told_bad name.now extracted.now.bad_frames)) result }
+    ensures status { (damages bad : List Damage)
+        → extracted.now.damages ≡ told_damages damages → extracted.now.bad_frames ≡ told_damages bad
+        → IfOk result (λ status. status ≡ status_of (has_absent count targets.now) (damages ++ bad)) }
     ensures ordinary { IfOk result IsOrdinary }
     ensures cause { HasSayCause (P.faults report.old) (P.faults report.new) result }
 {
     say_wrote(alloc, targets, count, report)?;
-    warn(alloc, name, damages, report)?;
-    Ok(status_of(targets, count, damages))
+    warn_all(alloc, name, extracted, report)?;
+    Ok(status_of(targets, count, extracted))
+}
+
+/// Warns of what is wrong with the file, and then of the frames that aren't written.
+fn warn_all<P: Report>(
+    alloc: Global,
+    name: &str,
+    extracted: &Extracted,
+    report: &mut P,
+) -> Result<(), Stop>
+    ensures said { Says (P.lines report.old) (P.lines report.new)
+        (told_lines name.now extracted.now.damages ++ told_bad name.now extracted.now.bad_frames) result }
+    ensures cause { HasSayCause (P.faults report.old) (P.faults report.new) result }
+{
+    warn(alloc, Wrong::File, name, &extracted.damages, report)?;
+    warn(alloc, Wrong::Frames, name, &extracted.bad_frames, report)
 }
 
 /// A line for each output: of the targets whose numbers are below `count`.
@@ -112,8 +139,14 @@ pub fn say_wrote<P: Report>(
 }
 
 /// A warning for each of the first damages, and the number of the others.
-fn warn<P: Report>(alloc: Global, name: &str, damages: &Damages, report: &mut P) -> Result<(), Stop>
-    ensures said { Says (P.lines report.old) (P.lines report.new) (told_lines name.now damages.now) result }
+fn warn<P: Report>(
+    alloc: Global,
+    what: Wrong,
+    name: &str,
+    damages: &Damages,
+    report: &mut P,
+) -> Result<(), Stop>
+    ensures said { Says (P.lines report.old) (P.lines report.new) (warnings what name.now damages.now) result }
     ensures cause { HasSayCause (P.faults report.old) (P.faults report.new) result }
 {
     let first = damages.first();
@@ -122,9 +155,26 @@ fn warn<P: Report>(alloc: Global, name: &str, damages: &Damages, report: &mut P)
     }
     let more = damages.more();
     if more > 0 {
-        say(alloc, report, &Line::MoreDamages { name, more })?;
+        say_more(alloc, what, name, more, report)?;
     }
     Ok(())
+}
+
+/// The number of the others.
+fn say_more<P: Report>(
+    alloc: Global,
+    what: Wrong,
+    name: &str,
+    more: u64,
+    report: &mut P,
+) -> Result<(), Stop>
+    ensures said { Says (P.lines report.old) (P.lines report.new) (more_line what name.now more ∷ []) result }
+    ensures cause { HasSayCause (P.faults report.old) (P.faults report.new) result }
+{
+    match what {
+        Wrong::File => say(alloc, report, &Line::MoreDamages { name, more }),
+        Wrong::Frames => say(alloc, report, &Line::MoreBadFrames { name, more }),
+    }
 }
 
 /// Tells of the outputs of targets, which stand whole, and warns of the damage of level 1.
@@ -184,19 +234,30 @@ fn warn_of<P: Report>(
     say(alloc, report, &Line::Warned { name, damage })
 }
 
-/// Whether something is warned of: a track that isn't there, or a damage.
-fn status_of(targets: &[Target], count: u64, damages: &Damages) -> Status
-    ensures value { (list : List Damage) → damages.now ≡ told_damages list → result ≡ status_of (has_absent count targets.now) list }
+/// Whether something is warned of: a track that isn't there, a damage, or a frame that isn't written.
+fn status_of(targets: &[Target], count: u64, extracted: &Extracted) -> Status
+    ensures value { (damages bad : List Damage)
+        → extracted.now.damages ≡ told_damages damages → extracted.now.bad_frames ≡ told_damages bad
+        → result ≡ status_of (has_absent count targets.now) (damages ++ bad) }
     ensures ordinary { IsOrdinary result }
 {
     if has_absent(targets, count) {
         return Status::Warned;
     }
-    if damages.first().is_empty() {
-        Status::Done
-    } else {
-        Status::Warned
+    if is_any(&extracted.damages) {
+        return Status::Warned;
     }
+    if is_any(&extracted.bad_frames) {
+        return Status::Warned;
+    }
+    Status::Done
+}
+
+/// Whether there is one in a list that is told.
+fn is_any(told: &Damages) -> bool
+    ensures { (list : List Damage) → told.now ≡ told_damages list → result ≡ nat_lt 0 (length list) }
+{
+    !told.first().is_empty()
 }
 
 /// Whether a target names a number from `count` on.

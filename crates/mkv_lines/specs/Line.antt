@@ -6,7 +6,7 @@ use Rattle.mkv_schema.specs.declared.element.Header.{Header}
 use Rattle.sidecar_edit.specs.declared.outcome.Mark.{Mark}
 use Rattle.mkv_lines.specs.Shown.{damage_text, element_text, level_0_name, level_1_name, mark_text, place_text, shown_text, track_text}
 use Rattle.mkv_lines.specs.declared.line.Line.{Line}
-use Rattle.mkv_lines.specs.declared.line.Line.TheVariants.{Level0, Level1, Track, Refused, Warned, MoreDamages, NoTrack, NoAttachment, NoExtractor, Missing, BadText, TextTooLarge, PendingEdit, OutputIsInput, AppendDiffers, NoLane, TooManyLanes, NotWebm, TooLarge, Wrote, WroteBlocks, Edited, EditRefused, NoRoom, EditTooLarge, Recovered, NothingToRecover, BadSidecar, Foreign, Word, FilesFault}
+use Rattle.mkv_lines.specs.declared.line.Line.TheVariants.{Level0, Level1, Track, Refused, Warned, MoreDamages, MoreBadFrames, NoTrack, NoAttachment, NoExtractor, BadConfig, Missing, BadText, TextTooLarge, PendingEdit, OutputIsInput, AppendDiffers, NoLane, TooManyLanes, NotWebm, TooLarge, Wrote, WroteBlocks, Edited, EditRefused, NoRoom, EditTooLarge, Recovered, NothingToRecover, BadSidecar, Foreign, Word, FilesFault}
 
 -- an Element at the top of a file
 abbrev pub level_0_line : Header → List ℕ
@@ -28,6 +28,10 @@ warning_line name d = codes "warning: " ++ (shown_text name ++ (codes ": " ++ da
 abbrev pub more_damages_line : List ℕ → ℕ → List ℕ
 more_damages_line name more = codes "warning: " ++ (shown_text name ++ (codes ": " ++ (decimal more ++ codes " more damages")))
 
+-- more frames of a file that aren't written than are told one by one
+abbrev pub more_bad_frames_line : List ℕ → ℕ → List ℕ
+more_bad_frames_line name more = codes "warning: " ++ (shown_text name ++ (codes ": " ++ (decimal more ++ codes " more bad frames")))
+
 -- the number of a file's damages that aren't told one by one, if there are any
 abbrev pub more_lines : List ℕ → ℕ → List (List ℕ)
 more_lines name more = if more == 0 then [] else more_damages_line name more ∷ []
@@ -35,6 +39,13 @@ more_lines name more = if more == 0 then [] else more_damages_line name more ∷
 -- a warning for each of a file's first damages, and the number of the others
 abbrev pub damage_lines : List ℕ → List Damage → ℕ → List (List ℕ)
 damage_lines name first more = map (warning_line name) first ++ more_lines name more
+
+-- the same of the frames of a file that aren't written
+abbrev pub more_bad_lines : List ℕ → ℕ → List (List ℕ)
+more_bad_lines name more = if more == 0 then [] else more_bad_frames_line name more ∷ []
+
+abbrev pub bad_frame_lines : List ℕ → List Damage → ℕ → List (List ℕ)
+bad_frame_lines name first more = map (warning_line name) first ++ more_bad_lines name more
 
 -- a file that hasn't the track of a number, counted from 0
 abbrev pub no_track_line : List ℕ → ℕ → List ℕ
@@ -47,6 +58,10 @@ no_attachment_line name number = codes "warning: " ++ (shown_text name ++ (codes
 -- a track, by its number from 0, whose codec has no form of its own that is known
 abbrev pub no_extractor_line : List ℕ → ℕ → List ℕ
 no_extractor_line name number = codes "error: " ++ (shown_text name ++ (codes ": NoExtractor, track " ++ decimal number))
+
+-- a track, by its number from 0, without a configuration that its codec's form needs, or with a bad one
+abbrev pub bad_config_line : List ℕ → ℕ → List ℕ
+bad_config_line name number = codes "error: " ++ (shown_text name ++ (codes ": BadConfig, track " ++ decimal number))
 
 -- a file that isn't there
 abbrev pub missing_line : List ℕ → List ℕ
@@ -156,9 +171,11 @@ text_of (Track t) = track_text t.index t.type_name.now t.codec.now t.number t.ui
 text_of (Refused name damage) = refusal_line name.now damage
 text_of (Warned name damage) = warning_line name.now damage
 text_of (MoreDamages name more) = more_damages_line name.now more
+text_of (MoreBadFrames name more) = more_bad_frames_line name.now more
 text_of (NoTrack name number) = no_track_line name.now number
 text_of (NoAttachment name number) = no_attachment_line name.now number
 text_of (NoExtractor name number) = no_extractor_line name.now number
+text_of (BadConfig name number) = bad_config_line name.now number
 text_of (Missing name) = missing_line name.now
 text_of (BadText name line) = bad_text_line name.now line
 text_of (TextTooLarge name) = text_too_large_line name.now

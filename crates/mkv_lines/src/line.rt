@@ -3,7 +3,7 @@
 ghost use Rattle.std.specs.Prelude.{◌++◌, codes};
 ghost use Rattle.std.specs.Fmt.{WritesOnOk, decimal};
 ghost use Rattle.mkv_lines.specs.Shown.{damage_text, element_text, shown_text};
-ghost use Rattle.mkv_lines.specs.Line.{edit_refused_line, edit_too_large_line, foreign_line, level_0_line, level_1_line, more_damages_line, no_room_line, wrote_blocks_line};
+ghost use Rattle.mkv_lines.specs.Line.{edit_refused_line, edit_too_large_line, foreign_line, level_0_line, level_1_line, no_room_line, wrote_blocks_line};
 
 use crate::shown::{
     Level0Name, Level1Name, ShownDamage, ShownElement, ShownMark, ShownPlace, ShownTrack,
@@ -38,6 +38,11 @@ pub enum Line<'a> {
         name: &'a str,
         more: u64,
     },
+    /// More frames of a file that aren't written than are told one by one.
+    MoreBadFrames {
+        name: &'a str,
+        more: u64,
+    },
     /// A file hasn't the track of a number, counted from 0.
     NoTrack {
         name: &'a str,
@@ -50,6 +55,11 @@ pub enum Line<'a> {
     },
     /// The track of a number, counted from 0, has a codec for which no form of its own is known.
     NoExtractor {
+        name: &'a str,
+        number: u64,
+    },
+    /// The track of a number, counted from 0, has no configuration that its codec's form needs, or a bad one.
+    BadConfig {
         name: &'a str,
         number: u64,
     },
@@ -166,7 +176,8 @@ impl fmt::Display for Line<'_> {
             Line::Track(track) => track.fmt(f),
             Line::Refused { name, damage } => damaged(f, "error: ", name, damage),
             Line::Warned { name, damage } => damaged(f, "warning: ", name, damage),
-            Line::MoreDamages { name, more } => more_damages(f, name, more),
+            Line::MoreDamages { name, more } => counted(f, name, more, " more damages"),
+            Line::MoreBadFrames { name, more } => counted(f, name, more, " more bad frames"),
             Line::NoTrack { name, number } => numbered(f, "warning: ", name, ": no track ", number),
             Line::NoAttachment { name, number } => numbered(
                 f,
@@ -180,6 +191,13 @@ impl fmt::Display for Line<'_> {
                 "error: ",
                 name,
                 ": NoExtractor, track ",
+                number,
+            ),
+            Line::BadConfig { name, number } => numbered(
+                f,
+                "error: ",
+                name,
+                ": BadConfig, track ",
                 number,
             ),
             Line::Missing { name } => named(f, "error: ", name, ": Missing"),
@@ -254,11 +272,16 @@ fn damaged<W: fmt::Write>(
     write!(f, "{head}{name}: {damage}")
 }
 
-fn more_damages<W: fmt::Write>(f: &mut fmt::Formatter<W>, name: &str, more: u64) -> fmt::Result
-    ensures { WritesOnOk W.write_str_gives f.old result (more_damages_line name.now more) f.new }
+fn counted<W: fmt::Write>(
+    f: &mut fmt::Formatter<W>,
+    name: &str,
+    count: u64,
+    what: &str,
+) -> fmt::Result
+    ensures { WritesOnOk W.write_str_gives f.old result (codes "warning: " ++ (shown_text name.now ++ (codes ": " ++ (decimal count ++ what.now)))) f.new }
 {
     let name = ShownText(name);
-    write!(f, "warning: {name}: {more} more damages")
+    write!(f, "warning: {name}: {count}{what}")
 }
 
 fn numbered<W: fmt::Write>(

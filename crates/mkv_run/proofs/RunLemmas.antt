@@ -193,7 +193,6 @@ texts-next old now all k texts t below is way =
 -- a job that words asked for can be done
 pub job-done : (job : Job) → IsSoundJob job → CanBeDone job
 job-done (jobs.Tracks form list) sound = record { apart = sound.apart; numbers = tt }
-job-done (jobs.Timestamps list) sound = record { apart = sound.apart; numbers = tt }
 job-done (jobs.Attachments list) sound = record { apart = sound.apart; numbers = sound.from }
 job-done (jobs.Cues list) sound = record { apart = sound.apart; numbers = tt }
 job-done (jobs.Chapters name) sound = record { apart = (tt, tt); numbers = tt }

@@ -5,10 +5,8 @@ use mkv_io::{List, Text};
 /// What an extraction writes, and into which files.
 #[derive(Debug, Drop)]
 pub enum Job {
-    /// The frames of tracks.
+    /// The frames of tracks, or their times.
     Tracks { form: Form, list: List<Target> },
-    /// The times of the frames of tracks.
-    Timestamps { list: List<Target> },
     /// The data of attached files.
     Attachments { list: List<Target> },
     /// The cue points of tracks.
@@ -17,15 +15,17 @@ pub enum Job {
     Chapters { name: Text },
 }
 
-/// How the frames of a track are written.
+/// What is written of the frames of a track.
 #[derive(Clone, Copy, Debug, PartialEq, Eq)]
 pub enum Form {
     /// The frames, one after the other.
     Raw,
     /// The track's CodecPrivate, then the frames.
     Full,
-    /// As the track's codec says: SubRip text, or a stream that players read.
-    SubRip,
+    /// The frames as the track's codec has them in a file of their own: a SubRip text, or a stream that players read.
+    ByCodec,
+    /// The times of the frames.
+    Times,
 }
 
 /// One thing that is taken out, and the file that it goes to.

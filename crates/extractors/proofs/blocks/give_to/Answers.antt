@@ -25,7 +25,7 @@ returns-then-head-output-clause-number g c =
 -- one of its track adds its frames
 pub returns-clause-gives : goal.returns-clause-gives
 returns-clause-gives g c =
-    subst (λ (frames : List Frame). Gives g.F.Files c.args.files.now c.give_frames.new.files c.args.outputs.now c.give_frames.new.outputs (with_more c.args.k (entries_from c.args.output.now.format c.args.number frames)) c.give_frames.result)
+    subst (λ (frames : List Frame). Gives g.F.Files c.args.files.now c.give_frames.new.files c.args.outputs.now c.give_frames.new.outputs (with_more c.args.k (entries_from c.args.output.now c.args.number frames)) c.give_frames.result)
     (sym (frames_for-all c.args.output.now (block_of c.args.cursor.now.block) (sym (ap (λ (h : BlockHead). h.track) c.head.ensures.exact) ∙ c.if-head-output.false)))
     c.give_frames.ensures.gives
 

@@ -56,7 +56,7 @@ returns-in_err-write-clause-makes g c =
     Makes-err g.F.Files c.args.files.now c.write.new.files c.write.new.self (outputs_of c.args.list.now []) c.from_residual-in_err-write.result c.from_residual-in_err-write.ensures.0
     (StandsInPart-then since (g.F.Files.names c.write.new.files) (outputs_of (take (c.loop-k.k + 1) c.args.list.now) []) (outputs_of c.args.list.now [])
     (subst (StandsInPart since (g.F.Files.names c.write.new.files))
-    (made-next-as c.args.list.now c.loop-k.k c.index-list-k.result c.as_str.result.now c.head_of.result.now below c.index-list-k.is c.as_str.ensures.same c.head_of.ensures)
+    (made-next-as c.args.list.now c.loop-k.k c.index-list-k.result c.as_str.result.now c.as_slice.result.now below c.index-list-k.is c.as_str.ensures.same c.as_slice.ensures)
     (c.in_err-write.ensures.gives since (with_empty c.as_str.result.now first) has))
     (outputs_of-first c.args.list.now (c.loop-k.k + 1) []))
 
@@ -89,7 +89,7 @@ loop-k-preserved g c =
     let begun = subst (λ (name : List ℕ). AreBegun (with_empty name first) (outputs_of c.args.list.now [])) (sym c.as_str.ensures.same) (made-begun c.args.list.now c.loop-k.k c.index-list-k.result below c.index-list-k.is) in
     record {
       has = subst (HaveBeenGiven since (g.F.Files.names c.write.new.files) (g.F.Files.holder c.write.new.files) c.write.new.self)
-          (made-next-as c.args.list.now c.loop-k.k c.index-list-k.result c.as_str.result.now c.head_of.result.now below c.index-list-k.is c.as_str.ensures.same c.head_of.ensures)
+          (made-next-as c.args.list.now c.loop-k.k c.index-list-k.result c.as_str.result.now c.as_slice.result.now below c.index-list-k.is c.as_str.ensures.same c.as_slice.ensures)
           (c.in_ok-write.ensures.gives since (with_empty c.as_str.result.now first) has);
       outputs = c.write.ensures.only.outputs;
       made = MadeSince-written g.F.Reads g.F.Files (names_in c.args.list.now) c.args.files.now c.add.new.files c.write.new.files c.add.new.self c.write.new.self numbered

@@ -29,8 +29,8 @@ write_blocks-requires-clause-other g c =
     c.in_ok-make_all.ensures.makes (c.make_all.ensures.made.holders c.args.cursor.now.file.n c.requires.stands.live) c.requires.other
 
 -- only the outputs were written
-pub returns-in_err-damages-clause-made : goal.returns-in_err-damages-clause-made
-returns-in_err-damages-clause-made g c =
+pub returns-in_err-extracted-clause-made : goal.returns-in_err-extracted-clause-made
+returns-in_err-extracted-clause-made g c =
     made-walked g.F.Reads g.F.Files (g.F.Files.names c.args.files.now) c.args.files.now c.make_all.new.files c.write_blocks.new.files c.args.list.now c.make_all.new.outputs c.write_blocks.new.outputs
     (λ file live. g.met.F.Files.numbered c.args.files.now file live) c.in_ok-make_all.ensures.makes c.make_all.ensures.made c.write_blocks.ensures.walks
 

@@ -6,8 +6,8 @@ use Rattle.extractors.specs.Times.{time_line}
 use Rattle.extractors.proofs.frames.give_frame.Goals as goal
 
 -- a time is a line
-pub returns-in-Times-clause-gives : goal.returns-in-Times-clause-gives
-returns-in-Times-clause-gives g c =
+pub returns-in-Time-clause-gives : goal.returns-in-Time-clause-gives
+returns-in-Time-clause-gives g c =
     let fits : SFits w64 c.args.frame.time = search rules in
-    rw c.in-Times.is
+    rw c.in-Time.is
     (subst (λ (t : ℤ). Gives g.F.Files c.args.files.now c.give_time.new.files c.args.outputs.now c.give_time.new.outputs (with_more c.args.k (time_line t)) c.give_time.result) (to_z-of_z w64 c.args.frame.time fits) c.give_time.ensures.gives)

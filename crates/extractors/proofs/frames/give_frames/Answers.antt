@@ -26,7 +26,7 @@ less a b = omega arith
 -- the next frame was given
 pub loop-i-preserved : goal.loop-i-preserved
 loop-i-preserved g c =
-    let format = c.args.output.now.format in
+    let output = c.args.output.now in
     let number = c.args.number in
     let step = c.args.output.now.step in
     let duration = c.unwrap_or-duration.result in
@@ -39,12 +39,12 @@ loop-i-preserved g c =
     let time : ℤ = c.frame_time.result in
     let fits : SFits w64 time = search rules in
     let frame : Frame = framed (take ((at + size) - at) (drop at body)) (to_z w64 (of_z w64 time)) duration in
-    let next = entries_left-next format number step c.head-head.result.now.time duration sizes body i at size c.saturating_add.result frame below refl c.saturating_add.ensures
+    let next = entries_left-next output number step c.head-head.result.now.time duration sizes body i at size c.saturating_add.result frame below refl c.saturating_add.ensures
     (ap (λ (n : ℕ). framed (take n (drop at body)) (to_z w64 (of_z w64 time)) duration) (less at size) ∙ ap (λ (t : ℤ). framed (take size (drop at body)) t duration) (to_z-of_z w64 time fits ∙ c.frame_time.ensures)) in
     record {
       so = GivesUpTo-more g.F.Files c.args.files.now c.loop-i.files c.give_frame.new.files c.args.outputs.now c.loop-i.outputs c.give_frame.new.outputs c.args.k _
-          (entry_of format c.saturating_add.result frame) (entries_left format number step c.head-head.result.now.time duration sizes body (i + 1) (at + size))
-          (subst (GivesUpTo g.F.Files c.args.files.now c.loop-i.files c.args.outputs.now c.loop-i.outputs c.args.k (entries_left format number step c.head-head.result.now.time duration sizes body 0 0)) next c.loop-i.invariant.so)
+          (entry_of output c.saturating_add.result frame) (entries_left output number step c.head-head.result.now.time duration sizes body (i + 1) (at + size))
+          (subst (GivesUpTo g.F.Files c.args.files.now c.loop-i.files c.args.outputs.now c.loop-i.outputs c.args.k (entries_left output number step c.head-head.result.now.time duration sizes body 0 0)) next c.loop-i.invariant.so)
           c.in_ok-give_frame.ensures.gives;
       rest = rest-next sizes i at size (length body) below refl c.loop-i.invariant.rest;
       count = length-same c.loop-i.outputs c.give_frame.new.outputs c.give_frame.ensures.only.same ∙ c.loop-i.invariant.count;
@@ -55,7 +55,7 @@ loop-i-preserved g c =
 -- it was given in part
 pub returns-in_err-give_frame-clause-gives : goal.returns-in_err-give_frame-clause-gives
 returns-in_err-give_frame-clause-gives g c =
-    let format = c.args.output.now.format in
+    let output = c.args.output.now in
     let number = c.args.number in
     let step = c.args.output.now.step in
     let duration = c.unwrap_or-duration.result in
@@ -68,14 +68,14 @@ returns-in_err-give_frame-clause-gives g c =
     let time : ℤ = c.frame_time.result in
     let fits : SFits w64 time = search rules in
     let frame : Frame = framed (take ((at + size) - at) (drop at body)) (to_z w64 (of_z w64 time)) duration in
-    let next = entries_left-next format number step c.head-head.result.now.time duration sizes body i at size c.saturating_add.result frame below refl c.saturating_add.ensures
+    let next = entries_left-next output number step c.head-head.result.now.time duration sizes body i at size c.saturating_add.result frame below refl c.saturating_add.ensures
     (ap (λ (n : ℕ). framed (take n (drop at body)) (to_z w64 (of_z w64 time)) duration) (less at size) ∙ ap (λ (t : ℤ). framed (take size (drop at body)) t duration) (to_z-of_z w64 time fits ∙ c.frame_time.ensures)) in
-    let all = entries_left-block format number step sizes body c.head-head.result.now duration c.args.cursor.now.block c.head-head.ensures.exact c.sizes-sizes.ensures.exact c.body-body.ensures.exact c.unwrap_or-duration.ensures in
+    let all = entries_left-block output number step sizes body c.head-head.result.now duration c.args.cursor.now.block c.head-head.ensures.exact c.sizes-sizes.ensures.exact c.body-body.ensures.exact c.unwrap_or-duration.ensures in
     Gives-err g.F.Files c.args.files.now c.give_frame.new.files c.args.outputs.now c.give_frame.new.outputs c.args.k _ c.from_residual.result c.from_residual.ensures.0
     (subst (HasPart g.F.Files c.args.files.now c.give_frame.new.files c.args.outputs.now c.args.k) all
     (GivesUpTo-part g.F.Files c.args.files.now c.loop-i.files c.give_frame.new.files c.args.outputs.now c.loop-i.outputs c.args.k _
-    (entry_of format c.saturating_add.result frame) (entries_left format number step c.head-head.result.now.time duration sizes body (i + 1) (at + size))
-    (subst (GivesUpTo g.F.Files c.args.files.now c.loop-i.files c.args.outputs.now c.loop-i.outputs c.args.k (entries_left format number step c.head-head.result.now.time duration sizes body 0 0)) next c.loop-i.invariant.so)
+    (entry_of output c.saturating_add.result frame) (entries_left output number step c.head-head.result.now.time duration sizes body (i + 1) (at + size))
+    (subst (GivesUpTo g.F.Files c.args.files.now c.loop-i.files c.args.outputs.now c.loop-i.outputs c.args.k (entries_left output number step c.head-head.result.now.time duration sizes body 0 0)) next c.loop-i.invariant.so)
     c.in_err-give_frame.ensures.gives))
 
 -- what was written until then
@@ -86,16 +86,16 @@ returns-in_err-give_frame-clause-only g c =
 -- all were given
 pub returns-clause-gives : goal.returns-clause-gives
 returns-clause-gives g c =
-    let format = c.args.output.now.format in
+    let output = c.args.output.now in
     let number = c.args.number in
     let step = c.args.output.now.step in
     let duration = c.unwrap_or-duration.result in
     let sizes = c.sizes-sizes.result.now in
     let body = c.body-body.result.now in
-    let all = entries_left-block format number step sizes body c.head-head.result.now duration c.args.cursor.now.block c.head-head.ensures.exact c.sizes-sizes.ensures.exact c.body-body.ensures.exact c.unwrap_or-duration.ensures in
+    let all = entries_left-block output number step sizes body c.head-head.result.now duration c.args.cursor.now.block c.head-head.ensures.exact c.sizes-sizes.ensures.exact c.body-body.ensures.exact c.unwrap_or-duration.ensures in
     subst (HasGiven g.F.Files c.args.files.now c.loop-i.files c.args.outputs.now c.loop-i.outputs c.args.k) all
     (GivesUpTo-ends g.F.Files c.args.files.now c.loop-i.files c.args.outputs.now c.loop-i.outputs c.args.k _ _ c.loop-i.invariant.so
-    (entries_left-none format number step c.head-head.result.now.time duration sizes body c.loop-i.i c.loop-i.at c.loop-i-test.false))
+    (entries_left-none output number step c.head-head.result.now.time duration sizes body c.loop-i.i c.loop-i.at c.loop-i-test.false))
 
 -- the number behind them
 pub returns-clause-number : goal.returns-clause-number

@@ -6,7 +6,7 @@ use Rattle.extractors.proofs.frames.give_frames.Given as goal
 
 abbrev pub invariant-loop-i : goal.invariant-loop-i
 invariant-loop-i g l = record {
-  so : GivesUpTo g.F.Files l.initial.files l.files l.initial.outputs l.outputs l.k (entries_left l.output.format l.number l.output.step l.head.time l.duration l.sizes l.body 0 0) (entries_left l.output.format l.number l.output.step l.head.time l.duration l.sizes l.body l.i l.at);
+  so : GivesUpTo g.F.Files l.initial.files l.files l.initial.outputs l.outputs l.k (entries_left l.output l.number l.output.step l.head.time l.duration l.sizes l.body 0 0) (entries_left l.output l.number l.output.step l.head.time l.duration l.sizes l.body l.i l.at);
   rest : l.at + sum (drop l.i l.sizes) ≡ length l.body;
   count : length l.outputs ≡ length l.initial.outputs;
   wrote : WritesOutputs g.F.Reads g.F.Files l.initial.files l.files l.initial.outputs l.outputs;

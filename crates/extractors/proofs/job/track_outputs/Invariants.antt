@@ -5,4 +5,4 @@ use Rattle.extractors.specs.Source.{entry_in}
 use Rattle.extractors.proofs.job.track_outputs.Given as goal
 
 abbrev pub invariant-loop-target : goal.invariant-loop-target
-invariant-loop-target l = l.list.items ≡ outputs_for l.taken (take l.target-index l.targets) (map entry_in l.tracks)
+invariant-loop-target l = l.list.items ≡ outputs_for l.form (take l.target-index l.targets) (map entry_in l.tracks)

@@ -1,7 +1,6 @@
-use Rattle.std.proofs.Common.{◌≡◌, ℕ, List, Option, sym, ap, subst, ◌∙◌, arith}
+use Rattle.std.proofs.Common.{ℕ, List, Option, sym, subst, ◌∙◌, arith}
 use Rattle.std.proofs.lemmas.Result.{err_from_is_err_and}
 use Rattle.mkv_io.specs.declared.outside.FileId.{FileId}
-use Rattle.mkv_io.specs.Sources.{live_files}
 use Rattle.output_model.specs.Attached.{octets_told}
 use Rattle.cues_seekhead.specs.Appending.{AppendsOnly}
 use Rattle.cues_seekhead.proofs.BeginLemmas.{EndsOnly-one, KeepsOthers-unmade, MakesFile-created}

@@ -7,23 +7,23 @@ use Rattle.mkv_extract.specs.Read.{read_in}
 use Rattle.mkv_extract.proofs.ExtractLemmas.{names-job, taken-job, verdict-job}
 use Rattle.mkv_extract.proofs.extract.extract_job.Goals as goal
 
--- any other job takes something of tracks
+-- it takes something of tracks
 pub extract_fit-requires-clause-takes : goal.extract_fit-requires-clause-takes
-extract_fit-requires-clause-takes g c = taken-job c.args.job.now c.in_default.not-Chapters c.in_default.not-Attachments c.in_default.not-Cues
+extract_fit-requires-clause-takes g c = taken-job c.args.job.now _ _ c.in-Tracks.is
 
 pub extract_fit-requires-clause-apart : goal.extract_fit-requires-clause-apart
 extract_fit-requires-clause-apart g c =
-    let some = taken-job c.args.job.now c.in_default.not-Chapters c.in_default.not-Attachments c.in_default.not-Cues in
+    let some = taken-job c.args.job.now _ _ c.in-Tracks.is in
     subst AreApart (names-job c.args.job.now some) c.requires.job.apart
 
 pub extract_fit-requires-clause-other : goal.extract_fit-requires-clause-other
 extract_fit-requires-clause-other g c =
-    let some = taken-job c.args.job.now c.in_default.not-Chapters c.in_default.not-Attachments c.in_default.not-Cues in
+    let some = taken-job c.args.job.now _ _ c.in-Tracks.is in
     subst (AreOthers (g.F.Files.holder c.args.files.now c.args.source.now.file.n)) (names-job c.args.job.now some) c.requires.other
 
-pub returns-in_default-clause-verdict : goal.returns-in_default-clause-verdict
-returns-in_default-clause-verdict g c = λ bytes told.
-    let some = taken-job c.args.job.now c.in_default.not-Chapters c.in_default.not-Attachments c.in_default.not-Cues in
+pub returns-in-Tracks-clause-verdict : goal.returns-in-Tracks-clause-verdict
+returns-in-Tracks-clause-verdict g c = λ bytes told.
+    let some = taken-job c.args.job.now _ _ c.in-Tracks.is in
     subst (λ (v : Verdict). Reaches
     (seen g.F.Reads g.F.Files.writing_faults g.F.Files.names g.P.Report c.args.files.now c.args.report.now)
     (seen g.F.Reads g.F.Files.writing_faults g.F.Files.names g.P.Report c.extract_fit.new.files c.extract_fit.new.report) c.extract_fit.result v)

@@ -1,7 +1,9 @@
-use Rattle.std.proofs.Common.{refl}
+use Rattle.std.proofs.Common.{refl, ap}
 use Rattle.std.proofs.lemmas.Result.{err_from_is_err_and}
-use Rattle.block_format.specs.Events.{damages_of}
-use Rattle.extractors.specs.Source.{events_in}
+use Rattle.block_format.specs.Events.{blocks_of, damages_of}
+use Rattle.extractors.specs.BadFrames.{bad_frames}
+use Rattle.extractors.specs.Source.{events_in, outputs_in}
+use Rattle.extractors.specs.declared.extracted.Extracted.{Extracted}
 use Rattle.mkv_lines.specs.Seen.{seen}
 use Rattle.mkv_extract.proofs.ExtractLemmas.{taken-begun, taken-told}
 use Rattle.mkv_extract.proofs.extract.extract_source.Goals as goal
@@ -20,8 +22,11 @@ returns-in_err-say_absent-clause-verdict g c = λ bytes told.
 pub returns-clause-verdict : goal.returns-clause-verdict
 returns-clause-verdict g c = λ bytes told.
     let events = events_in c.args.source.now bytes in
-    let damages = c.in-Ok.ensures.damages bytes told in
+    let list = outputs_in c.args.source.now c.args.job.now in
+    let tells = c.in-Ok.ensures.tells bytes told in
     taken-told (seen g.F.Reads g.F.Files.writing_faults g.F.Files.names g.P.Report c.args.files.now c.args.report.now)
     (seen g.F.Reads g.F.Files.writing_faults g.F.Files.names g.P.Report c.extract.new.files c.tell.new.report)
-    (g.P.Report.lines c.say_absent.new.report) c.tell.result c.args.name.now c.args.job.now c.args.source.now.tracks events c.targets_of-targets.result.now c.len-count.result c.in-Ok.damages
-    c.requires.takes c.targets_of-targets.ensures c.len-count.ensures damages c.in_ok-say_absent.ensures.said c.tell.ensures.said (c.tell.ensures.status (damages_of events) damages) (c.in-Ok.ensures.writes bytes told)
+    (g.P.Report.lines c.say_absent.new.report) c.tell.result c.args.name.now c.args.job.now c.args.source.now.tracks events c.targets_of-targets.result.now c.len-count.result c.in-Ok.extracted
+    c.requires.takes c.requires.fit c.targets_of-targets.ensures c.len-count.ensures tells c.in_ok-say_absent.ensures.said c.tell.ensures.said
+    (c.tell.ensures.status (damages_of events) (bad_frames list (blocks_of events)) (ap (λ (e : Extracted). e.damages) tells) (ap (λ (e : Extracted). e.bad_frames) tells))
+    (c.in-Ok.ensures.writes bytes told)

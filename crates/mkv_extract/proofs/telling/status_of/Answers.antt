@@ -1,19 +1,39 @@
-use Rattle.std.proofs.Common.{◌≡◌, Bool, true, false, List, [], ◌∷◌, length, take, refl, sym, ◌∙◌, ap, arith}
-use Rattle.std.proofs.lemmas.Bool.Decides.{nat_tests}
+use Rattle.std.proofs.Common.{◌≡◌, nat_lt, Bool, true, false, List, [], ◌∷◌, ◌++◌, length, refl, sym, ◌∙◌, arith}
+use Rattle.std.proofs.lemmas.Bool.{lt-ltb}
 use Rattle.mkv_io.specs.declared.damage.Damage.{Damage}
-use Rattle.cluster_reader.specs.ToldDamages.{ToldDamages}
-use Rattle.mkv_lines.specs.declared.status.Status.TheVariants.{Done}
+use Rattle.mkv_lines.specs.declared.status.Status.TheVariants.{Done, Warned}
 use Rattle.mkv_extract.specs.Extract.{has_absent, status_of}
 use Rattle.mkv_extract.proofs.telling.status_of.Goals as goal
 
--- nothing is warned of
-done : (absent : Bool) (list : List Damage) → absent ≡ false → length (take 100 list) ≡ 0 → Done ≡ status_of absent list
-done false [] none empty = refl
-done false (d ∷ ds) none empty = absurd (omega (empty, arith))
-done true list none empty = absurd (cc)
+-- a damage is warned of
+damaged : (absent : Bool) (damages bad : List Damage) → nat_lt 0 (length damages) ≡ true → Warned ≡ status_of absent (damages ++ bad)
+damaged absent [] bad any = absurd (cc)
+damaged true (d ∷ ds) bad any = refl
+damaged false (d ∷ ds) bad any = refl
 
-pub returns-then-is_empty-clause-value : goal.returns-then-is_empty-clause-value
-returns-then-is_empty-clause-value c = λ list is.
-    let empty : length c.first.result.now ≡ 0 = grind (arith, nat_tests, c.is_empty.ensures, c.if-is_empty.true) in
-    done (has_absent c.args.count c.args.targets.now) list (sym c.has_absent.ensures ∙ c.if-has_absent.false)
-    (ap (λ (d : ToldDamages). length d.first) (sym is) ∙ ap length (sym c.first.ensures) ∙ empty)
+-- and so is a frame that isn't written
+left_out : (absent : Bool) (damages bad : List Damage) → nat_lt 0 (length bad) ≡ true → Warned ≡ status_of absent (damages ++ bad)
+left_out true damages bad any = refl
+left_out false (d ∷ ds) bad any = refl
+left_out false [] (b ∷ bs) any = refl
+left_out false [] [] any = absurd (cc)
+
+-- nothing is warned of
+done : (absent : Bool) (damages bad : List Damage) → absent ≡ false → nat_lt 0 (length damages) ≡ false → nat_lt 0 (length bad) ≡ false → Done ≡ status_of absent (damages ++ bad)
+done true damages bad none first others = absurd (cc)
+done false (d ∷ ds) bad none first others = let some = lt-ltb 0 (length (d ∷ ds)) (omega arith) in absurd (cc)
+done false [] (b ∷ bs) none first others = let some = lt-ltb 0 (length (b ∷ bs)) (omega arith) in absurd (cc)
+done false [] [] none first others = refl
+
+pub returns-then-is_any-clause-value : goal.returns-then-is_any-clause-value
+returns-then-is_any-clause-value c = λ damages bad is also.
+    damaged (has_absent c.args.count c.args.targets.now) damages bad (sym (c.is_any.ensures damages is) ∙ c.if-is_any.true)
+
+pub returns-then-is_any-2-clause-value : goal.returns-then-is_any-2-clause-value
+returns-then-is_any-2-clause-value c = λ damages bad is also.
+    left_out (has_absent c.args.count c.args.targets.now) damages bad (sym (c.is_any-2.ensures bad also) ∙ c.if-is_any-2.true)
+
+pub returns-clause-value : goal.returns-clause-value
+returns-clause-value c = λ damages bad is also.
+    done (has_absent c.args.count c.args.targets.now) damages bad (sym c.has_absent.ensures ∙ c.if-has_absent.false)
+    (sym (c.is_any.ensures damages is) ∙ c.if-is_any.false) (sym (c.is_any-2.ensures bad also) ∙ c.if-is_any-2.false)

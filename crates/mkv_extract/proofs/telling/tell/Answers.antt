@@ -1,8 +1,8 @@
-use Rattle.std.proofs.Common.{map}
+use Rattle.std.proofs.Common.{◌++◌, map}
 use Rattle.std.proofs.lemmas.Result.{err_from_is_err_and}
 use Rattle.mkv_lines.specs.Line.{wrote_line}
 use Rattle.mkv_lines.proofs.SaidLemmas.{SaysPart-before, SaysPart-behind}
-use Rattle.mkv_extract.specs.Extract.{told_lines}
+use Rattle.mkv_extract.specs.Extract.{told_bad, told_lines}
 use Rattle.mkv_extract.specs.Told.{written}
 use Rattle.mkv_extract.proofs.telling.tell.Goals as goal
 
@@ -11,14 +11,14 @@ pub returns-in_err-say_wrote-clause-said : goal.returns-in_err-say_wrote-clause-
 returns-in_err-say_wrote-clause-said g c =
     let p = err_from_is_err_and c.from_residual.result c.from_residual.ensures.1 in
     rw p.1
-    (SaysPart-before (g.P.Report.lines c.args.report.now) (g.P.Report.lines c.say_wrote.new.report) (map wrote_line (written c.args.count c.args.targets.now)) (told_lines c.args.name.now c.args.damages.now)
+    (SaysPart-before (g.P.Report.lines c.args.report.now) (g.P.Report.lines c.say_wrote.new.report) (map wrote_line (written c.args.count c.args.targets.now)) (told_lines c.args.name.now c.args.extracted.now.damages ++ told_bad c.args.name.now c.args.extracted.now.bad_frames)
     c.in_err-say_wrote.ensures.said)
 
 -- a warning couldn't be said
-pub returns-in_err-warn-clause-said : goal.returns-in_err-warn-clause-said
-returns-in_err-warn-clause-said g c =
-    let p = err_from_is_err_and c.from_residual-in_err-warn.result c.from_residual-in_err-warn.ensures.1 in
+pub returns-in_err-warn_all-clause-said : goal.returns-in_err-warn_all-clause-said
+returns-in_err-warn_all-clause-said g c =
+    let p = err_from_is_err_and c.from_residual-in_err-warn_all.result c.from_residual-in_err-warn_all.ensures.1 in
     rw p.1
-    (SaysPart-behind (g.P.Report.lines c.args.report.now) (g.P.Report.lines c.say_wrote.new.report) (g.P.Report.lines c.warn.new.report) (map wrote_line (written c.args.count c.args.targets.now)) (told_lines c.args.name.now c.args.damages.now)
+    (SaysPart-behind (g.P.Report.lines c.args.report.now) (g.P.Report.lines c.say_wrote.new.report) (g.P.Report.lines c.warn_all.new.report) (map wrote_line (written c.args.count c.args.targets.now)) (told_lines c.args.name.now c.args.extracted.now.damages ++ told_bad c.args.name.now c.args.extracted.now.bad_frames)
     c.in_ok-say_wrote.ensures.said
-    c.in_err-warn.ensures.said)
+    c.in_err-warn_all.ensures.said)

@@ -30,3 +30,15 @@ returns-in-TooLarge-clause-writes g c = λ plain ok.
 pub returns-in-BadSidecar-clause-writes : goal.returns-in-BadSidecar-clause-writes
 returns-in-BadSidecar-clause-writes g c = λ plain ok.
     has_written_of_eq _ _ _ _ _ (ap text_of (sym c.in-BadSidecar.is)) (c.numbered-in-BadSidecar.ensures plain ok)
+
+pub returns-in-BadConfig-clause-writes : goal.returns-in-BadConfig-clause-writes
+returns-in-BadConfig-clause-writes g c = λ plain ok.
+    has_written_of_eq _ _ _ _ _ (ap text_of (sym c.in-BadConfig.is)) (c.numbered-in-BadConfig.ensures plain ok)
+
+pub returns-in-MoreDamages-clause-writes : goal.returns-in-MoreDamages-clause-writes
+returns-in-MoreDamages-clause-writes g c = λ plain ok.
+    has_written_of_eq _ _ _ _ _ (ap text_of (sym c.in-MoreDamages.is)) (c.counted.ensures plain ok)
+
+pub returns-in-MoreBadFrames-clause-writes : goal.returns-in-MoreBadFrames-clause-writes
+returns-in-MoreBadFrames-clause-writes g c = λ plain ok.
+    has_written_of_eq _ _ _ _ _ (ap text_of (sym c.in-MoreBadFrames.is)) (c.counted-in-MoreBadFrames.ensures plain ok)

@@ -1,0 +1,71 @@
+-- The forms in which codecs have their frames written: RFC 9559, section 5.1.4 (Tracks Element), CodecID and CodecPrivate.
+use Rattle.std.specs.Prelude.{⊤, ℕ, if◌then◌else◌, List, [], codes, Option, Some, None, Result, Ok, Err}
+use Rattle.std.specs.Option.{option_map_or}
+use Rattle.std.specs.Str.{bytes_eq}
+use Rattle.mkv_schema.specs.declared.ids.TheConstants.{CODEC_PRIVATE}
+use Rattle.tree_format.specs.Node.{Node, body_of}
+use Rattle.tree_format.specs.Values.{first_child}
+use Rattle.file_format.specs.Entry.{codec_of}
+use Rattle.elementary.specs.declared.configuration.Avc.{Avc}
+use Rattle.elementary.specs.declared.audio.Aac.{Aac}
+use Rattle.elementary.specs.Avc.{IsLengthSize, avc_of, byte_stream}
+use Rattle.elementary.specs.Aac.{IsAac, aac_of}
+use Rattle.extractors.specs.declared.frame_form.Coding.{Coding}
+use Rattle.extractors.specs.declared.frame_form.FrameForm.{FrameForm}
+use Rattle.extractors.specs.declared.frame_form.FrameForm.TheVariants as form
+use Rattle.extractors.specs.declared.frame_form.Unfit.{Unfit}
+use Rattle.extractors.specs.declared.frame_form.Unfit.TheVariants.{NoExtractor, BadConfig}
+use Rattle.word_values.specs.declared.job.Form.{Form}
+use Rattle.word_values.specs.declared.job.Form.TheVariants as asked
+
+-- the first line of a file of times
+abbrev pub times_head : List ℕ
+times_head = codes "# timestamp format v2\n"
+
+-- ---- the codecs
+
+abbrev pub subrip_codec : List ℕ
+subrip_codec = codes "S_TEXT/UTF8"
+
+abbrev pub avc_codec : List ℕ
+avc_codec = codes "V_MPEG4/ISO/AVC"
+
+abbrev pub aac_codec : List ℕ
+aac_codec = codes "A_AAC"
+
+-- the parameter sets, and then the units of the frames
+abbrev pub avc_coding : Option Avc → Result Coding Unfit
+avc_coding None = Err BadConfig
+avc_coding (Some avc) = Ok (record { head = byte_stream avc.sets; form = form.AnnexB avc.length_size })
+
+-- each frame behind its header
+abbrev pub aac_coding : Option Aac → Result Coding Unfit
+aac_coding None = Err BadConfig
+aac_coding (Some aac) = Ok (record { head = []; form = form.Adts aac })
+
+-- by the CodecID and the CodecPrivate of a track
+abbrev pub codec_coding : List ℕ → List ℕ → Result Coding Unfit
+codec_coding codec private =
+    if bytes_eq codec subrip_codec then Ok (record { head = []; form = form.SubRip })
+    else if bytes_eq codec avc_codec then avc_coding (avc_of private)
+    else if bytes_eq codec aac_codec then aac_coding (aac_of private)
+    else Err NoExtractor
+
+-- the CodecPrivate of a track, empty where it has none
+abbrev pub private_of : Node → List ℕ
+private_of entry = option_map_or body_of (first_child CODEC_PRIVATE entry) []
+
+-- what is taken of a track
+abbrev pub coding_of : Form → Node → Result Coding Unfit
+coding_of asked.Raw entry = Ok (record { head = []; form = form.Plain })
+coding_of asked.Full entry = Ok (record { head = private_of entry; form = form.Plain })
+coding_of asked.ByCodec entry = codec_coding (codec_of entry) (private_of entry)
+coding_of asked.Times entry = Ok (record { head = times_head; form = form.Time })
+
+-- what a form that was read of a track says can be written
+abbrev pub CanWrite : FrameForm → Type 0
+CanWrite form.Plain = ⊤
+CanWrite form.SubRip = ⊤
+CanWrite (form.AnnexB w) = IsLengthSize w
+CanWrite (form.Adts aac) = IsAac aac
+CanWrite form.Time = ⊤

@@ -1,0 +1,24 @@
+-- What an output in the form of a codec holds.
+use Rattle.std.specs.Prelude.{◌≡◌, ℕ, List, [], ◌++◌, map, filter, All}
+use Rattle.elementary.specs.declared.audio.Aac.{Aac}
+use Rattle.elementary.specs.Avc.{byte_stream}
+use Rattle.elementary.specs.Aac.{IsAac}
+use Rattle.elementary.specs.Streams.{IsPlain, IsByteStream, with_three, good_units, IsAdts, headed, is_good}
+use Rattle.block_format.specs.Block.{Block}
+use Rattle.extractors.specs.Content.{content_of, whole}
+use Rattle.extractors.specs.Frames.{Frame, frames_of}
+use Rattle.extractors.specs.declared.frame_form.FrameForm.TheVariants as form
+use Rattle.extractors.specs.declared.track_output.TrackOutput.{TrackOutput}
+
+-- the octets of the frames of an output's track, each with what was taken from its front
+abbrev pub octets_of_frames : TrackOutput → List Block → List (List ℕ)
+octets_of_frames o blocks = map (λ (f : Frame). whole o.prefix f) (frames_of o.step o.track blocks)
+
+-- An output of AAC is a join of headers and the good frames, in order. One of AVC whose units can't be mistaken is a join of
+-- start codes, the sets, and the units of the good frames, in order.
+pub record OutputsHoldTheGoodFrames : Type 0 where
+  pub adts : (o : TrackOutput) (aac : Aac) (blocks : List Block) → o.head ≡ [] → o.form ≡ form.Adts aac → IsAac aac
+      → IsAdts (content_of o blocks) (headed aac (filter is_good (octets_of_frames o blocks)))
+  pub annex_b : (o : TrackOutput) (sets : List (List ℕ)) (w : ℕ) (blocks : List Block) → o.head ≡ byte_stream sets → o.form ≡ form.AnnexB w
+      → All IsPlain (sets ++ good_units w (octets_of_frames o blocks))
+      → IsByteStream (content_of o blocks) (with_three (sets ++ good_units w (octets_of_frames o blocks)))

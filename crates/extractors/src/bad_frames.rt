@@ -1,0 +1,103 @@
+//! The frames of one block that their codec has no form for.
+
+ghost use Rattle.std.specs.Prelude.{◌≡◌, ◌++◌, ◌==◌, if◌then◌else◌, IfOk, OnOk, Some, is_none};
+ghost use Rattle.std.specs.List.{All, find};
+ghost use Rattle.std.specs.Option.{option_copied};
+ghost use Rattle.block_records.specs.Buffered.{block_of};
+ghost use Rattle.cluster_reader.specs.ToldDamages.{with_damage};
+ghost use Rattle.elementary.specs.Avc.{IsLengthSize, annex_b};
+ghost use Rattle.extractors.specs.BadFrames.{TellsMore, bad_for, bad_frame, bad_in, is_bad};
+ghost use Rattle.extractors.specs.Codec.{CanWrite};
+ghost use Rattle.extractors.specs.Walks.{IsReady};
+ghost use Rattle.extractors.specs.declared.track_output.TrackOutput.{TrackOutput as OutputSeen};
+
+use crate::frame_form::FrameForm;
+use crate::frames::{Scratch, whole};
+use crate::track_output::TrackOutput;
+use cluster_reader::{Cursor, Damages};
+use elementary::{LONGEST_FRAME, is_join};
+use mkv_io::{Damage, Kind};
+use mkv_schema::ids::{BLOCK, SIMPLE_BLOCK};
+use std::alloc::{AllocError, Global};
+
+/// Tells the bad frames of a block, each once: as many outputs as take the track, they take it in one form.
+pub fn add_bad_frames(
+    list: &[TrackOutput],
+    cursor: &Cursor,
+    scratch: &mut Scratch,
+    bad: &mut Damages,
+) -> Result<(), AllocError>
+    requires { All IsReady list.now }
+    ensures { OnOk result (TellsMore bad.old bad.new (bad_in list.now (block_of cursor.now.block))) }
+{
+    match first_of(list, cursor.head().track) {
+        Some(output) => add_bad_of(output, cursor, scratch, bad),
+        None => Ok(()),
+    }
+}
+
+/// The first output of a track.
+fn first_of(list: &[TrackOutput], track: u64) -> Option<&TrackOutput>
+    ensures { option_copied result ≡ find (λ (o : OutputSeen). o.track == track) list.now }
+{
+    list.iter().find(|output| output.track == track)
+}
+
+/// Tells the bad frames of a block, for the output that takes them.
+fn add_bad_of(
+    output: &TrackOutput,
+    cursor: &Cursor,
+    scratch: &mut Scratch,
+    bad: &mut Damages,
+) -> Result<(), AllocError>
+    requires { CanWrite output.now.form }
+    ensures { OnOk result (TellsMore bad.old bad.new (bad_for (block_of cursor.now.block) (Some output.now))) }
+{
+    let (body, sizes) = (cursor.body(), cursor.sizes());
+    let mut at = 0;
+    for size in sizes {
+        let end = at + *size as usize;
+        let left_out = is_bad(output, &body[at..end], scratch)?;
+        add_if(left_out, bad_frame(cursor), bad);
+        at = end;
+    }
+    Ok(())
+}
+
+/// Tells a damage, if it is one.
+fn add_if(is_one: bool, damage: Damage, told: &mut Damages)
+    ensures { told.new ≡ (if is_one then with_damage told.old damage else told.old) }
+{
+    if is_one {
+        told.add(damage);
+    }
+}
+
+/// The bad frame of the block that a buffer holds.
+fn bad_frame(cursor: &Cursor) -> Damage
+    ensures { result ≡ bad_frame (block_of cursor.now.block) }
+{
+    let head = cursor.head();
+    Damage {
+        kind: Kind::BadFrame,
+        id: if head.group { BLOCK } else { SIMPLE_BLOCK },
+        offset: head.offset,
+    }
+}
+
+/// Whether nothing can be written of a frame of these octets.
+fn is_bad(output: &TrackOutput, octets: &[u8], scratch: &mut Scratch) -> Result<bool, AllocError>
+    requires { CanWrite output.now.form }
+    ensures { IfOk result (λ bad. bad ≡ is_bad output.now octets.now) }
+{
+    match output.form {
+        FrameForm::Plain | FrameForm::SubRip | FrameForm::Time => Ok(false),
+        FrameForm::AnnexB { length_size } => {
+            let frame = whole(&mut scratch.text, output.prefix.as_slice(), octets)?;
+            Ok(!is_join(frame, length_size))
+        }
+        FrameForm::Adts { .. } => {
+            Ok(output.prefix.len().saturating_add(octets.len()) > LONGEST_FRAME)
+        }
+    }
+}

@@ -1,0 +1,109 @@
+//! How the frames of a track are written: RFC 9559, section 5.1.4 (Tracks Element), CodecID and CodecPrivate.
+
+ghost use Rattle.std.specs.Prelude.{◌≡◌, IfOk};
+ghost use Rattle.track_records.specs.Track.{track_of};
+ghost use Rattle.file_format.specs.Entry.{codec_of};
+ghost use Rattle.elementary.specs.Avc.{avc_of};
+ghost use Rattle.elementary.specs.Aac.{aac_of};
+ghost use Rattle.extractors.specs.Codec.{aac_coding, avc_coding, codec_coding, coding_of, private_of};
+
+use crate::frame_form::{Coding, FrameForm, Unfit};
+use elementary::{ConfigEnd, put_sets, read_aac, read_avc};
+use mkv_io::Bytes;
+use mkv_schema::ids::CODEC_PRIVATE;
+use std::alloc::{AllocError, Global};
+use track_records::Track;
+use word_values::Form;
+
+/// The first line of a file of times.
+const TIMES_HEAD: &[u8] = b"# timestamp format v2\n";
+
+/// What stands before the frames of a track, and how each is written; or why it isn't taken so.
+pub fn coding_of(
+    alloc: Global,
+    form: Form,
+    track: &Track,
+) -> Result<Result<Coding, Unfit>, AllocError>
+    requires { track.now ≡ track_of track.now.entry }
+    ensures { IfOk result (λ read. read ≡ coding_of form track.now.entry) }
+{
+    let (head, form) = match form {
+        Form::Raw => (Bytes::new(alloc), FrameForm::Plain),
+        Form::Full => (bytes_of(alloc, private_of(track))?, FrameForm::Plain),
+        Form::ByCodec => return codec_coding(alloc, track),
+        Form::Times => (bytes_of(alloc, TIMES_HEAD)?, FrameForm::Time),
+    };
+    Ok(Ok(Coding { head, form }))
+}
+
+/// What its codec has.
+fn codec_coding(alloc: Global, track: &Track) -> Result<Result<Coding, Unfit>, AllocError>
+    requires { track.now ≡ track_of track.now.entry }
+    ensures { IfOk result (λ read. read ≡ codec_coding (codec_of track.now.entry) (private_of track.now.entry)) }
+{
+    let codec = track.codec.as_str();
+    if codec == "S_TEXT/UTF8" {
+        let head = Bytes::new(alloc);
+        Ok(Ok(Coding {
+            head,
+            form: FrameForm::SubRip,
+        }))
+    } else if codec == "V_MPEG4/ISO/AVC" {
+        avc_coding(alloc, private_of(track))
+    } else if codec == "A_AAC" {
+        Ok(aac_coding(alloc, private_of(track)))
+    } else {
+        Ok(Err(Unfit::NoExtractor))
+    }
+}
+
+/// The parameter sets, and then the units of the frames.
+fn avc_coding(alloc: Global, private: &[u8]) -> Result<Result<Coding, Unfit>, AllocError>
+    ensures { IfOk result (λ read. read ≡ avc_coding (avc_of private.now)) }
+{
+    let avc = match read_avc(alloc, private) {
+        Ok(avc) => avc,
+        Err(ConfigEnd::Bad) => return Ok(Err(Unfit::BadConfig)),
+        Err(ConfigEnd::Memory) => return Err(AllocError),
+    };
+    let mut head = Bytes::new(alloc);
+    put_sets(&avc, &mut head)?;
+    Ok(Ok(Coding {
+        head,
+        form: FrameForm::AnnexB {
+            length_size: avc.length_size,
+        },
+    }))
+}
+
+/// Each frame behind its header.
+fn aac_coding(alloc: Global, private: &[u8]) -> Result<Coding, Unfit>
+    ensures { result ≡ aac_coding (aac_of private.now) }
+{
+    match read_aac(private) {
+        Some(aac) => Ok(Coding {
+            head: Bytes::new(alloc),
+            form: FrameForm::Adts { aac },
+        }),
+        None => Err(Unfit::BadConfig),
+    }
+}
+
+/// The CodecPrivate of a track, empty where it has none.
+fn private_of(track: &Track) -> &[u8]
+    ensures { result.now ≡ private_of track.now.entry }
+{
+    match track.entry.child(CODEC_PRIVATE) {
+        Some(private) => private.body(),
+        None => &[],
+    }
+}
+
+/// The same octets.
+pub fn bytes_of(alloc: Global, octets: &[u8]) -> Result<Bytes, AllocError>
+    ensures { IfOk result (λ bytes. bytes ≡ octets.now) }
+{
+    let mut bytes = Bytes::new(alloc);
+    bytes.append(octets)?;
+    Ok(bytes)
+}
