@@ -27,9 +27,10 @@ abbrev pub Says : {T : Type 0} → ReportLines → ReportLines → List (List �
 Says old new all (Ok _) = new ≡ with_lines old all
 Says old new all (Err _) = SaysPart old new all
 
--- Lines that come last: where the disk stopped a call, none was said.
+-- Lines that come last: where the disk stopped a call, or there was no memory for it, none was said.
 abbrev pub SaysLast : {T : Type 0} → ReportLines → ReportLines → Result T Stop → Type 0
 SaysLast old new (Err stop.Disk) = new ≡ old
+SaysLast old new (Err stop.Memory) = new ≡ old
 SaysLast old new result = ⊤
 
 -- A call that only says lines is stopped by the report only where its count of faults rose; after every

@@ -15,6 +15,7 @@ use std::alloc::Global;
 pub fn say<R: Report>(alloc: Global, report: &mut R, line: &Line) -> Result<(), Stop>
     ensures said { Says (R.lines report.old) (R.lines report.new) (text_of line.now ∷ []) result }
     ensures cause { HasSayCause (R.faults report.old) (R.faults report.new) result }
+    ensures last { SaysLast (R.lines report.old) (R.lines report.new) result }
 {
     let Ok(text) = format!(in alloc; "{line}") else {
         return Err(Stop::Memory);

@@ -20,8 +20,8 @@ use Rattle.mkv_propedit.specs.Recovery.{HasDiskStop}
 use Rattle.mkv_propedit.proofs.RecoverLemmas.{recovery-still}
 use Rattle.mkv_propedit.proofs.PropeditLemmas.{edit-still}
 use Rattle.mkv_run.specs.Ends.{Ends, SaysFault}
-use Rattle.mkv_run.specs.RunSeen.{HasRunStop, RunSeen}
-use Rattle.mkv_run.specs.Touched.{InPlace, LeftOnTheWay, Touches, edited, edited_by, recovered}
+use Rattle.mkv_run.specs.RunSeen.{HasRunStop, IsSilent, RunSeen}
+use Rattle.mkv_run.specs.Touched.{LeftOnTheWay, Reach, Touches, edited, files, nothing, reach_of, recovered}
 use Rattle.mkv_args.specs.declared.command.Command.{Command}
 use Rattle.mkv_args.specs.declared.command.Command.TheVariants as command
 use Rattle.mkv_lines.specs.declared.status.Status.{Status}
@@ -94,13 +94,20 @@ ends-done old new status.Outside v ordinary reaches = absurd ordinary
 
 -- ---- why a command stops
 
--- a command over the files, of a run that leaves the disk
-pub files-stop : {T : Type 0} (old new : RunSeen) (r : Result T Stop) → new.disk ≡ old.disk → HasStopCause old.seen.counts new.seen.counts r → HasRunStop old new r
-files-stop old new (Ok x) disk cause = record { counts = cause; disk = disk }
-files-stop old new (Err stop.Memory) disk cause = record { counts = cause; disk = disk }
-files-stop old new (Err stop.Files) disk cause = (cause.0, cause.1, disk)
-files-stop old new (Err stop.Disk) disk cause = absurd cause
-files-stop old new (Err stop.Report) disk cause = (cause.0, cause.1, disk)
+-- a command that reaches no file in place, of a run that leaves the disk
+pub files-stop : {T : Type 0} (reach : Reach) (old new : RunSeen) (r : Result T Stop) → IsSilent reach old.seen.lines new.seen.lines → new.disk ≡ old.disk → HasStopCause old.seen.counts new.seen.counts r → HasRunStop reach old new r
+files-stop reach old new (Ok x) silent disk cause = record { counts = cause; disk = disk }
+files-stop reach old new (Err stop.Memory) silent disk cause = (record { counts = cause; disk = disk }, silent)
+files-stop reach old new (Err stop.Files) silent disk cause = (cause.0, cause.1, disk)
+files-stop reach old new (Err stop.Disk) silent disk cause = absurd cause
+files-stop reach old new (Err stop.Report) silent disk cause = (cause.0, cause.1, disk)
+
+-- where no line was said, none was said of an edit in place
+pub silent-same : (reach : Reach) (old new : ReportLines) → new ≡ old → IsSilent reach old new
+silent-same nothing old new same = tt
+silent-same files old new same = tt
+silent-same (recovered file) old new same = same
+silent-same (edited file edits) old new same = same
 
 -- a command over the disk, of a run that leaves the files
 module _ {D : Type 0} (r : reads.Ghosts D) (d : disks.Ghosts D) (a b : D) (reading writing before now : ℕ) (lines lines_now : ReportLines) (names : Names) where
@@ -116,69 +123,91 @@ module _ {D : Type 0} (r : reads.Ghosts D) (d : disks.Ghosts D) (a b : D) (readi
     disk = record { reading = r.reading_faults b; writing = d.writing_faults b };
   }
 
-  pub disk-stop : {T : Type 0} (result : Result T Stop) → HasDiskStop r d a b before now result → SaysLast lines lines_now result → HasRunStop old new result
-  disk-stop (Ok x) cause last = record {
+  pub disk-stop : {T : Type 0} (reach : Reach) (result : Result T Stop) → HasDiskStop r d a b before now result → SaysLast lines lines_now result → HasRunStop reach old new result
+  disk-stop reach (Ok x) cause last = record {
     counts = λ i. record { reading = reading; writing = writing; report = cause.1 i };
     disk = λ i. record { reading = cause.0.reading i; writing = cause.0.writing i };
   }
-  disk-stop (Err stop.Memory) cause last = record {
-    counts = λ i. record { reading = reading; writing = writing; report = cause.1 i };
-    disk = λ i. record { reading = cause.0.reading i; writing = cause.0.writing i };
-  }
-  disk-stop (Err stop.Files) cause last = absurd cause
-  disk-stop (Err stop.Disk) cause last = (
+  disk-stop reach (Err stop.Memory) cause last = (
+    record {
+      counts = λ i. record { reading = reading; writing = writing; report = cause.1 i };
+      disk = λ i. record { reading = cause.0.reading i; writing = cause.0.writing i };
+    },
+    silent-same reach lines lines_now last,
+  )
+  disk-stop reach (Err stop.Files) cause last = absurd cause
+  disk-stop reach (Err stop.Disk) cause last = (
     elim cause.0 [ inl reads ↦ inl reads.0 | inr writes ↦ inr writes.1 ],
     λ i. record { reading = reading; writing = writing; report = cause.1 i },
     last,
   )
-  disk-stop (Err stop.Report) cause last = (cause.1, refl, λ i. record { reading = cause.0.reading i; writing = cause.0.writing i })
+  disk-stop reach (Err stop.Report) cause last = (cause.1, refl, λ i. record { reading = cause.0.reading i; writing = cause.0.writing i })
 
 -- ---- what a crash leaves
 
 -- a disk that isn't touched is left as it was
-untouched : {D : Type 0} (d : disks.Ghosts D) (old new : D) → AtRest d old → ((m s : List ℕ) → IsTrue d.told → d.left_since old (d.moment old) m s → IsPairImage (d.pair old) m s) → new ≡ old → AnyMoment d old new (LeftOnTheWay None)
+untouched : {D : Type 0} (d : disks.Ghosts D) (old new : D) → AtRest d old → ((m s : List ℕ) → IsTrue d.told → d.left_since old (d.moment old) m s → IsPairImage (d.pair old) m s) → new ≡ old → AnyMoment d old new (LeftOnTheWay nothing)
 untouched d old now rest only same = λ told.
-    subst (λ x. LeavesOnly d.moment d.left_since old x (LeftOnTheWay None (d.pair old).media.reads (d.pair old).sidecar.reads)) (sym same)
-    (stays d.moment d.left_since old (LeftOnTheWay None (d.pair old).media.reads (d.pair old).sidecar.reads) (λ m s left. both_image (d.pair old) m s (rest told) (only m s told left)))
+    subst (λ x. LeavesOnly d.moment d.left_since old x (LeftOnTheWay nothing (d.pair old).media.reads (d.pair old).sidecar.reads)) (sym same)
+    (stays d.moment d.left_since old (LeftOnTheWay nothing (d.pair old).media.reads (d.pair old).sidecar.reads) (λ m s left. both_image (d.pair old) m s (rest told) (only m s told left)))
 
 -- a crash leaves what it may on the way of what is done
-pub touches-moment : {F D : Type 0} (r : reads.Ghosts D) (d : disks.Ghosts D) (asked : Option InPlace) (files files_now : F) (old new : D) (s : Status)
-    → AtRest d old → ((m s : List ℕ) → IsTrue d.told → d.left_since old (d.moment old) m s → IsPairImage (d.pair old) m s) → Touches r d asked files files_now old new s → AnyMoment d old new (LeftOnTheWay asked)
-touches-moment r d (Some (recovered name)) files files_now was now s rest only touches = touches.1.leaves.any_moment
-touches-moment r d (Some (edited name edits)) files files_now was now s rest only touches = touches.1.leaves.any_moment
-touches-moment r d None files files_now was now s rest only touches = untouched d was now rest only touches
+pub touches-moment : {F D : Type 0} (r : reads.Ghosts D) (d : disks.Ghosts D) (reach : Reach) (before after : F) (old new : D) (s : Status)
+    → AtRest d old → ((m s : List ℕ) → IsTrue d.told → d.left_since old (d.moment old) m s → IsPairImage (d.pair old) m s) → Touches r d reach before after old new s → AnyMoment d old new (LeftOnTheWay reach)
+touches-moment r d nothing before after was now s rest only touches = untouched d was now rest only touches.1
+touches-moment r d files before after was now s rest only touches = untouched d was now rest only touches
+touches-moment r d (recovered name) before after was now s rest only touches = touches.1.leaves.any_moment
+touches-moment r d (edited name edits) before after was now s rest only touches = touches.1.leaves.any_moment
 
 -- without memory nothing was touched, whatever was asked for
-pub touches-nothing : {F D : Type 0} (r : reads.Ghosts D) (d : disks.Ghosts D) (asked : Option InPlace) (files : F) (disk : D)
-    → AtRest d disk → ((m s : List ℕ) → IsTrue d.told → d.left_since disk (d.moment disk) m s → IsPairImage (d.pair disk) m s) → Touches r d asked files files disk disk status.NoMemory
-touches-nothing r d (Some (recovered name)) files disk rest only = (
+pub touches-nothing : {F D : Type 0} (r : reads.Ghosts D) (d : disks.Ghosts D) (reach : Reach) (before : F) (disk : D)
+    → AtRest d disk → ((m s : List ℕ) → IsTrue d.told → d.left_since disk (d.moment disk) m s → IsPairImage (d.pair disk) m s) → Touches r d reach before before disk disk status.NoMemory
+touches-nothing r d (recovered name) before disk rest only = (
   refl,
   record {
     leaves = recovery-still d disk status.NoMemory rest (λ M S p same. same) only;
     opened = inr record { standing = refl; not_done = λ is. absurd (cc); missing = λ is told. absurd (cc) };
   },
 )
-touches-nothing r d (Some (edited name edits)) files disk rest only = (
+touches-nothing r d (edited name edits) before disk rest only = (
   refl,
   record {
     leaves = edit-still d edits disk status.NoMemory rest (λ M S p same. same) only;
     opened = inr record { standing = refl; not_done = λ is. absurd (cc); missing = λ is told. absurd (cc) };
   },
 )
-touches-nothing r d None files disk rest only = refl
+touches-nothing r d nothing before disk rest only = (refl, refl)
+touches-nothing r d files before disk rest only = refl
 
--- any other command edits no file in place
-pub edited-none : (c : Command) → ((file : List ℕ) → c ≡ command.Recover file → ⊥) → ((file : List ℕ) (edits : List Edit) → c ≡ command.Propedit file edits → ⊥) → edited_by c ≡ None
-edited-none (command.Help about) isnt other = refl
-edited-none command.Version isnt other = refl
-edited-none (command.Info file) isnt other = refl
-edited-none (command.Identify file) isnt other = refl
-edited-none (command.Recover file) isnt other = absurd (isnt file refl)
-edited-none (command.Reindex file) isnt other = refl
-edited-none (command.Generate n prefix) isnt other = refl
-edited-none (command.Extract file job) isnt other = refl
-edited-none (command.Propedit file edits) isnt other = absurd (other file edits refl)
-edited-none (command.Merge words) isnt other = refl
+-- what edits no file in place, and changes nothing
+module _ {F D : Type 0} (r : reads.Ghosts D) (d : disks.Ghosts D) (before : F) (disk : D) (s : Status) where
+  abbrev Stays : Command → Type 0
+  Stays c = Touches r d (reach_of c) before before disk disk s
+
+  pub stays-untouched : (c : Command) → ((file : List ℕ) → c ≡ command.Recover file → ⊥) → ((file : List ℕ) (edits : List Edit) → c ≡ command.Propedit file edits → ⊥) → Stays c
+  stays-untouched (command.Help about) isnt other = (refl, refl)
+  stays-untouched command.Version isnt other = (refl, refl)
+  stays-untouched (command.Info file) isnt other = refl
+  stays-untouched (command.Identify file) isnt other = refl
+  stays-untouched (command.Recover file) isnt other = absurd (isnt file refl)
+  stays-untouched (command.Reindex file) isnt other = (refl, refl)
+  stays-untouched (command.Generate n prefix) isnt other = (refl, refl)
+  stays-untouched (command.Extract file job) isnt other = refl
+  stays-untouched (command.Propedit file edits) isnt other = absurd (other file edits refl)
+  stays-untouched (command.Merge words) isnt other = refl
+
+-- what edits no file in place may say what it does
+pub stays-silent : (c : Command) (old new : ReportLines) → ((file : List ℕ) → c ≡ command.Recover file → ⊥) → ((file : List ℕ) (edits : List Edit) → c ≡ command.Propedit file edits → ⊥) → IsSilent (reach_of c) old new
+stays-silent (command.Help about) old new isnt other = tt
+stays-silent command.Version old new isnt other = tt
+stays-silent (command.Info file) old new isnt other = tt
+stays-silent (command.Identify file) old new isnt other = tt
+stays-silent (command.Recover file) old new isnt other = absurd (isnt file refl)
+stays-silent (command.Reindex file) old new isnt other = tt
+stays-silent (command.Generate n prefix) old new isnt other = tt
+stays-silent (command.Extract file job) old new isnt other = tt
+stays-silent (command.Propedit file edits) old new isnt other = absurd (other file edits refl)
+stays-silent (command.Merge words) old new isnt other = tt
 
 -- ---- texts that are said one after the other
 

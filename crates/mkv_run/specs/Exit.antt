@@ -6,12 +6,13 @@ use Rattle.mkv_lines.specs.Verdict.{Verdict}
 use Rattle.mkv_lines.specs.declared.status.Status.{Status}
 use Rattle.mkv_run.specs.Ends.{Ends}
 use Rattle.mkv_run.specs.RunSeen.{HasStatusCause, RunSeen}
+use Rattle.mkv_run.specs.Touched.{Reach}
 
 -- The program ends with the number of a status with which a run ends that has this verdict, where it is told; with that of
 -- a fault of the outside only where one was counted; and what it was given is changed as with that status.
-pub record HasExited (old new : RunSeen) (Changed : Status → Type 0) (verdict : Option Verdict) (code : ℕ) : Type 0 where
+pub record HasExited (reach : Reach) (old new : RunSeen) (Changed : Status → Type 0) (verdict : Option Verdict) (code : ℕ) : Type 0 where
   pub status : Status
   pub number : code ≡ code_of status
   pub ends : Told verdict (Ends old new status)
-  pub cause : HasStatusCause old new status
+  pub cause : HasStatusCause reach old new status
   pub changed : Changed status

@@ -1,16 +1,18 @@
 -- What is seen of a run: of its files and its report, and of its disk.
-use Rattle.std.specs.Prelude.{◌≡◌, ◌⊎◌, ℕ, Result, Ok, Err}
+use Rattle.std.specs.Prelude.{◌≡◌, ◌⊎◌, ⊤, ℕ, Result, Ok, Err}
 use Rattle.mkv_io.specs.Faults.{HasRisen}
 use Rattle.mkv_io.specs.declared.reads.Reads.{Ghosts as ReadsGhosts}
 use Rattle.mkv_io.specs.declared.files.Files.{Ghosts as FilesGhosts}
 use Rattle.mkv_io.specs.declared.report.Report.{Ghosts as ReportGhosts}
 use Rattle.mkv_disk.specs.declared.disk.Disk.{Ghosts as DiskGhosts}
 use Rattle.mkv_lines.specs.Faults.{FilesRose, ReportRose}
+use Rattle.mkv_lines.specs.Said.{ReportLines}
 use Rattle.mkv_lines.specs.Seen.{Seen, seen}
 use Rattle.mkv_lines.specs.declared.status.Status.{Status}
 use Rattle.mkv_lines.specs.declared.status.Status.TheVariants as status
 use Rattle.mkv_lines.specs.declared.status.Stop.{Stop}
 use Rattle.mkv_lines.specs.declared.status.Stop.TheVariants as stop
+use Rattle.mkv_run.specs.Touched.{Reach, edited, recovered}
 
 -- how often opening or reading failed, and writing
 pub record DiskFaults : Type 0 where
@@ -38,19 +40,26 @@ pub record IsFaultless (old new : RunSeen) : Type 0 where
   pub counts : new.seen.counts ≡ old.seen.counts
   pub disk : new.disk ≡ old.disk
 
+-- Nothing is said of a file in place that wasn't recovered or edited for want of memory.
+abbrev pub IsSilent : Reach → ReportLines → ReportLines → Type 0
+IsSilent (recovered file) old new = new ≡ old
+IsSilent (edited file edits) old new = new ≡ old
+IsSilent _ old new = ⊤
+
 -- Why a command stops: a fault is told only where a count of its object rose, and no other count does. Where the disk failed, no line
--- was said.
-abbrev pub HasRunStop : {T : Type 0} → RunSeen → RunSeen → Result T Stop → Type 0
-HasRunStop old new (Ok _) = IsFaultless old new
-HasRunStop old new (Err stop.Memory) = IsFaultless old new
-HasRunStop old new (Err stop.Files) =
+-- was said, and none of an edit in place for which there was no memory.
+abbrev pub HasRunStop : {T : Type 0} → Reach → RunSeen → RunSeen → Result T Stop → Type 0
+HasRunStop reach old new (Ok _) = IsFaultless old new
+HasRunStop reach old new (Err stop.Memory) = IsFaultless old new × IsSilent reach old.seen.lines new.seen.lines
+HasRunStop reach old new (Err stop.Files) =
     FilesRose old.seen.counts new.seen.counts × (new.seen.counts.report ≡ old.seen.counts.report) × (new.disk ≡ old.disk)
-HasRunStop old new (Err stop.Disk) = DiskRose old.disk new.disk × (new.seen.counts ≡ old.seen.counts) × (new.seen.lines ≡ old.seen.lines)
-HasRunStop old new (Err stop.Report) =
+HasRunStop reach old new (Err stop.Disk) = DiskRose old.disk new.disk × (new.seen.counts ≡ old.seen.counts) × (new.seen.lines ≡ old.seen.lines)
+HasRunStop reach old new (Err stop.Report) =
     ReportRose old.seen.counts new.seen.counts × (new.seen.counts ≡ record old.seen.counts { report = new.seen.counts.report }) × (new.disk ≡ old.disk)
 
--- A run ends with Outside only where a count rose, and always where one did.
-abbrev pub HasStatusCause : RunSeen → RunSeen → Status → Type 0
-HasStatusCause old new status.Outside =
+-- A run ends with Outside only where a count rose, and always where one did; and with NoMemory without a line of an edit in place.
+abbrev pub HasStatusCause : Reach → RunSeen → RunSeen → Status → Type 0
+HasStatusCause reach old new status.NoMemory = IsFaultless old new × IsSilent reach old.seen.lines new.seen.lines
+HasStatusCause reach old new status.Outside =
     FilesRose old.seen.counts new.seen.counts ⊎ (DiskRose old.disk new.disk ⊎ ReportRose old.seen.counts new.seen.counts)
-HasStatusCause old new _ = IsFaultless old new
+HasStatusCause reach old new _ = IsFaultless old new

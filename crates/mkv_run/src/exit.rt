@@ -12,7 +12,7 @@ ghost use Rattle.merged_outputs.specs.Merge.{HasMerged};
 ghost use Rattle.mkv_run.specs.Exit.{HasExited};
 ghost use Rattle.mkv_run.specs.Run.{ReadsWithinIn, verdict_in};
 ghost use Rattle.mkv_run.specs.RunSeen.{run_seen};
-ghost use Rattle.mkv_run.specs.Touched.{LeftOnTheWay, Touches, edited_in};
+ghost use Rattle.mkv_run.specs.Touched.{LeftOnTheWay, Touches, reach_in};
 
 use crate::running::run;
 use mkv_disk::Disk;
@@ -47,10 +47,10 @@ pub fn program<F: Files, D: Disk, R: Report>(
     report: &mut R,
 ) -> ExitCode
     requires { AtRest D.Disk.own disk.old }
-    ensures ok { IfOk words.now (λ words. HasExited
+    ensures ok { IfOk words.now (λ words. HasExited (reach_in (command (texts words.items)))
         (run_seen F.Reads F.Files.own D.Reads D.Disk.own R.Report files.old disk.old report.old)
         (run_seen F.Reads F.Files.own D.Reads D.Disk.own R.Report files.new disk.new report.new)
-        (Touches D.Reads D.Disk.own (edited_in (command (texts words.items))) files.old files.new disk.old disk.new)
+        (Touches D.Reads D.Disk.own (reach_in (command (texts words.items))) files.old files.new disk.old disk.new)
         (verdict_in (F.names files.old) (disk_world D.Disk.own disk.old) (texts words.items)) (exit_status result)) }
 
     // Where it ends with 0 or 1, the merge that the words ask for was written.
@@ -60,7 +60,7 @@ pub fn program<F: Files, D: Disk, R: Report>(
     ensures idle { OnErr words.now (run_seen F.Reads F.Files.own D.Reads D.Disk.own R.Report files.new disk.new report.new
         ≡ run_seen F.Reads F.Files.own D.Reads D.Disk.own R.Report files.old disk.old report.old) }
     ensures any_moment { MatchResult words.now (λ words. AnyMoment D.Disk.own disk.old disk.new
-        (LeftOnTheWay (edited_in (command (texts words.items))))) (λ _. disk.new ≡ disk.old) }
+        (LeftOnTheWay (reach_in (command (texts words.items))))) (λ _. disk.new ≡ disk.old) }
     ensures closed { (file : ℕ) → (live_files F.Reads files.new).live file ≡ (live_files F.Reads files.old).live file }
     ensures octets { IfOk words.now (λ words.
         ReadsWithinIn (F.names files.old) (texts words.items) (F.octets_read files.old) (F.octets_read files.new)) }

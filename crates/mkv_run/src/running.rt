@@ -20,7 +20,7 @@ ghost use Rattle.merged_outputs.specs.Merge.{MergesWell};
 ghost use Rattle.mkv_run.specs.Ends.{Ends};
 ghost use Rattle.mkv_run.specs.Run.{MergesRecords, MergesRecordsIn, ReadsWithin, ReadsWithinIn, verdict_in, verdict_of};
 ghost use Rattle.mkv_run.specs.RunSeen.{HasRunStop, HasStatusCause, run_seen};
-ghost use Rattle.mkv_run.specs.Touched.{LeftOnTheWay, Touches, edited_by, edited_in};
+ghost use Rattle.mkv_run.specs.Touched.{LeftOnTheWay, Touches, reach_in, reach_of};
 
 use crate::help::{help, version};
 use merge_words::MergeWords;
@@ -53,8 +53,9 @@ pub fn run<F: Files, D: Disk, R: Report>(
     // After a merge that ended well its output holds the merge, where the names are told and what they hold is octets.
     ensures merged { MergesWell (F.names files.old) (texts words.now.items) (F.names files.new) result }
 
-    // Outside is answered only where a count of faults rose, and always where one did.
-    ensures cause { HasStatusCause
+    // Outside is answered only where a count of faults rose, and always where one did. For want of memory an edit in place
+    // says nothing.
+    ensures cause { HasStatusCause (reach_in (command (texts words.now.items)))
         (run_seen F.Reads F.Files.own D.Reads D.Disk.own R.Report files.old disk.old report.old)
         (run_seen F.Reads F.Files.own D.Reads D.Disk.own R.Report files.new disk.new report.new) result }
 
@@ -64,12 +65,12 @@ pub fn run<F: Files, D: Disk, R: Report>(
     // What a merge may read; of other commands no bound is stated.
     ensures octets { ReadsWithinIn (F.names files.old) (texts words.now.items) (F.octets_read files.old) (F.octets_read files.new) }
 
-    // An edit in place leaves the files as they are, and all else the disk.
-    ensures touches { Touches D.Reads D.Disk.own (edited_in (command (texts words.now.items))) files.old files.new disk.old disk.new result }
+    // An edit in place leaves the files as they are, and all else the disk; help and words that are refused leave both.
+    ensures touches { Touches D.Reads D.Disk.own (reach_in (command (texts words.now.items))) files.old files.new disk.old disk.new result }
 
     // What a crash at any moment leaves of the two files of the disk: after an edit they come to the file as it was or as
     // it is to be, and where one is recovered to what they came to.
-    ensures any_moment { AnyMoment D.Disk.own disk.old disk.new (LeftOnTheWay (edited_in (command (texts words.now.items)))) }
+    ensures any_moment { AnyMoment D.Disk.own disk.old disk.new (LeftOnTheWay (reach_in (command (texts words.now.items)))) }
 {
     match carry_out(alloc, words, files, disk, report) {
         Ok(status) => status,
@@ -99,13 +100,13 @@ fn carry_out<F: Files, D: Disk, R: Report>(
         (seen F.Reads F.writing_faults F.names R.Report files.old report.old)
         (seen F.Reads F.writing_faults F.names R.Report files.new report.new) result) }
     ensures ordinary { IfOk result IsOrdinary }
-    ensures cause { HasRunStop
+    ensures cause { HasRunStop (reach_in (command (texts words.now.items)))
         (run_seen F.Reads F.Files.own D.Reads D.Disk.own R.Report files.old disk.old report.old)
         (run_seen F.Reads F.Files.own D.Reads D.Disk.own R.Report files.new disk.new report.new) result }
     ensures closed { (file : ℕ) → (live_files F.Reads files.new).live file ≡ (live_files F.Reads files.old).live file }
     ensures records { MergesRecordsIn (F.names files.old) (texts words.now.items) result }
     ensures octets { ReadsWithinIn (F.names files.old) (texts words.now.items) (F.octets_read files.old) (F.octets_read files.new) }
-    ensures touches { Touches D.Reads D.Disk.own (edited_in (command (texts words.now.items))) files.old files.new disk.old disk.new (status_of result) }
+    ensures touches { Touches D.Reads D.Disk.own (reach_in (command (texts words.now.items))) files.old files.new disk.old disk.new (status_of result) }
 {
     match read_words(alloc, words) {
         Ok(command) => obey(alloc, &command, files, disk, report),
@@ -128,13 +129,13 @@ fn obey<F: Files, D: Disk, R: Report>(
         (seen F.Reads F.writing_faults F.names R.Report files.old report.old)
         (seen F.Reads F.writing_faults F.names R.Report files.new report.new) result) }
     ensures ordinary { IfOk result IsOrdinary }
-    ensures cause { HasRunStop
+    ensures cause { HasRunStop (reach_of command.now)
         (run_seen F.Reads F.Files.own D.Reads D.Disk.own R.Report files.old disk.old report.old)
         (run_seen F.Reads F.Files.own D.Reads D.Disk.own R.Report files.new disk.new report.new) result }
     ensures closed { (file : ℕ) → (live_files F.Reads files.new).live file ≡ (live_files F.Reads files.old).live file }
     ensures records { MergesRecords (F.names files.old) command.now result }
     ensures octets { ReadsWithin (F.names files.old) command.now (F.octets_read files.old) (F.octets_read files.new) }
-    ensures touches { Touches D.Reads D.Disk.own (edited_by command.now) files.old files.new disk.old disk.new (status_of result) }
+    ensures touches { Touches D.Reads D.Disk.own (reach_of command.now) files.old files.new disk.old disk.new (status_of result) }
 {
     match command {
         Command::Help { about } => help(alloc, *about, report),

@@ -12,8 +12,7 @@ use Rattle.mkv_propedit.proofs.RecoverLemmas.{recover-outputs, verdict-told}
 use Rattle.mkv_propedit.specs.Propedit.{propedit_verdict}
 use Rattle.mkv_propedit.proofs.PropeditLemmas.{edit-told, propedit-outputs}
 use Rattle.mkv_run.specs.Run.{verdict_of}
-use Rattle.mkv_run.specs.Touched.{InPlace, Touches}
-use Rattle.mkv_run.proofs.RunLemmas.{edited-none, job-done}
+use Rattle.mkv_run.proofs.RunLemmas.{job-done, stays-untouched}
 use Rattle.mkv_run.proofs.running.obey.Goals as goal
 
 pub returns-in-Recover-clause-verdict : goal.returns-in-Recover-clause-verdict
@@ -41,8 +40,7 @@ returns-in-Propedit-clause-verdict g c =
 
 pub returns-in_default-clause-touches : goal.returns-in_default-clause-touches
 returns-in_default-clause-touches g c =
-    subst (λ (asked : Option InPlace). Touches g.D.Reads g.D.Disk asked c.args.files.now c.args.files.now c.args.disk.now c.args.disk.now (status_of c.refuse.result))
-    (sym (edited-none c.args.command.now c.in_default.not-Recover c.in_default.not-Propedit)) refl
+    stays-untouched g.D.Reads g.D.Disk c.args.files.now c.args.disk.now (status_of c.refuse.result) c.args.command.now c.in_default.not-Recover c.in_default.not-Propedit
 
 -- the words asked for a job that can be done
 pub extract_of-requires : goal.extract_of-requires

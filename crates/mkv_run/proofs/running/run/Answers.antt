@@ -9,7 +9,7 @@ use Rattle.mkv_propedit.specs.Recover.{disk_world}
 use Rattle.word_values.specs.Place.{texts}
 use Rattle.mkv_run.specs.Ends.{EndsOutside}
 use Rattle.mkv_run.specs.RunSeen.{RunSeen, run_seen}
-use Rattle.mkv_run.specs.Touched.{edited_in}
+use Rattle.mkv_run.specs.Touched.{reach_in}
 use Rattle.mkv_run.proofs.MergedLemmas.{merges-well}
 use Rattle.mkv_run.proofs.RunLemmas.{ends-done, fault-alone, fault-told, stops-saying, touches-moment}
 use Rattle.mkv_run.proofs.running.run.Goals as goal
@@ -76,25 +76,25 @@ returns-in-Ok-clause-merged g c =
 
 pub returns-in-Ok-clause-any_moment : goal.returns-in-Ok-clause-any_moment
 returns-in-Ok-clause-any_moment g c =
-    touches-moment g.D.Reads g.D.Disk (edited_in (command (texts c.args.words.now.items))) c.args.files.now c.carry_out.new.files c.args.disk.now c.carry_out.new.disk (status_of c.carry_out.result)
+    touches-moment g.D.Reads g.D.Disk (reach_in (command (texts c.args.words.now.items))) c.args.files.now c.carry_out.new.files c.args.disk.now c.carry_out.new.disk (status_of c.carry_out.result)
     c.requires (g.met.D.Disk.only_now c.args.disk.now) c.carry_out.ensures.touches
 
 pub returns-in-Err-Memory-clause-any_moment : goal.returns-in-Err-Memory-clause-any_moment
 returns-in-Err-Memory-clause-any_moment g c =
-    touches-moment g.D.Reads g.D.Disk (edited_in (command (texts c.args.words.now.items))) c.args.files.now c.carry_out.new.files c.args.disk.now c.carry_out.new.disk (status_of c.carry_out.result)
+    touches-moment g.D.Reads g.D.Disk (reach_in (command (texts c.args.words.now.items))) c.args.files.now c.carry_out.new.files c.args.disk.now c.carry_out.new.disk (status_of c.carry_out.result)
     c.requires (g.met.D.Disk.only_now c.args.disk.now) c.carry_out.ensures.touches
 
 pub returns-in-Err-Report-clause-any_moment : goal.returns-in-Err-Report-clause-any_moment
 returns-in-Err-Report-clause-any_moment g c =
-    touches-moment g.D.Reads g.D.Disk (edited_in (command (texts c.args.words.now.items))) c.args.files.now c.carry_out.new.files c.args.disk.now c.carry_out.new.disk (status_of c.carry_out.result)
+    touches-moment g.D.Reads g.D.Disk (reach_in (command (texts c.args.words.now.items))) c.args.files.now c.carry_out.new.files c.args.disk.now c.carry_out.new.disk (status_of c.carry_out.result)
     c.requires (g.met.D.Disk.only_now c.args.disk.now) c.carry_out.ensures.touches
 
 pub returns-in-Err-Files-clause-any_moment : goal.returns-in-Err-Files-clause-any_moment
 returns-in-Err-Files-clause-any_moment g c =
-    touches-moment g.D.Reads g.D.Disk (edited_in (command (texts c.args.words.now.items))) c.args.files.now c.carry_out.new.files c.args.disk.now c.carry_out.new.disk (status_of c.carry_out.result)
+    touches-moment g.D.Reads g.D.Disk (reach_in (command (texts c.args.words.now.items))) c.args.files.now c.carry_out.new.files c.args.disk.now c.carry_out.new.disk (status_of c.carry_out.result)
     c.requires (g.met.D.Disk.only_now c.args.disk.now) c.carry_out.ensures.touches
 
 pub returns-in-Err-Disk-clause-any_moment : goal.returns-in-Err-Disk-clause-any_moment
 returns-in-Err-Disk-clause-any_moment g c =
-    touches-moment g.D.Reads g.D.Disk (edited_in (command (texts c.args.words.now.items))) c.args.files.now c.carry_out.new.files c.args.disk.now c.carry_out.new.disk (status_of c.carry_out.result)
+    touches-moment g.D.Reads g.D.Disk (reach_in (command (texts c.args.words.now.items))) c.args.files.now c.carry_out.new.files c.args.disk.now c.carry_out.new.disk (status_of c.carry_out.result)
     c.requires (g.met.D.Disk.only_now c.args.disk.now) c.carry_out.ensures.touches
