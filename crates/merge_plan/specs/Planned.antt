@@ -13,6 +13,7 @@ use Rattle.merge_model.specs.FileLinks.{octets_in, given_in, IsOpenLink, IsToldL
 use Rattle.merge_model.specs.declared.link.Link.{Link}
 use Rattle.merge_model.specs.declared.link.Link.TheVariants.{Track, Entries}
 use Rattle.lanes.specs.Walks.{files_length}
+use Rattle.splitter.specs.Words.{size_of}
 use Rattle.remux_plan.specs.Parts.{drivers_of}
 use Rattle.remux_plan.specs.Plan.{links_of, rules_of}
 use Rattle.remux_plan.specs.declared.plan.MergePlan.{MergePlan}
@@ -71,12 +72,15 @@ GivesRecords words inputs (Err Memory) = ⊤
 
 -- ---- the plan
 
--- The plan that words and inputs come to: its name, where it is split and where its Clusters end, what stands in front of them and what behind,
+-- The plan that words and inputs come to: its name, where it is split and where its Clusters end, the identifiers of its outputs, what stands in front of them and what behind,
 -- with how many octets of attached files' data;
 -- and of each lane what its links give, by the contents of their files, their inputs, which blocks get a cue point, and whether it drives.
 pub record IsPlanOf (words : MergeWords) (inputs : List Input) (p : MergePlan) : Type 0 where
   pub output : p.output ≡ words.output
   pub split : p.split ≡ split_given words (map read_in inputs)
+  pub size : p.size ≡ size_of words.split
+  pub uuids : p.uuids ≡ words.uuids
+  pub link : p.link ≡ words.link
   pub limits : p.limits ≡ limits_of words
   pub front : (f : LiveFiles) → All (IsToldInput f) inputs → front_with f p.front ≡ front_of words (map (source_in f) inputs)
   pub octets : sum_by (λ (a : Attachment). a.len) p.front.attachments ≡ attached_length (map read_in inputs)

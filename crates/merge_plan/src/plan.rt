@@ -1,9 +1,8 @@
 //! The plan of a merge.
 
-ghost use Rattle.std.specs.Prelude.{◌≡◌, true, IfOk};
+ghost use Rattle.std.specs.Prelude.{◌≡◌, IfOk};
 ghost use Rattle.std.specs.List.{All};
 ghost use Rattle.std.specs.Option.{option_copied};
-ghost use Rattle.splitter.specs.Words.{is_by_time};
 ghost use Rattle.merge_plan.specs.Lent.{lent};
 ghost use Rattle.merge_plan.specs.Planned.{AreSound, CanBeWritten, GivesRecords, Plans};
 ghost use Rattle.merge_plan.specs.Refusal.{lanes_refusal, other_codec};
@@ -19,9 +18,10 @@ use crate::webm::is_webm_codec;
 use merge_inputs::{Input, TakenTrack};
 use merge_words::MergeWords;
 use merged_records::{first_too_large, info_of};
-use mkv_io::Text;
+use mkv_io::{List, Text};
 use output_model::{ClusterLimits, Front, MOST_LANES};
 use remux_plan::MergePlan;
+use splitter::split_size;
 use std::alloc::{AllocError, Global};
 
 /// The CodecID of the first track that a WebM output can't have.
@@ -78,14 +78,20 @@ fn records_for(
     }
 }
 
+/// The identifiers of the outputs, as far as they are given.
+fn uuids_of(alloc: Global, words: &MergeWords) -> Result<List<u128>, AllocError>
+    ensures { IfOk result (λ uuids. uuids ≡ words.now.uuids) }
+{
+    let uuids = Vec::from_slice(alloc, words.uuids.as_slice())?;
+    Ok(List::from_vec(uuids))
+}
+
 /// What these inputs come to in one output, or the first thing that refuses them: that no track is taken, or more than 64;
-/// in WebM a track of a codec that it can't have; and Tracks, Chapters or Tags that would be too large to be read again. What
-/// is split by octets isn't built.
+/// in WebM a track of a codec that it can't have; and Tracks, Chapters or Tags that would be too large to be read again.
 pub fn plan_of(alloc: Global, words: &MergeWords, inputs: &[Input]) -> Result<MergePlan, PlanEnd>
     requires tracks { All HasTaken inputs.now }
     requires records { All HasRecords inputs.now }
     requires places { All HasPlace inputs.now }
-    requires split { is_by_time words.now.split ≡ true }
     ensures exact { Plans words.now inputs.now result }
     ensures written { IfOk result (CanBeWritten inputs.now) }
 {
@@ -97,11 +103,13 @@ pub fn plan_of(alloc: Global, words: &MergeWords, inputs: &[Input]) -> Result<Me
     } = records_for(alloc, words, inputs)?;
     let info = info_of(alloc, words.scale, title_of(words, inputs))?;
     let split = split_of(alloc, words, &chapters)?;
+    let uuids = uuids_of(alloc, words)?;
     let taken = tracks_taken(alloc, inputs)?;
     let videos = videos_of(alloc, taken.as_slice())?;
     Ok(MergePlan {
         output: words.output.clone()?,
         split,
+        size: split_size(&words.split),
         limits: ClusterLimits {
             blocks: words.blocks,
             span: words.span,
@@ -116,5 +124,7 @@ pub fn plan_of(alloc: Global, words: &MergeWords, inputs: &[Input]) -> Result<Me
         },
         chapters,
         tags,
+        uuids,
+        link: words.link,
     })
 }

@@ -1,9 +1,9 @@
 //! Where the output of a merge is split: RFC 9559, section 5.1.7 (Chapters Element), has the chapters. That it is split, and how, is this project's.
 
-ghost use Rattle.std.specs.Prelude.{◌≡◌, map, true, IfOk, IfSome};
+ghost use Rattle.std.specs.Prelude.{◌≡◌, map, IfOk, IfSome};
 ghost use Rattle.mkv_schema.specs.declared.ids.TheConstants.{CHAPTERS};
 ghost use Rattle.ebml_tree.specs.Building.{IsRead};
-ghost use Rattle.splitter.specs.Words.{is_by_time, spec_of};
+ghost use Rattle.splitter.specs.Words.{spec_of};
 ghost use Rattle.merge_plan.specs.Lent.{lent};
 ghost use Rattle.merge_plan.specs.Plan.{is_video, starts_in};
 
@@ -27,14 +27,13 @@ fn starts_in(alloc: Global, chapters: &Option<Tree>) -> Result<List<u64>, AllocE
     }
 }
 
-/// Where an output with these Chapters is split.
+/// The times at which an output with these Chapters is split.
 pub(crate) fn split_of(
     alloc: Global,
     words: &MergeWords,
     chapters: &Option<Tree>,
 ) -> Result<SplitSpec, AllocError>
-    requires split { is_by_time words.now.split ≡ true }
-    requires chapters { IfSome chapters.now (IsRead CHAPTERS) }
+    requires { IfSome chapters.now (IsRead CHAPTERS) }
     ensures { IfOk result (λ spec. spec ≡ spec_of words.now.split (starts_in chapters.now)) }
 {
     let starts = starts_in(alloc, chapters)?;

@@ -35,9 +35,9 @@ table =
     option (codes "") (codes "--chapters") s.ChapterFile Output f.Name (codes "take chapters from a text") ∷
     option (codes "") (codes "--timestamp-scale") s.Scale Output f.Scale (codes "let a tick of the output last so long") ∷
     option (codes "") (codes "--cluster-length") s.ClusterLength Output f.Length (codes "end a Cluster by then") ∷
-    option (codes "") (codes "--split") s.Split Output f.Split (codes "begin new outputs there (size: not built)") ∷
-    option (codes "") (codes "--segment-uid") s.Uuids Output f.Uuids (codes "give the outputs these (not built)") ∷
-    option (codes "") (codes "--link") s.Link Output f.Flag (codes "link the outputs to each other (not built)") ∷
+    option (codes "") (codes "--split") s.Split Output f.Split (codes "begin new outputs there") ∷
+    option (codes "") (codes "--segment-uid") s.Uuids Output f.Uuids (codes "give the outputs these") ∷
+    option (codes "") (codes "--link") s.Link Output f.Flag (codes "name the outputs beside each") ∷
     option (codes "-J") (codes "") s.Identify Output f.Flag (codes "identify FILE, and nothing else") ∷
     option (codes "-a") (codes "--audio-tracks") s.Audio File f.Ids (codes "take these audio tracks") ∷
     option (codes "-A") (codes "--no-audio") s.Audio File f.Exclusion (codes "take no audio track") ∷

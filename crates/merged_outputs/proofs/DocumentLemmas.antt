@@ -1,5 +1,5 @@
 -- The document of each output of a merge is sound.
-use Rattle.std.proofs.Common.{◌≡◌, ◌<◌, ◌≤◌, ℕ, ◌^◌, Bool, true, false, if◌then◌else◌, List, [], ◌∷◌, ◌++◌, length, length-append, map, Option, Some, None, IfSome, refl, sym, ap, subst, ◌∙◌, arith, unwrap_or}
+use Rattle.std.proofs.Common.{◌≡◌, ◌<◌, ◌≤◌, ℕ, ◌^◌, Bool, true, false, if◌then◌else◌, List, [], ◌∷◌, ◌++◌, length, length-append, append_assoc, map, max, Option, Some, None, IfSome, refl, sym, ap, subst, ◌∙◌, arith, unwrap_or}
 use Rattle.std.specs.List.{All}
 use Rattle.std.specs.Str.{IsUtf8}
 use Rattle.std.proofs.lemmas.List.Elements.{All-nil, All-cons, All-head, All-tail, All-append}
@@ -8,9 +8,9 @@ use Rattle.std.proofs.lemmas.Option.{IfSome_then}
 use Rattle.std.proofs.lemmas.Str.{IsUtf8-nil}
 use lib.Utf8.{encode}
 use Rattle.ebml_numbers.specs.Number.{id_octets}
-use Rattle.mkv_schema.specs.declared.ids.TheConstants.{ATTACHMENTS, CHAPTERS, INFO, TIMESTAMP_SCALE, TITLE, MUXING_APP, WRITING_APP, SEGMENT, ATTACHED_FILE, FILE_DATA}
+use Rattle.mkv_schema.specs.declared.ids.TheConstants.{ATTACHMENTS, CHAPTERS, INFO, NEXT_UUID, PREV_UUID, SEGMENT_UUID, TIMESTAMP_SCALE, TITLE, MUXING_APP, WRITING_APP, SEGMENT, ATTACHED_FILE, FILE_DATA}
 use Rattle.mkv_io.specs.declared.outside.TheConstants.{LONGEST_FILE}
-use Rattle.tree_format.specs.Node.{Node, leaf, master, nodes_of, list_of, depth_all}
+use Rattle.tree_format.specs.Node.{Node, leaf, master, nodes_of, list_of, depth_all, id_of}
 use Rattle.tree_format.specs.Changes.{part, with_child}
 use Rattle.tree_format.specs.NormalForm.{content, longest}
 use Rattle.tree_format.specs.Standing.{AllStandIn, StandsIn}
@@ -27,7 +27,12 @@ use Rattle.output_model.specs.Cues.{cues_elements}
 use Rattle.output_model.specs.SeekHead.{area_elements}
 use Rattle.output_model.specs.Document.{Document, ebml_element, tree_element, tree_elements, attachments_elements, front_elements, clusters_elements, back_elements, elements_behind_area, seeks_of, segment_size, layout}
 use Rattle.output_model.specs.Sound.{IsRecord, IsAttachment, IsSoundCluster, IsSoundDocument}
-use Rattle.tree_format.specs.Children.{uint_leaf}
+use Rattle.tree_format.specs.Children.{given, uint_leaf}
+use Rattle.ebml_numbers.specs.Number.{is_id}
+use Rattle.mkv_schema.specs.Table.{table}
+use Rattle.mkv_schema.specs.Schema.{entry_of}
+use Rattle.remux_plan.specs.Uuids.{uuid_elements, uuid_leaf, uuids_at, with_uuids}
+use Rattle.remux_plan.specs.declared.uuids.PartUuids.{PartUuids}
 use Rattle.merged_records.specs.Info.{application, title_elements, output_info}
 use Rattle.merged_records.proofs.OutputLemmas.{info-scale, scale-in, title-in, muxing-in, writing-in}
 use Rattle.ebml_tree.proofs.LeafLemmas.{uint-stands, text-stands}
@@ -175,15 +180,66 @@ info-stands scale (o ∷ octets) small text = (
   (text-stands INFO TITLE (o ∷ octets) title-in text, (text-stands INFO MUXING_APP application muxing-in application-text, (text-stands INFO WRITING_APP application writing-in application-text, tt))),
 )
 
-info-flat : (scale : ℕ) (title : List ℕ) → depth_all (nodes_of (uint_leaf TIMESTAMP_SCALE scale ∷ title_elements title ++ (leaf MUXING_APP 0 application ∷ leaf WRITING_APP 0 application ∷ []))) ≡ 0
-info-flat scale [] = refl
-info-flat scale (o ∷ octets) = refl
+-- ---- an Info with identifiers
 
--- An Info of a scale and a title is a record.
-pub info-record : (scale : ℕ) (title : List ℕ) → scale < 2 ^ 64 → IsUtf8 title → length (content (output_info scale title)) ≤ longest → IsRecord INFO (output_info scale title)
-info-record scale title small text short =
-    let flat = info-flat scale title in
-    record { id = refl; master = refl; sound = info-stands scale title small text; limits = record { long = short; deep = omega arith } }
+-- any octets are a SegmentUUID, a PrevUUID or a NextUUID
+own-stands : (uuid : ℕ) → StandsIn INFO (uuid_leaf SEGMENT_UUID uuid)
+unfolding entry_of table is_id
+own-stands uuid = record { id_stands = refl; no_master = refl; value = refl }
+
+before-stands : (uuid : ℕ) → StandsIn INFO (uuid_leaf PREV_UUID uuid)
+unfolding entry_of table is_id
+before-stands uuid = record { id_stands = refl; no_master = refl; value = refl }
+
+next-stands : (uuid : ℕ) → StandsIn INFO (uuid_leaf NEXT_UUID uuid)
+unfolding entry_of table is_id
+next-stands uuid = record { id_stands = refl; no_master = refl; value = refl }
+
+-- what is given stands in front of what stands there, and so deep
+record StandsFlat (ns : List Node) : Type 0 where
+  stand : AllStandIn INFO (nodes_of ns)
+  flat : depth_all (nodes_of ns) ≡ 0
+
+given-flat : (id : ℕ) → ((uuid : ℕ) → StandsIn INFO (uuid_leaf id uuid)) → (o : Option ℕ) (ns : List Node) → StandsFlat ns → StandsFlat (given (uuid_leaf id) o ++ ns)
+given-flat id stands None ns others = others
+given-flat id stands (Some uuid) ns others = record { stand = (stands uuid, others.stand); flat = ap (λ (n : ℕ). max 0 n) others.flat }
+
+uuids-flat : (u : PartUuids) (ns : List Node) → StandsFlat ns → StandsFlat (uuid_elements u ++ ns)
+uuids-flat u ns others =
+    subst StandsFlat
+    (sym (append_assoc (given (uuid_leaf SEGMENT_UUID) u.own) (given (uuid_leaf PREV_UUID) u.before ++ given (uuid_leaf NEXT_UUID) u.next) ns
+    ∙ ap (λ (ms : List Node). given (uuid_leaf SEGMENT_UUID) u.own ++ ms) (append_assoc (given (uuid_leaf PREV_UUID) u.before) (given (uuid_leaf NEXT_UUID) u.next) ns)))
+    (given-flat SEGMENT_UUID own-stands u.own _ (given-flat PREV_UUID before-stands u.before _ (given-flat NEXT_UUID next-stands u.next ns others)))
+
+-- what stands behind the scale
+abbrev behind_scale : List ℕ → List Node
+behind_scale title = title_elements title ++ (leaf MUXING_APP 0 application ∷ leaf WRITING_APP 0 application ∷ [])
+
+-- the Info with its identifiers
+own-info : (u : PartUuids) (scale : ℕ) (title : List ℕ) → with_uuids u (output_info scale title) ≡ master INFO 0 (nodes_of (uint_leaf TIMESTAMP_SCALE scale ∷ (uuid_elements u ++ behind_scale title)))
+unfolding with_uuids
+own-info u scale title = ap (λ (ns : List Node). master INFO 0 (nodes_of (uint_leaf TIMESTAMP_SCALE scale ∷ (uuid_elements u ++ ns)))) (list-nodes (behind_scale title))
+
+-- It is a record too,
+pub own-record : (u : PartUuids) (scale : ℕ) (title : List ℕ) → scale < 2 ^ 64 → IsUtf8 title → length (content (with_uuids u (output_info scale title))) ≤ longest → IsRecord INFO (with_uuids u (output_info scale title))
+own-record u scale title small text =
+    subst (λ (n : Node). length (content n) ≤ longest → IsRecord INFO n) (sym (own-info u scale title))
+    (λ short.
+    let stand = info-stands scale title small text in
+    let flat : depth_all (nodes_of (behind_scale title)) ≡ 0 = behind-flat title in
+    let whole = uuids-flat u (behind_scale title) (record { stand = stand.1; flat = flat }) in
+    let none = whole.flat in
+    record { id = refl; master = refl; sound = (stand.0, whole.stand); limits = record { long = short; deep = omega arith } })
+  where
+    behind-flat : (its : List ℕ) → depth_all (nodes_of (behind_scale its)) ≡ 0
+    behind-flat [] = refl
+    behind-flat (o ∷ octets) = refl
+
+-- of the same scale.
+pub own-scale : (u : PartUuids) (scale : ℕ) (title : List ℕ) → scale_of (with_uuids u (output_info scale title)) ≡ scale_of (output_info scale title)
+own-scale u scale title = ap scale_of (own-info u scale title)
+
+-- ---- what is asked of the title
 
 first-text : (sources : List Source) → All IsReadSource sources → IsUtf8 (first_title (reads_of sources))
 first-text [] each = IsUtf8-nil
@@ -210,19 +266,19 @@ all-tracks (s ∷ ss) each =
 
 -- ---- the document
 
--- the document of a part, with these attached files
-abbrev pub document_with : MergeWords → List Source → List Node → Part → Document
-document_with words sources files part =
-    document_of (limits_of words) (rules_given (reads_of sources)) (record (front_of words sources) { attachments = files }) (chapters_in words sources part) (tags_of (reads_of sources)) part.blocks
+-- the document of the part of a number, with these attached files
+abbrev pub document_with : MergeWords → List Source → ℕ → List Node → Part → Document
+document_with words sources number files part =
+    document_of (limits_of words) (rules_given (reads_of sources)) (record (front_of words sources) { info = with_uuids (uuids_at words.uuids words.link number) (front_of words sources).info; attachments = files }) (chapters_in words sources part) (tags_of (reads_of sources)) part.blocks
 
 -- what stands of the Chapters in a part
 part-chapters : (words : MergeWords) (sources : List Source) (part : Part) → HaveRecords sources → IfSome (chapters_in words sources part) (IsRecordIfShort CHAPTERS)
 part-chapters words sources part have = chapters-stand (is_split words) (stretch_of words.scale part.start part.end) (chapters_of (reads_of sources)) have.chapters
 
 -- Info, Tracks, Chapters and Tags have their IDs.
-pub document-ids : (words : MergeWords) (sources : List Source) (files : List Node) (part : Part) → HaveRecords sources → HasIds (document_with words sources files part)
-document-ids words sources files part have = record {
-  info = refl;
+pub document-ids : (words : MergeWords) (sources : List Source) (number : ℕ) (files : List Node) (part : Part) → HaveRecords sources → HasIds (document_with words sources number files part)
+document-ids words sources number files part have = record {
+  info = ap id_of (own-info (uuids_at words.uuids words.link number) words.scale (title_of words (reads_of sources)));
   tracks = refl;
   chapters = IfSome_then (chapters_in words sources part) (part-chapters words sources part have) (λ n is. is.read.id);
   tags = IfSome_then (tags_of (reads_of sources)) have.tags (λ n is. is.id);
@@ -243,18 +299,18 @@ module _ (words : MergeWords) (sources : List Source) (sound : IsSoundMerge word
   document-plain = taken-plain (tracks_taken (reads_of sources)) (all-tracks sources are.each) tracks-few
 
   -- The scale of its Info is that of the words.
-  pub document-scale : scale_of (info_of words (reads_of sources)) ≡ words.scale
-  document-scale = info-scale words.scale (title_of words (reads_of sources)) scale-small
+  pub document-scale : (number : ℕ) → scale_of (with_uuids (uuids_at words.uuids words.link number) (info_of words (reads_of sources))) ≡ words.scale
+  document-scale number = own-scale (uuids_at words.uuids words.link number) words.scale (title_of words (reads_of sources)) ∙ info-scale words.scale (title_of words (reads_of sources)) scale-small
 
   -- It is sound, where its records can be written and its blocks are those of the lanes.
-  pub document-sound : (files : List Node) (part : Part) → HaveRecords sources → All IsFilled files → All (IsOf (length (lanes_selected words sources))) part.blocks
-      → length (layout (document_with words sources files part)) ≤ LONGEST_FILE → IsSoundDocument (document_with words sources files part)
-  document-sound files part have filled blocks short =
-      let d : Document = document_with words sources files part in
+  pub document-sound : (number : ℕ) (files : List Node) (part : Part) → HaveRecords sources → All IsFilled files → All (IsOf (length (lanes_selected words sources))) part.blocks
+      → length (layout (document_with words sources number files part)) ≤ LONGEST_FILE → IsSoundDocument (document_with words sources number files part)
+  document-sound number files part have filled blocks short =
+      let d : Document = document_with words sources number files part in
       let some = sound.scale.least in
       record {
-        info = info-record words.scale (title_of words (reads_of sources)) scale-small (title-text words.title (first_title (reads_of sources)) texts.title (first-text sources are.each)) (omega (arith, info-short d));
-        scale = omega (arith, document-scale);
+        info = own-record (uuids_at words.uuids words.link number) words.scale (title_of words (reads_of sources)) scale-small (title-text words.title (first_title (reads_of sources)) texts.title (first-text sources are.each)) (omega (arith, info-short d));
+        scale = omega (arith, document-scale number);
         tracks = taken-tracks (tracks_taken (reads_of sources)) (all-tracks sources are.each) tracks-few (omega (arith, tracks-short d));
         attachments = files-sound (length (layout d)) files (omega arith) filled (files-short d);
         clusters = subst (λ (n : ℕ). All (IsSoundCluster n) d.clusters) (sym lanes-as_many) (clusters-sound (length (lanes_selected words sources)) (limits_of words) part.blocks blocks);

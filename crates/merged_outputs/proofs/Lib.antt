@@ -6,6 +6,7 @@ mod GivenLemmas
 mod PlaceLemmas
 mod SourceLemmas
 mod LaneLemmas
+mod LoadLemmas
 mod ChapterLemmas
 mod PartLemmas
 mod DocumentLemmas

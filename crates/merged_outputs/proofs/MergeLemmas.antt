@@ -46,6 +46,7 @@ use Rattle.merged_outputs.specs.Merge.{Holds, HoldsLanes, IsMerged, lanes_select
 use Rattle.merged_outputs.specs.Sources.{AreSources, HoldsOctets}
 use Rattle.merged_outputs.proofs.DocumentLemmas.{document-ids, document-plain, document-scale, document-sound, document_with}
 use Rattle.merged_outputs.proofs.LaneLemmas.{lanes-free}
+use Rattle.merged_outputs.proofs.LoadLemmas.{loads-kept}
 use Rattle.merged_outputs.proofs.OutputLemmas.{IsPartOf, output_with, outputs-hold}
 use Rattle.merged_outputs.proofs.SourceLemmas.{sources-read}
 
@@ -74,10 +75,10 @@ drafts-named (o ∷ os) become =
 module _ (words : MergeWords) (sources : List Source) (sound : IsSoundMerge words) (texts : AreTexts words) (are : AreSources words sources) (have : HaveRecords sources) where
   module _ (number : ℕ) (files : List Node) (part : Part) (filled : All IsFilled files) (is : IsPartOf words sources part) where
     abbrev document : Document
-    document = document_with words sources files part
+    document = document_with words sources number files part
 
     sound-one : length (layout document) ≤ LONGEST_FILE → IsSoundDocument document
-    sound-one = document-sound words sources sound texts are files part have filled is.blocks
+    sound-one = document-sound words sources sound texts are number files part have filled is.blocks
 
     holds-one : Holds words (output_with words sources number files part) (layout document)
     holds-one short =
@@ -86,12 +87,12 @@ module _ (words : MergeWords) (sources : List Source) (sound : IsSoundMerge word
         record {
           document = layout-read document good;
           plain = document-plain words sources sound texts are;
-          order = ap (λ s. blocks_read s events) (sym (document-scale words sources sound texts are)) ∙ order-again document (limits_of words) part.blocks good refl;
+          order = ap (λ s. blocks_read s events) (sym (document-scale words sources sound texts are number)) ∙ order-again document (limits_of words) part.blocks good refl;
         }
 
     lanes-one : HoldsLanes words sources (output_with words sources number files part) (layout document)
     lanes-one whole short =
-        let scale = document-scale words sources sound texts are in
+        let scale = document-scale words sources sound texts are number in
         let events = file_events false (layout document) (header_of_segment document) in
         let lanes = lanes_selected words sources in
         let as_many : length lanes ≡ length (lanes_given sources) = length-map (lanes_given sources) (lane_blocks words.scale) in
@@ -99,7 +100,7 @@ module _ (words : MergeWords) (sources : List Source) (sound : IsSoundMerge word
         ∙ lanes-again document (limits_of words) lanes (sound-one short) (ap (clusters (limits_of words)) (is.whole whole)) (lanes-free words.scale sources are.each)
 
     becomes-one : Becomes (output_with words sources number files part)
-    becomes-one = draft-layout (name_of (is_split words) words.output number) document (length-area_of document (document-ids words sources files part have))
+    becomes-one = draft-layout (name_of (is_split words) words.output number) document (length-area_of document (document-ids words sources number files part have))
 
   -- The document of each output can be written.
   pub documents-sound : All (λ (o : PlannedOutput). length (layout o.document) ≤ LONGEST_FILE → IsSoundDocument o.document) (outputs_of words sources)
@@ -136,6 +137,7 @@ verdict-merged world words old new s told holds sound texts found other = split 
               ∙ ap (with_outputs (Some world)) (drafts-become words sources sound texts are have);
           holds = zip-layouts (Holds words) outputs (layouts-hold words sources sound texts are have);
           lanes = zip-layouts (HoldsLanes words sources) outputs (layouts-hold_lanes words sources sound texts are have);
+          loads = loads-kept words sources sound;
         }
 
 -- So has a run whose words ask for it.

@@ -6,9 +6,10 @@ use Rattle.tree_format.specs.Node.{Node}
 use Rattle.output_model.specs.Cued.{document_of}
 use Rattle.output_laws.proofs.MergedClusterLemmas.{IsOf, merged-of}
 use Rattle.splitter.specs.Sections.{Part}
-use Rattle.splitter.specs.Words.{spec_of}
+use Rattle.splitter.specs.Words.{size_of, spec_of}
 use Rattle.splitter.proofs.SectionLemmas.{whole-part}
 use Rattle.remux_plan.specs.Parts.{PlannedOutput, name_of}
+use Rattle.remux_plan.specs.Uuids.{uuids_at, with_uuids}
 use Rattle.word_values.specs.declared.lists.SplitWords.{SplitWords}
 use Rattle.merge_words.specs.declared.output.MergeWords.{MergeWords}
 use Rattle.merge_words.specs.Sound.{IsSoundMerge}
@@ -37,7 +38,7 @@ HasAll words sources part = part.blocks ≡ blocks_of words sources
 
 one-part : (words : MergeWords) (sources : List Source) → words.split ≡ None → parts_of words sources ≡ whole_of words sources ∷ []
 one-part words sources whole =
-    whole-part (split_of words sources) (blocks_of words sources) (ap (λ (o : Option SplitWords). spec_of o (starts_in (chapters_of (reads_of sources)))) whole)
+    whole-part (split_of words sources) (blocks_of words sources) (ap (λ (o : Option SplitWords). spec_of o (starts_in (chapters_of (reads_of sources)))) whole) (ap size_of whole)
 
 pub one-output : WholeMergesAreOne
 one-output words sources whole =
@@ -46,9 +47,9 @@ one-output words sources whole =
 
 -- ---- each output
 
--- the output of a part, with these attached files
+-- the output of the part of a number, with these attached files
 abbrev pub output_with : MergeWords → List Source → ℕ → List Node → Part → PlannedOutput
-output_with words sources number files part = record { name = name_of (is_split words) words.output number; blocks = part.blocks; document = document_with words sources files part }
+output_with words sources number files part = record { name = name_of (is_split words) words.output number; blocks = part.blocks; document = document_with words sources number files part }
 
 -- A part has sound blocks of the lanes that are selected, and where nothing is split, all of them.
 pub record IsPartOf (words : MergeWords) (sources : List Source) (part : Part) : Type 0 where
@@ -81,7 +82,7 @@ module _ (words : MergeWords) (sources : List Source) (sound : IsSoundMerge word
           of : (first : Bool) → P (record {
             name = name_of (is_split words) words.output each.0;
             blocks = each.1.blocks;
-            document = document_of (limits_of words) (rules_given (reads_of sources)) (if first then front_of words sources else record (front_of words sources) { attachments = [] }) (chapters_in words sources each.1) (tags_of (reads_of sources)) each.1.blocks;
+            document = document_of (limits_of words) (rules_given (reads_of sources)) (record (front_of words sources) { info = with_uuids (uuids_at words.uuids words.link each.0) (front_of words sources).info; attachments = if first then (front_of words sources).attachments else [] }) (chapters_in words sources each.1) (tags_of (reads_of sources)) each.1.blocks;
           })
           of true = holds each.0 (attachments_of sources) each.1 have.attachments is
           of false = holds each.0 [] each.1 (All-nil IsFilled) is

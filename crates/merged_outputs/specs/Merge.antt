@@ -1,5 +1,5 @@
 -- Contents that hold a merge.
-use Rattle.std.specs.Prelude.{◌≡◌, ◌≤◌, ⊤, ℕ, false, List, All, Option, None, Some, Ok, length, map}
+use Rattle.std.specs.Prelude.{◌≡◌, ◌≤◌, ⊤, ℕ, false, List, All, IfSome, Option, None, Some, Ok, length, map}
 use Rattle.std.specs.List.{AllZip, zip}
 use Rattle.mkv_io.specs.declared.outside.TheConstants.{LONGEST_FILE}
 use Rattle.mkv_io.specs.Names.{Names}
@@ -15,12 +15,15 @@ use Rattle.output_model.specs.OutputBlock.{OutputBlock}
 use Rattle.output_laws.specs.Reading.{header_of_segment, IsReadAs}
 use Rattle.merge_model.specs.Lanes.{lane_blocks}
 use Rattle.output_laws.specs.Lanes.{blocks_read, lanes_read}
+use Rattle.splitter.specs.Sections.{Split, parts}
+use Rattle.splitter.specs.Words.{size_of}
+use Rattle.part_size.specs.Laws.{AllButLast, IsFull, IsSmall}
 use Rattle.remux_plan.specs.Parts.{PlannedOutput}
 use Rattle.merge_words.specs.declared.output.MergeWords.{MergeWords}
 use Rattle.merge_plan.specs.Plan.{Source, lanes_given}
 use Rattle.mkv_args.specs.Words.{command}
 use Rattle.mkv_args.specs.declared.command.Command.TheVariants.{Merge}
-use Rattle.mkv_merge.specs.Merge.{outputs_of, sources_of}
+use Rattle.mkv_merge.specs.Merge.{blocks_of, outputs_of, sources_of, split_of}
 use Rattle.mkv_lines.specs.declared.status.Status.{Status}
 use Rattle.mkv_lines.specs.declared.status.Status.TheVariants.{Done, Warned}
 use Rattle.merged_outputs.specs.Sources.{HoldsOctets}
@@ -63,8 +66,14 @@ HoldsLanes words sources o bytes =
 abbrev pub named : List PlannedOutput → List (List ℕ) → List Output
 named outputs contents = map (λ (each : PlannedOutput × List ℕ). record { name = each.0.name; content = each.1 }) (zip outputs contents)
 
+-- Parts that end at a load: each but the last has come to the limit, and in each the load before each block at which it might be cut, so
+-- also before the last of them, is below it.
+pub record KeepsLimit (s : Split) (blocks : List OutputBlock) (limit : ℕ) : Type 0 where
+  pub full : AllButLast (IsFull limit) (parts s blocks)
+  pub small : All (IsSmall s limit) (parts s blocks)
+
 -- A merge was written in a world of names: each of its outputs, the parts of its merged list, has a content that holds it; one that isn't
--- split holds all lanes; and every other name has what it had before.
+-- split holds all lanes; parts that end at a load keep its limit; and every other name has what it had before.
 pub record IsMerged (world : List ℕ → Option (List ℕ)) (words : MergeWords) (new : Names) : Type 0 where
   pub sources : List Source
   pub taken : sources_of world words ≡ Ok sources
@@ -72,6 +81,7 @@ pub record IsMerged (world : List ℕ → Option (List ℕ)) (words : MergeWords
   pub written : new ≡ with_outputs (Some world) (named (outputs_of words sources) contents)
   pub holds : AllZip (Holds words) (outputs_of words sources) contents
   pub lanes : AllZip (HoldsLanes words sources) (outputs_of words sources) contents
+  pub loads : IfSome (size_of words.split) (KeepsLimit (split_of words sources) (blocks_of words sources))
 
 -- ---- a run
 

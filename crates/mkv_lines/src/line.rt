@@ -3,7 +3,7 @@
 ghost use Rattle.std.specs.Prelude.{◌++◌, codes};
 ghost use Rattle.std.specs.Fmt.{WritesOnOk, decimal};
 ghost use Rattle.mkv_lines.specs.Shown.{damage_text, element_text, shown_text};
-ghost use Rattle.mkv_lines.specs.Line.{edit_refused_line, edit_too_large_line, foreign_line, level_0_line, level_1_line, no_room_line, wrote_blocks_line};
+ghost use Rattle.mkv_lines.specs.Line.{edit_refused_line, edit_too_large_line, foreign_line, level_0_line, level_1_line, no_room_line, uuid_count_line, wrote_blocks_line};
 
 use crate::shown::{
     Level0Name, Level1Name, ShownDamage, ShownElement, ShownMark, ShownPlace, ShownTrack,
@@ -111,6 +111,11 @@ pub enum Line<'a> {
         name: &'a str,
         blocks: u64,
     },
+    /// Segment identifiers are given, and not one for each output.
+    UuidCount {
+        uuids: u64,
+        outputs: u64,
+    },
     /// A file's properties are edited.
     Edited {
         name: &'a str,
@@ -212,6 +217,7 @@ impl fmt::Display for Line<'_> {
             Line::TooLarge { name, id } => of_element(f, name, "HeaderTooLarge", id),
             Line::Wrote { name } => headed(f, "wrote ", name),
             Line::WroteBlocks { name, blocks } => wrote_blocks(f, name, blocks),
+            Line::UuidCount { uuids, outputs } => uuid_count(f, uuids, outputs),
             Line::Edited { name } => headed(f, "edited ", name),
             Line::EditRefused { name, why, edit } => edit_refused(f, name, why, edit),
             Line::NoRoom {
@@ -333,6 +339,12 @@ fn wrote_blocks<W: fmt::Write>(f: &mut fmt::Formatter<W>, name: &str, blocks: u6
 {
     let name = ShownText(name);
     write!(f, "wrote {name}: {blocks} blocks")
+}
+
+fn uuid_count<W: fmt::Write>(f: &mut fmt::Formatter<W>, uuids: u64, outputs: u64) -> fmt::Result
+    ensures { WritesOnOk W.write_str_gives f.old result (uuid_count_line uuids outputs) f.new }
+{
+    write!(f, "warning: {uuids} segment identifiers, {outputs} parts")
 }
 
 fn edit_refused<W: fmt::Write>(

@@ -11,6 +11,7 @@ use Rattle.splitter.specs.Sections.{Part, Split, parts}
 use Rattle.remux_plan.specs.Parts as planned
 use Rattle.remux_plan.specs.Parts.{PlannedOutput, drives_by, name_of, output_in, outputs_from, outputs_in, spec_of, stretch_of}
 use Rattle.remux_plan.specs.Plan.{blocks_of as planned_blocks, rules_of}
+use Rattle.remux_plan.specs.Uuids.{uuids_at, with_uuids}
 use Rattle.remux_plan.specs.declared.plan.MergePlan.{MergePlan}
 use Rattle.merge_words.specs.declared.output.MergeWords.{MergeWords}
 use Rattle.merge_inputs.specs.declared.input.Input.{Input}
@@ -20,10 +21,12 @@ use Rattle.merge_plan.specs.Records.{chapters_of, tags_of}
 use Rattle.mkv_merge.specs.Merge.{front_at, output_at, outputs_of, parts_of, split_of}
 use Rattle.mkv_merge.proofs.WritingLemmas.{IsMergeOf, blocks-are, reads-are}
 
--- what stands in front of the Clusters, with attached files or without
-front-with : (f : LiveFiles) (front : given.Front) (its : Front) (first : Bool) → front_with f front ≡ its → front_with f (if first then front else record front { attachments = [] }) ≡ (if first then its else record its { attachments = [] })
-front-with f front its true is = is
-front-with f front its false is = ap (λ (x : Front). record x { attachments = [] }) is
+-- what stands in front of the Clusters of a part, with attached files or without
+front-with : (f : LiveFiles) (words : MergeWords) (number : ℕ) (front : given.Front) (its : Front) (first : Bool) → front_with f front ≡ its
+    → front_with f (record front { info = with_uuids (uuids_at words.uuids words.link number) front.info; attachments = if first then front.attachments else [] })
+    ≡ record its { info = with_uuids (uuids_at words.uuids words.link number) its.info; attachments = if first then its.attachments else [] }
+front-with f words number front its true is = ap (λ (x : Front). record x { info = with_uuids (uuids_at words.uuids words.link number) x.info }) is
+front-with f words number front its false is = ap (λ (x : Front). record x { info = with_uuids (uuids_at words.uuids words.link number) x.info; attachments = [] }) is
 
 module _ (f : LiveFiles) (words : MergeWords) (inputs : List Input) (p : MergePlan) (sources : List Source) (is : IsMergeOf f words inputs p sources) where
   split-is : planned.split_of p ≡ split_of words sources
@@ -31,7 +34,7 @@ module _ (f : LiveFiles) (words : MergeWords) (inputs : List Input) (p : MergePl
       let reads = sym (reads-are f words inputs p sources is) in
       let spec = is.plan.split ∙ ap (split_given words) reads in
       let drives = is.plan.drives ∙ ap drives_given reads in
-      λ i. record { spec = spec i; scale = (is.plan.limits i).scale; drives = drives_by (drives i) }
+      λ i. record { spec = spec i; size = is.plan.size i; scale = (is.plan.limits i).scale; drives = drives_by (drives i) }
 
   parts-are : parts (planned.split_of p) (planned_blocks f p) ≡ parts_of words sources
   parts-are = ap₂ (λ (s : Split) (blocks : List OutputBlock). parts s blocks) split-is (blocks-are f words inputs p sources is)
@@ -40,7 +43,9 @@ module _ (f : LiveFiles) (words : MergeWords) (inputs : List Input) (p : MergePl
   output-is : (number : ℕ) (part : Part) → output_in f (spec_of p) number part ≡ output_at words sources (number, part)
   output-is number part =
       let reads = sym (reads-are f words inputs p sources is) in
-      let front : front_with f (planned.front_of p.front number) ≡ front_at words sources number = front-with f p.front (front_of words sources) (number == 1) (is.plan.front f is.told ∙ ap (front_of words) is.from) in
+      let front : front_with f (planned.front_of p.uuids p.link p.front number) ≡ front_at words sources number =
+      ap₂ (λ (uuids : List ℕ) (link : Bool). front_with f (planned.front_of uuids link p.front number)) is.plan.uuids is.plan.link
+      ∙ front-with f words number p.front (front_of words sources) (number == 1) (is.plan.front f is.told ∙ ap (front_of words) is.from) in
       let rules : rules_of p.lanes ≡ rules_given (reads_of sources) = is.plan.rules ∙ ap rules_given reads in
       let chapters : p.chapters ≡ chapters_of (reads_of sources) = is.plan.chapters ∙ ap chapters_of reads in
       let tags : p.tags ≡ tags_of (reads_of sources) = is.plan.tags ∙ ap tags_of reads in

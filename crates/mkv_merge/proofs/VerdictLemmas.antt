@@ -1,6 +1,7 @@
 -- A merge comes to its verdict.
-use Rattle.std.proofs.Common.{◌≡◌, ℕ, Bool, ◌||◌, List, ◌++◌, map, Result, Err, IfOk, inl, refl, sym, ◌∙◌, ap, subst}
-use Rattle.std.specs.List.{flat_map}
+use Rattle.std.proofs.Common.{◌≡◌, ℕ, Bool, ◌||◌, List, ◌++◌, length, map, Result, Err, IfOk, inl, refl, sym, ◌∙◌, ap, ap₂, subst}
+use Rattle.std.specs.List.{enumerate_from, flat_map}
+use Rattle.std.proofs.lemmas.List.{length-map}
 use mathlib.Core.List.{map-map}
 use Rattle.mkv_io.specs.Lines.{with_lines}
 use Rattle.mkv_io.specs.LiveFiles.{LiveFiles}
@@ -28,7 +29,7 @@ use Rattle.mkv_lines.specs.declared.status.Status.{Status}
 use Rattle.mkv_lines.specs.declared.status.Stop.{Stop}
 use Rattle.mkv_lines.proofs.SaidLemmas.{SaysPart-all}
 use Rattle.mkv_lines.proofs.VerdictLemmas.{Leaves-same, Reaches-behind}
-use Rattle.mkv_merge.specs.Merge.{has_absent, has_damage, lines_before, lines_behind, merged_verdict, output_line, outputs_of, status_of}
+use Rattle.mkv_merge.specs.Merge.{has_absent, has_damage, has_other_count, lines_before, lines_behind, merged_verdict, output_line, outputs_of, status_of, uuid_lines, warnings}
 use Rattle.mkv_merge.specs.Prepared.{reads_in}
 use Rattle.mkv_merge.specs.Told.{is_warned, warnings_from}
 use Rattle.mkv_merge.proofs.OutputsLemmas.{outputs-are}
@@ -40,13 +41,18 @@ use Rattle.mkv_merge.proofs.WritingLemmas.{IsMergeOf, lanes-for, reads-are}
 tells-is : (f : LiveFiles) (p : MergePlan) (s : Summary) → IsSummary f p s → Tells (damages_of f p.lanes) (count_to (flat_map (λ (l : PlannedLane). l.inputs) p.lanes)) s
 tells-is f p s is = record { damages = is.damages; more = is.more; past = past-damages f p.lanes }
 
+-- as many outputs
+count-told : (f : LiveFiles) (words : MergeWords) (inputs : List Input) (p : MergePlan) (sources : List Source) (s : Summary) → IsMergeOf f words inputs p sources → IsSummary f p s → length s.outputs ≡ length (outputs_of words sources)
+count-told f words inputs p sources s is sums = ap (λ (ws : List Written). length ws) (sums.outputs ∙ ap (map written_of) (outputs-are f words inputs p sources is)) ∙ length-map (outputs_of words sources) written_of
+
 behind-told : (f : LiveFiles) (words : MergeWords) (inputs : List Input) (p : MergePlan) (sources : List Source) (s : Summary) → IsMergeOf f words inputs p sources → IsSummary f p s
-    → map (λ (w : Written). wrote_blocks_line w.name w.blocks) s.outputs ++ warnings_from s 0 words.files ≡ lines_behind words sources
+    → map (λ (w : Written). wrote_blocks_line w.name w.blocks) s.outputs ++ warnings_from s 0 words.files ++ uuid_lines words (length s.outputs) ≡ lines_behind words sources
 behind-told f words inputs p sources s is sums =
-    ap (λ (ws : List Written). map (λ (w : Written). wrote_blocks_line w.name w.blocks) ws ++ warnings_from s 0 words.files) (sums.outputs ∙ ap (map written_of) (outputs-are f words inputs p sources is))
-    ∙ ap (λ (lines : List (List ℕ)). lines ++ warnings_from s 0 words.files) (map-map (λ (w : Written). wrote_blocks_line w.name w.blocks) written_of (outputs_of words sources))
-    ∙ ap (λ (lines : List (List ℕ)). map output_line (outputs_of words sources) ++ lines)
+    ap (λ (ws : List Written). map (λ (w : Written). wrote_blocks_line w.name w.blocks) ws ++ warnings_from s 0 words.files ++ uuid_lines words (length s.outputs)) (sums.outputs ∙ ap (map written_of) (outputs-are f words inputs p sources is))
+    ∙ ap (λ (lines : List (List ℕ)). lines ++ warnings_from s 0 words.files ++ uuid_lines words (length s.outputs)) (map-map (λ (w : Written). wrote_blocks_line w.name w.blocks) written_of (outputs_of words sources))
+    ∙ ap (λ (lines : List (List ℕ)). map output_line (outputs_of words sources) ++ lines ++ uuid_lines words (length s.outputs))
     (warnings-told (damages_of f p.lanes) _ s words.files sources (tells-is f p s sums) (λ k. damages-are f sources p.lanes k (lanes-for f words inputs p sources is)))
+    ∙ ap (λ (n : ℕ). map output_line (outputs_of words sources) ++ flat_map (warnings sources) (enumerate_from 0 words.files) ++ uuid_lines words n) (count-told f words inputs p sources s is sums)
 
 warned-told : (f : LiveFiles) (words : MergeWords) (inputs : List Input) (p : MergePlan) (sources : List Source) (s : Summary) → IsMergeOf f words inputs p sources → IsSummary f p s → (absent : Bool) → is_warned absent s ≡ (absent || has_damage sources)
 warned-told f words inputs p sources s is sums absent =
@@ -78,7 +84,7 @@ all-whole old new outputs writes = writes.names ∙ sym (ap (with_outputs old) w
 -- and the rest is told
 pub merge-told : (old new : Seen) (mid : ReportLines) (r : Result Status Stop) (f : LiveFiles) (words : MergeWords) (inputs : List Input) (p : MergePlan) (sources : List Source) (s : Summary) (absent : Bool) → IsMergeOf f words inputs p sources → IsSummary f p s
     → absent ≡ has_absent words (reads_in inputs) → mid ≡ with_lines old.lines (lines_before words (reads_in inputs))
-    → Says mid new.lines (map (λ (w : Written). wrote_blocks_line w.name w.blocks) s.outputs ++ warnings_from s 0 words.files) r → IfOk r (λ (status : Status). status ≡ status_of (is_warned absent s))
+    → Says mid new.lines (map (λ (w : Written). wrote_blocks_line w.name w.blocks) s.outputs ++ warnings_from s 0 words.files ++ uuid_lines words (length s.outputs)) r → IfOk r (λ (status : Status). status ≡ status_of (is_warned absent s || has_other_count words (length s.outputs)))
     → WritesAll old.names new.names (outputs_in f p) → Reaches old new r (merged_verdict words sources)
 merge-told old new mid r f words inputs p sources s absent is sums missing before says status writes =
     Reaches-behind old new mid r (merged_verdict words sources) (lines_behind words sources) refl first
@@ -97,5 +103,5 @@ merge-told old new mid r f words inputs p sources s absent is sums missing befor
         all-whole old.names new.names (outputs_in f p) writes
         ∙ ap (λ (os : List PlannedOutput). with_outputs old.names (outputs_of_drafts (drafts_of os))) (outputs-are f words inputs p sources is)
 
-    warned : is_warned absent s ≡ (has_absent words (reads_of sources) || has_damage sources)
-    warned = warned-told f words inputs p sources s is sums absent ∙ ap (λ (some : Bool). some || has_damage sources) (missing ∙ ap (has_absent words) reads)
+    warned : (is_warned absent s || has_other_count words (length s.outputs)) ≡ (has_absent words (reads_of sources) || has_damage sources || has_other_count words (length (outputs_of words sources)))
+    warned = ap₂ (λ (some : Bool) (n : ℕ). some || has_other_count words n) (warned-told f words inputs p sources s is sums absent ∙ ap (λ (some : Bool). some || has_damage sources) (missing ∙ ap (has_absent words) reads)) (count-told f words inputs p sources s is sums)

@@ -1,5 +1,5 @@
 -- A merge that was prepared can be written, and is that of its sources.
-use Rattle.std.proofs.Common.{◌≡◌, ◌≢◌, ℕ, ◌+◌, ◌*◌, ◌<◌, ◌≤◌, Bool, true, false, List, [], ◌∷◌, length, map, get_or, Option, Some, None, Result, Ok, Err, IfSome, refl, sym, ◌∙◌, ap, subst, arith}
+use Rattle.std.proofs.Common.{◌≡◌, ◌≢◌, ℕ, ◌+◌, ◌*◌, ◌<◌, ◌≤◌, Bool, true, false, ◌||◌, List, [], ◌∷◌, length, map, get_or, Option, Some, None, Result, Ok, Err, IfSome, refl, sym, ◌∙◌, ap, ap₂, subst, arith}
 use Rattle.std.specs.List.{All, sum_by, zip}
 use Rattle.std.proofs.Math.ListN.{get_or-map}
 use Rattle.std.proofs.lemmas.List.{length-map}
@@ -58,12 +58,15 @@ use Rattle.mkv_merge.specs.declared.refusal.Refusal.{Refusal}
 use Rattle.mkv_merge.proofs.PreparingLemmas.{each-told, inputs-size, sources-told, told-contents}
 use Rattle.mkv_merge.proofs.SummaryLemmas.{AreLanesFor}
 use Rattle.std.specs.Prelude.{is_some}
-use Rattle.splitter.specs.Words.{is_by_time, spec_of}
+use Rattle.splitter.specs.declared.spec.SplitSpec.{SplitSpec}
+use Rattle.splitter.specs.Words.{size_of, spec_of}
+use Rattle.word_values.specs.Sound.{IsSoundSplit}
 use Rattle.word_values.specs.declared.lists.SplitWords.{SplitWords}
 use Rattle.word_values.specs.declared.lists.SplitWords.TheVariants as split_words
-use Rattle.remux_plan.specs.Parts.{may_be_written, name_of}
+use Rattle.remux_plan.specs.Parts.{is_timed, may_be_written, name_of}
 use Rattle.remux_plan.specs.Parts.{is_split as planned_split}
 use Rattle.remuxer.specs.Output.{IsUnwrittenLink}
+use Rattle.remuxer.specs.Places.{IsLimit}
 use Rattle.remuxer.proofs.OutputsLemmas.{named-so}
 use Rattle.merge_plan.proofs.RecordLemmas.{read-record}
 use Rattle.merge_plan.specs.Plan.{starts_in}
@@ -123,27 +126,38 @@ unwritten holder split output (Track t) is = is
 unwritten holder split output (Entries e) is = tt
 
 -- a plan is split where the words are
-split-as : (words : Option SplitWords) (starts : List ℕ) → is_by_time words ≡ true → planned_split (spec_of words starts) ≡ is_some words
-split-as None starts by_time = refl
-split-as (Some (split_words.Duration by)) starts by_time = refl
-split-as (Some (split_words.Times at)) starts by_time = refl
-split-as (Some (split_words.Parts spans)) starts by_time = refl
-split-as (Some split_words.AllChapters) starts by_time = refl
-split-as (Some (split_words.Chapters numbers)) starts by_time = refl
-split-as (Some (split_words.Size limit)) starts by_time = absurd (cc)
+split-as : (words : Option SplitWords) (starts : List ℕ) → (is_timed (spec_of words starts) || is_some (size_of words)) ≡ is_some words
+split-as None starts = refl
+split-as (Some (split_words.Duration by)) starts = refl
+split-as (Some (split_words.Times at)) starts = refl
+split-as (Some (split_words.Parts spans)) starts = refl
+split-as (Some split_words.AllChapters) starts = refl
+split-as (Some (split_words.Chapters numbers)) starts = refl
+split-as (Some (split_words.Size limit)) starts = refl
 
-pub plan-split : (words : MergeWords) (inputs : List Input) (p : MergePlan) → is_by_time words.split ≡ true → IsPlanOf words inputs p → planned_split p.split ≡ is_split words
-plan-split words inputs p by_time plan = ap planned_split plan.split ∙ split-as words.split (starts_in (chapters_of (map read_in inputs))) by_time
+pub plan-split : (words : MergeWords) (inputs : List Input) (p : MergePlan) → IsPlanOf words inputs p → planned_split p ≡ is_split words
+plan-split words inputs p plan =
+    ap₂ (λ (spec : SplitSpec) (size : Option ℕ). is_timed spec || is_some size) plan.split plan.size ∙ split-as words.split (starts_in (chapters_of (map read_in inputs)))
+
+-- a load at which parts end has 64 bits, and then they end at no times
+limit-of : (words : Option SplitWords) (starts : List ℕ) → IfSome words IsSoundSplit → IfSome (size_of words) (IsLimit (spec_of words starts))
+limit-of None starts sound = tt
+limit-of (Some (split_words.Duration by)) starts sound = tt
+limit-of (Some (split_words.Times at)) starts sound = tt
+limit-of (Some (split_words.Parts spans)) starts sound = tt
+limit-of (Some split_words.AllChapters) starts sound = tt
+limit-of (Some (split_words.Chapters numbers)) starts sound = tt
+limit-of (Some (split_words.Size limit)) starts sound = record { fits = omega (arith, sound.most); whole = refl }
 
 -- none of the inputs was opened under such a name
-inputs-unwritten : (holder : ℕ → List ℕ) (words : MergeWords) (ids : List FileId) (p : Prepared) → is_by_time words.split ≡ true → holders_of holder ids ≡ file_names words.files → first_written words ≡ None → map (λ (i : Input). i.file) p.inputs ≡ ids → IsPlanOf words p.inputs p.plan
-    → All (λ (i : Input). may_be_written (planned_split p.plan.split) p.plan.output (holder i.file.n) ≡ false) p.inputs
-inputs-unwritten holder words ids p by_time under apart of plan =
+inputs-unwritten : (holder : ℕ → List ℕ) (words : MergeWords) (ids : List FileId) (p : Prepared) → holders_of holder ids ≡ file_names words.files → first_written words ≡ None → map (λ (i : Input). i.file) p.inputs ≡ ids → IsPlanOf words p.inputs p.plan
+    → All (λ (i : Input). may_be_written (planned_split p.plan) p.plan.output (holder i.file.n) ≡ false) p.inputs
+inputs-unwritten holder words ids p under apart of plan =
     let P : Bool → List ℕ → FileId → Type 0 = λ split output file. may_be_written split output (holder file.n) ≡ false in
     let held : All (P (is_split words) words.output) ids = unwritten-held holder ids words under apart in
-    let split : All (P (planned_split p.plan.split) words.output) ids = subst (λ (s : Bool). All (P s words.output) ids) (sym (plan-split words p.inputs p.plan by_time plan)) held in
-    let named : All (P (planned_split p.plan.split) p.plan.output) ids = subst (λ (output : List ℕ). All (P (planned_split p.plan.split) output) ids) (sym plan.output) split in
-    All-unmap (P (planned_split p.plan.split) p.plan.output) (λ (i : Input). i.file) p.inputs (subst (All (P (planned_split p.plan.split) p.plan.output)) (sym of) named)
+    let split : All (P (planned_split p.plan) words.output) ids = subst (λ (s : Bool). All (P s words.output) ids) (sym (plan-split words p.inputs p.plan plan)) held in
+    let named : All (P (planned_split p.plan) p.plan.output) ids = subst (λ (output : List ℕ). All (P (planned_split p.plan) output) ids) (sym plan.output) split in
+    All-unmap (P (planned_split p.plan) p.plan.output) (λ (i : Input). i.file) p.inputs (subst (All (P (planned_split p.plan) p.plan.output)) (sym of) named)
 
 -- what was prepared can be carried out
 pub plan-good : {S : Type 0} (r : Ghosts S) (f : writing.Ghosts S) (files : S) (words : MergeWords) (ids : List FileId) (p : Prepared) → IsApartMerge words → AreInputs r f (file_names words.files) files ids → IsPrepared (live_files r files) words ids p → IsPlan r f files p.plan
@@ -152,10 +166,10 @@ plan-good {S = S} r f files words ids p is opened prepared =
     let plan = prepared.plan in
     let written = prepared.written in
     let lanes : List PlannedLane = p.plan.lanes in
-    let split : Bool = planned_split p.plan.split in
+    let split : Bool = planned_split p.plan in
     let many : length p.inputs ≡ length words.files = many-inputs r f files words ids p.inputs opened prepared.inputs.of in
     let test : ℕ → Bool = λ file. may_be_written split p.plan.output (f.holder files file) in
-    let others : All (λ (i : Input). test i.file.n ≡ false) p.inputs = inputs-unwritten (f.holder files) words ids p is.split opened.under is.apart prepared.inputs.of plan in
+    let others : All (λ (i : Input). test i.file.n ≡ false) p.inputs = inputs-unwritten (f.holder files) words ids p opened.under is.apart prepared.inputs.of plan in
     record {
       scale = subst (λ (l : ClusterLimits). 1 ≤ l.scale) (sym plan.limits) (omega (arith, sound.scale.least));
       scale_most = subst (λ (l : ClusterLimits). l.scale ≤ MOST_SCALE) (sym plan.limits) (omega (arith, sound.scale.most));
@@ -171,11 +185,15 @@ plan-good {S = S} r f files words ids p is opened prepared =
       };
       records = record {
         info = written.info.id;
+        info_master = written.info.master;
         tracks = written.tracks.id;
         attached = λ k d below. file-good r f files split p.plan.output p.inputs (get_or p.plan.front.attachments k d) prepared.inputs.good others (written.attachments k d below) (written.files k d below);
         chapters = read-record CHAPTERS p.plan.chapters written.chapters;
         tags = record-id TAGS p.plan.tags written.tags;
       };
+      limit =
+          subst (λ (o : Option ℕ). IfSome o (IsLimit p.plan.split)) (sym plan.size)
+          (subst (λ (spec : SplitSpec). IfSome (size_of words.split) (IsLimit spec)) (sym plan.split) (limit-of words.split (starts_in (chapters_of (map read_in p.inputs))) sound.split));
     }
 
 -- ---- its files are told
@@ -191,15 +209,15 @@ plan-told f words ids contents p prepared told =
 -- A plan is that of the words and of these sources, whose files are told.
 pub record IsMergeOf (f : LiveFiles) (words : MergeWords) (inputs : List Input) (p : MergePlan) (sources : List Source) : Type 0 where
   pub plan : IsPlanOf words inputs p
-  pub split : planned_split p.split ≡ is_split words
+  pub split : planned_split p ≡ is_split words
   pub from : map (source_in f) inputs ≡ sources
   pub many : length words.files ≡ length inputs
   pub told : All (IsToldInput f) inputs
 
-pub merge-is : (f : LiveFiles) (words : MergeWords) (ids : List FileId) (contents : List (List ℕ)) (p : Prepared) → is_by_time words.split ≡ true → IsPrepared f words ids p → AreTold f ids contents → length p.inputs ≡ length words.files → IsMergeOf f words p.inputs p.plan (zip contents (reads_in p.inputs))
-merge-is f words ids contents p by_time prepared told many = record {
+pub merge-is : (f : LiveFiles) (words : MergeWords) (ids : List FileId) (contents : List (List ℕ)) (p : Prepared) → IsPrepared f words ids p → AreTold f ids contents → length p.inputs ≡ length words.files → IsMergeOf f words p.inputs p.plan (zip contents (reads_in p.inputs))
+merge-is f words ids contents p prepared told many = record {
   plan = prepared.plan;
-  split = plan-split words p.inputs p.plan by_time prepared.plan;
+  split = plan-split words p.inputs p.plan prepared.plan;
   from = sources-told f p.inputs contents (told-contents f ids contents p.inputs prepared.inputs.of told);
   many = sym many;
   told = each-told f p.inputs contents (told-contents f ids contents p.inputs prepared.inputs.of told);

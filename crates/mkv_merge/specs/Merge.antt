@@ -1,5 +1,5 @@
 -- What `merge` comes to.
-use Rattle.std.specs.Prelude.{ℕ, ◌==◌, nat_le, Bool, true, false, ◌||◌, if◌then◌else◌, List, [], ◌∷◌, ◌++◌, length, map, filter, flat_map, Option, Result, Ok, Err}
+use Rattle.std.specs.Prelude.{ℕ, ◌==◌, nat_le, Bool, true, false, not, ◌&&◌, ◌||◌, if◌then◌else◌, List, [], ◌∷◌, ◌++◌, length, map, filter, flat_map, Option, Result, Ok, Err}
 use Rattle.std.specs.List.{enumerate_from, find, list_any, range_with_len, zip}
 use Rattle.std.specs.Option.{option_map, option_map_or}
 use Rattle.mkv_io.specs.declared.damage.Damage.{Damage}
@@ -13,8 +13,10 @@ use Rattle.merge_model.specs.Links.{Given}
 use Rattle.merge_model.specs.Merged.{merged}
 use Rattle.output_model.specs.Cued.{document_of}
 use Rattle.splitter.specs.Sections.{Part, Split, parts}
+use Rattle.splitter.specs.Words.{size_of}
 use Rattle.remux_plan.specs.Parts.{PlannedOutput, drives_by, name_of, stretch_of}
 use Rattle.remux_plan.specs.Parts.{chapters_of as chapters_within}
+use Rattle.remux_plan.specs.Uuids.{uuids_at, with_uuids}
 use Rattle.remuxer.specs.Output.{drafts_of}
 use Rattle.input_files.specs.ChapterFile.{chapter_file}
 use Rattle.input_files.specs.declared.chapter_file.ChapterFile.{ChapterFile}
@@ -27,7 +29,7 @@ use Rattle.merge_plan.specs.Front.{front_of, reads_of}
 use Rattle.merge_plan.specs.Places.{in_place}
 use Rattle.merge_plan.specs.Records.{chapters_of, tags_of}
 use Rattle.merge_plan.specs.Refusal.{plan_refusal}
-use Rattle.mkv_lines.specs.Line.{damage_lines, no_track_line, wrote_blocks_line}
+use Rattle.mkv_lines.specs.Line.{damage_lines, no_track_line, uuid_count_line, wrote_blocks_line}
 use Rattle.mkv_lines.specs.Verdict.{Verdict, in_turn, refused}
 use Rattle.mkv_lines.specs.declared.status.Status.{Status}
 use Rattle.mkv_lines.specs.declared.status.Status.TheVariants.{Done, Warned}
@@ -75,15 +77,22 @@ blocks_of words sources = merged (map (lane_blocks words.scale) (lanes_given sou
 
 -- how it is split, in ticks of the output
 abbrev pub split_of : MergeWords → List Source → Split
-split_of words sources = record { spec = split_given words (reads_of sources); scale = words.scale; drives = drives_by (drives_given (reads_of sources)) }
+split_of words sources = record { spec = split_given words (reads_of sources); size = size_of words.split; scale = words.scale; drives = drives_by (drives_given (reads_of sources)) }
 
 -- its parts; what isn't split is one part
 abbrev pub parts_of : MergeWords → List Source → List Part
 parts_of words sources = parts (split_of words sources) (blocks_of words sources)
 
--- what stands in front of the Clusters of the part of a number, from 1 on: attached files go to the first one alone
+-- what stands in front of the Clusters of the part of a number, from 1 on: it has its own identifiers, and attached files go to the first one
+-- alone
+abbrev pub front_for : MergeWords → ℕ → Front → Front
+front_for words number front = record front {
+  info = with_uuids (uuids_at words.uuids words.link number) front.info;
+  attachments = if number == 1 then front.attachments else [];
+}
+
 abbrev pub front_at : MergeWords → List Source → ℕ → Front
-front_at words sources number = if number == 1 then front_of words sources else record (front_of words sources) { attachments = [] }
+front_at words sources number = front_for words number (front_of words sources)
 
 -- what of the Chapters goes into a part: those in its stretch of time, and all where nothing is split
 abbrev pub chapters_in : MergeWords → List Source → Part → Option Node
@@ -145,6 +154,13 @@ has_absent words reads = list_any (λ f. is_some_of (absent f)) (zip words.files
 abbrev pub has_damage : List Source → Bool
 has_damage sources = list_any (λ k. is_some_of (damages_met sources k)) (range_with_len 0 (length sources))
 
+-- segment identifiers are given, and not one for each of so many outputs
+abbrev pub has_other_count : MergeWords → ℕ → Bool
+has_other_count words count = not (length words.uuids == 0) && not (length words.uuids == count)
+
+abbrev pub uuid_lines : MergeWords → ℕ → List (List ℕ)
+uuid_lines words count = if has_other_count words count then uuid_count_line (length words.uuids) count ∷ [] else []
+
 -- ---- the verdict
 
 abbrev pub status_of : Bool → Status
@@ -159,12 +175,13 @@ abbrev pub output_line : PlannedOutput → List ℕ
 output_line o = wrote_blocks_line o.name (counted 0 (length o.blocks))
 
 abbrev pub lines_behind : MergeWords → List Source → List (List ℕ)
-lines_behind words sources = map output_line (outputs_of words sources) ++ flat_map (warnings sources) (enumerate_from 0 words.files)
+lines_behind words sources =
+    map output_line (outputs_of words sources) ++ flat_map (warnings sources) (enumerate_from 0 words.files) ++ uuid_lines words (length (outputs_of words sources))
 
--- the tracks that aren't there, the outputs, and what is wrong with the inputs
+-- the tracks that aren't there, the outputs, what is wrong with the inputs, and the number of identifiers
 abbrev pub merged_verdict : MergeWords → List Source → Verdict
 merged_verdict words sources = record {
-  status = status_of (has_absent words (reads_of sources) || has_damage sources);
+  status = status_of (has_absent words (reads_of sources) || has_damage sources || has_other_count words (length (outputs_of words sources)));
   lines = lines_before words (reads_of sources) ++ lines_behind words sources;
   before = lines_before words (reads_of sources);
   outputs = in_turn (drafts_of (outputs_of words sources));

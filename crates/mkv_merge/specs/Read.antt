@@ -8,7 +8,6 @@ use Rattle.sidecar_edit.specs.Name.{sidecar_of}
 use Rattle.sidecar_edit.specs.Pending.{is_pending}
 use Rattle.input_files.specs.declared.chapter_file.ChapterFile.{ChapterFile}
 use Rattle.splitter.specs.Names.{is_part_name}
-use Rattle.splitter.specs.Words.{is_by_time}
 use Rattle.merge_words.specs.declared.files.FileWords.{FileWords}
 use Rattle.merge_words.specs.declared.output.MergeWords.{MergeWords}
 use Rattle.merge_words.specs.Sound.{IsSoundMerge}
@@ -42,11 +41,9 @@ is_part words name = is_split words && is_part_name words.output name
 abbrev pub first_written : MergeWords → Option (List ℕ)
 first_written words = option_or (find (is_output words) (read_names words)) (find (is_part words) (read_names words))
 
--- Words of a merge that keep their limits, whose output isn't split by octets, and none of whose files is read under a name that may be
--- written.
+-- Words of a merge that keep their limits, and none of whose files is read under a name that may be written.
 pub record IsApartMerge (words : MergeWords) : Type 0 where
   pub sound : IsSoundMerge words
-  pub split : is_by_time words.split ≡ true
   pub apart : first_written words ≡ None
 
 -- ---- the contents

@@ -1,7 +1,6 @@
--- Which merges are built: outputs of Matroska and WebM files, side by side or one behind the other, whole or split by times.
-use Rattle.std.specs.Prelude.{Bool, not, ◌&&◌, ◌==◌, length}
+-- Which merges are built: outputs of Matroska and WebM files, side by side or one behind the other, whole or split.
+use Rattle.std.specs.Prelude.{Bool, ◌==◌, length}
 use Rattle.std.specs.List.{list_all}
-use Rattle.splitter.specs.Words.{is_by_time}
 use Rattle.merge_words.specs.declared.files.FileWords.{FileWords}
 use Rattle.merge_words.specs.declared.output.MergeWords.{MergeWords}
 
@@ -9,7 +8,6 @@ use Rattle.merge_words.specs.declared.output.MergeWords.{MergeWords}
 abbrev pub is_plain : FileWords → Bool
 is_plain file = length file.times == 0
 
--- no split by octets, no identifiers, and plain files
+-- plain files
 abbrev pub takes : MergeWords → Bool
-takes words =
-    is_by_time words.split && (length words.uuids == 0 && not words.link) && list_all is_plain words.files
+takes words = list_all is_plain words.files

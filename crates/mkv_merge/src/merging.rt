@@ -1,10 +1,9 @@
 //! Files are opened, merged and closed.
 
-ghost use Rattle.std.specs.Prelude.{◌≡◌, ◌+◌, ◌≤◌, true, ℕ, List, IfOk};
+ghost use Rattle.std.specs.Prelude.{◌≡◌, ◌+◌, ◌≤◌, ℕ, List, IfOk};
 ghost use Rattle.mkv_io.specs.Sources.{live_files};
 ghost use Rattle.mkv_io.specs.Told.{Told};
 ghost use Rattle.input_files.specs.ChapterFile.{CanBeWritten};
-ghost use Rattle.splitter.specs.Words.{is_by_time};
 ghost use Rattle.merge_words.specs.Sound.{IsSoundMerge};
 ghost use Rattle.input_files.specs.Inputs.{AreInputs, file_names};
 ghost use Rattle.mkv_lines.specs.Faults.{HasStopCause};
@@ -133,15 +132,14 @@ fn merge_beside<F: Files, P: Report>(
 }
 
 /// Writes one file of several, or that in parts, as the words say: the tracks that they take of each, with the Chapters of a
-/// chapter file where they name one. What is split by octets isn't built.
+/// chapter file where they name one.
 pub fn merge_of<F: Files, P: Report>(
     alloc: Global,
     words: &MergeWords,
     files: &mut F,
     report: &mut P,
 ) -> Result<Status, Stop>
-    requires sound { IsSoundMerge words.now }
-    requires split { is_by_time words.now.split ≡ true }
+    requires { IsSoundMerge words.now }
     ensures verdict { Told (F.names files.old) (λ world. Reaches
         (seen F.Reads F.writing_faults F.names P.Report files.old report.old)
         (seen F.Reads F.writing_faults F.names P.Report files.new report.new)

@@ -7,7 +7,7 @@ ghost use Rattle.mkv_lines.specs.Said.{HasSayCause, Says};
 ghost use Rattle.mkv_lines.specs.Verdict.{SaysVerdict, refused};
 ghost use Rattle.remux_plan.specs.declared.summary.InputDamage.{InputDamage as DamageSeen};
 ghost use Rattle.remux_plan.specs.declared.summary.MoreDamage.{MoreDamage as MoreSeen};
-ghost use Rattle.mkv_merge.specs.Merge.{absent_of, has_absent, is_some_of, lines_before};
+ghost use Rattle.mkv_merge.specs.Merge.{absent_of, has_absent, has_other_count, is_some_of, lines_before, uuid_lines};
 ghost use Rattle.mkv_merge.specs.Prepared.{reads_in};
 ghost use Rattle.mkv_merge.specs.Refused.{chapters_name, input_line, line_of, name_of, plan_line, text_line};
 ghost use Rattle.mkv_merge.specs.Told.{damages_at, more_at, warnings_from};
@@ -238,4 +238,29 @@ pub fn warn<P: Report>(
         warn_more(alloc, name, input, summary.more.as_slice(), report)?;
     }
     Ok(())
+}
+
+/// Whether segment identifiers are given, and not one for each of so many outputs.
+pub fn has_other_count(words: &MergeWords, outputs: usize) -> bool
+    ensures { result ≡ has_other_count words.now outputs }
+{
+    !words.uuids.is_empty() && words.uuids.len() != outputs
+}
+
+/// Warns of it, where it is so.
+pub fn say_uuids<P: Report>(
+    alloc: Global,
+    words: &MergeWords,
+    outputs: usize,
+    report: &mut P,
+) -> Result<(), Stop>
+    ensures said { Says (P.lines report.old) (P.lines report.new) (uuid_lines words.now outputs) result }
+    ensures cause { HasSayCause (P.faults report.old) (P.faults report.new) result }
+{
+    if !has_other_count(words, outputs) {
+        return Ok(());
+    }
+    let uuids = words.uuids.len() as u64;
+    let outputs = outputs as u64;
+    say(alloc, report, &Line::UuidCount { uuids, outputs })
 }

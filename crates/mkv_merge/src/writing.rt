@@ -1,6 +1,6 @@
 //! What was prepared is written, and told of.
 
-ghost use Rattle.std.specs.Prelude.{◌≡◌, ◌+◌, ◌*◌, ◌≤◌, ℕ, List, ◌++◌, length, map, IfOk};
+ghost use Rattle.std.specs.Prelude.{◌≡◌, ◌+◌, ◌*◌, ◌≤◌, ℕ, List, ◌++◌, ◌||◌, length, map, IfOk};
 ghost use Rattle.std.specs.List.{zip};
 ghost use Rattle.mkv_io.specs.Sources.{live_files};
 ghost use Rattle.input_files.specs.Inputs.{AreInputs, file_names};
@@ -14,13 +14,13 @@ ghost use Rattle.remux_plan.specs.declared.summary.Written.{Written as WrittenSe
 ghost use Rattle.remuxer.specs.Plan.{data_length};
 ghost use Rattle.mkv_merge.specs.Bound.{files_size};
 ghost use Rattle.mkv_merge.specs.Ends.{stop_of};
-ghost use Rattle.mkv_merge.specs.Merge.{merged_verdict, status_of};
+ghost use Rattle.mkv_merge.specs.Merge.{has_other_count, merged_verdict, status_of, uuid_lines};
 ghost use Rattle.mkv_merge.specs.Prepared.{AreTold, IsPrepared, reads_in};
 ghost use Rattle.mkv_merge.specs.Read.{IsApartMerge};
 ghost use Rattle.mkv_merge.specs.Told.{is_warned, warnings_from};
 
 use crate::preparing::Prepared;
-use crate::telling::{has_absent, say_absent, warn};
+use crate::telling::{has_absent, has_other_count, say_absent, say_uuids, warn};
 use merge_words::MergeWords;
 use mkv_io::{FileId, Files, RemuxEnd, Report};
 use mkv_lines::{Line, Status, Stop, say};
@@ -51,6 +51,22 @@ fn say_wrote<P: Report>(alloc: Global, outputs: &[Written], report: &mut P) -> R
 }
 
 /// Tells of the outputs, and warns of what is wrong with the inputs.
+fn tell_outputs<P: Report>(
+    alloc: Global,
+    words: &MergeWords,
+    summary: &Summary,
+    report: &mut P,
+) -> Result<(), Stop>
+    ensures said { Says (P.lines report.old) (P.lines report.new)
+        (map (λ (w : WrittenSeen). wrote_blocks_line w.name w.blocks) summary.now.outputs ++ warnings_from summary.now 0 words.now.files) result }
+    ensures cause { HasSayCause (P.faults report.old) (P.faults report.new) result }
+{
+    say_wrote(alloc, summary.outputs.as_slice(), report)?;
+    warn(alloc, words, summary, report)?;
+    Ok(())
+}
+
+/// The same, and then warns of the number of identifiers.
 fn tell<P: Report>(
     alloc: Global,
     words: &MergeWords,
@@ -59,14 +75,16 @@ fn tell<P: Report>(
     report: &mut P,
 ) -> Result<Status, Stop>
     ensures said { Says (P.lines report.old) (P.lines report.new)
-        (map (λ (w : WrittenSeen). wrote_blocks_line w.name w.blocks) summary.now.outputs ++ warnings_from summary.now 0 words.now.files) result }
-    ensures status { IfOk result (λ status. status ≡ status_of (is_warned absent summary.now)) }
+        (map (λ (w : WrittenSeen). wrote_blocks_line w.name w.blocks) summary.now.outputs ++ warnings_from summary.now 0 words.now.files
+        ++ uuid_lines words.now (length summary.now.outputs)) result }
+    ensures status { IfOk result (λ status. status ≡ status_of (is_warned absent summary.now || has_other_count words.now (length summary.now.outputs))) }
     ensures ordinary { IfOk result IsOrdinary }
     ensures cause { HasSayCause (P.faults report.old) (P.faults report.new) result }
 {
-    say_wrote(alloc, summary.outputs.as_slice(), report)?;
-    warn(alloc, words, summary, report)?;
-    if absent || !summary.damages.is_empty() {
+    tell_outputs(alloc, words, summary, report)?;
+    let outputs = summary.outputs.len();
+    say_uuids(alloc, words, outputs, report)?;
+    if absent || !summary.damages.is_empty() || has_other_count(words, outputs) {
         Ok(Status::Warned)
     } else {
         Ok(Status::Done)

@@ -1,3 +1,4 @@
 pub mod Plan
+pub mod Uuids
 pub mod Parts
 pub mod Summary

@@ -1,6 +1,6 @@
 -- The outputs that a plan comes to: one, or where it is split one for each part of its merged list. That it is split, and how, is
 -- this project's.
-use Rattle.std.specs.Prelude.{◌≡◌, ℕ, suc, ◌-◌, ◌*◌, ◌==◌, Bool, true, false, if◌then◌else◌, List, [], ◌∷◌, map, Option, unwrap_or}
+use Rattle.std.specs.Prelude.{◌≡◌, ℕ, suc, ◌-◌, ◌*◌, ◌==◌, Bool, true, false, ◌||◌, if◌then◌else◌, List, [], ◌∷◌, map, Option, None, is_some, unwrap_or}
 use Rattle.std.specs.List.{slice_get}
 use Rattle.std.specs.Option.{option_and_then, option_map}
 use Rattle.std.specs.Str.{bytes_eq}
@@ -18,17 +18,23 @@ use Rattle.record_changes.specs.declared.stretch.Stretch.{Stretch}
 use Rattle.record_changes.specs.Cut.{cut}
 use Rattle.output_model.specs.Cued.{document_of}
 use Rattle.remux_plan.specs.Plan.{blocks_of, document_in, rules_of}
+use Rattle.remux_plan.specs.Uuids.{uuids_at, with_uuids}
 use Rattle.remux_plan.specs.declared.output.OutputSpec.{OutputSpec}
 use Rattle.remux_plan.specs.declared.plan.MergePlan.{MergePlan}
 use Rattle.remux_plan.specs.declared.plan.PlannedLane.{PlannedLane}
 
 -- ---- how it is split
 
-abbrev pub is_split : SplitSpec → Bool
-is_split Whole = false
-is_split (Duration by) = true
-is_split (Times at) = true
-is_split (Parts spans) = true
+-- at times
+abbrev pub is_timed : SplitSpec → Bool
+is_timed Whole = false
+is_timed (Duration by) = true
+is_timed (Times at) = true
+is_timed (Parts spans) = true
+
+-- at times, or by its load
+abbrev pub is_split : MergePlan → Bool
+is_split p = is_timed p.split || is_some p.size
 
 -- which lanes drive
 abbrev pub drivers_of : List PlannedLane → List Bool
@@ -40,7 +46,7 @@ drives_by drivers lane = unwrap_or (slice_get drivers (lane - 1)) false
 
 -- how the merged list of a plan is split
 abbrev pub split_of : MergePlan → Split
-split_of p = record { spec = p.split; scale = p.limits.scale; drives = drives_by (drivers_of p.lanes) }
+split_of p = record { spec = p.split; size = p.size; scale = p.limits.scale; drives = drives_by (drivers_of p.lanes) }
 
 -- ---- names
 
@@ -62,9 +68,12 @@ stretch_of scale start end = record { from = start * scale; to = option_map (λ 
 abbrev pub chapters_of : Bool → Option Node → Stretch → Option Node
 chapters_of split chapters stretch = if split then option_and_then (cut stretch) chapters else chapters
 
--- Attachments stand in the first part alone.
-abbrev pub front_of : Front → ℕ → Front
-front_of front number = if number == 1 then front else record front { attachments = [] }
+-- Each part has its own identifiers; attachments stand in the first part alone.
+abbrev pub front_of : List ℕ → Bool → Front → ℕ → Front
+front_of uuids link front number = record front {
+  info = with_uuids (uuids_at uuids link number) front.info;
+  attachments = if number == 1 then front.attachments else [];
+}
 
 -- the part in Clusters, with what stands around them
 abbrev pub document_with : LiveFiles → OutputSpec → Part → Document
@@ -81,7 +90,7 @@ pub record PlannedOutput : Type 0 where
 
 -- what the part of this number has besides its blocks
 abbrev pub spec_at : OutputSpec → ℕ → OutputSpec
-spec_at o number = record o { front = front_of o.front number }
+spec_at o number = record o { front = front_of o.uuids o.link o.front number }
 
 abbrev pub output_in : LiveFiles → OutputSpec → ℕ → Part → PlannedOutput
 output_in f o number part = record { name = name_of o.split o.name number; blocks = part.blocks; document = document_with f (spec_at o number) part }
@@ -95,12 +104,14 @@ outputs_from f o number (part ∷ more) = output_in f o number part ∷ outputs_
 abbrev pub spec_of : MergePlan → OutputSpec
 spec_of p = record {
   name = p.output;
-  split = is_split p.split;
+  split = is_split p;
   limits = p.limits;
   rules = rules_of p.lanes;
   front = p.front;
   chapters = p.chapters;
   tags = p.tags;
+  uuids = p.uuids;
+  link = p.link;
 }
 
 -- All outputs of a plan, in the order in which they are written.
@@ -110,4 +121,4 @@ outputs_in f p = outputs_from f (spec_of p) 1 (parts (split_of p) (blocks_of f p
 -- What isn't split comes to the one output of the plan.
 abbrev pub WholeIsOneOutput : Type 0
 WholeIsOneOutput =
-    (f : LiveFiles) (p : MergePlan) → p.split ≡ Whole → outputs_in f p ≡ record { name = p.output; blocks = blocks_of f p; document = document_in f p } ∷ []
+    (f : LiveFiles) (p : MergePlan) → p.split ≡ Whole → p.size ≡ None → outputs_in f p ≡ record { name = p.output; blocks = blocks_of f p; document = document_in f p } ∷ []

@@ -4,6 +4,7 @@ use Rattle.mkv_io.specs.LiveFiles.{LiveFiles}
 use Rattle.output_model.specs.OutputBlock.{OutputBlock}
 use Rattle.output_model.specs.Document.{Document}
 use Rattle.output_model.specs.Front.{front_with}
+use Rattle.output_model.specs.declared.front.Front.{Front}
 use Rattle.merge_model.specs.Merged.{merged}
 use Rattle.merge_model.specs.declared.link.Link.{Link}
 use Rattle.output_model.specs.Cued.{document_of}
@@ -11,6 +12,7 @@ use Rattle.output_model.specs.declared.rule.CueRule.{CueRule}
 use Rattle.merge_model.specs.FileLinks.{lanes_over}
 use Rattle.remux_plan.specs.declared.plan.MergePlan.{MergePlan}
 use Rattle.remux_plan.specs.declared.plan.PlannedLane.{PlannedLane}
+use Rattle.remux_plan.specs.Uuids.{uuids_at, with_uuids}
 
 -- the links of its lanes
 abbrev pub links_of : List PlannedLane → List (List Link)
@@ -24,6 +26,10 @@ rules_of lanes = map (λ (l : PlannedLane). l.cues) lanes
 abbrev pub blocks_of : LiveFiles → MergePlan → List OutputBlock
 blocks_of f p = merged (lanes_over f p.limits.scale (links_of p.lanes))
 
+-- what stands in front of the one output, which is the first
+abbrev pub front_in : MergePlan → Front
+front_in p = record p.front { info = with_uuids (uuids_at p.uuids p.link 1) p.front.info }
+
 -- the output: what stands in front, the merged list in Clusters, its cue points, Chapters and Tags
 abbrev pub document_in : LiveFiles → MergePlan → Document
-document_in f p = document_of p.limits (rules_of p.lanes) (front_with f p.front) p.chapters p.tags (blocks_of f p)
+document_in f p = document_of p.limits (rules_of p.lanes) (front_with f (front_in p)) p.chapters p.tags (blocks_of f p)

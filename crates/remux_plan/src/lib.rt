@@ -7,6 +7,7 @@ mod laws;
 mod output;
 mod plan;
 mod summary;
+mod uuids;
 
 pub use laws::whole_is_one_output;
 pub use merge_model::LaneSpec;
@@ -15,6 +16,7 @@ pub use output_model::{ClusterLimits, CueRule, Front};
 pub use plan::{MergePlan, PlannedLane};
 pub use splitter::SplitSpec;
 pub use summary::{InputDamage, MoreDamage, Summary, Written};
+pub use uuids::{PartUuids, uuids_at};
 
 /// The most inputs of a merge.
 pub const MOST_INPUTS: usize = 64;

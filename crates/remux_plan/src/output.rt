@@ -17,4 +17,7 @@ pub struct OutputSpec {
     pub front: Front,
     pub chapters: Option<Tree>,
     pub tags: Option<Tree>,
+    /// The SegmentUUIDs of the outputs, and whether each names those beside its own.
+    pub uuids: List<u128>,
+    pub link: bool,
 }

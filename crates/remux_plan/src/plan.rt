@@ -11,8 +11,10 @@ use splitter::SplitSpec;
 pub struct MergePlan {
     /// The name of the one output. Where it is split, those of the parts are made of it.
     pub output: Text,
-    /// Where it is split.
+    /// The times at which it is split.
     pub split: SplitSpec,
+    /// The load at which each part but the last ends, in octets of SimpleBlocks and BlockGroups; then it is split at no times.
+    pub size: Option<u64>,
     /// Where its Clusters end, and how many nanoseconds a tick has.
     pub limits: ClusterLimits,
     /// Its lanes, of which the first has the number 1.
@@ -22,6 +24,11 @@ pub struct MergePlan {
     /// Of these each part has what goes into its stretch of time.
     pub chapters: Option<Tree>,
     pub tags: Option<Tree>,
+    /// The SegmentUUIDs of the outputs, in their order, as far as they are given, read with the highest octet first: RFC 9559,
+    /// section 5.1.2.1 (SegmentUUID Element).
+    pub uuids: List<u128>,
+    /// Whether each output names those beside its own.
+    pub link: bool,
 }
 
 /// One lane of an output.

@@ -1,3 +1,4 @@
+pub mod InfoLemmas
 pub mod PartLemmas
 pub mod StepLemmas
 pub mod TakingLemmas

@@ -1,7 +1,7 @@
 -- Where the next part begins.
 use Rattle.std.proofs.Common.{◌≡◌, ◌≤◌, ◌<◌, ℕ, ◌+◌, ◌*◌, Bool, true, false, List, [], ◌∷◌, Option, Some, None, Result, Ok, Err, refl, sym, ◌∙◌, ap, subst, arith}
 use Rattle.std.specs.Prelude.{if◌then◌else◌, is_some, not}
-use Rattle.std.specs.Option.{unwrap_or}
+use Rattle.std.specs.Option.{IfSome, unwrap_or}
 use Rattle.mkv_io.specs.declared.outside.ReadEnd.{ReadEnd}
 use Rattle.mkv_io.specs.LiveFiles.{LiveFiles}
 use Rattle.mkv_io.specs.Sources.{live_files}
@@ -9,17 +9,18 @@ use Rattle.mkv_io.specs.declared.reads.Reads.{Ghosts}
 use Rattle.output_model.specs.OutputBlock.{OutputBlock}
 use Rattle.time_merge.specs.Merge.{Gives, IsReady, IsTold, MergeSeen, Moves, Pays, damages, due, files_length, left, way}
 use Rattle.time_merge.proofs.QueueLemmas.{length-same, told-kept}
-use Rattle.splitter.specs.Sections.{Part, parts}
+use Rattle.splitter.specs.Sections.{Part, parts, parts_in, sections_at}
 use Rattle.splitter.specs.Split.{keeps}
-use Rattle.splitter.specs.Steps.{CutsSeen, is_kept, start_of}
+use Rattle.splitter.specs.Steps.{CutsSeen, counted, is_kept, start_of}
+use Rattle.cluster_writer.specs.Lengths.{octets_taken}
 use Rattle.remuxer.specs.Placed.{Places, lane_in}
 use Rattle.remuxer.specs.declared.placing.Ahead.{Ahead}
-use Rattle.remuxer.specs.Places.{CanGive, IsAhead, IsIn, LendsAt, StandsAhead, block_lent, lane_of, lent_at, part_from, parts_ahead, parts_behind, parts_from, split_in, start_in, way_ahead}
+use Rattle.remuxer.specs.Places.{CanGive, IsAhead, IsFresh, IsIn, IsLimit, LendsAt, StandsAhead, block_lent, lane_of, lent_at, part_from, parts_ahead, parts_behind, parts_from, split_in, start_in, way_ahead}
 use Rattle.remuxer.specs.Taking.{GoesOn}
 use Rattle.remuxer.specs.Output.{FindsBehind, FindsFirst, FindsPart, parts_begun}
 use Rattle.remuxer.specs.declared.placed.PartStart.{PartStart}
 use Rattle.remuxer.specs.declared.placed.PlacedBlocks.{PlacedBlocks}
-use Rattle.remuxer.proofs.PartLemmas.{parts-first, parts-passed}
+use Rattle.remuxer.proofs.PartLemmas.{fits-of, no-limit, parts-first, parts-passed, without-load}
 use Rattle.remuxer.proofs.StepLemmas.{ahead-parts, begins-none, begins-part, first-ahead, first-parts, gives-same, lent-one, on_to, out-ahead, out-parts, split-same, step-gives, step-left, step-one, step-split}
 
 -- ---- a step that only reads
@@ -65,11 +66,14 @@ module _ {S : Type 0} (r : Ghosts S) (a b : S) (p : PlacedBlocks) (m' : MergeSee
   files = ap r.files same
 
   -- the parts from a section that isn't written
-  passed-parts : (was : Ahead) → IsAhead p was → is_kept p.cuts ≡ false → parts_ahead (live_files r a) p (Some was.lane) ≡ parts_behind (split_in p) (start_of p.cuts) (left (live_files r a) p.merge)
+  passed-parts : (was : Ahead) → IsAhead p was → is_kept p.cuts ≡ false → parts_ahead (live_files r a) p (Some was.lane) ≡ parts_behind (split_in p) (start_of p.cuts) p.cuts.load (left (live_files r a) p.merge)
   passed-parts was ahead out =
       let x = block_lent was.lane ahead.lends.queue.lane in
+      let s = split_in p in
+      let bs = left (live_files r a) p.merge in
       ahead-parts (live_files r a) p p was.lane x refl (lent-one p.merge was.lane ahead.lends.queue ahead.lends.here)
-      ∙ parts-passed (split_in p) (start_of p.cuts) x (left (live_files r a) p.merge) out
+      ∙ parts-passed s (start_of p.cuts) x bs out
+      ∙ ap (λ (behind : List OutputBlock). parts_in s (sections_at s behind)) (without-load s (no-limit p.cuts.size p.cuts.spec (start_of p.cuts * p.cuts.scale) can.limit out) (start_of p.cuts) (octets_taken x) p.cuts.load bs)
 
   pub passes : (was : Ahead) (next : Option Ahead) → IsAhead p was → is_kept p.cuts ≡ false → Moves p.merge m' (lane_in (Ok next)) → (IsTold (live_files r a) p.merge → Gives (live_files r a) p.merge m' (lane_in (Ok next)))
       → Places p.drives m' p.cuts c' (Ok next) → Passes r a b p (on_to p m' c') was next
@@ -77,7 +81,7 @@ module _ {S : Type 0} (r : Ghosts S) (a b : S) (p : PlacedBlocks) (m' : MergeSee
     ahead = moves.steps.ended;
     goes = read-goes r a b p (on_to p m' c') None same moves gives (split-same p m' c' places) (gives-same (live_files r a) (live_files r b) p m' c' can moves.keeps ready places) paid;
     on = let less = moves.steps.on in omega (arith, less);
-    found = λ told. sym (passed-parts was ahead out ∙ ap (parts_behind (split_in p) (start_of p.cuts)) (gives told).blocks.0);
+    found = λ told. sym (passed-parts was ahead out ∙ ap (parts_behind (split_in p) (start_of p.cuts) p.cuts.load) (gives told).blocks.0);
   }
   passes was (Some next) ahead out moves gives places = record {
     ahead = out-ahead (live_files r a) p m' c' next can moves.keeps moves.steps places (start_of p.cuts) ahead.started out;
@@ -89,7 +93,7 @@ module _ {S : Type 0} (r : Ghosts S) (a b : S) (p : PlacedBlocks) (m' : MergeSee
         ahead-parts (live_files r b) p (on_to p m' c') next.lane x (step-split (live_files r a) p m' c' next can moves.keeps moves.steps places) (step-one (live_files r a) p m' c' next can moves.keeps moves.steps places)
         ∙ ap (λ (h : LiveFiles). parts_from s (start_of c') (x ∷ left h m')) files
         ∙ sym (out-parts (live_files r a) p m' c' next can moves.keeps moves.steps places (start_of p.cuts) ahead.started out (left (live_files r a) m'))
-        ∙ ap (parts_behind s (start_of p.cuts)) (sym (step-left (live_files r a) p m' c' next can moves.keeps moves.steps places (gives told).blocks))
+        ∙ ap (parts_behind s (start_of p.cuts) p.cuts.load) (sym (step-left (live_files r a) p m' c' next can moves.keeps moves.steps places (gives told).blocks))
         ∙ sym (passed-parts was ahead out);
   }
 
@@ -106,7 +110,7 @@ module _ {S : Type 0} (r : Ghosts S) (a b : S) (p : PlacedBlocks) (m' : MergeSee
     pub on : way_ahead (on_to p m' c') (lane_of next) ≤ way p.merge
     pub found : IsTold (live_files r a) p.merge → FirstFound next
 
-  pub begins : (next : Option Ahead) → p.cuts.start ≡ None → Moves p.merge m' (lane_in (Ok next)) → (IsTold (live_files r a) p.merge → Gives (live_files r a) p.merge m' (lane_in (Ok next)))
+  pub begins : (next : Option Ahead) → IsFresh p.cuts → Moves p.merge m' (lane_in (Ok next)) → (IsTold (live_files r a) p.merge → Gives (live_files r a) p.merge m' (lane_in (Ok next)))
       → Places p.drives m' p.cuts c' (Ok next) → Begins next
   begins None fresh moves gives places = record {
     ahead = moves.steps.ended;
@@ -139,7 +143,7 @@ module _ {S : Type 0} (r : Ghosts S) (a b : S) (p : PlacedBlocks) (m' : MergeSee
     on = let less = first.on in omega (arith, less);
     told = λ told. ((first.goes.told told).told, (first.found told).1);
     found = λ told.
-        ap (λ (bs : List OutputBlock). let part : Part = part_from (split_in (on_to p m' c')) 0 [] bs in part ∷ parts_behind (split_in (on_to p m' c')) 0 bs) (first.found told).1
+        ap (λ (bs : List OutputBlock). let part : Part = part_from (split_in (on_to p m' c')) 0 c'.load [] bs in part ∷ parts_behind (split_in (on_to p m' c')) 0 c'.load bs) (first.found told).1
         ∙ sym (parts-none fresh (first.found told).0 ∙ ap (λ (q : Bool). if q then (let part : Part = record { start = 0; end = None; blocks = [] } in part) ∷ [] else []) (sym (ap is_kept same_cuts) ∙ kept));
   }
 
@@ -158,9 +162,9 @@ module _ {S : Type 0} (r : Ghosts S) (a b : S) (p : PlacedBlocks) (m' : MergeSee
       each (Some a) none found = found
 
   -- no block has come
-  pub first-none : (next : Option Ahead) → next ≡ None → p.cuts.start ≡ None → is_kept c' ≡ true → Moves p.merge m' (lane_in (Ok next)) → (IsTold (live_files r a) p.merge → Gives (live_files r a) p.merge m' (lane_in (Ok next)))
+  pub first-none : (next : Option Ahead) → next ≡ None → IsFresh p.cuts → is_kept c' ≡ true → Moves p.merge m' (lane_in (Ok next)) → (IsTold (live_files r a) p.merge → Gives (live_files r a) p.merge m' (lane_in (Ok next)))
       → Places p.drives m' p.cuts c' (Ok next) → FindsPart (live_files r a) (live_files r b) (way p.merge + 1) (parts (split_in p) (left (live_files r a) p.merge)) p (on_to p m' c') (Some (record { lane = None; start = 0 }))
-  first-none None is fresh kept moves gives places = first-empty fresh places kept (begins None fresh moves gives places)
+  first-none None is fresh kept moves gives places = first-empty fresh.start places kept (begins None fresh moves gives places)
   first-none (Some next) is fresh kept moves gives places = absurd (cc)
 
   -- one has, or the section at the beginning isn't written
@@ -171,16 +175,17 @@ module _ {S : Type 0} (r : Ghosts S) (a b : S) (p : PlacedBlocks) (m' : MergeSee
 
 -- ---- a part begins with what is ahead
 
-pub begun-parts : (f : LiveFiles) (b : PlacedBlocks) (start lane : ℕ) → LendsAt b lane → IsIn start b → parts_begun f b (Some (record { lane = Some lane; start = start })) ≡ parts_ahead f b (Some lane)
-begun-parts f b start lane lends is =
+pub begun-parts : (f : LiveFiles) (b : PlacedBlocks) (start lane : ℕ) → IfSome b.cuts.size (IsLimit b.cuts.spec) → (lends : LendsAt b lane) → IsIn start b → b.cuts.load ≡ counted b.cuts.size (octets_taken (block_lent lane lends.queue.lane))
+    → parts_begun f b (Some (record { lane = Some lane; start = start })) ≡ parts_ahead f b (Some lane)
+begun-parts f b start lane limit lends is counts =
     let s = split_in b in
     let x = block_lent lane lends.queue.lane in
     let bs = left f b.merge in
     let one : lent_at b.merge (Some lane) ≡ x ∷ [] = lent-one b.merge lane lends.queue lends.here in
     let at : start_of b.cuts ≡ start = ap (λ (o : Option ℕ). unwrap_or o 0) is.started in
     let kept : keeps s.spec (start * s.scale) ≡ true = ap (λ (n : ℕ). keeps s.spec (n * s.scale)) (sym at) ∙ is.kept in
-    ap (λ (first : List OutputBlock). let part : Part = part_from s start first bs in part ∷ parts_behind s start bs) one
-    ∙ sym (parts-first s start x bs kept)
+    ap (λ (first : List OutputBlock). let part : Part = part_from s start b.cuts.load first bs in part ∷ parts_behind s start b.cuts.load bs) one
+    ∙ sym (parts-first s (fits-of b.cuts.size b.cuts.spec limit) start b.cuts.load x bs counts kept)
     ∙ ap (λ (n : ℕ). parts_from s n (x ∷ bs)) (sym at)
     ∙ sym (ahead-parts f b b lane x refl one)
 

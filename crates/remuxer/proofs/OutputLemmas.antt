@@ -143,7 +143,7 @@ module _ {S : Type 0} (r : Ghosts S) (f : writing.Ghosts S) (a b : S) (name : Li
       one (Entries e) opened others = tt
 
   begun-gives : CanGive (live_files r b) p
-  begun-gives = record { ready = begun-among.ready; few = gives.few; drives = gives.drives; scales = gives.scales; scale = gives.scale; early = gives.early }
+  begun-gives = record { ready = begun-among.ready; few = gives.few; drives = gives.drives; scales = gives.scales; scale = gives.scale; early = gives.early; limit = gives.limit }
 
   -- the output can take its blocks
   pub begun-can : (w : BlockWriter) → w.out.file ≡ file → IsOpen r b w.out → CanTake r f b w p
@@ -215,7 +215,7 @@ module _ {S : Type 0} (r : Ghosts S) (f : writing.Ghosts S) (a b c e : S) (name 
     ending-goes = record {
       lanes = refl;
       split = refl;
-      gives = record { ready = ending-among.ready; few = goes.gives.few; drives = goes.gives.drives; scales = goes.gives.scales; scale = goes.gives.scale; early = goes.gives.early };
+      gives = record { ready = ending-among.ready; few = goes.gives.few; drives = goes.gives.drives; scales = goes.gives.scales; scale = goes.gives.scale; early = goes.gives.early; limit = goes.gives.limit };
       length = ending-among.length;
       paid = let due = ending-among.due in let one = ends.written.octets in let other = ends.ended.octets in omega (arith, due, one, other);
       told = λ told. record { told = ending-among.told told; damages = ending-among.damages };
@@ -241,7 +241,7 @@ chapters-are o f part cut is = by_split o.split ∙ sym (ap (chapters_in o) is)
 module _ {S : Type 0} (r : Ghosts S) (f : writing.Ghosts S) (o : OutputSpec) (name : List ℕ) (a b : S) (p : PlacedBlocks) (part : PartStart) (same : left (live_files r b) p.merge ≡ left (live_files r a) p.merge) where
   -- it is the same while the output is begun
   part-same : part_in (live_files r b) p part ≡ part_in (live_files r a) p part
-  part-same = ap (part_from (split_in p) part.start (lent_at p.merge part.lane)) same
+  part-same = ap (part_from (split_in p) part.start p.cuts.load (lent_at p.merge part.lane)) same
 
   -- the output was begun
   pub begun-stands : (out : OpenOutput) (buffer : Gathered) → StandsOpen r f (f.names a) name (front_with (live_files r a) o.front) [] b out → out.cues ≡ [] → Holds None buffer → buffer.limits ≡ o.limits
@@ -268,7 +268,7 @@ module _ {S : Type 0} (r : Ghosts S) (f : writing.Ghosts S) (o : OutputSpec) (na
         (fills.count ∙ ap₂ (λ (n : ℕ) (each : Part). counted n (length each.blocks)) none part-same);
     behind =
         parts-ahead-same (live_files r e) (live_files r c) p' (lane_of filled.ahead) later ∙ fills.behind
-        ∙ ap (parts_behind (split_in p) part.start) same;
+        ∙ ap (parts_behind (split_in p) part.start p.cuts.load) same;
   }
 
 -- what was read for the attachments, and for the blocks

@@ -34,8 +34,9 @@ use Rattle.time_merge.specs.Queues.{KeepsQueues}
 use Rattle.time_merge.proofs.QueueLemmas.{links-kept}
 use Rattle.splitter.specs.Sections.{Part, Split, parts}
 use Rattle.splitter.proofs.NameLemmas.{part-names}
-use Rattle.remux_plan.specs.Parts.{PlannedOutput, document_with, chapters_of, front_of, may_be_written, name_of, output_in, outputs_from, spec_at, stretch_of}
+use Rattle.remux_plan.specs.Parts.{PlannedOutput, document_with, chapters_of, may_be_written, name_of, output_in, outputs_from, stretch_of}
 use Rattle.remux_plan.specs.Summary.{written_of}
+use Rattle.remux_plan.specs.Uuids.{uuids_at, with_uuids}
 use Rattle.remux_plan.specs.declared.output.OutputSpec.{OutputSpec}
 use Rattle.remux_plan.specs.declared.summary.Written.{Written}
 use Rattle.remuxer.specs.Places.{IsToldFrom, parts_behind, split_in}
@@ -43,7 +44,7 @@ use Rattle.remuxer.specs.Taking.{GoesOn}
 use Rattle.remuxer.specs.declared.placed.PartStart.{PartStart}
 use Rattle.remuxer.specs.declared.placed.PlacedBlocks.{PlacedBlocks}
 use Rattle.remuxer.proofs.TakingLemmas.{OnlyRead, files-same, goes-then, read-keeps}
-use Rattle.remuxer.specs.Output.{CanBeNext, FindsNext, FindsPart, HasRecords, IsToldNext, IsUnwritten, IsUnwrittenLink, KeepsUnwritten, ReadsParts, WritesAll, WritesOne, data_of, drafts_of, laid_out, next_name, part_in, parts_begun}
+use Rattle.remuxer.specs.Output.{CanBeNext, FindsNext, FindsPart, HasRecords, IsToldNext, IsUnwritten, IsUnwrittenLink, KeepsUnwritten, ReadsParts, WritesAll, WritesOne, data_of, drafts_of, laid_out, next_name, next_spec, own_spec, part_in, parts_begun}
 
 -- ---- one behind the other
 
@@ -145,6 +146,10 @@ pub told-merge : (f : LiveFiles) (b : PlacedBlocks) (lane : Option ℕ) → IsTo
 told-merge f b None told = told.0
 told-merge f b (Some k) told = told
 
+-- what the output of this number has besides its blocks, before it has its own identifiers
+abbrev pub left_at : OutputSpec → ℕ → OutputSpec
+left_at o number = record o { front = record o.front { attachments = if number == 1 then o.front.attachments else [] } }
+
 -- ---- on the way
 
 module _ {S : Type 0} (r : Ghosts S) (f : writing.Ghosts S) (o : OutputSpec) (a : S) (p : PlacedBlocks) where
@@ -164,7 +169,7 @@ module _ {S : Type 0} (r : Ghosts S) (f : writing.Ghosts S) (o : OutputSpec) (a 
     pub data_left : read + data_of o' ≤ data_of o
     pub goes : GoesOn r read a b p p'
     pub begins : CanBeNext p' next
-    pub spec : o' ≡ spec_at o (length written + 1)
+    pub spec : o' ≡ left_at o (length written + 1)
     pub attached : All (CanAttach r f b (next_name o' written)) o'.front.attachments
     pub kept : KeepsUnwritten r f o.split o.name a b
     pub standing : IsTold (live_files r a) p.merge → Standing b o' p' written next
@@ -209,23 +214,16 @@ module _ {S : Type 0} (r : Ghosts S) (f : writing.Ghosts S) (o : OutputSpec) (a 
 
     pub way-records : HasRecords r f a (name_of o.split o.name 1) o.front o.chapters o.tags → HasRecords r f b (next_name o' written) o'.front o'.chapters o'.tags
     way-records has =
-        let n = length written + 1 in
         let P : OutputSpec → Type 0 = λ each. All (CanAttach r f b (next_name o' written)) each.front.attachments in
-        let at : HasRecords r f b (next_name o' written) (front_of o.front n) o.chapters o.tags = record {
-          info = ap (λ (fr : Front). id_of fr.info) (around n) ∙ has.info;
-          tracks = ap (λ (fr : Front). id_of fr.tracks) (around n) ∙ has.tracks;
+        let at : HasRecords r f b (next_name o' written) (left_at o (length written + 1)).front o.chapters o.tags = record {
+          info = has.info;
+          info_master = has.info_master;
+          tracks = has.tracks;
           attached = subst P way.spec way.attached;
           chapters = has.chapters;
           tags = has.tags;
         } in
         subst (λ (each : OutputSpec). HasRecords r f b (next_name o' written) each.front each.chapters each.tags) (sym way.spec) at
-      where
-        around : (n : ℕ) → record (front_of o.front n) { attachments = [] } ≡ record o.front { attachments = [] }
-        around n = either (n == 1)
-          where
-            either : (first : Bool) → record (if first then o.front else record o.front { attachments = [] }) { attachments = [] } ≡ record o.front { attachments = [] }
-            either true = refl
-            either false = refl
 
     pub way-apart : IsUnwritten (f.holder a) o.split o.name p.merge → IsReady (live_files r a) p.merge → IsUnwritten (f.holder b) o'.split o'.name p'.merge
     way-apart unwritten ready =
@@ -257,24 +255,24 @@ module _ {S : Type 0} (r : Ghosts S) (f : writing.Ghosts S) (o : OutputSpec) (a 
           omega (arith, count)
 
       -- it is the next of the outputs
-      is-next : (let x : PlannedOutput = record { name = next_name o' written; blocks = here.blocks; document = document_with (live_files r b) o' here } in x) ≡ output_in (live_files r a) o (1 + length so_far.done) here
+      is-next : (let x : PlannedOutput = record { name = next_name o' written; blocks = here.blocks; document = document_with (live_files r b) (next_spec o' written) here } in x) ≡ output_in (live_files r a) o (1 + length so_far.done) here
       is-next =
           ap (λ (fr : model.Front). let x : PlannedOutput = record {
             name = next_name o' written;
             blocks = here.blocks;
-            document = document_of o'.limits o'.rules fr (chapters_of o'.split o'.chapters (stretch_of o'.limits.scale here.start here.end)) o'.tags here.blocks;
+            document = document_of o'.limits o'.rules (record fr { info = with_uuids (uuids_at o'.uuids o'.link (length written + 1)) fr.info }) (chapters_of o'.split o'.chapters (stretch_of o'.limits.scale here.start here.end)) o'.tags here.blocks;
           } in x) so_far.front
-          ∙ ap (λ (each : OutputSpec). let x : PlannedOutput = record { name = name_of each.split each.name (length written + 1); blocks = here.blocks; document = document_with (live_files r a) each here } in x) way.spec
+          ∙ ap (λ (each : OutputSpec). let x : PlannedOutput = record { name = name_of each.split each.name (length written + 1); blocks = here.blocks; document = document_with (live_files r a) (own_spec each (length written + 1)) here } in x) way.spec
           ∙ ap (λ (n : ℕ). output_in (live_files r a) o n here) number
 
       abbrev rest : List Part
-      rest = parts_behind (split_in p') part.start (left (live_files r b) p'.merge)
+      rest = parts_behind (split_in p') part.start p'.cuts.load (left (live_files r b) p'.merge)
 
       abbrev done_drafts : List Draft
       done_drafts = drafts_of (outputs_from (live_files r a) o 1 so_far.done)
 
       abbrev its : PlannedOutput
-      its = record { name = next_name o' written; blocks = here.blocks; document = document_with (live_files r b) o' here }
+      its = record { name = next_name o' written; blocks = here.blocks; document = document_with (live_files r b) (next_spec o' written) here }
 
       all-drafts : drafts_of (outputs_from (live_files r a) o 1 (parts (split_in p) (left (live_files r a) p.merge)))
           ≡ done_drafts ++ draft_of its.name its.document ∷ drafts_of (outputs_from (live_files r a) o (suc (1 + length so_far.done)) rest)
@@ -330,19 +328,15 @@ module _ {S : Type 0} (r : Ghosts S) (f : writing.Ghosts S) (o : OutputSpec) (a 
       data_left = let none : data_of o'' ≡ 0 = ap data_of finds.spec in let before = way.data_left in omega (arith, none, before);
       goes = goes-then r way.read (data_of o') a b e p p' p'' way.goes goes;
       begins = finds.begins;
-      spec = finds.spec ∙ ap (λ (each : OutputSpec). let x : OutputSpec = record each { front = record each.front { attachments = [] } } in x) way.spec ∙ later (length written + 1 == 1) ∙ ap (λ (n : ℕ). spec_at o (n + 1)) (sym finds.count);
+      spec = finds.spec ∙ ap (λ (each : OutputSpec). let x : OutputSpec = record each { front = record each.front { attachments = [] } } in x) way.spec ∙ later ∙ ap (λ (n : ℕ). left_at o (n + 1)) (sym finds.count);
       attached = subst (λ (each : OutputSpec). All (CanAttach r f e (next_name o'' written')) each.front.attachments) (sym finds.spec) (All-nil (CanAttach r f e (next_name o'' written')));
       kept = way-keeps e kept;
       standing = λ told. stands-next told e o'' p'' written' next (writes ((way.standing told).told)) finds.spec;
     }
       where
-        later : (first : Bool) → (let x : OutputSpec = record o { front = record (if first then o.front else record o.front { attachments = [] }) { attachments = [] } } in x) ≡ spec_at o (length written + 1 + 1)
-        later first = either first ∙ ap (λ (q : Bool). let x : OutputSpec = record o { front = if q then o.front else record o.front { attachments = [] } } in x) (sym (more (length written)))
+        later : (let x : OutputSpec = record o { front = record o.front { attachments = [] } } in x) ≡ left_at o (length written + 1 + 1)
+        later = ap (λ (q : Bool). let x : OutputSpec = record o { front = record o.front { attachments = if q then o.front.attachments else [] } } in x) (sym (more (length written)))
           where
-            either : (q : Bool) → (let x : OutputSpec = record o { front = record (if q then o.front else record o.front { attachments = [] }) { attachments = [] } } in x) ≡ record o { front = record o.front { attachments = [] } }
-            either true = refl
-            either false = refl
-
             more : (n : ℕ) → (n + 1 + 1 == 1) ≡ false
             more n = grind (arith, nat_tests)
 

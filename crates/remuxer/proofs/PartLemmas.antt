@@ -1,50 +1,50 @@
 -- Blocks up to the next cut, and the parts that begin with them.
-use Rattle.std.proofs.Common.{◌≡◌, ◌≤◌, ℕ, ◌+◌, ◌*◌, Bool, true, false, ◌&&◌, ◌||◌, List, [], ◌∷◌, Option, Some, None, refl, sym, ◌∙◌, ap, ap₂, arith}
+use Rattle.std.proofs.Common.{◌≡◌, ◌≤◌, ◌<◌, ℕ, ◌+◌, ◌*◌, ◌^◌, max, nat_le, Bool, true, false, List, [], ◌∷◌, ◌++◌, map, Option, Some, None, IfSome, refl, sym, ◌∙◌, ap, ap₂, zero-add, arith}
 use Rattle.std.specs.Prelude.{if◌then◌else◌}
-use Rattle.std.specs.List.{list_any}
-use Rattle.std.specs.Option.{option_map_or}
-use Rattle.std.proofs.lemmas.Bool.{leb-true}
-use Rattle.std.proofs.lemmas.Bool.Decides.{nat_tests}
-use Rattle.word_values.specs.declared.lists.SpanWords.{SpanWords}
+use Rattle.std.specs.Option.{option_map}
 use Rattle.output_model.specs.OutputBlock.{OutputBlock}
+use Rattle.cluster_writer.specs.Lengths.{octets_taken}
 use Rattle.splitter.specs.declared.spec.SplitSpec.{SplitSpec}
-use Rattle.splitter.specs.declared.spec.SplitSpec.TheVariants.{Whole, Duration, Times, Parts}
-use Rattle.splitter.specs.Split.{is_over, is_within, keeps, passes}
-use Rattle.splitter.specs.Sections.{Section, Split, begun, beyond, cuts, may_cut, next_start, part_of, parts_in, sections_at, with_block, within}
-use Rattle.splitter.proofs.SectionLemmas.{goes-on}
-use Rattle.remuxer.specs.Places.{first_tick, part_from, parts_behind, parts_from, since}
+use Rattle.splitter.specs.declared.spec.SplitSpec.TheVariants.{Whole}
+use Rattle.splitter.specs.Split.{keeps}
+use Rattle.splitter.specs.Sections.{Part, Section, Split, begun, beyond, cut_from, cuts_at, in_part, next_start, part_of, parts_in, sections_at, within}
+use Rattle.splitter.specs.Steps.{counted}
+use Rattle.splitter.proofs.SectionLemmas.{beyond-counted, beyond-like, goes-on, within-counted}
+use Rattle.remuxer.specs.Places.{IsEnd, IsLimit, first_tick, part_from, parts_behind, parts_from}
 
--- ---- sections of one start
+-- a load at which parts end has 64 bits
+pub fits-of : (size : Option ℕ) (spec : SplitSpec) → IfSome size (IsLimit spec) → IfSome size (λ limit. limit < 2 ^ 64)
+fits-of None spec is = tt
+fits-of (Some limit) spec is = is.fits
 
-cuts-same : (s : Split) (x y : Section) (b : OutputBlock) → x.start ≡ y.start → cuts s x b ≡ cuts s y b
-cuts-same s x y b same = ap (λ (n : ℕ). may_cut s b && is_over s.spec (n * s.scale) (b.tick * s.scale)) same
+-- and then parts end at no times
+pub whole-of : (size : Option ℕ) (spec : SplitSpec) → IfSome size (IsLimit spec) → IfSome size (λ limit. spec ≡ Whole)
+whole-of None spec is = tt
+whole-of (Some limit) spec is = is.whole
 
-within-same : (s : Split) (bs : List OutputBlock) (x y : Section) → x.start ≡ y.start → within s x bs ≡ within s y bs
-within-same s [] x y same = refl
-within-same s (b ∷ bs) x y same =
-    ap₂ (λ (q : Bool) (more : List OutputBlock). if q then [] else b ∷ more) (cuts-same s x y b same) (within-same s bs (with_block x b) (with_block y b) same)
+-- so each section is written
+pub no-limit : (size : Option ℕ) (spec : SplitSpec) (time : ℕ) → IfSome size (IsLimit spec) → keeps spec time ≡ false → size ≡ None
+no-limit None spec time is out = refl
+no-limit (Some limit) spec time is out = absurd (let kept : keeps spec time ≡ true = ap (λ (each : SplitSpec). keeps each time) is.whole in cc)
 
-beyond-same : (s : Split) (bs : List OutputBlock) (x y : Section) → x.start ≡ y.start → beyond s x bs ≡ beyond s y bs
-beyond-same s [] x y same = refl
-beyond-same s (b ∷ bs) x y same =
-    ap₂ (λ (q : Bool) (more : List OutputBlock). if q then b ∷ bs else more) (cuts-same s x y b same) (beyond-same s bs (with_block x b) (with_block y b) same)
-
-module _ (s : Split) (start : ℕ) (b : OutputBlock) (bs : List OutputBlock) where
+module _ (s : Split) (fits : IfSome s.size (λ limit. limit < 2 ^ 64)) (start octets : ℕ) (b : OutputBlock) (bs : List OutputBlock) where
   -- no cut stands before a block
-  pub within-next : cuts s (since start) b ≡ false → within s (since start) (b ∷ bs) ≡ b ∷ within s (since start) bs
+  pub within-next : cuts_at s start octets b ≡ false → within s start octets (b ∷ bs) ≡ b ∷ within s start (counted s.size (octets + octets_taken b)) bs
   within-next none =
-      ap (λ (q : Bool). if q then [] else b ∷ within s (with_block (since start) b) bs) none ∙ ap (λ (more : List OutputBlock). b ∷ more) (within-same s bs (with_block (since start) b) (since start) refl)
+      ap (λ (q : Bool). if q then [] else b ∷ within s start (octets + octets_taken b) bs) none
+      ∙ ap (λ (more : List OutputBlock). b ∷ more) (sym (within-counted s fits start bs (octets + octets_taken b)))
 
-  pub beyond-next : cuts s (since start) b ≡ false → beyond s (since start) (b ∷ bs) ≡ beyond s (since start) bs
+  pub beyond-next : cuts_at s start octets b ≡ false → beyond s start octets (b ∷ bs) ≡ beyond s start (counted s.size (octets + octets_taken b)) bs
   beyond-next none =
-      ap (λ (q : Bool). if q then b ∷ bs else beyond s (with_block (since start) b) bs) none ∙ beyond-same s bs (with_block (since start) b) (since start) refl
+      ap (λ (q : Bool). if q then b ∷ bs else beyond s start (octets + octets_taken b) bs) none ∙ sym (beyond-counted s fits start bs (octets + octets_taken b))
 
+module _ (s : Split) (start octets : ℕ) (b : OutputBlock) (bs : List OutputBlock) where
   -- one does
-  pub within-cut : cuts s (since start) b ≡ true → within s (since start) (b ∷ bs) ≡ []
-  within-cut cut = ap (λ (q : Bool). if q then [] else b ∷ within s (with_block (since start) b) bs) cut
+  pub within-cut : cuts_at s start octets b ≡ true → within s start octets (b ∷ bs) ≡ []
+  within-cut cut = ap (λ (q : Bool). if q then [] else b ∷ within s start (octets + octets_taken b) bs) cut
 
-  pub beyond-cut : cuts s (since start) b ≡ true → beyond s (since start) (b ∷ bs) ≡ b ∷ bs
-  beyond-cut cut = ap (λ (q : Bool). if q then b ∷ bs else beyond s (with_block (since start) b) bs) cut
+  pub beyond-cut : cuts_at s start octets b ≡ true → beyond s start octets (b ∷ bs) ≡ b ∷ bs
+  beyond-cut cut = ap (λ (q : Bool). if q then b ∷ bs else beyond s start (octets + octets_taken b) bs) cut
 
 -- ---- the parts from a block on
 
@@ -55,83 +55,82 @@ start-at s (b ∷ bs) = ap next_start (goes-on s (begun b.tick b) bs)
 
 module _ (s : Split) (start : ℕ) (b : OutputBlock) (bs : List OutputBlock) where
   -- they are the sections that are written, of which the first goes up to the next cut
-  first-sections : parts_from s start (b ∷ bs) ≡ parts_in s (record { start = start; blocks = b ∷ within s (since start) bs } ∷ sections_at s (beyond s (since start) bs))
+  first-sections : parts_from s start (b ∷ bs) ≡ parts_in s (record { start = start; blocks = b ∷ within s start (octets_taken b) bs } ∷ sections_at s (beyond s start (octets_taken b) bs))
   first-sections =
       ap (parts_in s) (goes-on s (begun start b) bs)
-      ∙ ap₂ (λ (these behind : List OutputBlock). parts_in s (record { start = start; blocks = b ∷ these } ∷ sections_at s behind))
-      (within-same s bs (begun start b) (since start) refl) (beyond-same s bs (begun start b) (since start) refl)
+      ∙ ap (λ (n : ℕ). parts_in s (record { start = start; blocks = b ∷ within s start n bs } ∷ sections_at s (beyond s start n bs))) (zero-add (octets_taken b))
 
   -- the first of them is written
-  pub parts-first : keeps s.spec (start * s.scale) ≡ true → parts_from s start (b ∷ bs) ≡ part_from s start (b ∷ []) bs ∷ parts_behind s start bs
-  parts-first kept =
+  parts-kept : keeps s.spec (start * s.scale) ≡ true → parts_from s start (b ∷ bs) ≡ part_from s start (octets_taken b) (b ∷ []) bs ∷ parts_behind s start (octets_taken b) bs
+  parts-kept kept =
       first-sections
-      ∙ ap (λ (q : Bool). if q then part_of first (next_start others) ∷ parts_in s others else parts_in s others) kept
-      ∙ ap (λ (end : Option ℕ). part_of first end ∷ parts_in s others) (start-at s (beyond s (since start) bs))
+      ∙ ap (λ (q : Bool). if q then part_of x (next_start xs) ∷ parts_in s xs else parts_in s xs) kept
+      ∙ ap (λ (end : Option ℕ). part_of x end ∷ parts_in s xs) (start-at s (beyond s start (octets_taken b) bs))
     where
-      first : Section
-      first = record { start = start; blocks = b ∷ within s (since start) bs }
+      x : Section
+      x = record { start = start; blocks = b ∷ within s start (octets_taken b) bs }
 
-      others : List Section
-      others = sections_at s (beyond s (since start) bs)
+      xs : List Section
+      xs = sections_at s (beyond s start (octets_taken b) bs)
 
   -- it isn't
-  pub parts-passed : keeps s.spec (start * s.scale) ≡ false → parts_from s start (b ∷ bs) ≡ parts_behind s start bs
+  pub parts-passed : keeps s.spec (start * s.scale) ≡ false → parts_from s start (b ∷ bs) ≡ parts_behind s start (octets_taken b) bs
   parts-passed kept =
       first-sections
-      ∙ ap (λ (q : Bool). if q then part_of first (next_start others) ∷ parts_in s others else parts_in s others) kept
+      ∙ ap (λ (q : Bool). if q then part_of x (next_start xs) ∷ parts_in s xs else parts_in s xs) kept
     where
-      first : Section
-      first = record { start = start; blocks = b ∷ within s (since start) bs }
+      x : Section
+      x = record { start = start; blocks = b ∷ within s start (octets_taken b) bs }
 
-      others : List Section
-      others = sections_at s (beyond s (since start) bs)
+      xs : List Section
+      xs = sections_at s (beyond s start (octets_taken b) bs)
+
+-- the same by what is counted of its load
+pub parts-first : (s : Split) → IfSome s.size (λ limit. limit < 2 ^ 64) → (start n : ℕ) (b : OutputBlock) (bs : List OutputBlock) → n ≡ counted s.size (octets_taken b) → keeps s.spec (start * s.scale) ≡ true
+    → parts_from s start (b ∷ bs) ≡ part_from s start n (b ∷ []) bs ∷ parts_behind s start n bs
+parts-first s fits start n b bs is kept =
+    parts-kept s start b bs kept
+    ∙ ap₂ (λ (these behind : List OutputBlock). (let part : Part = record { start = start; end = option_map (max start) (first_tick behind); blocks = map (in_part start) (b ∷ these) } in part) ∷ parts_in s (sections_at s behind))
+    (sym (within-counted s fits start bs (octets_taken b))) (sym (beyond-counted s fits start bs (octets_taken b)))
+    ∙ ap (λ (k : ℕ). part_from s start k (b ∷ []) bs ∷ parts_behind s start k bs) (sym is)
 
 -- the parts behind a section, by the block that comes next
-pub behind-cut : (s : Split) (start : ℕ) (b : OutputBlock) (bs : List OutputBlock) → cuts s (since start) b ≡ true → parts_behind s start (b ∷ bs) ≡ parts_from s b.tick (b ∷ bs)
-behind-cut s start b bs cut = ap (λ (behind : List OutputBlock). parts_in s (sections_at s behind)) (beyond-cut s start b bs cut)
+pub behind-cut : (s : Split) (start octets : ℕ) (b : OutputBlock) (bs : List OutputBlock) → cuts_at s start octets b ≡ true → parts_behind s start octets (b ∷ bs) ≡ parts_from s b.tick (b ∷ bs)
+behind-cut s start octets b bs cut = ap (λ (behind : List OutputBlock). parts_in s (sections_at s behind)) (beyond-cut s start octets b bs cut)
 
-pub behind-next : (s : Split) (start : ℕ) (b : OutputBlock) (bs : List OutputBlock) → cuts s (since start) b ≡ false → parts_behind s start (b ∷ bs) ≡ parts_behind s start bs
-behind-next s start b bs none = ap (λ (behind : List OutputBlock). parts_in s (sections_at s behind)) (beyond-next s start b bs none)
+behind-next : (s : Split) (start octets : ℕ) (b : OutputBlock) (bs : List OutputBlock) → cuts_at s start octets b ≡ false
+    → parts_behind s start octets (b ∷ bs) ≡ parts_behind s start (octets + octets_taken b) bs
+behind-next s start octets b bs none = ap (λ (behind : List OutputBlock). parts_in s (sections_at s behind)) (ap (λ (q : Bool). if q then b ∷ bs else beyond s start (octets + octets_taken b) bs) none)
 
--- a section that isn't written goes on
-pub passed-next : (s : Split) (start : ℕ) (b : OutputBlock) (bs : List OutputBlock) → keeps s.spec (start * s.scale) ≡ false → (q : Bool) → cuts s (since start) b ≡ q
-    → parts_behind s start (b ∷ bs) ≡ parts_from s (if q then b.tick else start) (b ∷ bs)
-passed-next s start b bs kept true is = behind-cut s start b bs is
-passed-next s start b bs kept false is = behind-next s start b bs is ∙ sym (parts-passed s start b bs kept)
-
--- ---- the times of a section
-
-any-within : (start time : ℕ) (at : List ℕ) → list_any (is_within start time) at ≡ true → start ≤ time
-any-within start time [] over = absurd (grind arith)
-any-within start time (bound ∷ more) over = split (any-within start time more) (is_within start time bound) refl over
+-- by times alone the load doesn't count
+pub without-load : (s : Split) → s.size ≡ None → (start n m : ℕ) (bs : List OutputBlock) → beyond s start n bs ≡ beyond s start m bs
+without-load s times start n m bs = beyond-like s (none s.size times) start bs n m (same s.size times)
   where
-    split : (list_any (is_within start time) more ≡ true → start ≤ time) → (q : Bool) → is_within start time bound ≡ q → (q || list_any (is_within start time) more) ≡ true → start ≤ time
-    split others true is any = grind (arith, nat_tests)
-    split others false is any = others any
+    none : (size : Option ℕ) → size ≡ None → IfSome size (λ limit. limit < 2 ^ 64)
+    none None is = tt
+    none (Some limit) is = absurd (cc)
 
-any-passes : (start time : ℕ) (spans : List SpanWords) → list_any (passes start time) spans ≡ true → start ≤ time
-any-passes start time [] over = absurd (grind arith)
-any-passes start time (span ∷ more) over = split (any-passes start time more) (passes start time span) refl over
+    same : (size : Option ℕ) → size ≡ None → counted size n ≡ counted size m
+    same None is = refl
+    same (Some limit) is = absurd (cc)
+
+-- a section that isn't written goes on; such are those of stretches alone
+pub passed-next : (s : Split) → s.size ≡ None → (start octets : ℕ) (b : OutputBlock) (bs : List OutputBlock) → keeps s.spec (start * s.scale) ≡ false → (q : Bool) → cuts_at s start octets b ≡ q
+    → parts_behind s start octets (b ∷ bs) ≡ parts_from s (if q then b.tick else start) (b ∷ bs)
+passed-next s times start octets b bs kept true is = behind-cut s start octets b bs is
+passed-next s times start octets b bs kept false is =
+    behind-next s start octets b bs is
+    ∙ ap (λ (behind : List OutputBlock). parts_in s (sections_at s behind)) (without-load s times start (octets + octets_taken b) (octets_taken b) bs)
+    ∙ sym (parts-passed s start b bs kept)
+
+-- ---- the end of a part
+
+-- it is no earlier than its start, whatever the tick behind the cut
+pub is-end : (scale start tick : ℕ) → start * scale < 2 ^ 64 → tick * scale < 2 ^ 64 → IsEnd scale start (max start tick)
+is-end scale start tick starts ends = record { behind = later (nat_le start tick) refl; early = short }
   where
-    ends : (end : Option ℕ) → (is_within start time span.start || option_map_or (is_within start time) end false) ≡ true → start ≤ time
-    ends None is = grind (arith, nat_tests)
-    ends (Some end) is = grind (arith, nat_tests)
+    later : (q : Bool) → nat_le start tick ≡ q → start * scale ≤ max start tick * scale
+    later q is = grind arith
 
-    split : (list_any (passes start time) more ≡ true → start ≤ time) → (q : Bool) → passes start time span ≡ q → (q || list_any (passes start time) more) ≡ true → start ≤ time
-    split others true is any = ends span.end is
-    split others false is any = others any
-
--- a section is over no earlier than it starts
-pub over-later : (spec : SplitSpec) (start time : ℕ) → is_over spec start time ≡ true → start ≤ time
-over-later Whole start time over = absurd (grind arith)
-over-later (Duration by) start time over = let le : start + by ≤ time = leb-true (start + by) time over in omega arith
-over-later (Times at) start time over = any-within start time at over
-over-later (Parts spans) start time over = any-passes start time spans over
-
--- so the tick of a block behind a cut is no earlier, in nanoseconds
-pub cut-later : (s : Split) (start : ℕ) (b : OutputBlock) → cuts s (since start) b ≡ true → start * s.scale ≤ b.tick * s.scale
-cut-later s start b cut = over-later s.spec (start * s.scale) (b.tick * s.scale) (second (may_cut s b) cut)
-  where
-    second : (may : Bool) → (may && is_over s.spec (start * s.scale) (b.tick * s.scale)) ≡ true → is_over s.spec (start * s.scale) (b.tick * s.scale) ≡ true
-    second true is = is
-    second false is = absurd (grind arith)
+    short : max start tick * scale < 2 ^ 64
+    short = grind arith

@@ -4,6 +4,8 @@ use Rattle.std.specs.List.{slice_get}
 use Rattle.std.specs.Option.{option_map}
 use Rattle.std.proofs.lemmas.Option.{unwrap_or-slice_get}
 use Rattle.output_model.specs.declared.heads.OutHead.{OutHead}
+use Rattle.output_model.specs.OutputBlock.{lent_block}
+use Rattle.cluster_writer.specs.Lengths.{octets_taken}
 use Rattle.lanes.specs.Lane.{LaneSeen, lent}
 use Rattle.time_merge.specs.Merge.{MergeSeen, StepsTo}
 use Rattle.time_merge.specs.declared.queue.Queue.{Queue}
@@ -11,13 +13,15 @@ use Rattle.splitter.specs.declared.cuts.Place.{Place}
 use Rattle.splitter.specs.Steps.{CutsSeen, place_of, stepped}
 use Rattle.remuxer.specs.Placed.{PlacesOne, drives_at}
 
-pub places-one : (drives : List Bool) (old new : MergeSeen) (k : ℕ) (l : LaneSeen) (head : OutHead) (place : Place) (cuts after : CutsSeen) → StepsTo old new k
+same-some : (l m : LaneSeen) → Some l ≡ Some m → l ≡ m
+same-some l m is = cc
+
+pub places-one : (drives : List Bool) (old new : MergeSeen) (k : ℕ) (l : LaneSeen) (head : OutHead) (len : ℕ) (place : Place) (cuts after : CutsSeen) → StepsTo old new k
     → option_map (λ (q : Queue). q.lane) (slice_get new.queues k) ≡ Some l → head ≡ (lent l).head
-    → place ≡ place_of cuts (head.key && get_or drives k false) head.tick → after ≡ stepped cuts (head.key && get_or drives k false) head.tick
+    → len ≡ octets_taken (lent_block (lent l)) → place ≡ place_of cuts (head.key && get_or drives k false) head.tick → after ≡ stepped cuts (head.key && get_or drives k false) head.tick len
     → PlacesOne drives new cuts after (record { lane = k; place = place })
-places-one drives old new k l head place cuts after steps lane its placed on =
-    let found : Some l ≡ Some steps.queue.lane = sym lane ∙ ap (option_map (λ (q : Queue). q.lane)) steps.here in
-    let same : l ≡ steps.queue.lane = cc in
+places-one drives old new k l head len place cuts after steps lane its takes placed on =
+    let same : l ≡ steps.queue.lane = same-some l steps.queue.lane (sym lane ∙ ap (option_map (λ (q : Queue). q.lane)) steps.here) in
     let says : head ≡ (lent steps.queue.lane).head = its ∙ ap (λ (x : LaneSeen). (lent x).head) same in
     let driving : get_or drives k false ≡ drives_at drives k = sym (unwrap_or-slice_get drives k false) in
     record {
@@ -25,6 +29,8 @@ places-one drives old new k l head place cuts after steps lane its placed on =
       here = steps.here;
       placed = record {
         place = placed ∙ ap₂ (λ (h : OutHead) (d : Bool). place_of cuts (h.key && d) h.tick) says driving;
-        steps = on ∙ ap₂ (λ (h : OutHead) (d : Bool). stepped cuts (h.key && d) h.tick) says driving;
+        steps =
+            on ∙ ap₂ (λ (h : OutHead) (d : Bool). stepped cuts (h.key && d) h.tick len) says driving
+            ∙ ap (λ (n : ℕ). stepped cuts ((lent steps.queue.lane).head.key && drives_at drives k) (lent steps.queue.lane).head.tick n) (takes ∙ ap (λ (x : LaneSeen). octets_taken (lent_block (lent x))) same);
       };
     }

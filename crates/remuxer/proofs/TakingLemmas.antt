@@ -1,7 +1,8 @@
 -- An output that takes the blocks of a merge: a block is read, and then something is written.
-use Rattle.std.proofs.Common.{◌≡◌, ◌≤◌, ℕ, ◌+◌, Bool, true, false, List, [], ◌∷◌, length, Option, Some, None, Result, Ok, Err, refl, sym, ◌∙◌, ap, subst, arith, map, ap₂, ◌++◌, take, append-nil}
+use Rattle.std.proofs.Common.{◌≡◌, ◌≤◌, ◌<◌, ◌^◌, max, IfSome, ℕ, ◌+◌, Bool, true, false, List, [], ◌∷◌, length, Option, Some, None, Result, Ok, Err, refl, sym, ◌∙◌, ap, subst, arith, map, ap₂, ◌++◌, take, append-nil}
 use Rattle.std.proofs.lemmas.List.{drop_all, take_all}
 use Rattle.std.specs.List.{All}
+use Rattle.std.specs.Option.{option_map}
 use Rattle.std.proofs.lemmas.List.Elements.{All-head, All-tail}
 use Rattle.mkv_io.specs.Faults.{counted, last_count}
 use Rattle.mkv_io.specs.LiveFiles.{LiveFiles}
@@ -37,10 +38,12 @@ use Rattle.time_merge.specs.Queues.{KeepsQueues}
 use Rattle.time_merge.specs.declared.queue.Queue.{Queue}
 use Rattle.time_merge.proofs.KeptLemmas.{apart-kept, keeps-merge, stands-kept}
 use Rattle.time_merge.proofs.QueueLemmas.{apart-same, count-kept, length-same}
-use Rattle.splitter.specs.Sections.{Split, beyond, cuts, in_part, parts_in, sections_at}
+use Rattle.splitter.specs.Sections.{Split, beyond, cuts_at, in_part, parts_in, sections_at}
 use Rattle.splitter.specs.Steps.{start_of}
+use Rattle.splitter.specs.Steps as steps
+use Rattle.cluster_writer.specs.Lengths.{octets_taken}
 use Rattle.remuxer.specs.declared.placing.Ahead.{Ahead}
-use Rattle.remuxer.specs.Places.{CanGive, first_tick, in_part_from, lane_of, lent_at, parts_ahead, parts_behind, parts_from, since, split_in}
+use Rattle.remuxer.specs.Places.{CanGive, first_tick, in_part_from, lane_of, lent_at, parts_ahead, parts_behind, parts_from, split_in}
 use Rattle.remux_plan.specs.declared.output.OutputSpec.{OutputSpec}
 use Rattle.remuxer.specs.Output.{Ends, FillsPart, chapters_cut}
 use Rattle.remuxer.specs.declared.placed.PartStart.{PartStart}
@@ -141,7 +144,7 @@ module _ {S : Type 0} (r : Ghosts S) (f : writing.Ghosts S) (rules : List CueRul
   turn-goes split octets paid told = record {
     lanes = lanes;
     split = split;
-    gives = record { ready = turn-stands.ready; few = gives.few; drives = gives.drives; scales = gives.scales; scale = gives.scale; early = gives.early };
+    gives = record { ready = turn-stands.ready; few = gives.few; drives = gives.drives; scales = gives.scales; scale = gives.scale; early = gives.early; limit = gives.limit };
     length = turn-stands.length ∙ ap (λ s. files_length s p'.merge) same ∙ length-same (live_files r a) p.merge.queues p'.merge.queues lanes;
     paid = let owed : due (live_files r c) p'.merge ≡ due (live_files r a) p'.merge = turn-stands.due ∙ ap (λ s. due s p'.merge) same in omega arith;
     told = λ is. record {
@@ -151,22 +154,22 @@ module _ {S : Type 0} (r : Ghosts S) (f : writing.Ghosts S) (rules : List CueRul
   }
 
   -- the first of some blocks is taken
-  pub turn-takes : (rest : List OutputBlock → List OutputBlock) (x : OutputBlock) → rest (left (live_files r a) p.merge) ≡ x ∷ rest (left (live_files r a) p'.merge) → ((others : List OutputBlock) → StaysOnTheWay r f rules (x ∷ others) others b c w w')
-      → StaysOnTheWay r f rules (rest (left (live_files r a) p.merge)) (rest (left (live_files r c) p'.merge)) a c w w'
-  turn-takes rest x gives takes before name d stands =
+  pub turn-takes : (was now : List OutputBlock → List OutputBlock) (x : OutputBlock) → was (left (live_files r a) p.merge) ≡ x ∷ now (left (live_files r a) p'.merge) → ((others : List OutputBlock) → StaysOnTheWay r f rules (x ∷ others) others b c w w')
+      → StaysOnTheWay r f rules (was (left (live_files r a) p.merge)) (now (left (live_files r c) p'.merge)) a c w w'
+  turn-takes was now x gives takes before name d stands =
       let P : List OutputBlock → Type 0 = λ bs. Stands r f before name rules d a w.out w.buffer bs in
-      let Q : List OutputBlock → Type 0 = λ bs. Stands r f before name rules d c w'.out w'.buffer (rest bs) in
+      let Q : List OutputBlock → Type 0 = λ bs. Stands r f before name rules d c w'.out w'.buffer (now bs) in
       subst Q (sym turn-left)
-      (takes (rest (left (live_files r a) p'.merge)) before name d
-      (stands-read r f a b read before name rules d w.out w.buffer (x ∷ rest (left (live_files r a) p'.merge)) (subst P gives stands)))
+      (takes (now (left (live_files r a) p'.merge)) before name d
+      (stands-read r f a b read before name rules d w.out w.buffer (x ∷ now (left (live_files r a) p'.merge)) (subst P gives stands)))
 
   -- or the call is refused
-  pub turn-drafted : (rest : List OutputBlock → List OutputBlock) (x : OutputBlock) → rest (left (live_files r a) p.merge) ≡ x ∷ rest (left (live_files r a) p'.merge) → ((others : List OutputBlock) → StaysDraft r f rules (x ∷ others) b c w)
-      → StaysDraft r f rules (rest (left (live_files r a) p.merge)) a c w
-  turn-drafted rest x gives drafted before name d stands =
+  pub turn-drafted : (was now : List OutputBlock → List OutputBlock) (x : OutputBlock) → was (left (live_files r a) p.merge) ≡ x ∷ now (left (live_files r a) p'.merge) → ((others : List OutputBlock) → StaysDraft r f rules (x ∷ others) b c w)
+      → StaysDraft r f rules (was (left (live_files r a) p.merge)) a c w
+  turn-drafted was now x gives drafted before name d stands =
       let P : List OutputBlock → Type 0 = λ bs. Stands r f before name rules d a w.out w.buffer bs in
-      drafted (rest (left (live_files r a) p'.merge)) before name d
-      (stands-read r f a b read before name rules d w.out w.buffer (x ∷ rest (left (live_files r a) p'.merge)) (subst P gives stands))
+      drafted (now (left (live_files r a) p'.merge)) before name d
+      (stands-read r f a b read before name rules d w.out w.buffer (x ∷ now (left (live_files r a) p'.merge)) (subst P gives stands))
 
 -- a read was refused
 pub read-drafted : {S : Type 0} (r : Ghosts S) (f : writing.Ghosts S) (rules : List CueRule) (a b : S) (w : BlockWriter) (was : List OutputBlock) → OnlyRead r f a b → StaysDraft r f rules was a b w
@@ -176,9 +179,11 @@ read-drafted r f rules a b w was read before name d stands =
 
 -- ---- the blocks of a part
 
--- the next one is in the part
-pub part-next : (s : Split) (start : ℕ) (x : OutputBlock) (was left : List OutputBlock) → was ≡ x ∷ left → cuts s (since start) x ≡ false → in_part_from s start [] was ≡ in_part start x ∷ in_part_from s start [] left
-part-next s start x was left is none = ap (in_part_from s start []) is ∙ ap (map (in_part start)) (within-next s start x left none)
+-- the next one is in the part, of whose load so much more is counted then
+pub part-next : (s : Split) → IfSome s.size (λ limit. limit < 2 ^ 64) → (start n m : ℕ) (x : OutputBlock) (was left : List OutputBlock) → was ≡ x ∷ left → cuts_at s start n x ≡ false → m ≡ steps.counted s.size (n + octets_taken x)
+    → in_part_from s start n [] was ≡ in_part start x ∷ in_part_from s start m [] left
+part-next s fits start n m x was left is none more =
+    ap (in_part_from s start n []) is ∙ ap (map (in_part start)) (within-next s fits start n x left none) ∙ ap (λ (k : ℕ). in_part start x ∷ in_part_from s start k [] left) (sym more)
 
 -- counts
 counted-next : (n k : ℕ) → counted (counted n 1) k ≡ counted n (1 + k)
@@ -190,50 +195,54 @@ counted-few n k = grind arith
 few-more : (n m k : ℕ) → m ≡ counted n k → m ≤ last_count
 few-more n m k is = let few = counted-few n k in omega (arith, is, few)
 
-pub some-taken : {S : Type 0} (r : Ghosts S) (f : writing.Ghosts S) (rules : List CueRule) (s : Split) (start : ℕ) (a c : S) (w w' : BlockWriter) (m m' : MergeSeen) (x : OutputBlock) → left (live_files r a) m ≡ x ∷ left (live_files r a) m' → cuts s (since start) x ≡ false
-    → left (live_files r c) m' ≡ left (live_files r a) m' → w'.blocks ≡ counted w.blocks 1
-    → StaysOnTheWay r f rules (rest_of_part (live_files r a) s start m) (rest_of_part (live_files r c) s start m') a c w w' → TakesSome r f rules s start a c w w' m m'
-some-taken r f rules s start a c w w' m m' x is none same one stands =
-    let was = left (live_files r a) m in
-    let now = left (live_files r a) m' in
+pub some-taken : {S : Type 0} (r : Ghosts S) (f : writing.Ghosts S) (rules : List CueRule) (s : Split) → IfSome s.size (λ limit. limit < 2 ^ 64) → (start : ℕ) (a c : S) (w w' : BlockWriter) (p p' : PlacedBlocks) (x : OutputBlock)
+    → left (live_files r a) p.merge ≡ x ∷ left (live_files r a) p'.merge → cuts_at s start p.cuts.load x ≡ false → p'.cuts.load ≡ steps.counted s.size (p.cuts.load + octets_taken x)
+    → left (live_files r c) p'.merge ≡ left (live_files r a) p'.merge → w'.blocks ≡ counted w.blocks 1
+    → StaysOnTheWay r f rules (rest_of_part (live_files r a) s start p) (rest_of_part (live_files r c) s start p') a c w w' → TakesSome r f rules s start a c w w' p p'
+some-taken r f rules s fits start a c w w' p p' x is none more same one stands =
+    let was = left (live_files r a) p.merge in
+    let now = left (live_files r a) p'.merge in
+    let n = p.cuts.load in
+    let m = p'.cuts.load in
     record {
       stands = stands;
-      behind = ap (beyond s (since start)) same ∙ sym (ap (beyond s (since start)) is ∙ beyond-next s start x now none);
-      count = ap₂ (λ (n : ℕ) (bs : List OutputBlock). counted n (length (in_part_from s start [] bs))) one same ∙ counted-next w.blocks (length (in_part_from s start [] now))
-          ∙ sym (ap (λ (bs : List OutputBlock). counted w.blocks (length bs)) (part-next s start x was now is none) ∙ ap (counted w.blocks) (let more : length (in_part start x ∷ in_part_from s start [] now) ≡ 1 + length (in_part_from s start [] now) = omega arith in more));
+      behind = ap (beyond s start m) same ∙ sym (ap (beyond s start n) is ∙ beyond-next s fits start n x now none ∙ ap (λ (k : ℕ). beyond s start k now) (sym more));
+      count = ap₂ (λ (k : ℕ) (bs : List OutputBlock). counted k (length (in_part_from s start m [] bs))) one same ∙ counted-next w.blocks (length (in_part_from s start m [] now))
+          ∙ sym (ap (λ (bs : List OutputBlock). counted w.blocks (length bs)) (part-next s fits start n m x was now is none more) ∙ ap (counted w.blocks) (let more_of : length (in_part start x ∷ in_part_from s start m [] now) ≡ 1 + length (in_part_from s start m [] now) = omega arith in more_of));
       few = λ le. few-more w.blocks w'.blocks 1 one;
     }
 
 -- no block is left of the part; one is ahead
 pub over-ahead : {S : Type 0} (r : Ghosts S) (f : writing.Ghosts S) (rules : List CueRule) (start : ℕ) (a b : S) (w : BlockWriter) (p p' : PlacedBlocks) (ahead : Ahead) (x : OutputBlock) → OnlyRead r f a b → left (live_files r a) p.merge ≡ x ∷ left (live_files r a) p'.merge
-    → cuts (split_in p) (since start) x ≡ true → split_in p' ≡ split_in p → lent_at p'.merge (Some ahead.lane) ≡ x ∷ [] → start_of p'.cuts ≡ x.tick → TakesRest r f rules (split_in p) start [] a b w w p.merge p' (Some ahead)
+    → cuts_at (split_in p) start p.cuts.load x ≡ true → split_in p' ≡ split_in p → lent_at p'.merge (Some ahead.lane) ≡ x ∷ [] → start_of p'.cuts ≡ x.tick → TakesRest r f rules (split_in p) start [] a b w w p p' (Some ahead)
 over-ahead r f rules start a b w p p' ahead x read is cut split one at =
     let s = split_in p in
     let was = left (live_files r a) p.merge in
     let now = left (live_files r a) p'.merge in
     let same : left (live_files r b) p'.merge ≡ now = ap (λ (h : LiveFiles). left h p'.merge) (files-same r f a b read) in
-    let none : in_part_from s start [] was ≡ [] = ap (in_part_from s start []) is ∙ ap (map (in_part start)) (within-cut s start x now cut) in
+    let n = p.cuts.load in
+    let none : in_part_from s start n [] was ≡ [] = ap (in_part_from s start n []) is ∙ ap (map (in_part start)) (within-cut s start n x now cut) in
     record {
       stands = λ before name d stands.
           let P : List OutputBlock → Type 0 = λ bs. Stands r f before name rules d a w.out w.buffer bs in
           stands-read r f a b read before name rules d w.out w.buffer [] (subst P none stands);
-      end = ap first_tick one ∙ sym (ap first_tick (ap (beyond s (since start)) is ∙ beyond-cut s start x now cut));
-      behind = ahead-parts (live_files r b) p p' ahead.lane x split one ∙ ap₂ (λ (n : ℕ) (bs : List OutputBlock). parts_from s n (x ∷ bs)) at same ∙ sym (behind-cut s start x now cut) ∙ ap (parts_behind s start) (sym is);
+      end = ap first_tick one ∙ sym (ap first_tick (ap (beyond s start n) is ∙ beyond-cut s start n x now cut));
+      behind = ahead-parts (live_files r b) p p' ahead.lane x split one ∙ ap₂ (λ (k : ℕ) (bs : List OutputBlock). parts_from s k (x ∷ bs)) at same ∙ sym (behind-cut s start n x now cut) ∙ ap (parts_behind s start n) (sym is);
       count = sym (ap (λ (bs : List OutputBlock). counted w.blocks (length bs)) none);
       few = λ le. le;
     }
 
 -- none is left at all
-pub over-ended : {S : Type 0} (r : Ghosts S) (f : writing.Ghosts S) (rules : List CueRule) (start : ℕ) (a b : S) (w : BlockWriter) (p p' : PlacedBlocks) → OnlyRead r f a b → left (live_files r a) p.merge ≡ [] → TakesRest r f rules (split_in p) start [] a b w w p.merge p' None
+pub over-ended : {S : Type 0} (r : Ghosts S) (f : writing.Ghosts S) (rules : List CueRule) (start : ℕ) (a b : S) (w : BlockWriter) (p p' : PlacedBlocks) → OnlyRead r f a b → left (live_files r a) p.merge ≡ [] → TakesRest r f rules (split_in p) start [] a b w w p p' None
 over-ended r f rules start a b w p p' read is =
     let s = split_in p in
-    let none : in_part_from s start [] (left (live_files r a) p.merge) ≡ [] = ap (in_part_from s start []) is in
+    let none : in_part_from s start p.cuts.load [] (left (live_files r a) p.merge) ≡ [] = ap (in_part_from s start p.cuts.load []) is in
     record {
       stands = λ before name d stands.
           let P : List OutputBlock → Type 0 = λ bs. Stands r f before name rules d a w.out w.buffer bs in
           stands-read r f a b read before name rules d w.out w.buffer [] (subst P none stands);
-      end = sym (ap (λ (bs : List OutputBlock). first_tick (beyond s (since start) bs)) is);
-      behind = sym (ap (parts_behind s start) is);
+      end = sym (ap (λ (bs : List OutputBlock). first_tick (beyond s start p.cuts.load bs)) is);
+      behind = sym (ap (parts_behind s start p.cuts.load) is);
       count = sym (ap (λ (bs : List OutputBlock). counted w.blocks (length bs)) none);
       few = λ le. le;
     }
@@ -283,7 +292,7 @@ goes-more r more a b c p q q' first next =
     subst (λ (n : ℕ). GoesOn r n a c p q') same (goes-then r more 0 a b c p q q' first next)
 
 -- some blocks were taken, and then more
-pub some-then : {S : Type 0} (r : Ghosts S) (f : writing.Ghosts S) (rules : List CueRule) (s : Split) (start : ℕ) (a b c : S) (w v u : BlockWriter) (l m n : MergeSeen)
+pub some-then : {S : Type 0} (r : Ghosts S) (f : writing.Ghosts S) (rules : List CueRule) (s : Split) (start : ℕ) (a b c : S) (w v u : BlockWriter) (l m n : PlacedBlocks)
     → TakesSome r f rules s start a b w v l m → TakesSome r f rules s start b c v u m n → TakesSome r f rules s start a c w u l n
 some-then r f rules s start a b c w v u l m n first next = record {
   stands = λ before name d stands. next.stands before name d (first.stands before name d stands);
@@ -293,12 +302,12 @@ some-then r f rules s start a b c w v u l m n first next = record {
 }
 
 -- some blocks were taken, and then the call is refused
-pub some-drafted : {S : Type 0} (r : Ghosts S) (f : writing.Ghosts S) (rules : List CueRule) (s : Split) (start : ℕ) (a b c : S) (w v : BlockWriter) (l m : MergeSeen)
+pub some-drafted : {S : Type 0} (r : Ghosts S) (f : writing.Ghosts S) (rules : List CueRule) (s : Split) (start : ℕ) (a b c : S) (w v : BlockWriter) (l m : PlacedBlocks)
     → TakesSome r f rules s start a b w v l m → StaysDraft r f rules (rest_of_part (live_files r b) s start m) b c v → StaysDraft r f rules (rest_of_part (live_files r a) s start l) a c w
 some-drafted r f rules s start a b c w v l m first drafted before name d stands = drafted before name d (first.stands before name d stands)
 
 -- some, and then the rest
-pub rest-then : {S : Type 0} (r : Ghosts S) (f : writing.Ghosts S) (rules : List CueRule) (s : Split) (start : ℕ) (a b c : S) (w v u : BlockWriter) (l m : MergeSeen) (p : PlacedBlocks) (ahead : Option Ahead)
+pub rest-then : {S : Type 0} (r : Ghosts S) (f : writing.Ghosts S) (rules : List CueRule) (s : Split) (start : ℕ) (a b c : S) (w v u : BlockWriter) (l m p : PlacedBlocks) (ahead : Option Ahead)
     → TakesSome r f rules s start a b w v l m → TakesRest r f rules s start [] b c v u m p ahead → TakesRest r f rules s start [] a c w u l p ahead
 rest-then r f rules s start a b c w v u l m p ahead first next = record {
   stands = λ before name d stands. next.stands before name d (first.stands before name d stands);
@@ -309,35 +318,35 @@ rest-then r f rules s start a b c w v u l m p ahead first next = record {
 }
 
 -- none has been taken
-pub some-none : {S : Type 0} (r : Ghosts S) (f : writing.Ghosts S) (rules : List CueRule) (s : Split) (start : ℕ) (a : S) (w : BlockWriter) (m : MergeSeen) → TakesSome r f rules s start a a w w m m
-some-none r f rules s start a w m = record { stands = λ before name d stands. stands; behind = refl; count = refl; few = λ le. le }
+pub some-none : {S : Type 0} (r : Ghosts S) (f : writing.Ghosts S) (rules : List CueRule) (s : Split) (start : ℕ) (a : S) (w : BlockWriter) (p : PlacedBlocks) → TakesSome r f rules s start a a w w p p
+some-none r f rules s start a w p = record { stands = λ before name d stands. stands; behind = refl; count = refl; few = λ le. le }
 
 -- the first block of a part was taken, and then the rest of it
-pub part-taken : {S : Type 0} (r : Ghosts S) (f : writing.Ghosts S) (rules : List CueRule) (s : Split) (start : ℕ) (a b c : S) (w v u : BlockWriter) (m : MergeSeen) (p : PlacedBlocks) (ahead : Option Ahead) (x : OutputBlock) (first : List OutputBlock) → first ≡ x ∷ []
-    → left (live_files r b) m ≡ left (live_files r a) m → v.blocks ≡ counted w.blocks 1 → ((others : List OutputBlock) → StaysOnTheWay r f rules (in_part start x ∷ others) others a b w v)
+pub part-taken : {S : Type 0} (r : Ghosts S) (f : writing.Ghosts S) (rules : List CueRule) (s : Split) (start : ℕ) (a b c : S) (w v u : BlockWriter) (m p : PlacedBlocks) (ahead : Option Ahead) (x : OutputBlock) (first : List OutputBlock) → first ≡ x ∷ []
+    → left (live_files r b) m.merge ≡ left (live_files r a) m.merge → v.blocks ≡ counted w.blocks 1 → ((others : List OutputBlock) → StaysOnTheWay r f rules (in_part start x ∷ others) others a b w v)
     → TakesRest r f rules s start [] b c v u m p ahead → TakesRest r f rules s start first a c w u m p ahead
 part-taken r f rules s start a b c w v u m p ahead x first is same one takes rest =
-    let was = left (live_files r a) m in
+    let was = left (live_files r a) m.merge in
     let whole : TakesRest r f rules s start (x ∷ []) a c w u m p ahead = record {
       stands = λ before name d stands.
-          let P : List OutputBlock → Type 0 = λ bs. Stands r f before name rules d b v.out v.buffer (in_part_from s start [] bs) in
-          rest.stands before name d (subst P (sym same) (takes (in_part_from s start [] was) before name d stands));
-      end = rest.end ∙ ap (λ (bs : List OutputBlock). first_tick (beyond s (since start) bs)) same;
-      behind = rest.behind ∙ ap (parts_behind s start) same;
-      count = rest.count ∙ ap₂ (λ (n : ℕ) (bs : List OutputBlock). counted n (length (in_part_from s start [] bs))) one same ∙ counted-next w.blocks (length (in_part_from s start [] was))
-          ∙ ap (counted w.blocks) (let more : 1 + length (in_part_from s start [] was) ≡ length (in_part start x ∷ in_part_from s start [] was) = omega arith in more);
+          let P : List OutputBlock → Type 0 = λ bs. Stands r f before name rules d b v.out v.buffer (in_part_from s start m.cuts.load [] bs) in
+          rest.stands before name d (subst P (sym same) (takes (in_part_from s start m.cuts.load [] was) before name d stands));
+      end = rest.end ∙ ap (λ (bs : List OutputBlock). first_tick (beyond s start m.cuts.load bs)) same;
+      behind = rest.behind ∙ ap (parts_behind s start m.cuts.load) same;
+      count = rest.count ∙ ap₂ (λ (n : ℕ) (bs : List OutputBlock). counted n (length (in_part_from s start m.cuts.load [] bs))) one same ∙ counted-next w.blocks (length (in_part_from s start m.cuts.load [] was))
+          ∙ ap (counted w.blocks) (let more : 1 + length (in_part_from s start m.cuts.load [] was) ≡ length (in_part start x ∷ in_part_from s start m.cuts.load [] was) = omega arith in more);
       few = λ le. rest.few (few-more w.blocks v.blocks 1 one);
     } in
     subst (λ (bs : List OutputBlock). TakesRest r f rules s start bs a c w u m p ahead) (sym is) whole
 
 -- a part without blocks
-pub part-none : {S : Type 0} (r : Ghosts S) (f : writing.Ghosts S) (rules : List CueRule) (s : Split) (start : ℕ) (a : S) (w : BlockWriter) (p : PlacedBlocks) → left (live_files r a) p.merge ≡ [] → TakesRest r f rules s start [] a a w w p.merge p None
+pub part-none : {S : Type 0} (r : Ghosts S) (f : writing.Ghosts S) (rules : List CueRule) (s : Split) (start : ℕ) (a : S) (w : BlockWriter) (p : PlacedBlocks) → left (live_files r a) p.merge ≡ [] → TakesRest r f rules s start [] a a w w p p None
 part-none r f rules s start a w p is =
-    let none : in_part_from s start [] (left (live_files r a) p.merge) ≡ [] = ap (in_part_from s start []) is in
+    let none : in_part_from s start p.cuts.load [] (left (live_files r a) p.merge) ≡ [] = ap (in_part_from s start p.cuts.load []) is in
     record {
       stands = λ before name d stands. let P : List OutputBlock → Type 0 = λ bs. Stands r f before name rules d a w.out w.buffer bs in subst P none stands;
-      end = sym (ap (λ (bs : List OutputBlock). first_tick (beyond s (since start) bs)) is);
-      behind = sym (ap (parts_behind s start) is);
+      end = sym (ap (λ (bs : List OutputBlock). first_tick (beyond s start p.cuts.load bs)) is);
+      behind = sym (ap (parts_behind s start p.cuts.load) is);
       count = sym (ap (λ (bs : List OutputBlock). counted w.blocks (length bs)) none);
       few = λ le. le;
     }
@@ -381,7 +390,7 @@ module _ {S : Type 0} (r : Ghosts S) (f : writing.Ghosts S) (a b : S) (w : Block
   rest-goes = record {
     lanes = refl;
     split = refl;
-    gives = record { ready = rest-among.ready; few = can.gives.few; drives = can.gives.drives; scales = can.gives.scales; scale = can.gives.scale; early = can.gives.early };
+    gives = record { ready = rest-among.ready; few = can.gives.few; drives = can.gives.drives; scales = can.gives.scales; scale = can.gives.scale; early = can.gives.early; limit = can.gives.limit };
     length = rest-among.length;
     paid = let due = rest-among.due in omega (arith, due, octets);
     told = λ told. record { told = rest-among.told told; damages = rest-among.damages };
@@ -396,19 +405,19 @@ goes-result r a b c p q q' (Err end) first next = let paid = first.paid in let l
 pub part-then : {S : Type 0} (r : Ghosts S) (f : writing.Ghosts S) (rules : List CueRule) (start lane : ℕ) (a b c : S) (w v u : BlockWriter) (p p' : PlacedBlocks) (x : OutputBlock) (result : Result (Option Ahead) RemuxEnd) → lent_at p.merge (Some lane) ≡ x ∷ []
     → left (live_files r b) p.merge ≡ left (live_files r a) p.merge → v.blocks ≡ counted w.blocks 1 → ((others : List OutputBlock) → StaysOnTheWay r f rules (in_part start x ∷ others) others a b w v)
     → TakesAll r f rules start [] b c v u p p' result → TakesAll r f rules start (lent_at p.merge (Some lane)) a c w u p p' result
-part-then r f rules start lane a b c w v u p p' x (Ok ahead) is same one takes rest = part-taken r f rules (split_in p) start a b c w v u p.merge p' ahead x (lent_at p.merge (Some lane)) is same one takes rest
+part-then r f rules start lane a b c w v u p p' x (Ok ahead) is same one takes rest = part-taken r f rules (split_in p) start a b c w v u p p' ahead x (lent_at p.merge (Some lane)) is same one takes rest
 part-then r f rules start lane a b c w v u p p' x (Err end) is same one takes drafted = λ before name d stands.
     let s = split_in p in
-    let P : List OutputBlock → Type 0 = λ bs. Stands r f before name rules d b v.out v.buffer (in_part_from s start [] bs) in
-    let Q : List OutputBlock → Type 0 = λ first. Stands r f before name rules d a w.out w.buffer (in_part_from s start first (left (live_files r a) p.merge)) in
-    drafted before name d (subst P (sym same) (takes (in_part_from s start [] (left (live_files r a) p.merge)) before name d (subst Q is stands)))
+    let P : List OutputBlock → Type 0 = λ bs. Stands r f before name rules d b v.out v.buffer (in_part_from s start p.cuts.load [] bs) in
+    let Q : List OutputBlock → Type 0 = λ first. Stands r f before name rules d a w.out w.buffer (in_part_from s start p.cuts.load first (left (live_files r a) p.merge)) in
+    drafted before name d (subst P (sym same) (takes (in_part_from s start p.cuts.load [] (left (live_files r a) p.merge)) before name d (subst Q is stands)))
 
 -- the first block couldn't be added
-pub first-drafted : {S : Type 0} (r : Ghosts S) (f : writing.Ghosts S) (rules : List CueRule) (s : Split) (start : ℕ) (a b : S) (w : BlockWriter) (x : OutputBlock) (first bs : List OutputBlock) → first ≡ x ∷ [] → ((others : List OutputBlock) → StaysDraft r f rules (in_part start x ∷ others) a b w)
-    → StaysDraft r f rules (in_part_from s start first bs) a b w
-first-drafted r f rules s start a b w x first bs is drafted before name d stands =
-    let Q : List OutputBlock → Type 0 = λ each. Stands r f before name rules d a w.out w.buffer (in_part_from s start each bs) in
-    drafted (in_part_from s start [] bs) before name d (subst Q is stands)
+pub first-drafted : {S : Type 0} (r : Ghosts S) (f : writing.Ghosts S) (rules : List CueRule) (s : Split) (start n : ℕ) (a b : S) (w : BlockWriter) (x : OutputBlock) (first bs : List OutputBlock) → first ≡ x ∷ [] → ((others : List OutputBlock) → StaysDraft r f rules (in_part start x ∷ others) a b w)
+    → StaysDraft r f rules (in_part_from s start n first bs) a b w
+first-drafted r f rules s start n a b w x first bs is drafted before name d stands =
+    let Q : List OutputBlock → Type 0 = λ each. Stands r f before name rules d a w.out w.buffer (in_part_from s start n each bs) in
+    drafted (in_part_from s start n [] bs) before name d (subst Q is stands)
 
 -- two calls that write into one output
 pub writes-then : {S T U : Type 0} (r : Ghosts S) (f : writing.Ghosts S) (a b c : S) (w v u : BlockWriter) (done : T) (result : Result U RemuxEnd) → IsOpen r a w.out → WritesInto r f a b w v (Ok done) → WritesInto r f b c v u result → WritesInto r f a c w u result
@@ -423,14 +432,14 @@ writes-then r f a b c w v u done result is_open first next =
 
 -- the last Cluster is written
 pub fills-part : {S : Type 0} (r : Ghosts S) (f : writing.Ghosts S) (o : OutputSpec) (rules : List CueRule) (part : PartStart) (a b c : S) (w v u : BlockWriter) (p p' : PlacedBlocks) (ahead : Option Ahead) (chapters : Option Node) (end : Option ℕ) → rules ≡ o.rules
-    → TakesRest r f rules (split_in p) part.start (lent_at p.merge part.lane) a b w v p.merge p' ahead → end ≡ first_tick (lent_at p'.merge (lane_of ahead)) → chapters ≡ chapters_cut o part.start end
+    → TakesRest r f rules (split_in p) part.start (lent_at p.merge part.lane) a b w v p p' ahead → end ≡ option_map (max part.start) (first_tick (lent_at p'.merge (lane_of ahead))) → chapters ≡ chapters_cut o part.start end
     → left (live_files r c) p'.merge ≡ left (live_files r b) p'.merge → runs.Ends {T = Unit {0}} {E = RemuxEnd} r f b c v.out u.out v.buffer (Ok tt) → u.blocks ≡ v.blocks
     → FillsPart r f o part a c w u p p' (record { ahead = ahead; chapters = chapters })
 fills-part r f o rules part a b c w v u p p' ahead chapters end are rest at cut same ends blocks = record {
   all = λ before name d cues stands.
-      let P : List CueRule → Type 0 = λ each. Stands r f before name each d a w.out w.buffer (in_part_from (split_in p) part.start (lent_at p.merge part.lane) (left (live_files r a) p.merge)) in
+      let P : List CueRule → Type 0 = λ each. Stands r f before name each d a w.out w.buffer (in_part_from (split_in p) part.start p.cuts.load (lent_at p.merge part.lane) (left (live_files r a) p.merge)) in
       ends before name rules d (rest.stands before name d (subst P (sym are) stands)) (cues ∙ ap (λ (each : List CueRule). cues_for (is_cue each) d.front d.clusters) (sym are));
-  chapters = cut ∙ ap (chapters_cut o part.start) (at ∙ rest.end);
+  chapters = cut ∙ ap (chapters_cut o part.start) (at ∙ ap (option_map (max part.start)) rest.end);
   count = ap (λ (n : ℕ). counted n 0) blocks ∙ rest.count;
   behind = parts-ahead-same (live_files r c) (live_files r b) p' (lane_of ahead) same ∙ rest.behind;
   few = λ le. let most = rest.few le in omega (arith, blocks, most);
@@ -438,8 +447,8 @@ fills-part r f o rules part a b c w v u p p' ahead chapters end are rest at cut 
 
 -- it couldn't be
 pub fills-none : {S : Type 0} (r : Ghosts S) (f : writing.Ghosts S) (o : OutputSpec) (rules : List CueRule) (start : ℕ) (first : List OutputBlock) (a b : S) (w v : BlockWriter) (p p' : PlacedBlocks) (ahead : Option Ahead) (now : S) → rules ≡ o.rules
-    → TakesRest r f rules (split_in p) start first a b w v p.merge p' ahead → ((before : Names) (name : List ℕ) (d : Document) → Stands r f before name rules d b v.out v.buffer [] → StandsDrafted before (f.names now) (draft_of name d))
-    → StaysDraft r f o.rules (in_part_from (split_in p) start first (left (live_files r a) p.merge)) a now w
+    → TakesRest r f rules (split_in p) start first a b w v p p' ahead → ((before : Names) (name : List ℕ) (d : Document) → Stands r f before name rules d b v.out v.buffer [] → StandsDrafted before (f.names now) (draft_of name d))
+    → StaysDraft r f o.rules (in_part_from (split_in p) start p.cuts.load first (left (live_files r a) p.merge)) a now w
 fills-none r f o rules start first a b w v p p' ahead now are rest drafted = λ before name d stands.
-    let P : List CueRule → Type 0 = λ each. Stands r f before name each d a w.out w.buffer (in_part_from (split_in p) start first (left (live_files r a) p.merge)) in
+    let P : List CueRule → Type 0 = λ each. Stands r f before name each d a w.out w.buffer (in_part_from (split_in p) start p.cuts.load first (left (live_files r a) p.merge)) in
     drafted before name d (rest.stands before name d (subst P (sym are) stands))

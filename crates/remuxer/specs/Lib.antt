@@ -1,3 +1,4 @@
+pub mod Info
 pub mod Places
 pub mod Taking
 pub mod Output

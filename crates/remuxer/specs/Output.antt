@@ -13,7 +13,7 @@ use Rattle.mkv_io.specs.declared.remux_end.RemuxEnd.{RemuxEnd}
 use Rattle.mkv_outputs.specs.Drafts.{Draft, StandsInTurn, output_of, outputs_of}
 use Rattle.mkv_outputs.specs.Outputs.{Output, with_outputs}
 use Rattle.mkv_schema.specs.declared.ids.TheConstants.{INFO, TRACKS, CHAPTERS, TAGS}
-use Rattle.tree_format.specs.Node.{Node, id_of}
+use Rattle.tree_format.specs.Node.{IsMaster, Node, id_of}
 use Rattle.ebml_tree.specs.Building.{IsRead}
 use Rattle.record_changes.specs.Cut.{cut}
 use Rattle.output_model.specs.declared.attachment.Attachment.{Attachment}
@@ -30,9 +30,10 @@ use Rattle.splitter.specs.Sections.{Part, parts}
 use Rattle.remuxer.specs.declared.placing.Ahead.{Ahead}
 use Rattle.remux_plan.specs.Parts.{PlannedOutput, document_with, may_be_written, name_of, outputs_from, stretch_of}
 use Rattle.remux_plan.specs.Summary.{written_of}
+use Rattle.remux_plan.specs.Uuids.{uuids_at, with_uuids}
 use Rattle.remux_plan.specs.declared.output.OutputSpec.{OutputSpec}
 use Rattle.remux_plan.specs.declared.summary.Written.{Written}
-use Rattle.remuxer.specs.Places.{CanBegin, CanGive, IsToldFrom, StandsAhead, lane_of, lent_at, part_from, parts_ahead, parts_behind, split_in, way_ahead}
+use Rattle.remuxer.specs.Places.{CanBegin, CanGive, IsFresh, IsToldFrom, StandsAhead, lane_of, lent_at, part_from, parts_ahead, parts_behind, split_in, way_ahead}
 use Rattle.remuxer.specs.Taking.{CanTake, GetsAll, StaysDraft, told_by}
 use Rattle.remuxer.specs.declared.output.Filled.{Filled}
 use Rattle.remuxer.specs.declared.output.WrittenPart.{WrittenPart}
@@ -45,6 +46,7 @@ use Rattle.remuxer.specs.declared.writer.BlockWriter.{BlockWriter}
 -- What stands in front of the Clusters of an output and behind them are Elements of their IDs, Chapters can be read, and the attachments can be attached.
 pub record HasRecords {S : Type 0} (r : Ghosts S) (f : writing.Ghosts S) (files : S) (name : List ℕ) (front : Front) (its_chapters its_tags : Option Node) : Type 0 where
   pub info : id_of front.info ≡ INFO
+  pub info_master : IsMaster front.info
   pub tracks : id_of front.tracks ≡ TRACKS
   pub attached : All (CanAttach r f files name) front.attachments
   pub chapters : IfSome its_chapters (IsRead CHAPTERS)
@@ -75,7 +77,7 @@ data_of o = sum_by (λ (a : Attachment). a.len) o.front.attachments
 
 -- the part that begins so, of the blocks that are left
 abbrev pub part_in : LiveFiles → PlacedBlocks → PartStart → Part
-part_in f b p = part_from (split_in b) p.start (lent_at b.merge p.lane) (left f b.merge)
+part_in f b p = part_from (split_in b) p.start b.cuts.load (lent_at b.merge p.lane) (left f b.merge)
 
 -- The octets of the document stand under the name, and no other name changes; they are what its draft becomes.
 pub record WritesLayout (old new : Names) (name : List ℕ) (d : Document) : Type 0 where
@@ -113,7 +115,7 @@ pub record FillsPart {S : Type 0} (r : Ghosts S) (f : writing.Ghosts S) (o : Out
   pub chapters : filled.chapters ≡ chapters_cut o p.start (part_in (live_files r old) b p).end
   pub count : counted w'.blocks 0 ≡ counted w.blocks (length (part_in (live_files r old) b p).blocks)
   pub few : w.blocks ≤ last_count → w'.blocks ≤ last_count
-  pub behind : parts_ahead (live_files r new) b' (lane_of filled.ahead) ≡ parts_behind (split_in b) p.start (left (live_files r old) b.merge)
+  pub behind : parts_ahead (live_files r new) b' (lane_of filled.ahead) ≡ parts_behind (split_in b) p.start b.cuts.load (left (live_files r old) b.merge)
 
 -- After a refusal it stands as a draft.
 abbrev pub FillsTold : {S : Type 0} → Ghosts S → writing.Ghosts S → OutputSpec → PartStart → S → S → BlockWriter → BlockWriter → PlacedBlocks → PlacedBlocks → Result Filled RemuxEnd → Type 0
@@ -127,7 +129,7 @@ Fills r f o p old new w w' b b' result = IsToldFrom (live_files r old) b p.lane 
 -- It has so many blocks, and the parts behind it are those that were left.
 pub record HasWritten (f h : LiveFiles) (p : PartStart) (b b' : PlacedBlocks) (w : WrittenPart) : Type 0 where
   pub count : w.blocks ≡ counted 0 (length (part_in f b p).blocks)
-  pub behind : parts_ahead h b' (lane_of w.ahead) ≡ parts_behind (split_in b) p.start (left f b.merge)
+  pub behind : parts_ahead h b' (lane_of w.ahead) ≡ parts_behind (split_in b) p.start b.cuts.load (left f b.merge)
 
 -- So it is where the links' files are told. A block is ahead, or all lanes have ended; and no more turns are left.
 pub record StandsWritten (f h : LiveFiles) (p : PartStart) (b b' : PlacedBlocks) (w : WrittenPart) : Type 0 where
@@ -140,7 +142,7 @@ pub record StandsWritten (f h : LiveFiles) (p : PartStart) (b b' : PlacedBlocks)
 -- the parts from one that begins so
 abbrev pub parts_begun : LiveFiles → PlacedBlocks → Option PartStart → List Part
 parts_begun f b None = []
-parts_begun f b (Some p) = part_in f b p ∷ parts_behind (split_in b) p.start (left f b.merge)
+parts_begun f b (Some p) = part_in f b p ∷ parts_behind (split_in b) p.start b.cuts.load (left f b.merge)
 
 -- at most so many turns are left, and one where a part can be begun
 abbrev pub turns_left : PlacedBlocks → Option PartStart → ℕ
@@ -177,6 +179,14 @@ FindsFirst r old new b b' result =
 abbrev pub next_name : OutputSpec → List Written → List ℕ
 next_name o written = name_of o.split o.name (length written + 1)
 
+-- what the output of a number, from 1 on, has besides its blocks: its own identifiers
+abbrev pub own_spec : OutputSpec → ℕ → OutputSpec
+own_spec o number = record o { front = record o.front { info = with_uuids (uuids_at o.uuids o.link number) o.front.info } }
+
+-- the same of the output behind those that were written
+abbrev pub next_spec : OutputSpec → List Written → OutputSpec
+next_spec o written = own_spec o (length written + 1)
+
 -- The output of the part that begins so can be written behind these; no file of a link was opened under a name that may be written.
 pub record CanWriteNext {S : Type 0} (r : Ghosts S) (f : writing.Ghosts S) (files : S) (o : OutputSpec) (written : List Written) (p : PartStart) (b : PlacedBlocks) : Type 0 where
   pub gives : CanGive (live_files r files) b
@@ -187,16 +197,16 @@ pub record CanWriteNext {S : Type 0} (r : Ghosts S) (f : writing.Ghosts S) (file
 
 -- One output more stands, and is among those that were written; the parts from the next one on are those that were left.
 pub record WritesOne {S : Type 0} (r : Ghosts S) (f : writing.Ghosts S) (p : PartStart) (old new : S) (o : OutputSpec) (b b' : PlacedBlocks) (written written' : List Written) (next : Option PartStart) : Type 0 where
-  pub writes : WritesLayout (f.names old) (f.names new) (next_name o written) (document_with (live_files r old) o (part_in (live_files r old) b p))
+  pub writes : WritesLayout (f.names old) (f.names new) (next_name o written) (document_with (live_files r old) (next_spec o written) (part_in (live_files r old) b p))
   pub added : written' ≡ written ++ record { name = next_name o written; blocks = counted 0 (length (part_in (live_files r old) b p).blocks) } ∷ []
   pub told : IsToldNext (live_files r new) b' next
-  pub behind : parts_begun (live_files r new) b' next ≡ parts_behind (split_in b) p.start (left (live_files r old) b.merge)
+  pub behind : parts_begun (live_files r new) b' next ≡ parts_behind (split_in b) p.start b.cuts.load (left (live_files r old) b.merge)
 
 -- After a refusal it stands as a draft, or whole, or its name is as before.
 abbrev pub WritesTold : {S : Type 0} → Ghosts S → writing.Ghosts S → PartStart → S → S → OutputSpec → PlacedBlocks → PlacedBlocks → List Written → List Written → Result (Option PartStart) RemuxEnd → Type 0
 WritesTold r f p old new o b b' written written' (Ok next) = WritesOne r f p old new o b b' written written' next
 WritesTold r f p old new o b b' written written' (Err _) =
-    StandsInTurn (f.names old) (f.names new) (draft_of (next_name o written) (document_with (live_files r old) o (part_in (live_files r old) b p)) ∷ [])
+    StandsInTurn (f.names old) (f.names new) (draft_of (next_name o written) (document_with (live_files r old) (next_spec o written) (part_in (live_files r old) b p)) ∷ [])
 
 -- So it is where the links' files are told.
 abbrev pub WritesNext : {S : Type 0} → Ghosts S → writing.Ghosts S → PartStart → S → S → OutputSpec → PlacedBlocks → PlacedBlocks → List Written → List Written → Result (Option PartStart) RemuxEnd → Type 0
@@ -229,7 +239,7 @@ WritesOutputs old new outputs (Err _) = StandsInTurn old new (drafts_of outputs)
 -- Outputs can be written of all parts: no block was placed, and what stands around the Clusters of the first can be written.
 pub record CanWriteAll {S : Type 0} (r : Ghosts S) (f : writing.Ghosts S) (files : S) (o : OutputSpec) (b : PlacedBlocks) : Type 0 where
   pub gives : CanGive (live_files r files) b
-  pub fresh : b.cuts.start ≡ None
+  pub fresh : IsFresh b.cuts
   pub scale : b.cuts.scale ≡ o.limits.scale
   pub apart : IsUnwritten (f.holder files) o.split o.name b.merge
   pub records : HasRecords r f files (name_of o.split o.name 1) o.front o.chapters o.tags

@@ -3,7 +3,8 @@ use Rattle.std.specs.Prelude.{◌≡◌, ℕ, Bool, false, ◌&&◌, List, Optio
 use Rattle.std.specs.List.{slice_get}
 use Rattle.std.specs.Option.{unwrap_or}
 use Rattle.mkv_io.specs.declared.outside.ReadEnd.{ReadEnd}
-use Rattle.output_model.specs.declared.heads.OutHead.{OutHead}
+use Rattle.output_model.specs.OutputBlock.{OutputBlock, lent_block}
+use Rattle.cluster_writer.specs.Lengths.{octets_taken}
 use Rattle.lanes.specs.Lane.{lent}
 use Rattle.time_merge.specs.Merge.{MergeSeen}
 use Rattle.time_merge.specs.declared.queue.Queue.{Queue}
@@ -20,16 +21,16 @@ lane_in (Err end) = Err end
 abbrev pub drives_at : List Bool → ℕ → Bool
 drives_at drives lane = unwrap_or (slice_get drives lane) false
 
--- A block that says this of itself, in a lane that drives or doesn't, stands at this place behind the ones before it.
-pub record IsPlaced (head : OutHead) (drives : Bool) (old new : CutsSeen) (a : Ahead) : Type 0 where
-  pub place : a.place ≡ place_of old (head.key && drives) head.tick
-  pub steps : new ≡ stepped old (head.key && drives) head.tick
+-- A block, in a lane that drives or doesn't, stands at this place behind the ones before it.
+pub record IsPlaced (b : OutputBlock) (drives : Bool) (old new : CutsSeen) (a : Ahead) : Type 0 where
+  pub place : a.place ≡ place_of old (b.key && drives) b.tick
+  pub steps : new ≡ stepped old (b.key && drives) b.tick (octets_taken b)
 
 -- The block that is lent stands at its place; where none was given, nothing was placed.
 pub record PlacesOne (drives : List Bool) (m : MergeSeen) (old new : CutsSeen) (a : Ahead) : Type 0 where
   pub queue : Queue
   pub here : slice_get m.queues a.lane ≡ Some queue
-  pub placed : IsPlaced (lent queue.lane).head (drives_at drives a.lane) old new a
+  pub placed : IsPlaced (lent_block (lent queue.lane)) (drives_at drives a.lane) old new a
 
 abbrev pub Places : List Bool → MergeSeen → CutsSeen → CutsSeen → Result (Option Ahead) ReadEnd → Type 0
 Places drives m old new (Ok (Some a)) = PlacesOne drives m old new a

@@ -1,7 +1,7 @@
 -- The blocks of a merge at their places in the parts of an output.
-use Rattle.std.specs.Prelude.{◌≡◌, ◌<◌, ◌≤◌, ℕ, ◌+◌, ◌*◌, ◌^◌, Bool, true, false, List, [], ◌∷◌, ◌++◌, length, map, Option, Some, None, IfSome}
+use Rattle.std.specs.Prelude.{◌≡◌, ◌<◌, ◌≤◌, ℕ, ◌+◌, ◌*◌, ◌^◌, max, Bool, true, false, List, [], ◌∷◌, ◌++◌, length, map, Option, Some, None, IfSome}
 use Rattle.std.specs.List.{All, slice_get}
-use Rattle.std.specs.Option.{option_map_or}
+use Rattle.std.specs.Option.{option_map, option_map_or}
 use Rattle.mkv_io.specs.LiveFiles.{LiveFiles}
 use Rattle.output_model.specs.declared.TheConstants.{MOST_LANES}
 use Rattle.output_model.specs.OutputBlock.{IsLent, OutputBlock, lent_block}
@@ -11,8 +11,11 @@ use Rattle.time_merge.specs.Merge.{IsEnded, IsReady, IsTold, MergeSeen, left, wa
 use Rattle.time_merge.specs.declared.queue.Queue.{Queue}
 use Rattle.splitter.specs.declared.cuts.Place.{Place}
 use Rattle.splitter.specs.declared.cuts.Place.TheVariants.{Same, Next, Out}
-use Rattle.splitter.specs.Sections.{Part, Section, Split, begun, beyond, cut_from, in_part, parts_in, sections_at, within}
-use Rattle.splitter.specs.Steps.{is_kept, place_at, start_of}
+use Rattle.splitter.specs.Sections.{Part, Split, begun, beyond, cut_from, in_part, parts_in, sections_at, within}
+use Rattle.splitter.specs.declared.spec.SplitSpec.{SplitSpec}
+use Rattle.splitter.specs.declared.spec.SplitSpec.TheVariants.{Whole}
+use Rattle.splitter.specs.Steps.{CutsSeen, counted, is_kept, place_at, start_of}
+use Rattle.cluster_writer.specs.Lengths.{octets_taken}
 use Rattle.remuxer.specs.declared.placing.Ahead.{Ahead}
 use Rattle.remux_plan.specs.Parts.{drives_by}
 use Rattle.remux_plan.specs.declared.TheConstants.{MOST_SCALE}
@@ -21,26 +24,23 @@ use Rattle.remuxer.specs.declared.placed.PlacedBlocks.{PlacedBlocks}
 
 -- ---- lists of blocks
 
--- a section that starts at this tick, of which no block has come
-abbrev pub since : ℕ → Section
-since start = record { start = start; blocks = [] }
-
 -- where the first of blocks stands
 abbrev pub first_tick : List OutputBlock → Option ℕ
 first_tick [] = None
 first_tick (b ∷ bs) = Some b.tick
 
--- blocks in a part that starts at this tick: these, and of those behind them the ones up to the next cut
-abbrev pub in_part_from : Split → ℕ → List OutputBlock → List OutputBlock → List OutputBlock
-in_part_from s start first behind = map (in_part start) (first ++ within s (since start) behind)
+-- blocks in a part that starts at this tick: these, of this load, and of those behind them the ones up to the next cut
+abbrev pub in_part_from : Split → ℕ → ℕ → List OutputBlock → List OutputBlock → List OutputBlock
+in_part_from s start octets first behind = map (in_part start) (first ++ within s start octets behind)
 
 -- the part of these blocks
-abbrev pub part_from : Split → ℕ → List OutputBlock → List OutputBlock → Part
-part_from s start first behind = record { start = start; end = first_tick (beyond s (since start) behind); blocks = in_part_from s start first behind }
+abbrev pub part_from : Split → ℕ → ℕ → List OutputBlock → List OutputBlock → Part
+part_from s start octets first behind =
+    record { start = start; end = option_map (max start) (first_tick (beyond s start octets behind)); blocks = in_part_from s start octets first behind }
 
 -- the parts behind it
-abbrev pub parts_behind : Split → ℕ → List OutputBlock → List Part
-parts_behind s start behind = parts_in s (sections_at s (beyond s (since start) behind))
+abbrev pub parts_behind : Split → ℕ → ℕ → List OutputBlock → List Part
+parts_behind s start octets behind = parts_in s (sections_at s (beyond s start octets behind))
 
 -- the parts of blocks of which the first stands in a section that starts at this tick
 abbrev pub parts_from : Split → ℕ → List OutputBlock → List Part
@@ -65,7 +65,7 @@ start_in Out = None
 
 -- how they are split
 abbrev pub split_in : PlacedBlocks → Split
-split_in b = record { spec = b.cuts.spec; scale = b.cuts.scale; drives = drives_by b.drives }
+split_in b = record { spec = b.cuts.spec; size = b.cuts.size; scale = b.cuts.scale; drives = drives_by b.drives }
 
 -- the block that the k-th lane lends, from 0; in the output lanes count from 1
 abbrev pub block_lent : ℕ → LaneSeen → OutputBlock
@@ -97,8 +97,19 @@ way_ahead b (Some k) = way b.merge + 1
 
 -- ---- what holds on the way
 
+-- No block has been placed.
+pub record IsFresh (c : CutsSeen) : Type 0 where
+  pub start : c.start ≡ None
+  pub empty : c.load ≡ 0
+
+-- A load at which parts end has 64 bits, and then they end at no times.
+pub record IsLimit (spec : SplitSpec) (limit : ℕ) : Type 0 where
+  pub fits : limit < 2 ^ 64
+  pub whole : spec ≡ Whole
+
 -- Blocks can be given among these files: the merge may go on, it has at most 64 lanes, and of each it is said whether it drives; a
--- tick of each has as many nanoseconds as one of the output; and in nanoseconds the start of the section has 64 bits.
+-- tick of each has as many nanoseconds as one of the output; in nanoseconds the start of the section has 64 bits; and parts end at times or at
+-- a load.
 pub record CanGive (f : LiveFiles) (b : PlacedBlocks) : Type 0 where
   pub ready : IsReady f b.merge
   pub few : length b.merge.queues ≤ MOST_LANES
@@ -106,6 +117,7 @@ pub record CanGive (f : LiveFiles) (b : PlacedBlocks) : Type 0 where
   pub scales : All (λ (q : Queue). q.lane.scale ≡ b.cuts.scale) b.merge.queues
   pub scale : b.cuts.scale ≤ MOST_SCALE
   pub early : start_of b.cuts * b.cuts.scale < 2 ^ 64
+  pub limit : IfSome b.cuts.size (IsLimit b.cuts.spec)
 
 -- A lane lends a block that can be written, and whose time has 64 bits.
 pub record LendsAt (b : PlacedBlocks) (lane : ℕ) : Type 0 where
@@ -119,11 +131,12 @@ pub record IsIn (start : ℕ) (b : PlacedBlocks) : Type 0 where
   pub started : b.cuts.start ≡ Some start
   pub kept : is_kept b.cuts ≡ true
 
--- The block ahead is the last one that was placed: it begins a part, where its section is written.
+-- The block ahead is the last one that was placed, and the first of its section: it begins a part, where that is written.
 pub record IsAhead (b : PlacedBlocks) (a : Ahead) : Type 0 where
   pub lends : LendsAt b a.lane
   pub started : b.cuts.start ≡ Some (start_of b.cuts)
   pub place : a.place ≡ place_at (is_kept b.cuts) true (start_of b.cuts)
+  pub counts : b.cuts.load ≡ counted b.cuts.size (octets_taken (block_lent a.lane lends.queue.lane))
 
 -- Such a block is ahead, or all lanes have ended.
 abbrev pub StandsAhead : PlacedBlocks → Option Ahead → Type 0
@@ -147,12 +160,7 @@ abbrev pub IsToldFrom : LiveFiles → PlacedBlocks → Option ℕ → Type 0
 IsToldFrom f b None = IsTold f b.merge × (left f b.merge ≡ [])
 IsToldFrom f b (Some lane) = IsTold f b.merge
 
--- A tick lies no earlier than a start, and in nanoseconds it has 64 bits.
-pub record IsEnd (scale start tick : ℕ) : Type 0 where
-  pub behind : start * scale ≤ tick * scale
-  pub early : tick * scale < 2 ^ 64
-
--- What is ahead lies behind a part that starts at this tick.
-pub record StandsBehind (start : ℕ) (b : PlacedBlocks) (ahead : Option Ahead) : Type 0 where
-  pub stands : StandsAhead b ahead
-  pub end : IfSome (first_tick (lent_at b.merge (lane_of ahead))) (IsEnd b.cuts.scale start)
+-- An end lies no earlier than a start, and in nanoseconds it has 64 bits.
+pub record IsEnd (scale start end : ℕ) : Type 0 where
+  pub behind : start * scale ≤ end * scale
+  pub early : end * scale < 2 ^ 64

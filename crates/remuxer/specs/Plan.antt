@@ -1,5 +1,5 @@
 -- A plan that can be written, and what becomes of it.
-use Rattle.std.specs.Prelude.{◌≡◌, ◌<◌, ◌≤◌, ℕ, ◌+◌, ◌*◌, Bool, List, All, IfOk, length, sum_by, Result}
+use Rattle.std.specs.Prelude.{◌≡◌, ◌<◌, ◌≤◌, ℕ, ◌+◌, ◌*◌, Bool, List, All, IfOk, IfSome, length, sum_by, Result}
 use Rattle.mkv_io.specs.LiveFiles.{LiveFiles}
 use Rattle.mkv_io.specs.Sources.{live_files}
 use Rattle.mkv_io.specs.declared.reads.Reads.{Ghosts}
@@ -17,6 +17,7 @@ use Rattle.remux_plan.specs.declared.plan.MergePlan.{MergePlan}
 use Rattle.remux_plan.specs.declared.plan.PlannedLane.{PlannedLane}
 use Rattle.remux_plan.specs.declared.summary.Summary.{Summary}
 use Rattle.remuxer.specs.Output.{HasRecords, IsUnwrittenLink, WritesOutputs}
+use Rattle.remuxer.specs.Places.{IsLimit}
 
 -- ---- what is asked of a plan
 
@@ -30,13 +31,15 @@ pub record IsPlannedLane {S : Type 0} (r : Ghosts S) (f : writing.Ghosts S) (fil
   pub numbered : length l.inputs ≡ length l.spec.links
   pub inputs : All (λ input. input < MOST_INPUTS) l.inputs
 
--- A tick has nanoseconds, but not too many; there are at most 64 lanes, and what stands around the Clusters can be written.
+-- A tick has nanoseconds, but not too many; there are at most 64 lanes; what stands around the Clusters can be written; and parts end at times
+-- or at a load.
 pub record IsPlan {S : Type 0} (r : Ghosts S) (f : writing.Ghosts S) (files : S) (p : MergePlan) : Type 0 where
   pub scale : 1 ≤ p.limits.scale
   pub scale_most : p.limits.scale ≤ MOST_SCALE
   pub few : length p.lanes ≤ MOST_LANES
-  pub lanes : All (IsPlannedLane r f files (is_split p.split) p.output) p.lanes
-  pub records : HasRecords r f files (name_of (is_split p.split) p.output 1) p.front p.chapters p.tags
+  pub lanes : All (IsPlannedLane r f files (is_split p) p.output) p.lanes
+  pub records : HasRecords r f files (name_of (is_split p) p.output 1) p.front p.chapters p.tags
+  pub limit : IfSome p.size (IsLimit p.split)
 
 -- The files of all links tell their contents.
 abbrev pub IsToldPlan : LiveFiles → MergePlan → Type 0

@@ -22,7 +22,7 @@ use Rattle.time_merge.specs.Queues.{KeepsQueues}
 use Rattle.time_merge.specs.declared.queue.Queue.{Queue}
 use Rattle.splitter.specs.Sections.{Split, beyond}
 use Rattle.remuxer.specs.declared.placing.Ahead.{Ahead}
-use Rattle.remuxer.specs.Places.{CanGive, IsIn, IsToldFrom, StandsBehind, first_tick, in_part_from, lane_of, lent_at, parts_ahead, parts_behind, since, split_in, way_ahead}
+use Rattle.remuxer.specs.Places.{CanGive, IsIn, IsToldFrom, StandsAhead, first_tick, in_part_from, lane_of, lent_at, parts_ahead, parts_behind, split_in, way_ahead}
 use Rattle.remuxer.specs.declared.placed.PartStart.{PartStart}
 use Rattle.remuxer.specs.declared.placed.PlacedBlocks.{PlacedBlocks}
 use Rattle.remuxer.specs.declared.writer.BlockWriter.{BlockWriter}
@@ -69,36 +69,36 @@ TakesNext r f rules b old new w w' (Err _) = (left : List OutputBlock) → Stays
 abbrev pub TakesMore : {T : Type 0} → ℕ → BlockWriter → BlockWriter → Result T RemuxEnd → Type 0
 TakesMore n w w' result = OnOk result (w'.blocks ≡ counted w.blocks n)
 
--- of the blocks that a merge has left, those of a part that starts at this tick
-abbrev pub rest_of_part : LiveFiles → Split → ℕ → MergeSeen → List OutputBlock
-rest_of_part f s start m = in_part_from s start [] (left f m)
+-- of the blocks that a merge has left, those of a part that starts at this tick and has come to its load
+abbrev pub rest_of_part : LiveFiles → Split → ℕ → PlacedBlocks → List OutputBlock
+rest_of_part f s start b = in_part_from s start b.cuts.load [] (left f b.merge)
 
 -- Some of the blocks that were left of a part were taken, and the others are left; the same parts stand behind it.
-pub record TakesSome {S : Type 0} (r : Ghosts S) (f : writing.Ghosts S) (rules : List CueRule) (s : Split) (start : ℕ) (old new : S) (w w' : BlockWriter) (m m' : MergeSeen) : Type 0 where
-  pub stands : StaysOnTheWay r f rules (rest_of_part (live_files r old) s start m) (rest_of_part (live_files r new) s start m') old new w w'
-  pub behind : beyond s (since start) (left (live_files r new) m') ≡ beyond s (since start) (left (live_files r old) m)
-  pub count : counted w'.blocks (length (rest_of_part (live_files r new) s start m')) ≡ counted w.blocks (length (rest_of_part (live_files r old) s start m))
+pub record TakesSome {S : Type 0} (r : Ghosts S) (f : writing.Ghosts S) (rules : List CueRule) (s : Split) (start : ℕ) (old new : S) (w w' : BlockWriter) (b b' : PlacedBlocks) : Type 0 where
+  pub stands : StaysOnTheWay r f rules (rest_of_part (live_files r old) s start b) (rest_of_part (live_files r new) s start b') old new w w'
+  pub behind : beyond s start b'.cuts.load (left (live_files r new) b'.merge) ≡ beyond s start b.cuts.load (left (live_files r old) b.merge)
+  pub count : counted w'.blocks (length (rest_of_part (live_files r new) s start b')) ≡ counted w.blocks (length (rest_of_part (live_files r old) s start b))
   pub few : w.blocks ≤ last_count → w'.blocks ≤ last_count
 
 -- All blocks of a part were taken: these, and those that were left of it. What is ahead then stands where the part ends, and begins the
 -- parts behind it.
-pub record TakesRest {S : Type 0} (r : Ghosts S) (f : writing.Ghosts S) (rules : List CueRule) (s : Split) (start : ℕ) (first : List OutputBlock) (old new : S) (w w' : BlockWriter) (m : MergeSeen) (b' : PlacedBlocks) (ahead : Option Ahead) : Type 0 where
-  pub stands : StaysOnTheWay r f rules (in_part_from s start first (left (live_files r old) m)) [] old new w w'
-  pub end : first_tick (lent_at b'.merge (lane_of ahead)) ≡ first_tick (beyond s (since start) (left (live_files r old) m))
-  pub behind : parts_ahead (live_files r new) b' (lane_of ahead) ≡ parts_behind s start (left (live_files r old) m)
-  pub count : counted w'.blocks 0 ≡ counted w.blocks (length (in_part_from s start first (left (live_files r old) m)))
+pub record TakesRest {S : Type 0} (r : Ghosts S) (f : writing.Ghosts S) (rules : List CueRule) (s : Split) (start : ℕ) (first : List OutputBlock) (old new : S) (w w' : BlockWriter) (b b' : PlacedBlocks) (ahead : Option Ahead) : Type 0 where
+  pub stands : StaysOnTheWay r f rules (in_part_from s start b.cuts.load first (left (live_files r old) b.merge)) [] old new w w'
+  pub end : first_tick (lent_at b'.merge (lane_of ahead)) ≡ first_tick (beyond s start b.cuts.load (left (live_files r old) b.merge))
+  pub behind : parts_ahead (live_files r new) b' (lane_of ahead) ≡ parts_behind s start b.cuts.load (left (live_files r old) b.merge)
+  pub count : counted w'.blocks 0 ≡ counted w.blocks (length (in_part_from s start b.cuts.load first (left (live_files r old) b.merge)))
   pub few : w.blocks ≤ last_count → w'.blocks ≤ last_count
 
 -- Where the links' files are told, one block more of a part was taken, or none was left of it.
 abbrev pub TakesFrom : {S : Type 0} → Ghosts S → writing.Ghosts S → List CueRule → ℕ → S → S → BlockWriter → BlockWriter → PlacedBlocks → PlacedBlocks → Result Turn RemuxEnd → Type 0
-TakesFrom r f rules start old new w w' b b' (Ok Added) = IsTold (live_files r old) b.merge → TakesSome r f rules (split_in b) start old new w w' b.merge b'.merge
-TakesFrom r f rules start old new w w' b b' (Ok (Over ahead)) = IsTold (live_files r old) b.merge → TakesRest r f rules (split_in b) start [] old new w w' b.merge b' ahead
-TakesFrom r f rules start old new w w' b b' (Err _) = IsTold (live_files r old) b.merge → StaysDraft r f rules (rest_of_part (live_files r old) (split_in b) start b.merge) old new w
+TakesFrom r f rules start old new w w' b b' (Ok Added) = IsTold (live_files r old) b.merge → TakesSome r f rules (split_in b) start old new w w' b b'
+TakesFrom r f rules start old new w w' b b' (Ok (Over ahead)) = IsTold (live_files r old) b.merge → TakesRest r f rules (split_in b) start [] old new w w' b b' ahead
+TakesFrom r f rules start old new w w' b b' (Err _) = IsTold (live_files r old) b.merge → StaysDraft r f rules (rest_of_part (live_files r old) (split_in b) start b) old new w
 
 -- All blocks were taken of a part that begins with these; after a refusal it stands as a draft.
 abbrev pub TakesAll : {S : Type 0} → Ghosts S → writing.Ghosts S → List CueRule → ℕ → List OutputBlock → S → S → BlockWriter → BlockWriter → PlacedBlocks → PlacedBlocks → Result (Option Ahead) RemuxEnd → Type 0
-TakesAll r f rules start first old new w w' b b' (Ok ahead) = TakesRest r f rules (split_in b) start first old new w w' b.merge b' ahead
-TakesAll r f rules start first old new w w' b b' (Err _) = StaysDraft r f rules (in_part_from (split_in b) start first (left (live_files r old) b.merge)) old new w
+TakesAll r f rules start first old new w w' b b' (Ok ahead) = TakesRest r f rules (split_in b) start first old new w w' b b' ahead
+TakesAll r f rules start first old new w w' b b' (Err _) = StaysDraft r f rules (in_part_from (split_in b) start b.cuts.load first (left (live_files r old) b.merge)) old new w
 
 -- Where the links' files are told, all blocks were taken that were left of a part,
 abbrev pub TakesLeft : {S : Type 0} → Ghosts S → writing.Ghosts S → List CueRule → ℕ → S → S → BlockWriter → BlockWriter → PlacedBlocks → PlacedBlocks → Result (Option Ahead) RemuxEnd → Type 0
@@ -130,15 +130,15 @@ abbrev pub Goes : {S T E : Type 0} → Ghosts S → ℕ → S → S → PlacedBl
 Goes r more old new b b' (Ok _) = GoesOn r more old new b b'
 Goes r more old new b b' (Err _) = r.octets_read new ≤ r.octets_read old + due (live_files r old) b.merge + 2 * files_length (live_files r old) b.merge + more
 
--- What is ahead stands behind the part, and fewer turns are left; none more where all lanes have ended.
-pub record IsOver (start : ℕ) (b b' : PlacedBlocks) (ahead : Option Ahead) : Type 0 where
-  pub stands : StandsBehind start b' ahead
+-- Behind the part a block is ahead, and fewer turns are left; none more where all lanes have ended.
+pub record IsOver (b b' : PlacedBlocks) (ahead : Option Ahead) : Type 0 where
+  pub stands : StandsAhead b' ahead
   pub on : way_ahead b' (lane_of ahead) ≤ way b.merge
 
 -- A block of the part was next, and fewer turns are left; else it is over.
 abbrev pub Finds : ℕ → PlacedBlocks → PlacedBlocks → Result Turn RemuxEnd → Type 0
 Finds start b b' (Ok Added) = IsIn start b' × (way b'.merge < way b.merge)
-Finds start b b' (Ok (Over ahead)) = IsOver start b b' ahead
+Finds start b b' (Ok (Over ahead)) = IsOver b b' ahead
 Finds start b b' (Err _) = ⊤
 
 -- the damages that were told of each link of each lane

@@ -3,6 +3,7 @@
 //! Merges: the blocks of all lanes of a plan, in their order and each at its place, cut into Clusters of one output, or of
 //! one for each part, some of them with a cue point.
 
+mod info;
 mod merging;
 mod output;
 mod parts;

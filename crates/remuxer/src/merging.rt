@@ -1,8 +1,8 @@
 //! A merge by its plan.
 
-ghost use Rattle.std.specs.Prelude.{◌≡◌};
+ghost use Rattle.std.specs.Prelude.{◌≡◌, ◌||◌, is_some};
 ghost use Rattle.mkv_io.specs.Ends.{HasRemuxCause};
-ghost use Rattle.remux_plan.specs.Parts.{is_split};
+ghost use Rattle.remux_plan.specs.Parts.{is_split, is_timed};
 ghost use Rattle.remuxer.specs.Output.{KeepsUnwritten};
 ghost use Rattle.remuxer.specs.Plan.{IsPlan, ReadsFew, SumsUp, WritesPlan};
 
@@ -11,17 +11,18 @@ use crate::placed::PlacedBlocks;
 use crate::planned::StartedLanes;
 use crate::summary::summary_of;
 use mkv_io::{Files, Reads, RemuxEnd};
+use part_size::PartCuts;
 use remux_plan::{MergePlan, OutputSpec, Summary};
-use splitter::{Cuts, SplitSpec};
+use splitter::SplitSpec;
 use std::alloc::Global;
 use time_merge::Merge;
 
 /// Whether an output is written in parts.
-fn is_split(split: &SplitSpec) -> bool
-    ensures { result ≡ is_split split.now }
+fn is_split(split: &SplitSpec, size: Option<u64>) -> bool
+    ensures { result ≡ (is_timed split.now || is_some size) }
 {
     match split {
-        SplitSpec::Whole => false,
+        SplitSpec::Whole => size.is_some(),
         _ => true,
     }
 }
@@ -37,18 +38,21 @@ pub fn remux<F: Files>(alloc: Global, plan: MergePlan, files: &mut F) -> Result<
     ensures summary { SumsUp F.Reads files.old plan result }
 
     // No file stays open, whatever the answer.
-    ensures kept { KeepsUnwritten F.Reads F.Files.own (is_split plan.split) plan.output files.old files.new }
+    ensures kept { KeepsUnwritten F.Reads F.Files.own (is_split plan) plan.output files.old files.new }
     ensures cause { HasRemuxCause F.Reads F.Files.own files.old files.new result }
     ensures octets { ReadsFew F.Reads files.old files.new plan }
 {
     let MergePlan {
         output,
         split,
+        size,
         limits,
         lanes,
         front,
         chapters,
         tags,
+        uuids,
+        link,
     } = plan;
     let StartedLanes {
         lanes,
@@ -59,14 +63,16 @@ pub fn remux<F: Files>(alloc: Global, plan: MergePlan, files: &mut F) -> Result<
     let merge = Merge::start(alloc, lanes, files)?;
     let spec = OutputSpec {
         name: output,
-        split: is_split(&split),
+        split: is_split(&split, size),
         limits,
         rules,
         front,
         chapters,
         tags,
+        uuids,
+        link,
     };
-    let cuts = Cuts::new(split, limits.scale);
+    let cuts = PartCuts::new(split, size, limits.scale);
     let mut blocks = PlacedBlocks {
         merge,
         cuts,

@@ -86,11 +86,11 @@ fn fill<F: Files>(
     ensures id { IfOk result (λ filled. IfSome filled.chapters (λ n. id_of n ≡ CHAPTERS)) }
     ensures writes { WritesInto F.Reads F.Files.own files.old files.new writer.old writer.new result }
     ensures goes { Goes F.Reads 0 files.old files.new blocks.old blocks.new result }
-    ensures finds { IfOk result (λ filled. IsOver part.start blocks.old blocks.new filled.ahead) }
+    ensures finds { IfOk result (λ filled. IsOver blocks.old blocks.new filled.ahead) }
     ensures cause { HasRemuxCause F.Reads F.Files.own files.old files.new result }
 {
     let ahead = writer.add_part(files, blocks, spec.rules.as_slice(), part)?;
-    let chapters = cut_chapters(alloc, spec, part.start, blocks.tick_ahead(ahead))?;
+    let chapters = cut_chapters(alloc, spec, part.start, blocks.end_of(part.start, ahead))?;
     add_rest(files, &mut writer.out, &mut writer.buffer)?;
     Ok(Filled { ahead, chapters })
 }

@@ -1,18 +1,21 @@
 //! All outputs of a merge, one after the other.
 
-ghost use Rattle.std.specs.Prelude.{◌≡◌, IfOk, OnOk};
+ghost use Rattle.std.specs.Prelude.{◌≡◌, [], ◌∷◌, IfOk, OnOk};
 ghost use Rattle.mkv_io.specs.Sources.{live_files};
 ghost use Rattle.mkv_io.specs.Ends.{HasRemuxCause};
+ghost use Rattle.mkv_io.specs.Writing.{KeepsOthers};
 ghost use Rattle.remux_plan.specs.Parts.{name_of};
 ghost use Rattle.remuxer.specs.Taking.{Goes};
-ghost use Rattle.remuxer.specs.Output.{CanWriteAll, CanWriteNext, Ends, FindsNext, KeepsUnwritten, ReadsParts, SaysWritten, WritesNext, WritesParts, data_of};
+ghost use Rattle.remuxer.specs.Output.{CanWrite, CanWriteAll, CanWriteNext, Ends, FindsNext, KeepsUnwritten, ReadsParts, SaysWritten, StandsWritten, WritesNext, WritesPart, WritesParts, data_of, own_spec};
 
-use crate::output::write_output;
+use crate::info::info_with;
+use crate::output::{WrittenPart, write_output};
 use crate::placed::{PartStart, PlacedBlocks};
 use mkv_io::{Files, List, Reads, RemuxEnd as OutEnd, Text};
-use remux_plan::{OutputSpec, Written};
+use remux_plan::{OutputSpec, Written, uuids_at};
 use splitter::part_name;
 use std::alloc::{AllocError, Global};
+use std::mem;
 
 // The name of the part of this number, from 1 on.
 fn name_of(alloc: Global, spec: &OutputSpec, number: u64) -> Result<Text, AllocError>
@@ -23,6 +26,32 @@ fn name_of(alloc: Global, spec: &OutputSpec, number: u64) -> Result<Text, AllocE
     } else {
         spec.name.clone()
     }
+}
+
+// Writes an output of this name and of this number, from 1 on, with its own identifiers.
+fn write_own<F: Files>(
+    alloc: Global,
+    files: &mut F,
+    spec: &mut OutputSpec,
+    number: usize,
+    name: &str,
+    part: PartStart,
+    blocks: &mut PlacedBlocks,
+) -> Result<WrittenPart, OutEnd>
+    requires { CanWrite F.Reads F.Files.own files.old spec.old name.now part blocks.old }
+    ensures writes { WritesPart F.Reads F.Files.own files.old files.new (own_spec spec.old number) name.now part blocks.old result }
+    ensures finds { IfOk result (StandsWritten (live_files F.Reads files.old) (live_files F.Reads files.new) part blocks.old blocks.new) }
+    ensures spec { OnOk result (spec.new ≡ spec.old) }
+    ensures goes { Goes F.Reads (data_of spec.old) files.old files.new blocks.old blocks.new result }
+    ensures kept { KeepsOthers F.Reads F.Files.own (name.now ∷ []) files.old files.new }
+    ensures cause { HasRemuxCause F.Reads F.Files.own files.old files.new result }
+{
+    let uuids = uuids_at(spec.uuids.as_slice(), spec.link, number);
+    let info = info_with(alloc, &spec.front.info, uuids)?;
+    let plain = mem::replace(&mut spec.front.info, info);
+    let done = write_output(alloc, files, spec, name, part, blocks)?;
+    spec.front.info = plain;
+    Ok(done)
 }
 
 // Writes the output of the part that begins so, and adds it to those that were written. Answers where the next one begins, to
@@ -42,9 +71,9 @@ fn write_next<F: Files>(
     ensures kept { KeepsUnwritten F.Reads F.Files.own spec.old.split spec.old.name files.old files.new }
     ensures cause { HasRemuxCause F.Reads F.Files.own files.old files.new result }
 {
-    let number = written.as_slice().len() as u64 + 1;
-    let name = name_of(alloc, spec, number)?;
-    let done = write_output(alloc, files, spec, name.as_str(), part, blocks)?;
+    let number = written.as_slice().len() + 1;
+    let name = name_of(alloc, spec, number as u64)?;
+    let done = write_own(alloc, files, spec, number, name.as_str(), part, blocks)?;
     written.push(Written {
         name,
         blocks: done.blocks,

@@ -1,20 +1,21 @@
 //! The blocks of a merge, one after the other, each at its place in the parts of an output.
 
-ghost use Rattle.std.specs.Prelude.{◌≡◌, None};
+ghost use Rattle.std.specs.Prelude.{◌≡◌, max};
+ghost use Rattle.std.specs.Option.{option_map};
 ghost use Rattle.mkv_io.specs.Faults.{HasCause, is_read_fault};
 ghost use Rattle.mkv_io.specs.Sources.{live_files};
 ghost use Rattle.remuxer.specs.Places.{is_same, start_in};
 
 use crate::placing::{Ahead, place_next};
 use mkv_io::{List, ReadEnd, Reads};
-use splitter::{Cuts, Place};
+use part_size::{PartCuts, Place};
 use time_merge::Merge;
 
 /// A merge, where it is cut, and of each of its lanes whether it drives.
 #[derive(Drop)]
 pub(crate) struct PlacedBlocks {
     pub(crate) merge: Merge,
-    pub(crate) cuts: Cuts,
+    pub(crate) cuts: PartCuts,
     pub(crate) drives: List<bool>,
 }
 
@@ -47,17 +48,17 @@ fn start_in(place: Place) -> Option<u64>
 }
 
 impl PlacedBlocks {
-    ghost use Rattle.remuxer.specs.Places.{CanGive, StandsAhead, first_tick, lane_of, lent_at};
+    ghost use Rattle.remuxer.specs.Places.{CanGive, IsFresh, StandsAhead, first_tick, lane_of, lent_at};
     ghost use Rattle.remuxer.specs.Taking.{Goes};
     ghost use Rattle.remuxer.specs.Output.{FindsBehind, FindsFirst};
 
-    /// The tick of the block that is ahead.
-    pub(crate) fn tick_ahead(&self, ahead: Option<Ahead>) -> Option<u64>
+    /// The tick at which a part ends that starts at this one: that of the block ahead, or its own start where that is later.
+    pub(crate) fn end_of(&self, start: u64, ahead: Option<Ahead>) -> Option<u64>
         requires { StandsAhead self.now ahead }
-        ensures { result ≡ first_tick (lent_at self.now.merge (lane_of ahead)) }
+        ensures { result ≡ option_map (max start) (first_tick (lent_at self.now.merge (lane_of ahead))) }
     {
         match ahead {
-            Some(ahead) => Some(self.merge.lane(ahead.lane).head().tick),
+            Some(ahead) => Some(start.max(self.merge.lane(ahead.lane).head().tick)),
             None => None,
         }
     }
@@ -89,7 +90,7 @@ impl PlacedBlocks {
     /// Where the first part begins. Where no block comes, the one at the beginning has none, if it is written.
     pub(crate) fn first_part<R: Reads>(&mut self, src: &mut R) -> Result<Option<PartStart>, ReadEnd>
         requires gives { CanGive (live_files R.Reads src.old) self.old }
-        requires fresh { self.old.cuts.start ≡ None }
+        requires fresh { IsFresh self.old.cuts }
         ensures finds { FindsFirst R.Reads src.old src.new self.old self.new result }
         ensures goes { Goes R.Reads 0 src.old src.new self.old self.new result }
         ensures standing { R.standing src.new ≡ R.standing src.old }

@@ -3,11 +3,16 @@
 ghost use Rattle.std.specs.Prelude.{◌≡◌, length};
 ghost use Rattle.mkv_io.specs.Faults.{HasCause, is_read_fault};
 ghost use Rattle.mkv_io.specs.Sources.{live_files};
+ghost use Rattle.output_model.specs.OutputBlock.{IsLent, lent_block};
+ghost use Rattle.cluster_writer.specs.Lengths.{octets_taken};
+ghost use Rattle.lanes.specs.Lane.{lent};
 ghost use Rattle.time_merge.specs.Merge.{Gives, IsReady, IsTold, Moves, Pays};
 ghost use Rattle.remuxer.specs.Placed.{Places, lane_in};
 
+use cluster_writer::element_len;
+use lanes::Lane;
 use mkv_io::{ReadEnd, Reads};
-use splitter::{Cuts, Place};
+use part_size::{PartCuts, Place};
 use time_merge::Merge;
 
 /// A block that a merge has given: the number of the lane that lends it, from 0, and its place.
@@ -17,12 +22,26 @@ pub struct Ahead {
     pub place: Place,
 }
 
+// How many octets the Element of the block takes that a lane lends.
+fn len_of(lane: &Lane) -> u64
+    requires { IsLent (lent lane.now) }
+    ensures { result ≡ octets_taken (lent_block (lent lane.now)) }
+{
+    element_len(
+        lane.head(),
+        lane.prefix().len(),
+        lane.sizes(),
+        lane.refs(),
+        lane.extra().len(),
+    )
+}
+
 /// Gives the next block of a merge, and says where it stands in the parts of an output. Of each lane it is said whether
 /// it drives. Nothing is answered where none is left, and again from then on. After a refusal the same block is looked
 /// for again.
 pub fn place_next<R: Reads>(
     merge: &mut Merge,
-    cuts: &mut Cuts,
+    cuts: &mut PartCuts,
     drives: &[bool],
     src: &mut R,
 ) -> Result<Option<Ahead>, ReadEnd>
@@ -39,6 +58,7 @@ pub fn place_next<R: Reads>(
     let Some(lane) = merge.step(src)? else {
         return Ok(None);
     };
-    let place = cuts.assign(merge.lane(lane).head(), drives[lane]);
+    let given = merge.lane(lane);
+    let place = cuts.assign(given.head(), drives[lane], len_of(given));
     Ok(Some(Ahead { lane, place }))
 }

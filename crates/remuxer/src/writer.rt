@@ -145,7 +145,7 @@ impl BlockWriter {
         ensures takes { TakesLeft F.Reads F.Files.own rules.now start files.old files.new self.old self.new blocks.old blocks.new result }
         ensures writes { WritesInto F.Reads F.Files.own files.old files.new self.old self.new result }
         ensures goes { Goes F.Reads 0 files.old files.new blocks.old blocks.new result }
-        ensures finds { IfOk result (IsOver start blocks.old blocks.new) }
+        ensures finds { IfOk result (IsOver blocks.old blocks.new) }
         ensures cause { HasRemuxCause F.Reads F.Files.own files.old files.new result }
     {
         'steps: loop {
@@ -169,7 +169,7 @@ impl BlockWriter {
         ensures takes { TakesPart F.Reads F.Files.own rules.now part files.old files.new self.old self.new blocks.old blocks.new result }
         ensures writes { WritesInto F.Reads F.Files.own files.old files.new self.old self.new result }
         ensures goes { Goes F.Reads 0 files.old files.new blocks.old blocks.new result }
-        ensures finds { IfOk result (IsOver part.start blocks.old blocks.new) }
+        ensures finds { IfOk result (IsOver blocks.old blocks.new) }
         ensures cause { HasRemuxCause F.Reads F.Files.own files.old files.new result }
     {
         let Some(lane) = part.lane else {

@@ -1,20 +1,53 @@
 -- Sections, and the steps that lead to them.
-use Rattle.std.proofs.Common.{◌≡◌, ℕ, zero, suc, ◌*◌, Bool, true, false, cond, ◌&&◌, ◌||◌, ◌⊎◌, inl, inr, List, [], ◌∷◌, ◌++◌, map, Some, None, refl, sym, subst, ◌∙◌, ap, ap₂, append_assoc, append-nil, arith}
+use Rattle.std.proofs.Common.{◌≡◌, ℕ, zero, suc, ◌+◌, ◌-◌, ◌*◌, ◌^◌, ◌<◌, min, nat_le, Bool, true, false, cond, ◌&&◌, ◌||◌, ◌⊎◌, inl, inr, List, [], ◌∷◌, ◌++◌, length, map, take, Option, Some, None, IfSome, refl, sym, subst, ◌∙◌, ap, ap₂, append_assoc, append-nil, arith}
 use Rattle.std.specs.Prelude.{if◌then◌else◌, flat_map}
 use Rattle.std.specs.List.{filter, slice_get}
 use Rattle.std.proofs.Math.Nat.{sub-zero}
+use Rattle.std.proofs.lemmas.Bool.Decides.{nat_tests}
+use Rattle.std.proofs.lemmas.List.Sums.{sum_by_push}
 use Rattle.output_model.specs.OutputBlock.{OutputBlock, in_output}
+use Rattle.cluster_writer.specs.Lengths.{octets_taken}
+use Rattle.splitter.specs.declared.cuts.Place.{Place}
+use Rattle.splitter.specs.declared.spec.SplitSpec.{SplitSpec}
 use Rattle.splitter.specs.declared.spec.SplitSpec.TheVariants.{Whole}
+use Rattle.splitter.specs.Load.{is_full, load}
 use Rattle.splitter.specs.Split.{is_over, keeps}
-use Rattle.splitter.specs.Sections.{Section, Split, begun, beyond, cut_from, cuts, from_nought, in_part, is_written, may_cut, part_of, parts_in, sections, sections_at, start_with, with_block, within}
-use Rattle.splitter.specs.Steps.{CutsSeen, place_at}
+use Rattle.splitter.specs.Sections.{Section, Split, begun, beyond, cut_from, cuts, cuts_at, from_nought, in_part, is_written, may_cut, part_of, parts_in, sections, sections_at, start_with, with_block, within}
+use Rattle.splitter.specs.Steps.{CutsSeen, counted, is_cut, new_cuts, place_at, place_of, stepped}
 use Rattle.splitter.specs.Laws.{AreCutApart, IsUncut, SectionsAreCut, SectionsGoOn, StepsJoin, WholeIsOnePart, all_placed, placed, with_last}
+
+-- ---- the load
+
+-- a further block
+pub load-more : (xs : List OutputBlock) (b : OutputBlock) → load (xs ++ b ∷ []) ≡ load xs + octets_taken b
+load-more xs b = sum_by_push octets_taken xs b
+
+-- what is counted says of a limit of 64 bits whether it is reached
+pub full-counted : (size : Option ℕ) (n : ℕ) → IfSome size (λ limit. limit < 2 ^ 64) → is_full size (counted size n) ≡ is_full size n
+full-counted None n fits = refl
+full-counted (Some limit) n fits = grind (arith, nat_tests)
+
+-- octets more are counted on
+counted-more : (size : Option ℕ) (n k : ℕ) → counted size (counted size n + k) ≡ counted size (n + k)
+counted-more None n k = refl
+counted-more (Some limit) n k = omega arith
+
+counted-twice : (size : Option ℕ) (n : ℕ) → counted size (counted size n) ≡ counted size n
+counted-twice None n = refl
+counted-twice (Some limit) n = omega arith
+
+like-more : (size : Option ℕ) (n m k : ℕ) → counted size n ≡ counted size m → counted size (n + k) ≡ counted size (m + k)
+like-more size n m k same = sym (counted-more size n k) ∙ ap (λ c. counted size (c + k)) same ∙ counted-more size m k
 
 -- ---- step by step
 
--- what is known behind the last block of a section
-abbrev pub at_start : Split → ℕ → CutsSeen
-at_start s start = record { spec = s.spec; scale = s.scale; start = Some start }
+-- what is known behind the last block of a section that has this load
+abbrev pub at_start : Split → ℕ → ℕ → CutsSeen
+at_start s start octets = record { spec = s.spec; size = s.size; scale = s.scale; start = Some start; load = counted s.size octets }
+
+-- behind the last block of a section
+abbrev pub at_section : Split → Section → CutsSeen
+at_section s x = at_start s x.start (load x.blocks)
 
 -- a section, if it is written
 abbrev standing : Split → Section → List Section
@@ -37,38 +70,75 @@ filter-first : (x : Section) (xs : List Section) (w : Bool) → cond w (x ∷ []
 filter-first x xs true = refl
 filter-first x xs false = refl
 
--- the steps over these blocks, from any section on, join to the sections that are written
-abbrev Joins : Split → List OutputBlock → Type 0
-Joins s bs = (x : Section) (done : List Section) → all_placed s (at_start s x.start) (done ++ standing s x) bs ≡ done ++ filter (is_written s) (cut_from s x bs)
+-- behind a block, before which there is a cut or not
+abbrev stepped_if : Split → Section → OutputBlock → Bool → CutsSeen
+stepped_if s x b q = record {
+  spec = s.spec;
+  size = s.size;
+  scale = s.scale;
+  start = Some (if q then b.tick else x.start);
+  load = counted s.size ((if q then 0 else counted s.size (load x.blocks)) + octets_taken b);
+}
 
-joins-next : (s : Split) (b : OutputBlock) (bs : List OutputBlock) (x : Section) (done : List Section) → Joins s bs → (q : Bool)
-    → all_placed s (at_start s (if q then b.tick else x.start)) (placed (done ++ standing s x) (place_at (keeps s.spec ((if q then b.tick else x.start) * s.scale)) (q || false) (if q then b.tick else x.start)) b) bs
-    ≡ done ++ filter (is_written s) (if q then x ∷ cut_from s (begun b.tick b) bs else cut_from s (with_block x b) bs)
-joins-next s b bs x done others true =
-    ap (λ xs. all_placed s (at_start s b.tick) xs bs) (in-next (done ++ standing s x) b b.tick (is_written s (begun b.tick b)))
-    ∙ (others (begun b.tick b) (done ++ standing s x)
-    ∙ (append_assoc done (standing s x) (filter (is_written s) (cut_from s (begun b.tick b) bs))
-    ∙ ap (λ xs. done ++ xs) (filter-first x (filter (is_written s) (cut_from s (begun b.tick b) bs)) (is_written s x))))
-joins-next s b bs x done others false =
-    ap (λ xs. all_placed s (at_start s x.start) xs bs) (in-same done x b x.start (is_written s x)) ∙ others (with_block x b) done
+abbrev place_if : Split → Section → OutputBlock → Bool → Place
+place_if s x b q = place_at (keeps s.spec ((if q then b.tick else x.start) * s.scale)) (q || false) (if q then b.tick else x.start)
 
-joins : (s : Split) (bs : List OutputBlock) → Joins s bs
-joins s [] x done = refl
-joins s (b ∷ bs) x done = joins-next s b bs x done (joins s bs) (cuts s x b)
+-- the section that has the block
+abbrev section_if : Section → OutputBlock → Bool → Section
+section_if x b q = if q then begun b.tick b else with_block x b
 
-joins-first : (s : Split) (b : OutputBlock) (bs : List OutputBlock) (start : ℕ)
-    → all_placed s (at_start s start) (placed [] (place_at (keeps s.spec (start * s.scale)) true start) b) bs ≡ filter (is_written s) (cut_from s (begun start b) bs)
-joins-first s b bs start =
-    ap (λ xs. all_placed s (at_start s start) xs bs) (in-next [] b start (is_written s (begun start b))) ∙ joins s bs (begun start b) []
+stepped-if : (s : Split) (x : Section) (b : OutputBlock) (q : Bool) → stepped_if s x b q ≡ at_section s (section_if x b q)
+stepped-if s x b true = refl
+stepped-if s x b false =
+    ap (λ n. let c : CutsSeen = record { spec = s.spec; size = s.size; scale = s.scale; start = Some x.start; load = n } in c)
+    (counted-more s.size (load x.blocks) (octets_taken b) ∙ ap (counted s.size) (sym (load-more x.blocks b)))
 
--- the first block begins a section, whether a cut stands before it or not
-begins-first : (s : Split) (b : OutputBlock) (bs : List OutputBlock) (start : ℕ) (q : Bool)
-    → all_placed s (at_start s start) (placed [] (place_at (keeps s.spec (start * s.scale)) (q || true) start) b) bs ≡ filter (is_written s) (cut_from s (begun start b) bs)
-begins-first s b bs start true = joins-first s b bs start
-begins-first s b bs start false = joins-first s b bs start
+module _ (s : Split) (fits : IfSome s.size (λ limit. limit < 2 ^ 64)) where
+  -- what is known says whether a cut stands before a block
+  pub cut-seen : (x : Section) (b : OutputBlock) → is_cut (at_section s x) (may_cut s b) b.tick ≡ cuts s x b
+  cut-seen x b = ap (λ full. may_cut s b && (full || is_over s.spec (x.start * s.scale) (b.tick * s.scale))) (full-counted s.size (load x.blocks) fits)
+
+  pub stepped-seen : (x : Section) (b : OutputBlock) → stepped (at_section s x) (may_cut s b) b.tick (octets_taken b) ≡ at_section s (section_if x b (cuts s x b))
+  stepped-seen x b = ap (stepped_if s x b) (cut-seen x b) ∙ stepped-if s x b (cuts s x b)
+
+  pub place-seen : (x : Section) (b : OutputBlock) → place_of (at_section s x) (may_cut s b) b.tick ≡ place_if s x b (cuts s x b)
+  place-seen x b = ap (place_if s x b) (cut-seen x b)
+
+  -- the steps over these blocks, from any section on, join to the sections that are written
+  abbrev Joins : List OutputBlock → Type 0
+  Joins bs = (x : Section) (done : List Section) → all_placed s (at_section s x) (done ++ standing s x) bs ≡ done ++ filter (is_written s) (cut_from s x bs)
+
+  joins-next : (b : OutputBlock) (bs : List OutputBlock) (x : Section) (done : List Section) → Joins bs → (q : Bool)
+      → all_placed s (at_section s (section_if x b q)) (placed (done ++ standing s x) (place_if s x b q) b) bs
+      ≡ done ++ filter (is_written s) (if q then x ∷ cut_from s (begun b.tick b) bs else cut_from s (with_block x b) bs)
+  joins-next b bs x done others true =
+      ap (λ xs. all_placed s (at_section s (begun b.tick b)) xs bs) (in-next (done ++ standing s x) b b.tick (is_written s (begun b.tick b)))
+      ∙ (others (begun b.tick b) (done ++ standing s x)
+      ∙ (append_assoc done (standing s x) (filter (is_written s) (cut_from s (begun b.tick b) bs))
+      ∙ ap (λ xs. done ++ xs) (filter-first x (filter (is_written s) (cut_from s (begun b.tick b) bs)) (is_written s x))))
+  joins-next b bs x done others false =
+      ap (λ xs. all_placed s (at_section s (with_block x b)) xs bs) (in-same done x b x.start (is_written s x)) ∙ others (with_block x b) done
+
+  joins : (bs : List OutputBlock) → Joins bs
+  joins [] x done = refl
+  joins (b ∷ bs) x done =
+      ap₂ (λ (c : CutsSeen) (place : Place). all_placed s c (placed (done ++ standing s x) place b) bs) (stepped-seen x b) (place-seen x b)
+      ∙ joins-next b bs x done (joins bs) (cuts s x b)
+
+  joins-first : (b : OutputBlock) (bs : List OutputBlock) (start : ℕ)
+      → all_placed s (at_section s (begun start b)) (placed [] (place_at (keeps s.spec (start * s.scale)) true start) b) bs ≡ filter (is_written s) (cut_from s (begun start b) bs)
+  joins-first b bs start =
+      ap (λ xs. all_placed s (at_section s (begun start b)) xs bs) (in-next [] b start (is_written s (begun start b))) ∙ joins bs (begun start b) []
+
+  -- the first block begins a section, whether a cut stands before it or not
+  begins-first : (b : OutputBlock) (bs : List OutputBlock) (start : ℕ) (q : Bool)
+      → all_placed s (at_start s start ((if q then 0 else 0) + octets_taken b)) (placed [] (place_at (keeps s.spec (start * s.scale)) (q || true) start) b) bs
+      ≡ filter (is_written s) (cut_from s (begun start b) bs)
+  begins-first b bs start true = joins-first b bs start
+  begins-first b bs start false = joins-first b bs start
 
 pub steps-join : StepsJoin
-steps-join s b bs = begins-first s b bs (if cuts s from_nought b then b.tick else 0) (cuts s from_nought b)
+steps-join s fits b bs = begins-first s fits b bs (if cuts s from_nought b then b.tick else 0) (cuts s from_nought b)
 
 -- ---- over the whole list
 
@@ -81,12 +151,24 @@ whole : (s : Split) (bs : List OutputBlock) (x : Section) → flat_map (λ (z : 
 whole s [] x = refl
 whole s (b ∷ bs) x = whole-next s b bs x (whole s bs) (cuts s x b)
 
--- one of the blocks, or the one behind them
-among-more : (xs : List OutputBlock) (b c : OutputBlock) (k : ℕ) → slice_get (xs ++ b ∷ []) k ≡ Some c → (slice_get xs k ≡ Some c) ⊎ (b ≡ c)
-among-more [] b c zero here = inr (cc)
+-- one of the blocks, or the one behind them, and what stands before it
+record IsOld (xs : List OutputBlock) (b c : OutputBlock) (k : ℕ) : Type 0 where
+  here : slice_get xs k ≡ Some c
+  before : take k (xs ++ b ∷ []) ≡ take k xs
+
+record IsNew (xs : List OutputBlock) (b c : OutputBlock) (k : ℕ) : Type 0 where
+  same : b ≡ c
+  before : take k (xs ++ b ∷ []) ≡ xs
+
+among-more : (xs : List OutputBlock) (b c : OutputBlock) (k : ℕ) → slice_get (xs ++ b ∷ []) k ≡ Some c → IsOld xs b c k ⊎ IsNew xs b c k
+among-more [] b c zero here = inr (record { same = cc; before = refl })
 among-more [] b c (suc k) here = absurd (cc)
-among-more (x ∷ xs) b c zero here = inl here
-among-more (x ∷ xs) b c (suc k) here = among-more xs b c k here
+among-more (x ∷ xs) b c zero here = inl (record { here = here; before = refl })
+among-more (x ∷ xs) b c (suc k) here =
+    elim (among-more xs b c k here) [
+      | inl old ↦ inl (record { here = old.here; before = ap (λ ys. x ∷ ys) old.before })
+      | inr new ↦ inr (record { same = new.same; before = ap (λ ys. x ∷ ys) new.before })
+    ]
 
 uncut-first : (s : Split) (start : ℕ) (b : OutputBlock) → IsUncut s (begun start b)
 uncut-first s start b zero c some here = absurd (omega arith)
@@ -94,7 +176,10 @@ uncut-first s start b (suc k) c some here = absurd (cc)
 
 uncut-more : (s : Split) (x : Section) (b : OutputBlock) → IsUncut s x → cuts s x b ≡ false → IsUncut s (with_block x b)
 uncut-more s x b before uncut k c some here =
-    elim (among-more x.blocks b c k here) [ inl old ↦ before k c some old | inr new ↦ rw (← new) uncut ]
+    elim (among-more x.blocks b c k here) [
+      | inl old ↦ ap (λ ys. cuts s (record { start = x.start; blocks = ys }) c) old.before ∙ before k c some old.here
+      | inr new ↦ ap (λ ys. cuts s (record { start = x.start; blocks = ys }) c) new.before ∙ ap (cuts s x) (sym new.same) ∙ uncut
+    ]
 
 -- The first of the sections of blocks is the one that they were cut off, with some of them; and cuts stand between all.
 record Continues (s : Split) (x : Section) (xs : List Section) : Type 0 where
@@ -148,29 +233,65 @@ sections-cut s (b ∷ bs) =
 
 -- ---- up to the next cut
 
-goes-on-next : (s : Split) (b : OutputBlock) (bs : List OutputBlock) (x : Section)
-    → ((y : Section) → cut_from s y bs ≡ record { start = y.start; blocks = y.blocks ++ within s y bs } ∷ sections_at s (beyond s y bs)) → (q : Bool)
+-- what stands behind a section that starts at a tick and has a load
+abbrev goes_on_from : Split → ℕ → List OutputBlock → ℕ → List OutputBlock → List Section
+goes_on_from s start blocks octets bs = record { start = start; blocks = blocks ++ within s start octets bs } ∷ sections_at s (beyond s start octets bs)
+
+goes-on-next : (s : Split) (b : OutputBlock) (bs : List OutputBlock) (x : Section) → ((y : Section) → cut_from s y bs ≡ goes_on_from s y.start y.blocks (load y.blocks) bs) → (q : Bool)
     → (if q then x ∷ cut_from s (begun b.tick b) bs else cut_from s (with_block x b) bs)
-    ≡ record { start = x.start; blocks = x.blocks ++ (if q then [] else b ∷ within s (with_block x b) bs) } ∷ sections_at s (if q then b ∷ bs else beyond s (with_block x b) bs)
+    ≡ record { start = x.start; blocks = x.blocks ++ (if q then [] else b ∷ within s x.start (load x.blocks + octets_taken b) bs) } ∷ sections_at s (if q then b ∷ bs else beyond s x.start (load x.blocks + octets_taken b) bs)
 goes-on-next s b bs x others true = ap (λ blocks. record { start = x.start; blocks = blocks } ∷ cut_from s (begun b.tick b) bs) (sym (append-nil x.blocks))
 goes-on-next s b bs x others false =
     others (with_block x b)
-    ∙ ap (λ blocks. record { start = x.start; blocks = blocks } ∷ sections_at s (beyond s (with_block x b) bs)) (append_assoc x.blocks (b ∷ []) (within s (with_block x b) bs))
+    ∙ ap (λ n. goes_on_from s x.start (x.blocks ++ b ∷ []) n bs) (load-more x.blocks b)
+    ∙ ap (λ blocks. record { start = x.start; blocks = blocks } ∷ sections_at s (beyond s x.start (load x.blocks + octets_taken b) bs)) (append_assoc x.blocks (b ∷ []) (within s x.start (load x.blocks + octets_taken b) bs))
 
 pub goes-on : SectionsGoOn
 goes-on s x [] = ap (λ blocks. record { start = x.start; blocks = blocks } ∷ []) (sym (append-nil x.blocks))
 goes-on s x (b ∷ bs) = goes-on-next s b bs x (λ y. goes-on s y bs) (cuts s x b)
 
+-- what is counted of the load says as much
+module _ (s : Split) (fits : IfSome s.size (λ limit. limit < 2 ^ 64)) (start : ℕ) where
+  pub cuts-counted : (n : ℕ) (b : OutputBlock) → cuts_at s start (counted s.size n) b ≡ cuts_at s start n b
+  cuts-counted n b = ap (λ full. may_cut s b && (full || is_over s.spec (start * s.scale) (b.tick * s.scale))) (full-counted s.size n fits)
+
+  -- two loads that count as much
+  pub within-like : (bs : List OutputBlock) (n m : ℕ) → counted s.size n ≡ counted s.size m → within s start n bs ≡ within s start m bs
+  within-like [] n m same = refl
+  within-like (b ∷ bs) n m same =
+      ap₂ (λ (q : Bool) (more : List OutputBlock). if q then [] else b ∷ more)
+      (sym (cuts-counted n b) ∙ ap (λ k. cuts_at s start k b) same ∙ cuts-counted m b)
+      (within-like bs (n + octets_taken b) (m + octets_taken b) (like-more s.size n m (octets_taken b) same))
+
+  pub beyond-like : (bs : List OutputBlock) (n m : ℕ) → counted s.size n ≡ counted s.size m → beyond s start n bs ≡ beyond s start m bs
+  beyond-like [] n m same = refl
+  beyond-like (b ∷ bs) n m same =
+      ap₂ (λ (q : Bool) (more : List OutputBlock). if q then b ∷ bs else more)
+      (sym (cuts-counted n b) ∙ ap (λ k. cuts_at s start k b) same ∙ cuts-counted m b)
+      (beyond-like bs (n + octets_taken b) (m + octets_taken b) (like-more s.size n m (octets_taken b) same))
+
+  pub within-counted : (bs : List OutputBlock) (n : ℕ) → within s start (counted s.size n) bs ≡ within s start n bs
+  within-counted bs n = within-like bs (counted s.size n) n (counted-twice s.size n)
+
+  pub beyond-counted : (bs : List OutputBlock) (n : ℕ) → beyond s start (counted s.size n) bs ≡ beyond s start n bs
+  beyond-counted bs n = beyond-like bs (counted s.size n) n (counted-twice s.size n)
+
 -- ---- not split
 
-never-cut : (s : Split) (x : Section) (b : OutputBlock) → s.spec ≡ Whole → cuts s x b ≡ false
-never-cut s x b none = ap (λ spec. may_cut s b && is_over spec (x.start * s.scale) (b.tick * s.scale)) none ∙ never (may_cut s b)
+-- neither by times nor by load
+record IsWhole (s : Split) : Type 0 where
+  spec : s.spec ≡ Whole
+  size : s.size ≡ None
+
+never-cut : (s : Split) (x : Section) (b : OutputBlock) → IsWhole s → cuts s x b ≡ false
+never-cut s x b none =
+    ap₂ (λ (spec : SplitSpec) (size : Option ℕ). may_cut s b && (is_full size (load x.blocks) || is_over spec (x.start * s.scale) (b.tick * s.scale))) none.spec none.size ∙ never (may_cut s b)
   where
     never : (may : Bool) → (may && false) ≡ false
     never true = refl
     never false = refl
 
-one-section : (s : Split) (bs : List OutputBlock) (x : Section) → s.spec ≡ Whole → cut_from s x bs ≡ record { start = x.start; blocks = x.blocks ++ bs } ∷ []
+one-section : (s : Split) (bs : List OutputBlock) (x : Section) → IsWhole s → cut_from s x bs ≡ record { start = x.start; blocks = x.blocks ++ bs } ∷ []
 one-section s [] x none = ap (λ blocks. record { start = x.start; blocks = blocks } ∷ []) (sym (append-nil x.blocks))
 one-section s (b ∷ bs) x none =
     ap (λ q. if q then x ∷ cut_from s (begun b.tick b) bs else cut_from s (with_block x b) bs) (never-cut s x b none)
@@ -186,10 +307,10 @@ one-part s bs none =
     ap (λ spec. if keeps spec (0 * s.scale) then part_of (record { start = 0; blocks = bs }) None ∷ [] else []) none
     ∙ ap (λ blocks. record { start = 0; end = None; blocks = blocks } ∷ []) (same-blocks bs)
 
-all-in-one : (s : Split) (bs : List OutputBlock) → s.spec ≡ Whole → sections s bs ≡ record { start = 0; blocks = bs } ∷ []
+all-in-one : (s : Split) (bs : List OutputBlock) → IsWhole s → sections s bs ≡ record { start = 0; blocks = bs } ∷ []
 all-in-one s [] none = refl
 all-in-one s (b ∷ bs) none =
     ap (λ q. cut_from s (begun (if q then b.tick else 0) b) bs) (never-cut s from_nought b none) ∙ one-section s bs (begun 0 b) none
 
 pub whole-part : WholeIsOnePart
-whole-part s bs none = ap (parts_in s) (all-in-one s bs none) ∙ one-part s bs none
+whole-part s bs spec size = ap (parts_in s) (all-in-one s bs (record { spec = spec; size = size })) ∙ one-part s bs spec

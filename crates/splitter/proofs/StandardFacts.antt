@@ -41,7 +41,7 @@ blocks =
 
 -- split there, at milliseconds
 abbrev at : SplitSpec → List Bool → Split
-at spec videos = record { spec = spec; scale = 1000000; drives = λ lane. is_driver videos (lane - 1) }
+at spec videos = record { spec = spec; size = None; scale = 1000000; drives = λ lane. is_driver videos (lane - 1) }
 
 abbrev seconds : ℕ → ℕ
 seconds n = n * 1000000000

@@ -1,11 +1,13 @@
 -- What holds of every split.
-use Rattle.std.specs.Prelude.{◌≡◌, ⊤, ℕ, ◌<◌, ◌^◌, true, false, List, [], ◌∷◌, ◌++◌, filter, flat_map, take, Some, None}
+use Rattle.std.specs.Prelude.{◌≡◌, ⊤, ℕ, ◌<◌, ◌^◌, true, false, List, [], ◌∷◌, ◌++◌, filter, flat_map, take, Some, None, IfSome}
 use Rattle.std.specs.List.{slice_get}
 use Rattle.output_model.specs.OutputBlock.{OutputBlock}
+use Rattle.cluster_writer.specs.Lengths.{octets_taken}
 use Rattle.splitter.specs.declared.cuts.Place.{Place}
 use Rattle.splitter.specs.declared.cuts.Place.TheVariants.{Same, Next, Out}
 use Rattle.splitter.specs.declared.spec.SplitSpec.TheVariants.{Whole}
 use Rattle.splitter.specs.Names.{is_part_name, part_name}
+use Rattle.splitter.specs.Load.{load}
 use Rattle.splitter.specs.Sections.{Section, Split, begun, beyond, cut_from, cuts, is_written, may_cut, parts, sections, sections_at, with_block, within}
 use Rattle.splitter.specs.Steps.{CutsSeen, new_cuts, place_of, stepped}
 
@@ -26,11 +28,13 @@ placed xs Out b = xs
 -- the same of blocks, each at the place that a step says
 abbrev pub all_placed : Split → CutsSeen → List Section → List OutputBlock → List Section
 all_placed s c xs [] = xs
-all_placed s c xs (b ∷ bs) = all_placed s (stepped c (may_cut s b) b.tick) (placed xs (place_of c (may_cut s b) b.tick) b) bs
+all_placed s c xs (b ∷ bs) = all_placed s (stepped c (may_cut s b) b.tick (octets_taken b)) (placed xs (place_of c (may_cut s b) b.tick) b) bs
 
--- The places of all blocks, step by step, are those in the sections that are written.
+-- The places of all blocks, step by step, are those in the sections that are written, where a limit has 64 bits.
 abbrev pub StepsJoin : Type 0
-StepsJoin = (s : Split) (b : OutputBlock) (bs : List OutputBlock) → all_placed s (new_cuts s.spec s.scale) [] (b ∷ bs) ≡ filter (is_written s) (sections s (b ∷ bs))
+StepsJoin =
+    (s : Split) → IfSome s.size (λ limit. limit < 2 ^ 64) → (b : OutputBlock) (bs : List OutputBlock)
+    → all_placed s (new_cuts s.spec s.size s.scale) [] (b ∷ bs) ≡ filter (is_written s) (sections s (b ∷ bs))
 
 -- ---- over the whole list
 
@@ -62,11 +66,11 @@ SectionsAreCut = (s : Split) (blocks : List OutputBlock) → AreSections s block
 
 -- A section has what stands before the next cut, and behind it are those of the blocks from there on.
 abbrev pub SectionsGoOn : Type 0
-SectionsGoOn = (s : Split) (x : Section) (bs : List OutputBlock) → cut_from s x bs ≡ record { start = x.start; blocks = x.blocks ++ within s x bs } ∷ sections_at s (beyond s x bs)
+SectionsGoOn = (s : Split) (x : Section) (bs : List OutputBlock) → cut_from s x bs ≡ record { start = x.start; blocks = x.blocks ++ within s x.start (load x.blocks) bs } ∷ sections_at s (beyond s x.start (load x.blocks) bs)
 
 -- What isn't split is one part, which has all blocks as they are.
 abbrev pub WholeIsOnePart : Type 0
-WholeIsOnePart = (s : Split) (blocks : List OutputBlock) → s.spec ≡ Whole → parts s blocks ≡ record { start = 0; end = None; blocks = blocks } ∷ []
+WholeIsOnePart = (s : Split) (blocks : List OutputBlock) → s.spec ≡ Whole → s.size ≡ None → parts s blocks ≡ record { start = 0; end = None; blocks = blocks } ∷ []
 
 -- ---- names
 

@@ -1,4 +1,5 @@
 pub mod Split
+pub mod Load
 pub mod Steps
 pub mod Set
 pub mod Sections

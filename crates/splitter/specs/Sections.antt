@@ -1,12 +1,17 @@
 -- A merged list that is cut into sections, and the parts that are written of these: all of it is this project's.
-use Rattle.std.specs.Prelude.{ℕ, ◌-◌, ◌*◌, Bool, ◌&&◌, if◌then◌else◌, List, [], ◌∷◌, ◌++◌, map, Option, Some, None}
+use Rattle.std.specs.Prelude.{ℕ, ◌+◌, ◌-◌, ◌*◌, max, Bool, ◌&&◌, ◌||◌, if◌then◌else◌, List, [], ◌∷◌, ◌++◌, map, Option, Some, None}
+use Rattle.std.specs.Option.{option_map}
 use Rattle.output_model.specs.OutputBlock.{OutputBlock, in_output}
 use Rattle.splitter.specs.declared.spec.SplitSpec.{SplitSpec}
+use Rattle.cluster_writer.specs.Lengths.{octets_taken}
+use Rattle.splitter.specs.Load.{is_full, load}
 use Rattle.splitter.specs.Split.{is_over, keeps}
 
--- How an output is split: where, how many nanoseconds a tick has, and which lanes drive, counted from 1.
+-- How an output is split: at which times; at which load, if at one; how many nanoseconds a tick has; and which lanes drive,
+-- counted from 1.
 pub record Split : Type 0 where
   pub spec : SplitSpec
+  pub size : Option ℕ
   pub scale : ℕ
   pub drives : ℕ → Bool
 
@@ -33,9 +38,14 @@ with_block x b = record { start = x.start; blocks = x.blocks ++ b ∷ [] }
 abbrev pub may_cut : Split → OutputBlock → Bool
 may_cut s b = b.key && s.drives b.lane
 
--- A cut stands before such a block where the section, as far as it has come, is over at its time.
+-- A cut stands before such a block where the section, which started at this tick and has come to this load, is full, or is over at
+-- the block's time.
+abbrev pub cuts_at : Split → ℕ → ℕ → OutputBlock → Bool
+cuts_at s start octets b = may_cut s b && (is_full s.size octets || is_over s.spec (start * s.scale) (b.tick * s.scale))
+
+-- the same of a section as far as it has come
 abbrev pub cuts : Split → Section → OutputBlock → Bool
-cuts s x b = may_cut s b && is_over s.spec (x.start * s.scale) (b.tick * s.scale)
+cuts s x b = cuts_at s x.start (load x.blocks) b
 
 -- A section that begins with a cut starts at the tick of the block behind it.
 abbrev pub start_with : Split → Section → OutputBlock → ℕ
@@ -46,15 +56,15 @@ abbrev pub cut_from : Split → Section → List OutputBlock → List Section
 cut_from s x [] = x ∷ []
 cut_from s x (b ∷ bs) = if cuts s x b then x ∷ cut_from s (begun b.tick b) bs else cut_from s (with_block x b) bs
 
--- the blocks that stand in a section behind what it has, up to the next cut
-abbrev pub within : Split → Section → List OutputBlock → List OutputBlock
-within s x [] = []
-within s x (b ∷ bs) = if cuts s x b then [] else b ∷ within s (with_block x b) bs
+-- the blocks that stand in a section of this start behind what has this load, up to the next cut
+abbrev pub within : Split → ℕ → ℕ → List OutputBlock → List OutputBlock
+within s start octets [] = []
+within s start octets (b ∷ bs) = if cuts_at s start octets b then [] else b ∷ within s start (octets + octets_taken b) bs
 
 -- the blocks from the next cut on
-abbrev pub beyond : Split → Section → List OutputBlock → List OutputBlock
-beyond s x [] = []
-beyond s x (b ∷ bs) = if cuts s x b then b ∷ bs else beyond s (with_block x b) bs
+abbrev pub beyond : Split → ℕ → ℕ → List OutputBlock → List OutputBlock
+beyond s start octets [] = []
+beyond s start octets (b ∷ bs) = if cuts_at s start octets b then b ∷ bs else beyond s start (octets + octets_taken b) bs
 
 -- the sections of blocks before which a cut stands
 abbrev pub sections_at : Split → List OutputBlock → List Section
@@ -84,8 +94,9 @@ abbrev pub next_start : List Section → Option ℕ
 next_start [] = None
 next_start (x ∷ xs) = Some x.start
 
+-- A part ends where what follows it starts, and no earlier than it starts itself.
 abbrev pub part_of : Section → Option ℕ → Part
-part_of x end = record { start = x.start; end = end; blocks = map (in_part x.start) x.blocks }
+part_of x end = record { start = x.start; end = option_map (max x.start) end; blocks = map (in_part x.start) x.blocks }
 
 -- a section is written
 abbrev pub is_written : Split → Section → Bool

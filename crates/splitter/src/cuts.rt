@@ -1,6 +1,6 @@
 //! The places of blocks, one after the other.
 
-ghost use Rattle.std.specs.Prelude.{◌≡◌, ◌&&◌, Some};
+ghost use Rattle.std.specs.Prelude.{◌≡◌, ◌&&◌, ℕ};
 ghost use Rattle.splitter.specs.Steps.{is_kept, is_over_at, new_cuts, place_of, stepped};
 
 use crate::spec::SplitSpec;
@@ -18,7 +18,7 @@ pub enum Place {
     Out,
 }
 
-/// Where a merged list is cut, block by block.
+/// Where a merged list is cut by times, block by block.
 #[derive(Drop)]
 pub struct Cuts {
     spec: SplitSpec,
@@ -31,12 +31,13 @@ pub struct Cuts {
 }
 
 impl Model for Cuts {
+    ghost use Rattle.std.specs.Prelude.{None};
     ghost use Rattle.splitter.specs.Steps.{CutsSeen};
     ghost use Rattle.splitter.specs.Set.{IsSet};
 
     ghost Value = { CutsSeen };
 
-    ghost view = { λ c. record { spec = c.spec; scale = c.scale; start = c.start } };
+    ghost view = { λ c. record { spec = c.spec; size = None; scale = c.scale; start = c.start; load = 0 } };
 
     ghost invariant = { λ c. IsSet c };
 }
@@ -44,7 +45,7 @@ impl Model for Cuts {
 impl Cuts {
     /// An output of so many nanoseconds a tick, of which no block has been placed. Takes no memory.
     pub fn new(spec: SplitSpec, scale: u64) -> Cuts
-        ensures { result ≡ new_cuts spec scale }
+        ensures { result ≡ new_cuts spec None scale }
     {
         let end = spec.end_behind(0);
         let kept = spec.keeps(0);
@@ -86,7 +87,7 @@ impl Cuts {
     /// The place of the next block of a merged list, whose lane drives or doesn't. Takes no memory.
     pub fn assign(&mut self, head: &OutHead, drives: bool) -> Place
         ensures place { result ≡ place_of self.old (head.now.key && drives) head.now.tick }
-        ensures steps { self.new ≡ stepped self.old (head.now.key && drives) head.now.tick }
+        ensures steps { (len : ℕ) → self.new ≡ stepped self.old (head.now.key && drives) head.now.tick len }
     {
         let cut = head.key && drives && self.is_over(head.tick);
         let first = self.start.is_none();

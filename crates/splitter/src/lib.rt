@@ -18,4 +18,4 @@ pub use laws::{
 pub use names::{is_part_name, part_name};
 pub use spec::SplitSpec;
 pub use word_values::SpanWords;
-pub use words::split_spec;
+pub use words::{split_size, split_spec};

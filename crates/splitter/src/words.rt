@@ -1,8 +1,8 @@
 //! What the words of a split come to.
 
-ghost use Rattle.std.specs.Prelude.{◌≡◌, true, filter_map, IfOk};
+ghost use Rattle.std.specs.Prelude.{◌≡◌, filter_map, IfOk};
 ghost use Rattle.splitter.specs.declared.spec.SplitSpec.TheVariants as spec;
-ghost use Rattle.splitter.specs.Words.{is_by_time, spec_of, start_at};
+ghost use Rattle.splitter.specs.Words.{size_of, spec_of, start_at};
 
 use crate::spec::SplitSpec;
 use mkv_io::List;
@@ -35,18 +35,17 @@ fn times(alloc: Global, at: &[u64]) -> Result<SplitSpec, AllocError>
     })
 }
 
-/// Where an output is split, by its words; its chapters start at these times, of which those count that the words name.
-/// Without words it isn't split.
+/// The times at which an output is split, by its words; its chapters start at these times, of which those count that the
+/// words name. Without words, and where it is split by its load, it is split at none.
 pub fn split_spec(
     alloc: Global,
     words: &Option<SplitWords>,
     starts: &[u64],
 ) -> Result<SplitSpec, AllocError>
-    requires { is_by_time words.now ≡ true }
     ensures { IfOk result (λ spec. spec ≡ spec_of words.now starts.now) }
 {
     match words {
-        None => Ok(SplitSpec::Whole),
+        None | Some(SplitWords::Size { .. }) => Ok(SplitSpec::Whole),
         Some(SplitWords::Duration { by }) => Ok(SplitSpec::Duration { by: *by }),
         Some(SplitWords::Times { at }) => times(alloc, at.as_slice()),
         Some(SplitWords::Parts { spans }) => Ok(SplitSpec::Parts {
@@ -56,6 +55,15 @@ pub fn split_spec(
         Some(SplitWords::Chapters { numbers }) => Ok(SplitSpec::Times {
             at: starts_at(alloc, starts, numbers.as_slice())?,
         }),
-        Some(SplitWords::Size { limit: _ }) => unreachable!(),
+    }
+}
+
+/// The load at which each part of an output ends, in octets, where its words split it by its load.
+pub fn split_size(words: &Option<SplitWords>) -> Option<u64>
+    ensures { result ≡ size_of words.now }
+{
+    match words {
+        Some(SplitWords::Size { limit }) => Some(*limit),
+        _ => None,
     }
 }

@@ -15,8 +15,8 @@ use Rattle.merge_plan.proofs.RecordLemmas.{read-record}
 use Rattle.merge_plan.proofs.PlanLemmas.{lanes-length, lanes-drives, lanes-given, lanes-numbers, lanes-rules, lanes-linked, lanes-once, links-small, links-open, links-told, links-spared, plan-few}
 use Rattle.merge_plan.proofs.plan.plan_of.Goals as goal
 
-pub split_of-requires-clause-chapters : goal.split_of-requires-clause-chapters
-split_of-requires-clause-chapters c = read-record CHAPTERS c.in_ok-tracks.field-0.chapters c.in_ok-tracks.ensures.sound.chapters
+pub split_of-requires : goal.split_of-requires
+split_of-requires c = read-record CHAPTERS c.in_ok-tracks.field-0.chapters c.in_ok-tracks.ensures.sound.chapters
 
 pub returns-clause-exact : goal.returns-clause-exact
 returns-clause-exact c =
@@ -33,6 +33,9 @@ returns-clause-exact c =
       record {
         output = output;
         split = c.in_ok-split.ensures ∙ ap (λ (n : Option Node). spec_of words.split (starts_in n)) records.chapters;
+        size = c.split_size.ensures;
+        uuids = c.in_ok-uuids.ensures;
+        link = refl;
         limits = refl;
         front = λ f told.
             let reads = sym (reads-in f inputs) in

@@ -1,26 +1,28 @@
-use Rattle.std.proofs.Common.{List, map, ◌∙◌, ap, subst}
+use Rattle.std.proofs.Common.{ℕ, ◌++◌, length, map, subst}
 use Rattle.std.proofs.lemmas.Result.{err_from_is_err_and}
-use Rattle.mkv_io.specs.Lines.{with_lines}
 use Rattle.mkv_lines.specs.Line.{wrote_blocks_line}
 use Rattle.mkv_lines.specs.Said.{SaysPart}
 use Rattle.mkv_lines.proofs.SaidLemmas.{SaysPart-before, SaysPart-behind}
 use Rattle.remux_plan.specs.declared.summary.Written.{Written}
+use Rattle.mkv_merge.specs.Merge.{uuid_lines}
 use Rattle.mkv_merge.specs.Told.{warnings_from}
 use Rattle.mkv_merge.proofs.writing.tell.Goals as goal
 
--- the line of an output couldn't be said
-pub returns-in_err-say_wrote-clause-said : goal.returns-in_err-say_wrote-clause-said
-returns-in_err-say_wrote-clause-said g c =
+-- a line of an output, or a warning of an input, couldn't be said
+pub returns-in_err-tell_outputs-clause-said : goal.returns-in_err-tell_outputs-clause-said
+returns-in_err-tell_outputs-clause-said g c =
     let p = err_from_is_err_and c.from_residual.result c.from_residual.ensures.1 in
     rw p.1
-    (SaysPart-before (g.P.Report.lines c.args.report.now) (g.P.Report.lines c.say_wrote.new.report) (map (λ (w : Written). wrote_blocks_line w.name w.blocks) c.args.summary.now.outputs) (warnings_from c.args.summary.now 0 c.args.words.now.files)
-    (subst (λ (ws : List Written). SaysPart (g.P.Report.lines c.args.report.now) (g.P.Report.lines c.say_wrote.new.report) (map (λ (w : Written). wrote_blocks_line w.name w.blocks) ws)) c.as_slice.ensures c.in_err-say_wrote.ensures.said))
+    (SaysPart-before (g.P.Report.lines c.args.report.now) (g.P.Report.lines c.tell_outputs.new.report)
+    (map (λ (w : Written). wrote_blocks_line w.name w.blocks) c.args.summary.now.outputs ++ warnings_from c.args.summary.now 0 c.args.words.now.files)
+    (uuid_lines c.args.words.now (length c.args.summary.now.outputs)) c.in_err-tell_outputs.ensures.said)
 
--- a warning couldn't be said
-pub returns-in_err-warn-clause-said : goal.returns-in_err-warn-clause-said
-returns-in_err-warn-clause-said g c =
-    let p = err_from_is_err_and c.from_residual-in_err-warn.result c.from_residual-in_err-warn.ensures.1 in
+-- the warning of the number of identifiers couldn't be
+pub returns-in_err-say_uuids-clause-said : goal.returns-in_err-say_uuids-clause-said
+returns-in_err-say_uuids-clause-said g c =
+    let p = err_from_is_err_and c.from_residual-in_err-say_uuids.result c.from_residual-in_err-say_uuids.ensures.1 in
     rw p.1
-    (SaysPart-behind (g.P.Report.lines c.args.report.now) (g.P.Report.lines c.say_wrote.new.report) (g.P.Report.lines c.warn.new.report) (map (λ (w : Written). wrote_blocks_line w.name w.blocks) c.args.summary.now.outputs) (warnings_from c.args.summary.now 0 c.args.words.now.files)
-    (c.in_ok-say_wrote.ensures.said ∙ ap (λ (ws : List Written). with_lines (g.P.Report.lines c.args.report.now) (map (λ (w : Written). wrote_blocks_line w.name w.blocks) ws)) c.as_slice.ensures)
-    c.in_err-warn.ensures.said)
+    (SaysPart-behind (g.P.Report.lines c.args.report.now) (g.P.Report.lines c.tell_outputs.new.report) (g.P.Report.lines c.say_uuids.new.report)
+    (map (λ (w : Written). wrote_blocks_line w.name w.blocks) c.args.summary.now.outputs ++ warnings_from c.args.summary.now 0 c.args.words.now.files)
+    (uuid_lines c.args.words.now (length c.args.summary.now.outputs)) c.in_ok-tell_outputs.ensures.said
+    (subst (λ (n : ℕ). SaysPart (g.P.Report.lines c.tell_outputs.new.report) (g.P.Report.lines c.say_uuids.new.report) (uuid_lines c.args.words.now n)) c.len-outputs.ensures c.in_err-say_uuids.ensures.said))

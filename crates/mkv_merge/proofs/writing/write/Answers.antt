@@ -25,7 +25,7 @@ returns-in_err-say_absent-clause-verdict g c = λ contents told.
     let many = many-inputs g.F.Reads g.F.Files old words c.args.ids.now prepared.inputs c.requires.inputs c.requires.prepared.inputs.of in
     let part = subst (λ (inputs : List Input). SaysPart (g.P.Report.lines c.args.report.now) (g.P.Report.lines c.say_absent.new.report) (lines_before words (reads_in inputs))) c.as_slice.ensures c.in_err-say_absent.ensures.said in
     rw p.1
-    (merge-begun was now p.0 f words prepared.inputs prepared.plan (zip contents (reads_in prepared.inputs)) (merge-is f words c.args.ids.now contents prepared c.requires.words.split c.requires.prepared told many) part refl)
+    (merge-begun was now p.0 f words prepared.inputs prepared.plan (zip contents (reads_in prepared.inputs)) (merge-is f words c.args.ids.now contents prepared c.requires.prepared told many) part refl)
 
 pub remux-requires : goal.remux-requires
 remux-requires g c = plan-good g.F.Reads g.F.Files c.args.files.now c.args.words.now c.args.ids.now c.args.prepared c.requires.words c.requires.inputs c.requires.prepared
@@ -41,7 +41,7 @@ returns-in-Err-clause-verdict g c = λ contents told.
     let now = seen g.F.Reads g.F.Files.writing_faults g.F.Files.names g.P.Report c.remux.new.files c.say_absent.new.report in
     let many = many-inputs g.F.Reads g.F.Files old words c.args.ids.now prepared.inputs c.requires.inputs c.requires.prepared.inputs.of in
     let said = c.in_ok-say_absent.ensures.said ∙ ap (λ (inputs : List Input). with_lines (g.P.Report.lines c.args.report.now) (lines_before words (reads_in inputs))) c.as_slice.ensures in
-    merge-left was now c.stop_of.result f words prepared.inputs prepared.plan (zip contents (reads_in prepared.inputs)) (merge-is f words c.args.ids.now contents prepared c.requires.words.split c.requires.prepared told many) said
+    merge-left was now c.stop_of.result f words prepared.inputs prepared.plan (zip contents (reads_in prepared.inputs)) (merge-is f words c.args.ids.now contents prepared c.requires.prepared told many) said
     (c.in-Err.ensures.output (plan-told f words c.args.ids.now contents prepared c.requires.prepared told))
 
 -- the outputs stand, and the rest is told
@@ -58,7 +58,7 @@ returns-clause-verdict g c = λ contents told.
     let missing = c.has_absent-absent.ensures ∙ ap (λ (inputs : List Input). has_absent words (reads_in inputs)) c.as_slice-2.ensures in
     let planned = plan-told f words c.args.ids.now contents prepared c.requires.prepared told in
     merge-told was now (g.P.Report.lines c.say_absent.new.report) c.tell.result f words prepared.inputs prepared.plan (zip contents (reads_in prepared.inputs)) c.in-Ok.summary c.has_absent-absent.result
-    (merge-is f words c.args.ids.now contents prepared c.requires.words.split c.requires.prepared told many)
+    (merge-is f words c.args.ids.now contents prepared c.requires.prepared told many)
     (c.in-Ok.ensures.summary planned) missing said c.tell.ensures.said c.tell.ensures.status (c.in-Ok.ensures.output planned)
 
 -- ---- how much is read

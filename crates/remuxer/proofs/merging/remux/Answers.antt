@@ -8,12 +8,16 @@ use Rattle.remux_plan.specs.declared.summary.Written.{Written}
 use Rattle.remuxer.specs.Taking.{told_by}
 use Rattle.remuxer.specs.Told.{HasDamages}
 use Rattle.remuxer.proofs.OutputsLemmas.{all-in_turn}
+use Rattle.remuxer.proofs.PartLemmas.{whole-of}
 use Rattle.remuxer.proofs.PlanLemmas.{plan-can, plan-ends, plan-inputs, plan-keeps, plan-reads, plan-says, plan-summary, plan-told, plan-writes}
 use Rattle.remuxer.proofs.StartedLemmas.{count-started}
 use Rattle.remuxer.proofs.merging.remux.Goals as goal
 
 pub start-requires-2 : goal.start-requires-2
 start-requires-2 g c = omega (arith, count-started c.args.plan.limits.scale c.args.plan.lanes c.in_ok-lanes.field-0.lanes c.in_ok-lanes.ensures.lanes, c.requires.few)
+
+pub new-cuts-requires : goal.new-cuts-requires
+new-cuts-requires g c = whole-of c.args.plan.size c.args.plan.split c.requires.limit
 
 pub write_parts-requires : goal.write_parts-requires
 write_parts-requires g c =

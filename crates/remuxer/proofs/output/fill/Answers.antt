@@ -1,10 +1,11 @@
-use Rattle.std.proofs.Common.{◌<◌, ℕ, ◌*◌, ◌^◌, List, [], Option, refl, sym, ◌∙◌, ap, subst}
+use Rattle.std.proofs.Common.{◌<◌, ℕ, ◌*◌, ◌^◌, max, List, [], Option, refl, sym, ◌∙◌, ap, subst}
 use Rattle.std.proofs.lemmas.Result.{err_from_is_err_and}
-use Rattle.std.specs.Option.{IfSome}
+use Rattle.std.specs.Option.{IfSome, option_map}
 use Rattle.mkv_io.specs.Sources.{live_files}
 use Rattle.splitter.specs.Sections.{Split}
 use Rattle.output_model.specs.declared.rule.CueRule.{CueRule}
 use Rattle.remuxer.proofs.StandsLemmas.{stands-drafted}
+use Rattle.remuxer.proofs.StepLemmas.{ahead-end}
 use Rattle.remuxer.specs.Output.{part_in}
 use Rattle.remuxer.specs.Places.{IsEnd, first_tick, lane_of, lent_at}
 use Rattle.remuxer.specs.Taking.{StaysDraft}
@@ -24,10 +25,11 @@ cut_chapters-requires-clause-start g c = subst (λ (n : ℕ). c.args.part.start 
 pub cut_chapters-requires-clause-end : goal.cut_chapters-requires-clause-end
 cut_chapters-requires-clause-end g c =
     let scale = ap (λ (s : Split). s.scale) c.in_ok-ahead.ensures.goes.split ∙ c.requires.scale in
-    let end = c.in_ok-ahead.ensures.finds.stands.end in
-    let tick = first_tick (lent_at c.add_part.new.blocks.merge (lane_of c.in_ok-ahead.ahead)) in
-    subst (λ (o : Option ℕ). IfSome o (IsEnd c.args.spec.now.limits.scale c.args.part.start)) (sym c.tick_ahead.ensures)
-    (subst (λ (n : ℕ). IfSome tick (IsEnd n c.args.part.start)) scale end)
+    let start : c.args.part.start * c.add_part.new.blocks.cuts.scale < 2 ^ 64 =
+    subst (λ (n : ℕ). c.args.part.start * n < 2 ^ 64) (sym (ap (λ (s : Split). s.scale) c.in_ok-ahead.ensures.goes.split)) c.requires.begins.early in
+    subst (λ (o : Option ℕ). IfSome o (IsEnd c.args.spec.now.limits.scale c.args.part.start)) (sym c.end_of.ensures)
+    (subst (λ (n : ℕ). IfSome (option_map (max c.args.part.start) (first_tick (lent_at c.add_part.new.blocks.merge (lane_of c.in_ok-ahead.ahead)))) (IsEnd n c.args.part.start)) scale
+    (ahead-end c.add_part.new.blocks c.args.part.start c.in_ok-ahead.ahead start c.in_ok-ahead.ensures.finds.stands))
 
 -- its chapters couldn't be cut
 pub returns-in_err-chapters-clause-fills : goal.returns-in_err-chapters-clause-fills
@@ -63,8 +65,8 @@ returns-clause-fills g c = λ told.
     let v = c.add_part.new.self in
     let q = c.add_part.new.blocks in
     let can = can-again g.F.Reads g.F.Files a x c.args.writer.now v c.args.blocks.now q c.requires.can c.in_ok-ahead.ensures.writes.file c.in_ok-ahead.ensures.writes.is_open c.in_ok-ahead.ensures.writes.kept c.in_ok-ahead.ensures.goes in
-    fills-part g.F.Reads g.F.Files c.args.spec.now c.as_slice.result.now c.args.part a x c.add_rest.new.files c.args.writer.now v (record { out = c.add_rest.new.out; buffer = c.add_rest.new.buffer; blocks = v.blocks }) c.args.blocks.now q c.in_ok-ahead.ahead c.in_ok-chapters.chapters c.tick_ahead.result
-    c.as_slice.ensures (c.in_ok-ahead.ensures.takes told) c.tick_ahead.ensures c.in_ok-chapters.ensures.exact
+    fills-part g.F.Reads g.F.Files c.args.spec.now c.as_slice.result.now c.args.part a x c.add_rest.new.files c.args.writer.now v (record { out = c.add_rest.new.out; buffer = c.add_rest.new.buffer; blocks = v.blocks }) c.args.blocks.now q c.in_ok-ahead.ahead c.in_ok-chapters.chapters c.end_of.result
+    c.as_slice.ensures (c.in_ok-ahead.ensures.takes told) c.end_of.ensures c.in_ok-chapters.ensures.exact
     (rest-left g.F.Reads g.F.Files x c.add_rest.new.files v q can c.in_ok-add_rest.ensures.only.kept c.in_ok-add_rest.ensures.only.octets) c.in_ok-add_rest.ensures.ends refl
 
 pub returns-clause-writes : goal.returns-clause-writes

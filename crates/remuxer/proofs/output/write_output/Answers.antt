@@ -115,7 +115,7 @@ returns-in-Ok-clause-finds g c =
     let later = ending-left g.F.Reads g.F.Files a b x e name file c.fill.new.writer.out.file (g.met.F.Files.numbered a) made c.in-Ok.ensures.writes.kept c.in-Ok.ensures.writes.file p p' c.requires.gives c.requires.apart c.in-Ok.ensures.goes c.in_ok-finish_with-in-Ok.ensures.ended in
     record {
       told = λ told. filled-written g.F.Reads g.F.Files spec name a b p part begun x e w c.fill.new.writer p' filled (c.in-Ok.ensures.fills (begun-told g.F.Reads g.F.Files a b name file p made c.requires.gives c.requires.apart part.lane told)) refl later;
-      stands = c.in-Ok.ensures.finds.stands.stands;
+      stands = c.in-Ok.ensures.finds.stands;
       on = c.in-Ok.ensures.finds.on;
     }
 

@@ -8,13 +8,14 @@ use Rattle.mkv_io.proofs.WritingLemmas.{KeepsOthers-then}
 use Rattle.mkv_io.proofs.EndsLemmas.{HasRemuxCause-read, HasRemuxCause-then}
 use Rattle.mkv_outputs.specs.Drafts.{StandsInTurn}
 use Rattle.mkv_outputs.proofs.DraftsLemmas.{StandsInTurn-none}
+use Rattle.output_model.specs.Document.{Document}
 use Rattle.output_model.specs.declared.attachment.Attachment.{Attachment}
 use Rattle.cues_seekhead.specs.Draft.{draft_of}
 use Rattle.time_merge.specs.Laws.{IsApart}
 use Rattle.remux_plan.specs.Parts.{document_with, name_of}
 use Rattle.remux_plan.specs.declared.output.OutputSpec.{OutputSpec}
 use Rattle.remux_plan.specs.declared.summary.Written.{Written}
-use Rattle.remuxer.specs.Output.{HasRecords, WritesLayout, data_of, next_name, part_in}
+use Rattle.remuxer.specs.Output.{HasRecords, WritesLayout, data_of, next_name, own_spec, part_in}
 use Rattle.remuxer.proofs.OutputLemmas.{whole-in_turn}
 use Rattle.remuxer.proofs.OutputsLemmas.{keeps-none, keeps-one, named-so, told-merge, unwritten-apart}
 use Rattle.remuxer.proofs.TakingLemmas.{goes-more, only-read, read-keeps}
@@ -32,8 +33,8 @@ returns-in_err-name-clause-kept g c =
 
 -- ---- the output
 
-pub write_output-requires : goal.write_output-requires
-write_output-requires g c =
+pub write_own-requires : goal.write_own-requires
+write_own-requires g c =
     let spec = c.args.spec.now in
     let written = c.args.written.now in
     let same : c.as_str.result.now ≡ next_name spec written = c.as_str.ensures.same ∙ c.in_ok-name.ensures ∙ ap (λ (n : ℕ). name_of spec.split spec.name (n + 1)) (ap (λ (ws : List Written). length ws) c.as_slice.ensures) in
@@ -55,8 +56,11 @@ returns-in_err-done-clause-writes g c = λ told.
     let written = c.args.written.now in
     let same : c.as_str.result.now ≡ next_name spec written = c.as_str.ensures.same ∙ c.in_ok-name.ensures ∙ ap (λ (n : ℕ). name_of spec.split spec.name (n + 1)) (ap (λ (ws : List Written). length ws) c.as_slice.ensures) in
     let f = live_files g.F.Reads c.args.files.now in
-    let d = document_with f spec (part_in f c.args.blocks.now c.args.part) in
-    rw end.1 (subst (λ (n : List ℕ). StandsInTurn (g.F.Files.names c.args.files.now) (g.F.Files.names c.write_output.new.files) (draft_of n d ∷ [])) same (c.in_err-done.ensures.writes told))
+    let num : length c.as_slice.result.now + 1 ≡ length written + 1 = ap (λ (n : ℕ). n + 1) (ap (λ (ws : List Written). length ws) c.as_slice.ensures) in
+    let of : ℕ → Document = λ n. document_with f (own_spec spec n) (part_in f c.args.blocks.now c.args.part) in
+    let d = of (length written + 1) in
+    rw end.1 (subst (λ (n : List ℕ). StandsInTurn (g.F.Files.names c.args.files.now) (g.F.Files.names c.write_own.new.files) (draft_of n d ∷ [])) same
+    (subst (λ (n : ℕ). StandsInTurn (g.F.Files.names c.args.files.now) (g.F.Files.names c.write_own.new.files) (draft_of c.as_str.result.now (of n) ∷ [])) num (c.in_err-done.ensures.writes told)))
 
 pub returns-in_err-done-clause-kept : goal.returns-in_err-done-clause-kept
 returns-in_err-done-clause-kept g c =
@@ -64,7 +68,7 @@ returns-in_err-done-clause-kept g c =
     let written = c.args.written.now in
     let same : c.as_str.result.now ≡ next_name spec written = c.as_str.ensures.same ∙ c.in_ok-name.ensures ∙ ap (λ (n : ℕ). name_of spec.split spec.name (n + 1)) (ap (λ (ws : List Written). length ws) c.as_slice.ensures) in
     let few : length written + 1 < 2 ^ 64 = omega (arith, ap (λ (ws : List Written). length ws) c.as_slice.ensures) in
-    keeps-one g.F.Reads g.F.Files spec.split spec.name (next_name spec written) c.args.files.now c.write_output.new.files (named-so spec.split spec.name (length written + 1) few) (subst (λ (n : List ℕ). KeepsOthers g.F.Reads g.F.Files (n ∷ []) c.args.files.now c.write_output.new.files) same c.in_err-done.ensures.kept)
+    keeps-one g.F.Reads g.F.Files spec.split spec.name (next_name spec written) c.args.files.now c.write_own.new.files (named-so spec.split spec.name (length written + 1) few) (subst (λ (n : List ℕ). KeepsOthers g.F.Reads g.F.Files (n ∷ []) c.args.files.now c.write_own.new.files) same c.in_err-done.ensures.kept)
 
 -- it stands, and there is no memory to say so
 pub returns-in_err-push-clause-writes : goal.returns-in_err-push-clause-writes
@@ -74,9 +78,12 @@ returns-in_err-push-clause-writes g c = λ told.
     let written = c.args.written.now in
     let same : c.as_str.result.now ≡ next_name spec written = c.as_str.ensures.same ∙ c.in_ok-name.ensures ∙ ap (λ (n : ℕ). name_of spec.split spec.name (n + 1)) (ap (λ (ws : List Written). length ws) c.as_slice.ensures) in
     let f = live_files g.F.Reads c.args.files.now in
-    let d = document_with f spec (part_in f c.args.blocks.now c.args.part) in
-    let stands = subst (λ (n : List ℕ). WritesLayout (g.F.Files.names c.args.files.now) (g.F.Files.names c.write_output.new.files) n d) same (c.in_ok-done.ensures.writes told) in
-    rw end.1 (whole-in_turn (g.F.Files.names c.args.files.now) (g.F.Files.names c.write_output.new.files) (next_name spec written) d stands)
+    let num : length c.as_slice.result.now + 1 ≡ length written + 1 = ap (λ (n : ℕ). n + 1) (ap (λ (ws : List Written). length ws) c.as_slice.ensures) in
+    let of : ℕ → Document = λ n. document_with f (own_spec spec n) (part_in f c.args.blocks.now c.args.part) in
+    let d = of (length written + 1) in
+    let stands = subst (λ (n : List ℕ). WritesLayout (g.F.Files.names c.args.files.now) (g.F.Files.names c.write_own.new.files) n d) same
+    (subst (λ (n : ℕ). WritesLayout (g.F.Files.names c.args.files.now) (g.F.Files.names c.write_own.new.files) c.as_str.result.now (of n)) num (c.in_ok-done.ensures.writes told)) in
+    rw end.1 (whole-in_turn (g.F.Files.names c.args.files.now) (g.F.Files.names c.write_own.new.files) (next_name spec written) d stands)
 
 pub returns-in_err-push-clause-kept : goal.returns-in_err-push-clause-kept
 returns-in_err-push-clause-kept g c =
@@ -84,7 +91,7 @@ returns-in_err-push-clause-kept g c =
     let written = c.args.written.now in
     let same : c.as_str.result.now ≡ next_name spec written = c.as_str.ensures.same ∙ c.in_ok-name.ensures ∙ ap (λ (n : ℕ). name_of spec.split spec.name (n + 1)) (ap (λ (ws : List Written). length ws) c.as_slice.ensures) in
     let few : length written + 1 < 2 ^ 64 = omega (arith, ap (λ (ws : List Written). length ws) c.as_slice.ensures) in
-    keeps-one g.F.Reads g.F.Files spec.split spec.name (next_name spec written) c.args.files.now c.write_output.new.files (named-so spec.split spec.name (length written + 1) few) (subst (λ (n : List ℕ). KeepsOthers g.F.Reads g.F.Files (n ∷ []) c.args.files.now c.write_output.new.files) same c.in_ok-done.ensures.kept)
+    keeps-one g.F.Reads g.F.Files spec.split spec.name (next_name spec written) c.args.files.now c.write_own.new.files (named-so spec.split spec.name (length written + 1) few) (subst (λ (n : List ℕ). KeepsOthers g.F.Reads g.F.Files (n ∷ []) c.args.files.now c.write_own.new.files) same c.in_ok-done.ensures.kept)
 
 pub returns-in_err-push-clause-goes : goal.returns-in_err-push-clause-goes
 returns-in_err-push-clause-goes g c =
@@ -103,21 +110,24 @@ pub returns-in_err-next-clause-writes : goal.returns-in_err-next-clause-writes
 returns-in_err-next-clause-writes g c = λ told.
     let end = err_from_is_err_and c.from_residual-in_err-next.result c.from_residual-in_err-next.ensures.1 in
     let a = c.args.files.now in
-    let e = c.write_output.new.files in
+    let e = c.write_own.new.files in
     let h = c.next_part.new.src in
     let read = only-read g.F.Reads g.F.Files e h c.in_err-next.ensures.standing g.met.F.Files.names_stand g.met.F.Files.holders_stand g.met.F.Files.given_stands in
     let spec = c.args.spec.now in
     let written = c.args.written.now in
     let same : c.as_str.result.now ≡ next_name spec written = c.as_str.ensures.same ∙ c.in_ok-name.ensures ∙ ap (λ (n : ℕ). name_of spec.split spec.name (n + 1)) (ap (λ (ws : List Written). length ws) c.as_slice.ensures) in
     let f = live_files g.F.Reads c.args.files.now in
-    let d = document_with f spec (part_in f c.args.blocks.now c.args.part) in
-    let stands = subst (λ (n : List ℕ). WritesLayout (g.F.Files.names c.args.files.now) (g.F.Files.names c.write_output.new.files) n d) same (c.in_ok-done.ensures.writes told) in
+    let num : length c.as_slice.result.now + 1 ≡ length written + 1 = ap (λ (n : ℕ). n + 1) (ap (λ (ws : List Written). length ws) c.as_slice.ensures) in
+    let of : ℕ → Document = λ n. document_with f (own_spec spec n) (part_in f c.args.blocks.now c.args.part) in
+    let d = of (length written + 1) in
+    let stands = subst (λ (n : List ℕ). WritesLayout (g.F.Files.names c.args.files.now) (g.F.Files.names c.write_own.new.files) n d) same
+    (subst (λ (n : ℕ). WritesLayout (g.F.Files.names c.args.files.now) (g.F.Files.names c.write_own.new.files) c.as_str.result.now (of n)) num (c.in_ok-done.ensures.writes told)) in
     rw end.1 (subst (λ (names : Names). StandsInTurn (g.F.Files.names a) names (draft_of (next_name spec written) d ∷ [])) (sym read.names) (whole-in_turn (g.F.Files.names a) (g.F.Files.names e) (next_name spec written) d stands))
 
 pub returns-in_err-next-clause-kept : goal.returns-in_err-next-clause-kept
 returns-in_err-next-clause-kept g c =
     let a = c.args.files.now in
-    let e = c.write_output.new.files in
+    let e = c.write_own.new.files in
     let h = c.next_part.new.src in
     let read = only-read g.F.Reads g.F.Files e h c.in_err-next.ensures.standing g.met.F.Files.names_stand g.met.F.Files.holders_stand g.met.F.Files.given_stands in
     let spec = c.args.spec.now in
@@ -139,7 +149,7 @@ pub returns-in_err-next-clause-cause : goal.returns-in_err-next-clause-cause
 returns-in_err-next-clause-cause g c =
     let end = err_from_is_err_and c.from_residual-in_err-next.result c.from_residual-in_err-next.ensures.1 in
     let a = c.args.files.now in
-    let e = c.write_output.new.files in
+    let e = c.write_own.new.files in
     let h = c.next_part.new.src in
     let read = only-read g.F.Reads g.F.Files e h c.in_err-next.ensures.standing g.met.F.Files.names_stand g.met.F.Files.holders_stand g.met.F.Files.given_stands in
     rw (end.1, end.2)
@@ -150,15 +160,18 @@ returns-in_err-next-clause-cause g c =
 pub returns-clause-writes : goal.returns-clause-writes
 returns-clause-writes g c = λ told.
     let a = c.args.files.now in
-    let e = c.write_output.new.files in
+    let e = c.write_own.new.files in
     let h = c.next_part.new.src in
     let read = only-read g.F.Reads g.F.Files e h c.in_ok-next.ensures.standing g.met.F.Files.names_stand g.met.F.Files.holders_stand g.met.F.Files.given_stands in
     let spec = c.args.spec.now in
     let written = c.args.written.now in
     let same : c.as_str.result.now ≡ next_name spec written = c.as_str.ensures.same ∙ c.in_ok-name.ensures ∙ ap (λ (n : ℕ). name_of spec.split spec.name (n + 1)) (ap (λ (ws : List Written). length ws) c.as_slice.ensures) in
     let f = live_files g.F.Reads c.args.files.now in
-    let d = document_with f spec (part_in f c.args.blocks.now c.args.part) in
-    let stands = subst (λ (n : List ℕ). WritesLayout (g.F.Files.names c.args.files.now) (g.F.Files.names c.write_output.new.files) n d) same (c.in_ok-done.ensures.writes told) in
+    let num : length c.as_slice.result.now + 1 ≡ length written + 1 = ap (λ (n : ℕ). n + 1) (ap (λ (ws : List Written). length ws) c.as_slice.ensures) in
+    let of : ℕ → Document = λ n. document_with f (own_spec spec n) (part_in f c.args.blocks.now c.args.part) in
+    let d = of (length written + 1) in
+    let stands = subst (λ (n : List ℕ). WritesLayout (g.F.Files.names c.args.files.now) (g.F.Files.names c.write_own.new.files) n d) same
+    (subst (λ (n : ℕ). WritesLayout (g.F.Files.names c.args.files.now) (g.F.Files.names c.write_own.new.files) c.as_str.result.now (of n)) num (c.in_ok-done.ensures.writes told)) in
     let is_told = told-merge f c.args.blocks.now c.args.part.lane told in
     let on = (c.in_ok-done.ensures.goes.told is_told).told in
     let wrote = c.in_ok-done.ensures.finds.told told in
@@ -175,19 +188,21 @@ returns-clause-finds g c =
     let next = c.in_ok-next.ensures.finds in
     record {
       begins = next.begins;
-      spec = ap (λ (files : List Attachment). let o : OutputSpec = record c.args.spec.now { front = record c.args.spec.now.front { attachments = files } } in o) c.new.ensures;
+      spec =
+          ap (λ (files : List Attachment). let o : OutputSpec = record c.write_own.new.spec { front = record c.write_own.new.spec.front { attachments = files } } in o) c.new.ensures
+          ∙ ap (λ (each : OutputSpec). let o : OutputSpec = record each { front = record each.front { attachments = [] } } in o) c.in_ok-done.ensures.spec;
       count = ap (λ (ws : List Written). length ws) c.in_ok-push.ensures.ok ∙ length-append c.args.written.now _;
       on = let one = done.on in let other = next.on in omega (arith, one, other);
     }
 
 pub returns-clause-goes : goal.returns-clause-goes
 returns-clause-goes g c =
-    goes-more g.F.Reads (data_of c.args.spec.now) c.args.files.now c.write_output.new.files c.next_part.new.src c.args.blocks.now c.write_output.new.blocks c.next_part.new.self c.in_ok-done.ensures.goes c.in_ok-next.ensures.goes
+    goes-more g.F.Reads (data_of c.args.spec.now) c.args.files.now c.write_own.new.files c.next_part.new.src c.args.blocks.now c.write_own.new.blocks c.next_part.new.self c.in_ok-done.ensures.goes c.in_ok-next.ensures.goes
 
 pub returns-clause-cause : goal.returns-clause-cause
 returns-clause-cause g c =
     let a = c.args.files.now in
-    let e = c.write_output.new.files in
+    let e = c.write_own.new.files in
     let h = c.next_part.new.src in
     let read = only-read g.F.Reads g.F.Files e h c.in_ok-next.ensures.standing g.met.F.Files.names_stand g.met.F.Files.holders_stand g.met.F.Files.given_stands in
     record {
@@ -198,7 +213,7 @@ returns-clause-cause g c =
 pub returns-clause-kept : goal.returns-clause-kept
 returns-clause-kept g c =
     let a = c.args.files.now in
-    let e = c.write_output.new.files in
+    let e = c.write_own.new.files in
     let h = c.next_part.new.src in
     let read = only-read g.F.Reads g.F.Files e h c.in_ok-next.ensures.standing g.met.F.Files.names_stand g.met.F.Files.holders_stand g.met.F.Files.given_stands in
     let spec = c.args.spec.now in

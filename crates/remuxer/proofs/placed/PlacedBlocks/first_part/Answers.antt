@@ -84,7 +84,7 @@ returns-clause-finds g c =
     let paid = paid-of (live_files r a) p.merge m' (r.octets_read a) (r.octets_read b) next c.in_ok-ahead.ensures.pays in
     let places = subst (λ drives. Places drives m' p.cuts c' (Ok next)) c.as_slice.ensures c.in_ok-ahead.ensures.places in
     let first = begins r a b p m' c' same c.requires.gives c.in_ok-ahead.ensures.ready paid next c.requires.fresh c.in_ok-ahead.ensures.moves c.in_ok-ahead.ensures.gives places in
-    first-result r a b p m' c' same c.requires.gives c.in_ok-ahead.ensures.ready paid next c.next_part.new.src c.next_part.new.self c.next_part.result c.requires.fresh
+    first-result r a b p m' c' same c.requires.gives c.in_ok-ahead.ensures.ready paid next c.next_part.new.src c.next_part.new.self c.next_part.result c.requires.fresh.start
     (λ none. elim c.else-is_none.branch [
       | else-is_none-via-then-is_none+else-is_kept w ↦
           sym (ap is_kept (let gone = subst (λ (o : Option Ahead). Places p.drives m' p.cuts c' (Ok o)) none places in gone)) ∙ sym w.is_kept.ensures ∙ w.if-is_kept.false

@@ -48,5 +48,5 @@ returns-in-Some-start_in-clause-finds g c =
       begins = record { begins = (ahead.lends, is); early = subst (λ (n : ℕ). n * p.cuts.scale < 2 ^ 64) at inv.goes.gives.early };
       on = omega (arith, on);
       told = λ told. (inv.goes.told told).told;
-      found = λ told. begun-parts (live_files r b) p start was.lane ahead.lends is ∙ ap (λ (o : Option Ahead). parts_ahead (live_files r b) p (lane_of o)) (sym c.in-Some.is) ∙ inv.found told;
+      found = λ told. begun-parts (live_files r b) p start was.lane inv.goes.gives.limit ahead.lends is ahead.counts ∙ ap (λ (o : Option Ahead). parts_ahead (live_files r b) p (lane_of o)) (sym c.in-Some.is) ∙ inv.found told;
     }

@@ -19,9 +19,9 @@ returns-in_err-add_next-clause-takes g c = λ told.
     let inv = c.steps.invariant in
     let a = c.args.files.now in
     let b = c.steps.files in
-    let m = c.steps.blocks.merge in
+    let m = c.steps.blocks in
     let drafted = subst (λ (s : Split). StaysDraft g.F.Reads g.F.Files c.args.rules.now (rest_of_part (live_files g.F.Reads b) s c.args.start m) b c.add_next.new.files c.steps.self) inv.goes.split (c.in_err-add_next.ensures.takes (inv.goes.told told).told) in
-    rw end.1 (some-drafted g.F.Reads g.F.Files c.args.rules.now (split_in c.args.blocks.now) c.args.start a b c.add_next.new.files c.args.self.now c.steps.self c.args.blocks.now.merge m (inv.takes told) drafted)
+    rw end.1 (some-drafted g.F.Reads g.F.Files c.args.rules.now (split_in c.args.blocks.now) c.args.start a b c.add_next.new.files c.args.self.now c.steps.self c.args.blocks.now m (inv.takes told) drafted)
 
 -- the part is over
 pub returns-in-Over-clause-takes : goal.returns-in-Over-clause-takes
@@ -29,10 +29,10 @@ returns-in-Over-clause-takes g c = λ told.
     let inv = c.steps.invariant in
     let a = c.args.files.now in
     let b = c.steps.files in
-    let m = c.steps.blocks.merge in
+    let m = c.steps.blocks in
     let takes = rw c.in-Over.is at c.in_ok-add_next.ensures.takes in
     let rest = subst (λ (s : Split). TakesRest g.F.Reads g.F.Files c.args.rules.now s c.args.start [] b c.add_next.new.files c.steps.self c.add_next.new.self m c.add_next.new.blocks c.in-Over.ahead) inv.goes.split (takes (inv.goes.told told).told) in
-    rest-then g.F.Reads g.F.Files c.args.rules.now (split_in c.args.blocks.now) c.args.start a b c.add_next.new.files c.args.self.now c.steps.self c.add_next.new.self c.args.blocks.now.merge m c.add_next.new.blocks c.in-Over.ahead (inv.takes told) rest
+    rest-then g.F.Reads g.F.Files c.args.rules.now (split_in c.args.blocks.now) c.args.start a b c.add_next.new.files c.args.self.now c.steps.self c.add_next.new.self c.args.blocks.now m c.add_next.new.blocks c.in-Over.ahead (inv.takes told) rest
 
 pub returns-in-Over-clause-goes : goal.returns-in-Over-clause-goes
 returns-in-Over-clause-goes g c =
@@ -45,8 +45,8 @@ steps-preserved g c =
     let a = c.args.files.now in
     let b = c.steps.files in
     let e = c.add_next.new.files in
-    let m = c.steps.blocks.merge in
-    let m' = c.add_next.new.blocks.merge in
+    let m = c.steps.blocks in
+    let m' = c.add_next.new.blocks in
     let wrote = c.in_ok-add_next.ensures.writes in
     let found = rw c.in-Added.is at c.in_ok-add_next.ensures.finds in
     let taken = rw c.in-Added.is at c.in_ok-add_next.ensures.takes in
@@ -65,5 +65,5 @@ steps-preserved g c =
       writing = c.in_ok-add_next.ensures.cause.writing ∙ inv.writing;
       takes = λ told.
           let some = subst (λ (s : Split). TakesSome g.F.Reads g.F.Files c.args.rules.now s c.args.start b e c.steps.self c.add_next.new.self m m') inv.goes.split (taken (inv.goes.told told).told) in
-          some-then g.F.Reads g.F.Files c.args.rules.now (split_in c.args.blocks.now) c.args.start a b e c.args.self.now c.steps.self c.add_next.new.self c.args.blocks.now.merge m m' (inv.takes told) some;
+          some-then g.F.Reads g.F.Files c.args.rules.now (split_in c.args.blocks.now) c.args.start a b e c.args.self.now c.steps.self c.add_next.new.self c.args.blocks.now m m' (inv.takes told) some;
     }

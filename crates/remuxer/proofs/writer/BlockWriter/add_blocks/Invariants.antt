@@ -18,7 +18,7 @@ invariant-steps g l = record {
   reading : g.F.Reads.reading_faults l.files ≡ g.F.Reads.reading_faults l.initial.files;
   writing : g.F.Files.writing_faults l.files ≡ g.F.Files.writing_faults l.initial.files;
   takes : IsTold (live_files g.F.Reads l.initial.files) l.initial.blocks.merge
-      → TakesSome g.F.Reads g.F.Files l.rules (split_in l.initial.blocks) l.start l.initial.files l.files l.initial.self l.self l.initial.blocks.merge l.blocks.merge;
+      → TakesSome g.F.Reads g.F.Files l.rules (split_in l.initial.blocks) l.start l.initial.files l.files l.initial.self l.self l.initial.blocks l.blocks;
 }
 
 abbrev pub decreases-steps : goal.decreases-steps

@@ -10,7 +10,8 @@ use Rattle.time_merge.proofs.QueueLemmas.{count-kept, steps-lane, told-kept}
 use Rattle.remuxer.specs.Placed.{PlacesOne}
 use Rattle.remuxer.specs.Places.{block_lent, in_part_from, split_in}
 use Rattle.remuxer.proofs.NextLemmas.{paid-of, read-goes}
-use Rattle.remuxer.proofs.StepLemmas.{gives-same, is-same, lane-is, not-same, on_to, other-start, over-found, same-in, split-same, step-gives, step-left, step-one, step-other, step-same, step-split}
+use Rattle.remuxer.proofs.PartLemmas.{fits-of}
+use Rattle.remuxer.proofs.StepLemmas.{gives-same, is-same, lane-is, not-same, on_to, other-start, over-found, same-in, same-load, split-same, step-gives, step-left, step-one, step-other, step-same, step-split}
 use Rattle.remuxer.proofs.TakingLemmas.{only-read, over-ahead, over-ended, part-next, read-drafted, some-taken, turn-drafted, turn-goes, turn-keeps, turn-left, turn-takes}
 use Rattle.remuxer.proofs.writer.BlockWriter.add_next.Goals as goal
 
@@ -49,7 +50,7 @@ returns-in_default-clause-goes g c =
 pub returns-in_default-clause-finds : goal.returns-in_default-clause-finds
 returns-in_default-clause-finds g c =
     let steps = rw c.in_default.is at c.in_ok-next.ensures.moves.steps in
-    (record { stands = record { stands = steps.ended; end = tt }; on = steps.on })
+    (record { stands = steps.ended; on = steps.on })
 
 -- ---- it stands in another part, or in none
 
@@ -141,14 +142,16 @@ returns-in_err-add_lent-clause-takes g c =
     let can = step-gives f p m' c' next c.requires.can.gives moves.keeps moves.steps its (live_files g.F.Reads b) c.in_ok-next.ensures.ready in
     let same = is-same next.place (sym c.if-not-is_same.ensures) in
     let uncut = step-same f p m' c' next c.requires.can.gives moves.keeps moves.steps its c.args.start c.requires.within.started same in
+    let more = same-load f p m' c' next c.requires.can.gives moves.keeps moves.steps its c.args.start c.requires.within.started same in
+    let fits = fits-of p.cuts.size p.cuts.spec c.requires.can.gives.limit in
     let x = block_lent next.lane moves.steps.queue.lane in
     let lane = lane-is m' next.lane moves.steps.queue c.lane-lane.result.now moves.steps.here c.lane-lane.ensures in
     rw q.1 (λ told.
     let gives = rw c.in-Some.is at c.in_ok-next.ensures.gives told in
     let left_is = step-left f p m' c' next c.requires.can.gives moves.keeps moves.steps its gives.blocks in
-    let first = part-next (split_in p) c.args.start x (left f p.merge) (left f m') left_is uncut ∙ ap (λ (l : LaneSeen). in_part c.args.start (block_lent next.lane l) ∷ in_part_from (split_in p) c.args.start [] (left f m')) lane in
+    let first = part-next (split_in p) fits c.args.start p.cuts.load c'.load x (left f p.merge) (left f m') left_is uncut more ∙ ap (λ (l : LaneSeen). in_part c.args.start (block_lent next.lane l) ∷ in_part_from (split_in p) c.args.start c'.load [] (left f m')) lane in
     turn-drafted g.F.Reads g.F.Files c.args.rules.now a b e c.args.self.now c.add_lent.new.self p (on_to p m' c') read c.requires.can.apart moves.keeps can c.in_err-add_lent.ensures.writes.kept
-    (in_part_from (split_in p) c.args.start []) (in_part c.args.start (block_lent next.lane c.lane-lane.result.now)) first c.in_err-add_lent.ensures.takes)
+    (in_part_from (split_in p) c.args.start p.cuts.load []) (in_part_from (split_in p) c.args.start c'.load []) (in_part c.args.start (block_lent next.lane c.lane-lane.result.now)) first c.in_err-add_lent.ensures.takes)
 
 pub returns-in_err-add_lent-clause-writes : goal.returns-in_err-add_lent-clause-writes
 returns-in_err-add_lent-clause-writes g c =
@@ -190,16 +193,18 @@ returns-clause-takes g c = λ told.
     let can = step-gives f p m' c' next c.requires.can.gives moves.keeps moves.steps its (live_files g.F.Reads b) c.in_ok-next.ensures.ready in
     let same = is-same next.place (sym c.if-not-is_same.ensures) in
     let uncut = step-same f p m' c' next c.requires.can.gives moves.keeps moves.steps its c.args.start c.requires.within.started same in
+    let more = same-load f p m' c' next c.requires.can.gives moves.keeps moves.steps its c.args.start c.requires.within.started same in
+    let fits = fits-of p.cuts.size p.cuts.spec c.requires.can.gives.limit in
     let x = block_lent next.lane moves.steps.queue.lane in
     let lane = lane-is m' next.lane moves.steps.queue c.lane-lane.result.now moves.steps.here c.lane-lane.ensures in
     let gives = rw c.in-Some.is at c.in_ok-next.ensures.gives told in
     let left_is = step-left f p m' c' next c.requires.can.gives moves.keeps moves.steps its gives.blocks in
-    let first = part-next (split_in p) c.args.start x (left f p.merge) (left f m') left_is uncut ∙ ap (λ (l : LaneSeen). in_part c.args.start (block_lent next.lane l) ∷ in_part_from (split_in p) c.args.start [] (left f m')) lane in
+    let first = part-next (split_in p) fits c.args.start p.cuts.load c'.load x (left f p.merge) (left f m') left_is uncut more ∙ ap (λ (l : LaneSeen). in_part c.args.start (block_lent next.lane l) ∷ in_part_from (split_in p) c.args.start c'.load [] (left f m')) lane in
     let kept = c.in_ok-add_lent.ensures.writes.kept in
-    some-taken g.F.Reads g.F.Files c.args.rules.now (split_in p) c.args.start a e c.args.self.now c.add_lent.new.self p.merge m' x left_is uncut
+    some-taken g.F.Reads g.F.Files c.args.rules.now (split_in p) fits c.args.start a e c.args.self.now c.add_lent.new.self p (on_to p m' c') x left_is uncut more
     (turn-left g.F.Reads g.F.Files c.args.rules.now a b e c.args.self.now c.add_lent.new.self p (on_to p m' c') read c.requires.can.apart moves.keeps can kept) c.in_ok-add_lent.ensures.count
     (turn-takes g.F.Reads g.F.Files c.args.rules.now a b e c.args.self.now c.add_lent.new.self p (on_to p m' c') read c.requires.can.apart moves.keeps can kept
-    (in_part_from (split_in p) c.args.start []) (in_part c.args.start (block_lent next.lane c.lane-lane.result.now)) first c.in_ok-add_lent.ensures.takes)
+    (in_part_from (split_in p) c.args.start p.cuts.load []) (in_part_from (split_in p) c.args.start c'.load []) (in_part c.args.start (block_lent next.lane c.lane-lane.result.now)) first c.in_ok-add_lent.ensures.takes)
 
 pub returns-clause-writes : goal.returns-clause-writes
 returns-clause-writes g c =

@@ -41,7 +41,7 @@ returns-in_err-add_lent-clause-takes g c = λ told.
     let k = c.in-Some.lane in
     let begins = rw c.in-Some.is at c.requires.begins in
     let one = lent-one m k begins.0.queue begins.0.here ∙ ap (λ (l : LaneSeen). block_lent k l ∷ []) (lane-is m k begins.0.queue c.lane.result.now begins.0.here c.lane.ensures) in
-    rw p.1 (rw c.in-Some.is (first-drafted g.F.Reads g.F.Files c.args.rules.now (split_in c.args.blocks.now) c.args.part.start c.args.files.now c.add_lent.new.files c.args.self.now (block_lent k c.lane.result.now) (lent_at m (Some k)) (left (live_files g.F.Reads c.args.files.now) m) one c.in_err-add_lent.ensures.takes))
+    rw p.1 (rw c.in-Some.is (first-drafted g.F.Reads g.F.Files c.args.rules.now (split_in c.args.blocks.now) c.args.part.start c.args.blocks.now.cuts.load c.args.files.now c.add_lent.new.files c.args.self.now (block_lent k c.lane.result.now) (lent_at m (Some k)) (left (live_files g.F.Reads c.args.files.now) m) one c.in_err-add_lent.ensures.takes))
 
 pub add_blocks-requires-clause-can : goal.add_blocks-requires-clause-can
 add_blocks-requires-clause-can g c =

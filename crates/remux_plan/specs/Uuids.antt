@@ -1,0 +1,38 @@
+-- The identifiers of Segments in an output: RFC 9559, sections 5.1.2 (Info Element) and 17 (Linked Segments). Which output gets which is this project's.
+use Rattle.std.specs.Prelude.{ℕ, zero, suc, ◌-◌, Bool, if◌then◌else◌, List, [], ◌∷◌, ◌++◌, Option, None}
+use Rattle.std.specs.List.{slice_get}
+use Rattle.byteorder.specs.Endian.{big_bytes}
+use Rattle.mkv_schema.specs.declared.ids.TheConstants.{SEGMENT_UUID, PREV_UUID, NEXT_UUID}
+use Rattle.tree_format.specs.Node.{Node, leaf, children, with_children}
+use Rattle.tree_format.specs.Children.{given}
+use Rattle.remux_plan.specs.declared.uuids.PartUuids.{PartUuids}
+
+-- the identifier of the output of this number, from 1 on, where it is given
+abbrev pub uuid_at : List ℕ → ℕ → Option ℕ
+uuid_at uuids zero = None
+uuid_at uuids (suc k) = slice_get uuids k
+
+-- Those of the output of this number. It has its own; where outputs are linked, it names those of the outputs beside it, whether these are
+-- written or not.
+abbrev pub uuids_at : List ℕ → Bool → ℕ → PartUuids
+uuids_at uuids link number = record {
+  own = uuid_at uuids number;
+  before = if link then uuid_at uuids (number - 1) else None;
+  next = if link then uuid_at uuids (suc number) else None;
+}
+
+-- an identifier in its 16 octets, the highest first
+abbrev pub uuid_leaf : ℕ → ℕ → Node
+uuid_leaf id uuid = leaf id 0 (big_bytes 16 uuid)
+
+abbrev pub uuid_elements : PartUuids → List Node
+uuid_elements u = given (uuid_leaf SEGMENT_UUID) u.own ++ (given (uuid_leaf PREV_UUID) u.before ++ given (uuid_leaf NEXT_UUID) u.next)
+
+-- Elements behind the first of a list
+abbrev pub behind_first : List Node → List Node → List Node
+behind_first more [] = []
+behind_first more (n ∷ ns) = n ∷ (more ++ ns)
+
+-- An Info with these identifiers: they stand behind its first child, which is the TimestampScale.
+unfoldable pub with_uuids : PartUuids → Node → Node
+with_uuids u info = with_children info (behind_first (uuid_elements u) (children info))
