@@ -1,6 +1,5 @@
 pub mod InputsLemmas
 pub mod NamesLemmas
 pub mod TextLemmas
-pub mod TimesLemmas
 pub mod TrackLemmas
 pub mod TextFacts

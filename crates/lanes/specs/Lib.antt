@@ -7,7 +7,6 @@ pub mod Walks
 pub mod Lent
 pub mod Placed
 pub mod Times
-pub mod Frames
 pub mod Ends
 pub mod Survey
 pub mod Walked

@@ -5,7 +5,6 @@
 
 mod ends;
 mod found;
-mod frames;
 mod lane;
 mod laws;
 mod place;

@@ -69,7 +69,6 @@ fn read_file<R: Reads>(
         tags: kept_tree(keeps_tags(words), tags),
         keep: keep_of(words),
         shift: unmoved(words),
-        times: List::new(alloc),
     })
 }
 
@@ -103,7 +102,6 @@ fn read_text<R: Reads>(
         tags: None,
         keep: keep_of(words),
         shift: unmoved(words),
-        times: List::new(alloc),
     })
 }
 

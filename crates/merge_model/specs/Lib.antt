@@ -5,4 +5,3 @@ pub mod Links
 pub mod Merged
 pub mod Ticks
 pub mod FileLinks
-pub mod Timed

@@ -9,4 +9,3 @@ pub mod FileLemmas
 pub mod SplitLemmas
 mod LinkLemmas
 pub mod PlaceLemmas
-pub mod TimesLemmas
