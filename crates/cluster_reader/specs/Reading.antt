@@ -96,11 +96,12 @@ pub record Counts (old new : Reading) (result : Result Step ReadEnd) : Type 0 wh
 
 -- ---- where it stands
 
--- It reads the same Segment of the same file.
+-- It reads the same Segment of the same file, and doesn't go back.
 pub record IsSameSegment (old new : Reading) : Type 0 where
   pub file : new.file ≡ old.file
   pub scale : new.scale ≡ old.scale
   pub end : new.place.end ≡ old.place.end
+  pub forwards : old.place.at ≤ new.place.at
 
 -- A call goes on in the same Segment, and not past its end. The block that it gives can be written.
 pub record Moves (old new : Reading) (result : Result Step ReadEnd) : Type 0 where

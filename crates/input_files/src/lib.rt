@@ -2,7 +2,7 @@
 
 //! The input files of a merge: all of them are opened, or none, and they are closed together; the first of which an edit is
 //! pending; and the text files among them, read whole, SubRip as a track and entries, simple chapters as a Chapters Element
-//! (RFC 9559, sections 5.1.4, Tracks Element, and 5.1.7, Chapters Element).
+//! (RFC 9559, sections 5.1.4, Tracks Element, and 5.1.7, Chapters Element), and times of frames.
 
 mod chapter_file;
 mod files;
@@ -13,14 +13,18 @@ mod names;
 mod pending;
 mod reading;
 mod refusal;
+mod text_files;
+mod times_file;
 mod track;
 
 pub use chapter_file::{ChapterFile, read_chapter_file};
 pub use files::{close_all, open_all};
 pub use inputs_end::InputsEnd;
-pub use limits::{MOST_OF_CHAPTERS, MOST_OF_SRT};
+pub use limits::{MOST_OF_ALL_TIMES, MOST_OF_CHAPTERS, MOST_OF_SRT, MOST_OF_TIMES};
 pub use names::{begins_ebml, is_srt_name};
 pub use pending::first_pending;
-pub use reading::{read_chapters, read_entries};
+pub use reading::{read_chapters, read_entries, read_track_times};
 pub use refusal::{TextFileEnd, TextRefusal};
+pub use text_files::{TextFiles, read_text_files};
+pub use times_file::{TimesFile, TimesGiven, TimesName, read_times_files, times_named};
 pub use track::text_tracks;

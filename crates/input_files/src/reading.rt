@@ -6,11 +6,13 @@ ghost use Rattle.mkv_io.specs.Faults.{HasCause, counted};
 ghost use Rattle.mkv_io.specs.Sources.{IfTold, IsLive, OnlyReads, file_size};
 ghost use Rattle.ebml_tree.specs.Building.{IsRead};
 ghost use Rattle.srt_texts.specs.Reading.{AreWithin};
-ghost use Rattle.input_files.specs.TextFile.{ReadsText, chapter_text, is_text_fault, octets_within, srt_text};
+ghost use Rattle.ext_times.specs.Listing.{listing};
+ghost use Rattle.input_files.specs.TextFile.{ReadsText, chapter_text, is_text_fault, octets_within, srt_text, text_file};
 
 use crate::limits::{MOST_OF_CHAPTERS, MOST_OF_SRT};
 use crate::refusal::{TextFileEnd, TextRefusal};
 use ebml_tree::Tree;
+use ext_times::{Times, read_times};
 use mkv_io::{Bytes, FileId, List, Reads};
 use srt_chapters::{Entry, read_simple, read_srt};
 use std::alloc::Global;
@@ -81,4 +83,22 @@ pub fn read_chapters<R: Reads>(
 {
     let octets = read_whole(alloc, src, file, MOST_OF_CHAPTERS)?;
     Ok(read_simple(alloc, octets.as_slice())?)
+}
+
+/// The times of frames that a file of at most so many octets lists; or what refuses it. It is read by one call, unless it is too
+/// long.
+pub fn read_track_times<R: Reads>(
+    alloc: Global,
+    src: &mut R,
+    file: FileId,
+    most: u64,
+) -> Result<Times, TextFileEnd>
+    requires { IsLive R.Reads src.old file }
+    ensures exact { IfTold R.Reads src.old file (λ bytes. ReadsText (text_file most listing bytes) result) }
+    ensures only { OnlyReads R.Reads src.old src.new }
+    ensures cause { HasCause is_text_fault (R.reading_faults src.old) (R.reading_faults src.new) result }
+    ensures octets { R.octets_read src.new ≤ R.octets_read src.old + octets_within most (file_size R.Reads src.old file) }
+{
+    let octets = read_whole(alloc, src, file, most)?;
+    Ok(read_times(alloc, octets.as_slice())?)
 }

@@ -1,5 +1,9 @@
 -- The end of a file, one block at a time.
-use Rattle.std.proofs.Common.{◌≡◌, ◌≤◌, ℕ, suc, ◌+◌, max, Bool, true, false, if◌then◌else◌, List, [], ◌∷◌, length, drop, filter, Some, None, refl, sym, ◌∙◌, ap, eq-eqb, ne_eqb, arith}
+use Rattle.std.proofs.Common.{◌≡◌, ◌≤◌, ℕ, zero, suc, ◌+◌, max, Bool, true, false, if◌then◌else◌, List, [], ◌∷◌, ◌++◌, ◌<◌, length, take, drop, get_or, filter, replicate, Option, Some, None, refl, sym, ◌∙◌, ap, ap₂, add-zero, append-nil, eq-eqb, ne_eqb, arith}
+use Rattle.std.specs.List.{All}
+use Rattle.std.proofs.Math.ListN.{set}
+use Rattle.std.proofs.lemmas.List.{take_all}
+use Rattle.std.proofs.lemmas.List.Elements.{All-cons, All-head, All-nil, All-tail}
 use Rattle.std.specs.Prelude.{◌==◌, is_some, ◌||◌}
 use Rattle.mkv_io.specs.declared.damage.Damage.{Damage}
 use Rattle.block_format.specs.Block.{Block}
@@ -7,56 +11,177 @@ use Rattle.block_format.specs.Content.{frames_cut}
 use Rattle.block_format.specs.Events.{Event, block, blocks_of, last_of}
 use Rattle.block_records.specs.Buffered.{Buffered, block_of}
 use Rattle.cluster_reader.specs.Reading.{damage_event}
-use Rattle.merge_model.specs.Links.{delayed}
+use Rattle.ext_times.specs.Listing.{Listing}
+use Rattle.merge_model.specs.Links.{Placing, delayed}
 use Rattle.merge_model.specs.Ends.{block_end, end_at, last_end}
-use Rattle.merge_model.specs.FileLinks.{placing_of}
+use Rattle.merge_model.specs.FileLinks.{listing_of, placing_of}
+use Rattle.merge_model.specs.Timed.{time_for, timed}
 use Rattle.merge_model.specs.declared.link.Link.{Link}
 use Rattle.merge_model.specs.declared.link.Link.TheVariants.{Track, Entries}
 use Rattle.merge_model.specs.declared.link.TrackLink.{TrackLink}
+use Rattle.lanes.specs.Frames.{counted_for, frames_of, link_frames}
+use Rattle.lanes.specs.Placed.{at_time}
 use Rattle.lanes.specs.Ends.{end_of, ends_of, lasting_for, text_end, texts_end, track_end}
 
 -- ---- one link
 
-last_end-block : (t : TrackLink) (b : Block) (bs : List Block) → last_end (placing_of t) (filter (λ (x : Block). x.track == t.number) (b ∷ bs)) ≡ max (track_end t b) (last_end (placing_of t) (filter (λ (x : Block). x.track == t.number) bs))
-last_end-block t b bs = split (b.track == t.number)
+-- no block ends nowhere
+last_end-none : (p : Placing) (times : Option Listing) (k : ℕ) → last_end p (timed times k []) ≡ 0
+last_end-none p None k = refl
+last_end-none p (Some l) k = refl
+
+last_end-first : (p : Placing) (times : Option Listing) (k : ℕ) (b : Block) (bs : List Block) → last_end p (timed times k (b ∷ bs)) ≡ max (block_end p (record b { time = time_for times k b.time })) (last_end p (timed times (k + length b.frames) bs))
+last_end-first p None k b bs = refl
+last_end-first p (Some l) k b bs = refl
+
+-- the blocks of a track
+abbrev of_track : TrackLink → List Block → List Block
+of_track t bs = filter (λ (x : Block). x.track == t.number) bs
+
+-- where they end, behind so many frames
+abbrev end_from : TrackLink → ℕ → List Block → ℕ
+end_from t k bs = last_end (placing_of t) (timed (listing_of t) k (of_track t bs))
+
+least : (n : ℕ) → n ≡ max 0 n
+least n = omega arith
+
+last_end-block : (t : TrackLink) (k : ℕ) (b : Block) (bs : List Block) → end_from t k (b ∷ bs) ≡ max (track_end t k b) (end_from t (k + frames_of t b) bs)
+last_end-block t k b bs = split (b.track == t.number)
   where
-    split : (is : Bool) → last_end (placing_of t) (if is then b ∷ filter (λ (x : Block). x.track == t.number) bs else filter (λ (x : Block). x.track == t.number) bs)
-        ≡ max (if is then block_end (placing_of t) b else 0) (last_end (placing_of t) (filter (λ (x : Block). x.track == t.number) bs))
-    split true = refl
-    split false = omega arith
+    split : (is : Bool) → last_end (placing_of t) (timed (listing_of t) k (if is then b ∷ filter (λ (x : Block). x.track == t.number) bs else filter (λ (x : Block). x.track == t.number) bs))
+        ≡ max (if is then block_end (placing_of t) (at_time t k b) else 0) (last_end (placing_of t) (timed (listing_of t) (k + (if is then length b.frames else 0)) (filter (λ (x : Block). x.track == t.number) bs)))
+    split true = last_end-first (placing_of t) (listing_of t) k b (of_track t bs)
+    split false =
+        ap (λ (n : ℕ). last_end (placing_of t) (timed (listing_of t) n (filter (λ (x : Block). x.track == t.number) bs))) (sym (add-zero k))
+        ∙ least (last_end (placing_of t) (timed (listing_of t) (k + 0) (filter (λ (x : Block). x.track == t.number) bs)))
 
 max-mix : (a b c d : ℕ) → max (max a b) (max c d) ≡ max (max a c) (max b d)
 max-mix a b c d = omega arith
 
 -- ---- all links
 
-end_of-block : (b : Block) (es : List Event) (links : List Link) → end_of (block b ∷ es) links ≡ max (ends_of b links) (end_of es links)
-end_of-block b es [] = refl
-end_of-block b es (Track t ∷ links) =
-    ap (λ (n : ℕ). max n (end_of (block b ∷ es) links)) (last_end-block t b (blocks_of es))
-    ∙ ap (λ (n : ℕ). max (max (track_end t b) (last_end (placing_of t) (filter (λ (x : Block). x.track == t.number) (blocks_of es)))) n) (end_of-block b es links)
-    ∙ max-mix (track_end t b) (last_end (placing_of t) (filter (λ (x : Block). x.track == t.number) (blocks_of es))) (ends_of b links) (end_of es links)
-end_of-block b es (Entries e ∷ links) =
-    ap (λ (n : ℕ). max (text_end e) n) (end_of-block b es links)
-    ∙ mix (text_end e) (ends_of b links) (end_of es links)
+-- where a link ends, behind so many frames of its track
+abbrev end_behind : List Event → ℕ → Link → ℕ
+end_behind es k (Track t) = end_from t k (blocks_of es)
+end_behind es k (Entries e) = text_end e
+
+-- the end of a file of which so much is left, behind so many frames of each link's track
+abbrev pub ends_from : List Event → List ℕ → List Link → ℕ
+ends_from es [] links = 0
+ends_from es (k ∷ counts) [] = 0
+ends_from es (k ∷ counts) (link ∷ links) = max (end_behind es k link) (ends_from es counts links)
+
+-- no frame was counted
+pub ends-whole : (es : List Event) (links : List Link) → ends_from es (replicate (length links) 0) links ≡ end_of es links
+ends-whole es [] = refl
+ends-whole es (Track t ∷ links) = ap (λ (n : ℕ). max (end_from t 0 (blocks_of es)) n) (ends-whole es links)
+ends-whole es (Entries e ∷ links) = ap (λ (n : ℕ). max (text_end e) n) (ends-whole es links)
+
+ends-block : (b : Block) (es : List Event) (counts : List ℕ) (links : List Link) → ends_from (block b ∷ es) counts links ≡ max (ends_of b counts links) (ends_from es (counted_for b counts links) links)
+ends-block b es [] links = refl
+ends-block b es (k ∷ counts) [] = refl
+ends-block b es (k ∷ counts) (Track t ∷ links) =
+    ap (λ (n : ℕ). max n (ends_from (block b ∷ es) counts links)) (last_end-block t k b (blocks_of es))
+    ∙ ap (λ (n : ℕ). max (max (track_end t k b) (end_from t (k + frames_of t b) (blocks_of es))) n) (ends-block b es counts links)
+    ∙ max-mix (track_end t k b) (end_from t (k + frames_of t b) (blocks_of es)) (ends_of b counts links) (ends_from es (counted_for b counts links) links)
+ends-block b es (k ∷ counts) (Entries e ∷ links) =
+    ap (λ (n : ℕ). max (text_end e) n) (ends-block b es counts links)
+    ∙ mix (text_end e) (ends_of b counts links) (ends_from es (counted_for b counts links) links)
   where
     mix : (a x y : ℕ) → max a (max x y) ≡ max (max 0 x) (max a y)
     mix a x y = omega arith
 
-end_of-damage : (last : Bool) (d : Damage) (es : List Event) (links : List Link) → end_of (damage_event last d ∷ es) links ≡ end_of es links
-end_of-damage last d es [] = refl
-end_of-damage true d es (Track t ∷ links) = ap (λ (n : ℕ). max (last_end (placing_of t) (filter (λ (x : Block). x.track == t.number) (blocks_of es))) n) (end_of-damage true d es links)
-end_of-damage false d es (Track t ∷ links) = ap (λ (n : ℕ). max (last_end (placing_of t) (filter (λ (x : Block). x.track == t.number) (blocks_of es))) n) (end_of-damage false d es links)
-end_of-damage last d es (Entries e ∷ links) = ap (λ (n : ℕ). max (text_end e) n) (end_of-damage last d es links)
-
--- the texts end no later
-end_of-texts : (es : List Event) (links : List Link) → texts_end links ≤ end_of es links
-end_of-texts es [] = omega arith
-end_of-texts es (Track t ∷ links) = let rest : texts_end links ≤ end_of es links = end_of-texts es links in omega arith
-end_of-texts es (Entries e ∷ links) = let rest : texts_end links ≤ end_of es links = end_of-texts es links in omega arith
+ends-damage : (last : Bool) (d : Damage) (es : List Event) (counts : List ℕ) (links : List Link) → ends_from (damage_event last d ∷ es) counts links ≡ ends_from es counts links
+ends-damage last d es [] links = refl
+ends-damage last d es (k ∷ counts) [] = refl
+ends-damage true d es (k ∷ counts) (Track t ∷ links) = ap (λ (n : ℕ). max (end_from t k (blocks_of es)) n) (ends-damage true d es counts links)
+ends-damage false d es (k ∷ counts) (Track t ∷ links) = ap (λ (n : ℕ). max (end_from t k (blocks_of es)) n) (ends-damage false d es counts links)
+ends-damage last d es (k ∷ counts) (Entries e ∷ links) = ap (λ (n : ℕ). max (text_end e) n) (ends-damage last d es counts links)
 
 pub texts-track : (t : TrackLink) (links : List Link) → texts_end (Track t ∷ links) ≡ texts_end links
-texts-track t links = omega arith
+texts-track t links = let none : last_end (placing_of t) (timed (listing_of t) 0 []) ≡ 0 = last_end-none (placing_of t) (listing_of t) 0 in omega arith
+
+-- where nothing is left, the texts alone
+ends-none : (counts : List ℕ) (links : List Link) → length counts ≡ length links → ends_from [] counts links ≡ texts_end links
+ends-none [] [] each = refl
+ends-none [] (link ∷ links) each = absurd (omega arith)
+ends-none (k ∷ counts) [] each = absurd (omega arith)
+ends-none (k ∷ counts) (Track t ∷ links) each =
+    let none : last_end (placing_of t) (timed (listing_of t) k []) ≡ 0 = last_end-none (placing_of t) (listing_of t) k in
+    let rest : ends_from [] counts links ≡ texts_end links = ends-none counts links (omega arith) in
+    let texts : texts_end (Track t ∷ links) ≡ texts_end links = texts-track t links in
+    omega arith
+ends-none (k ∷ counts) (Entries e ∷ links) each = ap (λ (n : ℕ). max (text_end e) n) (ends-none counts links (omega arith))
+
+-- the texts end no later
+ends-texts : (es : List Event) (links : List Link) → texts_end links ≤ end_of es links
+ends-texts es [] = omega arith
+ends-texts es (Track t ∷ links) =
+    let rest : texts_end links ≤ end_of es links = ends-texts es links in
+    let texts : texts_end (Track t ∷ links) ≡ texts_end links = texts-track t links in
+    omega arith
+ends-texts es (Entries e ∷ links) = let rest : texts_end links ≤ end_of es links = ends-texts es links in omega arith
+
+-- ---- counts
+
+pub none-counted : (count most : ℕ) → All (λ n. n ≤ most) (replicate count 0)
+none-counted zero most = All-nil (λ n. n ≤ most)
+none-counted (suc count) most = All-cons (λ n. n ≤ most) 0 (replicate count 0) (omega arith) (none-counted count most)
+
+pub more-counted : (counts : List ℕ) (most more : ℕ) → most ≤ more → All (λ n. n ≤ most) counts → All (λ n. n ≤ more) counts
+more-counted counts most more room all = λ k d lt. let small = all k d lt in omega arith
+
+-- there are as many as before, and none has grown by more than a block has frames
+pub counted-length : (b : Block) (counts : List ℕ) (links : List Link) → length (counted_for b counts links) ≡ length counts
+counted-length b [] links = refl
+counted-length b (n ∷ counts) [] = refl
+counted-length b (n ∷ counts) (link ∷ links) = ap suc (counted-length b counts links)
+
+link_frames-few : (b : Block) (link : Link) → length b.frames ≤ 256 → link_frames b link ≤ 256
+link_frames-few b (Entries e) few = omega arith
+link_frames-few b (Track t) few = split (b.track == t.number)
+  where
+    split : (is : Bool) → (if is then length b.frames else 0) ≤ 256
+    split true = few
+    split false = omega arith
+
+pub counted-few : (b : Block) (counts : List ℕ) (links : List Link) (most more : ℕ) → length b.frames ≤ 256 → most + 256 ≤ more → All (λ n. n ≤ most) counts → All (λ n. n ≤ more) (counted_for b counts links)
+counted-few b [] links most more few room all = All-nil (λ n. n ≤ more)
+counted-few b (n ∷ counts) [] most more few room all = λ k d lt. let small = all k d lt in omega arith
+counted-few b (n ∷ counts) (link ∷ links) most more few room all =
+    All-cons (λ n. n ≤ more) (n + link_frames b link) (counted_for b counts links)
+    (let small = All-head (λ n. n ≤ most) n counts all in omega (arith, link_frames-few b link few))
+    (counted-few b counts links most more few room (All-tail (λ n. n ≤ most) n counts all))
+
+-- one count after the other
+pub count-one : (b : Block) (counts : List ℕ) (links : List Link) (k : ℕ) (link : Link) (v : ℕ) → k < length counts → k < length links → link ≡ get_or links k link → v ≡ get_or counts k 0 + link_frames b link
+    → take (suc k) (set counts k v) ++ counted_for b (drop (suc k) (set counts k v)) (drop (suc k) links) ≡ take k counts ++ counted_for b (drop k counts) (drop k links)
+count-one b [] links k link v inside there is value = absurd (omega arith)
+count-one b (n ∷ counts) [] k link v inside there is value = absurd (omega arith)
+count-one b (n ∷ counts) (l ∷ links) zero link v inside there is value = ap (λ (x : ℕ). x ∷ counted_for b counts links) (value ∙ ap (λ (each : Link). n + link_frames b each) is)
+count-one b (n ∷ counts) (l ∷ links) (suc k) link v inside there is value = ap (λ (rest : List ℕ). n ∷ rest) (count-one b counts links k link v (omega arith) (omega arith) is value)
+
+pub left-one : (counts start : List ℕ) (k v : ℕ) → k < length counts → k < length start → drop k counts ≡ drop k start → drop (suc k) (set counts k v) ≡ drop (suc k) start
+left-one [] start k v inside there same = absurd (omega arith)
+left-one (n ∷ counts) [] k v inside there same = absurd (omega arith)
+left-one (n ∷ counts) (m ∷ start) zero v inside there same = cc
+left-one (n ∷ counts) (m ∷ start) (suc k) v inside there same = left-one counts start k v (omega arith) (omega arith) same
+
+pub value-left : (counts start : List ℕ) (k : ℕ) → k < length counts → k < length start → drop k counts ≡ drop k start → get_or counts k 0 ≡ get_or start k 0
+value-left [] start k inside there same = absurd (omega arith)
+value-left (n ∷ counts) [] k inside there same = absurd (omega arith)
+value-left (n ∷ counts) (m ∷ start) zero inside there same = cc
+value-left (n ∷ counts) (m ∷ start) (suc k) inside there same = value-left counts start k (omega arith) (omega arith) same
+
+none-behind : (counts : List ℕ) (k : ℕ) → length counts ≤ k → drop k counts ≡ []
+none-behind [] zero most = refl
+none-behind [] (suc k) most = refl
+none-behind (n ∷ counts) zero most = absurd (omega arith)
+none-behind (n ∷ counts) (suc k) most = none-behind counts k (omega arith)
+
+pub count-all : (b : Block) (counts : List ℕ) (links : List Link) (k : ℕ) → length counts ≤ k → take k counts ++ counted_for b (drop k counts) (drop k links) ≡ counts
+count-all b counts links k most =
+    ap₂ (λ (front left : List ℕ). front ++ counted_for b left (drop k links)) (take_all k counts most) (none-behind counts k most) ∙ append-nil counts
 
 -- ---- a block of the code
 
@@ -64,40 +189,53 @@ frames-long : (sizes body : List ℕ) → length (frames_cut sizes body) ≡ len
 frames-long [] body = refl
 frames-long (s ∷ sizes) body = ap suc (frames-long sizes (drop s body))
 
-here : (t : TrackLink) (b : Buffered) → b.head.track ≡ t.number → track_end t (block_of b) ≡ block_end (placing_of t) (block_of b)
-here t b is = ap (λ (x : Bool). if x then block_end (placing_of t) (block_of b) else 0) (eq-eqb b.head.track t.number is)
+pub buffered-few : (b : Buffered) → length b.sizes ≤ 256 → length (block_of b).frames ≤ 256
+buffered-few b few = let same : length (block_of b).frames ≡ length b.sizes = frames-long b.sizes b.body in omega arith
 
-pub end-other : (t : TrackLink) (b : Buffered) → (b.head.track ≡ t.number → ⊥) → track_end t (block_of b) ≡ 0
-end-other t b is = ap (λ (x : Bool). if x then block_end (placing_of t) (block_of b) else 0) (ne_eqb b.head.track t.number is)
+here : (t : TrackLink) (k : ℕ) (b : Buffered) → b.head.track ≡ t.number → track_end t k (block_of b) ≡ block_end (placing_of t) (at_time t k (block_of b))
+here t k b is = ap (λ (x : Bool). if x then block_end (placing_of t) (at_time t k (block_of b)) else 0) (eq-eqb b.head.track t.number is)
 
-pub end-dropped : (t : TrackLink) (b : Buffered) → b.head.track ≡ t.number → delayed (placing_of t) (block_of b) ≡ None → track_end t (block_of b) ≡ 0
-end-dropped t b is none = here t b is ∙ ap (end_at (placing_of t) (block_of b)) none
+pub end-other : (t : TrackLink) (k : ℕ) (b : Buffered) → (b.head.track ≡ t.number → ⊥) → track_end t k (block_of b) ≡ 0
+end-other t k b is = ap (λ (x : Bool). if x then block_end (placing_of t) (at_time t k (block_of b)) else 0) (ne_eqb b.head.track t.number is)
 
-pub end-taken : (t : TrackLink) (b : Buffered) (time n frames : ℕ) → b.head.track ≡ t.number → delayed (placing_of t) (block_of b) ≡ Some time → n ≡ lasting_for b.head.duration t.default_duration frames → frames ≡ length b.sizes → track_end t (block_of b) ≡ time + n
-end-taken t b time n frames is at lasts long =
-    here t b is
-    ∙ ap (end_at (placing_of t) (block_of b)) at
-    ∙ ap (λ (k : ℕ). time + lasting_for b.head.duration t.default_duration k) (frames-long b.sizes b.body ∙ sym long)
-    ∙ ap (λ (k : ℕ). time + k) (sym lasts)
+pub end-dropped : (t : TrackLink) (k : ℕ) (b : Buffered) → b.head.track ≡ t.number → delayed (placing_of t) (at_time t k (block_of b)) ≡ None → track_end t k (block_of b) ≡ 0
+end-dropped t k b is none = here t k b is ∙ ap (end_at (placing_of t) (at_time t k (block_of b))) none
+
+pub end-taken : (t : TrackLink) (k : ℕ) (b : Buffered) (time n frames : ℕ) → b.head.track ≡ t.number → delayed (placing_of t) (at_time t k (block_of b)) ≡ Some time → n ≡ lasting_for b.head.duration t.default_duration frames → frames ≡ length b.sizes → track_end t k (block_of b) ≡ time + n
+end-taken t k b time n frames is at lasts long =
+    here t k b is
+    ∙ ap (end_at (placing_of t) (at_time t k (block_of b))) at
+    ∙ ap (λ (m : ℕ). time + lasting_for b.head.duration t.default_duration m) (frames-long b.sizes b.body ∙ sym long)
+    ∙ ap (λ (m : ℕ). time + m) (sym lasts)
+
+-- how many frames a block of the code has of a track
+pub frames-here : (t : TrackLink) (b : Buffered) → b.head.track ≡ t.number → frames_of t (block_of b) ≡ length b.sizes
+frames-here t b is = ap (λ (x : Bool). if x then length (block_of b).frames else 0) (eq-eqb b.head.track t.number is) ∙ frames-long b.sizes b.body
+
+pub frames-other : (t : TrackLink) (b : Buffered) → (b.head.track ≡ t.number → ⊥) → frames_of t (block_of b) ≡ 0
+frames-other t b is = ap (λ (x : Bool). if x then length (block_of b).frames else 0) (ne_eqb b.head.track t.number is)
 
 -- ---- a step of the walk
 
-pub end-start : (start : List Event) (links : List Link) → max (texts_end links) (end_of start links) ≡ end_of start links
-end-start start links = let less : texts_end links ≤ end_of start links = end_of-texts start links in omega arith
+pub end-start : (start : List Event) (links : List Link) → max (texts_end links) (ends_from start (replicate (length links) 0) links) ≡ end_of start links
+end-start start links =
+    let less : texts_end links ≤ end_of start links = ends-texts start links in
+    let whole : ends_from start (replicate (length links) 0) links ≡ end_of start links = ends-whole start links in
+    omega arith
 
-pub end-block : (end now : ℕ) (b : Block) (old new start : List Event) (links : List Link) → max end (end_of old links) ≡ end_of start links → old ≡ block b ∷ new → now ≡ max end (ends_of b links) → max now (end_of new links) ≡ end_of start links
-end-block end now b old new start links sofar gives is =
-    let whole : end_of old links ≡ max (ends_of b links) (end_of new links) = ap (λ (es : List Event). end_of es links) gives ∙ end_of-block b new links in
-    (let same : max now (end_of new links) ≡ max end (end_of old links) = omega arith in same) ∙ sofar
+pub end-block : (end now : ℕ) (b : Block) (old new start : List Event) (counts : List ℕ) (links : List Link) → max end (ends_from old counts links) ≡ end_of start links → old ≡ block b ∷ new → now ≡ max end (ends_of b counts links) → max now (ends_from new (counted_for b counts links) links) ≡ end_of start links
+end-block end now b old new start counts links sofar gives is =
+    let whole : ends_from old counts links ≡ max (ends_of b counts links) (ends_from new (counted_for b counts links) links) = ap (λ (es : List Event). ends_from es counts links) gives ∙ ends-block b new counts links in
+    (let same : max now (ends_from new (counted_for b counts links) links) ≡ max end (ends_from old counts links) = omega arith in same) ∙ sofar
 
-pub end-damage : (end : ℕ) (last : Bool) (d : Damage) (old new start : List Event) (links : List Link) → max end (end_of old links) ≡ end_of start links → old ≡ damage_event last d ∷ new → max end (end_of new links) ≡ end_of start links
-end-damage end last d old new start links sofar gives =
-    ap (λ (n : ℕ). max end n) (sym (ap (λ (es : List Event). end_of es links) gives ∙ end_of-damage last d new links)) ∙ sofar
+pub end-damage : (end : ℕ) (last : Bool) (d : Damage) (old new start : List Event) (counts : List ℕ) (links : List Link) → max end (ends_from old counts links) ≡ end_of start links → old ≡ damage_event last d ∷ new → max end (ends_from new counts links) ≡ end_of start links
+end-damage end last d old new start counts links sofar gives =
+    ap (λ (n : ℕ). max end n) (sym (ap (λ (es : List Event). ends_from es counts links) gives ∙ ends-damage last d new counts links)) ∙ sofar
 
-pub end-all : (end : ℕ) (old start : List Event) (links : List Link) → texts_end links ≤ end → max end (end_of old links) ≡ end_of start links → old ≡ [] → end ≡ end_of start links
-end-all end old start links texts sofar none =
-    let rest : end_of old links ≡ texts_end links = ap (λ (es : List Event). end_of es links) none in
-    (let same : end ≡ max end (end_of old links) = omega arith in same) ∙ sofar
+pub end-all : (end : ℕ) (old start : List Event) (counts : List ℕ) (links : List Link) → length counts ≡ length links → texts_end links ≤ end → max end (ends_from old counts links) ≡ end_of start links → old ≡ [] → end ≡ end_of start links
+end-all end old start counts links each texts sofar none =
+    let rest : ends_from old counts links ≡ texts_end links = ap (λ (es : List Event). ends_from es counts links) none ∙ ends-none counts links each in
+    (let same : end ≡ max end (ends_from old counts links) = omega arith in same) ∙ sofar
 
 pub stopped-block : (s : Bool) (b : Block) (old new start : List Event) → (s || is_some (last_of old)) ≡ is_some (last_of start) → old ≡ block b ∷ new → (s || is_some (last_of new)) ≡ is_some (last_of start)
 stopped-block s b old new start sofar gives = ap (λ (es : List Event). s || is_some (last_of es)) (sym gives) ∙ sofar

@@ -50,9 +50,9 @@ here-kept : (f h : LiveFiles) (w : Walk) (link : Link) → KeepsLink f h link �
 here-kept f h w (Entries e) same is = refl
 here-kept f h w (Track t) same is = step w.cursor
   where
-    step : (c : Option Reading) → track_left h t w.stopped c ≡ track_left f t w.stopped c
+    step : (c : Option Reading) → track_left h t w.frames w.stopped c ≡ track_left f t w.frames w.stopped c
     step None = link-kept f h (Track t) same is
-    step (Some c) = ap (λ (bytes : List ℕ). track_behind t w.stopped (left_of bytes c)) (octets-kept f h t.file.n same is.live)
+    step (Some c) = ap (λ (bytes : List ℕ). track_behind t w.frames w.stopped (left_of bytes c)) (octets-kept f h t.file.n same is.live)
 
 length-kept : (f h : LiveFiles) (link : Link) → KeepsLink f h link → IsOpenLink f link → file_length h link ≡ file_length f link
 length-kept f h (Track t) same is = same.size is.live
@@ -103,6 +103,7 @@ stands-kept old new l keeps ready = record {
     here = at-kept old new w.cursor (slice_get l.links w.at) (λ one is. all-at (KeepsLink old new) l.links w.at one keeps is) ready.here;
     told = ready.told;
     stopped = ready.stopped;
+    frames = ready.frames;
   };
   told = all-told old new l.links keeps ready.files;
   left = ap (λ gs. ordered_from w.greatest (lane_blocks l.scale gs)) same;

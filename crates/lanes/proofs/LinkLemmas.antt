@@ -1,53 +1,68 @@
 -- What the first thing of an input gives to a lane.
-use Rattle.std.proofs.Common.{◌≡◌, ℕ, Bool, true, false, if◌then◌else◌, List, [], ◌∷◌, ◌++◌, filter, flat_map, refl}
+use Rattle.std.proofs.Common.{◌≡◌, ℕ, ◌+◌, Bool, true, false, if◌then◌else◌, List, [], ◌∷◌, ◌++◌, filter, flat_map, length, Option, Some, None, refl, sym, ap, add-zero}
 use Rattle.std.specs.Prelude.{◌||◌, ◌==◌}
 use Rattle.mkv_io.specs.declared.damage.Damage.{Damage}
 use Rattle.block_format.specs.Block.{Block}
 use Rattle.block_format.specs.Events.{Event, block, blocks_of}
 use Rattle.cluster_reader.specs.Reading.{damage_event}
-use Rattle.merge_model.specs.Links.{given_blocks, placed}
+use Rattle.ext_times.specs.Listing.{Listing}
+use Rattle.merge_model.specs.Links.{Placing, given_blocks, placed}
 use Rattle.mkv_io.specs.declared.entry.Entry.{Entry}
-use Rattle.merge_model.specs.FileLinks.{placing_of, text_with}
-use Rattle.lanes.specs.Placed.{entry_placed, track_placed}
+use Rattle.merge_model.specs.FileLinks.{listing_of, placing_of, text_with}
+use Rattle.merge_model.specs.Timed.{time_for, timed}
+use Rattle.lanes.specs.Frames.{frames_of}
+use Rattle.lanes.specs.Placed.{at_time, entry_placed, track_placed}
 use Rattle.merge_model.specs.declared.link.TrackLink.{TrackLink}
 use Rattle.merge_model.specs.declared.link.TextLink.{TextLink}
 use Rattle.lanes.specs.Walks.{track_behind}
 
 -- ---- a track
 
+-- the first of some blocks, behind so many frames
+timed-first : (scale : ℕ) (p : Placing) (times : Option Listing) (k : ℕ) (b : Block) (bs : List Block) → flat_map (placed scale p) (timed times k (b ∷ bs)) ≡ placed scale p (record b { time = time_for times k b.time }) ++ flat_map (placed scale p) (timed times (k + length b.frames) bs)
+timed-first scale p None k b bs = refl
+timed-first scale p (Some l) k b bs = refl
+
 -- a block of its file
-pub track-block : (scale : ℕ) (t : TrackLink) (st : Bool) (b : Block) (es : List Event) → given_blocks scale (track_behind t st (block b ∷ es)) ≡ track_placed scale t b ++ given_blocks scale (track_behind t st es)
-track-block scale t st b es = split (b.track == t.number)
+pub track-block : (scale : ℕ) (t : TrackLink) (k : ℕ) (st : Bool) (b : Block) (es : List Event) → given_blocks scale (track_behind t k st (block b ∷ es)) ≡ track_placed scale t k b ++ given_blocks scale (track_behind t (k + frames_of t b) st es)
+track-block scale t k st b es = split (b.track == t.number)
   where
     others : List Block
     others = filter (λ (x : Block). x.track == t.number) (blocks_of es)
 
-    split : (is : Bool) → flat_map (placed scale (placing_of t)) (if is then b ∷ filter (λ (x : Block). x.track == t.number) (blocks_of es) else filter (λ (x : Block). x.track == t.number) (blocks_of es))
-        ≡ (if is then placed scale (placing_of t) b else []) ++ flat_map (placed scale (placing_of t)) (filter (λ (x : Block). x.track == t.number) (blocks_of es))
-    split true = refl
-    split false = refl
+    split : (is : Bool) → flat_map (placed scale (placing_of t)) (timed (listing_of t) k (if is then b ∷ filter (λ (x : Block). x.track == t.number) (blocks_of es) else filter (λ (x : Block). x.track == t.number) (blocks_of es)))
+        ≡ (if is then placed scale (placing_of t) (at_time t k b) else []) ++ flat_map (placed scale (placing_of t)) (timed (listing_of t) (k + (if is then length b.frames else 0)) (filter (λ (x : Block). x.track == t.number) (blocks_of es)))
+    split true = timed-first scale (placing_of t) (listing_of t) k b (filter (λ (x : Block). x.track == t.number) (blocks_of es))
+    split false = ap (λ (n : ℕ). flat_map (placed scale (placing_of t)) (timed (listing_of t) n (filter (λ (x : Block). x.track == t.number) (blocks_of es)))) (sym (add-zero k))
 
 -- a damage of its file gives no block
-pub damage-blocks : (scale : ℕ) (t : TrackLink) (st last now : Bool) (d : Damage) (es : List Event) → given_blocks scale (track_behind t st (damage_event last d ∷ es)) ≡ given_blocks scale (track_behind t now es)
-damage-blocks scale t st true now d es = refl
-damage-blocks scale t st false now d es = refl
+pub damage-blocks : (scale : ℕ) (t : TrackLink) (k : ℕ) (st last now : Bool) (d : Damage) (es : List Event) → given_blocks scale (track_behind t k st (damage_event last d ∷ es)) ≡ given_blocks scale (track_behind t k now es)
+damage-blocks scale t k st true now d es = refl
+damage-blocks scale t k st false now d es = refl
 
 -- it is told
-pub damage-told : (t : TrackLink) (st last now : Bool) (d : Damage) (es : List Event) → (track_behind t st (damage_event last d ∷ es)).damages ≡ d ∷ (track_behind t now es).damages
-damage-told t st true now d es = refl
-damage-told t st false now d es = refl
+pub damage-told : (t : TrackLink) (k : ℕ) (st last now : Bool) (d : Damage) (es : List Event) → (track_behind t k st (damage_event last d ∷ es)).damages ≡ d ∷ (track_behind t k now es).damages
+damage-told t k st true now d es = refl
+damage-told t k st false now d es = refl
 
 -- and it may end what is read
-pub damage-stops : (t : TrackLink) (st last : Bool) (d : Damage) (es : List Event) → (track_behind t st (damage_event last d ∷ es)).stops ≡ (track_behind t (last || st) es).stops
-damage-stops t true true d es = refl
-damage-stops t true false d es = refl
-damage-stops t false true d es = refl
-damage-stops t false false d es = refl
+pub damage-stops : (t : TrackLink) (k : ℕ) (st last : Bool) (d : Damage) (es : List Event) → (track_behind t k st (damage_event last d ∷ es)).stops ≡ (track_behind t k (last || st) es).stops
+damage-stops t k true true d es = refl
+damage-stops t k true false d es = refl
+damage-stops t k false true d es = refl
+damage-stops t k false false d es = refl
 
 -- the end of a file
-pub end-stops : (t : TrackLink) (st : Bool) → (track_behind t st []).stops ≡ st
-end-stops t true = refl
-end-stops t false = refl
+pub end-blocks : (scale : ℕ) (t : TrackLink) (k : ℕ) (st : Bool) → given_blocks scale (track_behind t k st []) ≡ []
+end-blocks scale t k st = none (listing_of t)
+  where
+    none : (times : Option Listing) → flat_map (placed scale (placing_of t)) (timed times k []) ≡ []
+    none None = refl
+    none (Some l) = refl
+
+pub end-stops : (t : TrackLink) (k : ℕ) (st : Bool) → (track_behind t k st []).stops ≡ st
+end-stops t k true = refl
+end-stops t k false = refl
 
 -- ---- a text
 

@@ -15,7 +15,7 @@ use Rattle.merge_model.specs.declared.link.Link.{Link}
 use Rattle.lanes.specs.Begun.{Begins}
 use Rattle.lanes.specs.Lane.{LaneSeen, Starts}
 use Rattle.lanes.specs.Told.{with_all, with_damages}
-use Rattle.lanes.specs.Walks.{IsAt, IsReady, due, files_length, left, links_left, told_in_all}
+use Rattle.lanes.specs.Walks.{HasCounted, IsAt, IsReady, due, files_length, left, links_left, told_in_all}
 use Rattle.lanes.specs.declared.walk.Walk.{Walk}
 use Rattle.lanes.proofs.WalkLemmas.{links_left-fresh}
 use Rattle.lanes.proofs.WayLemmas.{due-fresh}
@@ -60,6 +60,7 @@ module _ (f : LiveFiles) (scale : ℕ) (links : List Link) (w : Walk) (begins : 
     here = none w.cursor begins.cursor;
     told = ap length begins.told ∙ length-replicate (length links) (told_damages []);
     stopped = λ _. begins.stopped;
+    frames = subst (HasCounted w.frames) (sym begins.cursor) begins.frames;
   }
     where
       none : (o : Option Reading) → o ≡ None → IsAt f o (slice_get links w.at)

@@ -28,11 +28,12 @@ use Rattle.merge_model.specs.declared.link.Link.TheVariants.{Track, Entries}
 use Rattle.merge_model.specs.declared.link.TextLink.{TextLink}
 use Rattle.merge_model.specs.declared.link.TrackLink.{TrackLink}
 use Rattle.lanes.specs.Turns.{GivesFirst, LendsBlock, Pays, Turns}
-use Rattle.lanes.specs.Walks.{IsAt, IsReady, due, files_length, left, lent_by, lent_by_track, lent_in, links_left, text_of, told_in_all, track_behind, track_due, track_left, track_way, way}
+use Rattle.lanes.specs.Frames.{frames_of}
+use Rattle.lanes.specs.Walks.{HasCounted, IsAt, IsReady, due, files_length, left, lent_by, lent_by_track, lent_in, links_left, text_of, told_in_all, track_behind, track_due, track_left, track_way, way}
 use Rattle.lanes.specs.declared.turn.Turn.{Turn}
 use Rattle.lanes.specs.declared.turn.Turn.TheVariants.{Passed, Gives as GivesBlock}
 use Rattle.lanes.specs.declared.walk.Walk.{Walk}
-use Rattle.lanes.proofs.LinkLemmas.{damage-blocks, damage-stops, damage-told, end-stops, track-block}
+use Rattle.lanes.proofs.LinkLemmas.{damage-blocks, damage-stops, damage-told, end-blocks, end-stops, track-block}
 use Rattle.lanes.proofs.ListLemmas.{drop-at, drop-past}
 use Rattle.lanes.proofs.ToldLemmas.{told-damage, told-leaves, told-passes}
 use Rattle.lanes.proofs.WalkLemmas.{HasLeft, Leaves, Stays, later, left-gives, left-leaves, left-passes, links_left-at}
@@ -83,6 +84,13 @@ content-at f links k t all is = all-at (IsToldLink f) links k (Track t) all is
 sums : (before now total c d : ℕ) → now + c ≤ before + d → d ≤ total → now + (total - d) ≤ before + (total - c)
 sums before now total c d pays most = omega arith
 
+-- so many frames stand before a track that isn't opened, and before a cursor
+pub none-counted : (f : LiveFiles) (links : List Link) (w : Walk) → IsReady f links w → w.cursor ≡ None → w.frames ≡ 0
+none-counted f links w ready none = subst (HasCounted w.frames) none ready.frames
+
+pub few-counted : (f : LiveFiles) (links : List Link) (w : Walk) (c : Reading) → IsReady f links w → w.cursor ≡ Some c → w.frames ≤ 256 * c.place.at
+few-counted f links w c ready is = subst (HasCounted w.frames) is ready.frames
+
 -- ---- a turn in the file of a track, whose cursor was c and is d
 
 pub record Reads (links : List Link) (t : TrackLink) (old new : Walk) (c d : Reading) : Type 0 where
@@ -94,6 +102,20 @@ pub record Reads (links : List Link) (t : TrackLink) (old new : Walk) (c d : Rea
 module _ (links : List Link) (t : TrackLink) (old new : Walk) (c d : Reading) (is : Reads links t old new c d) where
   at_new : slice_get links new.at ≡ Some (Track t)
   at_new = ap (slice_get links) is.same ∙ is.at
+
+  -- it may go on
+  pub ready-reads : (f g : LiveFiles) → g ≡ f → IsReady f links old → CanRead g d → d.file ≡ t.file → length new.told.items ≡ length old.told.items → new.frames ≤ 256 * d.place.at → IsReady g links new
+  ready-reads f g same was can file told few =
+      let ready = subst (λ (each : LiveFiles). IsReady each links old) (sym same) was in
+      record {
+        files = ready.files;
+        here =
+            let there : IsAt g (Some d) (slice_get links new.at) = subst (IsAt g (Some d)) (sym at_new) (can, file) in
+            subst (λ each. IsAt g each (slice_get links new.at)) (sym is.now) there;
+        told = told ∙ ready.told;
+        stopped = λ none. let now = is.now in absurd (cc);
+        frames = subst (HasCounted new.frames) (sym is.now) few;
+      }
 
   -- what is lent
   pub lent-here : lent_in links new ≡ track_lent t d.block new.placed
@@ -107,27 +129,30 @@ module _ (links : List Link) (t : TrackLink) (old new : Walk) (c d : Reading) (i
 
 module _ (f : LiveFiles) (scale : ℕ) (links : List Link) (t : TrackLink) (old new : Walk) (c d : Reading) (is : Reads links t old new c d) where
   -- what its link has left
-  was : links_left f links old ≡ track_behind t old.stopped (left_of (octets_in f t.file.n) c) ∷ later f links old.at
-  was = links_left-at f links old (Track t) is.at ∙ ap (λ each. track_left f t old.stopped each ∷ later f links old.at) is.before
+  was : links_left f links old ≡ track_behind t old.frames old.stopped (left_of (octets_in f t.file.n) c) ∷ later f links old.at
+  was = links_left-at f links old (Track t) is.at ∙ ap (λ each. track_left f t old.frames old.stopped each ∷ later f links old.at) is.before
 
-  now : links_left f links new ≡ track_behind t new.stopped (left_of (octets_in f t.file.n) d) ∷ later f links old.at
+  now : links_left f links new ≡ track_behind t new.frames new.stopped (left_of (octets_in f t.file.n) d) ∷ later f links old.at
   now = links_left-at f links new (Track t) (at_new links t old new c d is)
-      ∙ ap (λ each. track_left f t new.stopped each ∷ later f links new.at) is.now
-      ∙ ap (λ (k : ℕ). track_behind t new.stopped (left_of (octets_in f t.file.n) d) ∷ later f links k) is.same
+      ∙ ap (λ each. track_left f t new.frames new.stopped each ∷ later f links new.at) is.now
+      ∙ ap (λ (k : ℕ). track_behind t new.frames new.stopped (left_of (octets_in f t.file.n) d) ∷ later f links k) is.same
 
-  stays : (track_behind t old.stopped (left_of (octets_in f t.file.n) c)).stops ≡ (track_behind t new.stopped (left_of (octets_in f t.file.n) d)).stops
-      → Stays f links old new (track_behind t old.stopped (left_of (octets_in f t.file.n) c)) (track_behind t new.stopped (left_of (octets_in f t.file.n) d))
+  stays : (track_behind t old.frames old.stopped (left_of (octets_in f t.file.n) c)).stops ≡ (track_behind t new.frames new.stopped (left_of (octets_in f t.file.n) d)).stops
+      → Stays f links old new (track_behind t old.frames old.stopped (left_of (octets_in f t.file.n) c)) (track_behind t new.frames new.stopped (left_of (octets_in f t.file.n) d))
   stays stops = record { rest = later f links old.at; was = was; now = now; stops = stops; at = is.same }
 
   -- a call that gives nothing
-  pub turns-same : new.stopped ≡ old.stopped → new.greatest ≡ old.greatest → new.told ≡ old.told → left_of (octets_in f t.file.n) d ≡ left_of (octets_in f t.file.n) c → (result : Result Turn ReadEnd) → IsErr result → Turns f scale links old new result
-  turns-same stopped greatest told gives result err = record {
+  pub turns-same : new.frames ≡ old.frames → new.stopped ≡ old.stopped → new.greatest ≡ old.greatest → new.told ≡ old.told → left_of (octets_in f t.file.n) d ≡ left_of (octets_in f t.file.n) c → (result : Result Turn ReadEnd) → IsErr result → Turns f scale links old new result
+  turns-same frames stopped greatest told gives result err = record {
     blocks = refused result err (left-passes f scale links old new _ _ (stays (ap (λ g. g.stops) same)) (ap (given_blocks scale) same) greatest);
     damages = told-passes f links old new _ _ (stays (ap (λ g. g.stops) same)) (ap (λ g. g.damages) same) told;
   }
     where
-      same : track_behind t old.stopped (left_of (octets_in f t.file.n) c) ≡ track_behind t new.stopped (left_of (octets_in f t.file.n) d)
-      same = ap (λ es. track_behind t old.stopped es) (sym gives) ∙ ap (λ st. track_behind t st (left_of (octets_in f t.file.n) d)) (sym stopped)
+      same : track_behind t old.frames old.stopped (left_of (octets_in f t.file.n) c) ≡ track_behind t new.frames new.stopped (left_of (octets_in f t.file.n) d)
+      same =
+          ap (λ es. track_behind t old.frames old.stopped es) (sym gives)
+          ∙ ap (λ st. track_behind t old.frames st (left_of (octets_in f t.file.n) d)) (sym stopped)
+          ∙ ap (λ (k : ℕ). track_behind t k new.stopped (left_of (octets_in f t.file.n) d)) (sym frames)
 
       refused : (r : Result Turn ReadEnd) → IsErr r → left f scale links new ≡ left f scale links old → GivesFirst (left f scale links old) (left f scale links new) (lent_in links new) r
       refused (Ok turn) err passes = absurd (cc)
@@ -135,52 +160,56 @@ module _ (f : LiveFiles) (scale : ℕ) (links : List Link) (t : TrackLink) (old 
 
   -- ---- a block
 
-  module _ (b : Block) (stopped : new.stopped ≡ old.stopped) (told : new.told ≡ old.told) (gives : left_of (octets_in f t.file.n) c ≡ block b ∷ left_of (octets_in f t.file.n) d) where
-    block-stays : Stays f links old new (track_behind t old.stopped (left_of (octets_in f t.file.n) c)) (track_behind t new.stopped (left_of (octets_in f t.file.n) d))
+  module _ (b : Block) (frames : new.frames ≡ old.frames + frames_of t b) (stopped : new.stopped ≡ old.stopped) (told : new.told ≡ old.told) (gives : left_of (octets_in f t.file.n) c ≡ block b ∷ left_of (octets_in f t.file.n) d) where
+    block-stays : Stays f links old new (track_behind t old.frames old.stopped (left_of (octets_in f t.file.n) c)) (track_behind t new.frames new.stopped (left_of (octets_in f t.file.n) d))
     block-stays = stays (
-        ap (λ es. (track_behind t old.stopped es).stops) gives
-        ∙ ap (λ st. (track_behind t st (left_of (octets_in f t.file.n) d)).stops) (sym stopped))
+        ap (λ es. (track_behind t old.frames old.stopped es).stops) gives
+        ∙ ap (λ st. (track_behind t old.frames st (left_of (octets_in f t.file.n) d)).stops) (sym stopped))
 
-    block-blocks : given_blocks scale (track_behind t old.stopped (left_of (octets_in f t.file.n) c)) ≡ track_placed scale t b ++ given_blocks scale (track_behind t new.stopped (left_of (octets_in f t.file.n) d))
-    block-blocks = ap (λ es. given_blocks scale (track_behind t old.stopped es)) gives ∙ track-block scale t old.stopped b (left_of (octets_in f t.file.n) d)
+    block-blocks : given_blocks scale (track_behind t old.frames old.stopped (left_of (octets_in f t.file.n) c)) ≡ track_placed scale t old.frames b ++ given_blocks scale (track_behind t new.frames new.stopped (left_of (octets_in f t.file.n) d))
+    block-blocks = ap (λ es. given_blocks scale (track_behind t old.frames old.stopped es)) gives
+        ∙ track-block scale t old.frames old.stopped b (left_of (octets_in f t.file.n) d)
+        ∙ ap (λ (k : ℕ). track_placed scale t old.frames b ++ given_blocks scale (track_behind t k new.stopped (left_of (octets_in f t.file.n) d))) (sym frames)
 
     block-told : told_in_all f links new ≡ told_in_all f links old
-    block-told = told-passes f links old new _ _ block-stays (ap (λ es. (track_behind t old.stopped es).damages) gives) told
+    block-told = told-passes f links old new _ _ block-stays (ap (λ es. (track_behind t old.frames old.stopped es).damages) gives) told
 
     -- one that isn't the lane's
-    pub turns-other : new.greatest ≡ old.greatest → track_placed scale t b ≡ [] → Turns f scale links old new (Ok Passed)
+    pub turns-other : new.greatest ≡ old.greatest → track_placed scale t old.frames b ≡ [] → Turns f scale links old new (Ok Passed)
     turns-other greatest none = record {
       blocks = left-passes f scale links old new _ _ block-stays
-          (block-blocks ∙ ap (λ bs. bs ++ given_blocks scale (track_behind t new.stopped (left_of (octets_in f t.file.n) d))) none) greatest;
+          (block-blocks ∙ ap (λ bs. bs ++ given_blocks scale (track_behind t new.frames new.stopped (left_of (octets_in f t.file.n) d))) none) greatest;
       damages = block-told;
     }
 
     -- one that is
-    pub turns-gives : IsPlaced (track_placed scale t b) old.greatest (track_lent t d.block new.placed) → new.greatest ≡ new.placed.head.order → Turns f scale links old new (Ok GivesBlock)
+    pub turns-gives : IsPlaced (track_placed scale t old.frames b) old.greatest (track_lent t d.block new.placed) → new.greatest ≡ new.placed.head.order → Turns f scale links old new (Ok GivesBlock)
     turns-gives placed greatest = record {
       blocks =
           left-gives f scale links old new _ _ (track_lent t d.block new.placed) block-stays
-          (block-blocks ∙ ap (λ bs. bs ++ given_blocks scale (track_behind t new.stopped (left_of (octets_in f t.file.n) d))) placed.block) placed.order greatest
+          (block-blocks ∙ ap (λ bs. bs ++ given_blocks scale (track_behind t new.frames new.stopped (left_of (octets_in f t.file.n) d))) placed.block) placed.order greatest
           ∙ ap (λ l. lent_ordered l ∷ left f scale links new) (sym (lent-here links t old new c d is));
       damages = block-told;
     }
 
   -- ---- a damage
 
-  pub turns-damage : (last : Bool) (x : Damage) (r : ToldDamages) → new.stopped ≡ (last || old.stopped) → new.greatest ≡ old.greatest → left_of (octets_in f t.file.n) c ≡ damage_event last x ∷ left_of (octets_in f t.file.n) d
+  pub turns-damage : (last : Bool) (x : Damage) (r : ToldDamages) → new.frames ≡ old.frames → new.stopped ≡ (last || old.stopped) → new.greatest ≡ old.greatest → left_of (octets_in f t.file.n) c ≡ damage_event last x ∷ left_of (octets_in f t.file.n) d
       → slice_get old.told.items old.at ≡ Some r → old.at < length old.told.items → new.told.items ≡ set old.told.items old.at (with_damage r x) → Turns f scale links old new (Ok Passed)
-  turns-damage last x r stopped greatest gives here inside told = record {
+  turns-damage last x r frames stopped greatest gives here inside told = record {
     blocks = left-passes f scale links old new _ _ damage-stays
-        (ap (λ es. given_blocks scale (track_behind t old.stopped es)) gives ∙ damage-blocks scale t old.stopped last new.stopped x (left_of (octets_in f t.file.n) d)) greatest;
+        (ap (λ es. given_blocks scale (track_behind t old.frames old.stopped es)) gives
+        ∙ damage-blocks scale t old.frames old.stopped last new.stopped x (left_of (octets_in f t.file.n) d)
+        ∙ ap (λ (k : ℕ). given_blocks scale (track_behind t k new.stopped (left_of (octets_in f t.file.n) d))) (sym frames)) greatest;
     damages = told-damage f links old new _ _ x r damage-stays
-        (ap (λ es. (track_behind t old.stopped es).damages) gives ∙ damage-told t old.stopped last new.stopped x (left_of (octets_in f t.file.n) d)) here inside told;
+        (ap (λ es. (track_behind t old.frames old.stopped es).damages) gives ∙ damage-told t old.frames old.stopped last new.stopped x (left_of (octets_in f t.file.n) d)) here inside told;
   }
     where
-      damage-stays : Stays f links old new (track_behind t old.stopped (left_of (octets_in f t.file.n) c)) (track_behind t new.stopped (left_of (octets_in f t.file.n) d))
+      damage-stays : Stays f links old new (track_behind t old.frames old.stopped (left_of (octets_in f t.file.n) c)) (track_behind t new.frames new.stopped (left_of (octets_in f t.file.n) d))
       damage-stays = stays (
-          ap (λ es. (track_behind t old.stopped es).stops) gives
-          ∙ damage-stops t old.stopped last x (left_of (octets_in f t.file.n) d)
-          ∙ ap (λ st. (track_behind t st (left_of (octets_in f t.file.n) d)).stops) (sym stopped))
+          ap (λ es. (track_behind t old.frames old.stopped es).stops) gives
+          ∙ damage-stops t old.frames old.stopped last x (left_of (octets_in f t.file.n) d)
+          ∙ ap (λ st. (track_behind t old.frames st (left_of (octets_in f t.file.n) d)).stops) (sym stopped))
 
   -- ---- how far it goes, and what it reads
 
@@ -211,15 +240,16 @@ module _ (f : LiveFiles) (scale : ℕ) (links : List Link) (t : TrackLink) (old 
 module _ (f : LiveFiles) (scale : ℕ) (links : List Link) (t : TrackLink) (old new : Walk) (c : Reading) (at : slice_get links old.at ≡ Some (Track t)) (cursor : old.cursor ≡ Some c) (has : HasLeft (length links) old new) where
   pub turns-ends : (r : ToldDamages) → left_of (octets_in f t.file.n) c ≡ [] → slice_get old.told.items old.at ≡ Some r → length old.told.items ≡ length links → Turns f scale links old new (Ok Passed)
   turns-ends r none here long = record {
-    blocks = left-leaves f scale links old new (track_behind t old.stopped (left_of (octets_in f t.file.n) c)) leaves (ap (λ es. given_blocks scale (track_behind t old.stopped es)) none);
-    damages = told-leaves f links old new (track_behind t old.stopped (left_of (octets_in f t.file.n) c)) r leaves (ap (λ es. (track_behind t old.stopped es).damages) none) here long;
+    blocks = left-leaves f scale links old new (track_behind t old.frames old.stopped (left_of (octets_in f t.file.n) c)) leaves
+        (ap (λ es. given_blocks scale (track_behind t old.frames old.stopped es)) none ∙ end-blocks scale t old.frames old.stopped);
+    damages = told-leaves f links old new (track_behind t old.frames old.stopped (left_of (octets_in f t.file.n) c)) r leaves (ap (λ es. (track_behind t old.frames old.stopped es).damages) none) here long;
   }
     where
-      leaves : Leaves f links old new (track_behind t old.stopped (left_of (octets_in f t.file.n) c))
+      leaves : Leaves f links old new (track_behind t old.frames old.stopped (left_of (octets_in f t.file.n) c))
       leaves = record {
-        was = links_left-at f links old (Track t) at ∙ ap (λ each. track_left f t old.stopped each ∷ later f links old.at) cursor;
+        was = links_left-at f links old (Track t) at ∙ ap (λ each. track_left f t old.frames old.stopped each ∷ later f links old.at) cursor;
         left = has;
-        stops = ap (λ es. (track_behind t old.stopped es).stops) none ∙ end-stops t old.stopped;
+        stops = ap (λ es. (track_behind t old.frames old.stopped es).stops) none ∙ end-stops t old.frames old.stopped;
       }
 
   pub ends-on : way links new < way links old
@@ -245,8 +275,8 @@ module _ (f : LiveFiles) (scale : ℕ) (links : List Link) (t : TrackLink) (old 
   opened_now : new.cursor ≡ Some d
   opened_now = ap (λ (w : Walk). w.cursor) is
 
-  pub turns-opened : old.stopped ≡ false → left_of (octets_in f t.file.n) d ≡ track_events f t → Turns f scale links old new (Ok Passed)
-  turns-opened stopped begins = record {
+  pub turns-opened : old.frames ≡ 0 → old.stopped ≡ false → left_of (octets_in f t.file.n) d ≡ track_events f t → Turns f scale links old new (Ok Passed)
+  turns-opened frames stopped begins = record {
     blocks = left-passes f scale links old new (given_in f (Track t)) (given_in f (Track t)) stays refl (ap (λ (w : Walk). w.greatest) is);
     damages = told-passes f links old new (given_in f (Track t)) (given_in f (Track t)) stays refl (ap (λ (w : Walk). w.told) is);
   }
@@ -254,13 +284,14 @@ module _ (f : LiveFiles) (scale : ℕ) (links : List Link) (t : TrackLink) (old 
       stays : Stays f links old new (given_in f (Track t)) (given_in f (Track t))
       stays = record {
         rest = later f links old.at;
-        was = links_left-at f links old (Track t) at ∙ ap (λ each. track_left f t old.stopped each ∷ later f links old.at) before;
+        was = links_left-at f links old (Track t) at ∙ ap (λ each. track_left f t old.frames old.stopped each ∷ later f links old.at) before;
         now =
             links_left-at f links new (Track t) opened_at
-            ∙ ap (λ each. track_left f t new.stopped each ∷ later f links new.at) opened_now
-            ∙ ap (λ (k : ℕ). track_behind t new.stopped (left_of (octets_in f t.file.n) d) ∷ later f links k) opened_same
-            ∙ ap (λ (st : Bool). track_behind t st (left_of (octets_in f t.file.n) d) ∷ later f links old.at) (ap (λ (w : Walk). w.stopped) is ∙ stopped)
-            ∙ ap (λ (es : List Event). track_behind t false es ∷ later f links old.at) begins;
+            ∙ ap (λ each. track_left f t new.frames new.stopped each ∷ later f links new.at) opened_now
+            ∙ ap (λ (k : ℕ). track_behind t new.frames new.stopped (left_of (octets_in f t.file.n) d) ∷ later f links k) opened_same
+            ∙ ap (λ (st : Bool). track_behind t new.frames st (left_of (octets_in f t.file.n) d) ∷ later f links old.at) (ap (λ (w : Walk). w.stopped) is ∙ stopped)
+            ∙ ap (λ (k : ℕ). track_behind t k false (left_of (octets_in f t.file.n) d) ∷ later f links old.at) (ap (λ (w : Walk). w.frames) is ∙ frames)
+            ∙ ap (λ (es : List Event). track_behind t 0 false es ∷ later f links old.at) begins;
         stops = refl;
         at = opened_same;
       }
@@ -285,6 +316,11 @@ module _ (f : LiveFiles) (scale : ℕ) (links : List Link) (t : TrackLink) (old 
         subst (λ each. IsAt f each (slice_get links new.at)) (sym opened_now) there;
     told = ap (λ (w : Walk). length w.told.items) is ∙ ready.told;
     stopped = λ none. absurd (cc);
+    frames =
+        let none : old.frames ≡ 0 = subst (HasCounted old.frames) before ready.frames in
+        let same : new.frames ≡ old.frames = ap (λ (w : Walk). w.frames) is in
+        let few : new.frames ≤ 256 * d.place.at = omega arith in
+        subst (HasCounted new.frames) (sym opened_now) few;
   }
 
 -- ---- a turn in a text

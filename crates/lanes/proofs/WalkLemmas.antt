@@ -29,7 +29,7 @@ pub links_left-fresh : (f : LiveFiles) (links : List Link) (w : Walk) → w.curs
 links_left-fresh f links w cursor next = step (drop w.at links)
   where
     here : (link : Link) → here_left f w link ≡ given_in f link
-    here (Track t) = ap (track_left f t w.stopped) cursor
+    here (Track t) = ap (track_left f t w.frames w.stopped) cursor
     here (Entries e) = ap (λ (k : ℕ). here_left f (record w { next = k }) (Entries e)) next
 
     step : (ls : List Link) → links_from f w ls ≡ map (given_in f) ls
@@ -80,14 +80,16 @@ pub record HasLeft (count : ℕ) (old new : Walk) : Type 0 where
   pub at : new.at ≡ behind old.stopped count old.at
   pub cursor : new.cursor ≡ None
   pub next : new.next ≡ 0
+  pub frames : new.frames ≡ 0
   pub greatest : new.greatest ≡ old.greatest
   pub told : new.told ≡ old.told
 
-pub has-left : (count : ℕ) (old new : Walk) → new ≡ record old { at = behind old.stopped count old.at; cursor = None; next = 0; stopped = false } → HasLeft count old new
+pub has-left : (count : ℕ) (old new : Walk) → new ≡ record old { at = behind old.stopped count old.at; cursor = None; next = 0; frames = 0; stopped = false } → HasLeft count old new
 has-left count old new is = record {
   at = ap (λ (w : Walk). w.at) is;
   cursor = ap (λ (w : Walk). w.cursor) is;
   next = ap (λ (w : Walk). w.next) is;
+  frames = ap (λ (w : Walk). w.frames) is;
   greatest = ap (λ (w : Walk). w.greatest) is;
   told = ap (λ (w : Walk). w.told) is;
 }

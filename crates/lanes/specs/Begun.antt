@@ -8,6 +8,7 @@ pub record Begins (count : ℕ) (w : Walk) : Type 0 where
   pub at : w.at ≡ 0
   pub cursor : w.cursor ≡ None
   pub next : w.next ≡ 0
+  pub frames : w.frames ≡ 0
   pub stopped : w.stopped ≡ false
   pub greatest : w.greatest ≡ 0
   pub told : w.told.items ≡ replicate count (told_damages [])

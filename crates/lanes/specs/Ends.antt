@@ -6,6 +6,7 @@ use Rattle.block_format.specs.Events.{Event}
 use Rattle.merge_model.specs.Links.{Given, entry_block}
 use Rattle.merge_model.specs.Ends.{block_end, file_end, last_end}
 use Rattle.merge_model.specs.FileLinks.{CanMove, IsSmallText, placing_of, text_with, track_with}
+use Rattle.lanes.specs.Placed.{at_time}
 use Rattle.merge_model.specs.declared.link.Link.{Link}
 use Rattle.merge_model.specs.declared.link.Link.TheVariants.{Track, Entries}
 use Rattle.merge_model.specs.declared.link.TextLink.{TextLink}
@@ -16,18 +17,19 @@ use Rattle.merge_model.specs.declared.link.TrackLink.{TrackLink}
 abbrev pub lasting_for : Option ℕ → Option ℕ → ℕ → ℕ
 lasting_for duration default_duration frames = unwrap_or duration (frames * unwrap_or default_duration 0)
 
--- the end of a block that is the track's, else 0
-abbrev pub track_end : TrackLink → Block → ℕ
-track_end t b = if b.track == t.number then block_end (placing_of t) b else 0
+-- the end of a block that is the track's, else 0, where so many frames of the track stand before it
+abbrev pub track_end : TrackLink → ℕ → Block → ℕ
+track_end t k b = if b.track == t.number then block_end (placing_of t) (at_time t k b) else 0
 
-abbrev pub link_end : Block → Link → ℕ
-link_end b (Track t) = track_end t b
-link_end b (Entries e) = 0
+abbrev pub link_end : Block → ℕ → Link → ℕ
+link_end b k (Track t) = track_end t k b
+link_end b k (Entries e) = 0
 
--- the greatest of 0 and a block's ends
-abbrev pub ends_of : Block → List Link → ℕ
-ends_of b [] = 0
-ends_of b (link ∷ links) = max (link_end b link) (ends_of b links)
+-- the greatest of 0 and a block's ends, where so many frames of each link's track stand before it
+abbrev pub ends_of : Block → List ℕ → List Link → ℕ
+ends_of b [] links = 0
+ends_of b (k ∷ counts) [] = 0
+ends_of b (k ∷ counts) (link ∷ links) = max (link_end b k link) (ends_of b counts links)
 
 -- the greatest of 0 and the ends of a text's entries
 abbrev pub text_end : TextLink → ℕ

@@ -7,6 +7,7 @@ pub mod Walks
 pub mod Lent
 pub mod Placed
 pub mod Times
+pub mod Frames
 pub mod Ends
 pub mod Survey
 pub mod Walked

@@ -5,14 +5,19 @@ use Rattle.block_records.specs.Buffered.{Buffered}
 use Rattle.mkv_io.specs.declared.entry.Entry.{Entry}
 use Rattle.output_model.specs.OutputBlock.{Lent, OutputBlock}
 use Rattle.merge_model.specs.Links.{entry_block, placed}
-use Rattle.merge_model.specs.FileLinks.{placing_of, text_with}
+use Rattle.merge_model.specs.FileLinks.{listing_of, placing_of, text_with}
+use Rattle.merge_model.specs.Timed.{time_for}
 use Rattle.merge_model.specs.declared.link.TrackLink.{TrackLink}
 use Rattle.merge_model.specs.declared.link.TextLink.{TextLink}
 use Rattle.lanes.specs.declared.place.Placed.{Placed}
 
--- what a track makes of a block of its file: nothing, or one block
-abbrev pub track_placed : ℕ → TrackLink → Block → List OutputBlock
-track_placed scale t b = if b.track == t.number then placed scale (placing_of t) b else []
+-- a block at the time that it has in a track, where so many frames of the track stand before it
+abbrev pub at_time : TrackLink → ℕ → Block → Block
+at_time t k b = record b { time = time_for (listing_of t) k b.time }
+
+-- what a track makes then of a block of its file: nothing, or one block
+abbrev pub track_placed : ℕ → TrackLink → ℕ → Block → List OutputBlock
+track_placed scale t k b = if b.track == t.number then placed scale (placing_of t) (at_time t k b) else []
 
 -- what is lent of a block that was placed
 abbrev pub track_lent : TrackLink → Buffered → Placed → Lent

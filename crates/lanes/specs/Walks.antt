@@ -6,11 +6,11 @@ use Rattle.block_format.specs.Events.{Event, last_of}
 use Rattle.cluster_reader.specs.Reading.{Reading, CanRead, left_of, paid}
 use Rattle.cluster_reader.specs.ToldDamages.{ToldDamages}
 use Rattle.output_model.specs.OutputBlock.{Lent}
-use Rattle.merge_model.specs.Links.{Given}
+use Rattle.merge_model.specs.Links.{Given, track_given}
 use Rattle.merge_model.specs.Lanes.{lane_blocks, lane_damages}
 use Rattle.merge_model.specs.Merged.{Ordered, ordered_from}
 use Rattle.mkv_io.specs.declared.entry.Entry.{Entry}
-use Rattle.merge_model.specs.FileLinks.{IsOpenLink, given_in, octets_in, text_with, track_with}
+use Rattle.merge_model.specs.FileLinks.{IsOpenLink, given_in, listing_of, octets_in, placing_of, text_with, timed_given}
 use Rattle.lanes.specs.Placed.{nothing_lent, text_lent, track_lent}
 use Rattle.merge_model.specs.declared.link.Link.{Link}
 use Rattle.merge_model.specs.declared.link.Link.TheVariants.{Track, Entries}
@@ -21,18 +21,18 @@ use Rattle.lanes.specs.declared.walk.Walk.{Walk}
 
 -- ---- what is left
 
--- what a track gives of these blocks and damages, before which one may have ended what is read
-abbrev pub track_behind : TrackLink → Bool → List Event → Given
-track_behind t stopped events = record (track_with t events) { stops = stopped || is_some (last_of events) }
+-- what a track gives of these blocks and damages, behind so many of its frames, and where one may have ended what is read
+abbrev pub track_behind : TrackLink → ℕ → Bool → List Event → Given
+track_behind t k stopped events = record (timed_given (listing_of t) k (track_given (placing_of t) t.number events)) { stops = stopped || is_some (last_of events) }
 
 -- what is left of a track: all of it, or what its cursor has left
-abbrev pub track_left : LiveFiles → TrackLink → Bool → Option Reading → Given
-track_left f t stopped None = given_in f (Track t)
-track_left f t stopped (Some c) = track_behind t stopped (left_of (octets_in f t.file.n) c)
+abbrev pub track_left : LiveFiles → TrackLink → ℕ → Bool → Option Reading → Given
+track_left f t k stopped None = given_in f (Track t)
+track_left f t k stopped (Some c) = track_behind t k stopped (left_of (octets_in f t.file.n) c)
 
 -- what is left of the link at which a walk stands
 abbrev pub here_left : LiveFiles → Walk → Link → Given
-here_left f w (Track t) = track_left f t w.stopped w.cursor
+here_left f w (Track t) = track_left f t w.frames w.stopped w.cursor
 here_left f w (Entries e) = text_with e (drop w.next e.entries)
 
 -- of the links from there on
@@ -81,12 +81,18 @@ IsAt f (Some c) (Some (Track t)) = CanRead f c × (c.file ≡ t.file)
 IsAt f (Some c) (Some (Entries e)) = ⊥
 IsAt f (Some c) None = ⊥
 
+-- So many frames stand in the blocks before the cursor, each of which has at most 256; none stands before a track that isn't opened.
+abbrev pub HasCounted : ℕ → Option Reading → Type 0
+HasCounted frames None = frames ≡ 0
+HasCounted frames (Some c) = frames ≤ 256 * c.place.at
+
 -- A walk over these links may go on among these files.
 pub record IsReady (f : LiveFiles) (links : List Link) (w : Walk) : Type 0 where
   pub files : All (IsOpenLink f) links
   pub here : IsAt f w.cursor (slice_get links w.at)
   pub told : length w.told.items ≡ length links
   pub stopped : w.cursor ≡ None → w.stopped ≡ false
+  pub frames : HasCounted w.frames w.cursor
 
 -- All links were left.
 abbrev pub IsEnded : List Link → Walk → Type 0

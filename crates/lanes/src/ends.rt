@@ -1,6 +1,6 @@
 //! Where a block ends, and an entry of a text.
 
-ghost use Rattle.std.specs.Prelude.{◌≡◌, ◌<◌, ◌≤◌, ◌^◌, [], max, IfSome};
+ghost use Rattle.std.specs.Prelude.{◌≡◌, ◌<◌, ◌≤◌, ◌^◌, [], length, max, IfSome};
 ghost use Rattle.std.specs.List.{All};
 ghost use Rattle.block_format.specs.declared.limits.TheConstants.{TOO_LARGE_TIME};
 ghost use Rattle.block_records.specs.Buffered.{block_of};
@@ -8,8 +8,10 @@ ghost use Rattle.merge_model.specs.Links.{entry_block};
 ghost use Rattle.merge_model.specs.Ends.{block_end};
 ghost use Rattle.merge_model.specs.FileLinks.{CanMove, IsSmallEntry, text_with};
 ghost use Rattle.lanes.specs.Ends.{IsTimed, IsTimedTrack, ends_of, lasting_for, link_end, text_end, texts_end, track_end};
+ghost use Rattle.lanes.specs.Frames.{counted_for, link_frames};
 ghost use Rattle.lanes.specs.declared.found.TheConstants.{MOST_END};
 
+use crate::frames::{frames_of, time_of};
 use crate::tick::delayed;
 use cluster_reader::Cursor;
 use merge_model::{Link, TextLink, TrackLink};
@@ -32,46 +34,71 @@ fn lasting(duration: Option<u64>, default_duration: Option<u64>, frames: usize) 
     }
 }
 
-/// Where the block that a cursor gave ends in a track, before its shift; 0 where it isn't the track's or is dropped.
-fn track_end(track: &TrackLink, cursor: &Cursor) -> u64
+/// Where the block that a cursor gave ends in a track, before its shift, where so many frames of the track stand before it; 0
+/// where it isn't the track's or is dropped.
+fn track_end(track: &TrackLink, before: u64, cursor: &Cursor) -> u64
     requires { IsTimedTrack track.now }
-    ensures exact { result ≡ track_end track.now (block_of cursor.now.block) }
+    ensures exact { result ≡ track_end track.now before (block_of cursor.now.block) }
     ensures small { result ≤ MOST_END }
 {
     let block = cursor.head();
     if block.track != track.number {
         return 0;
     }
-    let Some(t) = delayed(block.time, track.delay) else {
+    let time = time_of(track, before, block.time);
+    let Some(t) = delayed(time, track.delay) else {
         return 0;
     };
     t + lasting(block.duration, track.default_duration, cursor.sizes().len())
 }
 
 /// The same of a link; a text has no block of a file.
-fn link_end(link: &Link, cursor: &Cursor) -> u64
+fn link_end(link: &Link, before: u64, cursor: &Cursor) -> u64
     requires { IsTimed link.now }
-    ensures exact { result ≡ link_end (block_of cursor.now.block) link.now }
+    ensures exact { result ≡ link_end (block_of cursor.now.block) before link.now }
     ensures small { result ≤ MOST_END }
 {
     match link {
-        Link::Track(track) => track_end(track, cursor),
+        Link::Track(track) => track_end(track, before, cursor),
         Link::Entries(_) => 0,
     }
 }
 
-/// The greatest of `end` and the ends of the block that a cursor gave.
-pub fn greatest_end(links: &[Link], cursor: &Cursor, end: u64) -> u64
+/// How many frames the block that a cursor gave has of a link's track; of a text none.
+fn link_frames(link: &Link, cursor: &Cursor) -> u64
+    ensures exact { result ≡ link_frames (block_of cursor.now.block) link.now }
+    ensures few { result ≤ 256 }
+{
+    match link {
+        Link::Track(track) => frames_of(track, cursor),
+        Link::Entries(_) => 0,
+    }
+}
+
+/// The greatest of `end` and the ends of the block that a cursor gave, where so many frames of each link's track stand before it.
+pub fn greatest_end(links: &[Link], before: &[u64], cursor: &Cursor, end: u64) -> u64
     requires links { All IsTimed links.now }
+    requires each { length before.now ≡ length links.now }
     requires end { end ≤ MOST_END }
-    ensures exact { result ≡ max end (ends_of (block_of cursor.now.block) links.now) }
+    ensures exact { result ≡ max end (ends_of (block_of cursor.now.block) before.now links.now) }
     ensures small { result ≤ MOST_END }
 {
     let mut end = end;
-    for link in links {
-        end = end.max(link_end(link, cursor));
+    for (k, link) in links.iter().enumerate() {
+        end = end.max(link_end(link, before[k], cursor));
     }
     end
+}
+
+/// Counts the frames of the block that a cursor gave, for each link those of its track.
+pub fn count_frames(links: &[Link], cursor: &Cursor, counts: &mut [u64])
+    requires each { length counts.old ≡ length links.now }
+    requires room { All (λ n. n < 2 ^ 63) counts.old }
+    ensures exact { counts.new ≡ counted_for (block_of cursor.now.block) counts.old links.now }
+{
+    for (k, link) in links.iter().enumerate() {
+        counts[k] += link_frames(link, cursor);
+    }
 }
 
 /// Where an entry of a text ends, before its shift; 0 where it is dropped.

@@ -5,6 +5,7 @@
 
 mod ends;
 mod found;
+mod frames;
 mod lane;
 mod laws;
 mod place;

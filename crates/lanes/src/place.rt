@@ -16,6 +16,7 @@ ghost use Rattle.merge_model.specs.FileLinks.{CanMove, IsSmallEntry, IsSmallTrac
 ghost use Rattle.lanes.specs.Placed.{entry_placed, text_lent, track_lent, track_placed};
 ghost use Rattle.lanes.specs.Times.{most_time};
 
+use crate::frames::time_of;
 use crate::tick::{output_time, tick_of, ticks_for, ticks_to};
 use arrayvec::ArrayVec;
 use cluster_reader::{Cursor, Lace};
@@ -92,19 +93,20 @@ fn lace_for(sizes: &[u32], lace: Lace) -> Lace
     if sizes.len() == 1 { Lace::None } else { lace }
 }
 
-/// Places the block that a cursor has given, behind one of this greatest tick. Answers whether it is given: one
-/// of another track isn't, and one that stands before the start.
+/// Places the block that a cursor has given, behind one of this greatest tick, where so many frames of the track stand before
+/// it. Answers whether it is given: one of another track isn't, and one that stands before the start.
 #[tactic(auto, using(crate::proofs::TickLemmas::few))]
 pub fn place_block(
     track: &TrackLink,
     scale: u64,
     cursor: &Cursor,
+    before: u64,
     greatest: u64,
     placed: &mut Placed,
 ) -> bool
     requires scale { 1 ≤ scale }
     requires small { IsSmallTrack track.now }
-    ensures becomes { Becomes (track_placed scale track.now (block_of cursor.now.block)) greatest (track_lent track.now cursor.now.block placed.new) result }
+    ensures becomes { Becomes (track_placed scale track.now before (block_of cursor.now.block)) greatest (track_lent track.now cursor.now.block placed.new) result }
 
     // Where the cursor lends a block that can be written, this one can be.
     ensures lent { IsLendable cursor.now.block → OnTrue result (IsLent (track_lent track.now cursor.now.block placed.new)) }
@@ -114,7 +116,8 @@ pub fn place_block(
     if block.track != track.number {
         return false;
     }
-    let Some(t) = output_time(block.time, track.delay, track.shift) else {
+    let time = time_of(track, before, block.time);
+    let Some(t) = output_time(time, track.delay, track.shift) else {
         return false;
     };
     put_references(scale, t, cursor.refs(), &mut placed.references);

@@ -10,6 +10,7 @@ ghost use Rattle.merge_model.specs.declared.link.Link.TheVariants.{Track as ATra
 ghost use Rattle.lanes.specs.Walks.{IsReady, due};
 ghost use Rattle.lanes.specs.Turns.{Moves, Pays, Turns};
 
+use crate::frames::frames_of;
 use crate::place::{place_block, place_entry};
 use crate::walk::Walk;
 use cluster_reader::{Cursor, Step};
@@ -55,7 +56,16 @@ fn turn_track<R: Reads>(
     };
     match cursor.advance(src)? {
         Step::Block => {
-            if place_block(track, scale, cursor, walk.greatest, &mut walk.placed) {
+            let before = walk.frames;
+            walk.frames += frames_of(track, cursor);
+            if place_block(
+                track,
+                scale,
+                cursor,
+                before,
+                walk.greatest,
+                &mut walk.placed,
+            ) {
                 walk.greatest = walk.placed.head.order;
                 Ok(Turn::Gives)
             } else {

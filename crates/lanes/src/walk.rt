@@ -16,6 +16,8 @@ pub struct Walk {
     pub cursor: Option<Cursor>,
     /// The number of its entry that is next, where it is a text.
     pub next: usize,
+    /// How many frames of its track stood in the blocks before the next one, where it is a track.
+    pub frames: u64,
     /// Whether a damage was met that ends what is read of its file.
     pub stopped: bool,
     /// The damages that were reached, by link.
@@ -39,6 +41,7 @@ impl Walk {
             at: 0,
             cursor: None,
             next: 0,
+            frames: 0,
             stopped: false,
             told,
             greatest: 0,
@@ -50,11 +53,12 @@ impl Walk {
     /// read to its end.
     pub fn leave(&mut self, count: usize)
         requires { self.old.at < count }
-        ensures { self.new ≡ record self.old { at = if self.old.stopped then count else self.old.at + 1; cursor = None; next = 0; stopped = false } }
+        ensures { self.new ≡ record self.old { at = if self.old.stopped then count else self.old.at + 1; cursor = None; next = 0; frames = 0; stopped = false } }
     {
         self.at = if self.stopped { count } else { self.at + 1 };
         self.cursor = None;
         self.next = 0;
+        self.frames = 0;
         self.stopped = false;
     }
 }

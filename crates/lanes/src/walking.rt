@@ -1,6 +1,6 @@
 //! A walk over a file.
 
-ghost use Rattle.std.specs.Prelude.{◌≡◌, ◌+◌, ◌*◌, ◌≤◌, IfOk, map};
+ghost use Rattle.std.specs.Prelude.{◌≡◌, ◌+◌, ◌*◌, ◌≤◌, IfOk, length, map, replicate};
 ghost use Rattle.std.specs.List.{All};
 ghost use Rattle.std.specs.Option.{option_copied};
 ghost use Rattle.mkv_io.specs.Faults.{HasCause, is_read_fault};
@@ -12,17 +12,23 @@ ghost use Rattle.lanes.specs.Survey.{AreOfOneFile, IsSurvey, first_track, survey
 ghost use Rattle.lanes.specs.Walked.{IsWalked};
 ghost use Rattle.lanes.specs.declared.found.TheConstants.{MOST_END};
 
-use crate::ends::{greatest_end, texts_end};
+use crate::ends::{count_frames, greatest_end, texts_end};
 use crate::found::Survey;
 use cluster_reader::{Cursor, Step};
 use merge_model::{Link, TrackLink};
 use mkv_io::{List, ReadEnd, Reads};
 use std::alloc::Global;
 
-/// Goes over all that a cursor has left, from what is known already.
-fn walk<R: Reads>(cursor: &mut Cursor, links: &[Link], src: &mut R) -> Result<Survey, ReadEnd>
+/// Goes over all that a cursor has left, and counts the frames of each link's track.
+fn walk<R: Reads>(
+    cursor: &mut Cursor,
+    links: &[Link],
+    counts: &mut [u64],
+    src: &mut R,
+) -> Result<Survey, ReadEnd>
     requires ready { CanRead (live_files R.Reads src.old) cursor.old }
     requires timed { All IsTimed links.now }
+    requires counts { counts.old ≡ replicate (length links.now) 0 }
     ensures value { IfTold R.Reads src.old cursor.old.file (λ bytes. IfOk result (IsWalked (left_of bytes cursor.old) links.now)) }
     ensures small { IfOk result (λ survey. survey.end ≤ MOST_END) }
     ensures standing { R.standing src.new ≡ R.standing src.old }
@@ -35,7 +41,10 @@ fn walk<R: Reads>(cursor: &mut Cursor, links: &[Link], src: &mut R) -> Result<Su
     };
     'steps: loop {
         match cursor.advance(src)? {
-            Step::Block => survey.end = greatest_end(links, cursor, survey.end),
+            Step::Block => {
+                survey.end = greatest_end(links, counts, cursor, survey.end);
+                count_frames(links, cursor, counts);
+            }
             Step::Damaged(_) => survey.stopped = cursor.stopped() || survey.stopped,
             Step::End => return Ok(survey),
         }
@@ -76,5 +85,6 @@ pub fn survey<R: Reads>(alloc: Global, src: &mut R, links: &List<Link>) -> Resul
         });
     };
     let mut cursor = Cursor::start(alloc, &*track.outline, track.file, track.scale)?;
-    walk(&mut cursor, links, src)
+    let mut counts = vec![in alloc; 0; links.len()]?;
+    walk(&mut cursor, links, &mut counts, src)
 }

@@ -1,5 +1,5 @@
 -- What is read of an input, and how it stands among other files.
-use Rattle.std.proofs.Common.{◌≡◌, ℕ, Bool, true, false, List, length, map, Option, Some, None, IfSome, Result, Ok, Err, refl, sym, ◌∙◌, ap, arith}
+use Rattle.std.proofs.Common.{◌≡◌, ℕ, Bool, true, false, List, [], length, map, Option, Some, None, IfSome, Result, Ok, Err, refl, sym, ◌∙◌, ap, arith}
 use Rattle.std.specs.List.{All}
 use Rattle.mkv_io.specs.declared.damage.Damage.{Damage}
 use Rattle.mkv_schema.specs.Outline.{Outlined}
@@ -10,6 +10,7 @@ use Rattle.output_model.specs.declared.attachment.Attachment.{Attachment}
 use Rattle.record_changes.specs.declared.uid_map.TagKeep.{TagKeep}
 use Rattle.meta_records.specs.Attached.{AttachedFile, in_file}
 use Rattle.meta_records.specs.Records.{FileRecords, file_records, scale_of_info}
+use Rattle.ext_times.specs.Listing.{Listing}
 use Rattle.merge_words.specs.declared.files.FileWords.{FileWords}
 use Rattle.merge_inputs.specs.Input.{InputRead, Clusters, CanBeGiven, file_read, found_then, input_with, refusal_of, unless_refused}
 use Rattle.merge_inputs.specs.declared.input.Blocks.{Blocks}
@@ -25,8 +26,8 @@ use Rattle.merge_inputs.specs.declared.input.InputRefusal.TheVariants.{Damaged}
 -- ---- what is read
 
 -- what is read of a file with this outline
-abbrev pub read_with : FileOutline → ℕ → List ℕ → ℕ → List TakenTrack → List AttachedFile → Option Node → Option Node → TagKeep → Option ℕ → InputRead
-read_with v scale title count taken attachments chapters tags keep shift = record {
+abbrev pub read_with : FileOutline → ℕ → List ℕ → ℕ → List TakenTrack → List AttachedFile → Option Node → Option Node → TagKeep → Option ℕ → List (ℕ × Listing) → InputRead
+read_with v scale title count taken attachments chapters tags keep shift times = record {
   blocks = Clusters v.segment scale;
   title = title;
   held = v.held;
@@ -37,13 +38,14 @@ read_with v scale title count taken attachments chapters tags keep shift = recor
   tags = tags;
   keep = keep;
   shift = shift;
+  times = times;
 }
 
 -- the same of one with these records
 abbrev pub read_as : FileWords → Bool → FileOutline → FileRecords → InputRead
 read_as words webm v r =
     read_with v (scale_of_info r.info) (title_of_info r.info) (length r.tracks) (taken_from words 0 r.tracks)
-    (kept_list (keeps_attachments words webm) r.attachments) (kept_one (keeps_chapters words webm) r.chapters) (kept_one (keeps_tags words) r.tags) (keep_of words) (unmoved words)
+    (kept_list (keeps_attachments words webm) r.attachments) (kept_one (keeps_chapters words webm) r.chapters) (kept_one (keeps_tags words) r.tags) (keep_of words) (unmoved words) []
 
 -- what refuses it
 abbrev pub refusal_as : FileWords → FileRecords → Option InputRefusal
@@ -90,11 +92,11 @@ file_read-all words webm held bytes v r input outline records good is =
     ∙ ap Ok (sym is)
 
 -- two that agree in each part
-pub read-same : (v w : FileOutline) {scale scale' : ℕ} {title title' : List ℕ} {count count' : ℕ} {taken taken' : List TakenTrack} {attachments attachments' : List AttachedFile} {chapters chapters' tags tags' : Option Node} {keep keep' : TagKeep} {shift shift' : Option ℕ}
-    → v ≡ w → scale ≡ scale' → title ≡ title' → count ≡ count' → taken ≡ taken' → attachments ≡ attachments' → chapters ≡ chapters' → tags ≡ tags' → keep ≡ keep' → shift ≡ shift'
-    → read_with v scale title count taken attachments chapters tags keep shift ≡ read_with w scale' title' count' taken' attachments' chapters' tags' keep' shift'
-read-same v w outline scale_is title_is count_is taken_is attachments_is chapters_is tags_is keep_is shift_is =
-    λ i. read_with (outline i) (scale_is i) (title_is i) (count_is i) (taken_is i) (attachments_is i) (chapters_is i) (tags_is i) (keep_is i) (shift_is i)
+pub read-same : (v w : FileOutline) {scale scale' : ℕ} {title title' : List ℕ} {count count' : ℕ} {taken taken' : List TakenTrack} {attachments attachments' : List AttachedFile} {chapters chapters' tags tags' : Option Node} {keep keep' : TagKeep} {shift shift' : Option ℕ} {times times' : List (ℕ × Listing)}
+    → v ≡ w → scale ≡ scale' → title ≡ title' → count ≡ count' → taken ≡ taken' → attachments ≡ attachments' → chapters ≡ chapters' → tags ≡ tags' → keep ≡ keep' → shift ≡ shift' → times ≡ times'
+    → read_with v scale title count taken attachments chapters tags keep shift times ≡ read_with w scale' title' count' taken' attachments' chapters' tags' keep' shift' times'
+read-same v w outline scale_is title_is count_is taken_is attachments_is chapters_is tags_is keep_is shift_is times_is =
+    λ i. read_with (outline i) (scale_is i) (title_is i) (count_is i) (taken_is i) (attachments_is i) (chapters_is i) (tags_is i) (keep_is i) (shift_is i) (times_is i)
 
 -- ---- what is kept
 

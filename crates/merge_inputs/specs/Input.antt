@@ -20,6 +20,7 @@ use Rattle.srt_texts.specs.Reading.{AreWithin}
 use Rattle.input_files.specs.TextFile.{srt_text}
 use Rattle.input_files.specs.declared.limits.TheConstants.{MOST_OF_SRT}
 use Rattle.input_files.specs.declared.refusal.TextRefusal.{TextRefusal}
+use Rattle.ext_times.specs.Listing.{Listing}
 use Rattle.input_files.specs.Names.{is_srt}
 use Rattle.input_files.specs.Track.{text_entry}
 use Rattle.track_records.specs.Track.{track_of}
@@ -33,6 +34,7 @@ use Rattle.merge_inputs.specs.declared.taken.TakenTrack.{TakenTrack}
 use Rattle.merge_inputs.specs.declared.input.Blocks.{Blocks}
 use Rattle.merge_inputs.specs.declared.input.Blocks.TheVariants as held_by
 use Rattle.merge_inputs.specs.declared.input.Input.{Input}
+use Rattle.merge_inputs.specs.declared.input.TrackTimes.{TrackTimes}
 use Rattle.merge_inputs.specs.declared.input.InputEnd.{InputEnd}
 use Rattle.merge_inputs.specs.declared.input.InputEnd.TheVariants as input_end
 use Rattle.merge_inputs.specs.declared.input.InputRefusal.{InputRefusal}
@@ -44,8 +46,8 @@ pub data BlocksRead : Type 0 where
   Entries : List Entry → BlocksRead
 
 -- What holds its blocks, and its title; the octets of every Info, Tracks, Chapters and Tags; how many
--- tracks it has, and those that are taken; what is kept of its attached files, Chapters and Tags; which of the Tags are; and by how
--- many nanoseconds it is later, where it is appended to another.
+-- tracks it has, and those that are taken; what is kept of its attached files, Chapters and Tags; which of the Tags are; by how
+-- many nanoseconds it is later, where it is appended to another; and the times of its tracks' frames that files list, by the tracks' IDs.
 pub record InputRead : Type 0 where
   pub blocks : BlocksRead
   pub title : List ℕ
@@ -57,6 +59,7 @@ pub record InputRead : Type 0 where
   pub tags : Option Node
   pub keep : TagKeep
   pub shift : Option ℕ
+  pub times : List (ℕ × Listing)
 
 -- ---- what is read of a content
 
@@ -87,6 +90,7 @@ input_with words webm o r = record {
   tags = kept_one (keeps_tags words) r.tags;
   keep = keep_of words;
   shift = unmoved words;
+  times = [];
 }
 
 -- what is read of a file with Clusters, or the first thing that refuses it: its outline, where earlier inputs have held so many octets;
@@ -110,6 +114,7 @@ text_with words entries = record {
   tags = None;
   keep = keep_of words;
   shift = unmoved words;
+  times = [];
 }
 
 -- what is made of entries; what refuses a text refuses the input
@@ -140,6 +145,10 @@ abbrev pub total_in : Blocks → ℕ
 total_in (held_by.Clusters outline scale) = outline.value.total
 total_in (held_by.Entries entries) = 0
 
+-- what the files list that its times are of
+abbrev pub listings_in : List TrackTimes → List (ℕ × Listing)
+listings_in times = map (λ (t : TrackTimes). (t.id, t.times.value)) times
+
 -- what was read of an input
 abbrev pub read_in : Input → InputRead
 read_in i = record {
@@ -153,6 +162,7 @@ read_in i = record {
   tags = i.tags;
   keep = i.keep;
   shift = i.shift;
+  times = listings_in i.times;
 }
 
 -- the blocks and damages of an input whose file has this content; a text has neither Blocks nor damages

@@ -20,6 +20,7 @@ value_for id (pair ∷ pairs) = if pair.0 == id then Some pair.1 else value_for 
 -- a track, and what the words say of its ID; where they say nothing of a delay, there is none
 abbrev pub taken_track : FileWords → ℕ → Track → TakenTrack
 taken_track words id t = record {
+  id = id;
   track = t;
   name = value_for id words.names;
   language = value_for id words.languages;

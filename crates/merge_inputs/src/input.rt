@@ -6,6 +6,7 @@ ghost use Rattle.merge_inputs.specs.declared.input.InputEnd.TheVariants as input
 use crate::taken::TakenTrack;
 use ebml_tree::Tree;
 use element_reader::{Outline, OutlineEnd};
+use ext_times::Times;
 use input_files::{TextFileEnd, TextRefusal};
 use mkv_io::{Damage, Entry, Failed, FileId, List, Text};
 use output_model::Attachment;
@@ -44,6 +45,16 @@ pub struct Input {
     /// By how many nanoseconds it is later, where it goes on where the input before it ends: 0 as it is read, since that
     /// end isn't known yet.
     pub shift: Option<u64>,
+    /// The times of its tracks' frames, where they are those of files: none as it is read, since those files are read apart.
+    pub times: List<TrackTimes>,
+}
+
+/// The times of a track's frames from a file.
+#[derive(Drop)]
+pub struct TrackTimes {
+    /// The track's place in Tracks, from 0.
+    pub id: u64,
+    pub times: Rc<Times>,
 }
 
 /// What refuses an input.

@@ -12,6 +12,6 @@ mod taken;
 mod title;
 pub mod track_type;
 
-pub use input::{Blocks, Input, InputEnd, InputRefusal};
+pub use input::{Blocks, Input, InputEnd, InputRefusal, TrackTimes};
 pub use reading::read_input;
 pub use taken::TakenTrack;

@@ -69,6 +69,7 @@ fn read_file<R: Reads>(
         tags: kept_tree(keeps_tags(words), tags),
         keep: keep_of(words),
         shift: unmoved(words),
+        times: List::new(alloc),
     })
 }
 
@@ -102,6 +103,7 @@ fn read_text<R: Reads>(
         tags: None,
         keep: keep_of(words),
         shift: unmoved(words),
+        times: List::new(alloc),
     })
 }
 

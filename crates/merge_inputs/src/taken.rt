@@ -16,6 +16,8 @@ use word_values::CueWord;
 /// A track that is taken, and what the words say of it.
 #[derive(Drop)]
 pub struct TakenTrack {
+    /// Its place in Tracks, from 0.
+    pub id: u64,
     pub track: Track,
     pub name: Option<Text>,
     pub language: Option<Text>,
@@ -54,6 +56,7 @@ fn taken_track(
     ensures { IfOk result (λ taken. taken ≡ taken_track words.now id track) }
 {
     Ok(TakenTrack {
+        id,
         track,
         name: text_for(alloc, id, words.names.as_slice())?,
         language: text_for(alloc, id, words.languages.as_slice())?,

@@ -1,7 +1,7 @@
 -- What the links of a lane give, by the contents of their files.
-use Rattle.std.specs.Prelude.{◌≡◌, ◌<◌, ◌≤◌, ◌^◌, ⊤, ℕ, ℤ, nat_abs, true, List, [], length, map, Some}
+use Rattle.std.specs.Prelude.{◌≡◌, ◌<◌, ◌≤◌, ◌^◌, ⊤, ℕ, ℤ, nat_abs, true, List, [], length, map, Option, Some}
 use Rattle.std.specs.List.{All}
-use Rattle.std.specs.Option.{unwrap_or}
+use Rattle.std.specs.Option.{option_map, unwrap_or}
 use Rattle.mkv_io.specs.LiveFiles.{LiveFiles, IsSameFile}
 use Rattle.block_format.specs.declared.limits.TheConstants.{TOO_LARGE_TIME}
 use Rattle.block_format.specs.Elements.{with_limits}
@@ -9,8 +9,10 @@ use Rattle.block_format.specs.Events.{Event, events_of}
 use Rattle.mkv_io.specs.declared.entry.Entry.{Entry}
 use Rattle.output_model.specs.declared.TheConstants.{MOST_OF_PREFIX}
 use Rattle.output_model.specs.OutputBlock.{OutputBlock}
+use Rattle.ext_times.specs.Listing.{Listing}
 use Rattle.merge_model.specs.Lanes.{lane_blocks}
 use Rattle.merge_model.specs.Links.{Given, Placing, text_given, track_given}
+use Rattle.merge_model.specs.Timed.{timed}
 use Rattle.merge_model.specs.declared.limits.TheConstants.{MOST_SHIFT, TOO_LARGE_DELAY}
 use Rattle.merge_model.specs.declared.link.Link.{Link}
 use Rattle.merge_model.specs.declared.link.Link.TheVariants.{Track, Entries}
@@ -26,9 +28,17 @@ octets_in f file = unwrap_or (f.content file) []
 abbrev pub placing_of : TrackLink → Placing
 placing_of t = record { delay = t.delay; shift = t.shift; default_duration = t.default_duration; prefix = t.prefix }
 
+-- what the file lists that gives the times of its frames, if there is one
+abbrev pub listing_of : TrackLink → Option Listing
+listing_of t = option_map (λ times. times.value) t.times
+
+-- with the times of a file, where so many frames of the track stand before
+abbrev pub timed_given : Option Listing → ℕ → Given → Given
+timed_given times k g = record g { blocks = timed times k g.blocks }
+
 -- what a track gives, where its file has these blocks and damages
 abbrev pub track_with : TrackLink → List Event → Given
-track_with t events = track_given (placing_of t) t.number events
+track_with t events = timed_given (listing_of t) 0 (track_given (placing_of t) t.number events)
 
 -- the blocks and damages of a track's file
 abbrev pub track_events : LiveFiles → TrackLink → List Event

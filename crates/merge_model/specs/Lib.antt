@@ -5,3 +5,4 @@ pub mod Links
 pub mod Merged
 pub mod Ticks
 pub mod FileLinks
+pub mod Timed

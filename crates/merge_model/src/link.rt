@@ -1,6 +1,7 @@
 //! What a lane is made of.
 
 use element_reader::Outline;
+use ext_times::Times;
 use mkv_io::{Bytes, Entry, FileId, List};
 use std::rc::Rc;
 
@@ -38,6 +39,9 @@ pub struct TrackLink {
     pub shift: u64,
     /// What stands in front of each frame.
     pub prefix: Bytes,
+    /// The times of the track's frames, which count from 0, where they are those of a file. Each block has then the time of its
+    /// first frame in place of its own.
+    pub times: Option<Rc<Times>>,
 }
 
 /// The entries of a text.

@@ -9,3 +9,4 @@ pub mod FileLemmas
 pub mod SplitLemmas
 mod LinkLemmas
 pub mod PlaceLemmas
+pub mod TimesLemmas

@@ -105,4 +105,4 @@ module _ (i : Input) (links : List Link) (are : AreLinksOf i links) (has : HasTa
 
   -- what they give is what the input gives
   pub links-given : (f : LiveFiles) → map (given_in f) links ≡ given_of (source_in f i)
-  links-given f = zip-map (IsLink i) (given_in f) (given_from (later_by (read_in i)) (blocks_in i.blocks) (octets_in f i.file.n)) (λ t link is. link-given i t f i.blocks link is) i.taken links are
+  links-given f = zip-map (IsLink i) (given_in f) (given_from (read_in i).times (later_by (read_in i)) (blocks_in i.blocks) (octets_in f i.file.n)) (λ t link is. link-given i t f i.blocks link is) i.taken links are

@@ -15,7 +15,8 @@ use Rattle.mkv_io.specs.declared.entry.Entry.{Entry}
 use Rattle.srt_texts.specs.Reading.{AreWithin, IsEntryWithin}
 use Rattle.input_files.specs.declared.limits.TheConstants.{MOST_OF_SRT}
 use Rattle.merge_model.specs.Links.{Given, Placing, text_given, track_given}
-use Rattle.merge_model.specs.FileLinks.{octets_in, placing_of, given_in, IsOpenLink, IsOpenTrack, IsToldLink, IsSmallEntry, IsSmallLink, IsSmallText, IsSmallTrack}
+use Rattle.ext_times.specs.Listing.{Listing}
+use Rattle.merge_model.specs.FileLinks.{listing_of, octets_in, placing_of, given_in, timed_given, IsOpenLink, IsOpenTrack, IsToldLink, IsSmallEntry, IsSmallLink, IsSmallText, IsSmallTrack}
 use Rattle.merge_model.specs.declared.link.Link.{Link}
 use Rattle.merge_model.specs.declared.link.Link.TheVariants.{Track, Entries}
 use Rattle.merge_model.specs.declared.link.TextLink.{TextLink}
@@ -98,14 +99,14 @@ spots-rules n inputs =
 
 -- what a track gives, among these files
 abbrev pub given_at : LiveFiles → Spot → Given
-given_at f s = given_from (later_by (read_in s.input)) (blocks_in s.input.blocks) (octets_in f s.input.file.n) s.track
+given_at f s = given_from (read_in s.input).times (later_by (read_in s.input)) (blocks_in s.input.blocks) (octets_in f s.input.file.n) s.track
 
 spots-given : (f : LiveFiles) (n : ℕ) (inputs : List Input) → map (map (given_at f)) (spots_from n inputs) ≡ lanes_given (map (source_in f) inputs)
 spots-given f n inputs =
     sym (lanes-map (λ (s : Source). is_appended s.1) given_of (λ (each : ℕ × Input). source_in f each.1) spots_in (given_at f) (λ each. of each.0 each.1 each.1.taken) (enumerate_from n inputs))
     ∙ ap lanes_given (unnumbered (source_in f) n inputs)
   where
-    of : (n : ℕ) (i : Input) (ts : List TakenTrack) → map (given_from (later_by (read_in i)) (blocks_in i.blocks) (octets_in f i.file.n)) ts ≡ map (given_at f) (map (spot n i) ts)
+    of : (n : ℕ) (i : Input) (ts : List TakenTrack) → map (given_from (read_in i).times (later_by (read_in i)) (blocks_in i.blocks) (octets_in f i.file.n)) ts ≡ map (given_at f) (map (spot n i) ts)
     of n i [] = refl
     of n i (t ∷ ts) = ap (λ l. given_at f (spot n i t) ∷ l) (of n i ts)
 
@@ -152,9 +153,11 @@ module _ (i : Input) (read : FileOutline) (nanoseconds : ℕ) (t : TakenTrack) (
       ∙ ap (λ (file : FileId). made f (placing_for (later_by (read_in i)) t) t.track.number nanoseconds file.n link.outline.value) is.file
       ∙ ap (made f (placing_for (later_by (read_in i)) t) t.track.number nanoseconds i.file.n) is.outline
 
-  track-given : (f : LiveFiles) → given_in f (Track link) ≡ given_for (later_by (read_in i)) (events_of (with_limits nanoseconds) (octets_in f i.file.n) read.segment) t
+  track-given : (f : LiveFiles) → given_in f (Track link) ≡ given_for (read_in i).times (later_by (read_in i)) (events_of (with_limits nanoseconds) (octets_in f i.file.n) read.segment) t
   unfolding made
-  track-given f = made-same f
+  track-given f =
+      ap (timed_given (listing_of link) 0) (made-same f)
+      ∙ ap (λ (times : Option Listing). timed_given times 0 (track_given (placing_for (later_by (read_in i)) t) t.track.number (events_of (with_limits nanoseconds) (octets_in f i.file.n) read.segment))) is.times
 
   track-small : IsTaken t → HasPlace i → IsSmallTrack link
   track-small taken place =
@@ -203,7 +206,7 @@ input-taken f i good = record { taken = good.taken; text = short i.blocks good.b
     short (held_by.Entries entries) are = are
 
 module _ (i : Input) (t : TakenTrack) where
-  pub link-given : (f : LiveFiles) (blocks : Blocks) (link : Link) → IsLinkBy i blocks t link → given_in f link ≡ given_from (later_by (read_in i)) (blocks_in blocks) (octets_in f i.file.n) t
+  pub link-given : (f : LiveFiles) (blocks : Blocks) (link : Link) → IsLinkBy i blocks t link → given_in f link ≡ given_from (read_in i).times (later_by (read_in i)) (blocks_in blocks) (octets_in f i.file.n) t
   link-given f (held_by.Clusters outline scale) (Track link) is = track-given i outline.value scale t link is f
   link-given f (held_by.Clusters outline scale) (Entries text) is = absurd is
   link-given f (held_by.Entries entries) (Track link) is = absurd is

@@ -6,6 +6,8 @@ use Rattle.tree_format.specs.Node.{Node}
 use Rattle.block_format.specs.Events.{Event}
 use Rattle.file_format.specs.Encoding.{prefix_of}
 use Rattle.output_model.specs.declared.heads.ClusterLimits.{ClusterLimits}
+use Rattle.ext_times.specs.Listing.{Listing}
+use Rattle.merge_model.specs.FileLinks.{timed_given}
 use Rattle.merge_model.specs.Links.{Given, Placing, text_given, track_given}
 use Rattle.output_model.specs.declared.rule.CueRule.{CueRule}
 use Rattle.output_model.specs.declared.rule.CueRule.TheVariants as rule
@@ -18,6 +20,7 @@ use Rattle.word_values.specs.declared.values.CueWord.TheVariants.{Never, Key, Al
 use Rattle.merge_words.specs.declared.output.MergeWords.{MergeWords}
 use Rattle.merge_inputs.specs.declared.track_type.TheConstants.{VIDEO_TRACK, SUBTITLE_TRACK}
 use Rattle.merge_inputs.specs.Input.{BlocksRead, Clusters, Entries, InputRead, events_by}
+use Rattle.merge_inputs.specs.Taken.{value_for}
 use Rattle.merge_inputs.specs.declared.taken.TakenTrack.{TakenTrack}
 use Rattle.merge_plan.specs.Chains.{lanes_by}
 use Rattle.merge_plan.specs.Records.{chapters_of, is_appended, tracks_taken}
@@ -37,19 +40,19 @@ later_by i = unwrap_or i.shift 0
 abbrev pub placing_for : ℕ → TakenTrack → Placing
 placing_for shift t = record { delay = t.delay; shift = shift; default_duration = t.track.default_duration; prefix = prefix_of t.track.entry }
 
--- what a track gives of a file with these blocks and damages
-abbrev pub given_for : ℕ → List Event → TakenTrack → Given
-given_for shift events t = track_given (placing_for shift t) t.track.number events
+-- what a track gives of a file with these blocks and damages, at its own times or at those that files list for tracks
+abbrev pub given_for : List (ℕ × Listing) → ℕ → List Event → TakenTrack → Given
+given_for times shift events t = timed_given (value_for t.id times) 0 (track_given (placing_for shift t) t.track.number events)
 
 -- what a track gives, by what holds the blocks of its input, and by the content of the file: of Clusters its own blocks, with the damages of
 -- the file; of a text all entries
-abbrev pub given_from : ℕ → BlocksRead → List ℕ → TakenTrack → Given
-given_from shift (Clusters segment scale) bytes t = given_for shift (events_by (Clusters segment scale) bytes) t
-given_from shift (Entries entries) bytes t = text_given t.delay shift entries
+abbrev pub given_from : List (ℕ × Listing) → ℕ → BlocksRead → List ℕ → TakenTrack → Given
+given_from times shift (Clusters segment scale) bytes t = given_for times shift (events_by (Clusters segment scale) bytes) t
+given_from times shift (Entries entries) bytes t = text_given t.delay shift entries
 
 -- what the tracks of a source give to its lanes
 abbrev pub given_of : Source → List Given
-given_of s = map (given_from (later_by s.1) s.1.blocks s.0) s.1.taken
+given_of s = map (given_from s.1.times (later_by s.1) s.1.blocks s.0) s.1.taken
 
 -- Each lane, by what its links give: a track of a source that isn't appended begins one, and the tracks at its place of those that are
 -- appended to that source go on in it.

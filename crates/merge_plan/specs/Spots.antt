@@ -11,6 +11,7 @@ use Rattle.mkv_io.specs.declared.entry.Entry.{Entry}
 use Rattle.srt_texts.specs.Reading.{AreWithin}
 use Rattle.input_files.specs.declared.limits.TheConstants.{MOST_OF_SRT}
 use Rattle.output_model.specs.declared.TheConstants.{MOST_OF_PREFIX}
+use Rattle.merge_model.specs.FileLinks.{listing_of}
 use Rattle.merge_model.specs.declared.limits.TheConstants.{MOST_SHIFT}
 use Rattle.output_model.specs.declared.rule.CueRule.{CueRule}
 use Rattle.output_model.specs.declared.rule.CueRule.TheVariants.{Never}
@@ -21,7 +22,7 @@ use Rattle.merge_model.specs.declared.link.TrackLink.{TrackLink}
 use Rattle.splitter.specs.Split.{is_driver}
 use Rattle.remux_plan.specs.Parts.{drivers_of}
 use Rattle.remux_plan.specs.declared.plan.PlannedLane.{PlannedLane}
-use Rattle.merge_inputs.specs.Taken.{IsTaken}
+use Rattle.merge_inputs.specs.Taken.{IsTaken, value_for}
 use Rattle.merge_inputs.specs.declared.input.Blocks.{Blocks}
 use Rattle.merge_inputs.specs.declared.input.Blocks.TheVariants as held_by
 use Rattle.merge_inputs.specs.declared.input.Input.{Input}
@@ -71,6 +72,7 @@ pub record IsLinkOf (i : Input) (read : FileOutline) (nanoseconds : ℕ) (t : Ta
   pub delay : link.delay ≡ t.delay
   pub shift : link.shift ≡ later_by (read_in i)
   pub prefix : link.prefix ≡ prefix_of t.track.entry
+  pub times : listing_of link ≡ value_for t.id (read_in i).times
   pub short : length link.prefix ≤ MOST_OF_PREFIX
 
 -- A link is this track of an input that is a text with these entries.

@@ -1,16 +1,17 @@
 //! The lanes of a plan: one for each track that is taken of an input that isn't appended to another.
 
-ghost use Rattle.std.specs.Prelude.{◌≡◌, ◌≤◌, ◌<◌, ◌+◌, ◌^◌, ◌∷◌, length, IfOk, OnOk};
+ghost use Rattle.std.specs.Prelude.{◌≡◌, ◌≤◌, ◌<◌, ◌+◌, ◌^◌, ◌∷◌, length, option_map, IfOk, OnOk};
 ghost use Rattle.std.specs.List.{All, take_while};
 ghost use Rattle.file_format.specs.Encoding.{prefix_of};
 ghost use Rattle.output_model.specs.declared.TheConstants.{MOST_OF_PREFIX};
 ghost use Rattle.merge_inputs.specs.Input.{read_in};
-ghost use Rattle.merge_inputs.specs.Taken.{IsTaken};
+ghost use Rattle.merge_inputs.specs.Taken.{IsTaken, value_for};
 ghost use Rattle.merge_plan.specs.Plan.{later_by, rule_of, usual_rule};
 ghost use Rattle.merge_plan.specs.Spots.{AreDriven, AreLanesOf, AreLinksOf, GoesOn, HasTaken, IsLaneOf, IsLink, IsLinkOf, IsTextOf, goes_on, spot, spots_at, spots_behind};
 
 use crate::entries::tracks_begun;
 use element_reader::Outline;
+use ext_times::Times;
 use merge_inputs::track_type::{SUBTITLE_TRACK, VIDEO_TRACK};
 use merge_inputs::{Blocks, Input, TakenTrack};
 use merge_model::{LaneSpec, Link, TextLink, TrackLink};
@@ -66,6 +67,18 @@ fn later_by(input: &Input) -> u64
     input.shift.unwrap_or(0)
 }
 
+/// The times of a track's frames, where they are those of a file.
+fn times_of(input: &Input, taken: &TakenTrack) -> Result<Option<Rc<Times>>, AllocError>
+    ensures { IfOk result (λ times. option_map (λ shared. shared.value) times ≡ value_for taken.now.id (read_in input.now).times) }
+{
+    for each in input.times.as_slice() {
+        if each.id == taken.id {
+            return Ok(Some(each.times.clone()?));
+        }
+    }
+    Ok(None)
+}
+
 /// A track of an input whose file has this outline, and so many nanoseconds a tick, as a link.
 fn track_of(
     alloc: Global,
@@ -86,6 +99,7 @@ fn track_of(
         delay: taken.delay,
         shift: later_by(input),
         prefix: prefix_of(alloc, taken)?,
+        times: times_of(input, taken)?,
     })
 }
 

@@ -55,7 +55,7 @@ table =
     option (codes "") (codes "--default-track-flag") s.DefaultFlag Track f.TrackFlag (codes "say whether players prefer the track") ∷
     option (codes "") (codes "--forced-display-flag") s.ForcedFlag Track f.TrackFlag (codes "say whether the track is always shown") ∷
     option (codes "") (codes "--cues") s.Cues Track f.TrackCues (codes "say which blocks are listed for seeking") ∷
-    option (codes "") (codes "--timestamps") s.Times Track f.TrackFile (codes "take the times from a file (not built)") ∷ []
+    option (codes "") (codes "--timestamps") s.Times Track f.TrackFile (codes "take the times from a file") ∷ []
 
 -- a row of the code's table
 abbrev pub shown : OptionRow → Row

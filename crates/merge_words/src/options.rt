@@ -97,7 +97,7 @@ static MERGE_OPTIONS: [OptionRow; 27] = [
     OptionRow("", "--default-track-flag", Subject::DefaultFlag, Scope::Track, ValueForm::TrackFlag, "say whether players prefer the track"),
     OptionRow("", "--forced-display-flag", Subject::ForcedFlag, Scope::Track, ValueForm::TrackFlag, "say whether the track is always shown"),
     OptionRow("", "--cues", Subject::Cues, Scope::Track, ValueForm::TrackCues, "say which blocks are listed for seeking"),
-    OptionRow("", "--timestamps", Subject::Times, Scope::Track, ValueForm::TrackFile, "take the times from a file (not built)"),
+    OptionRow("", "--timestamps", Subject::Times, Scope::Track, ValueForm::TrackFile, "take the times from a file"),
 ];
 
 /// The options of `merge`: those for the whole output, then those for the next file.

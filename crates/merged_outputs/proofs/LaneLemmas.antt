@@ -82,7 +82,7 @@ begun-count (s ∷ ss) =
   where
     of : (b : Bool) → length (if b then [] else given_of s) ≡ length (if b then [] else s.1.taken)
     of true = refl
-    of false = length-map s.1.taken (given_from (later_by s.1) s.1.blocks s.0)
+    of false = length-map s.1.taken (given_from s.1.times (later_by s.1) s.1.blocks s.0)
 
 -- one for each lane, and for each link that begins one
 abbrev of_lane : List Given → ℕ

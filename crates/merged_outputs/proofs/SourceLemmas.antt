@@ -42,7 +42,10 @@ use Rattle.track_records.specs.Entry.{IsWholeEntry}
 use Rattle.record_laws.proofs.WholeLemmas.{read-entries-whole}
 use Rattle.merged_records.proofs.OutputLemmas.{title-in}
 use Rattle.mkv_io.specs.declared.entry.Entry.{Entry}
-use Rattle.input_files.specs.ChapterFile.{chapter_file}
+use Rattle.ext_times.specs.Listing.{Listing}
+use Rattle.input_files.specs.TextFiles.{text_files}
+use Rattle.input_files.specs.declared.text_files.TextFiles.{TextFiles}
+use Rattle.input_files.specs.declared.times_file.TimesFile.{TimesFile}
 use Rattle.input_files.specs.TextFile.{srt_text}
 use Rattle.input_files.specs.declared.chapter_file.ChapterFile.{ChapterFile}
 use Rattle.input_files.specs.declared.chapter_file.ChapterFile.TheVariants as file
@@ -70,7 +73,8 @@ use Rattle.merge_plan.specs.Refusal.{plan_refusal}
 use Rattle.merge_plan.specs.declared.refusal.PlanRefusal.{PlanRefusal}
 use Rattle.mkv_merge.specs.Merge as merge
 use Rattle.mkv_merge.specs.Merge.{sources_beside, sources_of, sources_read, sources_settled, sources_with}
-use Rattle.mkv_merge.specs.Chapters.{chaptered, chapters_refusal, first_with, with_chapters}
+use Rattle.mkv_merge.specs.Chapters.{chaptered, chapters_refusal, first_with, with_chapters, with_file}
+use Rattle.mkv_merge.specs.Texts.{listings_at, times_refusal, timed_from, with_listings, with_times}
 use Rattle.mkv_merge.specs.Read.{begun_refusal, contents_of, first_written, inputs_from, inputs_of, inputs_with, numbered, unless_missing}
 use Rattle.mkv_merge.specs.Refused as refused
 use Rattle.mkv_merge.specs.declared.refusal.Refusal.{Refusal}
@@ -338,6 +342,20 @@ chaptered-read webm file.Missing contents reads each = each
 chaptered-read webm (file.Refused why) contents reads each = each
 chaptered-read webm (file.Read chapters) contents reads each = first-chaptered (kept_one (not webm) (Some chapters)) contents reads each
 
+-- ---- inputs with times
+
+times-source : (bytes : List ℕ) (read : InputRead) (times : List (ℕ × Listing)) → IsReadSource (bytes, read) → IsReadSource (bytes, with_listings times read)
+times-source bytes read times is = record { octets = is.octets; entries = is.entries; title = is.title; tracks = is.tracks; place = is.place }
+
+timed-read : (files : List TimesFile) (input : ℕ) (contents : List (List ℕ)) (reads : List InputRead) → All IsReadSource (zip contents reads) → All IsReadSource (zip contents (timed_from files input reads))
+timed-read files input [] [] each = each
+timed-read files input [] (r ∷ rs) each = each
+timed-read files input (c ∷ cs) [] each = each
+timed-read files input (c ∷ cs) (r ∷ rs) each =
+    All-cons IsReadSource (c, with_listings (listings_at input files) r) (zip cs (timed_from files (suc input) rs))
+    (times-source c r (listings_at input files) (All-head IsReadSource (c, r) (zip cs rs) each))
+    (timed-read files (suc input) cs rs (All-tail IsReadSource (c, r) (zip cs rs) each))
+
 -- ---- the sources
 
 content-octets : (world : List ℕ → Option (List ℕ)) (name : List ℕ) (o : Option (List ℕ)) → HoldsOctets world → world name ≡ o → AreOctets (unwrap_or o [])
@@ -366,17 +384,21 @@ all-alike None reads alike is = cc
 all-alike (Some why) reads alike is = absurd (cc)
 
 module _ (words : MergeWords) (sources : List Source) (sound : IsSoundMerge words) (texts : AreTexts words) where
-  with-contents : (chapters : ChapterFile) (contents : List (List ℕ)) → length contents ≡ length words.files → All AreOctets contents → sources_with words chapters contents ≡ Ok sources → AreSources words sources
-  with-contents chapters contents same octets is =
-      let planned = then-ok (sources_read words chapters contents) (merge.unless_refused words) sources is in
+  with-contents : (given : TextFiles) (contents : List (List ℕ)) → length contents ≡ length words.files → All AreOctets contents → sources_with words given contents ≡ Ok sources → AreSources words sources
+  with-contents given contents same octets is =
+      let planned = then-ok (sources_read words given contents) (merge.unless_refused words) sources is in
       let good = no-refusal (option_map Plan (plan_refusal words (reads_of planned.0))) planned.0 sources planned.1.1 in
-      let inputs = then-ok (inputs_with words chapters contents) _ planned.0 planned.1.0 in
+      let inputs = then-ok (inputs_with words given contents) _ planned.0 planned.1.0 in
       let reads : List InputRead = inputs.0 in
       let found = then-ok (inputs_of words contents) _ reads inputs.1.0 in
-      let whole : chaptered with_chapters words.webm chapters found.0 ≡ reads = all-alike (chapters_refusal chapters) (chaptered with_chapters words.webm chapters found.0) reads found.1.1 in
+      let chapters : ChapterFile = given.chapters in
+      let headed = then-ok (with_file with_chapters words.webm chapters found.0) (with_times given.times) reads found.1.1 in
+      let whole : chaptered with_chapters words.webm chapters found.0 ≡ headed.0 = all-alike (chapters_refusal chapters) (chaptered with_chapters words.webm chapters found.0) headed.0 headed.1.0 in
+      let timed : timed_from given.times 0 headed.0 ≡ reads = all-alike (times_refusal given.times) (timed_from given.times 0 headed.0) reads headed.1.1 in
       let alike = then-ok (refused.unless (option_map Differs (append_refusal reads)) reads) _ planned.0 inputs.1.1 in
-      let read = subst (λ (rs : List InputRead). All IsReadSource (zip contents rs)) whole
-      (chaptered-read words.webm chapters contents found.0 (inputs-read words.webm 0 0 words.files contents found.0 same octets sound.each texts.files found.1.0)) in
+      let read = subst (λ (rs : List InputRead). All IsReadSource (zip contents rs)) timed
+      (timed-read given.times 0 contents headed.0 (subst (λ (rs : List InputRead). All IsReadSource (zip contents rs)) whole
+      (chaptered-read words.webm chapters contents found.0 (inputs-read words.webm 0 0 words.files contents found.0 same octets sound.each texts.files found.1.0)))) in
       let made : in_place (zip contents alike.0) ≡ planned.0 = (let last = alike.1.1 in cc) in
       let placed : in_place (zip contents reads) ≡ sources = ap (λ (rs : List InputRead). in_place (zip contents rs)) (all-alike (option_map Differs (append_refusal reads)) reads alike.0 alike.1.0) ∙ made ∙ good.1 in
       record {
@@ -384,19 +406,19 @@ module _ (words : MergeWords) (sources : List Source) (sound : IsSoundMerge word
         unrefused = ap (λ (each : List Source). plan_refusal words (reads_of each)) (sym good.1) ∙ unplanned (plan_refusal words (reads_of planned.0)) good.0;
       }
 
-  settled-ok : (chapters : ChapterFile) (why : Option Refusal) (contents : List (List ℕ)) → refused.and_then (refused.unless why contents) (sources_with words chapters) ≡ Ok sources → sources_with words chapters contents ≡ Ok sources
-  settled-ok chapters None contents is = is
-  settled-ok chapters (Some why) contents is = absurd (cc)
+  settled-ok : (given : TextFiles) (why : Option Refusal) (contents : List (List ℕ)) → refused.and_then (refused.unless why contents) (sources_with words given) ≡ Ok sources → sources_with words given contents ≡ Ok sources
+  settled-ok given None contents is = is
+  settled-ok given (Some why) contents is = absurd (cc)
 
   -- The sources of a merge can be written.
   pub sources-read : (world : List ℕ → Option (List ℕ)) → HoldsOctets world → sources_of world words ≡ Ok sources → AreSources words sources
   sources-read world holds is =
-      let begun = then-ok (refused.unless (option_map OutputIsInput (first_written words)) (chapter_file world words.chapters)) (sources_beside world words) sources is in
-      let chapters : ChapterFile = begun.0 in
-      let there = then-ok (contents_of world words.files) (sources_settled world words chapters) sources begun.1.1 in
+      let begun = then-ok (refused.unless (option_map OutputIsInput (first_written words)) (text_files world words.chapters words.files)) (sources_beside world words) sources is in
+      let given : TextFiles = begun.0 in
+      let there = then-ok (contents_of world words.files) (sources_settled world words given) sources begun.1.1 in
       let same = there-ok (first_missing world names) contents there.0 there.1.0 in
-      with-contents chapters contents many (contents-octets world names holds)
-      (settled-ok chapters (begun_refusal world words chapters) contents (ap (sources_settled world words chapters) same ∙ there.1.1))
+      with-contents given contents many (contents-octets world names holds)
+      (settled-ok given (begun_refusal world words given) contents (ap (sources_settled world words given) same ∙ there.1.1))
     where
       names : List (List ℕ)
       names = file_names words.files

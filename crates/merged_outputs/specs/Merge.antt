@@ -30,8 +30,8 @@ use Rattle.merged_outputs.specs.Sources.{HoldsOctets}
 
 -- ---- what is selected, and what is read
 
--- the blocks that are selected, lane by lane: those of each track that is taken which stand outside any damage, with its delay, in
--- ticks of the output, and with what header stripping took back in front of each frame
+-- the blocks that are selected, lane by lane: those of each track that is taken which stand outside any damage, at their own times or at
+-- those of a file, with its delay, in ticks of the output, and with what header stripping took back in front of each frame
 abbrev pub lanes_selected : MergeWords → List Source → List (List OutputBlock)
 lanes_selected words sources = map (lane_blocks words.scale) (lanes_given sources)
 

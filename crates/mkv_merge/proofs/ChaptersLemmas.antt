@@ -11,26 +11,20 @@ use Rattle.ebml_tree.specs.Building.{IsRead}
 use Rattle.input_files.specs.ChapterFile.{CanBeWritten}
 use Rattle.input_files.specs.declared.chapter_file.ChapterFile.{ChapterFile}
 use Rattle.input_files.specs.declared.chapter_file.ChapterFile.TheVariants as file
+use Rattle.input_files.specs.declared.text_files.TextFiles.{TextFiles}
 use Rattle.merge_words.specs.declared.output.MergeWords.{MergeWords}
 use Rattle.merge_inputs.specs.Input.{InputRead, IsInput, read_in}
 use Rattle.merge_inputs.specs.Select.{kept_one}
 use Rattle.merge_inputs.specs.declared.input.Input.{Input}
 use Rattle.merge_plan.specs.Spots.{HasPlace}
-use Rattle.mkv_merge.specs.Chapters.{chaptered, chapters_refusal, first_with, missing_chapters, with_chapters, with_file, with_tree}
+use Rattle.mkv_merge.specs.Chapters.{chaptered, chapters_refusal, first_with, with_chapters, with_file, with_tree}
 use Rattle.mkv_merge.specs.Prepared.{AreInputsOf, ReadsAs, reads_in}
 use Rattle.mkv_merge.specs.Read.{inputs_of, inputs_with}
 use Rattle.mkv_merge.specs.Refused.{and_then, unless}
+use Rattle.mkv_merge.specs.Texts.{with_times}
 use Rattle.mkv_merge.specs.declared.refusal.MergeEnd.{MergeEnd}
 use Rattle.mkv_merge.specs.declared.refusal.MergeEnd.TheVariants.{Refused, Stopped}
 use Rattle.mkv_merge.specs.declared.refusal.Refusal.{Refusal}
-
--- ---- a chapter file that is there refuses nothing
-
-pub not-missing : (c : ChapterFile) → (c ≡ file.Missing → ⊥) → missing_chapters c ≡ None
-not-missing file.Absent other = refl
-not-missing file.Missing other = absurd (other refl)
-not-missing (file.Refused why) other = refl
-not-missing (file.Read chapters) other = refl
 
 -- ---- the first of them has the Chapters
 
@@ -120,6 +114,10 @@ chaptered-inputs f list webm (file.Read chapters) inputs written are =
 
 -- ---- what was made of inputs and a chapter file
 
+-- what is made of inputs that were read
+abbrev given : MergeWords → TextFiles → List InputRead → Result (List InputRead) Refusal
+given words texts reads = and_then (with_file with_chapters words.webm texts.chapters reads) (with_times texts.times)
+
 unrefused : {A : Type 0} (why : Option Refusal) (x y : A) → unless why x ≡ Ok y → (why ≡ None) × (x ≡ y)
 unrefused None x y is = (refl, cc)
 unrefused (Some why) x y is = absurd (cc)
@@ -144,11 +142,22 @@ file-inputs f list webm c inputs (Ok made) written are is =
 file-inputs f list webm c inputs (Err end) written are is = tt
 
 -- inputs that weren't read
-pub inputs-end : (words : MergeWords) (c : ChapterFile) (contents : List (List ℕ)) (end : MergeEnd) → ReadsAs reads_in (inputs_of words contents) (Err end) → ReadsAs reads_in (inputs_with words c contents) (Err end)
-inputs-end words c contents (Refused why) is = ap (λ (found : Result (List InputRead) Refusal). and_then found (with_file with_chapters words.webm c)) is
-inputs-end words c contents (Stopped stop) is = tt
+pub inputs-end : (words : MergeWords) (texts : TextFiles) (contents : List (List ℕ)) (end : MergeEnd) → ReadsAs reads_in (inputs_of words contents) (Err end) → ReadsAs reads_in (inputs_with words texts contents) (Err end)
+inputs-end words texts contents (Refused why) is = ap (λ (found : Result (List InputRead) Refusal). and_then found (given words texts)) is
+inputs-end words texts contents (Stopped stop) is = tt
 
--- and those that were
-pub inputs-then : (words : MergeWords) (c : ChapterFile) (contents : List (List ℕ)) (inputs : List Input) (result : Result (List Input) MergeEnd) → inputs_of words contents ≡ Ok (reads_in inputs) → ReadsAs (λ (list : List Input). list) (with_file with_tree words.webm c inputs) result → ReadsAs reads_in (inputs_with words c contents) result
-inputs-then words c contents inputs result read made =
-    subst (λ (found : Result (List InputRead) Refusal). ReadsAs reads_in (and_then found (with_file with_chapters words.webm c)) result) (sym read) (file-read words.webm c inputs result made)
+-- a chapter file that wasn't taken
+pub chapters-end : (words : MergeWords) (texts : TextFiles) (contents : List (List ℕ)) (inputs : List Input) (end : MergeEnd) → inputs_of words contents ≡ Ok (reads_in inputs) → ReadsAs (λ (list : List Input). list) (with_file with_tree words.webm texts.chapters inputs) (Err end) → ReadsAs reads_in (inputs_with words texts contents) (Err end)
+chapters-end words texts contents inputs (Refused why) read made =
+    ap (λ (found : Result (List InputRead) Refusal). and_then found (given words texts)) read
+    ∙ ap (λ (found : Result (List InputRead) Refusal). and_then found (with_times texts.times)) (file-read words.webm texts.chapters inputs (Err (Refused why)) made)
+chapters-end words texts contents inputs (Stopped stop) read made = tt
+
+-- and those that were, with the chapter file's
+pub inputs-then : (words : MergeWords) (texts : TextFiles) (contents : List (List ℕ)) (inputs chaptered : List Input) (result : Result (List Input) MergeEnd) → inputs_of words contents ≡ Ok (reads_in inputs)
+    → with_file with_tree words.webm texts.chapters inputs ≡ Ok chaptered → ReadsAs reads_in (with_times texts.times (reads_in chaptered)) result → ReadsAs reads_in (inputs_with words texts contents) result
+inputs-then words texts contents inputs chaptered result read made timed =
+    subst (λ (found : Result (List InputRead) Refusal). ReadsAs reads_in found result)
+    (sym (ap (λ (found : Result (List InputRead) Refusal). and_then found (given words texts)) read
+    ∙ ap (λ (found : Result (List InputRead) Refusal). and_then found (with_times texts.times)) (file-read words.webm texts.chapters inputs (Ok chaptered) made)))
+    timed

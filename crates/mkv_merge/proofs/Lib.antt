@@ -3,6 +3,7 @@ pub mod NamesLemmas
 pub mod PreparingLemmas
 pub mod SummaryLemmas
 pub mod TellingLemmas
+pub mod TextsLemmas
 pub mod OutputsLemmas
 pub mod VerdictLemmas
 pub mod WritingLemmas

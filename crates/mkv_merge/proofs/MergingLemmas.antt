@@ -9,8 +9,8 @@ use Rattle.mkv_io.specs.Told.{Told}
 use Rattle.mkv_outputs.specs.Sinks.{AreLive}
 use Rattle.input_files.specs.Inputs as inputs
 use Rattle.input_files.specs.Inputs.{file_names, first_missing}
-use Rattle.input_files.specs.ChapterFile.{chapter_file, chapter_octets}
-use Rattle.input_files.specs.declared.chapter_file.ChapterFile.{ChapterFile}
+use Rattle.input_files.specs.TextFiles.{text_files, text_octets}
+use Rattle.input_files.specs.declared.text_files.TextFiles.{TextFiles}
 use Rattle.merge_words.specs.declared.files.FileWords.{FileWords}
 use Rattle.merge_words.specs.declared.output.MergeWords.{MergeWords}
 use Rattle.merge_plan.specs.Front.{attached_length, reads_of}
@@ -39,15 +39,15 @@ pub all-there : (world : List ℕ → Option (List ℕ)) (names : List (List ℕ
 all-there world names none = all-there-from world 0 names none
 
 -- where no input is missing, nothing refuses their names
-pub opened-sources : (world : List ℕ → Option (List ℕ)) (words : MergeWords) (chapters : ChapterFile) (files : List FileWords) → files ≡ words.files → first_missing world (file_names files) ≡ None → sources_beside world words chapters ≡ sources_settled world words chapters (map (λ name. unwrap_or (world name) []) (file_names words.files))
-opened-sources world words chapters files same there =
-    ap (λ (missing : Option ℕ). and_then (unless_missing missing (map (λ name. unwrap_or (world name) []) (file_names words.files))) (sources_settled world words chapters))
+pub opened-sources : (world : List ℕ → Option (List ℕ)) (words : MergeWords) (texts : TextFiles) (files : List FileWords) → files ≡ words.files → first_missing world (file_names files) ≡ None → sources_beside world words texts ≡ sources_settled world words texts (map (λ name. unwrap_or (world name) []) (file_names words.files))
+opened-sources world words texts files same there =
+    ap (λ (missing : Option ℕ). and_then (unless_missing missing (map (λ name. unwrap_or (world name) []) (file_names words.files))) (sources_settled world words texts))
     (ap (λ (each : List FileWords). first_missing world (file_names each)) (sym same) ∙ there)
 
 -- where no output is one of the files that are read, the chapter file counts as it was read
-pub chaptered-sources : (world : List ℕ → Option (List ℕ)) (words : MergeWords) (chapters : ChapterFile) → first_written words ≡ None → chapters ≡ chapter_file world words.chapters → sources_of world words ≡ sources_beside world words chapters
-chaptered-sources world words chapters apart is =
-    ap (λ (name : Option (List ℕ)). and_then (unless (option_map OutputIsInput name) (chapter_file world words.chapters)) (sources_beside world words)) apart
+pub chaptered-sources : (world : List ℕ → Option (List ℕ)) (words : MergeWords) (texts : TextFiles) → first_written words ≡ None → texts ≡ text_files world words.chapters words.files → sources_of world words ≡ sources_beside world words texts
+chaptered-sources world words texts apart is =
+    ap (λ (name : Option (List ℕ)). and_then (unless (option_map OutputIsInput name) (text_files world words.chapters words.files)) (sources_beside world words)) apart
     ∙ ap (sources_beside world words) (sym is)
 
 -- and the files that were opened tell the contents of their names
@@ -83,26 +83,26 @@ reads-both found sources lanes old mid new size now copied is count same copied_
     fits n d more = omega arith
 
 -- where nothing refuses them before, sidecars and then inputs are read
-pub reads-settled : (world : List ℕ → Option (List ℕ)) (words : MergeWords) (chapters : ChapterFile) (contents : List (List ℕ)) (old mid new size now look : ℕ) → begun_refusal world words chapters ≡ None → now ≡ size → mid ≤ old + look → new ≤ mid + most_of (sources_with words chapters contents) now → new ≤ old + (most_of (sources_settled world words chapters contents) size + look)
-reads-settled world words chapters contents old mid new size now look none same first second =
-    subst (λ (found : Option Refusal). new ≤ old + (most_of (and_then (unless found contents) (sources_with words chapters)) size + look)) (sym none)
-    (within (most_of (sources_with words chapters contents) size) (subst (λ (n : ℕ). new ≤ mid + most_of (sources_with words chapters contents) n) same second))
+pub reads-settled : (world : List ℕ → Option (List ℕ)) (words : MergeWords) (texts : TextFiles) (contents : List (List ℕ)) (old mid new size now look : ℕ) → begun_refusal world words texts ≡ None → now ≡ size → mid ≤ old + look → new ≤ mid + most_of (sources_with words texts contents) now → new ≤ old + (most_of (sources_settled world words texts contents) size + look)
+reads-settled world words texts contents old mid new size now look none same first second =
+    subst (λ (found : Option Refusal). new ≤ old + (most_of (and_then (unless found contents) (sources_with words texts)) size + look)) (sym none)
+    (within (most_of (sources_with words texts contents) size) (subst (λ (n : ℕ). new ≤ mid + most_of (sources_with words texts contents) n) same second))
   where
     within : (most : ℕ) → new ≤ mid + most → new ≤ old + (most + look)
     within most second = omega (arith, first)
 
 -- files are opened and closed without reading them
-pub reads-few : (world : List ℕ → Option (List ℕ)) (words : MergeWords) (chapters : ChapterFile) (found : Result (List Source) Refusal) (old opened merged closed size : ℕ) → sources_beside world words chapters ≡ found → size ≡ contents_length world words.files → opened ≡ old → merged ≤ opened + (most_of found size + most_looked words) → closed ≡ merged → closed ≤ old + most_beside world words (sources_beside world words chapters)
-reads-few world words chapters found old opened merged closed size is length begun most ended =
-    within (most_of found size) (most_of (sources_beside world words chapters) (contents_length world words.files)) (most_looked words) (ap (λ (n : ℕ). most_of found n) length ∙ ap (λ (r : Result (List Source) Refusal). most_of r (contents_length world words.files)) (sym is)) most
+pub reads-few : (world : List ℕ → Option (List ℕ)) (words : MergeWords) (texts : TextFiles) (found : Result (List Source) Refusal) (old opened merged closed size : ℕ) → sources_beside world words texts ≡ found → size ≡ contents_length world words.files → opened ≡ old → merged ≤ opened + (most_of found size + most_looked words) → closed ≡ merged → closed ≤ old + most_beside world words (sources_beside world words texts)
+reads-few world words texts found old opened merged closed size is length begun most ended =
+    within (most_of found size) (most_of (sources_beside world words texts) (contents_length world words.files)) (most_looked words) (ap (λ (n : ℕ). most_of found n) length ∙ ap (λ (r : Result (List Source) Refusal). most_of r (contents_length world words.files)) (sym is)) most
   where
     within : (n m l : ℕ) → n ≡ m → merged ≤ opened + (n + l) → closed ≤ old + (m + l)
     within n m l same most = omega arith
 
 -- the chapter file is read in front of them
-pub reads-chaptered : (world : List ℕ → Option (List ℕ)) (words : MergeWords) (found : Result (List Source) Refusal) (old mid new : ℕ) → sources_of world words ≡ found → mid ≤ old + chapter_octets world words.chapters → new ≤ mid + most_beside world words found → new ≤ old + most_read world words
+pub reads-chaptered : (world : List ℕ → Option (List ℕ)) (words : MergeWords) (found : Result (List Source) Refusal) (old mid new : ℕ) → sources_of world words ≡ found → mid ≤ old + text_octets world words.chapters words.files → new ≤ mid + most_beside world words found → new ≤ old + most_read world words
 reads-chaptered world words found old mid new is first second =
-    within (most_beside world words found) (most_beside world words (sources_of world words)) (chapter_octets world words.chapters) (ap (most_beside world words) (sym is)) first second
+    within (most_beside world words found) (most_beside world words (sources_of world words)) (text_octets world words.chapters words.files) (ap (most_beside world words) (sym is)) first second
   where
     within : (n m c : ℕ) → n ≡ m → mid ≤ old + c → new ≤ mid + n → new ≤ old + (c + m)
     within n m c same first second = omega arith

@@ -15,7 +15,8 @@ use Rattle.splitter.specs.Names.{is_part_name}
 use Rattle.remux_plan.specs.Parts.{may_be_written}
 use Rattle.merge_words.specs.declared.output.MergeWords.{MergeWords}
 use Rattle.input_files.specs.Inputs.{file_names}
-use Rattle.mkv_merge.specs.Read.{first_written, is_output, is_part, is_split}
+use Rattle.input_files.specs.TimesFile.{times_named}
+use Rattle.mkv_merge.specs.Read.{first_written, is_output, is_part, is_split, times_names}
 
 -- ---- two names
 
@@ -66,7 +67,8 @@ unwritten-name words name own part = split (is_split words) part
 unwritten-inputs : (words : MergeWords) → first_written words ≡ None → All (λ name. may_be_written (is_split words) words.output name ≡ false) (file_names words.files)
 unwritten-inputs words none =
     let names : List (List ℕ) = file_names words.files in
-    let rest : List (List ℕ) = option_to_list words.chapters ++ map sidecar_of names in
+    let times : List (List ℕ) = times_names (times_named words.files) in
+    let rest : List (List ℕ) = option_to_list words.chapters ++ (times ++ (map sidecar_of names ++ map sidecar_of times)) in
     let own = find (is_output words) (names ++ rest) in
     let part = find (is_part words) (names ++ rest) in
     λ k d below. unwritten-name words (get_or names k d)

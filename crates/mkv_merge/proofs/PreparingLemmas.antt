@@ -12,7 +12,7 @@ use Rattle.mkv_io.specs.LiveFiles.{LiveFiles}
 use Rattle.mkv_io.specs.Told.{Told}
 use Rattle.input_files.specs.Inputs as files
 use Rattle.merge_model.specs.FileLinks.{octets_in}
-use Rattle.input_files.specs.declared.chapter_file.ChapterFile.{ChapterFile}
+use Rattle.input_files.specs.declared.text_files.TextFiles.{TextFiles}
 use Rattle.merge_words.specs.declared.files.FileWords.{FileWords}
 use Rattle.merge_words.specs.declared.output.MergeWords.{MergeWords}
 use Rattle.merge_inputs.specs.Input.{InputRead, IsReadOf, input_of, read_in}
@@ -189,33 +189,33 @@ inputs-size f (i ∷ is) =
 
 -- ---- what the inputs come to
 
-module _ (words : MergeWords) (chapters : ChapterFile) (contents : List (List ℕ)) (reads : List InputRead) (read : inputs_with words chapters contents ≡ Ok reads) where
+module _ (words : MergeWords) (texts : TextFiles) (contents : List (List ℕ)) (reads : List InputRead) (read : inputs_with words texts contents ≡ Ok reads) where
   -- what tells of those that can't
-  found-differs : (o : Option AppendDiffers) → append_refusal reads ≡ o → sources_read words chapters contents ≡ and_then (unless (option_map Differs o) reads) (λ rs. Ok (in_place (zip contents rs)))
+  found-differs : (o : Option AppendDiffers) → append_refusal reads ≡ o → sources_read words texts contents ≡ and_then (unless (option_map Differs o) reads) (λ rs. Ok (in_place (zip contents rs)))
   found-differs o is =
       ap (λ (r : Result (List InputRead) Refusal). and_then r (λ rs. and_then (unless (option_map Differs (append_refusal rs)) rs) (λ each. Ok (in_place (zip contents each))))) read
       ∙ ap (λ (d : Option AppendDiffers). and_then (unless (option_map Differs d) reads) (λ rs. Ok (in_place (zip contents rs)))) is
 
   -- one of them can't
-  pub reads-differ : (d : AppendDiffers) → append_refusal reads ≡ Some d → sources_read words chapters contents ≡ Err (Differs d)
+  pub reads-differ : (d : AppendDiffers) → append_refusal reads ≡ Some d → sources_read words texts contents ≡ Err (Differs d)
   reads-differ d is = found-differs (Some d) is
 
-  pub reads-alike : append_refusal reads ≡ None → sources_read words chapters contents ≡ Ok (in_place (zip contents reads))
+  pub reads-alike : append_refusal reads ≡ None → sources_read words texts contents ≡ Ok (in_place (zip contents reads))
   reads-alike is = found-differs None is
 
 -- inputs that were set in place
-pub reads-placed : (f : LiveFiles) (words : MergeWords) (chapters : ChapterFile) (ids : List FileId) (contents : List (List ℕ)) (inputs placed : List Input) → map (λ (i : Input). i.file) inputs ≡ ids → map (λ (i : Input). i.file) placed ≡ map (λ (i : Input). i.file) inputs
-    → AreTold f ids contents → inputs_with words chapters contents ≡ Ok (reads_in inputs) → append_refusal (reads_in inputs) ≡ None → StandInPlace f inputs placed → sources_read words chapters contents ≡ Ok (sources_from contents placed)
-reads-placed f words chapters ids contents inputs placed of same told read none stand =
+pub reads-placed : (f : LiveFiles) (words : MergeWords) (texts : TextFiles) (ids : List FileId) (contents : List (List ℕ)) (inputs placed : List Input) → map (λ (i : Input). i.file) inputs ≡ ids → map (λ (i : Input). i.file) placed ≡ map (λ (i : Input). i.file) inputs
+    → AreTold f ids contents → inputs_with words texts contents ≡ Ok (reads_in inputs) → append_refusal (reads_in inputs) ≡ None → StandInPlace f inputs placed → sources_read words texts contents ≡ Ok (sources_from contents placed)
+reads-placed f words texts ids contents inputs placed of same told read none stand =
     let before = told-contents f ids contents inputs of told in
-    reads-alike words chapters contents (reads_in inputs) read none
+    reads-alike words texts contents (reads_in inputs) read none
     ∙ ap (λ (sources : List Source). Ok (in_place sources)) (sym (sources-told f inputs contents before))
     ∙ ap (λ (sources : List Source). Ok sources) (sym (stand (each-told f inputs contents before)) ∙ sources-told f placed contents (told-contents f ids contents placed (same ∙ of) told))
 
 -- what refuses the plan of inputs is what refuses that of their sources
-pub reads-planned : (f : LiveFiles) (words : MergeWords) (chapters : ChapterFile) (ids : List FileId) (contents : List (List ℕ)) (inputs : List Input) (o : Option PlanRefusal) → map (λ (i : Input). i.file) inputs ≡ ids → AreTold f ids contents
-    → sources_read words chapters contents ≡ Ok (sources_from contents inputs) → plan_refusal words (reads_in inputs) ≡ o → sources_with words chapters contents ≡ unless (option_map Plan o) (sources_from contents inputs)
-reads-planned f words chapters ids contents inputs o of told read is =
+pub reads-planned : (f : LiveFiles) (words : MergeWords) (texts : TextFiles) (ids : List FileId) (contents : List (List ℕ)) (inputs : List Input) (o : Option PlanRefusal) → map (λ (i : Input). i.file) inputs ≡ ids → AreTold f ids contents
+    → sources_read words texts contents ≡ Ok (sources_from contents inputs) → plan_refusal words (reads_in inputs) ≡ o → sources_with words texts contents ≡ unless (option_map Plan o) (sources_from contents inputs)
+reads-planned f words texts ids contents inputs o of told read is =
     let reads : reads_of (sources_from contents inputs) ≡ reads_in inputs = ap reads_of (sym (sources-told f inputs contents (told-contents f ids contents inputs of told))) ∙ reads-in f inputs in
     ap (λ (r : Result (List Source) Refusal). and_then r (unless_refused words)) read
     ∙ ap (λ (p : Option PlanRefusal). unless (option_map Plan p) (sources_from contents inputs)) (ap (plan_refusal words) reads ∙ is)

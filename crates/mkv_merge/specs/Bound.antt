@@ -3,7 +3,7 @@ use Rattle.std.specs.Prelude.{ℕ, ◌+◌, ◌*◌, if◌then◌else◌, List, 
 use Rattle.mkv_io.specs.declared.outside.FileId.{FileId}
 use Rattle.mkv_io.specs.LiveFiles.{LiveFiles}
 use Rattle.sidecar_edit.specs.declared.place.TheConstants.{HEAD}
-use Rattle.input_files.specs.ChapterFile.{chapter_octets}
+use Rattle.input_files.specs.TextFiles.{text_octets}
 use Rattle.merge_words.specs.declared.files.FileWords.{FileWords}
 use Rattle.merge_words.specs.declared.output.MergeWords.{MergeWords}
 use Rattle.merge_plan.specs.Front.{attached_length, reads_of}
@@ -46,6 +46,6 @@ most_looked words = HEAD * looked_into words
 abbrev pub most_beside : (List ℕ → Option (List ℕ)) → MergeWords → Result (List Source) Refusal → ℕ
 most_beside world words sources = most_of sources (contents_length world words.files) + most_looked words
 
--- what a merge may read in a world of names: besides, the chapter file once
+-- what a merge may read in a world of names: besides, the chapter file and each file of times once
 abbrev pub most_read : (List ℕ → Option (List ℕ)) → MergeWords → ℕ
-most_read world words = chapter_octets world words.chapters + most_beside world words (sources_of world words)
+most_read world words = text_octets world words.chapters words.files + most_beside world words (sources_of world words)

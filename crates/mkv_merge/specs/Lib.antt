@@ -5,6 +5,7 @@ pub mod Read
 pub mod Refused
 pub mod Ends
 pub mod Chapters
+pub mod Texts
+pub mod Timed
 pub mod Records
-pub mod Takes
 pub mod Told

@@ -18,8 +18,8 @@ use Rattle.remux_plan.specs.Parts.{PlannedOutput, drives_by, name_of, stretch_of
 use Rattle.remux_plan.specs.Parts.{chapters_of as chapters_within}
 use Rattle.remux_plan.specs.Uuids.{uuids_at, with_uuids}
 use Rattle.remuxer.specs.Output.{drafts_of}
-use Rattle.input_files.specs.ChapterFile.{chapter_file}
-use Rattle.input_files.specs.declared.chapter_file.ChapterFile.{ChapterFile}
+use Rattle.input_files.specs.TextFiles.{text_files}
+use Rattle.input_files.specs.declared.text_files.TextFiles.{TextFiles}
 use Rattle.merge_words.specs.declared.files.FileWords.{FileWords}
 use Rattle.merge_words.specs.declared.output.MergeWords.{MergeWords}
 use Rattle.merge_inputs.specs.Input.{InputRead}
@@ -41,10 +41,10 @@ use Rattle.mkv_merge.specs.declared.refusal.Refusal.TheVariants.{Differs, Output
 -- ---- the sources
 
 -- the sources of a merge whose inputs have these contents, each that is appended in its place; or what refuses them before they
--- are planned: what is read of each, what the chapter file gives, and then one whose tracks can't go on in the lanes of the one before it
-abbrev pub sources_read : MergeWords → ChapterFile → List (List ℕ) → Result (List Source) Refusal
-sources_read words chapters contents =
-    and_then (inputs_with words chapters contents) (λ reads.
+-- are planned: what is read of each, what the text files give, and then one whose tracks can't go on in the lanes of the one before it
+abbrev pub sources_read : MergeWords → TextFiles → List (List ℕ) → Result (List Source) Refusal
+sources_read words texts contents =
+    and_then (inputs_with words texts contents) (λ reads.
     and_then (unless (option_map Differs (append_refusal reads)) reads) (λ alike.
     Ok (in_place (zip contents alike))))
 
@@ -53,21 +53,21 @@ abbrev pub unless_refused : MergeWords → List Source → Result (List Source) 
 unless_refused words sources = unless (option_map Plan (plan_refusal words (reads_of sources))) sources
 
 -- the sources of a merge whose inputs have these contents, or what refuses them
-abbrev pub sources_with : MergeWords → ChapterFile → List (List ℕ) → Result (List Source) Refusal
-sources_with words chapters contents = and_then (sources_read words chapters contents) (unless_refused words)
+abbrev pub sources_with : MergeWords → TextFiles → List (List ℕ) → Result (List Source) Refusal
+sources_with words texts contents = and_then (sources_read words texts contents) (unless_refused words)
 
--- the same, unless the chapter file isn't there or an edit of one of the files is pending
-abbrev pub sources_settled : (List ℕ → Option (List ℕ)) → MergeWords → ChapterFile → List (List ℕ) → Result (List Source) Refusal
-sources_settled world words chapters contents = and_then (unless (begun_refusal world words chapters) contents) (sources_with words chapters)
+-- the same, unless a text file isn't there or an edit of one of the files is pending
+abbrev pub sources_settled : (List ℕ → Option (List ℕ)) → MergeWords → TextFiles → List (List ℕ) → Result (List Source) Refusal
+sources_settled world words texts contents = and_then (unless (begun_refusal world words texts) contents) (sources_with words texts)
 
 -- the same of the inputs' names, unless an input isn't there
-abbrev pub sources_beside : (List ℕ → Option (List ℕ)) → MergeWords → ChapterFile → Result (List Source) Refusal
-sources_beside world words chapters = and_then (contents_of world words.files) (sources_settled world words chapters)
+abbrev pub sources_beside : (List ℕ → Option (List ℕ)) → MergeWords → TextFiles → Result (List Source) Refusal
+sources_beside world words texts = and_then (contents_of world words.files) (sources_settled world words texts)
 
--- the sources of a merge in a world of names, or the first thing that refuses it: an output's name, an input or a chapter file
+-- the sources of a merge in a world of names, or the first thing that refuses it: an output's name, an input or a text file
 -- that isn't there, an edit that is pending, and then what they hold
 abbrev pub sources_of : (List ℕ → Option (List ℕ)) → MergeWords → Result (List Source) Refusal
-sources_of world words = and_then (unless (option_map OutputIsInput (first_written words)) (chapter_file world words.chapters)) (sources_beside world words)
+sources_of world words = and_then (unless (option_map OutputIsInput (first_written words)) (text_files world words.chapters words.files)) (sources_beside world words)
 
 -- ---- the outputs
 

@@ -4,7 +4,7 @@ use Rattle.std.specs.List.{All, zip}
 use Rattle.mkv_io.specs.declared.outside.FileId.{FileId}
 use Rattle.mkv_io.specs.LiveFiles.{LiveFiles}
 use Rattle.input_files.specs.Inputs as files
-use Rattle.input_files.specs.declared.chapter_file.ChapterFile.{ChapterFile}
+use Rattle.input_files.specs.declared.text_files.TextFiles.{TextFiles}
 use Rattle.merge_words.specs.declared.output.MergeWords.{MergeWords}
 use Rattle.merge_inputs.specs.Input.{InputRead, IsInput, read_in}
 use Rattle.merge_inputs.specs.declared.input.Input.{Input}
@@ -47,9 +47,9 @@ pub record IsPrepared (f : LiveFiles) (words : MergeWords) (list : List FileId) 
   pub written : CanBeWritten p.inputs p.plan
 
 -- The inputs are those of a merge, each in its place, where they have these contents.
-abbrev pub ReadsInPlace : MergeWords → ChapterFile → List (List ℕ) → Result (List Input) MergeEnd → Type 0
-ReadsInPlace words chapters contents result = ReadsAs (sources_from contents) (sources_read words chapters contents) result
+abbrev pub ReadsInPlace : MergeWords → TextFiles → List (List ℕ) → Result (List Input) MergeEnd → Type 0
+ReadsInPlace words texts contents result = ReadsAs (sources_from contents) (sources_read words texts contents) result
 
 -- the sources of a merge that was prepared, where its inputs have these contents
-abbrev pub Prepares : MergeWords → ChapterFile → List (List ℕ) → Result Prepared MergeEnd → Type 0
-Prepares words chapters contents result = ReadsAs (λ (p : Prepared). sources_from contents p.inputs) (sources_with words chapters contents) result
+abbrev pub Prepares : MergeWords → TextFiles → List (List ℕ) → Result Prepared MergeEnd → Type 0
+Prepares words texts contents result = ReadsAs (λ (p : Prepared). sources_from contents p.inputs) (sources_with words texts contents) result

@@ -6,7 +6,9 @@ use Rattle.std.specs.Str.{bytes_eq}
 use Rattle.mkv_io.specs.Faults.{counted}
 use Rattle.sidecar_edit.specs.Name.{sidecar_of}
 use Rattle.sidecar_edit.specs.Pending.{is_pending}
-use Rattle.input_files.specs.declared.chapter_file.ChapterFile.{ChapterFile}
+use Rattle.input_files.specs.TimesFile.{times_named}
+use Rattle.input_files.specs.declared.text_files.TextFiles.{TextFiles}
+use Rattle.input_files.specs.declared.times_file.TimesName.{TimesName}
 use Rattle.splitter.specs.Names.{is_part_name}
 use Rattle.merge_words.specs.declared.files.FileWords.{FileWords}
 use Rattle.merge_words.specs.declared.output.MergeWords.{MergeWords}
@@ -14,17 +16,24 @@ use Rattle.merge_words.specs.Sound.{IsSoundMerge}
 use Rattle.input_files.specs.Inputs.{file_names, first_missing, first_pending}
 use Rattle.merge_inputs.specs.Input.{InputRead, input_of}
 use Rattle.merge_inputs.specs.declared.input.InputRefusal.{InputRefusal}
-use Rattle.mkv_merge.specs.Chapters.{missing_chapters, with_chapters, with_file}
+use Rattle.mkv_merge.specs.Chapters.{with_chapters, with_file}
+use Rattle.mkv_merge.specs.Texts.{missing_text, with_times}
 use Rattle.mkv_merge.specs.Refused.{and_then}
 use Rattle.mkv_merge.specs.declared.refusal.Refusal.{Refusal}
 use Rattle.mkv_merge.specs.declared.refusal.Refusal.TheVariants.{Missing, PendingInput, PendingOutput, Input}
 
 -- ---- the names
 
--- the names of the files that a merge reads, in the order in which they are looked at: those of its inputs, of its chapter file, and of
--- its inputs' sidecars
+-- the names of files of times
+abbrev pub times_names : List TimesName → List (List ℕ)
+times_names times = map (λ (n : TimesName). n.name) times
+
+-- the names that no output of a merge may have, in the order in which they are looked at: those of its inputs, of its chapter file and of
+-- its files of times, and of the sidecars of its inputs and of its files of times
 abbrev pub read_names : MergeWords → List (List ℕ)
-read_names words = file_names words.files ++ (option_to_list words.chapters ++ map sidecar_of (file_names words.files))
+read_names words =
+    file_names words.files ++ (option_to_list words.chapters ++ (times_names (times_named words.files)
+    ++ (map sidecar_of (file_names words.files) ++ map sidecar_of (times_names (times_named words.files)))))
 
 abbrev pub is_split : MergeWords → Bool
 is_split words = is_some words.split
@@ -68,9 +77,10 @@ pending_refusal None false = None
 abbrev pub pending_of : (List ℕ → Option (List ℕ)) → MergeWords → Option Refusal
 pending_of world words = pending_refusal (first_pending world (file_names words.files)) (is_none words.split && is_pending world words.output)
 
--- what refuses a merge whose inputs are there before they are read: a chapter file that isn't there, or an edit that is pending
-abbrev pub begun_refusal : (List ℕ → Option (List ℕ)) → MergeWords → ChapterFile → Option Refusal
-begun_refusal world words chapters = option_or (missing_chapters chapters) (pending_of world words)
+-- what refuses a merge whose inputs are there before they are read: a chapter file or a file of times that isn't there, or an edit that is
+-- pending
+abbrev pub begun_refusal : (List ℕ → Option (List ℕ)) → MergeWords → TextFiles → Option Refusal
+begun_refusal world words texts = option_or (missing_text texts) (pending_of world words)
 
 -- ---- what stands before the blocks
 
@@ -91,6 +101,9 @@ inputs_from webm input held (file ∷ files) =
 abbrev pub inputs_of : MergeWords → List (List ℕ) → Result (List InputRead) Refusal
 inputs_of words contents = inputs_from words.webm 0 0 (zip words.files contents)
 
--- the same with what the chapter file gives, or what refuses it
-abbrev pub inputs_with : MergeWords → ChapterFile → List (List ℕ) → Result (List InputRead) Refusal
-inputs_with words chapters contents = and_then (inputs_of words contents) (with_file with_chapters words.webm chapters)
+-- the same with what the chapter file and the files of times give, or what refuses these
+abbrev pub inputs_with : MergeWords → TextFiles → List (List ℕ) → Result (List InputRead) Refusal
+inputs_with words texts contents =
+    and_then (inputs_of words contents) (λ reads.
+    and_then (with_file with_chapters words.webm texts.chapters reads) (λ chaptered.
+    with_times texts.times chaptered))

@@ -12,7 +12,7 @@ use Rattle.merge_plan.specs.declared.refusal.PlanRefusal.{PlanRefusal}
 use Rattle.merge_plan.specs.declared.refusal.PlanRefusal.TheVariants.{NoLane, TooManyLanes, NotWebm, HeaderTooLarge}
 use Rattle.mkv_lines.specs.Line.{append_differs_line, bad_text_line, missing_line, no_lane_line, not_webm_line, output_is_input_line, pending_edit_line, refusal_line, text_too_large_line, too_large_line, too_many_lanes_line}
 use Rattle.mkv_merge.specs.declared.refusal.Refusal.{Refusal}
-use Rattle.mkv_merge.specs.declared.refusal.Refusal.TheVariants.{OutputIsInput, Missing, MissingChapters, PendingInput, PendingOutput, Input, Chapters, Differs, Plan}
+use Rattle.mkv_merge.specs.declared.refusal.Refusal.TheVariants.{OutputIsInput, Missing, MissingChapters, MissingTimes, PendingInput, PendingOutput, Input, Chapters, Times, Differs, Plan}
 
 -- ---- one step after the other
 
@@ -55,9 +55,11 @@ abbrev pub line_of : MergeWords → Refusal → List ℕ
 line_of words (OutputIsInput name) = output_is_input_line name
 line_of words (Missing input) = missing_line (name_of words input)
 line_of words MissingChapters = missing_line (chapters_name words)
+line_of words (MissingTimes name) = missing_line name
 line_of words (PendingInput input) = pending_edit_line (name_of words input)
 line_of words PendingOutput = pending_edit_line words.output
 line_of words (Input input why) = input_line (name_of words input) why
 line_of words (Chapters why) = text_line (chapters_name words) why
+line_of words (Times name why) = text_line name why
 line_of words (Differs d) = append_differs_line (name_of words d.input) d.id
 line_of words (Plan why) = plan_line words.output why

@@ -8,9 +8,8 @@ mod names;
 mod pending;
 mod preparing;
 mod refusal;
-mod taking;
 mod telling;
+mod texts;
 mod writing;
 
 pub use merging::merge_of;
-pub use taking::takes;

@@ -22,7 +22,7 @@ use crate::preparing::prepare;
 use crate::refusal::{MergeEnd, Refusal};
 use crate::telling::refuse;
 use crate::writing::write;
-use input_files::{ChapterFile, InputsEnd, close_all, open_all, read_chapter_file};
+use input_files::{InputsEnd, TextFiles, close_all, open_all, read_text_files};
 use merge_words::MergeWords;
 use mkv_io::{FileId, Files, Report};
 use mkv_lines::{Status, Stop};
@@ -32,64 +32,64 @@ use std::alloc::{AllocError, Global};
 fn merge_opened<F: Files, P: Report>(
     alloc: Global,
     words: &MergeWords,
-    chapters: ChapterFile,
+    texts: TextFiles,
     ids: &[FileId],
     files: &mut F,
     report: &mut P,
 ) -> Result<Status, Stop>
     requires words { IsApartMerge words.now }
     requires inputs { AreInputs F.Reads F.Files.own (file_names words.now.files) files.old ids.now }
-    requires chapters { CanBeWritten chapters }
+    requires chapters { CanBeWritten texts.chapters }
     ensures verdict { (contents : List (List ℕ)) → AreTold (live_files F.Reads files.old) ids.now contents → Reaches
         (seen F.Reads F.writing_faults F.names P.Report files.old report.old)
         (seen F.Reads F.writing_faults F.names P.Report files.new report.new)
-        result (verdict_of words.now (sources_with words.now chapters contents)) }
+        result (verdict_of words.now (sources_with words.now texts contents)) }
     ensures ordinary { IfOk result IsOrdinary }
     ensures live { (file : ℕ) → (live_files F.Reads files.new).live file ≡ (live_files F.Reads files.old).live file }
     ensures cause { HasStopCause
         (seen F.Reads F.writing_faults F.names P.Report files.old report.old).counts
         (seen F.Reads F.writing_faults F.names P.Report files.new report.new).counts result }
     ensures records { (contents : List (List ℕ)) → AreTold (live_files F.Reads files.old) ids.now contents
-        → EndsWithRecords (sources_with words.now chapters contents) result }
+        → EndsWithRecords (sources_with words.now texts contents) result }
     ensures octets { (contents : List (List ℕ)) → AreTold (live_files F.Reads files.old) ids.now contents → F.octets_read files.new
-        ≤ F.octets_read files.old + most_of (sources_with words.now chapters contents) (files_size (live_files F.Reads files.old) ids.now) }
+        ≤ F.octets_read files.old + most_of (sources_with words.now texts contents) (files_size (live_files F.Reads files.old) ids.now) }
 {
-    match prepare(alloc, words, chapters, files, ids) {
+    match prepare(alloc, words, texts, files, ids) {
         Ok(prepared) => write(alloc, words, prepared, ids, files, report),
         Err(MergeEnd::Refused(why)) => refuse(alloc, words, &why, report),
         Err(MergeEnd::Stopped(why)) => Err(Stop::from(why)),
     }
 }
 
-/// Merges live files, unless the chapter file isn't there, or an edit of one of them or of the output is pending.
+/// Merges live files, unless a text file isn't there, or an edit of one of them or of the output is pending.
 fn merge_settled<F: Files, P: Report>(
     alloc: Global,
     words: &MergeWords,
-    chapters: ChapterFile,
+    texts: TextFiles,
     ids: &[FileId],
     files: &mut F,
     report: &mut P,
 ) -> Result<Status, Stop>
     requires words { IsApartMerge words.now }
     requires inputs { AreInputs F.Reads F.Files.own (file_names words.now.files) files.old ids.now }
-    requires chapters { CanBeWritten chapters }
+    requires chapters { CanBeWritten texts.chapters }
     ensures verdict { Told (F.names files.old) (λ world. (contents : List (List ℕ)) → AreTold (live_files F.Reads files.old) ids.now contents → Reaches
         (seen F.Reads F.writing_faults F.names P.Report files.old report.old)
         (seen F.Reads F.writing_faults F.names P.Report files.new report.new)
-        result (verdict_of words.now (sources_settled world words.now chapters contents))) }
+        result (verdict_of words.now (sources_settled world words.now texts contents))) }
     ensures ordinary { IfOk result IsOrdinary }
     ensures live { (file : ℕ) → (live_files F.Reads files.new).live file ≡ (live_files F.Reads files.old).live file }
     ensures cause { HasStopCause
         (seen F.Reads F.writing_faults F.names P.Report files.old report.old).counts
         (seen F.Reads F.writing_faults F.names P.Report files.new report.new).counts result }
     ensures records { Told (F.names files.old) (λ world. (contents : List (List ℕ)) → AreTold (live_files F.Reads files.old) ids.now contents
-        → EndsWithRecords (sources_settled world words.now chapters contents) result) }
+        → EndsWithRecords (sources_settled world words.now texts contents) result) }
     ensures octets { Told (F.names files.old) (λ world. (contents : List (List ℕ)) → AreTold (live_files F.Reads files.old) ids.now contents
         → F.octets_read files.new ≤ F.octets_read files.old
-        + (most_of (sources_settled world words.now chapters contents) (files_size (live_files F.Reads files.old) ids.now) + most_looked words.now)) }
+        + (most_of (sources_settled world words.now texts contents) (files_size (live_files F.Reads files.old) ids.now) + most_looked words.now)) }
 {
-    match begun_refusal(alloc, words, &chapters, files) {
-        Ok(None) => merge_opened(alloc, words, chapters, ids, files, report),
+    match begun_refusal(alloc, words, &texts, files) {
+        Ok(None) => merge_opened(alloc, words, texts, ids, files, report),
         Ok(Some(why)) => refuse(alloc, words, &why, report),
         Err(why) => Err(Stop::from(why)),
     }
@@ -99,24 +99,24 @@ fn merge_settled<F: Files, P: Report>(
 fn merge_beside<F: Files, P: Report>(
     alloc: Global,
     words: &MergeWords,
-    chapters: ChapterFile,
+    texts: TextFiles,
     files: &mut F,
     report: &mut P,
 ) -> Result<Status, Stop>
     requires words { IsApartMerge words.now }
-    requires chapters { CanBeWritten chapters }
+    requires chapters { CanBeWritten texts.chapters }
     ensures verdict { Told (F.names files.old) (λ world. Reaches
         (seen F.Reads F.writing_faults F.names P.Report files.old report.old)
         (seen F.Reads F.writing_faults F.names P.Report files.new report.new)
-        result (verdict_of words.now (sources_beside world words.now chapters))) }
+        result (verdict_of words.now (sources_beside world words.now texts))) }
     ensures ordinary { IfOk result IsOrdinary }
     ensures live { (file : ℕ) → (live_files F.Reads files.new).live file ≡ (live_files F.Reads files.old).live file }
     ensures cause { HasStopCause
         (seen F.Reads F.writing_faults F.names P.Report files.old report.old).counts
         (seen F.Reads F.writing_faults F.names P.Report files.new report.new).counts result }
-    ensures records { Told (F.names files.old) (λ world. EndsWithRecords (sources_beside world words.now chapters) result) }
+    ensures records { Told (F.names files.old) (λ world. EndsWithRecords (sources_beside world words.now texts) result) }
     ensures octets { Told (F.names files.old) (λ world. F.octets_read files.new
-        ≤ F.octets_read files.old + most_beside world words.now (sources_beside world words.now chapters)) }
+        ≤ F.octets_read files.old + most_beside world words.now (sources_beside world words.now texts)) }
 {
     let ids = match open_all(alloc, words.files.as_slice(), files) {
         Ok(ids) => ids,
@@ -126,13 +126,13 @@ fn merge_beside<F: Files, P: Report>(
         Err(InputsEnd::Failed) => return Err(Stop::Files),
         Err(InputsEnd::Memory) => return Err(Stop::Memory),
     };
-    let ended = merge_settled(alloc, words, chapters, ids.as_slice(), files, report);
+    let ended = merge_settled(alloc, words, texts, ids.as_slice(), files, report);
     close_all(files, ids.as_slice());
     ended
 }
 
-/// Writes one file of several, or that in parts, as the words say: the tracks that they take of each, with the Chapters of a
-/// chapter file where they name one.
+/// Writes one file of several, or that in parts, as the words say: the tracks that they take of each, at the times of files of
+/// times and with the Chapters of a chapter file where they name such.
 pub fn merge_of<F: Files, P: Report>(
     alloc: Global,
     words: &MergeWords,
@@ -161,8 +161,8 @@ pub fn merge_of<F: Files, P: Report>(
         }
         Err(AllocError) => return Err(Stop::Memory),
     }
-    match read_chapter_file(alloc, &words.chapters, files) {
-        Ok(chapters) => merge_beside(alloc, words, chapters, files, report),
+    match read_text_files(alloc, &words.chapters, words.files.as_slice(), files) {
+        Ok(texts) => merge_beside(alloc, words, texts, files, report),
         Err(why) => Err(Stop::from(why)),
     }
 }

@@ -4,8 +4,9 @@ ghost use Rattle.std.specs.Prelude.{◌≡◌, ◌++◌, find, map, IfOk, OnOk};
 ghost use Rattle.std.specs.Option.{option_copied, option_to_list};
 ghost use Rattle.sidecar_edit.specs.Name.{sidecar_of};
 ghost use Rattle.input_files.specs.Inputs.{file_names};
-ghost use Rattle.mkv_merge.specs.Read.{first_written, is_output, is_part, read_names};
+ghost use Rattle.mkv_merge.specs.Read.{first_written, is_output, is_part, read_names, times_names};
 
+use input_files::{TimesName, times_named};
 use merge_words::{FileWords, MergeWords};
 use mkv_io::{List, Text};
 use sidecar_edit::sidecar_name;
@@ -32,6 +33,16 @@ fn add_chapters(chapters: &Option<Text>, names: &mut List<Text>) -> Result<(), A
     }
 }
 
+/// Adds the names of files of times.
+fn add_times(times: &[TimesName], names: &mut List<Text>) -> Result<(), AllocError>
+    ensures { OnOk result (names.new ≡ names.old ++ times_names times.now) }
+{
+    for each in times {
+        names.push(each.name.clone()?)?;
+    }
+    Ok(())
+}
+
 /// Adds the names of the files beside these, in which an edit is kept until it is done.
 fn add_sidecars(
     alloc: Global,
@@ -46,16 +57,33 @@ fn add_sidecars(
     Ok(())
 }
 
-/// The names of the files that a merge reads, in the order in which they are looked at: those of its inputs, of its chapter
-/// file, and of its inputs' sidecars.
+/// The same of files of times.
+fn add_times_sidecars(
+    alloc: Global,
+    times: &[TimesName],
+    names: &mut List<Text>,
+) -> Result<(), AllocError>
+    ensures { OnOk result (names.new ≡ names.old ++ map sidecar_of (times_names times.now)) }
+{
+    for each in times {
+        names.push(sidecar_name(alloc, each.name.as_str())?)?;
+    }
+    Ok(())
+}
+
+/// The names that no output of a merge may have: those of its inputs, of its chapter file and of its files of times, and of the
+/// sidecars of its inputs and of its files of times.
 fn read_names(alloc: Global, words: &MergeWords) -> Result<List<Text>, AllocError>
     ensures { IfOk result (λ names. names ≡ read_names words.now) }
 {
     let files = words.files.as_slice();
+    let times = times_named(alloc, files)?;
     let mut names = List::new(alloc);
     add_names(files, &mut names)?;
     add_chapters(&words.chapters, &mut names)?;
+    add_times(times.as_slice(), &mut names)?;
     add_sidecars(alloc, files, &mut names)?;
+    add_times_sidecars(alloc, times.as_slice(), &mut names)?;
     Ok(names)
 }
 

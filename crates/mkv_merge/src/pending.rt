@@ -8,7 +8,8 @@ ghost use Rattle.mkv_merge.specs.Bound.{most_looked};
 ghost use Rattle.mkv_merge.specs.Read.{begun_refusal, pending_of};
 
 use crate::refusal::Refusal;
-use input_files::{ChapterFile, first_pending};
+use crate::texts::missing_text;
+use input_files::{TextFiles, first_pending};
 use merge_words::MergeWords;
 use mkv_io::{Files, ReadEnd};
 use sidecar_edit::is_pending;
@@ -35,21 +36,21 @@ fn pending_of<F: Files>(
     Ok(None)
 }
 
-/// What refuses a merge whose inputs are there before they are read: a chapter file that isn't there, or an edit that is
-/// pending.
+/// What refuses a merge whose inputs are there before they are read: a chapter file or a file of times that isn't there, or an
+/// edit that is pending.
 pub fn begun_refusal<F: Files>(
     alloc: Global,
     words: &MergeWords,
-    chapters: &ChapterFile,
+    texts: &TextFiles,
     files: &mut F,
 ) -> Result<Option<Refusal>, ReadEnd>
-    ensures exact { Told (F.names files.old) (λ world. IfOk result (λ why. why ≡ begun_refusal world words.now chapters.now)) }
+    ensures exact { Told (F.names files.old) (λ world. IfOk result (λ why. why ≡ begun_refusal world words.now texts.now)) }
     ensures looks { LooksOnly F.Reads F.Files.own files.old files.new }
     ensures cause { HasCause is_read_fault (F.reading_faults files.old) (F.reading_faults files.new) result }
     ensures octets { F.octets_read files.new ≤ F.octets_read files.old + most_looked words.now }
 {
-    match chapters {
-        ChapterFile::Missing => Ok(Some(Refusal::MissingChapters)),
-        _ => pending_of(alloc, words, files),
+    match missing_text(texts)? {
+        Some(why) => Ok(Some(why)),
+        None => pending_of(alloc, words, files),
     }
 }

@@ -15,7 +15,8 @@ ghost use Rattle.mkv_merge.specs.Read.{inputs_of, inputs_with, numbered};
 
 use crate::chapters::with_file;
 use crate::refusal::{MergeEnd, Refusal};
-use input_files::ChapterFile;
+use crate::texts::with_times;
+use input_files::TextFiles;
 use merge_inputs::{Blocks, Input, InputEnd, read_input};
 use merge_plan::{PlanEnd, append_refusal, plan_of, set_in_place};
 use merge_words::{FileWords, MergeWords};
@@ -96,75 +97,77 @@ fn read_inputs<R: Reads>(
     Ok(inputs)
 }
 
-/// The same with what the chapter file gives, or what refuses it.
+/// The same with what the text files give, or what refuses these.
 fn read_all<R: Reads>(
     alloc: Global,
     words: &MergeWords,
-    chapters: ChapterFile,
+    texts: TextFiles,
     src: &mut R,
     files: &[FileId],
 ) -> Result<List<Input>, MergeEnd>
     requires sound { IsSoundMerge words.now }
-    requires chapters { CanBeWritten chapters }
+    requires chapters { CanBeWritten texts.chapters }
     requires live { AreLive (live_files R.Reads src.old).live files.now }
     requires each { length files.now ≡ length words.now.files }
     ensures exact { (contents : List (List ℕ)) → AreTold (live_files R.Reads src.old) files.now contents
-        → ReadsAs reads_in (inputs_with words.now chapters contents) result }
+        → ReadsAs reads_in (inputs_with words.now texts contents) result }
     ensures inputs { IfOk result (AreInputsOf (live_files R.Reads src.new) files.now) }
     ensures standing { R.standing src.new ≡ R.standing src.old }
     ensures cause { HasCause is_files_fault (R.reading_faults src.old) (R.reading_faults src.new) result }
     ensures octets { R.octets_read src.new ≤ R.octets_read src.old + 25 * files_size (live_files R.Reads src.old) files.now }
 {
-    let inputs = read_inputs(alloc, words, src, files)?;
-    with_file(alloc, words.webm, chapters, inputs)
+    let TextFiles { chapters, times } = texts;
+    let read = read_inputs(alloc, words, src, files)?;
+    let chaptered = with_file(alloc, words.webm, chapters, read)?;
+    with_times(alloc, times, chaptered)
 }
 
 /// The inputs as they were read, each that is appended in its place; or what refuses them: what is read of each, what the
-/// chapter file gives, and then one whose tracks can't go on in the lanes of the one before it.
+/// text files give, and then one whose tracks can't go on in the lanes of the one before it.
 fn inputs_in_place<R: Reads>(
     alloc: Global,
     words: &MergeWords,
-    chapters: ChapterFile,
+    texts: TextFiles,
     src: &mut R,
     files: &[FileId],
 ) -> Result<List<Input>, MergeEnd>
     requires sound { IsSoundMerge words.now }
-    requires chapters { CanBeWritten chapters }
+    requires chapters { CanBeWritten texts.chapters }
     requires live { AreLive (live_files R.Reads src.old).live files.now }
     requires each { length files.now ≡ length words.now.files }
     ensures exact { (contents : List (List ℕ)) → AreTold (live_files R.Reads src.old) files.now contents
-        → ReadsInPlace words.now chapters contents result }
+        → ReadsInPlace words.now texts contents result }
     ensures inputs { IfOk result (AreInputsOf (live_files R.Reads src.new) files.now) }
     ensures standing { R.standing src.new ≡ R.standing src.old }
     ensures cause { HasCause is_files_fault (R.reading_faults src.old) (R.reading_faults src.new) result }
     ensures octets { R.octets_read src.new ≤ R.octets_read src.old + 31 * files_size (live_files R.Reads src.old) files.now }
 {
-    let inputs = read_all(alloc, words, chapters, src, files)?;
+    let inputs = read_all(alloc, words, texts, src, files)?;
     if let Some(differs) = append_refusal(inputs.as_slice()) {
         return Err(MergeEnd::Refused(Refusal::Differs(differs)));
     }
     Ok(set_in_place(alloc, inputs, src)?)
 }
 
-/// What these words make of these live files and of the chapter file, or what refuses them.
+/// What these words make of these live files and of the text files, or what refuses them.
 pub fn prepare<R: Reads>(
     alloc: Global,
     words: &MergeWords,
-    chapters: ChapterFile,
+    texts: TextFiles,
     src: &mut R,
     files: &[FileId],
 ) -> Result<Prepared, MergeEnd>
     requires sound { IsSoundMerge words.now }
-    requires chapters { CanBeWritten chapters }
+    requires chapters { CanBeWritten texts.chapters }
     requires live { AreLive (live_files R.Reads src.old).live files.now }
     requires each { length files.now ≡ length words.now.files }
-    ensures exact { (contents : List (List ℕ)) → AreTold (live_files R.Reads src.old) files.now contents → Prepares words.now chapters contents result }
+    ensures exact { (contents : List (List ℕ)) → AreTold (live_files R.Reads src.old) files.now contents → Prepares words.now texts contents result }
     ensures prepared { IfOk result (IsPrepared (live_files R.Reads src.new) words.now files.now) }
     ensures standing { R.standing src.new ≡ R.standing src.old }
     ensures cause { HasCause is_files_fault (R.reading_faults src.old) (R.reading_faults src.new) result }
     ensures octets { R.octets_read src.new ≤ R.octets_read src.old + 31 * files_size (live_files R.Reads src.old) files.now }
 {
-    let inputs = inputs_in_place(alloc, words, chapters, src, files)?;
+    let inputs = inputs_in_place(alloc, words, texts, src, files)?;
     match plan_of(alloc, words, inputs.as_slice()) {
         Ok(plan) => Ok(Prepared { inputs, plan }),
         Err(PlanEnd::Refused(why)) => Err(MergeEnd::Refused(Refusal::Plan(why))),

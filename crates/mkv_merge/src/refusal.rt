@@ -13,13 +13,15 @@ use std::alloc::AllocError;
 /// Why nothing is merged. Inputs count from 0, in the order of the words.
 #[derive(Debug, Drop)]
 pub enum Refusal {
-    /// This is a name of an input, of the file beside an input in which an edit is kept, or of the chapter file, and an output
-    /// has it, or could have it as one of its parts.
+    /// This is a name of an input, of the chapter file, of a file of times, or of the file beside an input or a file of times in
+    /// which an edit is kept, and an output has it, or could have it as one of its parts.
     OutputIsInput { name: Text },
     /// There is no file of this input's name.
     Missing { input: usize },
     /// There is no file of the chapter file's name.
     MissingChapters,
+    /// There is no file of this name, that of a file of times.
+    MissingTimes { name: Text },
     /// An edit of this input is pending.
     PendingInput { input: usize },
     /// An edit of the file that lies at the output's name is pending.
@@ -28,6 +30,8 @@ pub enum Refusal {
     Input { input: usize, why: InputRefusal },
     /// The chapter file isn't taken.
     Chapters(TextRefusal),
+    /// The file of times of this name isn't taken.
+    Times { name: Text, why: TextRefusal },
     /// The tracks of this appended input can't go on in those of the one before it.
     Differs(AppendDiffers),
     /// The inputs make no output.

@@ -91,12 +91,16 @@ fn line_of<'a>(words: &'a MergeWords, why: &'a Refusal) -> Line<'a>
         Refusal::MissingChapters => Line::Missing {
             name: chapters_name(words),
         },
+        Refusal::MissingTimes { name } => Line::Missing {
+            name: name.as_str(),
+        },
         Refusal::PendingInput { input } => Line::PendingEdit {
             name: name_of(words, *input),
         },
         Refusal::PendingOutput => Line::PendingEdit { name: output },
         Refusal::Input { input, why } => input_line(name_of(words, *input), why),
         Refusal::Chapters(why) => text_line(chapters_name(words), why),
+        Refusal::Times { name, why } => text_line(name.as_str(), why),
         Refusal::Differs(differs) => Line::AppendDiffers {
             name: name_of(words, differs.input),
             id: differs.id,

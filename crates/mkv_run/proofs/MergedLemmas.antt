@@ -1,5 +1,5 @@
 -- A run that ends well has written the merge that was asked for.
-use Rattle.std.proofs.Common.{◌≡◌, ◌≢◌, ◌<◌, ℕ, get_or, List, Bool, true, false, if◌then◌else◌, IfOk, Option, Some, Result, Ok, refl, ◌∙◌, ap, ap₂, subst, arith}
+use Rattle.std.proofs.Common.{◌≡◌, ◌≢◌, ◌<◌, ℕ, get_or, List, IfOk, Option, Some, Result, Ok, ap₂, subst, arith}
 use Rattle.std.specs.List.{All}
 use Rattle.std.specs.Str.{IsUtf8}
 use Rattle.std.specs.String.{string_bytes}
@@ -16,14 +16,12 @@ use Rattle.mkv_args.specs.Words.{command}
 use Rattle.mkv_args.specs.declared.command.Command.{Command}
 use Rattle.mkv_args.specs.declared.command.Command.TheVariants.{Merge}
 use Rattle.mkv_lines.specs.Code.{code_of}
-use Rattle.mkv_lines.specs.Line.{not_built_line}
 use Rattle.mkv_lines.specs.Seen.{Seen}
-use Rattle.mkv_lines.specs.Verdict.{IsDone, Verdict, refused}
+use Rattle.mkv_lines.specs.Verdict.{IsDone}
 use Rattle.mkv_lines.specs.declared.status.Status.{Status}
 use Rattle.mkv_lines.specs.declared.status.Status.TheVariants as status
 use Rattle.mkv_merge.specs.Merge.{merge_verdict, sources_of}
 use Rattle.mkv_merge.specs.Records.{HaveRecords}
-use Rattle.mkv_merge.specs.Takes.{takes}
 use Rattle.merged_outputs.specs.Merge.{HasMerged, IsMerged, MergesWell}
 use Rattle.merged_outputs.specs.Sources.{HoldsOctets}
 use Rattle.merged_outputs.proofs.MergeLemmas.{run-merged}
@@ -36,29 +34,18 @@ use Rattle.mkv_run.specs.RunSeen.{RunSeen}
 texts-utf8 : (words : List (String Global)) → All IsUtf8 (texts words)
 texts-utf8 words = All-map IsUtf8 string_bytes words (λ k d below. IsUtf8-string_bytes (get_or words k d))
 
--- a merge that isn't built is refused
-abbrev comes_to : (List ℕ → Option (List ℕ)) → MergeWords → Bool → Option Verdict
-comes_to world asked built = if built then Some (merge_verdict world asked) else Some (refused not_built_line)
-
 -- what was reached, and is no refusal, has written the merge that was asked for
 has-merged : (old new : Seen) (disk : Option DiskWorld) (words : List (List ℕ)) (s : Status) → s ≢ status.Refused → All IsUtf8 words → MergesRecordsIn old.names words (Ok s) → Told (verdict_in old.names disk words) (λ v. (s ≡ v.status) × IsDone old new v) → HasMerged old.names words new.names
-has-merged old new disk words s other utf8 records reached = λ world told holds asked is. split world asked told holds is (ap₂ (λ (n : Names) (c : Result Command Usage). verdict_after n disk c) told is) (takes asked) refl
+has-merged old new disk words s other utf8 records reached = λ world told holds asked is.
+    let at = reached (merge_verdict world asked) (ap₂ (λ (n : Names) (c : Result Command Usage). verdict_after n disk c) told is) in
+    run-merged old new words asked world s utf8 told holds is (have world asked told is) other at.0 at.1
   where
     -- its records can be read again
-    have : (world : List ℕ → Option (List ℕ)) (asked : MergeWords) → old.names ≡ Some world → command words ≡ Ok (Merge asked) → takes asked ≡ true → IfOk (sources_of world asked) HaveRecords
-    have world asked told is test =
+    have : (world : List ℕ → Option (List ℕ)) (asked : MergeWords) → old.names ≡ Some world → command words ≡ Ok (Merge asked) → IfOk (sources_of world asked) HaveRecords
+    have world asked told is =
         let P : Result Command Usage → Type 0 = λ c. IfOk c (λ (each : Command). MergesRecords old.names each (Ok s)) in
         let merges : MergesRecords old.names (Merge asked) (Ok s) = subst P is records in
-        merges test world told
-
-    split : (world : List ℕ → Option (List ℕ)) (asked : MergeWords) → old.names ≡ Some world → HoldsOctets world → command words ≡ Ok (Merge asked) → verdict_in old.names disk words ≡ comes_to world asked (takes asked)
-        → (built : Bool) → takes asked ≡ built → IsMerged world asked new.names
-    split world asked told holds is comes true test =
-        let at = reached (merge_verdict world asked) (comes ∙ ap (comes_to world asked) test) in
-        run-merged old new words asked world s utf8 told holds is (have world asked told is test) other at.0 at.1
-    split world asked told holds is comes false test =
-        let at = reached (refused not_built_line) (comes ∙ ap (comes_to world asked) test) in
-        absurd (other at.0)
+        merges world told
 
 -- A run that ends well has written it.
 pub merges-well : (old new : RunSeen) (disk : Option DiskWorld) (words : List (String Global)) (s : Status) → MergesRecordsIn old.seen.names (texts words) (Ok s) → Told (verdict_in old.seen.names disk (texts words)) (Ends old new s) → MergesWell old.seen.names (texts words) new.seen.names s

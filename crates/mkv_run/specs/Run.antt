@@ -1,5 +1,5 @@
 -- What the words of a command line come to.
-use Rattle.std.specs.Prelude.{◌≤◌, ⊤, IfOk, IsTrue, ℕ, ◌+◌, Bool, true, false, if◌then◌else◌, List, [], ◌∷◌, Option, Some, option_map, Result, Ok, Err}
+use Rattle.std.specs.Prelude.{◌≤◌, ⊤, IfOk, ℕ, ◌+◌, Bool, true, false, if◌then◌else◌, List, [], ◌∷◌, Option, Some, option_map, Result, Ok, Err}
 use Rattle.mkv_io.specs.Names.{Names}
 use Rattle.mkv_io.specs.Told.{Told}
 use Rattle.word_values.specs.Why.{why_name}
@@ -20,7 +20,6 @@ use Rattle.mkv_extract.specs.Extract.{extract_verdict}
 use Rattle.mkv_merge.specs.Bound.{most_read}
 use Rattle.mkv_merge.specs.Merge.{merge_verdict, sources_of}
 use Rattle.mkv_merge.specs.Records.{EndsWithRecords}
-use Rattle.mkv_merge.specs.Takes.{takes}
 
 -- the first word that is wrong, and why
 abbrev pub usage_line : Usage → List ℕ
@@ -37,7 +36,7 @@ is_built (Reindex file) = false
 is_built (Generate n prefix) = false
 is_built (Extract file job) = true
 is_built (Propedit file edits) = true
-is_built (Merge words) = takes words
+is_built (Merge words) = true
 
 -- What a command that is built comes to, where the names tell, or for an edit in place the disk: its verdict is a function
 -- of the whole world of names, or of all that the disk tells. What asks for no file needs none of them.
@@ -77,9 +76,9 @@ ReadsWithinIn names words before now = IfOk (command words) (λ (c : Command). R
 
 -- ---- the records of a merge
 
--- What a merge that is built, and that ended by itself, gives besides tracks and blocks can be read again, where the names tell.
+-- What a merge that ended by itself gives besides tracks and blocks can be read again, where the names tell.
 abbrev pub MergesRecords : Names → Command → Result Status Stop → Type 0
-MergesRecords names (Merge words) r = IsTrue (takes words) → Told names (λ world. EndsWithRecords (sources_of world words) r)
+MergesRecords names (Merge words) r = Told names (λ world. EndsWithRecords (sources_of world words) r)
 MergesRecords names _ r = ⊤
 
 -- the same of the words of a command line

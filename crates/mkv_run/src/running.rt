@@ -1,14 +1,12 @@
 //! A run, from the words of its command line to its status.
 
-ghost use Rattle.std.specs.Prelude.{◌≡◌, ℕ, None, IfOk};
+ghost use Rattle.std.specs.Prelude.{◌≡◌, ℕ, IfOk};
 ghost use Rattle.mkv_io.specs.Sources.{live_files};
 ghost use Rattle.mkv_io.specs.Told.{Told};
-ghost use Rattle.merge_words.specs.Sound.{IsSoundMerge};
 ghost use Rattle.mkv_args.specs.Sound.{IsSound};
 ghost use Rattle.mkv_disk.specs.Calls.{AnyMoment, AtRest};
 ghost use Rattle.mkv_args.specs.Words.{command};
 ghost use Rattle.mkv_lines.specs.Code.{status_of};
-ghost use Rattle.mkv_lines.specs.Faults.{HasStopCause};
 ghost use Rattle.mkv_lines.specs.Ordinary.{IsOrdinary};
 ghost use Rattle.mkv_lines.specs.Line.{word_line};
 ghost use Rattle.mkv_lines.specs.Said.{HasSayCause};
@@ -23,14 +21,13 @@ ghost use Rattle.mkv_run.specs.RunSeen.{HasRunStop, HasStatusCause, run_seen};
 ghost use Rattle.mkv_run.specs.Touched.{LeftOnTheWay, Touches, reach_in, reach_of};
 
 use crate::help::{help, version};
-use merge_words::MergeWords;
 use mkv_args::{ArgsEnd, Command, read_words};
 use mkv_disk::Disk;
 use mkv_extract::extract_of;
 use mkv_info::{Form, info_of};
 use mkv_io::{Files, Report};
 use mkv_lines::{Line, Status, Stop, say_disk_fault, say_files_fault};
-use mkv_merge::{merge_of, takes};
+use mkv_merge::merge_of;
 use mkv_propedit::{propedit_of, recover_of};
 use std::alloc::Global;
 
@@ -147,34 +144,9 @@ fn obey<F: Files, D: Disk, R: Report>(
             propedit_of(alloc, file.as_str(), edits, disk, report)
         }
         Command::Extract { file, job } => extract_of(alloc, file.as_str(), job, files, report),
-        Command::Merge { words } => merge(alloc, words, files, report),
+        Command::Merge { words } => merge_of(alloc, words, files, report),
         _ => refuse(alloc, 0, "NotBuilt", report),
     }
-}
-
-// Merges files, where that is built.
-fn merge<F: Files, R: Report>(
-    alloc: Global,
-    words: &MergeWords,
-    files: &mut F,
-    report: &mut R,
-) -> Result<Status, Stop>
-    requires { IsSoundMerge words.now }
-    ensures verdict { Told (verdict_of (F.names files.old) None (Command.Merge words.now)) (Reaches
-        (seen F.Reads F.writing_faults F.names R.Report files.old report.old)
-        (seen F.Reads F.writing_faults F.names R.Report files.new report.new) result) }
-    ensures ordinary { IfOk result IsOrdinary }
-    ensures cause { HasStopCause
-        (seen F.Reads F.writing_faults F.names R.Report files.old report.old).counts
-        (seen F.Reads F.writing_faults F.names R.Report files.new report.new).counts result }
-    ensures closed { (file : ℕ) → (live_files F.Reads files.new).live file ≡ (live_files F.Reads files.old).live file }
-    ensures records { MergesRecords (F.names files.old) (Command.Merge words.now) result }
-    ensures octets { ReadsWithin (F.names files.old) (Command.Merge words.now) (F.octets_read files.old) (F.octets_read files.new) }
-{
-    if !takes(words) {
-        return refuse(alloc, 0, "NotBuilt", report);
-    }
-    merge_of(alloc, words, files, report)
 }
 
 // Words that aren't obeyed.

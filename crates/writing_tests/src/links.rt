@@ -72,6 +72,7 @@ fn link_of<R: Reads>(
         delay: i64::from(taken.delay) * 1_000_000,
         shift: u64::from(taken.shift) * SCALE,
         prefix: Bytes::new(alloc),
+        times: None,
     }))
 }
 

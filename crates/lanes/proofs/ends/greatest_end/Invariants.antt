@@ -4,8 +4,8 @@ use Rattle.lanes.specs.Ends.{ends_of}
 use Rattle.lanes.specs.declared.found.TheConstants.{MOST_END}
 use Rattle.lanes.proofs.ends.greatest_end.Given as goal
 
-abbrev pub invariant-loop-link : goal.invariant-loop-link
-invariant-loop-link l = record {
-  exact : max l.end (ends_of (block_of l.cursor.block) (drop l.link-index l.links)) ≡ max l.initial.end (ends_of (block_of l.cursor.block) l.links);
+abbrev pub invariant-loop-k : goal.invariant-loop-k
+invariant-loop-k l = record {
+  exact : max l.end (ends_of (block_of l.cursor.block) (drop l.k l.before) (drop l.k l.links)) ≡ max l.initial.end (ends_of (block_of l.cursor.block) l.before l.links);
   small : l.end ≤ MOST_END;
 }

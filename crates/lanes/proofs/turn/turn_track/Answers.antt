@@ -1,11 +1,13 @@
-use Rattle.std.proofs.Common.{◌≡◌, length, Some, None, Ok, Err, Bool, ◌<◌, refl, sym, ◌∙◌, ap, arith}
+use Rattle.std.proofs.Common.{◌≡◌, ℕ, ◌+◌, ◌*◌, ◌≤◌, ◌^◌, length, Some, None, Ok, Err, Bool, ◌<◌, refl, sym, ◌∙◌, ap, arith}
 use Rattle.std.specs.Prelude.{◌||◌}
+use Rattle.std.proofs.Math.ListN.{length-set}
 use Rattle.std.proofs.lemmas.Option.{slice_get_within, slice_get_read}
 use Rattle.mkv_io.specs.declared.outside.FileId.{FileId}
 use Rattle.mkv_io.specs.Sources.{live_files}
 use Rattle.block_records.specs.Buffered.{block_of}
 use Rattle.cluster_reader.specs.Reading.{left_of}
 use Rattle.merge_model.specs.FileLinks.{IsOpenLink, IsSmallLink, octets_in, track_events}
+use Rattle.mkv_io.specs.declared.outside.TheConstants.{LONGEST_FILE}
 use Rattle.lanes.specs.Placed.{track_lent}
 use Rattle.merge_model.specs.declared.link.Link.TheVariants.{Track}
 use Rattle.lanes.specs.declared.walk.Walk.{Walk}
@@ -29,7 +31,7 @@ returns-in_default-clause-gives g c = λ told.
     let total : f.size t.file.n ≡ c.deref.result.now.total = opened.size ∙ ap (λ o. o.total) (sym c.deref.ensures) in
     let whole : c.deref.result.now.total ≡ length (octets_in f t.file.n) = sym total ∙ sym (g.met.R.Reads.told_size (g.R.Reads.standing c.args.src.now) t.file.n (octets_in f t.file.n) content) in
     let begins : left_of (octets_in f t.file.n) d ≡ track_events f t = c.in_ok-cursor.ensures.left (octets_in f t.file.n) whole ∙ ap (λ o. turns.events_with f t o.segment) c.deref.ensures in
-    turns.turns-opened f c.args.scale c.args.links.now t w (record w { cursor = Some d }) d c.requires.here none refl (c.requires.ready.stopped none) begins
+    turns.turns-opened f c.args.scale c.args.links.now t w (record w { cursor = Some d }) d c.requires.here none refl (turns.none-counted f c.args.links.now w c.requires.ready none) (c.requires.ready.stopped none) begins
 
 pub returns-in_default-clause-moves : goal.returns-in_default-clause-moves
 returns-in_default-clause-moves g c =
@@ -78,7 +80,7 @@ returns-in_err-advance-clause-gives g c = λ told.
     let at = turns.at-track f c.args.links.now w t old c.requires.ready c.requires.here (sym c.in-Some.ensures.value) in
     let reads : turns.Reads c.args.links.now t w new old d = record { at = c.requires.here; same = refl; before = sym c.in-Some.ensures.value; now = refl } in
     let gives = turns.cursor-gives f c.args.links.now w.at t old d (Err c.in_err-advance.field-0.0) told c.requires.here at.1 c.in_err-advance.ensures.gives in
-    turns.turns-same f c.args.scale c.args.links.now t w new old d reads refl refl refl gives c.from_residual-in_err-advance.result c.from_residual-in_err-advance.ensures.0
+    turns.turns-same f c.args.scale c.args.links.now t w new old d reads refl refl refl refl gives c.from_residual-in_err-advance.result c.from_residual-in_err-advance.ensures.0
 
 pub returns-in_err-advance-clause-pays : goal.returns-in_err-advance-clause-pays
 returns-in_err-advance-clause-pays g c =
@@ -104,11 +106,11 @@ returns-else-place_block-clause-gives g c = λ told.
     let t = c.args.track.now in
     let old = c.in-Some.cursor.now in
     let d = c.advance.new.self in
-    let new : Walk = record w { cursor = Some d; placed = c.place_block.new.placed } in
+    let new : Walk = record w { cursor = Some d; frames = w.frames + c.frames_of.result; placed = c.place_block.new.placed } in
     let at = turns.at-track f c.args.links.now w t old c.requires.ready c.requires.here (sym c.in-Some.ensures.value) in
     let reads : turns.Reads c.args.links.now t w new old d = record { at = c.requires.here; same = refl; before = sym c.in-Some.ensures.value; now = refl } in
     let gives = turns.cursor-gives f c.args.links.now w.at t old d (Ok c.in_ok-advance.field-0) told c.requires.here at.1 c.in_ok-advance.ensures.gives in
-    turns.turns-other f c.args.scale c.args.links.now t w new old d reads (block_of d.block) refl refl (rw c.in-Block.is at gives) refl (rw c.if-place_block.false at c.place_block.ensures.becomes)
+    turns.turns-other f c.args.scale c.args.links.now t w new old d reads (block_of d.block) (ap (λ (n : ℕ). w.frames + n) c.frames_of.ensures.exact) refl refl (rw c.in-Block.is at gives) refl (rw c.if-place_block.false at c.place_block.ensures.becomes)
 
 pub returns-else-place_block-clause-moves : goal.returns-else-place_block-clause-moves
 returns-else-place_block-clause-moves g c =
@@ -117,7 +119,7 @@ returns-else-place_block-clause-moves g c =
     let t = c.args.track.now in
     let old = c.in-Some.cursor.now in
     let d = c.advance.new.self in
-    let new : Walk = record w { cursor = Some d; placed = c.place_block.new.placed } in
+    let new : Walk = record w { cursor = Some d; frames = w.frames + c.frames_of.result; placed = c.place_block.new.placed } in
     let reads : turns.Reads c.args.links.now t w new old d = record { at = c.requires.here; same = refl; before = sym c.in-Some.ensures.value; now = refl } in
     let moves = c.in_ok-advance.ensures.moves in
     record {
@@ -132,7 +134,7 @@ returns-else-place_block-clause-pays g c =
     let t = c.args.track.now in
     let old = c.in-Some.cursor.now in
     let d = c.advance.new.self in
-    let new : Walk = record w { cursor = Some d; placed = c.place_block.new.placed } in
+    let new : Walk = record w { cursor = Some d; frames = w.frames + c.frames_of.result; placed = c.place_block.new.placed } in
     let at = turns.at-track f c.args.links.now w t old c.requires.ready c.requires.here (sym c.in-Some.ensures.value) in
     let reads : turns.Reads c.args.links.now t w new old d = record { at = c.requires.here; same = refl; before = sym c.in-Some.ensures.value; now = refl } in
     turns.reads-pays f c.args.scale c.args.links.now t w new old d reads at.1 (g.R.Reads.octets_read c.args.src.now) (g.R.Reads.octets_read c.advance.new.src) c.in_ok-advance.ensures.spends.pays c.in_ok-advance.ensures.spends.most
@@ -144,11 +146,11 @@ returns-then-place_block-clause-gives g c = λ told.
     let t = c.args.track.now in
     let old = c.in-Some.cursor.now in
     let d = c.advance.new.self in
-    let new : Walk = record w { cursor = Some d; placed = c.place_block.new.placed; greatest = c.place_block.new.placed.head.order } in
+    let new : Walk = record w { cursor = Some d; frames = w.frames + c.frames_of.result; placed = c.place_block.new.placed; greatest = c.place_block.new.placed.head.order } in
     let at = turns.at-track f c.args.links.now w t old c.requires.ready c.requires.here (sym c.in-Some.ensures.value) in
     let reads : turns.Reads c.args.links.now t w new old d = record { at = c.requires.here; same = refl; before = sym c.in-Some.ensures.value; now = refl } in
     let gives = turns.cursor-gives f c.args.links.now w.at t old d (Ok c.in_ok-advance.field-0) told c.requires.here at.1 c.in_ok-advance.ensures.gives in
-    turns.turns-gives f c.args.scale c.args.links.now t w new old d reads (block_of d.block) refl refl (rw c.in-Block.is at gives) (rw c.if-place_block.true at c.place_block.ensures.becomes) refl
+    turns.turns-gives f c.args.scale c.args.links.now t w new old d reads (block_of d.block) (ap (λ (n : ℕ). w.frames + n) c.frames_of.ensures.exact) refl refl (rw c.in-Block.is at gives) (rw c.if-place_block.true at c.place_block.ensures.becomes) refl
 
 pub returns-then-place_block-clause-moves : goal.returns-then-place_block-clause-moves
 returns-then-place_block-clause-moves g c =
@@ -157,7 +159,7 @@ returns-then-place_block-clause-moves g c =
     let t = c.args.track.now in
     let old = c.in-Some.cursor.now in
     let d = c.advance.new.self in
-    let new : Walk = record w { cursor = Some d; placed = c.place_block.new.placed; greatest = c.place_block.new.placed.head.order } in
+    let new : Walk = record w { cursor = Some d; frames = w.frames + c.frames_of.result; placed = c.place_block.new.placed; greatest = c.place_block.new.placed.head.order } in
     let reads : turns.Reads c.args.links.now t w new old d = record { at = c.requires.here; same = refl; before = sym c.in-Some.ensures.value; now = refl } in
     let moves = c.in_ok-advance.ensures.moves in
     record {
@@ -173,7 +175,7 @@ returns-then-place_block-clause-pays g c =
     let t = c.args.track.now in
     let old = c.in-Some.cursor.now in
     let d = c.advance.new.self in
-    let new : Walk = record w { cursor = Some d; placed = c.place_block.new.placed; greatest = c.place_block.new.placed.head.order } in
+    let new : Walk = record w { cursor = Some d; frames = w.frames + c.frames_of.result; placed = c.place_block.new.placed; greatest = c.place_block.new.placed.head.order } in
     let at = turns.at-track f c.args.links.now w t old c.requires.ready c.requires.here (sym c.in-Some.ensures.value) in
     let reads : turns.Reads c.args.links.now t w new old d = record { at = c.requires.here; same = refl; before = sym c.in-Some.ensures.value; now = refl } in
     turns.reads-pays f c.args.scale c.args.links.now t w new old d reads at.1 (g.R.Reads.octets_read c.args.src.now) (g.R.Reads.octets_read c.advance.new.src) c.in_ok-advance.ensures.spends.pays c.in_ok-advance.ensures.spends.most
@@ -204,7 +206,7 @@ returns-after-stopped-clause-gives g c = λ told.
     let inside : w.at < length w.told.items = omega (arith, c.requires.ready.told) in
     let r = c.index_mut.result.now in
     let here = slice_get_read w.told.items (length w.told.items) w.at r refl inside c.index_mut.ensures.value in
-    turns.turns-damage f c.args.scale c.args.links.now t w new old d reads d.stopped c.in-Damaged.damage r stopped refl (rw c.in-Damaged.is at gives) here inside (ap (λ x. (with_item w.told w.at x).items) c.add.ensures)
+    turns.turns-damage f c.args.scale c.args.links.now t w new old d reads d.stopped c.in-Damaged.damage r refl stopped refl (rw c.in-Damaged.is at gives) here inside (ap (λ x. (with_item w.told w.at x).items) c.add.ensures)
 
 pub returns-after-stopped-clause-moves : goal.returns-after-stopped-clause-moves
 returns-after-stopped-clause-moves g c =
@@ -268,3 +270,71 @@ returns-in-End-clause-pays g c =
     let has = has-left (length c.args.links.now) w c.leave.new.self c.leave.ensures in
     let at = turns.at-track f c.args.links.now w t old c.requires.ready c.requires.here (sym c.in-Some.ensures.value) in
     turns.ends-pays f c.args.scale c.args.links.now t w c.leave.new.self old c.requires.here (sym c.in-Some.ensures.value) has c.advance.new.self at.1 (g.R.Reads.octets_read c.args.src.now) (g.R.Reads.octets_read c.advance.new.src) c.in_ok-advance.ensures.spends.pays c.in_ok-advance.ensures.spends.most
+
+-- ---- where it stands then
+
+pub returns-in_err-advance-clause-ready : goal.returns-in_err-advance-clause-ready
+returns-in_err-advance-clause-ready g c =
+    let f = live_files g.R.Reads c.args.src.now in
+    let w = c.args.walk.now in
+    let t = c.args.track.now in
+    let old = c.in-Some.cursor.now in
+    let d = c.advance.new.self in
+    let new : Walk = record w { cursor = Some d } in
+    let at = turns.at-track f c.args.links.now w t old c.requires.ready c.requires.here (sym c.in-Some.ensures.value) in
+    let reads : turns.Reads c.args.links.now t w new old d = record { at = c.requires.here; same = refl; before = sym c.in-Some.ensures.value; now = refl } in
+    let few : w.frames ≤ 256 * old.place.at = turns.few-counted f c.args.links.now w old c.requires.ready (sym c.in-Some.ensures.value) in
+    turns.ready-reads c.args.links.now t w new old d reads f (live_files g.R.Reads c.advance.new.src) (ap g.R.Reads.files c.in_err-advance.ensures.standing) c.requires.ready c.in_err-advance.ensures.stands (c.in_err-advance.ensures.moves.same.file ∙ at.1) refl (omega (arith, few, c.in_err-advance.ensures.moves.same.forwards))
+
+pub returns-else-place_block-clause-ready : goal.returns-else-place_block-clause-ready
+returns-else-place_block-clause-ready g c =
+    let f = live_files g.R.Reads c.args.src.now in
+    let w = c.args.walk.now in
+    let t = c.args.track.now in
+    let old = c.in-Some.cursor.now in
+    let d = c.advance.new.self in
+    let new : Walk = record w { cursor = Some d; frames = w.frames + c.frames_of.result; placed = c.place_block.new.placed } in
+    let at = turns.at-track f c.args.links.now w t old c.requires.ready c.requires.here (sym c.in-Some.ensures.value) in
+    let reads : turns.Reads c.args.links.now t w new old d = record { at = c.requires.here; same = refl; before = sym c.in-Some.ensures.value; now = refl } in
+    let few : w.frames ≤ 256 * old.place.at = turns.few-counted f c.args.links.now w old c.requires.ready (sym c.in-Some.ensures.value) in
+    let on : old.place.at < d.place.at = rw c.in-Block.is at c.in_ok-advance.ensures.moves.on in
+    turns.ready-reads c.args.links.now t w new old d reads f (live_files g.R.Reads c.advance.new.src) (ap g.R.Reads.files c.in_ok-advance.ensures.standing) c.requires.ready c.in_ok-advance.ensures.stands (c.in_ok-advance.ensures.moves.same.file ∙ at.1) refl (omega (arith, few, on, c.frames_of.ensures.few))
+
+pub returns-then-place_block-clause-ready : goal.returns-then-place_block-clause-ready
+returns-then-place_block-clause-ready g c =
+    let f = live_files g.R.Reads c.args.src.now in
+    let w = c.args.walk.now in
+    let t = c.args.track.now in
+    let old = c.in-Some.cursor.now in
+    let d = c.advance.new.self in
+    let new : Walk = record w { cursor = Some d; frames = w.frames + c.frames_of.result; placed = c.place_block.new.placed; greatest = c.place_block.new.placed.head.order } in
+    let at = turns.at-track f c.args.links.now w t old c.requires.ready c.requires.here (sym c.in-Some.ensures.value) in
+    let reads : turns.Reads c.args.links.now t w new old d = record { at = c.requires.here; same = refl; before = sym c.in-Some.ensures.value; now = refl } in
+    let few : w.frames ≤ 256 * old.place.at = turns.few-counted f c.args.links.now w old c.requires.ready (sym c.in-Some.ensures.value) in
+    let on : old.place.at < d.place.at = rw c.in-Block.is at c.in_ok-advance.ensures.moves.on in
+    turns.ready-reads c.args.links.now t w new old d reads f (live_files g.R.Reads c.advance.new.src) (ap g.R.Reads.files c.in_ok-advance.ensures.standing) c.requires.ready c.in_ok-advance.ensures.stands (c.in_ok-advance.ensures.moves.same.file ∙ at.1) refl (omega (arith, few, on, c.frames_of.ensures.few))
+
+pub returns-after-stopped-clause-ready : goal.returns-after-stopped-clause-ready
+returns-after-stopped-clause-ready g c =
+    let f = live_files g.R.Reads c.args.src.now in
+    let w = c.args.walk.now in
+    let t = c.args.track.now in
+    let old = c.in-Some.cursor.now in
+    let d = c.advance.new.self in
+    let new : Walk = record w { cursor = Some d; stopped = c.if-stopped.walk; told = with_item w.told w.at c.add.new.self } in
+    let at = turns.at-track f c.args.links.now w t old c.requires.ready c.requires.here (sym c.in-Some.ensures.value) in
+    let reads : turns.Reads c.args.links.now t w new old d = record { at = c.requires.here; same = refl; before = sym c.in-Some.ensures.value; now = refl } in
+    let few : w.frames ≤ 256 * old.place.at = turns.few-counted f c.args.links.now w old c.requires.ready (sym c.in-Some.ensures.value) in
+    turns.ready-reads c.args.links.now t w new old d reads f (live_files g.R.Reads c.advance.new.src) (ap g.R.Reads.files c.in_ok-advance.ensures.standing) c.requires.ready c.in_ok-advance.ensures.stands (c.in_ok-advance.ensures.moves.same.file ∙ at.1) (length-set w.told.items w.at c.add.new.self) (omega (arith, few, c.in_ok-advance.ensures.moves.same.forwards))
+
+-- the sum fits: no file is longer than 2^48 octets, and a block has at most 256 frames and at least an octet
+pub overflow_add-walk : goal.overflow_add-walk
+overflow_add-walk g c =
+    let f = live_files g.R.Reads c.args.src.now in
+    let w = c.args.walk.now in
+    let old = c.in-Some.cursor.now in
+    let few : w.frames ≤ 256 * old.place.at = turns.few-counted f c.args.links.now w old c.requires.ready (sym c.in-Some.ensures.value) in
+    let at = turns.at-track f c.args.links.now w c.args.track.now old c.requires.ready c.requires.here (sym c.in-Some.ensures.value) in
+    let forwards : old.place.at ≤ c.advance.new.self.place.at = c.in_ok-advance.ensures.moves.same.forwards in
+    let short : f.size old.file.n ≤ LONGEST_FILE = g.met.R.Reads.short c.args.src.now old.file.n at.0.live in
+    omega (arith, few, forwards, short, at.0.inside, c.in_ok-advance.ensures.moves.inside, c.in_ok-advance.ensures.moves.same.end, c.frames_of.ensures.few)

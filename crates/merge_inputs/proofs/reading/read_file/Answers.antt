@@ -20,6 +20,7 @@ use Rattle.merge_inputs.specs.declared.input.InputRefusal.TheVariants.{Damaged}
 use Rattle.merge_inputs.specs.declared.taken.TakenTrack.{TakenTrack}
 use Rattle.merge_inputs.proofs.InputLemmas.{file_read-all, file_read-refused, kept-all, kept-files, kept-some, read-same}
 use Rattle.merge_inputs.proofs.TakenLemmas.{AreTaken-read, taken-tracks}
+use Rattle.merge_inputs.specs.Input.{listings_in}
 use Rattle.merge_inputs.proofs.reading.read_file.Goals as goal
 
 -- the tracks that are taken are entries
@@ -50,7 +51,7 @@ returns-clause-exact g c = λ bytes told.
     ∙ ap (λ (is_kept : Bool). kept_list is_kept (map in_file c.in_ok-info.field-0.attachments)) c.keeps_attachments.ensures)
     (c.kept_tree.ensures ∙ ap (λ (is_kept : Bool). kept_one is_kept c.in_ok-info.field-0.chapters) c.keeps_chapters.ensures)
     (c.kept_tree-2.ensures ∙ ap (λ (is_kept : Bool). kept_one is_kept c.in_ok-info.field-0.tags) c.keeps_tags.ensures)
-    c.keep_of.ensures c.unmoved.ensures)
+    c.keep_of.ensures c.unmoved.ensures (ap listings_in c.new-2.ensures))
 
 -- the file is live as before, and the tracks can be used
 pub returns-clause-input : goal.returns-clause-input

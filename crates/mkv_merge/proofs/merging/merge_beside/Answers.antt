@@ -25,8 +25,8 @@ returns-clause-verdict g c = λ world told.
     let said = c.merge_settled-ended.new.report in
     let contents = map (λ name. unwrap_or (world name) []) (file_names words.files) in
     let there = c.in-Ok.ensures.missing world told in
-    let chapters = c.args.chapters in
-    let sources : sources_beside world words chapters ≡ sources_settled world words chapters contents = opened-sources world words chapters c.as_slice.result.now c.as_slice.ensures there in
+    let texts = c.args.texts in
+    let sources : sources_beside world words texts ≡ sources_settled world words texts contents = opened-sources world words texts c.as_slice.result.now c.as_slice.ensures there in
     let same = c.in-Ok.ensures.same in
     let ends = c.close_all.ensures in
     let contents-told : AreTold (live_files g.F.Reads opened) c.as_slice-2.result.now contents =
@@ -46,8 +46,8 @@ returns-clause-verdict g c = λ world told.
       lines = g.P.Report.lines said;
       names = sym ends.names i;
     } in
-    subst (λ (s : Seen). Reaches was s c.merge_settled-ended.result (verdict_of words (sources_beside world words chapters))) ended
-    (subst (λ (s : Seen). Reaches s wrote c.merge_settled-ended.result (verdict_of words (sources_beside world words chapters))) begun
+    subst (λ (s : Seen). Reaches was s c.merge_settled-ended.result (verdict_of words (sources_beside world words texts))) ended
+    (subst (λ (s : Seen). Reaches s wrote c.merge_settled-ended.result (verdict_of words (sources_beside world words texts))) begun
     (subst (λ (v : Verdict). Reaches read wrote c.merge_settled-ended.result v) (ap (verdict_of words) (sym sources))
     (c.merge_settled-ended.ensures.verdict world (same.names ∙ told) contents contents-told)))
 
@@ -56,13 +56,13 @@ pub returns-in-Err-Failed-clause-verdict : goal.returns-in-Err-Failed-clause-ver
 returns-in-Err-Failed-clause-verdict g c = λ world told.
     IsStopped-before (seen g.F.Reads g.F.Files.writing_faults g.F.Files.names g.P.Report c.args.files.now c.args.report.now)
     (seen g.F.Reads g.F.Files.writing_faults g.F.Files.names g.P.Report c.open_all.new.files c.args.report.now)
-    (verdict_of c.args.words.now (sources_beside world c.args.words.now c.args.chapters)) refl c.open_all.ensures.same.names
+    (verdict_of c.args.words.now (sources_beside world c.args.words.now c.args.texts)) refl c.open_all.ensures.same.names
 
 pub returns-in-Err-Memory-clause-verdict : goal.returns-in-Err-Memory-clause-verdict
 returns-in-Err-Memory-clause-verdict g c = λ world told.
     IsStopped-before (seen g.F.Reads g.F.Files.writing_faults g.F.Files.names g.P.Report c.args.files.now c.args.report.now)
     (seen g.F.Reads g.F.Files.writing_faults g.F.Files.names g.P.Report c.open_all.new.files c.args.report.now)
-    (verdict_of c.args.words.now (sources_beside world c.args.words.now c.args.chapters)) refl c.open_all.ensures.same.names
+    (verdict_of c.args.words.now (sources_beside world c.args.words.now c.args.texts)) refl c.open_all.ensures.same.names
 
 -- ---- how much is read
 
@@ -76,8 +76,8 @@ returns-clause-octets g c = λ world told.
     let there = c.in-Ok.ensures.missing world told in
     let contents-told : AreTold f ids contents =
     opened-told f world words c.as_slice.result.now c.in-Ok.ids ids c.as_slice.ensures c.as_slice-2.ensures there (c.in-Ok.ensures.contents world told) in
-    reads-few world words c.args.chapters (sources_settled world words c.args.chapters contents) (g.F.Reads.octets_read c.args.files.now) (g.F.Reads.octets_read opened) (g.F.Reads.octets_read c.merge_settled-ended.new.files) (g.F.Reads.octets_read c.close_all.new.files) (files_size f ids)
-    (opened-sources world words c.args.chapters c.as_slice.result.now c.as_slice.ensures there) (size-told f (g.met.F.Reads.told_size (g.F.Reads.standing opened)) world words.files ids contents-told)
+    reads-few world words c.args.texts (sources_settled world words c.args.texts contents) (g.F.Reads.octets_read c.args.files.now) (g.F.Reads.octets_read opened) (g.F.Reads.octets_read c.merge_settled-ended.new.files) (g.F.Reads.octets_read c.close_all.new.files) (files_size f ids)
+    (opened-sources world words c.args.texts c.as_slice.result.now c.as_slice.ensures there) (size-told f (g.met.F.Reads.told_size (g.F.Reads.standing opened)) world words.files ids contents-told)
     c.in-Ok.ensures.same.octets (c.merge_settled-ended.ensures.octets world (c.in-Ok.ensures.same.names ∙ told) contents contents-told) c.close_all.ensures.octets
 
 -- ---- the records
@@ -92,5 +92,5 @@ returns-clause-records g c = λ world told.
     let contents-told : AreTold f ids contents =
     opened-told f world words c.as_slice.result.now c.in-Ok.ids ids c.as_slice.ensures c.as_slice-2.ensures there (c.in-Ok.ensures.contents world told) in
     subst (λ (found : Result (List Source) Refusal). EndsWithRecords found c.merge_settled-ended.result)
-    (sym (opened-sources world words c.args.chapters c.as_slice.result.now c.as_slice.ensures there))
+    (sym (opened-sources world words c.args.texts c.as_slice.result.now c.as_slice.ensures there))
     (c.merge_settled-ended.ensures.records world (c.in-Ok.ensures.same.names ∙ told) contents contents-told)

@@ -1,4 +1,6 @@
-use Rattle.std.proofs.Common.{◌≡◌, List, None, Result, refl, sym, ◌∙◌, ap, subst}
+use Rattle.std.proofs.Common.{◌≡◌, ◌≤◌, ◌+◌, List, None, Result, refl, sym, ◌∙◌, ap, subst}
+use Rattle.input_files.specs.TextFiles.{text_files, text_octets}
+use Rattle.merge_words.specs.declared.files.FileWords.{FileWords}
 use Rattle.merge_plan.specs.Plan.{Source}
 use Rattle.mkv_lines.specs.Seen.{Seen, seen}
 use Rattle.mkv_lines.specs.Verdict.{Reaches, Verdict}
@@ -16,15 +18,15 @@ returns-in-Err-clause-verdict g c = λ world told.
     let still = seen g.F.Reads g.F.Files.writing_faults g.F.Files.names g.P.Report c.args.files.now c.args.report.now in
     IsStopped-before still still (merge_verdict world c.args.words.now) refl refl
 
--- the chapter file was looked into, and nothing that is seen has changed
+-- the text files were read, and nothing that is seen has changed
 pub returns-in-Ok-clause-verdict : goal.returns-in-Ok-clause-verdict
 returns-in-Ok-clause-verdict g c = λ world told.
     let words = c.args.words.now in
     let old = c.args.files.now in
-    let mid = c.read_chapter_file.new.files in
-    let looks = c.read_chapter_file.ensures.looks in
+    let mid = c.read_text_files.new.files in
+    let looks = c.read_text_files.ensures.looks in
     let apart : first_written words ≡ None = sym c.in-Ok-None.ensures ∙ c.in-Ok-None.field-0-is in
-    let sources = chaptered-sources world words c.in-Ok.chapters apart (c.in-Ok.ensures.exact world told) in
+    let sources = chaptered-sources world words c.in-Ok.texts apart (c.in-Ok.ensures.exact world told ∙ ap (text_files world words.chapters) c.as_slice.ensures) in
     let reading : g.F.Reads.reading_faults mid ≡ g.F.Reads.reading_faults old = c.in-Ok.ensures.cause in
     let was = seen g.F.Reads g.F.Files.writing_faults g.F.Files.names g.P.Report old c.args.report.now in
     let read = seen g.F.Reads g.F.Files.writing_faults g.F.Files.names g.P.Report mid c.args.report.now in
@@ -39,14 +41,14 @@ returns-in-Ok-clause-verdict g c = λ world told.
     (c.merge_beside.ensures.verdict world (looks.names ∙ told)))
 
 pub returns-in-Ok-clause-live : goal.returns-in-Ok-clause-live
-returns-in-Ok-clause-live g c = λ file. c.merge_beside.ensures.live file ∙ c.read_chapter_file.ensures.looks.kept.live file
+returns-in-Ok-clause-live g c = λ file. c.merge_beside.ensures.live file ∙ c.read_text_files.ensures.looks.kept.live file
 
--- the chapter file couldn't be looked into
-pub returns-in-Err-read_chapter_file-clause-verdict : goal.returns-in-Err-read_chapter_file-clause-verdict
-returns-in-Err-read_chapter_file-clause-verdict g c = λ world told.
+-- a text file couldn't be read
+pub returns-in-Err-read_text_files-clause-verdict : goal.returns-in-Err-read_text_files-clause-verdict
+returns-in-Err-read_text_files-clause-verdict g c = λ world told.
     IsStopped-before (seen g.F.Reads g.F.Files.writing_faults g.F.Files.names g.P.Report c.args.files.now c.args.report.now)
-    (seen g.F.Reads g.F.Files.writing_faults g.F.Files.names g.P.Report c.read_chapter_file.new.files c.args.report.now)
-    (merge_verdict world c.args.words.now) refl c.read_chapter_file.ensures.looks.names
+    (seen g.F.Reads g.F.Files.writing_faults g.F.Files.names g.P.Report c.read_text_files.new.files c.args.report.now)
+    (merge_verdict world c.args.words.now) refl c.read_text_files.ensures.looks.names
 
 -- ---- how much is read
 
@@ -54,9 +56,10 @@ pub returns-in-Ok-clause-octets : goal.returns-in-Ok-clause-octets
 returns-in-Ok-clause-octets g c = λ world told.
     let words = c.args.words.now in
     let apart : first_written words ≡ None = sym c.in-Ok-None.ensures ∙ c.in-Ok-None.field-0-is in
-    reads-chaptered world words (sources_beside world words c.in-Ok.chapters) (g.F.Reads.octets_read c.args.files.now) (g.F.Reads.octets_read c.read_chapter_file.new.files) (g.F.Reads.octets_read c.merge_beside.new.files)
-    (chaptered-sources world words c.in-Ok.chapters apart (c.in-Ok.ensures.exact world told))
-    (c.read_chapter_file.ensures.octets world told) (c.merge_beside.ensures.octets world (c.read_chapter_file.ensures.looks.names ∙ told))
+    reads-chaptered world words (sources_beside world words c.in-Ok.texts) (g.F.Reads.octets_read c.args.files.now) (g.F.Reads.octets_read c.read_text_files.new.files) (g.F.Reads.octets_read c.merge_beside.new.files)
+    (chaptered-sources world words c.in-Ok.texts apart (c.in-Ok.ensures.exact world told ∙ ap (text_files world words.chapters) c.as_slice.ensures))
+    (subst (λ (files : List FileWords). g.F.Reads.octets_read c.read_text_files.new.files ≤ g.F.Reads.octets_read c.args.files.now + text_octets world words.chapters files) c.as_slice.ensures
+    (c.read_text_files.ensures.octets world told)) (c.merge_beside.ensures.octets world (c.read_text_files.ensures.looks.names ∙ told))
 
 -- ---- the records
 
@@ -65,5 +68,5 @@ returns-in-Ok-clause-records g c = λ world told.
     let words = c.args.words.now in
     let apart : first_written words ≡ None = sym c.in-Ok-None.ensures ∙ c.in-Ok-None.field-0-is in
     subst (λ (found : Result (List Source) Refusal). EndsWithRecords found c.merge_beside.result)
-    (sym (chaptered-sources world words c.in-Ok.chapters apart (c.in-Ok.ensures.exact world told)))
-    (c.merge_beside.ensures.records world (c.read_chapter_file.ensures.looks.names ∙ told))
+    (sym (chaptered-sources world words c.in-Ok.texts apart (c.in-Ok.ensures.exact world told ∙ ap (text_files world words.chapters) c.as_slice.ensures)))
+    (c.merge_beside.ensures.records world (c.read_text_files.ensures.looks.names ∙ told))

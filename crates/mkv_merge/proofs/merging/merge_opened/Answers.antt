@@ -31,7 +31,7 @@ returns-in-Ok-clause-verdict g c = λ contents told.
       lines = g.P.Report.lines c.args.report.now;
       names = names i;
     } in
-    subst (λ (s : Seen). Reaches s now c.write.result (verdict_of c.args.words.now (sources_with c.args.words.now c.args.chapters contents))) nothing
+    subst (λ (s : Seen). Reaches s now c.write.result (verdict_of c.args.words.now (sources_with c.args.words.now c.args.texts contents))) nothing
     (subst (λ (v : Verdict). Reaches read now c.write.result v) (ap (verdict_of c.args.words.now) (sym (c.in-Ok.ensures.exact contents told)))
     (c.write.ensures.verdict contents (subst (λ (f : LiveFiles). AreTold f c.args.ids.now contents) (sym same) told)))
 
@@ -43,7 +43,7 @@ returns-in-Err-Stopped-clause-verdict g c = λ contents told.
     let mid = c.prepare.new.src in
     IsStopped-before (seen g.F.Reads g.F.Files.writing_faults g.F.Files.names g.P.Report old c.args.report.now)
     (seen g.F.Reads g.F.Files.writing_faults g.F.Files.names g.P.Report mid c.args.report.now)
-    (verdict_of words (sources_with words c.args.chapters contents)) refl (g.met.F.Files.names_stand mid old c.in-Err-Stopped.ensures.standing)
+    (verdict_of words (sources_with words c.args.texts contents)) refl (g.met.F.Files.names_stand mid old c.in-Err-Stopped.ensures.standing)
 
 -- ---- how much is read
 
@@ -59,7 +59,7 @@ returns-in-Ok-clause-octets g c = λ contents told.
     let sources = zip contents (reads_in p.inputs) in
     let many = many-inputs g.F.Reads g.F.Files old words ids p.inputs c.requires.inputs c.in-Ok.ensures.prepared.inputs.of in
     let is = merge-is now words ids contents p c.in-Ok.ensures.prepared (subst (λ (f : LiveFiles). AreTold f ids contents) (sym same) told) many in
-    reads-both (sources_with words c.args.chapters contents) sources (length p.plan.lanes) (g.F.Reads.octets_read old) (g.F.Reads.octets_read mid) (g.F.Reads.octets_read c.write.new.files) (files_size (live_files g.F.Reads old) ids) (files_size now ids) (data_length p.plan)
+    reads-both (sources_with words c.args.texts contents) sources (length p.plan.lanes) (g.F.Reads.octets_read old) (g.F.Reads.octets_read mid) (g.F.Reads.octets_read c.write.new.files) (files_size (live_files g.F.Reads old) ids) (files_size now ids) (data_length p.plan)
     (c.in-Ok.ensures.exact contents told) (lanes-count now words p.inputs p.plan sources is) (ap (λ (f : LiveFiles). files_size f ids) same) (data-counted now words p.inputs p.plan sources is) c.prepare.ensures.octets c.write.ensures.octets
 
 -- ---- the records
@@ -75,10 +75,10 @@ returns-in-Ok-clause-records g c = λ contents told.
     let sources = zip contents (reads_in p.inputs) in
     let many = many-inputs g.F.Reads g.F.Files old words ids p.inputs c.requires.inputs c.in-Ok.ensures.prepared.inputs.of in
     let is = merge-is now words ids contents p c.in-Ok.ensures.prepared (subst (λ (f : LiveFiles). AreTold f ids contents) (sym same) told) many in
-    records-found (sources_with words c.args.chapters contents) sources c.write.result (c.in-Ok.ensures.exact contents told)
+    records-found (sources_with words c.args.texts contents) sources c.write.result (c.in-Ok.ensures.exact contents told)
     (records-are now words p.inputs p.plan sources is c.in-Ok.ensures.prepared.written)
 
 -- refused
 pub returns-in-Err-Refused-clause-records : goal.returns-in-Err-Refused-clause-records
 returns-in-Err-Refused-clause-records g c = λ contents told.
-    records-none (sources_with c.args.words.now c.args.chapters contents) c.in-Err-Refused.why c.refuse.result (rw c.in-Err-Refused.field-0-is at (c.in-Err-Refused.ensures.exact contents told))
+    records-none (sources_with c.args.words.now c.args.texts contents) c.in-Err-Refused.why c.refuse.result (rw c.in-Err-Refused.field-0-is at (c.in-Err-Refused.ensures.exact contents told))

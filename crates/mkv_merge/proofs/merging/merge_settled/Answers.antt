@@ -31,7 +31,7 @@ returns-in-Ok-None-clause-verdict g c = λ world told contents held.
     let mid = c.begun_refusal.new.files in
     let looks = c.begun_refusal.ensures.looks in
     let reading : g.F.Reads.reading_faults mid ≡ g.F.Reads.reading_faults old = c.in-Ok-None.ensures.cause in
-    let none : begun_refusal world words c.args.chapters ≡ None = sym (c.in-Ok-None.ensures.exact world told) ∙ c.in-Ok-None.field-0-is in
+    let none : begun_refusal world words c.args.texts ≡ None = sym (c.in-Ok-None.ensures.exact world told) ∙ c.in-Ok-None.field-0-is in
     let was = seen g.F.Reads g.F.Files.writing_faults g.F.Files.names g.P.Report old c.args.report.now in
     let read = seen g.F.Reads g.F.Files.writing_faults g.F.Files.names g.P.Report mid c.args.report.now in
     let now = seen g.F.Reads g.F.Files.writing_faults g.F.Files.names g.P.Report c.merge_opened.new.files c.merge_opened.new.report in
@@ -40,12 +40,12 @@ returns-in-Ok-None-clause-verdict g c = λ world told contents held.
       lines = g.P.Report.lines c.args.report.now;
       names = looks.names i;
     } in
-    let settled : sources_settled world words c.args.chapters contents ≡ sources_with words c.args.chapters contents =
-    ap (λ (why : Option Refusal). and_then (unless why contents) (sources_with words c.args.chapters)) none in
+    let settled : sources_settled world words c.args.texts contents ≡ sources_with words c.args.texts contents =
+    ap (λ (why : Option Refusal). and_then (unless why contents) (sources_with words c.args.texts)) none in
     let mid-told : AreTold (live_files g.F.Reads mid) c.args.ids.now contents =
     contents-kept (live_files g.F.Reads old).live (live_files g.F.Reads old).content (live_files g.F.Reads mid).content c.args.ids.now
     (λ file live. (looks.kept.others file tt).content live) c.requires.inputs.live ∙ held in
-    subst (λ (s : Seen). Reaches s now c.merge_opened.result (verdict_of words (sources_settled world words c.args.chapters contents))) begun
+    subst (λ (s : Seen). Reaches s now c.merge_opened.result (verdict_of words (sources_settled world words c.args.texts contents))) begun
     (subst (λ (v : Verdict). Reaches read now c.merge_opened.result v) (ap (verdict_of words) (sym settled))
     (c.merge_opened.ensures.verdict contents mid-told))
 
@@ -55,11 +55,11 @@ returns-in-Ok-Some-clause-verdict g c = λ world told contents held.
     let words = c.args.words.now in
     let why = c.in-Ok-Some.why in
     let mid = c.begun_refusal.new.files in
-    let some : begun_refusal world words c.args.chapters ≡ Some why = sym (c.in-Ok-Some.ensures.exact world told) ∙ c.in-Ok-Some.field-0-is in
+    let some : begun_refusal world words c.args.texts ≡ Some why = sym (c.in-Ok-Some.ensures.exact world told) ∙ c.in-Ok-Some.field-0-is in
     let was = seen g.F.Reads g.F.Files.writing_faults g.F.Files.names g.P.Report c.args.files.now c.args.report.now in
     let now = seen g.F.Reads g.F.Files.writing_faults g.F.Files.names g.P.Report mid c.refuse.new.report in
-    let verdict : verdict_of words (sources_settled world words c.args.chapters contents) ≡ refused (line_of words why) =
-    ap (λ (found : Option Refusal). verdict_of words (and_then (unless found contents) (sources_with words c.args.chapters))) some in
+    let verdict : verdict_of words (sources_settled world words c.args.texts contents) ≡ refused (line_of words why) =
+    ap (λ (found : Option Refusal). verdict_of words (and_then (unless found contents) (sources_with words c.args.texts))) some in
     subst (λ (v : Verdict). Reaches was now c.refuse.result v) (sym verdict)
     (Reaches-lines was now c.refuse.result (refused (line_of words why)) c.refuse.ensures.verdict refl c.begun_refusal.ensures.looks.names)
 
@@ -68,7 +68,7 @@ pub returns-in-Err-clause-verdict : goal.returns-in-Err-clause-verdict
 returns-in-Err-clause-verdict g c = λ world told contents held.
     IsStopped-before (seen g.F.Reads g.F.Files.writing_faults g.F.Files.names g.P.Report c.args.files.now c.args.report.now)
     (seen g.F.Reads g.F.Files.writing_faults g.F.Files.names g.P.Report c.begun_refusal.new.files c.args.report.now)
-    (verdict_of c.args.words.now (sources_settled world c.args.words.now c.args.chapters contents)) refl c.begun_refusal.ensures.looks.names
+    (verdict_of c.args.words.now (sources_settled world c.args.words.now c.args.texts contents)) refl c.begun_refusal.ensures.looks.names
 
 -- ---- how much is read
 
@@ -79,10 +79,10 @@ returns-in-Ok-None-clause-octets g c = λ world told contents held.
     let old = live_files g.F.Reads c.args.files.now in
     let mid = live_files g.F.Reads c.begun_refusal.new.files in
     let kept = c.begun_refusal.ensures.looks.kept in
-    let none : begun_refusal world words c.args.chapters ≡ None = sym (c.in-Ok-None.ensures.exact world told) ∙ c.in-Ok-None.field-0-is in
+    let none : begun_refusal world words c.args.texts ≡ None = sym (c.in-Ok-None.ensures.exact world told) ∙ c.in-Ok-None.field-0-is in
     let mid-told : AreTold mid ids contents =
     contents-kept old.live old.content mid.content ids (λ file live. (kept.others file tt).content live) c.requires.inputs.live ∙ held in
-    reads-settled world words c.args.chapters contents (g.F.Reads.octets_read c.args.files.now) (g.F.Reads.octets_read c.begun_refusal.new.files) (g.F.Reads.octets_read c.merge_opened.new.files) (files_size old ids) (files_size mid ids) (most_looked words)
+    reads-settled world words c.args.texts contents (g.F.Reads.octets_read c.args.files.now) (g.F.Reads.octets_read c.begun_refusal.new.files) (g.F.Reads.octets_read c.merge_opened.new.files) (files_size old ids) (files_size mid ids) (most_looked words)
     none (sizes-kept old mid ids (λ file. kept.others file tt) c.requires.inputs.live) c.begun_refusal.ensures.octets (c.merge_opened.ensures.octets contents mid-told)
 
 -- ---- the records
@@ -93,9 +93,9 @@ returns-in-Ok-None-clause-records g c = λ world told contents held.
     let kept = c.begun_refusal.ensures.looks.kept in
     let old = live_files g.F.Reads c.args.files.now in
     let mid = live_files g.F.Reads c.begun_refusal.new.files in
-    let none : begun_refusal world words c.args.chapters ≡ None = sym (c.in-Ok-None.ensures.exact world told) ∙ c.in-Ok-None.field-0-is in
-    let settled : sources_settled world words c.args.chapters contents ≡ sources_with words c.args.chapters contents =
-    ap (λ (why : Option Refusal). and_then (unless why contents) (sources_with words c.args.chapters)) none in
+    let none : begun_refusal world words c.args.texts ≡ None = sym (c.in-Ok-None.ensures.exact world told) ∙ c.in-Ok-None.field-0-is in
+    let settled : sources_settled world words c.args.texts contents ≡ sources_with words c.args.texts contents =
+    ap (λ (why : Option Refusal). and_then (unless why contents) (sources_with words c.args.texts)) none in
     let mid-told : AreTold mid c.args.ids.now contents =
     contents-kept old.live old.content mid.content c.args.ids.now (λ file live. (kept.others file tt).content live) c.requires.inputs.live ∙ held in
     subst (λ (found : Result (List Source) Refusal). EndsWithRecords found c.merge_opened.result) (sym settled) (c.merge_opened.ensures.records contents mid-told)
@@ -104,5 +104,5 @@ pub returns-in-Ok-Some-clause-records : goal.returns-in-Ok-Some-clause-records
 returns-in-Ok-Some-clause-records g c = λ world told contents held.
     let words = c.args.words.now in
     let why = c.in-Ok-Some.why in
-    let some : begun_refusal world words c.args.chapters ≡ Some why = sym (c.in-Ok-Some.ensures.exact world told) ∙ c.in-Ok-Some.field-0-is in
-    records-none (sources_settled world words c.args.chapters contents) why c.refuse.result (ap (λ (found : Option Refusal). and_then (unless found contents) (sources_with words c.args.chapters)) some)
+    let some : begun_refusal world words c.args.texts ≡ Some why = sym (c.in-Ok-Some.ensures.exact world told) ∙ c.in-Ok-Some.field-0-is in
+    records-none (sources_settled world words c.args.texts contents) why c.refuse.result (ap (λ (found : Option Refusal). and_then (unless found contents) (sources_with words c.args.texts)) some)

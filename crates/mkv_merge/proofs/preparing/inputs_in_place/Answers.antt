@@ -15,7 +15,7 @@ use Rattle.mkv_merge.proofs.preparing.inputs_in_place.Goals as goal
 -- an appended one can't go on
 pub returns-in-Some-clause-exact : goal.returns-in-Some-clause-exact
 returns-in-Some-clause-exact g c = λ contents told.
-    reads-differ c.args.words.now c.args.chapters contents (reads_in c.in_ok-inputs.inputs) (c.in_ok-inputs.ensures.exact contents told) c.in-Some.differs
+    reads-differ c.args.words.now c.args.texts contents (reads_in c.in_ok-inputs.inputs) (c.in_ok-inputs.ensures.exact contents told) c.in-Some.differs
     (ap append_refusal (sym (ap (map read_in) c.as_slice.ensures)) ∙ sym c.append_refusal.ensures ∙ c.in-Some.is)
 
 -- there are no more than 64
@@ -31,7 +31,7 @@ returns-clause-exact g c = λ contents told.
     let inputs : List Input = c.in_ok-inputs.inputs in
     let placed : List Input = c.in_ok-set_in_place.field-0 in
     let same : live_files g.R.Reads c.read_all.new.src ≡ f = ap g.R.Reads.files c.in_ok-inputs.ensures.standing in
-    reads-placed f c.args.words.now c.args.chapters c.args.files.now contents inputs placed c.in_ok-inputs.ensures.inputs.of c.in_ok-set_in_place.ensures.placed.files told (c.in_ok-inputs.ensures.exact contents told)
+    reads-placed f c.args.words.now c.args.texts c.args.files.now contents inputs placed c.in_ok-inputs.ensures.inputs.of c.in_ok-set_in_place.ensures.placed.files told (c.in_ok-inputs.ensures.exact contents told)
     (ap append_refusal (sym (ap (map read_in) c.as_slice.ensures)) ∙ sym c.append_refusal.ensures ∙ c.in_default.is)
     (subst (λ (now : LiveFiles). StandInPlace now inputs placed) same c.in_ok-set_in_place.ensures.exact)
 

@@ -1,0 +1,14 @@
+-- The text files of a merge besides its inputs: its chapter file and its files of times.
+use Rattle.std.specs.Prelude.{ℕ, ◌+◌, List, Option}
+use Rattle.merge_words.specs.declared.files.FileWords.{FileWords}
+use Rattle.input_files.specs.ChapterFile.{chapter_file, chapter_octets}
+use Rattle.input_files.specs.TimesFile.{times_files, times_octets}
+use Rattle.input_files.specs.declared.text_files.TextFiles.{TextFiles}
+
+-- what they give in a world of names
+abbrev pub text_files : (List ℕ → Option (List ℕ)) → Option (List ℕ) → List FileWords → TextFiles
+text_files world chapters words = record { chapters = chapter_file world chapters; times = times_files world words }
+
+-- how many octets are read of them
+abbrev pub text_octets : (List ℕ → Option (List ℕ)) → Option (List ℕ) → List FileWords → ℕ
+text_octets world chapters words = chapter_octets world chapters + times_octets world words

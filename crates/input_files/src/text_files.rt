@@ -1,0 +1,43 @@
+//! The text files of a merge besides its inputs.
+
+ghost use Rattle.std.specs.Prelude.{◌≡◌, ◌+◌, ◌≤◌, IfOk};
+ghost use Rattle.mkv_io.specs.Faults.{HasCause, is_read_fault};
+ghost use Rattle.mkv_io.specs.Told.{Told};
+ghost use Rattle.sidecar_edit.specs.Pending.{LooksOnly};
+ghost use Rattle.input_files.specs.ChapterFile.{CanBeWritten};
+ghost use Rattle.input_files.specs.TextFiles.{text_files, text_octets};
+
+use crate::chapter_file::{ChapterFile, read_chapter_file};
+use crate::times_file::{TimesFile, read_times_files};
+use merge_words::FileWords;
+use mkv_io::{Files, List, ReadEnd, Text};
+use std::alloc::Global;
+
+/// What the text files of a merge give besides its inputs.
+#[derive(Drop)]
+pub struct TextFiles {
+    pub chapters: ChapterFile,
+    /// The files of times, input after input.
+    pub times: List<TimesFile>,
+}
+
+/// What the chapter file of a merge gives, where one is named, and then its files of times. One that can't be opened or read is
+/// a `ReadFault`.
+pub fn read_text_files<F: Files>(
+    alloc: Global,
+    chapters: &Option<Text>,
+    words: &[FileWords],
+    files: &mut F,
+) -> Result<TextFiles, ReadEnd>
+    ensures exact { Told (F.names files.old) (λ world. IfOk result (λ texts. texts ≡ text_files world chapters.now words.now)) }
+
+    // Whatever the names tell, Chapters that were read can be written.
+    ensures written { IfOk result (λ texts. CanBeWritten texts.chapters) }
+    ensures looks { LooksOnly F.Reads F.Files.own files.old files.new }
+    ensures cause { HasCause is_read_fault (F.reading_faults files.old) (F.reading_faults files.new) result }
+    ensures octets { Told (F.names files.old) (λ world. F.octets_read files.new ≤ F.octets_read files.old + text_octets world chapters.now words.now) }
+{
+    let chapters = read_chapter_file(alloc, chapters, files)?;
+    let times = read_times_files(alloc, words, files)?;
+    Ok(TextFiles { chapters, times })
+}

@@ -1,0 +1,137 @@
+//! The files of times that the words of a merge name, by their names.
+
+ghost use Rattle.std.specs.Prelude.{◌≡◌, ◌++◌, ◌+◌, ◌≤◌, map, IfOk, OnOk};
+ghost use Rattle.mkv_io.specs.Faults.{HasCause, is_read_fault};
+ghost use Rattle.mkv_io.specs.Told.{Told};
+ghost use Rattle.sidecar_edit.specs.Pending.{LooksOnly};
+ghost use Rattle.input_files.specs.TimesFile.{given_with, named_of, octets_with, size_with, times_files, times_named, times_octets};
+
+use crate::limits::{MOST_OF_ALL_TIMES, MOST_OF_TIMES};
+use crate::reading::read_track_times;
+use crate::refusal::{TextFileEnd, TextRefusal};
+use ext_times::Times;
+use merge_words::FileWords;
+use mkv_io::{Files, List, OpenFault, ReadEnd, Text};
+use std::alloc::{AllocError, Global};
+
+/// A file of times that the words of a merge name.
+#[derive(Debug, Drop)]
+pub struct TimesName {
+    /// The input whose track gets the times, from 0 in the order of the words.
+    pub input: usize,
+    /// The track's place in Tracks, from 0.
+    pub id: u64,
+    pub name: Text,
+}
+
+/// What a file of times gives.
+#[derive(Debug, Drop)]
+pub enum TimesGiven {
+    /// There is no file of its name.
+    Missing,
+    /// It isn't taken.
+    Refused(TextRefusal),
+    /// The times of frames.
+    Read(Times),
+}
+
+/// A file of times that the words of a merge name, and what it gives.
+#[derive(Debug, Drop)]
+pub struct TimesFile {
+    pub named: TimesName,
+    pub given: TimesGiven,
+}
+
+// Adds the files that the words of an input name.
+fn add_named(
+    input: usize,
+    times: &[(u64, Text)],
+    named: &mut List<TimesName>,
+) -> Result<(), AllocError>
+    ensures { OnOk result (named.new ≡ named.old ++ map (named_of input) times.now) }
+{
+    for (id, name) in times {
+        named.push(TimesName {
+            input,
+            id: *id,
+            name: name.clone()?,
+        })?;
+    }
+    Ok(())
+}
+
+/// The files of times that the words of a merge name, input after input.
+pub fn times_named(alloc: Global, words: &[FileWords]) -> Result<List<TimesName>, AllocError>
+    ensures { IfOk result (λ named. named ≡ times_named words.now) }
+{
+    let mut named = List::new(alloc);
+    for (input, file) in words.iter().enumerate() {
+        add_named(input, file.times.as_slice(), &mut named)?;
+    }
+    Ok(named)
+}
+
+/// What the file of a name gives, and how many octets it has.
+#[derive(Drop)]
+struct Found {
+    given: TimesGiven,
+    size: u64,
+}
+
+// The same of a name, where so many octets may be read in all.
+fn read_named<F: Files>(
+    alloc: Global,
+    name: &str,
+    room: u64,
+    files: &mut F,
+) -> Result<Found, ReadEnd>
+    ensures exact { Told (F.names files.old) (λ world. IfOk result (λ found. found.given ≡ given_with room (world name.now))) }
+    ensures size { Told (F.names files.old) (λ world. IfOk result (λ found. found.size ≡ size_with (world name.now))) }
+    ensures looks { LooksOnly F.Reads F.Files.own files.old files.new }
+    ensures cause { HasCause is_read_fault (F.reading_faults files.old) (F.reading_faults files.new) result }
+    ensures octets { Told (F.names files.old) (λ world. F.octets_read files.new ≤ F.octets_read files.old + octets_with (world name.now)) }
+{
+    let file = match files.open_file(name) {
+        Ok(file) => file,
+        Err(OpenFault::Missing) => {
+            let given = TimesGiven::Missing;
+            return Ok(Found { given, size: 0 });
+        }
+        Err(OpenFault::Failed) => return Err(ReadEnd::ReadFault),
+        Err(OpenFault::Memory) => return Err(ReadEnd::Memory),
+    };
+    let size = files.size(file);
+    let read = read_track_times(alloc, files, file, room.min(MOST_OF_TIMES));
+    files.close(file);
+    let given = match read {
+        Ok(times) => TimesGiven::Read(times),
+        Err(TextFileEnd::Refused(why)) => TimesGiven::Refused(why),
+        Err(TextFileEnd::ReadFault) => return Err(ReadEnd::ReadFault),
+        Err(TextFileEnd::Memory) => return Err(ReadEnd::Memory),
+    };
+    Ok(Found { given, size })
+}
+
+/// What the files of times give that the words of a merge name, input after input. Each is looked for and read, whatever becomes
+/// of its times. One that can't be opened or read is a `ReadFault`.
+pub fn read_times_files<F: Files>(
+    alloc: Global,
+    words: &[FileWords],
+    files: &mut F,
+) -> Result<List<TimesFile>, ReadEnd>
+    ensures exact { Told (F.names files.old) (λ world. IfOk result (λ list. list ≡ times_files world words.now)) }
+    ensures looks { LooksOnly F.Reads F.Files.own files.old files.new }
+    ensures cause { HasCause is_read_fault (F.reading_faults files.old) (F.reading_faults files.new) result }
+    ensures octets { Told (F.names files.old) (λ world. F.octets_read files.new ≤ F.octets_read files.old + times_octets world words.now) }
+{
+    let named = times_named(alloc, words)?;
+    let mut list = List::new(alloc);
+    let mut room = MOST_OF_ALL_TIMES;
+    for named in named.into_vec() {
+        let found = read_named(alloc, named.name.as_str(), room, files)?;
+        room = room.saturating_sub(found.size);
+        let given = found.given;
+        list.push(TimesFile { named, given })?;
+    }
+    Ok(list)
+}

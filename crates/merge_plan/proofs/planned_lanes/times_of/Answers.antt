@@ -1,0 +1,11 @@
+use Rattle.std.proofs.Common.{sym, ◌∙◌, ap}
+use Rattle.merge_inputs.specs.Input.{listings_in}
+use Rattle.merge_inputs.specs.Taken.{value_for}
+use Rattle.merge_plan.proofs.TimesLemmas.{times-found, times-passed}
+use Rattle.merge_plan.proofs.planned_lanes.times_of.Goals as goal
+
+-- those of another track
+pub loop-each-preserved : goal.loop-each-preserved
+loop-each-preserved c =
+    times-passed c.args.taken.now.id c.as_slice-each-items.result.now c.loop-each.each-index c.each-item.result c.loop-each-test.true c.each-item.is c.if-each-taken.false
+    ∙ c.loop-each.invariant

@@ -1,0 +1,8 @@
+-- What those so far give to the input, and behind it what those give that are left.
+use Rattle.std.proofs.Common.{◌≡◌, ◌++◌, drop}
+use Rattle.merge_inputs.specs.Input.{listings_in}
+use Rattle.mkv_merge.specs.Timed.{shared_at}
+use Rattle.mkv_merge.proofs.texts.times_at.Given as goal
+
+abbrev pub invariant-loop-each : goal.invariant-loop-each
+invariant-loop-each l = listings_in l.times ++ shared_at l.input (drop l.each-index l.shared) ≡ shared_at l.input l.shared

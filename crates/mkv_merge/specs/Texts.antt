@@ -1,0 +1,68 @@
+-- The times of files in place of those of tracks, and what refuses text files. Where times come from, and what they give, is this project's.
+use Rattle.std.specs.Prelude.{ℕ, suc, Bool, true, false, ◌==◌, if◌then◌else◌, List, [], ◌∷◌, ◌++◌, Option, Some, None, Result}
+use Rattle.std.specs.List.{flat_map}
+use Rattle.std.specs.Option.{option_or}
+use Rattle.ext_times.specs.Listing.{Listing}
+use Rattle.input_files.specs.declared.text_files.TextFiles.{TextFiles}
+use Rattle.input_files.specs.declared.times_file.TimesFile.{TimesFile}
+use Rattle.input_files.specs.declared.times_file.TimesGiven.{TimesGiven}
+use Rattle.input_files.specs.declared.times_file.TimesGiven.TheVariants as given
+use Rattle.merge_inputs.specs.Input.{InputRead}
+use Rattle.merge_plan.specs.Records.{is_appended}
+use Rattle.mkv_merge.specs.Chapters.{missing_chapters}
+use Rattle.mkv_merge.specs.Refused.{unless}
+use Rattle.mkv_merge.specs.declared.refusal.Refusal.{Refusal}
+use Rattle.mkv_merge.specs.declared.refusal.Refusal.TheVariants.{MissingTimes, Times}
+
+-- ---- what refuses a merge
+
+-- a file of times of this name isn't there
+abbrev pub missing_given : List ℕ → TimesGiven → Option Refusal
+missing_given name given.Missing = Some (MissingTimes name)
+missing_given name (given.Refused why) = None
+missing_given name (given.Read times) = None
+
+-- of these files the first that isn't there
+abbrev pub missing_times : List TimesFile → Option Refusal
+missing_times [] = None
+missing_times (f ∷ fs) = option_or (missing_given f.named.name f.given) (missing_times fs)
+
+-- the chapter file isn't there, or a file of times
+abbrev pub missing_text : TextFiles → Option Refusal
+missing_text texts = option_or (missing_chapters texts.chapters) (missing_times texts.times)
+
+-- a file of times of this name isn't taken
+abbrev pub given_refusal : List ℕ → TimesGiven → Option Refusal
+given_refusal name given.Missing = None
+given_refusal name (given.Refused why) = Some (Times name why)
+given_refusal name (given.Read times) = None
+
+-- of these files the first that isn't taken
+abbrev pub times_refusal : List TimesFile → Option Refusal
+times_refusal [] = None
+times_refusal (f ∷ fs) = option_or (given_refusal f.named.name f.given) (times_refusal fs)
+
+-- ---- what they give
+
+-- the times that a file gives to the track of this ID
+abbrev pub given_listing : ℕ → TimesGiven → List (ℕ × Listing)
+given_listing id given.Missing = []
+given_listing id (given.Refused why) = []
+given_listing id (given.Read times) = (id, times) ∷ []
+
+-- the times that files give to tracks of the input of this number, each with the ID of its track
+abbrev pub listings_at : ℕ → List TimesFile → List (ℕ × Listing)
+listings_at input files = flat_map (λ (f : TimesFile). if f.named.input == input then given_listing f.named.id f.given else []) files
+
+-- an input with the times of files; one that is appended keeps its own times
+abbrev pub with_listings : List (ℕ × Listing) → InputRead → InputRead
+with_listings times i = record i { times = if is_appended i then [] else times }
+
+-- inputs, the first of which has this number, with what files of times give
+abbrev pub timed_from : List TimesFile → ℕ → List InputRead → List InputRead
+timed_from files input [] = []
+timed_from files input (i ∷ is) = with_listings (listings_at input files) i ∷ timed_from files (suc input) is
+
+-- the same of all inputs, unless one of the files isn't taken
+abbrev pub with_times : List TimesFile → List InputRead → Result (List InputRead) Refusal
+with_times files reads = unless (times_refusal files) (timed_from files 0 reads)

@@ -1,0 +1,47 @@
+-- Inputs that were given the times of files.
+use Rattle.std.specs.Prelude.{◌≡◌, ℕ, suc, ◌==◌, if◌then◌else◌, List, [], ◌∷◌, flat_map, map}
+use Rattle.ext_times.specs.Listing.{Listing}
+use Rattle.input_files.specs.declared.times_file.TimesFile.{TimesFile}
+use Rattle.merge_inputs.specs.Input.{InputRead}
+use Rattle.merge_inputs.specs.declared.input.Input.{Input}
+use Rattle.mkv_merge.specs.Texts.{given_listing, with_listings}
+use Rattle.mkv_merge.specs.declared.texts.SharedTimes.{SharedTimes}
+
+-- what the file of a track lists, with the number of its input and the ID of the track
+pub record Listed : Type 0 where
+  pub input : ℕ
+  pub id : ℕ
+  pub times : Listing
+
+abbrev pub listed_of : SharedTimes → Listed
+listed_of s = record { input = s.input; id = s.id; times = s.times.value }
+
+-- the same of files
+abbrev pub given_listed : ℕ → ℕ × Listing → Listed
+given_listed input pair = record { input = input; id = pair.0; times = pair.1 }
+
+abbrev pub listed_by : TimesFile → List Listed
+listed_by f = map (given_listed f.named.input) (given_listing f.named.id f.given)
+
+abbrev pub listed_in : List TimesFile → List Listed
+listed_in files = flat_map listed_by files
+
+-- those of the input of this number
+abbrev pub at_input : ℕ → Listed → List (ℕ × Listing)
+at_input input l = if l.input == input then (l.id, l.times) ∷ [] else []
+
+abbrev pub shared_at : ℕ → List SharedTimes → List (ℕ × Listing)
+shared_at input shared = flat_map (λ (s : SharedTimes). at_input input (listed_of s)) shared
+
+-- inputs, the first of which has this number, with what was shared
+abbrev pub shared_from : List SharedTimes → ℕ → List InputRead → List InputRead
+shared_from shared input [] = []
+shared_from shared input (i ∷ is) = with_listings (shared_at input shared) i ∷ shared_from shared (suc input) is
+
+-- an input at its own times
+abbrev pub untimed : Input → Input
+untimed i = record i { times = [] }
+
+-- Inputs are these but for their times.
+abbrev pub IsSameBut : List Input → List Input → Type 0
+IsSameBut inputs new = map untimed new ≡ map untimed inputs

@@ -1,0 +1,170 @@
+//! The times of files in place of those of tracks, and what refuses text files.
+
+ghost use Rattle.std.specs.Prelude.{◌≡◌, ◌++◌, false, [], if◌then◌else◌, map, IfOk, IfErr, OnOk};
+ghost use Rattle.merge_inputs.specs.Input.{listings_in, read_in};
+ghost use Rattle.merge_plan.specs.Records.{is_appended};
+ghost use Rattle.mkv_merge.specs.Ends.{is_files_fault};
+ghost use Rattle.mkv_merge.specs.Prepared.{ReadsAs, reads_in};
+ghost use Rattle.mkv_merge.specs.Texts.{missing_text, missing_times, times_refusal, with_times};
+ghost use Rattle.mkv_merge.specs.Timed.{IsSameBut, at_input, listed_by, listed_in, listed_of, shared_at, shared_from};
+
+use crate::refusal::{MergeEnd, Refusal};
+use ext_times::Times;
+use input_files::{ChapterFile, TextFiles, TimesFile, TimesGiven};
+use merge_inputs::{Input, TrackTimes};
+use mkv_io::List;
+use std::alloc::{AllocError, Global};
+use std::rc::Rc;
+
+/// Of files of times the first that isn't there.
+fn missing_times(files: &[TimesFile]) -> Result<Option<Refusal>, AllocError>
+    ensures { IfOk result (λ why. why ≡ missing_times files.now) }
+{
+    for file in files {
+        if let TimesGiven::Missing = &file.given {
+            let name = file.named.name.clone()?;
+            return Ok(Some(Refusal::MissingTimes { name }));
+        }
+    }
+    Ok(None)
+}
+
+/// The chapter file, where it isn't there, or else the first of the files of times that isn't.
+pub fn missing_text(texts: &TextFiles) -> Result<Option<Refusal>, AllocError>
+    ensures { IfOk result (λ why. why ≡ missing_text texts.now) }
+{
+    match &texts.chapters {
+        ChapterFile::Missing => Ok(Some(Refusal::MissingChapters)),
+        _ => missing_times(texts.times.as_slice()),
+    }
+}
+
+/// Of files of times the first that isn't taken.
+fn times_refusal(files: &[TimesFile]) -> Result<Option<Refusal>, AllocError>
+    ensures { IfOk result (λ why. why ≡ times_refusal files.now) }
+{
+    for file in files {
+        if let TimesGiven::Refused(why) = &file.given {
+            let name = file.named.name.clone()?;
+            return Ok(Some(Refusal::Times { name, why: *why }));
+        }
+    }
+    Ok(None)
+}
+
+/// The times of a file, for the track of an input.
+#[derive(Drop)]
+struct SharedTimes {
+    /// The input's number, from 0 in the order of the words.
+    input: usize,
+    id: u64,
+    times: Rc<Times>,
+}
+
+/// Adds the times that a file lists, if it lists any.
+fn share(alloc: Global, file: TimesFile, list: &mut List<SharedTimes>) -> Result<(), AllocError>
+    ensures { OnOk result (map listed_of list.new ≡ map listed_of list.old ++ listed_by file) }
+{
+    let TimesFile { named, given } = file;
+    match given {
+        TimesGiven::Read(times) => {
+            let times = Rc::new(alloc, times)?;
+            list.push(SharedTimes {
+                input: named.input,
+                id: named.id,
+                times,
+            })
+        }
+        TimesGiven::Missing | TimesGiven::Refused(_) => Ok(()),
+    }
+}
+
+/// The times that files list, so that each lane may have a share in them.
+fn shared(alloc: Global, files: List<TimesFile>) -> Result<List<SharedTimes>, AllocError>
+    ensures { IfOk result (λ list. map listed_of list ≡ listed_in files) }
+{
+    let mut list = List::new(alloc);
+    for file in files.into_vec() {
+        share(alloc, file, &mut list)?;
+    }
+    Ok(list)
+}
+
+/// Adds times, if they are those of this input.
+fn add_at(input: usize, each: &SharedTimes, times: &mut List<TrackTimes>) -> Result<(), AllocError>
+    ensures { OnOk result (listings_in times.new ≡ listings_in times.old ++ at_input input (listed_of each.now)) }
+{
+    if each.input != input {
+        return Ok(());
+    }
+    let shared = each.times.clone()?;
+    times.push(TrackTimes {
+        id: each.id,
+        times: shared,
+    })
+}
+
+/// The times of an input.
+fn times_at(
+    alloc: Global,
+    input: usize,
+    shared: &[SharedTimes],
+) -> Result<List<TrackTimes>, AllocError>
+    ensures { IfOk result (λ times. listings_in times ≡ shared_at input shared.now) }
+{
+    let mut times = List::new(alloc);
+    for each in shared {
+        add_at(input, each, &mut times)?;
+    }
+    Ok(times)
+}
+
+/// The same, none where the input is appended: it keeps its own times.
+fn times_for(
+    alloc: Global,
+    number: usize,
+    input: &Input,
+    shared: &[SharedTimes],
+) -> Result<List<TrackTimes>, AllocError>
+    ensures { IfOk result (λ times. listings_in times ≡ (if is_appended (read_in input.now) then [] else shared_at number shared.now)) }
+{
+    if input.shift.is_some() {
+        Ok(List::new(alloc))
+    } else {
+        times_at(alloc, number, shared)
+    }
+}
+
+/// Inputs with the times of files.
+fn timed(
+    alloc: Global,
+    shared: &[SharedTimes],
+    inputs: List<Input>,
+) -> Result<List<Input>, AllocError>
+    ensures exact { IfOk result (λ list. reads_in list ≡ shared_from shared.now 0 (reads_in inputs)) }
+    ensures same { IfOk result (IsSameBut inputs) }
+{
+    let mut list = List::new(alloc);
+    for (number, input) in inputs.into_vec().into_iter().enumerate() {
+        let times = times_for(alloc, number, &input, shared)?;
+        list.push(Input { times, ..input })?;
+    }
+    Ok(list)
+}
+
+/// Inputs with what files of times give, unless one of these isn't taken.
+pub fn with_times(
+    alloc: Global,
+    files: List<TimesFile>,
+    inputs: List<Input>,
+) -> Result<List<Input>, MergeEnd>
+    ensures exact { ReadsAs reads_in (with_times files (reads_in inputs)) result }
+    ensures same { IfOk result (IsSameBut inputs) }
+    ensures cause { IfErr result (λ end. is_files_fault end ≡ false) }
+{
+    if let Some(why) = times_refusal(files.as_slice())? {
+        return Err(MergeEnd::Refused(why));
+    }
+    let shared = shared(alloc, files)?;
+    Ok(timed(alloc, shared.as_slice(), inputs)?)
+}

@@ -1,0 +1,34 @@
+-- The times that an extraction writes of a track, given back to it.
+use Rattle.std.specs.Prelude.{◌≡◌, ◌<◌, ◌≤◌, ℕ, ◌^◌, ◌==◌, nat_abs, All, List, length, filter, Some, Ok}
+use Rattle.block_format.specs.Block.{Block}
+use Rattle.ext_times.specs.Listing.{Listing, listing}
+use Rattle.merge_model.specs.Timed.{timed}
+use Rattle.extractors.specs.Codec.{times_head}
+use Rattle.extractors.specs.Content.{content_of}
+use Rattle.extractors.specs.declared.frame_form.FrameForm.TheVariants as form
+use Rattle.extractors.specs.declared.track_output.TrackOutput.{TrackOutput}
+
+-- the blocks of a track
+abbrev pub of_track : ℕ → List Block → List Block
+of_track number blocks = filter (λ (b : Block). b.track == number) blocks
+
+-- An output of the times of a track, where a frame lasts less than 2^48 ns, or isn't known to last.
+pub record IsOfTimes (o : TrackOutput) : Type 0 where
+  pub head : o.head ≡ times_head
+  pub form : o.form ≡ form.Time
+  pub step : o.step < 2 ^ 48
+
+-- A block as a file with limits has it: 1 to 256 frames, and a time below 2^56 ns in size.
+pub record IsTimedBlock (b : Block) : Type 0 where
+  pub some : 1 ≤ length b.frames
+  pub most : length b.frames ≤ 256
+  pub small : nat_abs b.time < 2 ^ 56
+
+-- What is written of a track is a file of times, at which each of its blocks stands where it stood.
+pub record ChangesNothing (o : TrackOutput) (blocks : List Block) : Type 0 where
+  pub times : Listing
+  pub read : listing (content_of o blocks) ≡ Ok times
+  pub same : timed (Some times) 0 (of_track o.track blocks) ≡ of_track o.track blocks
+
+abbrev pub OwnTimesChangeNothing : Type 0
+OwnTimesChangeNothing = (o : TrackOutput) (blocks : List Block) → IsOfTimes o → All IsTimedBlock blocks → ChangesNothing o blocks
