@@ -1,0 +1,41 @@
+-- Two runs, step by step.
+use Rattle.std.proofs.Common.{◌≡◌, Option, Some, None, Result, Ok, Err, refl}
+use Rattle.mkv_merge.specs.Refused.{and_then, unless}
+use Rattle.mkv_merge.specs.declared.refusal.Refusal.{Refusal}
+
+-- Both come to something, and what they come to is so; or both are refused for the same.
+abbrev pub Both : {A : Type 0} → (A → A → Type 0) → Result A Refusal → Result A Refusal → Type 0
+Both P (Ok x) (Ok y) = P x y
+Both P (Ok x) (Err why) = ⊥
+Both P (Err why) (Ok y) = ⊥
+Both P (Err why) (Err because) = why ≡ because
+
+pub both-then : {A B : Type 0} (P : A → A → Type 0) (Q : B → B → Type 0) (x y : Result A Refusal) (f g : A → Result B Refusal)
+    → Both P x y → ((a b : A) → P a b → Both Q (f a) (g b)) → Both Q (and_then x f) (and_then y g)
+both-then P Q (Ok a) (Ok b) f g both more = more a b both
+both-then P Q (Ok a) (Err why) f g both more = absurd both
+both-then P Q (Err why) (Ok b) f g both more = absurd both
+both-then P Q (Err why) (Err because) f g both more = both
+
+pub both-unless : {A : Type 0} (P : A → A → Type 0) (o p : Option Refusal) (x y : A) → o ≡ p → P x y → Both P (unless o x) (unless p y)
+both-unless P None None x y same is = is
+both-unless P None (Some why) x y same is = absurd (cc)
+both-unless P (Some why) None x y same is = absurd (cc)
+both-unless P (Some why) (Some because) x y same is = cc
+
+-- the same refuses both, or what stands behind it is so
+pub both-past : {A B : Type 0} (Q : B → B → Type 0) (o p : Option Refusal) (x y : A) (f g : A → Result B Refusal) → o ≡ p → Both Q (f x) (g y) → Both Q (and_then (unless o x) f) (and_then (unless p y) g)
+both-past Q None None x y f g same both = both
+both-past Q None (Some why) x y f g same both = absurd (cc)
+both-past Q (Some why) None x y f g same both = absurd (cc)
+both-past Q (Some why) (Some because) x y f g same both = cc
+
+pub both-same : {A : Type 0} (P : A → A → Type 0) (r : Result A Refusal) → ((x : A) → r ≡ Ok x → P x x) → Both P r r
+both-same P (Ok x) holds = holds x refl
+both-same P (Err why) holds = refl
+
+pub both-weaker : {A : Type 0} (P Q : A → A → Type 0) (x y : Result A Refusal) → ((a b : A) → P a b → Q a b) → Both P x y → Both Q x y
+both-weaker P Q (Ok a) (Ok b) more both = more a b both
+both-weaker P Q (Ok a) (Err why) more both = absurd both
+both-weaker P Q (Err why) (Ok b) more both = absurd both
+both-weaker P Q (Err why) (Err because) more both = both

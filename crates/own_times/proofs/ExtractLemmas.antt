@@ -1,0 +1,111 @@
+-- What an extraction wrote of the times of a track.
+use Rattle.std.proofs.Common.{◌≡◌, ℕ, Bool, true, false, List, [], ◌∷◌, ◌++◌, map, Option, Some, None, Result, Ok, Err, refl, sym, ap, subst}
+use Rattle.std.specs.Prelude.{slice_get}
+use Rattle.mkv_io.specs.declared.damage.Damage.{Damage}
+use Rattle.mkv_schema.specs.Outline.{Outlined, outline_of}
+use Rattle.mkv_schema.proofs.OutlineLemmas.{and_then-ok, unless-ok}
+use Rattle.tree_format.specs.Node.{Node}
+use Rattle.block_format.specs.Block.{Block}
+use Rattle.block_format.specs.Events.{blocks_of}
+use Rattle.file_format.specs.FileBlocks.{file_events}
+use Rattle.meta_records.specs.Records.{FileRecords, file_records}
+use Rattle.word_values.specs.declared.job.Form.TheVariants.{Times}
+use Rattle.mkv_outputs.specs.Outputs.{Output}
+use Rattle.extractors.specs.Codec.{times_head}
+use Rattle.extractors.specs.Content.{content_of, output_of, outputs_of}
+use Rattle.extractors.specs.Job.{job_refusal, output_for, output_with, targets_of}
+use Rattle.extractors.specs.Source.{entry_in}
+use Rattle.extractors.specs.Whole.{output}
+use Rattle.extractors.specs.declared.frame_form.Coding.{Coding}
+use Rattle.extractors.specs.declared.frame_form.FrameForm.TheVariants.{Time}
+use Rattle.extractors.specs.declared.frame_form.Refusal.{Refusal}
+use Rattle.mkv_lines.specs.Verdict.{Verdict, at_once, unless_pending}
+use Rattle.sidecar_edit.specs.Pending.{is_pending}
+use Rattle.mkv_extract.specs.Extract.{job_verdict, name_verdict, read_verdict, taken_verdict, unless_unfit, unless_written}
+use Rattle.mkv_extract.specs.Names.{first_written}
+use Rattle.mkv_extract.specs.Read.{FileRead, first_unusable, read_of, read_with}
+use Rattle.own_times.specs.Given.{World, WritesTimes, times_job}
+
+-- times, as an extraction writes them
+abbrev pub times_coding : Coding
+times_coding = record { head = times_head; form = Time }
+
+-- This content lists the times of the track of this ID in a file.
+pub record ListsTimes (bytes : List ℕ) (id : ℕ) (content : List ℕ) : Type 0 where
+  pub outline : Outlined
+  pub records : FileRecords
+  pub name : List ℕ
+  pub entry : Node
+  pub outlined : outline_of 0 bytes ≡ Ok outline
+  pub read : file_records bytes outline.segment ≡ Ok records
+  pub found : slice_get (map entry_in records.tracks) id ≡ Some entry
+  pub written : content_of (output_with name entry times_coding) (blocks_of (file_events true bytes outline.segment)) ≡ content
+
+module _ (name out : List ℕ) (id : ℕ) (content : List ℕ) where
+  -- what comes of the job is this output alone
+  abbrev Writes : Verdict → Type 0
+  Writes v = v.outputs ≡ at_once (output out content ∷ [])
+
+  unwritten : (o : Option (List ℕ)) (v : Verdict) → Writes (unless_written o v) → Writes v
+  unwritten None v is = is
+  unwritten (Some other) v is = absurd (cc)
+
+  settled : (pending : Bool) (v : Verdict) → Writes (unless_pending name pending v) → Writes v
+  settled false v is = is
+  settled true v is = absurd (cc)
+
+  fit : (o : Option Refusal) (v : Verdict) → Writes (unless_unfit name o v) → Writes v
+  fit None v is = is
+  fit (Some why) v is = absurd (cc)
+
+  -- what a file of these tracks comes to
+  abbrev comes_to : List ℕ → FileRead → Verdict
+  comes_to bytes file = job_verdict name (times_job id out) bytes file (file_events true bytes file.segment)
+
+  read : (bytes : List ℕ) (found : Result FileRead Damage) → Writes (read_verdict name (times_job id out) bytes found) → (file : FileRead) × ((found ≡ Ok file) × Writes (comes_to bytes file))
+  read bytes (Ok file) is = (file, (refl, is))
+  read bytes (Err d) is = absurd (cc)
+
+  there : (pending : Bool) (o : Option (List ℕ)) → Writes (name_verdict name (times_job id out) pending o)
+      → (bytes : List ℕ) × ((o ≡ Some bytes) × Writes (read_verdict name (times_job id out) bytes (read_of (times_job id out) bytes)))
+  there pending (Some bytes) is = (bytes, (refl, settled pending (read_verdict name (times_job id out) bytes (read_of (times_job id out) bytes)) is))
+  there pending None is = absurd (cc)
+
+  -- the output of the track, if there is one
+  one : (o : Option Node) (blocks : List Block) → at_once (outputs_of (output_for Times (record { id = id; name = out }) o ++ []) blocks) ≡ at_once (output out content ∷ [])
+      → (entry : Node) × ((o ≡ Some entry) × (content_of (output_with out entry times_coding) blocks ≡ content))
+  one (Some entry) blocks is =
+      let same : output_of (output_with out entry times_coding) blocks ≡ output out content = cc in
+      (entry, (refl, ap (λ (each : Output). each.content) same))
+  one None blocks is = absurd (cc)
+
+  lists : (bytes : List ℕ) (file : FileRead) → read_of (times_job id out) bytes ≡ Ok file → Writes (comes_to bytes file) → ListsTimes bytes id content
+  lists bytes file is writes =
+      let outlined = and_then-ok (outline_of 0 bytes) _ file is in
+      let o : Outlined = outlined.0 in
+      let records = and_then-ok (file_records bytes o.segment) _ file outlined.1.1 in
+      let r : FileRecords = records.0 in
+      let good = unless-ok (first_unusable (targets_of (times_job id out)) r.tracks) (read_with o.segment o.damage r None) file records.1.1 in
+      let whole : Writes (comes_to bytes (read_with o.segment o.damage r None)) = subst (λ (f : FileRead). Writes (comes_to bytes f)) (sym good.1) writes in
+      let taken = fit (job_refusal (times_job id out) (map entry_in r.tracks)) (taken_verdict name (times_job id out) r.tracks (file_events true bytes o.segment)) whole in
+      let own = one (slice_get (map entry_in r.tracks) id) (blocks_of (file_events true bytes o.segment)) taken in
+      record {
+        outline = o;
+        records = r;
+        name = out;
+        entry = own.0;
+        outlined = outlined.1.0;
+        read = records.1.0;
+        found = own.1.0;
+        written = own.1.1;
+      }
+
+-- an extraction that writes it has read a file of which it lists the times
+pub extracted : (before : World) (name : List ℕ) (id : ℕ) (content : List ℕ) → WritesTimes before name id content → (bytes : List ℕ) × ((before name ≡ Some bytes) × ListsTimes bytes id content)
+extracted before name id content writes =
+    let out : List ℕ = writes.0 in
+    let job = times_job id out in
+    let asked = unwritten name out id content (first_written name job) (name_verdict name job (is_pending before name) (before name)) writes.1 in
+    let named = there name out id content (is_pending before name) (before name) asked in
+    let file = read name out id content named.0 (read_of job named.0) named.1.1 in
+    (named.0, (named.1.0, lists name out id content named.0 file.0 file.1.0 file.1.1))

@@ -1,0 +1,11 @@
+pub mod ExtractLemmas
+pub mod ReadLemmas
+pub mod GivenLemmas
+pub mod BareLemmas
+pub mod AlikeLemmas
+pub mod FilesLemmas
+pub mod BothLemmas
+pub mod InputsLemmas
+pub mod SourcesLemmas
+pub mod VerdictLemmas
+pub mod LawLemmas

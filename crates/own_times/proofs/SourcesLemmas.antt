@@ -1,0 +1,208 @@
+-- The sources of a merge whose words name one more file of times.
+use Rattle.std.proofs.Common.{◌≡◌, ◌<◌, ℕ, zero, suc, Bool, ◌&&◌, List, [], ◌∷◌, map, Option, Some, None, Result, Ok, refl, sym, ap, subst, not, is_none, unwrap_or, arith}
+use Rattle.std.specs.List.{slice_get, zip}
+use Rattle.std.specs.Option.{option_map, option_or}
+use Rattle.sidecar_edit.specs.Pending.{is_pending}
+use Rattle.tree_format.specs.Node.{Node}
+use Rattle.ext_times.specs.Listing.{Listing}
+use Rattle.merged_records.specs.Limits.{first_too_large}
+use Rattle.merged_records.specs.Tracks.{output_tracks}
+use Rattle.merged_records.specs.Chapters.{merged_chapters}
+use Rattle.merged_records.specs.Tags.{merged_tags}
+use Rattle.merge_words.specs.declared.files.FileWords.{FileWords}
+use Rattle.merge_words.specs.declared.output.MergeWords.{MergeWords}
+use Rattle.input_files.specs.Inputs.{file_names, first_missing, first_pending}
+use Rattle.input_files.specs.TextFiles.{text_files}
+use Rattle.input_files.specs.TimesFile.{times_files}
+use Rattle.input_files.specs.declared.chapter_file.ChapterFile.{ChapterFile}
+use Rattle.input_files.specs.declared.chapter_file.ChapterFile.TheVariants as chapter_file
+use Rattle.input_files.specs.declared.text_files.TextFiles.{TextFiles}
+use Rattle.input_files.specs.declared.times_file.TimesFile.{TimesFile}
+use Rattle.input_files.specs.declared.times_file.TimesName.{TimesName}
+use Rattle.merge_inputs.specs.Input.{InputRead, input_of}
+use Rattle.merge_inputs.specs.Select.{kept_one}
+use Rattle.merge_plan.specs.Appending.{append_refusal}
+use Rattle.merge_plan.specs.Front.{reads_of}
+use Rattle.merge_plan.specs.Places.{begun_at, end_of, in_place, in_place_from}
+use Rattle.merge_plan.specs.Plan.{Source}
+use Rattle.merge_plan.specs.Records.{entries_of}
+use Rattle.merge_plan.specs.Refusal.{lanes_refusal, plan_refusal}
+use Rattle.merge_plan.specs.declared.refusal.PlanRefusal.TheVariants.{HeaderTooLarge}
+use Rattle.mkv_merge.specs.Chapters.{chaptered, chapters_refusal, first_with, missing_chapters, with_chapters, with_file}
+use Rattle.mkv_merge.specs.Merge as merge
+use Rattle.mkv_merge.specs.Merge.{sources_beside, sources_of, sources_read, sources_settled, sources_with}
+use Rattle.mkv_merge.specs.Read.{begun_refusal, contents_of, first_written, inputs_of, inputs_with, pending_refusal, unless_missing}
+use Rattle.mkv_merge.specs.Refused.{and_then, unless}
+use Rattle.mkv_merge.specs.Texts.{missing_times, times_refusal, timed_from, with_times}
+use Rattle.mkv_merge.specs.declared.refusal.Refusal.{Refusal}
+use Rattle.mkv_merge.specs.declared.refusal.Refusal.TheVariants.{Differs, OutputIsInput, Plan}
+use Rattle.own_times.specs.Given.{World, untold, with_input}
+use Rattle.own_times.proofs.GivenLemmas.{GivesTheSame}
+use Rattle.own_times.proofs.BareLemmas.{AreAlike, differs-bare, records-bare, reads-same, same-of, tracks-bare, untimed}
+use Rattle.own_times.proofs.AlikeLemmas.{AllAlike, At, ListsMore, placed-alike, timed-alike, timed-same}
+use Rattle.own_times.proofs.BothLemmas.{Both, both-past, both-then, both-unless}
+use Rattle.own_times.proofs.InputsLemmas.{held_by, inputs-same, names-same}
+
+-- ---- inputs with the Chapters of a file
+
+module _ (id : ℕ) (times : Listing) where
+  abbrev Gives : Source → Type 0
+  Gives s = GivesTheSame id times s.0 s.1
+
+  gives-chapters : (chapters : Option Node) (bytes : List ℕ) (i : InputRead) → Gives (bytes, i) → Gives (bytes, with_chapters chapters i)
+  gives-chapters chapters bytes i is = record { there = is.there; given = is.given }
+
+  map-chapters : (chapters : Option Node) (k : ℕ) (contents : List (List ℕ)) (reads : List InputRead) → At k Gives (zip contents reads) → At k Gives (zip contents (map (with_chapters chapters) reads))
+  map-chapters chapters k [] reads is = tt
+  map-chapters chapters k (c ∷ cs) [] is = tt
+  map-chapters chapters zero (c ∷ cs) (i ∷ is) gives = gives-chapters chapters c i gives
+  map-chapters chapters (suc k) (c ∷ cs) (i ∷ is) gives = map-chapters chapters k cs is gives
+
+  first-chapters : (chapters : Option Node) (k : ℕ) (contents : List (List ℕ)) (reads : List InputRead) → At k Gives (zip contents reads) → At k Gives (zip contents (first_with with_chapters chapters reads))
+  first-chapters chapters k [] reads is = tt
+  first-chapters chapters k (c ∷ cs) [] is = tt
+  first-chapters chapters zero (c ∷ cs) (i ∷ is) gives = gives-chapters chapters c i gives
+  first-chapters chapters (suc k) (c ∷ cs) (i ∷ is) gives = map-chapters None k cs is gives
+
+  chaptered-gives : (webm : Bool) (file : ChapterFile) (k : ℕ) (contents : List (List ℕ)) (reads : List InputRead) → At k Gives (zip contents reads) → At k Gives (zip contents (chaptered with_chapters webm file reads))
+  chaptered-gives webm chapter_file.Absent k contents reads is = is
+  chaptered-gives webm chapter_file.Missing k contents reads is = is
+  chaptered-gives webm (chapter_file.Refused why) k contents reads is = is
+  chaptered-gives webm (chapter_file.Read chapters) k contents reads is = first-chapters (kept_one (not webm) (Some chapters)) k contents reads is
+
+-- ---- the track is there
+
+abbrev pub Has : ℕ → Source → Type 0
+Has id s = id < s.1.count
+
+timed-has : (id : ℕ) (times : Listing) (files : List TimesFile) (k n : ℕ) (contents : List (List ℕ)) (reads : List InputRead) → At k (λ (s : Source). GivesTheSame id times s.0 s.1) (zip contents reads)
+    → At k (Has id) (zip contents (timed_from files n reads))
+timed-has id times files k n [] reads is = tt
+timed-has id times files k n (c ∷ cs) [] is = tt
+timed-has id times files zero n (c ∷ cs) (i ∷ is) gives = gives.there
+timed-has id times files (suc k) n (c ∷ cs) (i ∷ is) gives = timed-has id times files k (suc n) cs is gives
+
+placed-has : (id k time : ℕ) (sources : List Source) → At k (Has id) sources → At k (Has id) (in_place_from time sources)
+placed-has id k time [] has = tt
+placed-has id zero time (s ∷ ss) has = has
+placed-has id (suc k) time (s ∷ ss) has = placed-has id k (end_of (begun_at time s)) ss has
+
+-- ---- what refuses them
+
+plan-bare : (words : MergeWords) (reads : List InputRead) → plan_refusal words (map untimed reads) ≡ plan_refusal words reads
+plan-bare words reads = λ i.
+    option_or (lanes_refusal words.webm (tracks-bare reads i))
+    (option_map HeaderTooLarge (first_too_large (output_tracks (entries_of (tracks-bare reads i))) (merged_chapters (records-bare reads i)) (merged_tags (records-bare reads i))))
+
+-- ---- the sources
+
+-- Sources give the same, and one of them has the track.
+pub record AreGiven (n : TimesName) (new old : List Source) : Type 0 where
+  pub alike : AreAlike new old
+  pub has : At n.input (Has n.id) old
+
+module _ (world : World) (words : MergeWords) (n : TimesName) (times : Listing) (new_words own : FileWords) (own_alike : untold new_words ≡ untold own) (found : slice_get words.files n.input ≡ Some own)
+    (gives : (held : ℕ) (i : InputRead) → input_of own words.webm held (unwrap_or (world own.name) []) ≡ Ok i → GivesTheSame n.id times (unwrap_or (world own.name) []) i)
+    (name_is : first_written (with_input n.input new_words words) ≡ first_written words)
+    (refuses : times_refusal (times_files world (with_input n.input new_words words).files) ≡ times_refusal (times_files world words.files))
+    (misses : missing_times (times_files world (with_input n.input new_words words).files) ≡ missing_times (times_files world words.files))
+    (lists : ListsMore n.input n.id times (times_files world (with_input n.input new_words words).files) (times_files world words.files)) where
+  -- the words with the option, and what the text files give
+  abbrev more : MergeWords
+  more = with_input n.input new_words words
+
+  abbrev texts : TextFiles
+  texts = text_files world words.chapters words.files
+
+  abbrev more_texts : TextFiles
+  more_texts = text_files world words.chapters more.files
+
+  abbrev contents : List (List ℕ)
+  contents = held_by world (file_names words.files)
+
+  abbrev Good : Source → Type 0
+  Good s = GivesTheSame n.id times s.0 s.1
+
+  -- What is read gives the same, and is the same but for times.
+  record AreTimed (new old : List InputRead) : Type 0 where
+    alike : AllAlike (zip contents new) (zip contents old)
+    same : map untimed new ≡ map untimed old
+    has : At n.input (Has n.id) (zip contents old)
+
+  abbrev Same : List InputRead → List InputRead → Type 0
+  Same new old = (new ≡ old) × At n.input Good (zip contents old)
+
+  inputs-both : Both Same (inputs_of more contents) (inputs_of words contents)
+  inputs-both = inputs-same world words.webm new_words own own_alike Good gives n.input 0 0 words.files found
+
+  timed-both : (reads : List InputRead) → At n.input Good (zip contents reads) → Both AreTimed (with_times more_texts.times reads) (with_times texts.times reads)
+  timed-both reads good =
+      both-unless AreTimed (times_refusal more_texts.times) (times_refusal texts.times) (timed_from more_texts.times 0 reads) (timed_from texts.times 0 reads) refuses (record {
+        alike = timed-alike n.input n.id times more_texts.times texts.times lists n.input 0 contents reads (omega arith) good;
+        same = timed-same more_texts.times texts.times 0 reads;
+        has = timed-has n.id times texts.times n.input 0 contents reads good;
+      })
+
+  with-both : Both AreTimed (inputs_with more more_texts contents) (inputs_with words texts contents)
+  with-both =
+      both-then Same AreTimed (inputs_of more contents) (inputs_of words contents)
+      (λ (reads : List InputRead). and_then (with_file with_chapters words.webm texts.chapters reads) (with_times more_texts.times))
+      (λ (reads : List InputRead). and_then (with_file with_chapters words.webm texts.chapters reads) (with_times texts.times))
+      inputs-both
+      (λ new old is.
+      both-then Same AreTimed (with_file with_chapters words.webm texts.chapters new) (with_file with_chapters words.webm texts.chapters old) (with_times more_texts.times) (with_times texts.times)
+      (both-unless Same (chapters_refusal texts.chapters) (chapters_refusal texts.chapters) (chaptered with_chapters words.webm texts.chapters new) (chaptered with_chapters words.webm texts.chapters old) refl
+      (ap (chaptered with_chapters words.webm texts.chapters) is.0, chaptered-gives n.id times words.webm texts.chapters n.input contents old is.1))
+      (λ a b same. subst (λ (reads : List InputRead). Both AreTimed (with_times more_texts.times reads) (with_times texts.times b)) (sym same.0) (timed-both b same.1)))
+
+  placed-given : (new old : List InputRead) → AreTimed new old → AreGiven n (in_place (zip contents new)) (in_place (zip contents old))
+  placed-given new old are = record {
+    alike = placed-alike 0 (zip contents new) (zip contents old) are.alike;
+    has = placed-has n.id n.input 0 (zip contents old) are.has;
+  }
+
+  -- inputs in their places
+  abbrev placed : List InputRead → Result (List Source) Refusal
+  placed reads = Ok (in_place (zip contents reads))
+
+  read-both : Both (AreGiven n) (sources_read more more_texts contents) (sources_read words texts contents)
+  read-both =
+      both-then AreTimed (AreGiven n) (inputs_with more more_texts contents) (inputs_with words texts contents)
+      (λ (reads : List InputRead). and_then (unless (option_map Differs (append_refusal reads)) reads) placed)
+      (λ (reads : List InputRead). and_then (unless (option_map Differs (append_refusal reads)) reads) placed)
+      with-both
+      (λ new old are. both-past (AreGiven n) (option_map Differs (append_refusal new)) (option_map Differs (append_refusal old)) new old placed placed
+      (ap (option_map Differs) (same-of append_refusal (differs-bare [] 0) new old are.same)) (placed-given new old are))
+
+  with-sources : Both (AreGiven n) (sources_with more more_texts contents) (sources_with words texts contents)
+  with-sources =
+      both-then (AreGiven n) (AreGiven n) (sources_read more more_texts contents) (sources_read words texts contents) (merge.unless_refused more) (merge.unless_refused words) read-both
+      (λ new old are. both-unless (AreGiven n) (option_map Plan (plan_refusal words (reads_of new))) (option_map Plan (plan_refusal words (reads_of old))) new old
+      (ap (option_map Plan) (same-of (plan_refusal words) (plan-bare words) (reads_of new) (reads_of old) (reads-same new old are.alike))) are)
+
+  -- the names are the same
+  names : file_names more.files ≡ file_names words.files
+  names = names-same n.input new_words own words.files (ap (λ (file : FileWords). file.name) own_alike) found
+
+  begun : begun_refusal world more more_texts ≡ begun_refusal world words texts
+  begun = λ i. option_or (option_or (missing_chapters texts.chapters) (misses i)) (pending_refusal (first_pending world (names i)) (is_none words.split && is_pending world words.output))
+
+  settled-both : Both (AreGiven n) (sources_settled world more more_texts contents) (sources_settled world words texts contents)
+  settled-both = both-past (AreGiven n) (begun_refusal world more more_texts) (begun_refusal world words texts) contents contents (sources_with more more_texts) (sources_with words texts) begun with-sources
+
+  there : contents_of world more.files ≡ contents_of world words.files
+  there = ap (λ (all : List (List ℕ)). unless_missing (first_missing world all) (held_by world all)) names
+
+  beside-both : Both (AreGiven n) (sources_beside world more more_texts) (sources_beside world words texts)
+  beside-both =
+      subst (λ (r : Result (List (List ℕ)) Refusal). Both (AreGiven n) (and_then r (sources_settled world more more_texts)) (sources_beside world words texts)) (sym there)
+      (by_missing (first_missing world (file_names words.files)))
+    where
+      by_missing : (missing : Option ℕ) → Both (AreGiven n) (and_then (unless_missing missing contents) (sources_settled world more more_texts)) (and_then (unless_missing missing contents) (sources_settled world words texts))
+      by_missing None = settled-both
+      by_missing (Some input) = refl
+
+  pub sources-both : Both (AreGiven n) (sources_of world more) (sources_of world words)
+  sources-both =
+      both-past (AreGiven n) (option_map OutputIsInput (first_written more)) (option_map OutputIsInput (first_written words)) more_texts texts (sources_beside world more) (sources_beside world words)
+      (ap (option_map OutputIsInput) name_is) beside-both

@@ -1,0 +1,205 @@
+-- What a merge comes to whose sources give the same.
+use Rattle.std.proofs.Common.{◌≡◌, ◌<◌, ℕ, zero, suc, ◌+◌, ◌==◌, nat_le, Bool, true, false, ◌||◌, if◌then◌else◌, List, [], ◌∷◌, ◌++◌, length, map, filter, flat_map, find, Result, Ok, Err, refl, ap, ◌∙◌, arith, unwrap_or, not, eqb-true, sym, Some, ap₂}
+use Rattle.std.specs.List.{enumerate_from, list_any, range_with_len, slice_get, zip}
+use Rattle.std.specs.Option.{option_map_or}
+use Rattle.std.proofs.lemmas.Bool.Decides.{nat_tests}
+use Rattle.mkv_io.specs.declared.damage.Damage.{Damage}
+use Rattle.cluster_reader.specs.ToldDamages.{told_damages}
+use Rattle.tree_format.specs.Node.{Node}
+use Rattle.output_model.specs.Cued.{document_of}
+use Rattle.merged_records.specs.declared.inputs.InputRecords.{InputRecords}
+use Rattle.merged_records.specs.Chapters.{merged_chapters}
+use Rattle.merged_records.specs.Info.{output_info}
+use Rattle.merged_records.specs.Tags.{merged_tags}
+use Rattle.merged_records.specs.Tracks.{output_tracks}
+use Rattle.merge_model.specs.Lanes.{lane_blocks}
+use Rattle.merge_model.specs.Links.{Given}
+use Rattle.merge_model.specs.Merged.{merged}
+use Rattle.splitter.specs.Sections.{Part, parts}
+use Rattle.splitter.specs.Words.{size_of, spec_of}
+use Rattle.remux_plan.specs.Parts.{PlannedOutput, chapters_of, drives_by, name_of, stretch_of}
+use Rattle.remuxer.specs.Output.{drafts_of}
+use Rattle.merge_words.specs.declared.files.FileWords.{FileWords}
+use Rattle.merge_words.specs.declared.output.MergeWords.{MergeWords}
+use Rattle.input_files.specs.declared.times_file.TimesName.{TimesName}
+use Rattle.merge_inputs.specs.Input.{InputRead}
+use Rattle.merge_inputs.specs.declared.taken.TakenTrack.{TakenTrack}
+use Rattle.merge_plan.specs.Front.{attachments_of, reads_of}
+use Rattle.merge_plan.specs.Plan.{Source, drivers_by, inputs_given, is_video, lanes_given, limits_of, rule_of, starts_in}
+use Rattle.merge_plan.specs.Records.{entries_of, first_title, records_of, tracks_taken}
+use Rattle.mkv_lines.specs.Line.{append_differs_line, missing_line, no_track_line, pending_edit_line}
+use Rattle.mkv_lines.specs.Verdict.{Verdict, in_turn, refused}
+use Rattle.mkv_merge.specs.Merge.{absent, absent_lines, absent_of, front_for, has_absent, has_damage, has_other_count, is_some_of, lines_before, links_met, merged_verdict, output_line, outputs_of, status_of, told_lines, uuid_lines, verdict_of, warnings}
+use Rattle.mkv_merge.specs.Read.{is_split}
+use Rattle.mkv_merge.specs.Refused.{input_line, line_of}
+use Rattle.mkv_merge.specs.declared.refusal.Refusal.{Refusal}
+use Rattle.mkv_merge.specs.declared.refusal.Refusal.TheVariants.{Chapters, Differs, Input, Missing, MissingChapters, MissingTimes, OutputIsInput, PendingInput, PendingOutput, Plan, Times}
+use Rattle.own_times.specs.Given.{others, set_input, with_input}
+use Rattle.own_times.proofs.BareLemmas.{AreAlike, attachments-same, lanes-same, length-same, numbers-bare, reads-same, records-bare, same-of, titles-bare, tracks-bare, untimed}
+use Rattle.own_times.proofs.AlikeLemmas.{At}
+use Rattle.own_times.proofs.BothLemmas.{Both}
+use Rattle.own_times.proofs.SourcesLemmas.{AreGiven, Has}
+
+-- the damages of the input of this number, by the inputs of links and what these give
+abbrev met_by : List (List ℕ) → List (List Given) → ℕ → List Damage
+met_by numbers given k = option_map_or (λ (link : ℕ × List Damage). link.1) (find (λ (link : ℕ × List Damage). link.0 == k) (links_met numbers given)) []
+
+-- ---- the tracks that aren't there
+
+-- a track that isn't counted needn't be named
+filter-others : (p : ℕ → Bool) (id : ℕ) (ids : List ℕ) → p id ≡ false → filter p (others id ids) ≡ filter p ids
+filter-others p id [] none = refl
+filter-others p id (x ∷ xs) none = by_id (x == id) refl (filter-others p id xs none)
+  where
+    by_id : (b : Bool) → (x == id) ≡ b → filter p (others id xs) ≡ filter p xs → filter p (if not b then x ∷ others id xs else others id xs) ≡ (if p x then x ∷ filter p xs else filter p xs)
+    by_id true is rest =
+        let out : p x ≡ false = ap p (eqb-true x id is) ∙ none in
+        rest ∙ sym (ap (λ (b : Bool). if b then x ∷ filter p xs else filter p xs) out)
+    by_id false is rest = ap (λ (ids : List ℕ). if p x then x ∷ ids else ids) rest
+
+-- one that is there isn't told
+absent-same : (id count : ℕ) (new old : FileWords) → others id new.named ≡ others id old.named → id < count → absent_of new count ≡ absent_of old count
+absent-same id count new old same there =
+    let out : nat_le count id ≡ false = grind (arith, nat_tests) in
+    sym (filter-others (λ (n : ℕ). nat_le count n) id new.named out) ∙ ap (filter (λ (n : ℕ). nat_le count n)) same ∙ filter-others (λ (n : ℕ). nat_le count n) id old.named out
+
+module _ (id : ℕ) (new own : FileWords) (named : others id new.named ≡ others id own.named) (name_is : new.name ≡ own.name) where
+  -- what is told of the input that has the option
+  absent-own : (f : FileWords) (i : InputRead) → Some f ≡ Some own → id < i.count → absent (new, i) ≡ absent (f, i)
+  absent-own f i found there = let same : own ≡ f = cc in absent-same id i.count new own named there ∙ ap (λ (file : FileWords). absent_of file i.count) same
+
+  name-own : (f : FileWords) → Some f ≡ Some own → new.name ≡ f.name
+  name-own f found = let same : own ≡ f = cc in name_is ∙ ap (λ (file : FileWords). file.name) same
+
+  lines-there : (k : ℕ) (files : List FileWords) (sources : List Source) → slice_get files k ≡ Some own → At k (Has id) sources
+      → flat_map absent_lines (zip (set_input k new files) (reads_of sources)) ≡ flat_map absent_lines (zip files (reads_of sources))
+  lines-there k [] sources found has = refl
+  lines-there zero (f ∷ fs) [] found has = refl
+  lines-there (suc k) (f ∷ fs) [] found has = refl
+  lines-there zero (f ∷ fs) (s ∷ ss) found has =
+      ap₂ (λ (name : List ℕ) (ids : List ℕ). map (no_track_line name) ids ++ flat_map absent_lines (zip fs (reads_of ss))) (name-own f found) (absent-own f s.1 found has)
+  lines-there (suc k) (f ∷ fs) (s ∷ ss) found has = ap (λ (rest : List (List ℕ)). absent_lines (f, s.1) ++ rest) (lines-there k fs ss found has)
+
+  any-there : (k : ℕ) (files : List FileWords) (sources : List Source) → slice_get files k ≡ Some own → At k (Has id) sources
+      → list_any (λ (f : FileWords × InputRead). is_some_of (absent f)) (zip (set_input k new files) (reads_of sources)) ≡ list_any (λ (f : FileWords × InputRead). is_some_of (absent f)) (zip files (reads_of sources))
+  any-there k [] sources found has = refl
+  any-there zero (f ∷ fs) [] found has = refl
+  any-there (suc k) (f ∷ fs) [] found has = refl
+  any-there zero (f ∷ fs) (s ∷ ss) found has =
+      ap (λ (ids : List ℕ). is_some_of ids || list_any (λ (g : FileWords × InputRead). is_some_of (absent g)) (zip fs (reads_of ss))) (absent-own f s.1 found has)
+  any-there (suc k) (f ∷ fs) (s ∷ ss) found has = ap (λ (rest : Bool). is_some_of (absent (f, s.1)) || rest) (any-there k fs ss found has)
+
+  -- ---- the names of inputs
+
+  warned-same : (numbers : List (List ℕ)) (given : List (List Given)) (j k : ℕ) (files : List FileWords) → slice_get files k ≡ Some own
+      → flat_map (λ (each : ℕ × FileWords). told_lines each.1.name (told_damages (met_by numbers given each.0))) (enumerate_from j (set_input k new files))
+      ≡ flat_map (λ (each : ℕ × FileWords). told_lines each.1.name (told_damages (met_by numbers given each.0))) (enumerate_from j files)
+  warned-same numbers given j k [] found = refl
+  warned-same numbers given j zero (f ∷ fs) found =
+      ap (λ (name : List ℕ). told_lines name (told_damages (met_by numbers given j)) ++ flat_map (λ (each : ℕ × FileWords). told_lines each.1.name (told_damages (met_by numbers given each.0))) (enumerate_from (j + 1) fs)) (name-own f found)
+  warned-same numbers given j (suc k) (f ∷ fs) found = ap (λ (rest : List (List ℕ)). told_lines f.name (told_damages (met_by numbers given j)) ++ rest) (warned-same numbers given (j + 1) k fs found)
+
+  name-same : (k j : ℕ) (files : List FileWords) → slice_get files k ≡ Some own → option_map_or (λ (f : FileWords). f.name) (slice_get (set_input k new files) j) [] ≡ option_map_or (λ (f : FileWords). f.name) (slice_get files j) []
+  name-same k j [] found = refl
+  name-same zero zero (f ∷ fs) found = name-own f found
+  name-same zero (suc j) (f ∷ fs) found = refl
+  name-same (suc k) zero (f ∷ fs) found = refl
+  name-same (suc k) (suc j) (f ∷ fs) found = name-same k j fs found
+
+lines-bare : (files : List FileWords) (reads : List InputRead) → flat_map absent_lines (zip files (map untimed reads)) ≡ flat_map absent_lines (zip files reads)
+lines-bare [] reads = refl
+lines-bare (f ∷ fs) [] = refl
+lines-bare (f ∷ fs) (i ∷ is) = ap (λ (rest : List (List ℕ)). absent_lines (f, i) ++ rest) (lines-bare fs is)
+
+any-bare : (files : List FileWords) (reads : List InputRead) → list_any (λ (f : FileWords × InputRead). is_some_of (absent f)) (zip files (map untimed reads)) ≡ list_any (λ (f : FileWords × InputRead). is_some_of (absent f)) (zip files reads)
+any-bare [] reads = refl
+any-bare (f ∷ fs) [] = refl
+any-bare (f ∷ fs) (i ∷ is) = ap (λ (rest : Bool). is_some_of (absent (f, i)) || rest) (any-bare fs is)
+
+-- ---- the verdict
+
+module _ (words : MergeWords) (n : TimesName) (timed own : FileWords) (named : others n.id timed.named ≡ others n.id own.named) (name_is : timed.name ≡ own.name) (found : slice_get words.files n.input ≡ Some own) where
+  abbrev more : MergeWords
+  more = with_input n.input timed words
+
+  -- outputs, by what they are made of
+  abbrev outputs_by : List TakenTrack → List InputRecords → List ℕ → List Node → List (List Given) → List PlannedOutput
+  outputs_by taken records title attachments given =
+      map (λ (each : ℕ × Part). record {
+        name = name_of (is_split words) words.output each.0;
+        blocks = each.1.blocks;
+        document = document_of (limits_of words) (map rule_of taken)
+            (front_for words each.0 (record { webm = words.webm; info = output_info words.scale (unwrap_or words.title title); tracks = output_tracks (entries_of taken); attachments = attachments }))
+            (chapters_of (is_split words) (merged_chapters records) (stretch_of words.scale each.1.start each.1.end)) (merged_tags records) each.1.blocks;
+      })
+      (enumerate_from 1 (parts (record { spec = spec_of words.split (starts_in (merged_chapters records)); size = size_of words.split; scale = words.scale; drives = drives_by (drivers_by (map is_video taken)) }) (merged (map (lane_blocks words.scale) given))))
+
+  -- a verdict, by what it is made of
+  abbrev verdict_by : Bool → Bool → List (List ℕ) → List (List ℕ) → List PlannedOutput → Verdict
+  verdict_by missing damaged before warned outputs = record {
+    status = status_of (missing || damaged || has_other_count words (length outputs));
+    lines = before ++ (map output_line outputs ++ warned ++ uuid_lines words (length outputs));
+    before = before;
+    outputs = in_turn (drafts_of outputs);
+  }
+
+  module _ (new old : List Source) (alike : AreAlike new old) (has : At n.input (Has n.id) old) where
+    reads : map untimed (reads_of new) ≡ map untimed (reads_of old)
+    reads = reads-same new old alike
+
+    numbers : inputs_given 0 (reads_of new) ≡ inputs_given 0 (reads_of old)
+    numbers = same-of (inputs_given 0) (numbers-bare 0) (reads_of new) (reads_of old) reads
+
+    lanes : lanes_given new ≡ lanes_given old
+    lanes = lanes-same new old alike
+
+    outputs : outputs_of more new ≡ outputs_of words old
+    outputs =
+        let taken : tracks_taken (reads_of new) ≡ tracks_taken (reads_of old) = same-of tracks_taken tracks-bare (reads_of new) (reads_of old) reads in
+        let records : records_of (reads_of new) ≡ records_of (reads_of old) = same-of records_of records-bare (reads_of new) (reads_of old) reads in
+        let titles : first_title (reads_of new) ≡ first_title (reads_of old) = same-of first_title titles-bare (reads_of new) (reads_of old) reads in
+        let attachments : attachments_of new ≡ attachments_of old = attachments-same new old alike in
+        λ i. outputs_by (taken i) (records i) (titles i) (attachments i) (lanes i)
+
+    missing : has_absent more (reads_of new) ≡ has_absent words (reads_of old)
+    missing =
+        same-of (λ (each : List InputRead). list_any (λ (f : FileWords × InputRead). is_some_of (absent f)) (zip more.files each)) (any-bare more.files) (reads_of new) (reads_of old) reads
+        ∙ any-there n.id timed own named name_is n.input words.files old found has
+
+    before : lines_before more (reads_of new) ≡ lines_before words (reads_of old)
+    before =
+        same-of (λ (each : List InputRead). flat_map absent_lines (zip more.files each)) (lines-bare more.files) (reads_of new) (reads_of old) reads
+        ∙ lines-there n.id timed own named name_is n.input words.files old found has
+
+    damaged : has_damage new ≡ has_damage old
+    damaged =
+        let count = length-same new old alike in
+        λ i. list_any (λ (k : ℕ). is_some_of (met_by (numbers i) (lanes i) k)) (range_with_len 0 (count i))
+
+    warned : flat_map (warnings new) (enumerate_from 0 more.files) ≡ flat_map (warnings old) (enumerate_from 0 words.files)
+    warned =
+        (λ i. flat_map (λ (each : ℕ × FileWords). told_lines each.1.name (told_damages (met_by (numbers i) (lanes i) each.0))) (enumerate_from 0 more.files))
+        ∙ warned-same n.id timed own named name_is (inputs_given 0 (reads_of old)) (lanes_given old) 0 n.input words.files found
+
+    pub merged-same : merged_verdict more new ≡ merged_verdict words old
+    merged-same = λ i. verdict_by (missing i) (damaged i) (before i) (warned i) (outputs i)
+
+  -- the line of a refusal
+  pub line-same : (why : Refusal) → line_of more why ≡ line_of words why
+  line-same (OutputIsInput name) = refl
+  line-same (Missing input) = ap missing_line (name-same n.id timed own named name_is n.input input words.files found)
+  line-same MissingChapters = refl
+  line-same (MissingTimes name) = refl
+  line-same (PendingInput input) = ap pending_edit_line (name-same n.id timed own named name_is n.input input words.files found)
+  line-same PendingOutput = refl
+  line-same (Input input why) = ap (λ (name : List ℕ). input_line name why) (name-same n.id timed own named name_is n.input input words.files found)
+  line-same (Chapters why) = refl
+  line-same (Times name why) = refl
+  line-same (Differs d) = ap (λ (name : List ℕ). append_differs_line name d.id) (name-same n.id timed own named name_is n.input d.input words.files found)
+  line-same (Plan why) = refl
+
+  pub verdict-same : (new old : Result (List Source) Refusal) → Both (AreGiven n) new old → verdict_of more new ≡ verdict_of words old
+  verdict-same (Ok a) (Ok b) both = merged-same a b both.alike both.has
+  verdict-same (Ok a) (Err why) both = absurd both
+  verdict-same (Err why) (Ok b) both = absurd both
+  verdict-same (Err why) (Err because) both = ap refused (line-same why ∙ ap (line_of words) both)

@@ -1,0 +1,106 @@
+-- The times of a track that were taken out of a file, given back to it in a merge.
+use Rattle.std.specs.Prelude.{◌≡◌, ℕ, zero, suc, ◌==◌, Bool, true, false, not, List, [], ◌∷◌, ◌++◌, filter, map, slice_get, Option, Some, IfSome}
+use Rattle.std.specs.List.{list_any}
+use Rattle.ebml_numbers.specs.Number.{AreOctets}
+use Rattle.word_values.specs.declared.job.Job.{Job}
+use Rattle.word_values.specs.declared.job.Job.TheVariants.{Tracks}
+use Rattle.word_values.specs.declared.job.Form.TheVariants.{Times}
+use Rattle.extractors.specs.Whole.{output}
+use Rattle.merge_words.specs.declared.files.FileWords.{FileWords}
+use Rattle.merge_words.specs.declared.output.MergeWords.{MergeWords}
+use Rattle.input_files.specs.TimesFile.{times_files}
+use Rattle.input_files.specs.declared.refusal.TextRefusal.TheVariants.{Bad, TooLarge}
+use Rattle.input_files.specs.declared.times_file.TimesFile.{TimesFile}
+use Rattle.input_files.specs.declared.times_file.TimesGiven.{TimesGiven}
+use Rattle.input_files.specs.declared.times_file.TimesGiven.TheVariants.{Missing, Read, Refused}
+use Rattle.input_files.specs.declared.times_file.TimesName.{TimesName}
+use Rattle.mkv_lines.specs.Verdict.{at_once}
+use Rattle.mkv_extract.specs.Extract.{extract_verdict}
+use Rattle.mkv_merge.specs.Merge.{merge_verdict}
+use Rattle.mkv_merge.specs.Read.{first_written}
+
+-- what the files of a world hold, by their names
+abbrev pub World : Type 0
+World = List ℕ → Option (List ℕ)
+
+-- ---- the option
+
+-- the words of an input but for the files of times and the tracks that they name
+abbrev pub untold : FileWords → FileWords
+untold file = record file { times = []; named = [] }
+
+-- tracks that are named, but for this one
+abbrev pub others : ℕ → List ℕ → List ℕ
+others id named = filter (λ k. not (k == id)) named
+
+-- one of these files of times is for the track of this ID
+abbrev pub is_timed : ℕ → List (ℕ × List ℕ) → Bool
+is_timed id times = list_any (λ (pair : ℕ × List ℕ). pair.0 == id) times
+
+-- The words of an input have `--timestamps ID:NAME` among its options, and are else these: they name the same other files of
+-- times, none behind it for the same track, and the same other tracks.
+pub record HasOption (id : ℕ) (name : List ℕ) (new old : FileWords) : Type 0 where
+  pub before : List (ℕ × List ℕ)
+  pub behind : List (ℕ × List ℕ)
+  pub times : new.times ≡ before ++ (id, name) ∷ behind
+  pub without : old.times ≡ before ++ behind
+  pub alone : is_timed id behind ≡ false
+  pub named : others id new.named ≡ others id old.named
+  pub alike : untold new ≡ untold old
+
+-- files with these words for the one of this number
+abbrev pub set_input : ℕ → FileWords → List FileWords → List FileWords
+set_input number new [] = []
+set_input zero new (file ∷ files) = new ∷ files
+set_input (suc number) new (file ∷ files) = file ∷ set_input number new files
+
+-- the words of a merge with these for one of its inputs
+abbrev pub with_input : ℕ → FileWords → MergeWords → MergeWords
+with_input number new words = record words { files = set_input number new words.files }
+
+-- ---- the file
+
+-- `extract FILE timestamps_v2 ID:OUT`
+abbrev pub times_job : ℕ → List ℕ → Job
+times_job id out = Tracks Times (record { id = id; name = out } ∷ [])
+
+-- It writes this content.
+abbrev pub WritesTimes : World → List ℕ → ℕ → List ℕ → Type 0
+WritesTimes world file id content = (out : List ℕ) × ((extract_verdict world file (times_job id out)).outputs ≡ at_once (output out content ∷ []))
+
+-- These words of an input have an option that gives a track the times of a file. It holds what an extraction wrote of that track,
+-- when the input, which is made of octets, was as it is now.
+pub record IsTakenOut (before world : World) (words : MergeWords) (n : TimesName) (new : FileWords) : Type 0 where
+  pub input : FileWords
+  pub content : List ℕ
+  pub number : slice_get words.files n.input ≡ Some input
+  pub option : HasOption n.id n.name new input
+  pub octets : IfSome (world input.name) AreOctets
+  pub unchanged : world input.name ≡ before input.name
+  pub written : WritesTimes before input.name n.id content
+  pub holds : world n.name ≡ Some content
+
+-- a file of times isn't taken since it is too long, for itself or with those before it
+abbrev pub is_too_long : TimesGiven → Bool
+is_too_long Missing = false
+is_too_long (Refused TooLarge) = true
+is_too_long (Refused (Bad line)) = false
+is_too_long (Read times) = false
+
+-- those of the files that words name of which it is so
+abbrev pub too_long : World → List FileWords → List TimesName
+too_long world files = map (λ (f : TimesFile). f.named) (filter (λ (f : TimesFile). is_too_long f.given) (times_files world files))
+
+-- The option refuses nothing by a name or by a length: the same name that is read is an output's, if any is, and the same files of
+-- times are too long.
+pub record IsAllowed (world : World) (words : MergeWords) (n : TimesName) (new : FileWords) : Type 0 where
+  pub name : first_written (with_input n.input new words) ≡ first_written words
+  pub length : too_long world (with_input n.input new words).files ≡ too_long world words.files
+
+-- ---- the law
+
+-- Given back, they change neither the status of a merge nor its lines nor its outputs.
+abbrev pub TimesGivenBackChangeNothing : Type 0
+TimesGivenBackChangeNothing =
+    (before world : World) (words : MergeWords) (n : TimesName) (new : FileWords) → IsTakenOut before world words n new → IsAllowed world words n new
+    → merge_verdict world (with_input n.input new words) ≡ merge_verdict world words
