@@ -1,5 +1,5 @@
 -- The blocks of a merge, each at its place.
-use Rattle.std.specs.Prelude.{◌≡◌, ℕ, Bool, false, ◌&&◌, List, Option, Some, None, Result, Ok, Err}
+use Rattle.std.specs.Prelude.{◌≡◌, ℕ, Bool, false, ◌&&◌, if◌then◌else◌, is_some, List, Option, Some, None, Result, Ok, Err}
 use Rattle.std.specs.List.{slice_get}
 use Rattle.std.specs.Option.{unwrap_or}
 use Rattle.mkv_io.specs.declared.outside.ReadEnd.{ReadEnd}
@@ -20,6 +20,10 @@ lane_in (Err end) = Err end
 -- a lane drives, counted from 0
 abbrev pub drives_at : List Bool → ℕ → Bool
 drives_at drives lane = unwrap_or (slice_get drives lane) false
+
+-- how many octets of a block count towards a load: those of its Element, where a load ends a part
+abbrev pub octets_counted : CutsSeen → OutputBlock → ℕ
+octets_counted c b = if is_some c.size then octets_taken b else 0
 
 -- A block, in a lane that drives or doesn't, stands at this place behind the ones before it.
 pub record IsPlaced (b : OutputBlock) (drives : Bool) (old new : CutsSeen) (a : Ahead) : Type 0 where

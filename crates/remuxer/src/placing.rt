@@ -4,10 +4,9 @@ ghost use Rattle.std.specs.Prelude.{◌≡◌, length};
 ghost use Rattle.mkv_io.specs.Faults.{HasCause, is_read_fault};
 ghost use Rattle.mkv_io.specs.Sources.{live_files};
 ghost use Rattle.output_model.specs.OutputBlock.{IsLent, lent_block};
-ghost use Rattle.cluster_writer.specs.Lengths.{octets_taken};
 ghost use Rattle.lanes.specs.Lane.{lent};
 ghost use Rattle.time_merge.specs.Merge.{Gives, IsReady, IsTold, Moves, Pays};
-ghost use Rattle.remuxer.specs.Placed.{Places, lane_in};
+ghost use Rattle.remuxer.specs.Placed.{Places, lane_in, octets_counted};
 
 use cluster_writer::element_len;
 use lanes::Lane;
@@ -22,11 +21,14 @@ pub struct Ahead {
     pub place: Place,
 }
 
-// How many octets the Element of the block takes that a lane lends.
-fn len_of(lane: &Lane) -> u64
+// How many octets of the block that a lane lends count towards the load of a part.
+fn load_of(cuts: &PartCuts, lane: &Lane) -> u64
     requires { IsLent (lent lane.now) }
-    ensures { result ≡ octets_taken (lent_block (lent lane.now)) }
+    ensures { result ≡ octets_counted cuts.now (lent_block (lent lane.now)) }
 {
+    if !cuts.counts() {
+        return 0;
+    }
     element_len(
         lane.head(),
         lane.prefix().len(),
@@ -59,6 +61,7 @@ pub fn place_next<R: Reads>(
         return Ok(None);
     };
     let given = merge.lane(lane);
-    let place = cuts.assign(given.head(), drives[lane], len_of(given));
+    let load = load_of(cuts, given);
+    let place = cuts.assign(given.head(), drives[lane], load);
     Ok(Some(Ahead { lane, place }))
 }
