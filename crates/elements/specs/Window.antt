@@ -1,5 +1,5 @@
 -- What a window holds of a file.
-use Rattle.std.specs.Prelude.{◌≡◌, ℕ, ◌+◌, ◌*◌, ◌-◌, ◌≤◌, ◌==◌, min, nat_lt, List, [], length, if◌then◌else◌}
+use Rattle.std.specs.Prelude.{◌≡◌, ℕ, ◌+◌, ◌*◌, ◌-◌, ◌≤◌, ◌==◌, min, max, nat_lt, List, [], length, if◌then◌else◌}
 use Rattle.mkv_io.specs.Contents.{octets_from}
 use Rattle.mkv_schema.specs.declared.limits.TheConstants.{LONGEST_HEADER}
 use Rattle.elements.specs.declared.TheConstants.{LITTLE}
@@ -36,10 +36,10 @@ pub record HasRange (w : ReadAhead) (at len : ℕ) : Type 0 where
 abbrev pub header_room : ℕ → ℕ → ℕ
 header_room at end = min (end - at) LONGEST_HEADER
 
--- How many octets a window of so much room is to read from a place on: few where it jumps over more than its room, as
--- over the body of a Cluster, behind which one header may be all that is looked at; else as many as it has room for.
+-- How many octets a window of so much room is to read from a place on: few where it jumps over more than it held, as over
+-- the body of a block or of a Cluster, behind which one header may be all that is looked at; else twice as many as it held.
 abbrev pub wanted_at : ℕ → ReadAhead → ℕ → ℕ
-wanted_at room w at = if nat_lt (end_ahead w + room) at then min room LITTLE else room
+wanted_at room w at = min room (if nat_lt (end_ahead w + length w.octets) at then LITTLE else max LITTLE (2 * length w.octets))
 
 -- how many octets are read at once from a place of a file of `size` octets, where so many are wanted
 abbrev pub read_from : ℕ → ℕ → ℕ → ℕ

@@ -54,10 +54,10 @@ impl Held {
         ensures { result ≡ wanted_at room (held_in self buffer.now) at }
     {
         let jump = at.saturating_sub(self.at).saturating_sub(self.len as u64);
-        if jump > room as u64 {
+        if jump > self.len as u64 {
             room.min(LITTLE)
         } else {
-            room
+            room.min(LITTLE.max(self.len.saturating_mul(2)))
         }
     }
 

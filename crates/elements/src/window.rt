@@ -65,8 +65,9 @@ impl Window {
     }
 
     /// Makes the window hold so many octets from `at` octets behind the file's start on. It reads
-    /// nothing where it holds them, else 65,536 octets, or 1,024 where it jumps over more than 65,536, or those
-    /// up to the file's end. After a failed read it stands at that place and holds nothing.
+    /// nothing where it holds them, else twice as many octets as it held, 1,024 at least and 65,536 at most; or 1,024 where
+    /// it jumps over more than it held; or those up to the file's end. After a failed read it stands at that place and
+    /// holds nothing.
     pub fn hold<R: Reads>(
         &mut self,
         src: &mut R,
