@@ -1,22 +1,25 @@
 -- What a block's octets spell.
-use Rattle.std.proofs.Common.{◌≡◌, ℕ, ℤ, ◌+◌, ◌-◌, ◌<◌, ◌≤◌, Bool, true, false, if◌then◌else◌, List, [], ◌∷◌, length, take, drop, slice_index, Some, None, Ok, Err, refl, sym, ◌∙◌, ap, subst, arith}
+use Rattle.std.proofs.Common.{◌≡◌, ℕ, ℤ, ◌+◌, ◌-◌, ◌<◌, ◌≤◌, Bool, true, false, if◌then◌else◌, ◌%◌, List, [], ◌∷◌, length, take, drop, slice_index, Some, None, Ok, Err, refl, sym, ◌∙◌, ap, subst, arith}
 use Rattle.std.proofs.lemmas.Bool.{cond-true, cond-false}
-use Rattle.std.proofs.lemmas.List.{length-drop, drop-drop}
+use Rattle.std.proofs.lemmas.List.{length-drop, length-take, drop-drop, drop-take, take-take, get_or-take}
 use Rattle.std.proofs.lemmas.Bool.Decides.{nat_tests}
 use Rattle.ebml_numbers.specs.declared.number.NumFault.{NumFault}
 use Rattle.ebml_numbers.specs.declared.number.NumFault.TheVariants as fault
 use Rattle.ebml_numbers.specs.declared.number.Size.{Size}
 use Rattle.ebml_numbers.specs.declared.number.SizeRead.{SizeRead}
-use Rattle.ebml_numbers.specs.Number.{announced, vint_data, size_at, int_of}
+use Rattle.byteorder.specs.Endian.{big_number}
+use Rattle.byteorder.specs.Numbers.{big_from-take}
+use Rattle.ebml_numbers.specs.Number.{announced, marker, vint_data, width, size_at, int_of}
 use Rattle.ebml_numbers.proofs.NumberLemmas.{size_at-more, size_at-zero, size_at-is_zero, size_at-reads}
 use Rattle.mkv_io.specs.declared.damage.Kind.{Kind}
 use Rattle.mkv_io.specs.declared.damage.Kind.TheVariants.{ShortBlock}
 use Rattle.lacing.specs.declared.kind.Lace.{Lace}
+use Rattle.lacing.specs.declared.kind.Lace.TheVariants as lace
 use Rattle.lacing.specs.Reading.{data_of}
 use Rattle.lacing.proofs.LaceLemmas.{data_of-size}
 use Rattle.block_format.specs.Content.{has_no_header, header_len, lace_of, frames_in, frames_cut, content_with, content_in}
 use Rattle.block_records.specs.declared.content.BlockHeader.{BlockHeader}
-use Rattle.block_records.specs.Spelled.{header_of, header_in, AreFrames, Cuts, Spells}
+use Rattle.block_records.specs.Spelled.{header_of, header_in, AreFrames, Cuts, IsFront, Spells}
 
 -- ---- the header
 
@@ -141,3 +144,72 @@ Spells-ok o sizes h kind rest start z found lace behind relative cuts =
           ∙ ap (λ (x : ℤ). Ok (record { track = h.track; relative = x; flags = h.flags; frames = frames_cut sizes (drop (h.len + start) o) })) (sym relative),
       AreFrames-behind (lace_of h.flags) o sizes h.len start has.inside (subst (λ (l : Lace). AreFrames l (drop h.len o) sizes start) lace (subst (λ (l : List ℕ). AreFrames kind l sizes start) behind cuts.1)),
     )
+
+-- ---- a front
+
+-- The header at the front of octets is read off so many of them as it has.
+header_of-front : (front octets : List ℕ) → IsFront front octets → has_no_header front ≡ false → (header_of front ≡ header_of octets) × (has_no_header octets ≡ false)
+header_of-front front octets is found = (same, whole)
+  where
+    long : header_len front ≤ length front
+    long = has_header front found
+
+    some : slice_index front 0 ≡ 0 → ⊥
+    some zero = let none = starts_with_zero front zero in absurd (cc)
+
+    within : length front ≤ length octets
+    within = let count : length front ≡ length (take (length front) octets) = ap length is in let most = length-take (length front) octets in omega arith
+
+    takes : (k : ℕ) → k ≤ length front → take k front ≡ take k octets
+    takes k few = ap (take k) is ∙ take-take k (length front) octets few
+
+    at : (k : ℕ) → k < length front → slice_index front k ≡ slice_index octets k
+    at k inside = ap (λ (o : List ℕ). slice_index o k) is ∙ get_or-take (length front) octets k 0 inside
+
+    announces : announced front ≡ announced octets
+    announces = first front octets (takes 1 (omega (arith, long))) (omega (arith, long))
+      where
+        first : (o p : List ℕ) → take 1 o ≡ take 1 p → 1 ≤ length o → announced o ≡ announced p
+        first [] p same some = absurd (omega arith)
+        first (x ∷ xs) [] same some = absurd (cc)
+        first (x ∷ xs) (y ∷ ys) same some = let one : x ≡ y = cc in ap width one
+
+    number : (w : ℕ) → w ≤ length front → vint_data w front ≡ vint_data w octets
+    number w few = ap (λ (n : ℕ). n % marker w) (sym (big_from-take 0 w w front (omega arith)) ∙ ap (big_number w) (takes w few) ∙ big_from-take 0 w w octets (omega arith))
+
+    time : (w : ℕ) → w + 2 ≤ length front → int_of (take 2 (drop w front)) ≡ int_of (take 2 (drop w octets))
+    time w few = ap int_of (sym (drop-take w 2 front) ∙ ap (drop w) (takes (w + 2) few) ∙ drop-take w 2 octets)
+
+    w : ℕ
+    w = announced front
+
+    same : header_of front ≡ header_of octets
+    same =
+        ap (λ (t : ℕ). record { track = t; relative = int_of (take 2 (drop w front)); flags = slice_index front (w + 2); len = w + 3 }) (number w (omega (arith, long)))
+        ∙ ap (λ (z : ℤ). record { track = vint_data w octets; relative = z; flags = slice_index front (w + 2); len = w + 3 }) (time w (omega (arith, long)))
+        ∙ ap (λ (n : ℕ). record { track = vint_data w octets; relative = int_of (take 2 (drop w octets)); flags = n; len = w + 3 }) (at (w + 2) (omega (arith, long)))
+        ∙ ap (λ (n : ℕ). header_at n) announces
+      where
+        header_at : ℕ → BlockHeader
+        header_at n = record { track = vint_data n octets; relative = int_of (take 2 (drop n octets)); flags = slice_index octets (n + 2); len = n + 3 }
+
+    whole : has_no_header octets ≡ false
+    whole =
+        let first = at 0 (omega (arith, long)) in
+        let inside : header_len octets ≤ length octets = omega (arith, long, within, announces) in
+        grind (arith, nat_tests, first, inside, some)
+
+-- A header without lace at a front is that of a block of one frame.
+pub content_in-alone : (front octets : List ℕ) (h : BlockHeader) → IsFront front octets → Some h ≡ header_in front → lace_of h.flags ≡ lace.None
+    → content_in octets ≡ Ok (record { track = h.track; relative = h.relative; flags = h.flags; frames = drop h.len octets ∷ [] })
+content_in-alone front octets h is found none =
+    let had = HasHeader-from front h found in
+    let front_is = header_of-front front octets is had.found in
+    let has : HasHeader octets h = record {
+      found = front_is.1;
+      is = sym front_is.0 ∙ had.is;
+      inside = let whole = has_header octets front_is.1 in let len : header_len octets ≡ h.len = ap (λ (x : BlockHeader). x.len) (sym front_is.0 ∙ had.is) in omega arith;
+    } in
+    content_in-frames octets h has
+    ∙ ap (λ (l : Lace). content_with octets (frames_in l (drop h.len octets))) none
+    ∙ ap (λ (x : BlockHeader). Ok (record { track = x.track; relative = x.relative; flags = x.flags; frames = drop h.len octets ∷ [] })) has.is

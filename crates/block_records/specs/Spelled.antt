@@ -1,5 +1,5 @@
 -- What is read of the octets of a Block or a SimpleBlock.
-use Rattle.std.specs.Prelude.{◌≡◌, ◌≤◌, ℕ, ◌+◌, if◌then◌else◌, List, length, drop, sum, Option, Some, None, Result, Ok, Err}
+use Rattle.std.specs.Prelude.{◌≡◌, ◌≤◌, ℕ, ◌+◌, if◌then◌else◌, List, length, take, drop, sum, Option, Some, None, Result, Ok, Err}
 use Rattle.lacing.specs.declared.kind.Lace.{Lace}
 use Rattle.lacing.specs.Writing.{FitsKind}
 use Rattle.mkv_io.specs.declared.damage.Kind.{Kind}
@@ -36,3 +36,7 @@ content_of s frames = record { track = s.track; relative = s.relative; flags = s
 abbrev pub Spells : List ℕ → List ℕ → Result Spelled Kind → Type 0
 Spells octets sizes (Ok s) = (content_in octets ≡ Ok (content_of s (frames_cut sizes (drop s.start octets)))) × AreFrames (lace_of s.flags) octets sizes s.start
 Spells octets sizes (Err kind) = content_in octets ≡ Err kind
+
+-- octets stand at the front of others
+abbrev pub IsFront : List ℕ → List ℕ → Type 0
+IsFront front octets = front ≡ take (length front) octets

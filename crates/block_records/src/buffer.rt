@@ -1,6 +1,6 @@
 //! The buffer of a block.
 
-ghost use Rattle.std.specs.Prelude.{◌≡◌, ◌+◌, ◌≤◌, ◌⊎◌, [], ℕ, List, length, sum, false, Some, OnOk, OnErr, IfOk, IsTrue, IsErrOf, MatchResult};
+ghost use Rattle.std.specs.Prelude.{◌≡◌, ◌≢◌, ◌+◌, ◌≤◌, ◌⊎◌, [], ℕ, List, length, sum, false, Some, OnOk, OnErr, IfOk, IsTrue, IsErrOf, MatchResult};
 ghost use Rattle.std.specs.List.{All};
 ghost use Rattle.mkv_io.specs.Faults.{HasCause, is_read_fault};
 ghost use Rattle.mkv_io.specs.Sources.{IfTold, IsLive, file_size};
@@ -11,10 +11,13 @@ ghost use Rattle.lacing.specs.Writing.{FitsKind};
 ghost use Rattle.block_format.specs.Elements.{with_limits, simple_block, block_group};
 ghost use Rattle.block_records.specs.Buffered.{Makes};
 ghost use Rattle.block_records.specs.Lendable.{HasSmallTimes, IsLendable, LendsNothing};
+ghost use Rattle.block_records.specs.Made.{IsOfTrack};
+ghost use Rattle.block_records.specs.Spelled.{IsFront};
 ghost use Rattle.block_records.specs.Time.{IsSmallTime};
 ghost use Rattle.mkv_io.specs.declared.outside.TheConstants.{LONGEST_FILE};
 ghost use Rattle.block_format.specs.declared.limits.TheConstants.{MOST_REFERENCES};
 
+use crate::block::passed_head;
 use crate::body::read_body;
 use crate::head::BlockHead;
 use crate::parts::{Found, Parts};
@@ -91,6 +94,29 @@ impl BlockBuffer {
         read_body(window, src, file, header, &mut self.octets)?;
         self.len = len;
         Ok(())
+    }
+
+    /// Passes a SimpleBlock with this header without its frames, where octets in its front settle that it is one, without lace
+    /// and of another track than this. Answers whether they do: then what it says of itself is known, and nothing else is lent.
+    pub fn pass(
+        &mut self,
+        front: &[u8],
+        track: u64,
+        scale: u64,
+        timestamp: u64,
+        header: &Header,
+    ) -> bool
+        requires few { known header.now.size ≤ MOST_OF_BLOCK }
+        ensures other { IsTrue result → self.new.head.track ≢ track }
+        ensures exact { IsTrue result → (bytes : List ℕ) → IsFront front.now (body_of bytes header.now)
+            → IsOfTrack self.new.head (simple_block (with_limits scale) bytes (Some timestamp) header.now) }
+    {
+        let Some(head) = passed_head(scale, timestamp, header, front, track) else {
+            return false;
+        };
+        self.len = 0;
+        self.parts.pass(head);
+        true
     }
 
     /// What the octets spell of a SimpleBlock with this header, in a Cluster whose Timestamp is so many

@@ -67,8 +67,8 @@ fn data_of(size: Size, len: u8) -> u64
     }
 }
 
-// The header at the front of octets, where it is whole.
-fn header_in(octets: &[u8]) -> Option<BlockHeader>
+/// The header at the front of octets, where it is whole.
+pub fn header_in(octets: &[u8]) -> Option<BlockHeader>
     ensures { result ≡ header_in octets.now }
 {
     let Ok(number) = read_size(octets) else {

@@ -75,6 +75,15 @@ impl Parts {
         self.gathered.clear();
     }
 
+    /// Forgets the block, and keeps of another one what it says of itself.
+    pub fn pass(&mut self, head: BlockHead)
+        ensures empty { IsEmpty self.new }
+        ensures head { self.new.head ≡ head }
+    {
+        self.forget();
+        self.head = head;
+    }
+
     /// What the octets spell of a SimpleBlock with this header, in a Cluster whose Timestamp is so many
     /// ticks, of `scale` nanoseconds each; or the first thing that is wrong.
     pub fn simple(&mut self, octets: &[u8], scale: u64, timestamp: u64, header: &Header) -> Found
