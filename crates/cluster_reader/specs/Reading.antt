@@ -1,5 +1,5 @@
 -- A file's blocks as they are read, one after the other.
-use Rattle.std.specs.Prelude.{◌≡◌, ◌<◌, ◌≤◌, ◌⊎◌, ⊤, ℕ, ◌+◌, ◌*◌, true, false, Bool, List, [], ◌∷◌, length, None, Result, Ok, Err, IfOk}
+use Rattle.std.specs.Prelude.{◌≡◌, ◌<◌, ◌≤◌, ◌⊎◌, ⊤, ℕ, ◌+◌, ◌*◌, true, false, Bool, List, [], ◌∷◌, length, Option, Some, None, Result, Ok, Err, IfOk}
 use Rattle.mkv_io.specs.declared.outside.FileId.{FileId}
 use Rattle.mkv_io.specs.declared.outside.ReadEnd.{ReadEnd}
 use Rattle.mkv_io.specs.declared.damage.Damage.{Damage}
@@ -8,12 +8,14 @@ use Rattle.mkv_io.specs.LiveFiles.{LiveFiles}
 use Rattle.mkv_io.specs.Told.{Told}
 use Rattle.mkv_schema.specs.declared.element.Header.{Header}
 use Rattle.elements.specs.Window.{ReadAhead, Holds, HasNotPassed, cost_of, end_ahead}
+use Rattle.block_format.specs.Block.{Block as AnyBlock}
 use Rattle.block_format.specs.Elements.{with_limits}
 use Rattle.block_format.specs.Events.{Event, block, damaged, stopped}
 use Rattle.block_records.specs.Buffered.{Buffered, block_of}
 use Rattle.block_records.specs.Lendable.{IsLendable, LendsNothing}
 use Rattle.cluster_reader.specs.Left.{left}
 use Rattle.cluster_reader.specs.Places.{first_place}
+use Rattle.cluster_reader.specs.Wanted.{IsKnown}
 use Rattle.cluster_reader.specs.declared.place.Place.{Place}
 use Rattle.cluster_reader.specs.declared.step.Step.{Step}
 use Rattle.cluster_reader.specs.declared.step.Step.TheVariants.{Block, Damaged, End}
@@ -50,6 +52,19 @@ Gives bytes old new (Ok (Damaged d)) = left_of bytes old ≡ damage_event new.st
 Gives bytes old new (Ok End) = (left_of bytes old ≡ []) × (left_of bytes new ≡ [])
 Gives bytes old new (Err end) = left_of bytes new ≡ left_of bytes old
 
+-- The first of what was left is a block, of which is known what is wanted.
+pub record GivesBlock (wanted : Option ℕ) (bytes : List ℕ) (old new : Reading) : Type 0 where
+  pub given : AnyBlock
+  pub left : left_of bytes old ≡ block given ∷ left_of bytes new
+  pub known : IsKnown wanted given new.block
+
+-- The same is given where the blocks of one track are wanted; what other blocks hold isn't known.
+abbrev pub GivesWanted : Option ℕ → List ℕ → Reading → Reading → Result Step ReadEnd → Type 0
+GivesWanted wanted bytes old new (Ok Block) = GivesBlock wanted bytes old new
+GivesWanted wanted bytes old new (Ok (Damaged d)) = Gives bytes old new (Ok (Damaged d))
+GivesWanted wanted bytes old new (Ok End) = Gives bytes old new (Ok End)
+GivesWanted wanted bytes old new (Err end) = Gives bytes old new (Err end)
+
 -- The place goes on past what is given.
 abbrev pub GoesOn : Step → ℕ → ℕ → Type 0
 GoesOn Block old new = old < new
@@ -74,6 +89,11 @@ LendsFor Block b = IsLendable b
 LendsFor (Damaged d) b = ⊤
 LendsFor End b = ⊤
 
+-- One of a track that is wanted can be.
+abbrev pub LendsWanted : Option ℕ → Step → Buffered → Type 0
+LendsWanted None step b = LendsFor step b
+LendsWanted (Some track) step b = b.head.track ≡ track → LendsFor step b
+
 -- how many blocks an answer gives
 abbrev pub blocks_given : Result Step ReadEnd → ℕ
 blocks_given (Ok Block) = 1
@@ -87,6 +107,10 @@ damages_given (Ok Block) = 0
 damages_given (Ok (Damaged d)) = 1
 damages_given (Ok End) = 0
 damages_given (Err end) = 0
+
+-- what a step gives is counted
+abbrev pub with_given : Step → Reading → Reading
+with_given step c = record c { blocks = counted c.blocks (blocks_given (Ok step)); damages = counted c.damages (damages_given (Ok step)) }
 
 -- What is given is counted, and a damage that ends what is read is noted.
 pub record Counts (old new : Reading) (result : Result Step ReadEnd) : Type 0 where
@@ -103,12 +127,16 @@ pub record IsSameSegment (old new : Reading) : Type 0 where
   pub end : new.place.end ≡ old.place.end
   pub forwards : old.place.at ≤ new.place.at
 
--- A call goes on in the same Segment, and not past its end. The block that it gives can be written.
-pub record Moves (old new : Reading) (result : Result Step ReadEnd) : Type 0 where
+-- A call goes on in the same Segment, and not past its end. A wanted block that it gives can be written.
+pub record MovesWanted (wanted : Option ℕ) (old new : Reading) (result : Result Step ReadEnd) : Type 0 where
   pub same : IsSameSegment old new
   pub on : IfOk result (λ step. GoesOn step old.place.at new.place.at)
   pub inside : new.place.at ≤ new.place.end
-  pub lends : IfOk result (λ step. LendsFor step new.block)
+  pub lends : IfOk result (λ step. LendsWanted wanted step new.block)
+
+-- where all are wanted, each can be
+abbrev pub Moves : Reading → Reading → Result Step ReadEnd → Type 0
+Moves old new result = MovesWanted None old new result
 
 -- What is held has been read as far as one read goes: nothing, or up to the file's end, or 1,024 octets at least.
 abbrev pub IsFull : ℕ → ReadAhead → Type 0

@@ -1,6 +1,6 @@
 //! The cursor.
 
-ghost use Rattle.std.specs.Prelude.{◌≡◌, ◌≤◌, ◌⊎◌, true, ℕ, List, [], length, sum, IfOk};
+ghost use Rattle.std.specs.Prelude.{◌≡◌, ◌≤◌, ◌⊎◌, true, ℕ, List, [], Some, length, sum, IfOk};
 ghost use Rattle.mkv_io.specs.Faults.{HasCause, is_read_fault};
 ghost use Rattle.mkv_io.specs.LiveFiles.{LiveFiles};
 ghost use Rattle.mkv_io.specs.Sources.{IfTold, file_size, live_files};
@@ -10,7 +10,7 @@ ghost use Rattle.block_records.specs.Lendable.{HasSmallTimes};
 ghost use Rattle.block_records.specs.Time.{IsSmallTime};
 ghost use Rattle.block_format.specs.Elements.{with_limits};
 ghost use Rattle.block_format.specs.Events.{events_of};
-ghost use Rattle.cluster_reader.specs.Reading.{Begins, Counts, Gives, CanRead, Moves, Spends, left_of};
+ghost use Rattle.cluster_reader.specs.Reading.{Begins, Counts, Gives, GivesWanted, CanRead, Moves, MovesWanted, Spends, left_of, with_given};
 ghost use Rattle.block_format.specs.declared.limits.TheConstants.{MOST_REFERENCES};
 
 use crate::next_step::next_step;
@@ -100,13 +100,37 @@ impl Cursor {
         // What is read adds up to at most four octets for each of the file, and two for each call that fails.
         ensures spends { Spends (file_size R.Reads src.old self.old.file) self.old self.new (R.octets_read src.old) (R.octets_read src.new) result }
     {
-        let step = next_step(&mut self.walk, src)?;
+        let step = next_step(&mut self.walk, src, None)?;
+        self.count(step);
+        Ok(step)
+    }
+
+    /// The same where the blocks of one track are wanted: of a block of another one no more is known than its track, and its
+    /// frames needn't be read.
+    pub fn advance_for<R: Reads>(&mut self, src: &mut R, track: u64) -> Result<Step, ReadEnd>
+        requires { CanRead (live_files R.Reads src.old) self.old }
+        ensures gives { IfTold R.Reads src.old self.old.file (λ bytes. GivesWanted (Some track) bytes self.old self.new result) }
+        ensures counts { Counts self.old self.new result }
+        ensures moves { MovesWanted (Some track) self.old self.new result }
+        ensures stands { CanRead (live_files R.Reads src.new) self.new }
+        ensures standing { R.standing src.new ≡ R.standing src.old }
+        ensures cause { HasCause is_read_fault (R.reading_faults src.old) (R.reading_faults src.new) result }
+        ensures spends { Spends (file_size R.Reads src.old self.old.file) self.old self.new (R.octets_read src.old) (R.octets_read src.new) result }
+    {
+        let step = next_step(&mut self.walk, src, Some(track))?;
+        self.count(step);
+        Ok(step)
+    }
+
+    // Counts what was given.
+    fn count(&mut self, step: Step)
+        ensures { self.new ≡ with_given step self.old }
+    {
         match step {
             Step::Block => self.blocks = self.blocks.saturating_add(1),
             Step::Damaged(_) => self.damages = self.damages.saturating_add(1),
             Step::End => {}
         }
-        Ok(step)
     }
 
     /// What the block says of itself.

@@ -3,7 +3,7 @@
 ghost use Rattle.std.specs.Prelude.{◌≡◌};
 ghost use Rattle.mkv_io.specs.Faults.{HasCause, is_read_fault};
 ghost use Rattle.mkv_io.specs.Sources.{IfTold, file_size, live_files};
-ghost use Rattle.cluster_reader.specs.Reading.{Gives};
+ghost use Rattle.cluster_reader.specs.Reading.{GivesWanted};
 ghost use Rattle.cluster_reader.specs.Walks.{IsReady, PaysFor, TakesStep, TakesTurn, Turns, shown};
 
 use crate::at_level_1::turn_at_level_1;
@@ -13,18 +13,22 @@ use crate::turn::Turn;
 use crate::walk::Walk;
 use mkv_io::{ReadEnd, Reads};
 
-/// The next block or damage, up to which a walk goes on.
-pub fn next_step<R: Reads>(walk: &mut Walk, src: &mut R) -> Result<Step, ReadEnd>
+/// The next block or damage, up to which a walk goes on, where the blocks of one track are wanted or of all.
+pub fn next_step<R: Reads>(
+    walk: &mut Walk,
+    src: &mut R,
+    wanted: Option<u64>,
+) -> Result<Step, ReadEnd>
     requires { IsReady (live_files R.Reads src.old) walk.old }
-    ensures gives { IfTold R.Reads src.old walk.old.file (λ bytes. Gives bytes (shown walk.old) (shown walk.new) result) }
-    ensures takes { TakesStep walk.old walk.new result }
+    ensures gives { IfTold R.Reads src.old walk.old.file (λ bytes. GivesWanted wanted bytes (shown walk.old) (shown walk.new) result) }
+    ensures takes { TakesStep wanted walk.old walk.new result }
     ensures ready { IsReady (live_files R.Reads src.new) walk.new }
     ensures standing { R.standing src.new ≡ R.standing src.old }
     ensures cause { HasCause is_read_fault (R.reading_faults src.old) (R.reading_faults src.new) result }
     ensures pays { PaysFor (file_size R.Reads src.old walk.old.file) walk.old walk.new (R.octets_read src.old) (R.octets_read src.new) result }
 {
     loop {
-        match turn(walk, src)? {
+        match turn(walk, src, wanted)? {
             Turn::Passed => {}
             Turn::Gives(step) => return Ok(step),
         }
@@ -32,23 +36,17 @@ pub fn next_step<R: Reads>(walk: &mut Walk, src: &mut R) -> Result<Step, ReadEnd
 }
 
 // What the Element at the place makes of a walk.
-fn turn<R: Reads>(walk: &mut Walk, src: &mut R) -> Result<Turn, ReadEnd>
+fn turn<R: Reads>(walk: &mut Walk, src: &mut R, wanted: Option<u64>) -> Result<Turn, ReadEnd>
     requires { IsReady (live_files R.Reads src.old) walk.old }
-    ensures gives { IfTold R.Reads src.old walk.old.file (λ bytes. Turns bytes walk.old walk.new result) }
-    ensures takes { TakesTurn walk.old walk.new result }
+    ensures gives { IfTold R.Reads src.old walk.old.file (λ bytes. Turns wanted bytes walk.old walk.new result) }
+    ensures takes { TakesTurn wanted walk.old walk.new result }
     ensures ready { IsReady (live_files R.Reads src.new) walk.new }
     ensures standing { R.standing src.new ≡ R.standing src.old }
     ensures cause { HasCause is_read_fault (R.reading_faults src.old) (R.reading_faults src.new) result }
     ensures pays { PaysFor (file_size R.Reads src.old walk.old.file) walk.old walk.new (R.octets_read src.old) (R.octets_read src.new) result }
 {
     match walk.place.cluster {
-        None => {
-            let turn = turn_at_level_1(walk, src)?;
-            Ok(turn)
-        }
-        Some(cluster) => {
-            let turn = turn_in_cluster(walk, src, cluster)?;
-            Ok(turn)
-        }
+        None => turn_at_level_1(walk, src),
+        Some(cluster) => turn_in_cluster(walk, src, cluster, wanted),
     }
 }

@@ -1,9 +1,11 @@
 -- A turn at a link, one answer of its cursor after the other: what it gives, how far it goes, and what it reads.
-use Rattle.std.proofs.Common.{◌≡◌, ℕ, suc, zero, ◌+◌, ◌-◌, ◌*◌, ◌<◌, ◌≤◌, Bool, false, List, [], ◌∷◌, ◌++◌, length, drop, Option, Some, None, Result, Ok, Err, refl, sym, ◌∙◌, ap, subst, add-one, arith}
-use Rattle.std.specs.Prelude.{◌||◌}
+use Rattle.std.proofs.Common.{◌≡◌, ℕ, suc, zero, ◌+◌, ◌-◌, ◌*◌, ◌<◌, ◌≤◌, Bool, true, false, List, [], ◌∷◌, ◌++◌, length, drop, Option, Some, None, Result, Ok, Err, refl, sym, ◌∙◌, ap, subst, add-one, arith}
+use Rattle.std.specs.Prelude.{◌||◌, ◌==◌}
 use Rattle.std.specs.Result.{IsErr}
 use Rattle.std.specs.List.{All, slice_get}
 use Rattle.std.proofs.Math.ListN.{set}
+use Rattle.std.proofs.lemmas.Bool.{cond-false}
+use Rattle.std.proofs.lemmas.Bool.Decides.{nat_tests}
 use Rattle.std.proofs.lemmas.List.Elements.{All-head, All-tail}
 use Rattle.std.proofs.lemmas.Option.{slice_get_within}
 use Rattle.mkv_io.specs.declared.damage.Damage.{Damage}
@@ -11,10 +13,12 @@ use Rattle.mkv_io.specs.declared.outside.ReadEnd.{ReadEnd}
 use Rattle.mkv_io.specs.LiveFiles.{LiveFiles}
 use Rattle.mkv_io.specs.Told.{Told}
 use Rattle.block_format.specs.Block.{Block}
+use Rattle.block_records.specs.Buffered.{Buffered, block_of}
 use Rattle.block_format.specs.Events.{Event, block, events_of}
 use Rattle.block_format.specs.Elements.{with_limits}
 use Rattle.mkv_schema.specs.declared.element.Header.{Header}
-use Rattle.cluster_reader.specs.Reading.{CanRead, Gives, Reading, damage_event, left_of, paid}
+use Rattle.cluster_reader.specs.Reading.{CanRead, GivesWanted, Reading, damage_event, left_of, paid}
+use Rattle.cluster_reader.specs.Wanted.{IsKnown}
 use Rattle.cluster_reader.specs.ToldDamages.{ToldDamages, with_damage}
 use Rattle.cluster_reader.specs.declared.step.Step.{Step}
 use Rattle.output_model.specs.OutputBlock.{IsLent, Lent}
@@ -68,7 +72,7 @@ at-text f links w e ready is = step w.cursor (subst (IsAt f w.cursor) is ready.h
     step (Some c) here = absurd here
 
 -- what the cursor gives, of the octets that are told
-pub cursor-gives : (f : LiveFiles) (links : List Link) (k : ℕ) (t : TrackLink) (c d : Reading) (result : Result Step ReadEnd) → All (IsToldLink f) links → slice_get links k ≡ Some (Track t) → c.file ≡ t.file → Told (f.content c.file.n) (λ bytes. Gives bytes c d result) → Gives (octets_in f t.file.n) c d result
+pub cursor-gives : (f : LiveFiles) (links : List Link) (k : ℕ) (t : TrackLink) (c d : Reading) (result : Result Step ReadEnd) → All (IsToldLink f) links → slice_get links k ≡ Some (Track t) → c.file ≡ t.file → Told (f.content c.file.n) (λ bytes. GivesWanted (Some t.number) bytes c d result) → GivesWanted (Some t.number) (octets_in f t.file.n) c d result
 cursor-gives f links k t c d result all is file gives =
     gives (octets_in f t.file.n) (ap (λ each. f.content each.n) file ∙ all-at (IsToldLink f) links k (Track t) all is)
 
@@ -90,6 +94,26 @@ none-counted f links w ready none = subst (HasCounted w.frames) none ready.frame
 
 pub few-counted : (f : LiveFiles) (links : List Link) (w : Walk) (c : Reading) → IsReady f links w → w.cursor ≡ Some c → w.frames ≤ 256 * c.place.at
 few-counted f links w c ready is = subst (HasCounted w.frames) is ready.frames
+
+-- A track makes the same of a block as of what is lent of it, where what its lane wants is known.
+pub record IsSame (t : TrackLink) (b lent : Block) : Type 0 where
+  pub placed : (scale k : ℕ) → track_placed scale t k b ≡ track_placed scale t k lent
+  pub frames : frames_of t b ≡ frames_of t lent
+
+pub known-same : (t : TrackLink) (b : Block) (lent : Buffered) → IsKnown (Some t.number) b lent → IsSame t b (block_of lent)
+known-same t b lent known = split (lent.head.track == t.number) refl
+  where
+    split : (is : Bool) → (lent.head.track == t.number) ≡ is → IsSame t b (block_of lent)
+    split true is =
+        let own : lent.head.track ≡ t.number = grind (arith, nat_tests, is) in
+        let whole = known.whole own in
+        record { placed = λ scale k. ap (track_placed scale t k) whole; frames = ap (frames_of t) whole }
+    split false is =
+        let other : (b.track == t.number) ≡ false = ap (λ (n : ℕ). n == t.number) known.track ∙ is in
+        record {
+          placed = λ scale k. cond-false (b.track == t.number) _ _ other ∙ sym (cond-false (lent.head.track == t.number) _ _ is);
+          frames = cond-false (b.track == t.number) _ _ other ∙ sym (cond-false (lent.head.track == t.number) _ _ is);
+        }
 
 -- ---- a turn in the file of a track, whose cursor was c and is d
 

@@ -108,6 +108,8 @@ pub fn place_block(
     requires small { IsSmallTrack track.now }
     ensures becomes { Becomes (track_placed scale track.now before (block_of cursor.now.block)) greatest (track_lent track.now cursor.now.block placed.new) result }
 
+    ensures own { OnTrue result (cursor.now.block.head.track ≡ track.now.number) }
+
     // Where the cursor lends a block that can be written, this one can be.
     ensures lent { IsLendable cursor.now.block → OnTrue result (IsLent (track_lent track.now cursor.now.block placed.new)) }
     ensures ticks { OnTrue result (HasFewTicks scale placed.new) }

@@ -54,7 +54,7 @@ fn turn_track<R: Reads>(
         walk.cursor = Some(cursor);
         return Ok(Turn::Passed);
     };
-    match cursor.advance(src)? {
+    match cursor.advance_for(src, track.number)? {
         Step::Block => {
             let before = walk.frames;
             walk.frames += frames_of(track, cursor);

@@ -2,7 +2,6 @@ use Rattle.std.proofs.Common.{◌<◌, not, ◌∷◌, Some, sym, ◌∙◌, ap,
 use Rattle.mkv_schema.specs.Element.{end_in}
 use Rattle.block_format.specs.Elements.{with_limits}
 use Rattle.block_format.specs.Events.{block}
-use Rattle.block_records.specs.Buffered.{block_of}
 use Rattle.cluster_reader.specs.Left.{left}
 use Rattle.cluster_reader.specs.Places.{IsInCluster, behind_damage}
 use Rattle.cluster_reader.specs.Reading.{damage_event, left_of}
@@ -35,15 +34,20 @@ returns-in-Block-clause-gives g c = λ bytes content.
     let p = c.args.walk.now.place in
     let cluster = c.args.cluster in
     let h = c.args.header.now in
-    let b = block_of c.read_child.new.walk.block in
     let before : p.at < cluster.end = omega (arith, c.requires.later, c.requires.within) in
-    let gives = rw c.in-Block.is at (c.in_ok-timestamp.ensures.ok bytes content) in
-    let other = block-no_timestamp r bytes cluster.timestamp h b gives in
+    let finds = rw c.in-Block.is at (c.in_ok-timestamp.ensures.ok bytes content) in
+    let b = finds.given in
+    let other = block-no_timestamp r bytes cluster.timestamp h b finds.is in
     let moved = c.passed-walk-in-Block.ensures
     ∙ ap (λ (w : Walk). record w.place { at = end_in cluster.end h; cluster = Some cluster }) c.read_child.ensures.only
     ∙ ap (λ o. record p { at = end_in cluster.end h; cluster = o }) (sym c.requires.inside) in
-    left-block r bytes p c.passed-walk-in-Block.result cluster h b c.requires.inside before (c.requires.found bytes content) c.requires.goes other gives moved
-    ∙ sym (ap (λ (w : Walk). block b ∷ left (with_limits w.scale) bytes c.passed-walk-in-Block.result) c.read_child.ensures.only)
+    record {
+      given = b;
+      left =
+          left-block r bytes p c.passed-walk-in-Block.result cluster h b c.requires.inside before (c.requires.found bytes content) c.requires.goes other finds.is moved
+          ∙ sym (ap (λ (w : Walk). block b ∷ left (with_limits w.scale) bytes c.passed-walk-in-Block.result) c.read_child.ensures.only);
+      known = finds.known;
+    }
 
 -- something is wrong with it
 pub returns-in-Damaged-clause-gives : goal.returns-in-Damaged-clause-gives

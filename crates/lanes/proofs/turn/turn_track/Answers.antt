@@ -1,4 +1,4 @@
-use Rattle.std.proofs.Common.{◌≡◌, ℕ, ◌+◌, ◌*◌, ◌≤◌, ◌^◌, length, Some, None, Ok, Err, Bool, ◌<◌, refl, sym, ◌∙◌, ap, arith}
+use Rattle.std.proofs.Common.{◌≡◌, ℕ, ◌+◌, ◌*◌, ◌≤◌, ◌^◌, List, length, Some, None, Ok, Err, Bool, ◌<◌, refl, sym, ◌∙◌, ap, subst, arith}
 use Rattle.std.specs.Prelude.{◌||◌}
 use Rattle.std.proofs.Math.ListN.{length-set}
 use Rattle.std.proofs.lemmas.Option.{slice_get_within, slice_get_read}
@@ -6,9 +6,11 @@ use Rattle.mkv_io.specs.declared.outside.FileId.{FileId}
 use Rattle.mkv_io.specs.Sources.{live_files}
 use Rattle.block_records.specs.Buffered.{block_of}
 use Rattle.cluster_reader.specs.Reading.{left_of}
+use Rattle.output_model.specs.OutputBlock.{OutputBlock}
 use Rattle.merge_model.specs.FileLinks.{IsOpenLink, IsSmallLink, octets_in, track_events}
 use Rattle.mkv_io.specs.declared.outside.TheConstants.{LONGEST_FILE}
-use Rattle.lanes.specs.Placed.{track_lent}
+use Rattle.lanes.specs.Lent.{IsPlaced}
+use Rattle.lanes.specs.Placed.{track_lent, track_placed}
 use Rattle.merge_model.specs.declared.link.Link.TheVariants.{Track}
 use Rattle.lanes.specs.declared.walk.Walk.{Walk}
 use Rattle.std.specs.Vec.{with_item}
@@ -69,30 +71,30 @@ returns-in_default-clause-pays g c =
 
 -- ---- its call is refused
 
-pub returns-in_err-advance-clause-gives : goal.returns-in_err-advance-clause-gives
-returns-in_err-advance-clause-gives g c = λ told.
+pub returns-in_err-advance_for-clause-gives : goal.returns-in_err-advance_for-clause-gives
+returns-in_err-advance_for-clause-gives g c = λ told.
     let f = live_files g.R.Reads c.args.src.now in
     let w = c.args.walk.now in
     let t = c.args.track.now in
     let old = c.in-Some.cursor.now in
-    let d = c.advance.new.self in
+    let d = c.advance_for.new.self in
     let new : Walk = record w { cursor = Some d } in
     let at = turns.at-track f c.args.links.now w t old c.requires.ready c.requires.here (sym c.in-Some.ensures.value) in
     let reads : turns.Reads c.args.links.now t w new old d = record { at = c.requires.here; same = refl; before = sym c.in-Some.ensures.value; now = refl } in
-    let gives = turns.cursor-gives f c.args.links.now w.at t old d (Err c.in_err-advance.field-0.0) told c.requires.here at.1 c.in_err-advance.ensures.gives in
-    turns.turns-same f c.args.scale c.args.links.now t w new old d reads refl refl refl refl gives c.from_residual-in_err-advance.result c.from_residual-in_err-advance.ensures.0
+    let gives = turns.cursor-gives f c.args.links.now w.at t old d (Err c.in_err-advance_for.field-0.0) told c.requires.here at.1 c.in_err-advance_for.ensures.gives in
+    turns.turns-same f c.args.scale c.args.links.now t w new old d reads refl refl refl refl gives c.from_residual-in_err-advance_for.result c.from_residual-in_err-advance_for.ensures.0
 
-pub returns-in_err-advance-clause-pays : goal.returns-in_err-advance-clause-pays
-returns-in_err-advance-clause-pays g c =
+pub returns-in_err-advance_for-clause-pays : goal.returns-in_err-advance_for-clause-pays
+returns-in_err-advance_for-clause-pays g c =
     let f = live_files g.R.Reads c.args.src.now in
     let w = c.args.walk.now in
     let t = c.args.track.now in
     let old = c.in-Some.cursor.now in
-    let d = c.advance.new.self in
+    let d = c.advance_for.new.self in
     let new : Walk = record w { cursor = Some d } in
     let at = turns.at-track f c.args.links.now w t old c.requires.ready c.requires.here (sym c.in-Some.ensures.value) in
     let reads : turns.Reads c.args.links.now t w new old d = record { at = c.requires.here; same = refl; before = sym c.in-Some.ensures.value; now = refl } in
-    turns.refused-pays f c.args.scale c.args.links.now t w new old d reads at.1 (g.R.Reads.octets_read c.args.src.now) (g.R.Reads.octets_read c.advance.new.src) c.from_residual-in_err-advance.result c.from_residual-in_err-advance.ensures.0 c.in_err-advance.ensures.spends.pays c.in_err-advance.ensures.spends.most
+    turns.refused-pays f c.args.scale c.args.links.now t w new old d reads at.1 (g.R.Reads.octets_read c.args.src.now) (g.R.Reads.octets_read c.advance_for.new.src) c.from_residual-in_err-advance_for.result c.from_residual-in_err-advance_for.ensures.0 c.in_err-advance_for.ensures.spends.pays c.in_err-advance_for.ensures.spends.most
 
 -- ---- a block
 
@@ -105,12 +107,15 @@ returns-else-place_block-clause-gives g c = λ told.
     let w = c.args.walk.now in
     let t = c.args.track.now in
     let old = c.in-Some.cursor.now in
-    let d = c.advance.new.self in
+    let d = c.advance_for.new.self in
     let new : Walk = record w { cursor = Some d; frames = w.frames + c.frames_of.result; placed = c.place_block.new.placed } in
     let at = turns.at-track f c.args.links.now w t old c.requires.ready c.requires.here (sym c.in-Some.ensures.value) in
     let reads : turns.Reads c.args.links.now t w new old d = record { at = c.requires.here; same = refl; before = sym c.in-Some.ensures.value; now = refl } in
-    let gives = turns.cursor-gives f c.args.links.now w.at t old d (Ok c.in_ok-advance.field-0) told c.requires.here at.1 c.in_ok-advance.ensures.gives in
-    turns.turns-other f c.args.scale c.args.links.now t w new old d reads (block_of d.block) (ap (λ (n : ℕ). w.frames + n) c.frames_of.ensures.exact) refl refl (rw c.in-Block.is at gives) refl (rw c.if-place_block.false at c.place_block.ensures.becomes)
+    let gives = turns.cursor-gives f c.args.links.now w.at t old d (Ok c.in_ok-advance_for.field-0) told c.requires.here at.1 c.in_ok-advance_for.ensures.gives in
+    let given = rw c.in-Block.is at gives in
+    let same = turns.known-same t given.given d.block given.known in
+    turns.turns-other f c.args.scale c.args.links.now t w new old d reads given.given (ap (λ (n : ℕ). w.frames + n) (c.frames_of.ensures.exact ∙ sym same.frames)) refl refl given.left refl
+    (same.placed c.args.scale w.frames ∙ (rw c.if-place_block.false at c.place_block.ensures.becomes))
 
 pub returns-else-place_block-clause-moves : goal.returns-else-place_block-clause-moves
 returns-else-place_block-clause-moves g c =
@@ -118,10 +123,10 @@ returns-else-place_block-clause-moves g c =
     let w = c.args.walk.now in
     let t = c.args.track.now in
     let old = c.in-Some.cursor.now in
-    let d = c.advance.new.self in
+    let d = c.advance_for.new.self in
     let new : Walk = record w { cursor = Some d; frames = w.frames + c.frames_of.result; placed = c.place_block.new.placed } in
     let reads : turns.Reads c.args.links.now t w new old d = record { at = c.requires.here; same = refl; before = sym c.in-Some.ensures.value; now = refl } in
-    let moves = c.in_ok-advance.ensures.moves in
+    let moves = c.in_ok-advance_for.ensures.moves in
     record {
       on = turns.reads-on c.args.links.now t w new old d reads (rw c.in-Block.is at moves.on) moves.inside moves.same.end;
       lends = tt;
@@ -133,11 +138,11 @@ returns-else-place_block-clause-pays g c =
     let w = c.args.walk.now in
     let t = c.args.track.now in
     let old = c.in-Some.cursor.now in
-    let d = c.advance.new.self in
+    let d = c.advance_for.new.self in
     let new : Walk = record w { cursor = Some d; frames = w.frames + c.frames_of.result; placed = c.place_block.new.placed } in
     let at = turns.at-track f c.args.links.now w t old c.requires.ready c.requires.here (sym c.in-Some.ensures.value) in
     let reads : turns.Reads c.args.links.now t w new old d = record { at = c.requires.here; same = refl; before = sym c.in-Some.ensures.value; now = refl } in
-    turns.reads-pays f c.args.scale c.args.links.now t w new old d reads at.1 (g.R.Reads.octets_read c.args.src.now) (g.R.Reads.octets_read c.advance.new.src) c.in_ok-advance.ensures.spends.pays c.in_ok-advance.ensures.spends.most
+    turns.reads-pays f c.args.scale c.args.links.now t w new old d reads at.1 (g.R.Reads.octets_read c.args.src.now) (g.R.Reads.octets_read c.advance_for.new.src) c.in_ok-advance_for.ensures.spends.pays c.in_ok-advance_for.ensures.spends.most
 
 pub returns-then-place_block-clause-gives : goal.returns-then-place_block-clause-gives
 returns-then-place_block-clause-gives g c = λ told.
@@ -145,12 +150,17 @@ returns-then-place_block-clause-gives g c = λ told.
     let w = c.args.walk.now in
     let t = c.args.track.now in
     let old = c.in-Some.cursor.now in
-    let d = c.advance.new.self in
+    let d = c.advance_for.new.self in
     let new : Walk = record w { cursor = Some d; frames = w.frames + c.frames_of.result; placed = c.place_block.new.placed; greatest = c.place_block.new.placed.head.order } in
     let at = turns.at-track f c.args.links.now w t old c.requires.ready c.requires.here (sym c.in-Some.ensures.value) in
     let reads : turns.Reads c.args.links.now t w new old d = record { at = c.requires.here; same = refl; before = sym c.in-Some.ensures.value; now = refl } in
-    let gives = turns.cursor-gives f c.args.links.now w.at t old d (Ok c.in_ok-advance.field-0) told c.requires.here at.1 c.in_ok-advance.ensures.gives in
-    turns.turns-gives f c.args.scale c.args.links.now t w new old d reads (block_of d.block) (ap (λ (n : ℕ). w.frames + n) c.frames_of.ensures.exact) refl refl (rw c.in-Block.is at gives) (rw c.if-place_block.true at c.place_block.ensures.becomes) refl
+    let gives = turns.cursor-gives f c.args.links.now w.at t old d (Ok c.in_ok-advance_for.field-0) told c.requires.here at.1 c.in_ok-advance_for.ensures.gives in
+    let given = rw c.in-Block.is at gives in
+    let same = turns.known-same t given.given d.block given.known in
+    let lent = track_lent t d.block c.place_block.new.placed in
+    let becomes : IsPlaced (track_placed c.args.scale t w.frames (block_of d.block)) w.greatest lent = rw c.if-place_block.true at c.place_block.ensures.becomes in
+    turns.turns-gives f c.args.scale c.args.links.now t w new old d reads given.given (ap (λ (n : ℕ). w.frames + n) (c.frames_of.ensures.exact ∙ sym same.frames)) refl refl given.left
+    (subst (λ (bs : List OutputBlock). IsPlaced bs w.greatest lent) (sym (same.placed c.args.scale w.frames)) becomes) refl
 
 pub returns-then-place_block-clause-moves : goal.returns-then-place_block-clause-moves
 returns-then-place_block-clause-moves g c =
@@ -158,14 +168,14 @@ returns-then-place_block-clause-moves g c =
     let w = c.args.walk.now in
     let t = c.args.track.now in
     let old = c.in-Some.cursor.now in
-    let d = c.advance.new.self in
+    let d = c.advance_for.new.self in
     let new : Walk = record w { cursor = Some d; frames = w.frames + c.frames_of.result; placed = c.place_block.new.placed; greatest = c.place_block.new.placed.head.order } in
     let reads : turns.Reads c.args.links.now t w new old d = record { at = c.requires.here; same = refl; before = sym c.in-Some.ensures.value; now = refl } in
-    let moves = c.in_ok-advance.ensures.moves in
+    let moves = c.in_ok-advance_for.ensures.moves in
     record {
       on = turns.reads-on c.args.links.now t w new old d reads (rw c.in-Block.is at moves.on) moves.inside moves.same.end;
       lends = turns.lends-here c.args.scale c.args.links.now new (track_lent t d.block c.place_block.new.placed) (turns.lent-here c.args.links.now t w new old d reads)
-          ((rw c.if-place_block.true at c.place_block.ensures.lent) (rw c.in-Block.is at moves.lends)) (rw c.if-place_block.true at c.place_block.ensures.ticks) refl;
+          ((rw c.if-place_block.true at c.place_block.ensures.lent) ((rw c.in-Block.is at moves.lends) (rw c.if-place_block.true at c.place_block.ensures.own))) (rw c.if-place_block.true at c.place_block.ensures.ticks) refl;
     }
 
 pub returns-then-place_block-clause-pays : goal.returns-then-place_block-clause-pays
@@ -174,11 +184,11 @@ returns-then-place_block-clause-pays g c =
     let w = c.args.walk.now in
     let t = c.args.track.now in
     let old = c.in-Some.cursor.now in
-    let d = c.advance.new.self in
+    let d = c.advance_for.new.self in
     let new : Walk = record w { cursor = Some d; frames = w.frames + c.frames_of.result; placed = c.place_block.new.placed; greatest = c.place_block.new.placed.head.order } in
     let at = turns.at-track f c.args.links.now w t old c.requires.ready c.requires.here (sym c.in-Some.ensures.value) in
     let reads : turns.Reads c.args.links.now t w new old d = record { at = c.requires.here; same = refl; before = sym c.in-Some.ensures.value; now = refl } in
-    turns.reads-pays f c.args.scale c.args.links.now t w new old d reads at.1 (g.R.Reads.octets_read c.args.src.now) (g.R.Reads.octets_read c.advance.new.src) c.in_ok-advance.ensures.spends.pays c.in_ok-advance.ensures.spends.most
+    turns.reads-pays f c.args.scale c.args.links.now t w new old d reads at.1 (g.R.Reads.octets_read c.args.src.now) (g.R.Reads.octets_read c.advance_for.new.src) c.in_ok-advance_for.ensures.spends.pays c.in_ok-advance_for.ensures.spends.most
 
 -- ---- a damage
 
@@ -193,11 +203,11 @@ returns-after-stopped-clause-gives g c = λ told.
     let w = c.args.walk.now in
     let t = c.args.track.now in
     let old = c.in-Some.cursor.now in
-    let d = c.advance.new.self in
+    let d = c.advance_for.new.self in
     let new : Walk = record w { cursor = Some d; stopped = c.if-stopped.walk; told = with_item w.told w.at c.add.new.self } in
     let at = turns.at-track f c.args.links.now w t old c.requires.ready c.requires.here (sym c.in-Some.ensures.value) in
     let reads : turns.Reads c.args.links.now t w new old d = record { at = c.requires.here; same = refl; before = sym c.in-Some.ensures.value; now = refl } in
-    let gives = turns.cursor-gives f c.args.links.now w.at t old d (Ok c.in_ok-advance.field-0) told c.requires.here at.1 c.in_ok-advance.ensures.gives in
+    let gives = turns.cursor-gives f c.args.links.now w.at t old d (Ok c.in_ok-advance_for.field-0) told c.requires.here at.1 c.in_ok-advance_for.ensures.gives in
     let stopped : c.if-stopped.walk ≡ (d.stopped || w.stopped) = elim c.if-stopped.branch [
       | then-stopped v ↦ v.walk-is ∙ v.if-stopped.true ∙ ap (λ (b : Bool). b || w.stopped) (sym v.if-stopped.true ∙ c.stopped.ensures)
       | else-stopped v ↦ v.walk-is ∙ ap (λ (b : Bool). b || w.stopped) (sym v.if-stopped.false ∙ c.stopped.ensures)
@@ -214,10 +224,10 @@ returns-after-stopped-clause-moves g c =
     let w = c.args.walk.now in
     let t = c.args.track.now in
     let old = c.in-Some.cursor.now in
-    let d = c.advance.new.self in
+    let d = c.advance_for.new.self in
     let new : Walk = record w { cursor = Some d; stopped = c.if-stopped.walk; told = with_item w.told w.at c.add.new.self } in
     let reads : turns.Reads c.args.links.now t w new old d = record { at = c.requires.here; same = refl; before = sym c.in-Some.ensures.value; now = refl } in
-    let moves = c.in_ok-advance.ensures.moves in
+    let moves = c.in_ok-advance_for.ensures.moves in
     record {
       on = turns.reads-on c.args.links.now t w new old d reads (rw c.in-Damaged.is at moves.on) moves.inside moves.same.end;
       lends = tt;
@@ -229,11 +239,11 @@ returns-after-stopped-clause-pays g c =
     let w = c.args.walk.now in
     let t = c.args.track.now in
     let old = c.in-Some.cursor.now in
-    let d = c.advance.new.self in
+    let d = c.advance_for.new.self in
     let new : Walk = record w { cursor = Some d; stopped = c.if-stopped.walk; told = with_item w.told w.at c.add.new.self } in
     let at = turns.at-track f c.args.links.now w t old c.requires.ready c.requires.here (sym c.in-Some.ensures.value) in
     let reads : turns.Reads c.args.links.now t w new old d = record { at = c.requires.here; same = refl; before = sym c.in-Some.ensures.value; now = refl } in
-    turns.reads-pays f c.args.scale c.args.links.now t w new old d reads at.1 (g.R.Reads.octets_read c.args.src.now) (g.R.Reads.octets_read c.advance.new.src) c.in_ok-advance.ensures.spends.pays c.in_ok-advance.ensures.spends.most
+    turns.reads-pays f c.args.scale c.args.links.now t w new old d reads at.1 (g.R.Reads.octets_read c.args.src.now) (g.R.Reads.octets_read c.advance_for.new.src) c.in_ok-advance_for.ensures.spends.pays c.in_ok-advance_for.ensures.spends.most
 
 -- ---- the end
 
@@ -248,7 +258,7 @@ returns-in-End-clause-gives g c = λ told.
     let old = c.in-Some.cursor.now in
     let has = has-left (length c.args.links.now) w c.leave.new.self c.leave.ensures in
     let at = turns.at-track f c.args.links.now w t old c.requires.ready c.requires.here (sym c.in-Some.ensures.value) in
-    let gives = turns.cursor-gives f c.args.links.now w.at t old c.advance.new.self (Ok c.in_ok-advance.field-0) told c.requires.here at.1 c.in_ok-advance.ensures.gives in
+    let gives = turns.cursor-gives f c.args.links.now w.at t old c.advance_for.new.self (Ok c.in_ok-advance_for.field-0) told c.requires.here at.1 c.in_ok-advance_for.ensures.gives in
     let before : w.at < length c.args.links.now = slice_get_within c.args.links.now w.at (Track t) c.requires.here in
     let inside : w.at < length w.told.items = omega (arith, c.requires.ready.told) in
     let r = turns.element-at w.told.items w.at inside in
@@ -269,22 +279,22 @@ returns-in-End-clause-pays g c =
     let old = c.in-Some.cursor.now in
     let has = has-left (length c.args.links.now) w c.leave.new.self c.leave.ensures in
     let at = turns.at-track f c.args.links.now w t old c.requires.ready c.requires.here (sym c.in-Some.ensures.value) in
-    turns.ends-pays f c.args.scale c.args.links.now t w c.leave.new.self old c.requires.here (sym c.in-Some.ensures.value) has c.advance.new.self at.1 (g.R.Reads.octets_read c.args.src.now) (g.R.Reads.octets_read c.advance.new.src) c.in_ok-advance.ensures.spends.pays c.in_ok-advance.ensures.spends.most
+    turns.ends-pays f c.args.scale c.args.links.now t w c.leave.new.self old c.requires.here (sym c.in-Some.ensures.value) has c.advance_for.new.self at.1 (g.R.Reads.octets_read c.args.src.now) (g.R.Reads.octets_read c.advance_for.new.src) c.in_ok-advance_for.ensures.spends.pays c.in_ok-advance_for.ensures.spends.most
 
 -- ---- where it stands then
 
-pub returns-in_err-advance-clause-ready : goal.returns-in_err-advance-clause-ready
-returns-in_err-advance-clause-ready g c =
+pub returns-in_err-advance_for-clause-ready : goal.returns-in_err-advance_for-clause-ready
+returns-in_err-advance_for-clause-ready g c =
     let f = live_files g.R.Reads c.args.src.now in
     let w = c.args.walk.now in
     let t = c.args.track.now in
     let old = c.in-Some.cursor.now in
-    let d = c.advance.new.self in
+    let d = c.advance_for.new.self in
     let new : Walk = record w { cursor = Some d } in
     let at = turns.at-track f c.args.links.now w t old c.requires.ready c.requires.here (sym c.in-Some.ensures.value) in
     let reads : turns.Reads c.args.links.now t w new old d = record { at = c.requires.here; same = refl; before = sym c.in-Some.ensures.value; now = refl } in
     let few : w.frames ≤ 256 * old.place.at = turns.few-counted f c.args.links.now w old c.requires.ready (sym c.in-Some.ensures.value) in
-    turns.ready-reads c.args.links.now t w new old d reads f (live_files g.R.Reads c.advance.new.src) (ap g.R.Reads.files c.in_err-advance.ensures.standing) c.requires.ready c.in_err-advance.ensures.stands (c.in_err-advance.ensures.moves.same.file ∙ at.1) refl (omega (arith, few, c.in_err-advance.ensures.moves.same.forwards))
+    turns.ready-reads c.args.links.now t w new old d reads f (live_files g.R.Reads c.advance_for.new.src) (ap g.R.Reads.files c.in_err-advance_for.ensures.standing) c.requires.ready c.in_err-advance_for.ensures.stands (c.in_err-advance_for.ensures.moves.same.file ∙ at.1) refl (omega (arith, few, c.in_err-advance_for.ensures.moves.same.forwards))
 
 pub returns-else-place_block-clause-ready : goal.returns-else-place_block-clause-ready
 returns-else-place_block-clause-ready g c =
@@ -292,13 +302,13 @@ returns-else-place_block-clause-ready g c =
     let w = c.args.walk.now in
     let t = c.args.track.now in
     let old = c.in-Some.cursor.now in
-    let d = c.advance.new.self in
+    let d = c.advance_for.new.self in
     let new : Walk = record w { cursor = Some d; frames = w.frames + c.frames_of.result; placed = c.place_block.new.placed } in
     let at = turns.at-track f c.args.links.now w t old c.requires.ready c.requires.here (sym c.in-Some.ensures.value) in
     let reads : turns.Reads c.args.links.now t w new old d = record { at = c.requires.here; same = refl; before = sym c.in-Some.ensures.value; now = refl } in
     let few : w.frames ≤ 256 * old.place.at = turns.few-counted f c.args.links.now w old c.requires.ready (sym c.in-Some.ensures.value) in
-    let on : old.place.at < d.place.at = rw c.in-Block.is at c.in_ok-advance.ensures.moves.on in
-    turns.ready-reads c.args.links.now t w new old d reads f (live_files g.R.Reads c.advance.new.src) (ap g.R.Reads.files c.in_ok-advance.ensures.standing) c.requires.ready c.in_ok-advance.ensures.stands (c.in_ok-advance.ensures.moves.same.file ∙ at.1) refl (omega (arith, few, on, c.frames_of.ensures.few))
+    let on : old.place.at < d.place.at = rw c.in-Block.is at c.in_ok-advance_for.ensures.moves.on in
+    turns.ready-reads c.args.links.now t w new old d reads f (live_files g.R.Reads c.advance_for.new.src) (ap g.R.Reads.files c.in_ok-advance_for.ensures.standing) c.requires.ready c.in_ok-advance_for.ensures.stands (c.in_ok-advance_for.ensures.moves.same.file ∙ at.1) refl (omega (arith, few, on, c.frames_of.ensures.few))
 
 pub returns-then-place_block-clause-ready : goal.returns-then-place_block-clause-ready
 returns-then-place_block-clause-ready g c =
@@ -306,13 +316,13 @@ returns-then-place_block-clause-ready g c =
     let w = c.args.walk.now in
     let t = c.args.track.now in
     let old = c.in-Some.cursor.now in
-    let d = c.advance.new.self in
+    let d = c.advance_for.new.self in
     let new : Walk = record w { cursor = Some d; frames = w.frames + c.frames_of.result; placed = c.place_block.new.placed; greatest = c.place_block.new.placed.head.order } in
     let at = turns.at-track f c.args.links.now w t old c.requires.ready c.requires.here (sym c.in-Some.ensures.value) in
     let reads : turns.Reads c.args.links.now t w new old d = record { at = c.requires.here; same = refl; before = sym c.in-Some.ensures.value; now = refl } in
     let few : w.frames ≤ 256 * old.place.at = turns.few-counted f c.args.links.now w old c.requires.ready (sym c.in-Some.ensures.value) in
-    let on : old.place.at < d.place.at = rw c.in-Block.is at c.in_ok-advance.ensures.moves.on in
-    turns.ready-reads c.args.links.now t w new old d reads f (live_files g.R.Reads c.advance.new.src) (ap g.R.Reads.files c.in_ok-advance.ensures.standing) c.requires.ready c.in_ok-advance.ensures.stands (c.in_ok-advance.ensures.moves.same.file ∙ at.1) refl (omega (arith, few, on, c.frames_of.ensures.few))
+    let on : old.place.at < d.place.at = rw c.in-Block.is at c.in_ok-advance_for.ensures.moves.on in
+    turns.ready-reads c.args.links.now t w new old d reads f (live_files g.R.Reads c.advance_for.new.src) (ap g.R.Reads.files c.in_ok-advance_for.ensures.standing) c.requires.ready c.in_ok-advance_for.ensures.stands (c.in_ok-advance_for.ensures.moves.same.file ∙ at.1) refl (omega (arith, few, on, c.frames_of.ensures.few))
 
 pub returns-after-stopped-clause-ready : goal.returns-after-stopped-clause-ready
 returns-after-stopped-clause-ready g c =
@@ -320,12 +330,12 @@ returns-after-stopped-clause-ready g c =
     let w = c.args.walk.now in
     let t = c.args.track.now in
     let old = c.in-Some.cursor.now in
-    let d = c.advance.new.self in
+    let d = c.advance_for.new.self in
     let new : Walk = record w { cursor = Some d; stopped = c.if-stopped.walk; told = with_item w.told w.at c.add.new.self } in
     let at = turns.at-track f c.args.links.now w t old c.requires.ready c.requires.here (sym c.in-Some.ensures.value) in
     let reads : turns.Reads c.args.links.now t w new old d = record { at = c.requires.here; same = refl; before = sym c.in-Some.ensures.value; now = refl } in
     let few : w.frames ≤ 256 * old.place.at = turns.few-counted f c.args.links.now w old c.requires.ready (sym c.in-Some.ensures.value) in
-    turns.ready-reads c.args.links.now t w new old d reads f (live_files g.R.Reads c.advance.new.src) (ap g.R.Reads.files c.in_ok-advance.ensures.standing) c.requires.ready c.in_ok-advance.ensures.stands (c.in_ok-advance.ensures.moves.same.file ∙ at.1) (length-set w.told.items w.at c.add.new.self) (omega (arith, few, c.in_ok-advance.ensures.moves.same.forwards))
+    turns.ready-reads c.args.links.now t w new old d reads f (live_files g.R.Reads c.advance_for.new.src) (ap g.R.Reads.files c.in_ok-advance_for.ensures.standing) c.requires.ready c.in_ok-advance_for.ensures.stands (c.in_ok-advance_for.ensures.moves.same.file ∙ at.1) (length-set w.told.items w.at c.add.new.self) (omega (arith, few, c.in_ok-advance_for.ensures.moves.same.forwards))
 
 -- the sum fits: no file is longer than 2^48 octets, and a block has at most 256 frames and at least an octet
 pub overflow_add-walk : goal.overflow_add-walk
@@ -335,6 +345,6 @@ overflow_add-walk g c =
     let old = c.in-Some.cursor.now in
     let few : w.frames ≤ 256 * old.place.at = turns.few-counted f c.args.links.now w old c.requires.ready (sym c.in-Some.ensures.value) in
     let at = turns.at-track f c.args.links.now w c.args.track.now old c.requires.ready c.requires.here (sym c.in-Some.ensures.value) in
-    let forwards : old.place.at ≤ c.advance.new.self.place.at = c.in_ok-advance.ensures.moves.same.forwards in
+    let forwards : old.place.at ≤ c.advance_for.new.self.place.at = c.in_ok-advance_for.ensures.moves.same.forwards in
     let short : f.size old.file.n ≤ LONGEST_FILE = g.met.R.Reads.short c.args.src.now old.file.n at.0.live in
-    omega (arith, few, forwards, short, at.0.inside, c.in_ok-advance.ensures.moves.inside, c.in_ok-advance.ensures.moves.same.end, c.frames_of.ensures.few)
+    omega (arith, few, forwards, short, at.0.inside, c.in_ok-advance_for.ensures.moves.inside, c.in_ok-advance_for.ensures.moves.same.end, c.frames_of.ensures.few)
