@@ -1,42 +1,77 @@
-"""What a program takes: its processor time, its memory and its calls of the system."""
+"""What a program takes: time, memory, calls of the system, octets that are read and written."""
 import collections
 import os
+import re
 import shutil
 import subprocess
+import tempfile
+import time
+import typing
+
+READING = ("read", "pread64", "readv", "preadv")
+WRITING = ("write", "pwrite64", "writev", "pwritev")
+# these read and write in one
+COPYING = ("copy_file_range", "sendfile")
+# a call's name and what it answered, where it isn't cut in two by another thread's; a call is counted where it ends
+ENDED = re.compile(r"^\d* *(?:<\.\.\. )?(\w+)(?:\(| resumed>).*?(?:= (-?\d+)\D*|= \?.*)?$")
 
 
-def measure(words):
-    """Processor seconds, user and system, and the most memory in KiB: the least of five runs."""
-    best = None
-    for _ in range(5):
-        # forked by GNU time, which is small: a child of this interpreter counts its memory too
-        run = subprocess.run(["/usr/bin/time", "-q", "-f", "%U %S %M", *words], stdout=subprocess.DEVNULL, stderr=subprocess.PIPE, text=True)
-        if run.returncode:
-            return None
-        user, system, memory = run.stderr.split()[-3:]
-        now = (float(user) + float(system), float(user), float(system), int(memory))
-        best = min(best, now) if best else now
-    return best
+class Time(typing.NamedTuple):
+    """One run: seconds by the clock, processor seconds of user and system, octets that came from the disk, and the status."""
+    wall: float
+    processor: float
+    from_disk: int
+    status: int
+
+
+def timed(words):
+    """One run of a program, which says nothing."""
+    begun = time.perf_counter()
+    ran = subprocess.Popen(words, stdin=subprocess.DEVNULL, stdout=subprocess.DEVNULL, stderr=subprocess.DEVNULL)
+    _, status, used = os.wait4(ran.pid, 0)
+    wall = time.perf_counter() - begun
+    ran.returncode = os.waitstatus_to_exitcode(status)
+    return Time(wall, used.ru_utime + used.ru_stime, used.ru_inblock * 512, ran.returncode)
+
+
+def memory(words):
+    """The most memory in KiB, by GNU time: forked by an interpreter a program would have the interpreter's memory counted, too."""
+    if not os.path.exists("/usr/bin/time"):
+        return None
+    run = subprocess.run(["/usr/bin/time", "-q", "-f", "%M", *words], stdout=subprocess.DEVNULL, stderr=subprocess.PIPE, text=True)
+    return int(run.stderr.split()[-1])
+
+
+class Calls(typing.NamedTuple):
+    """How many calls of the system, the most frequent by their names, and the octets that they read and wrote."""
+    count: int
+    names: list
+    read: int
+    written: int
 
 
 def calls(words):
-    """The calls of the system, by their names, the most frequent first."""
+    """The calls of the system in one run, by strace, which slows it much."""
     if not shutil.which("strace"):
-        return ""
-    run = subprocess.run(["strace", "-f", "-c", "-o", "/dev/stdout", *words], capture_output=True, text=True)
-    counts = collections.Counter()
-    for line in run.stdout.splitlines():
-        parts = line.split()
-        if len(parts) >= 5 and parts[3].isdigit() and parts[-1] != "total":
-            counts[parts[-1]] += int(parts[3])
-    return ", ".join(f"{n} {name}" for name, n in counts.most_common(4))
+        return None
+    counts, octets = collections.Counter(), collections.Counter()
+    with tempfile.NamedTemporaryFile("r", errors="replace") as trace:
+        traced = ["strace", "-f", "-qq", "-s", "0", "-e", "signal=none", "-o", trace.name, *words]
+        subprocess.run(traced, stdin=subprocess.DEVNULL, stdout=subprocess.DEVNULL, stderr=subprocess.DEVNULL)
+        for line in trace:
+            found = ENDED.match(line)
+            if found and "<unfinished" not in line:
+                counts[found[1]] += 1
+                octets[found[1]] += max(int(found[2] or 0), 0)
+    taken = (sum(octets[name] for name in (*those, *COPYING)) for those in (READING, WRITING))
+    return Calls(counts.total(), counts.most_common(4), *taken)
 
 
-def show(title, words, out):
-    """A line of what these words take, and the output removed."""
-    used = measure(words)
-    if used is None:
-        print(f"{title}: failed")
-        return
-    print(f"{title}: {used[0]:.2f} s ({used[1]:.2f} user, {used[2]:.2f} system), {used[3] / 1024:.1f} MiB; {calls(words)}")
-    os.remove(out)
+def give_up(path):
+    """Has the system forget what it holds of a file, so that the next one reads it from the disk."""
+    file = os.open(path, os.O_RDONLY)
+    try:
+        os.fdatasync(file)
+        os.posix_fadvise(file, 0, 0, os.POSIX_FADV_DONTNEED)
+    finally:
+        os.close(file)

@@ -1,0 +1,108 @@
+"""A drawing, as SVG, of what tools/bench has taken: bars beside those of `cp` and of the peers, and how times grow."""
+
+WIDTH, LEFT, BAR, GAP, NARROW = 900, 210, 11, 7, 390
+COLOURS = {"mkvsuite": "#2f5d8a", "cp": "#999999", "ffmpeg": "#c98a2b"}
+OTHER = "#7aa35a"
+HEAD = '<svg xmlns="http://www.w3.org/2000/svg" viewBox="0 0 {} {}" font-family="sans-serif" font-size="11">'
+STYLE = ("<style>.h{font-size:14px;font-weight:bold}.a{stroke:#bbb;fill:none}.r{text-anchor:end}.m{text-anchor:middle}"
+         "polyline{fill:none;stroke-width:2}</style>")
+
+
+def colour(who):
+    return COLOURS.get(who, OTHER)
+
+
+def text(x, y, words, kind=""):
+    words = words.replace("&", "&amp;").replace("<", "&lt;")
+    return f'<text x="{x:.1f}" y="{y:.1f}"' + (f' class="{kind}"' if kind else "") + f">{words}</text>"
+
+
+def rect(x, y, width, height, fill):
+    return f'<rect x="{x:.1f}" y="{y:.1f}" width="{width:.1f}" height="{height:.1f}" fill="{fill}"/>'
+
+
+def legend(rows, y):
+    """The programs and their colours; all of mkvtoolnix have one."""
+    names = dict.fromkeys(row["who"] if row["who"] in COLOURS else "mkvtoolnix" for row in rows)
+    return [rect(LEFT + 120 * k, y - 9, 10, 10, colour(name)) + text(LEFT + 120 * k + 15, y, name) for k, name in enumerate(names)]
+
+
+# ---- bars
+
+def by_work(rows):
+    """The rows of each work, in their order."""
+    works = {}
+    for row in rows:
+        works.setdefault(row["what"], []).append(row)
+    return works
+
+
+def bars(title, rows, value, form, y):
+    """A bar for each row, those of one work together; what is drawn, and where it ends."""
+    most = max(map(value, rows))
+    drawn = [text(12, y, title, "h")]
+    y += 10
+    for work, those in by_work(rows).items():
+        drawn.append(text(LEFT - 8, y + BAR * len(those) / 2 + 4, work, "r"))
+        for row in those:
+            length = (WIDTH - LEFT - 70) * value(row) / most
+            drawn += [rect(LEFT, y, length, BAR - 1, colour(row["who"])), text(LEFT + length + 5, y + BAR - 2, format(value(row), form))]
+            y += BAR
+        y += GAP
+    return drawn, y + 30
+
+
+def beside_copy(rows, y):
+    """Wall times on the film as ratios to that of `cp`."""
+    films = [row for row in rows if row["of"] == "film" and not row["cold"]]
+    copy = next(min(row["wall"]) for row in films if row["who"] == "cp")
+    return bars("A film: the least time by the clock, in times of cp", films, lambda row: min(row["wall"]) / copy, ".2f", y)
+
+
+def in_memory(rows, y):
+    """The memory of all work but that on fewer small blocks and lanes."""
+    most = {begin: max((row["number"] for row in rows if begin in row["what"]), default=0) for begin in ("blocks", "lanes")}
+    known = [row for row in rows if row.get("memory") and row["who"] != "cp" and row["number"] in (0, *most.values())]
+    return bars("The most memory, in MiB", known, lambda row: row["memory"] / 1024, ".1f", y) if known else ([], y)
+
+
+# ---- growth
+
+def frame(title, below, left, y, points, most):
+    """The axes: the numbers below, and the most seconds."""
+    drawn = [text(left, y, title, "h"), f'<path class="a" d="M{left} {y + 16}v170h{NARROW}"/>', text(left + 5, y + 26, f"{most:.2f} s")]
+    drawn += [text(left + x, y + 200, f"{number:,}", "m") for number, x in points.items()]
+    return [*drawn, text(left + NARROW / 2, y + 216, below, "m")]
+
+
+def growth(title, below, rows, left, y, even):
+    """A line for each program: processor seconds over the number of blocks, or of lanes, which stand at even distances."""
+    numbers = sorted({row["number"] for row in rows})
+    place = lambda k, number: (k + 1) / len(numbers) if even else number / numbers[-1]
+    points = {number: (NARROW - 30) * place(k, number) for k, number in enumerate(numbers)}
+    most = max(min(row["processor"]) for row in rows)
+    drawn = frame(title, below, left, y, points, most)
+    for who in dict.fromkeys(row["who"] for row in rows):
+        those = sorted((row["number"], min(row["processor"])) for row in rows if row["who"] == who)
+        line = " ".join(f"{left + points[number]:.1f},{y + 186 - 165 * seconds / most:.1f}" for number, seconds in those)
+        drawn.append(f'<polyline stroke="{colour(who)}" points="{line}"/>')
+    return drawn
+
+
+def growths(rows, y):
+    """Growth with the number of small blocks, beside growth with the lanes that have as many blocks together."""
+    drawn = []
+    for left, of, even in ((12, "blocks", False), (480, "lanes", True)):
+        those = [row for row in rows if of in row["what"] and row["number"]]
+        drawn += growth(f"Processor time by {of}", of, those, left, y, even) if those else []
+    return drawn, y + 240
+
+
+def drawing(rows):
+    """The whole drawing."""
+    rows, y = [row for row in rows if row["good"]], 50
+    parts = legend(rows, 20)
+    for panel in (beside_copy, in_memory, growths):
+        more, y = panel(rows, y)
+        parts += more
+    return "\n".join([HEAD.format(WIDTH, y), STYLE, *parts, "</svg>\n"])
