@@ -9,14 +9,14 @@ use Rattle.mkv_args.specs.declared.commands.Verb.TheVariants as verb
 use Rattle.mkv_args.specs.Commands.{commands}
 use Rattle.mkv_args.specs.Extract.{modes}
 use Rattle.mkv_args.specs.Propedit.{steps}
-use Rattle.mkv_args.specs.Help.{usage_lines, values, joins, merge_values, forms, sections, properties, statuses}
+use Rattle.mkv_args.specs.Help.{usage_lines, joins, merge_values, forms, sections, properties, statuses, text_of, examples_of, first_lines, first_examples, page}
 
 abbrev is_narrow : List ℕ → Bool
 is_narrow line = nat_le (length line) 80
 
 -- no line is longer than 80 characters
 pub lines_narrow : (about : Option Verb) → AllPass (λ (line : List ℕ). nat_le (length line) 80) (usage_lines about)
-unfolding usage_lines commands modes steps table values joins merge_values forms sections properties statuses
+unfolding usage_lines commands modes steps table joins merge_values forms sections properties statuses text_of examples_of first_lines first_examples page
 lines_narrow None = AllPass-from_list_all is_narrow (usage_lines None) refl
 lines_narrow (Some verb.Info) = AllPass-from_list_all is_narrow (usage_lines (Some verb.Info)) refl
 lines_narrow (Some verb.Merge) = AllPass-from_list_all is_narrow (usage_lines (Some verb.Merge)) refl

@@ -11,7 +11,7 @@ commands =
     entry (codes "") (codes "extract") verb.Extract (codes "FILE MODE") (codes "take tracks or other parts out of a file") ∷
     entry (codes "") (codes "propedit") verb.Propedit (codes "FILE SECTIONS") (codes "change properties in place") ∷
     entry (codes "") (codes "recover") verb.Recover (codes "FILE") (codes "finish an edit that was stopped") ∷
-    entry (codes "") (codes "reindex") verb.Reindex (codes "FILE") (codes "write the Cues and the SeekHead anew (not built)") ∷
-    entry (codes "") (codes "generate") verb.Generate (codes "N PREFIX") (codes "make two files for trials (not built)") ∷
+    entry (codes "") (codes "reindex") verb.Reindex (codes "FILE") (codes "write the Cues and the SeekHead anew, in place") ∷
+    entry (codes "") (codes "generate") verb.Generate (codes "N PREFIX") (codes "make two files, and merge and split them") ∷
     entry (codes "") (codes "--help") verb.Help (codes "") (codes "show this, as -h; COMMAND --help shows its part") ∷
     entry (codes "") (codes "--version") verb.Version (codes "") (codes "show the name and the version") ∷ []

@@ -79,16 +79,25 @@ joins = entry (codes "") (codes "+") (tt {0}) (codes "") (codes "append the next
 -- what the placeholders of `merge` stand for
 unfoldable pub merge_values : List (Entry (Unit {0}))
 merge_values =
-    entry (codes "") (codes "IDS") (tt {0}) (codes "") (codes "1,2 for these tracks, !1,2 for all others") ∷
-    entry (codes "") (codes "DELAY") (tt {0}) (codes "") (codes "milliseconds, which may begin with -") ∷
-    entry (codes "") (codes "FLAG") (tt {0}) (codes "") (codes "0 or 1; 1 where it is left out") ∷
-    entry (codes "") (codes "CUES") (tt {0}) (codes "") (codes "none, iframes or all") ∷
-    entry (codes "") (codes "TICK") (tt {0}) (codes "") (codes "nanoseconds, 1000 to 10000000") ∷
-    entry (codes "") (codes "LENGTH") (tt {0}) (codes "") (codes "1 to 65535 blocks, or 100ms to 32000ms") ∷
+    entry (codes "") (codes "IDS") (tt {0}) (codes "") (codes "1,2 for these tracks, '!1,2' for all others") ∷
+    entry (codes "") (codes "ID") (tt {0}) (codes "") (codes "a track, from 0, as info shows it") ∷
+    entry (codes "") (codes "FILE") (tt {0}) (codes "") (codes "a file; of --timestamps a text: the line") ∷
+    entry (codes "") (codes "") (tt {0}) (codes "") (codes "# timestamp format v2, then milliseconds, a") ∷
+    entry (codes "") (codes "") (tt {0}) (codes "") (codes "line a frame, as extract timestamps_v2 writes") ∷
     entry (codes "") (codes "WHERE") (tt {0}) (codes "") (codes "duration:TIME, timestamps:TIME,TIME,..,") ∷
     entry (codes "") (codes "") (tt {0}) (codes "") (codes "chapters:all, chapters:N,N,..,") ∷
-    entry (codes "") (codes "") (tt {0}) (codes "") (codes "parts:TIME-TIME,TIME-TIME,.. or size:N[k, m, g]") ∷
-    entry (codes "") (codes "TIME") (tt {0}) (codes "") (codes "1:02:03, 1:02:03.5 or 90s") ∷
+    entry (codes "") (codes "") (tt {0}) (codes "") (codes "parts:TIME-TIME,TIME-TIME,.. or size:N[k, m, g]:") ∷
+    entry (codes "") (codes "") (tt {0}) (codes "") (codes "at the first key frame behind so many octets") ∷
+    entry (codes "") (codes "TIME") (tt {0}) (codes "") (codes "1:02:03, 0:00:02.5 or 90s") ∷
+    entry (codes "") (codes "DELAY") (tt {0}) (codes "") (codes "milliseconds, as 500 or -500; what would begin") ∷
+    entry (codes "") (codes "") (tt {0}) (codes "") (codes "before 0 is left out") ∷
+    entry (codes "") (codes "LANGUAGE") (tt {0}) (codes "") (codes "three lower-case letters (ISO 639-2), as eng") ∷
+    entry (codes "") (codes "FLAG") (tt {0}) (codes "") (codes "0 or 1; 1 where it is left out") ∷
+    entry (codes "") (codes "CUES") (tt {0}) (codes "") (codes "none, iframes (key frames) or all;") ∷
+    entry (codes "") (codes "") (tt {0}) (codes "") (codes "usual: iframes, of audio none") ∷
+    entry (codes "") (codes "TICK") (tt {0}) (codes "") (codes "1000 to 10000000; usual: 1000000, a millisecond") ∷
+    entry (codes "") (codes "LENGTH") (tt {0}) (codes "") (codes "1 to 65535 blocks, or 100ms to 32000ms;") ∷
+    entry (codes "") (codes "") (tt {0}) (codes "") (codes "usual: 65535 blocks and 5000ms") ∷
     entry (codes "") (codes "UUIDS") (tt {0}) (codes "") (codes "32 hexadecimal digits each, commas between them") ∷ []
 
 abbrev pub all_options : List (List ℕ)
@@ -100,8 +109,10 @@ merge_lines = map (entry_line (codes "  ")) joins ++ all_options ++ headed (code
 -- how `extract tracks` writes frames
 unfoldable pub forms : List (Entry (Unit {0}))
 forms =
-    entry (codes "") (codes "--raw") (tt {0}) (codes "") (codes "the frames, one behind the other") ∷
-    entry (codes "") (codes "--fullraw") (tt {0}) (codes "") (codes "their CodecPrivate, and then the frames") ∷ []
+    entry (codes "") (codes "ID") (tt {0}) (codes "") (codes "a track from 0, as info shows it; an attached") ∷
+    entry (codes "") (codes "") (tt {0}) (codes "") (codes "file from 1, as merge -J shows it") ∷
+    entry (codes "") (codes "--raw") (tt {0}) (codes "") (codes "the frames of any codec, one behind the other") ∷
+    entry (codes "") (codes "--fullraw") (tt {0}) (codes "") (codes "the CodecPrivate, and then the frames") ∷ []
 
 abbrev pub extract_lines : List (List ℕ)
 extract_lines = map (entry_line (codes "  ")) modes ++ headed (codes "  where:") forms
@@ -109,8 +120,9 @@ extract_lines = map (entry_line (codes "  ")) modes ++ headed (codes "  where:")
 -- the sections of `propedit`
 unfoldable pub sections : List (Entry (Unit {0}))
 sections =
-    entry (codes "") (codes "SECTION") (tt {0}) (codes "") (codes "info, track:N, track:=UID, track:@NUMBER,") ∷
-    entry (codes "") (codes "") (tt {0}) (codes "") (codes "or track:vN, track:aN, track:sN by type") ∷ []
+    entry (codes "") (codes "SECTION") (tt {0}) (codes "") (codes "info; track:N, from 1 (info's track 0 is 1);") ∷
+    entry (codes "") (codes "") (tt {0}) (codes "") (codes "track:vN, track:aN, track:sN, of its type;") ∷
+    entry (codes "") (codes "") (tt {0}) (codes "") (codes "track:=UID, track:@NUMBER") ∷ []
 
 -- the properties of `propedit`: the name of each, and its value
 unfoldable pub properties : List (Entry (Unit {0}))
@@ -120,7 +132,8 @@ properties =
     entry (codes "") (codes "muxing-application") (tt {0}) (codes "TEXT") (codes "of info; the library; no --delete") ∷
     entry (codes "") (codes "writing-application") (tt {0}) (codes "TEXT") (codes "of info; the program; no --delete") ∷
     entry (codes "") (codes "name") (tt {0}) (codes "TEXT") (codes "of a track; what it is called") ∷
-    entry (codes "") (codes "language") (tt {0}) (codes "LANGUAGE") (codes "of a track") ∷
+    entry (codes "") (codes "language") (tt {0}) (codes "LANGUAGE") (codes "of a track; eng, .. (where language-ietf stands") ∷
+    entry (codes "") (codes "") (tt {0}) (codes "") (codes "players use that: set or delete it too)") ∷
     entry (codes "") (codes "language-ietf") (tt {0}) (codes "TAG") (codes "of a track; letters, digits and -, up to 63") ∷
     entry (codes "") (codes "codec-id") (tt {0}) (codes "CODEC") (codes "of a track; no --delete") ∷
     entry (codes "") (codes "default-duration") (tt {0}) (codes "N") (codes "of a track; nanoseconds of a frame, from 1") ∷
@@ -136,51 +149,152 @@ properties =
 abbrev pub propedit_lines : List (List ℕ)
 propedit_lines = map (entry_line (codes "  ")) steps ++ headed (codes "  where:") sections ++ headed (codes "  NAME and VALUE:") properties
 
--- the lines below a command's own
+-- the lines of a command's words
 abbrev pub details : Verb → List (List ℕ)
-details verb.Info = []
 details verb.Merge = merge_lines
 details verb.Extract = extract_lines
 details verb.Propedit = propedit_lines
-details verb.Recover = []
-details verb.Reindex = []
-details verb.Generate = []
-details verb.Help = []
-details verb.Version = []
+details _ = []
 
-abbrev pub command_lines : Entry Verb → List (List ℕ)
-command_lines e = entry_line (codes "") e ∷ details e.means
+-- what a command does, between empty lines
+unfoldable pub text_of : Verb → List (List ℕ)
+text_of verb.Info =
+    codes "" ∷
+    codes "Shows the Elements directly inside the Segment, each with its place and the size" ∷
+    codes "of its body in octets, and the tracks; merge -J has titles, names and attached" ∷
+    codes "files, too. Blocks aren't read, so it answers at once." ∷
+    codes "" ∷ []
+text_of verb.Merge =
+    codes "" ∷
+    codes "Joins the tracks of several files in one, or cuts one into parts. Each frame is" ∷
+    codes "written as it was read. Inputs are Matroska, WebM and SubRip (named .srt); the" ∷
+    codes "options for one stand before it. What lies at the output's name is replaced, and" ∷
+    codes "no Duration is written." ∷
+    codes "" ∷ []
+text_of verb.Extract =
+    codes "" ∷
+    codes "Writes what FILE has to files of their own, by one MODE a run." ∷
+    codes "" ∷ []
+text_of verb.Propedit =
+    codes "" ∷
+    codes "Changes properties inside FILE: all edits, or none. What is to be written stands" ∷
+    codes "in FILE.mkvedit before FILE is touched, so where it is stopped, by a power cut" ∷
+    codes "too, recover finishes it." ∷
+    codes "" ∷ []
+text_of verb.Recover =
+    codes "" ∷
+    codes "Finishes an edit of FILE that was stopped, by what stands in FILE.mkvedit; where" ∷
+    codes "none was begun FILE stays as it is. Until then the two belong together. Then one" ∷
+    codes "octet is left of FILE.mkvedit, and it may be removed." ∷
+    codes "" ∷ []
+text_of verb.Reindex =
+    codes "" ∷
+    codes "Writes the index of FILE anew, inside the file: its Cues, with a point for each" ∷
+    codes "key frame of video and each subtitle that is key, and its SeekHead. No block" ∷
+    codes "moves. Where it is stopped, by a power cut too, recover finishes it." ∷
+    codes "" ∷ []
+text_of verb.Generate =
+    codes "" ∷
+    codes "Makes two files for trials, of numbered blocks: PREFIX-a.mkv of N pictures and" ∷
+    codes "PREFIX-b.mkv of 2N sounds. Merges both in PREFIX-m.mkv, and cuts that in parts" ∷
+    codes "of ten seconds, PREFIX-s-001.mkv and on. N is 1 to 100000; the same N gives the" ∷
+    codes "same files everywhere." ∷
+    codes "" ∷ []
+text_of _ = []
 
--- a command is shown where it is asked about, or where all are
-abbrev pub is_shown : Option Verb → Entry Verb → Bool
-is_shown None e = true
-is_shown (Some verb) e = sameb verb_type e.means verb
+-- lines that ask for it
+unfoldable pub examples_of : Verb → List (List ℕ)
+examples_of verb.Info =
+    codes "  examples:" ∷
+    codes "    mkvsuite info film.mkv" ∷ []
+examples_of verb.Merge =
+    codes "  examples:" ∷
+    codes "    mkvsuite merge -o both.mkv film.mkv sound.mkv" ∷
+    codes "    mkvsuite merge -o film.mkv reel-1.mkv + reel-2.mkv" ∷
+    codes "    mkvsuite merge -o part.mkv --split size:700m film.mkv" ∷
+    codes "    mkvsuite merge -o new.mkv -a 1 -y 1:-200 --language 1:fre film.mkv" ∷
+    codes "    mkvsuite merge -o read.mkv film.mkv --language 0:eng lines.srt" ∷
+    codes "    mkvsuite merge -J film.mkv" ∷ []
+examples_of verb.Extract =
+    codes "  examples:" ∷
+    codes "    mkvsuite extract film.mkv tracks 2:lines.srt" ∷
+    codes "    mkvsuite extract film.mkv tracks --raw 0:frames" ∷
+    codes "    mkvsuite extract film.mkv timestamps_v2 0:times.txt" ∷
+    codes "    mkvsuite extract film.mkv attachments 1:font.ttf" ∷
+    codes "    mkvsuite extract film.mkv chapters --simple chapters.txt" ∷ []
+examples_of verb.Propedit =
+    codes "  examples:" ∷
+    codes "    mkvsuite propedit film.mkv -e info -s title=Film" ∷
+    codes "    mkvsuite propedit film.mkv -e track:a1 -s language=fre -s name=Main" ∷
+    codes "    mkvsuite propedit film.mkv -e track:s2 -d name" ∷ []
+examples_of verb.Recover =
+    codes "  examples:" ∷
+    codes "    mkvsuite recover film.mkv" ∷ []
+examples_of verb.Reindex =
+    codes "  examples:" ∷
+    codes "    mkvsuite reindex live.mkv" ∷ []
+examples_of verb.Generate =
+    codes "  examples:" ∷
+    codes "    mkvsuite generate 500 trial" ∷ []
+examples_of _ = []
 
-abbrev pub shown_lines : Option Verb → Entry Verb → List (List ℕ)
-shown_lines about e = if is_shown about e then command_lines e else []
+-- how a command is called
+abbrev pub called : Entry Verb → List ℕ
+called e = codes "usage: mkvsuite " ++ e.long ++ behind e.values
 
--- what the placeholders stand for
-unfoldable pub values : List (Entry (Unit {0}))
-values =
-    entry (codes "") (codes "FILE") (tt {0}) (codes "") (codes "the name of a file") ∷
-    entry (codes "") (codes "TEXT") (tt {0}) (codes "") (codes "any text") ∷
-    entry (codes "") (codes "ID") (tt {0}) (codes "") (codes "a track, from 0") ∷
-    entry (codes "") (codes "LANGUAGE") (tt {0}) (codes "") (codes "three lower-case letters") ∷ []
+-- how it is called, and what it does
+abbrev pub head : Entry Verb → List (List ℕ)
+head e = (called e ∷ []) ++ text_of e.means
+
+-- the page of a command: that, its words, and examples
+unfoldable pub page : Entry Verb → List (List ℕ)
+page e = head e ++ details e.means ++ examples_of e.means
+
+abbrev pub is_about : Verb → Entry Verb → Bool
+is_about verb e = sameb verb_type e.means verb
+
+-- its page, where it is asked about
+abbrev pub page_if : Verb → Entry Verb → List (List ℕ)
+page_if verb e = if is_about verb e then page e else []
 
 -- the exit statuses
 unfoldable pub statuses : List (Entry (Unit {0}))
 statuses =
     entry (codes "") (codes "0") (tt {0}) (codes "") (codes "all is done") ∷
     entry (codes "") (codes "1") (tt {0}) (codes "") (codes "all is done, and a line warns") ∷
-    entry (codes "") (codes "2") (tt {0}) (codes "") (codes "nothing is done, and a line says why") ∷
+    entry (codes "") (codes "2") (tt {0}) (codes "") (codes "nothing is done, and a line says why;") ∷
+    entry (codes "") (codes "") (tt {0}) (codes "") (codes "its word N counts COMMAND as word 0") ∷
     entry (codes "") (codes "3") (tt {0}) (codes "") (codes "there was no memory") ∷
-    entry (codes "") (codes "4") (tt {0}) (codes "") (codes "the files or the output failed") ∷ []
+    entry (codes "") (codes "4") (tt {0}) (codes "") (codes "the files or the output failed: a folder that") ∷
+    entry (codes "") (codes "") (tt {0}) (codes "") (codes "isn't there, no right to write, a full disk") ∷ []
 
--- the lines of `--help`, of one command or of all
+-- lines to begin with
+unfoldable pub first_examples : List (List ℕ)
+first_examples =
+    codes "examples:" ∷
+    codes "    mkvsuite info film.mkv" ∷
+    codes "    mkvsuite merge -o both.mkv film.mkv sound.mkv" ∷
+    codes "    mkvsuite extract film.mkv tracks 2:lines.srt" ∷
+    codes "    mkvsuite propedit film.mkv -e info -s title=Film" ∷ []
+
+unfoldable pub first_lines : List (List ℕ)
+first_lines = codes "usage: mkvsuite COMMAND" ∷ codes "" ∷ []
+
+-- all commands, a line each
+abbrev pub command_lines : List (List ℕ)
+command_lines = first_lines ++ map (entry_line (codes "")) commands
+
+abbrev pub status_lines : List (List ℕ)
+status_lines = codes "" ∷ headed (codes "exit status:") statuses
+
+-- these, the exit statuses, and examples
+abbrev pub overview : List (List ℕ)
+overview = command_lines ++ status_lines ++ first_examples
+
+-- the lines of `--help`: of all commands in short, or of one
 unfoldable pub usage_lines : Option Verb → List (List ℕ)
-usage_lines about =
-    codes "usage: mkvsuite COMMAND" ∷ codes "" ∷ flat_map (shown_lines about) commands ++
-    codes "" ∷ map (entry_line (codes "")) values ++ codes "exit status:" ∷ map (entry_line (codes "  ")) statuses
+usage_lines None = overview
+usage_lines (Some verb) = flat_map (page_if verb) commands
 
 -- the line of `--version`
 abbrev pub version_line : List ℕ

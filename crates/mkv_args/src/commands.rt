@@ -27,8 +27,8 @@ static COMMANDS: [Entry<Verb>; 9] = [
     Entry("", "extract", Verb::Extract, "FILE MODE", "take tracks or other parts out of a file"),
     Entry("", "propedit", Verb::Propedit, "FILE SECTIONS", "change properties in place"),
     Entry("", "recover", Verb::Recover, "FILE", "finish an edit that was stopped"),
-    Entry("", "reindex", Verb::Reindex, "FILE", "write the Cues and the SeekHead anew (not built)"),
-    Entry("", "generate", Verb::Generate, "N PREFIX", "make two files for trials (not built)"),
+    Entry("", "reindex", Verb::Reindex, "FILE", "write the Cues and the SeekHead anew, in place"),
+    Entry("", "generate", Verb::Generate, "N PREFIX", "make two files, and merge and split them"),
     Entry("", "--help", Verb::Help, "", "show this, as -h; COMMAND --help shows its part"),
     Entry("", "--version", Verb::Version, "", "show the name and the version"),
 ];
