@@ -1,7 +1,7 @@
--- What edits write, and where, and what has no room: RFC 9559, sections 5.1 (Segment Element) and 16 (Segment Position). What stays and what moves is this project's.
-use Rattle.std.specs.Prelude.{ℕ, ◌+◌, ◌-◌, ◌==◌, nat_lt, nat_le, max, Bool, ◌||◌, if◌then◌else◌, List, [], ◌∷◌, ◌++◌, length, take, map, filter, flat_map, sum_by, count_by, Option, Some, None, unwrap_or, Result, Ok, Err}
+-- What is written where Elements of level 1 are rewritten, as edits do with Info and Tracks; where it goes, and what has no room: RFC 9559, sections 5.1 (Segment Element) and 16 (Segment Position). What stays and what moves is this project's.
+use Rattle.std.specs.Prelude.{ℕ, ◌+◌, ◌-◌, ◌==◌, nat_lt, nat_le, max, Bool, false, not, ◌&&◌, ◌||◌, if◌then◌else◌, List, [], ◌∷◌, ◌++◌, length, take, map, filter, filter_map, find, flat_map, sum_by, count_by, Option, Some, None, unwrap_or, Result, Ok, Err}
 use Rattle.std.specs.List.{list_any}
-use Rattle.std.specs.Option.{option_map, option_map_or, option_or}
+use Rattle.std.specs.Option.{is_some, option_and_then, option_map, option_map_or, option_or}
 use Rattle.ebml_numbers.specs.Number.{id_octets, size_octets, least_size_width}
 use Rattle.mkv_schema.specs.declared.ids.TheConstants.{INFO, TRACKS, CLUSTER, SEGMENT}
 use Rattle.mkv_io.specs.declared.damage.Damage.{Damage}
@@ -32,23 +32,26 @@ use Rattle.edit_changes.specs.Records.{editable}
 use Rattle.edit_changes.specs.Span.{span_of, void_header, fitted}
 use Rattle.edit_changes.specs.SeekHead.{SeekHeadAt, seek_head_of, seek_head_with}
 
--- ---- the Info and the Tracks that are written anew
+-- ---- the Elements of level 1 that are written anew
 
--- An Info or Tracks that is written anew: where it stands, how many octets it and the Voids behind it have, how many
--- Elements are written of it, itself counted, and the new Element, in its normal form.
+-- An Element of level 1 that is written anew: its ID; where the old one stands, and how many octets that one and the Voids
+-- behind it have, none where it stands nowhere yet; how many Elements are written of it, itself counted; and the new one,
+-- in its normal form, or none where it goes.
 pub record Part : Type 0 where
+  pub id : ℕ
   pub place : ℕ
   pub room : ℕ
   pub nodes : ℕ
-  pub element : Element
+  pub element : Option Element
 
 -- one that stands in a list, with new children
 abbrev pub part : List Header → List Node → Header → Part
 part list nodes h = record {
+  id = h.id;
   place = h.offset;
   room = span_of h list;
   nodes = kept_all (nodes_of nodes) + 1;
-  element = element h.id (flat_map octets nodes);
+  element = Some (element h.id (flat_map octets nodes));
 }
 
 -- the first of an ID, with new children, if it is to be written
@@ -63,19 +66,23 @@ abbrev pub parts : List Header → List Edit → Trees → List Part
 parts list edits t =
     part_of (are_of_info edits) INFO list (info_nodes t.info) ++ part_of (are_of_tracks edits) TRACKS list t.tracks
 
--- It is longer than its room, so it goes to the end of the file.
+-- The new one is longer than its room, so it goes to the end of the file.
 abbrev pub moves : Part → Bool
-moves p = nat_lt p.room (length (octets_of p.element))
+moves p = option_map_or (λ e. nat_lt p.room (length (octets_of e))) p.element false
+
+-- There is an old one.
+abbrev pub stands : Part → Bool
+stands p = nat_lt 0 p.room
 
 abbrev pub moving : List Part → List Part
 moving ps = filter moves ps
 
--- what is written where it stands: itself, or the header of a Void where it moves
+-- what is written where the old one stands: the new one, or the header of a Void where it moves or goes
 abbrev pub in_place : Part → List ℕ
-in_place p = unwrap_or (fitted p.element p.room) (void_header p.room)
+in_place p = unwrap_or (option_and_then (λ e. fitted e p.room) p.element) (void_header p.room)
 
 abbrev pub elements_moving : List Part → List Element
-elements_moving ps = map (λ p. p.element) (moving ps)
+elements_moving ps = filter_map (λ p. p.element) (moving ps)
 
 -- what goes to the end of the file, one behind the other
 abbrev pub appended : List Part → List ℕ
@@ -83,20 +90,23 @@ appended ps = flat_map octets_of (elements_moving ps)
 
 -- ---- the new SeekHead, and the Segment's size
 
--- where an Element will stand in the Segment: among those that move, or where it stands
-abbrev pub position_in : List Seek → ℕ → Header → ℕ
-position_in [] base h = h.offset - base
-position_in (s ∷ ss) base h = if s.id == h.id then s.position else position_in ss base h
+-- An Element of this ID goes.
+abbrev pub goes : List Part → ℕ → Bool
+goes ps id = list_any (λ (p : Part). p.id == id && not (is_some p.element)) ps
 
-abbrev pub seek_to : List Seek → ℕ → Option Header → List Seek
-seek_to moved base None = []
-seek_to moved base (Some h) = record { id = h.id; position = position_in moved base h } ∷ []
+-- the Seek of an Element that stands in a Segment whose body begins at a place
+abbrev pub seek_to : ℕ → Header → Seek
+seek_to base h = record { id = h.id; position = h.offset - base }
 
--- the Seeks of Info and Tracks, each where there is one
-abbrev pub seeks : FileOutline → List Part → List Seek
-seeks o ps =
-    let moved = seeks_from (o.total - o.segment.body) (elements_moving ps) in
-    seek_to moved o.segment.body (first_of INFO o.others) ++ seek_to moved o.segment.body (first_of TRACKS o.others)
+-- the Seek of an ID: that of the Element that is appended, else of the first that stands there, unless it goes
+abbrev pub seek_for : List Seek → FileOutline → List Part → ℕ → Option Seek
+seek_for moved o ps id =
+    option_or (find (λ s. s.id == id) moved)
+    (if goes ps id then None else option_map (seek_to o.segment.body) (first_of id o.others))
+
+-- the Seeks of these IDs, each where there is one
+abbrev pub seeks : List ℕ → FileOutline → List Part → List Seek
+seeks ids o ps = filter_map (seek_for (seeks_from (o.total - o.segment.body) (elements_moving ps)) o ps) ids
 
 -- the octets of a SeekHead and the Voids behind it, none where there is no SeekHead
 abbrev pub room_of : Option SeekHeadAt → List Header → ℕ
@@ -105,9 +115,9 @@ room_of head list = option_map_or (λ s. span_of s.header list) head 0
 abbrev pub place_of : Option SeekHeadAt → ℕ
 place_of head = option_map_or (λ s. s.header.offset) head 0
 
--- the new SeekHead
-abbrev pub seek_head : FileOutline → List Part → Option SeekHeadAt → Element
-seek_head o ps head = seek_head_with (seeks o ps) (option_map_or (λ s. s.seeks) head [])
+-- the new SeekHead, which tells of these IDs
+abbrev pub seek_head : List ℕ → FileOutline → List Part → Option SeekHeadAt → Element
+seek_head ids o ps head = seek_head_with ids (seeks ids o ps) (option_map_or (λ s. s.seeks) head [])
 
 -- how many octets the Segment's size takes, and how many it needs where the Segment ends at a place
 abbrev pub size_width : Header → ℕ
@@ -151,7 +161,7 @@ twin_of list id = if nat_lt 1 (number_of id list) then Some (NoRoom Twin 1 (numb
 -- the first that isn't
 abbrev pub twin_refusal : List Header → List Part → Option Refusal
 twin_refusal list [] = None
-twin_refusal list (p ∷ ps) = option_or (twin_of list p.element.id) (twin_refusal list ps)
+twin_refusal list (p ∷ ps) = option_or (twin_of list p.id) (twin_refusal list ps)
 
 abbrev pub size_refusal : Header → ℕ → Option Refusal
 size_refusal segment end =
@@ -171,8 +181,9 @@ abbrev pub ascending : List Write → List Write
 ascending [] = []
 ascending (w ∷ ws) = inserted w (ascending ws)
 
+-- where the old ones stand
 abbrev pub part_writes : List Part → List Write
-part_writes ps = map (λ p. write p.place (in_place p)) ps
+part_writes ps = map (λ p. write p.place (in_place p)) (filter stands ps)
 
 -- the Segment's size, where it is known and the Segment then ends at a place
 abbrev pub size_writes : Header → ℕ → List Write
@@ -180,14 +191,18 @@ size_writes segment end =
     if is_unknown segment.size then []
     else write (segment.offset + length (id_octets SEGMENT)) (size_octets (end - segment.body) (size_width segment)) ∷ []
 
+-- how many octets are written of the Segment's size
+abbrev pub size_length : Header → ℕ
+size_length segment = if is_unknown segment.size then 0 else size_width segment
+
 -- the most Elements of one that is written anew
 abbrev pub most_nodes : List Part → ℕ
 most_nodes [] = 0
 most_nodes (p ∷ ps) = max p.nodes (most_nodes ps)
 
--- how many octets are written in the places of Info and Tracks
+-- how many octets are written there
 abbrev pub length_in_place : List Part → ℕ
-length_in_place ps = sum_by (λ p. length (in_place p)) ps
+length_in_place ps = sum_by (λ p. length (in_place p)) (filter stands ps)
 
 abbrev pub unless : {A : Type 0} → Option Refusal → A → Result A Refusal
 unless None x = Ok x
@@ -198,7 +213,7 @@ abbrev pub too_large : ℕ → List Part → Option Refusal
 too_large length ps =
     if nat_lt MOST_NODES (most_nodes ps) || nat_lt MOST_WRITTEN length then Some (EditTooLarge length (most_nodes ps)) else None
 
--- nothing moves
+-- the parts alone, each where it stands
 abbrev pub writes_in_place : List Part → Result (List Write) Refusal
 writes_in_place ps = unless (too_large (length_in_place ps) ps) (ascending (part_writes ps))
 
@@ -208,42 +223,49 @@ first_refusal [] = None
 first_refusal (None ∷ rs) = first_refusal rs
 first_refusal (Some r ∷ rs) = Some r
 
--- the octets of the writes where something moves; a SeekHead that isn't there or has no room counts as it is without Voids
+-- the octets of the writes, a new SeekHead among them: one that isn't there or has no room counts as it is without Voids
 abbrev pub length_moving : FileOutline → List Part → Element → ℕ → ℕ
 length_moving o ps seeks room =
     length_in_place ps + length (appended ps) + length (unwrap_or (fitted seeks room) (octets_of seeks))
-    + (if is_unknown o.segment.size then 0 else size_width o.segment)
+    + (if list_any moves ps then size_length o.segment else 0)
 
 -- where the file ends once what moves is appended
 abbrev pub new_end : FileOutline → List Part → ℕ
 new_end o ps = o.total + length (appended ps)
 
--- what refuses it where something moves, in the order in which it is asked
+-- What refuses it, in the order in which it is asked. Where nothing is appended, the ends of the file may be what they are.
 abbrev pub moving_refusals : FileOutline → List Part → Element → ℕ → List (Option Refusal)
 moving_refusals o ps seeks room =
     too_large (length_moving o ps seeks room) ps
-    ∷ tail_refusal o
+    ∷ (if list_any moves ps then tail_refusal o else None)
     ∷ twin_refusal o.others (moving ps)
     ∷ lacks SeekHead (length (octets_of seeks)) room
-    ∷ size_refusal o.segment (new_end o ps) ∷ []
+    ∷ (if list_any moves ps then size_refusal o.segment (new_end o ps) else None) ∷ []
 
--- The Segment's size; the SeekHead, and Info and Tracks, by their places; and what goes to the end of the file.
+-- The SeekHead, and the parts where they stand, by their places; and where something is appended, the Segment's size in
+-- front of them and what goes to the end of the file behind them.
 abbrev pub moving_writes : FileOutline → List Part → Element → ℕ → ℕ → List Write
 moving_writes o ps seeks place room =
-    size_writes o.segment (new_end o ps)
-    ++ ascending (write place (unwrap_or (fitted seeks room) []) ∷ part_writes ps)
-    ++ write o.total (appended ps) ∷ []
+    let middle = ascending (write place (unwrap_or (fitted seeks room) []) ∷ part_writes ps) in
+    if list_any moves ps then size_writes o.segment (new_end o ps) ++ middle ++ write o.total (appended ps) ∷ [] else middle
 
--- something moves, so the SeekHead has to tell where it goes
-abbrev pub writes_moving : FileOutline → List Part → Option SeekHeadAt → Result (List Write) Refusal
-writes_moving o ps head =
-    let seeks = seek_head o ps head in
+-- the parts, and the SeekHead that tells where these IDs are
+abbrev pub writes_moving : List ℕ → FileOutline → List Part → Option SeekHeadAt → Result (List Write) Refusal
+writes_moving ids o ps head =
+    let seeks = seek_head ids o ps head in
     let room = room_of head o.others in
     unless (first_refusal (moving_refusals o ps seeks room)) (moving_writes o ps seeks (place_of head) room)
 
-abbrev pub writes_of_parts : List ℕ → FileOutline → List Part → Result (List Write) Refusal
-writes_of_parts bytes o ps =
-    if list_any moves ps then writes_moving o ps (seek_head_of bytes o) else writes_in_place ps
+-- What is written of parts: with the SeekHead where something moves, or always.
+abbrev pub writes_of_parts : List ℕ → Bool → List ℕ → FileOutline → List Part → Result (List Write) Refusal
+writes_of_parts ids always bytes o ps =
+    if always || list_any moves ps then writes_moving ids o ps (seek_head_of bytes o) else writes_in_place ps
+
+-- ---- what edits write
+
+-- Info and Tracks, of which the SeekHead tells once one of them has moved
+abbrev pub edit_ids : List ℕ
+edit_ids = INFO ∷ TRACKS ∷ []
 
 abbrev pub if_editable : {A : Type 0} → Result A Damage → Result A Refusal
 if_editable (Ok x) = Ok x
@@ -254,7 +276,7 @@ unfoldable pub plan_of : List ℕ → List Edit → Result (List Write) Refusal
 plan_of bytes edits =
     and_then (if_editable (editable bytes)) (λ f.
     and_then (edited_trees edits f.trees) (λ t.
-    writes_of_parts bytes f.outline (parts f.outline.others edits t)))
+    writes_of_parts edit_ids false bytes f.outline (parts f.outline.others edits t)))
 
 -- ---- the edited file, and the record of the edit
 

@@ -1,9 +1,10 @@
--- The SeekHead of a file whose Info or Tracks moves: RFC 9559, sections 5.1.1 (SeekHead Element) and 16 (Segment Position).
-use Rattle.std.specs.Prelude.{ℕ, ◌==◌, nat_lt, Bool, true, false, not, ◌&&◌, ◌||◌, if◌then◌else◌, List, ◌++◌, map, filter, flat_map, Option, Some, None, Result, Ok, Err}
+-- The SeekHead of a file, and the one that is written anew: RFC 9559, sections 5.1.1 (SeekHead Element) and 16 (Segment Position).
+use Rattle.std.specs.Prelude.{ℕ, ◌==◌, nat_lt, Bool, true, false, not, ◌&&◌, if◌then◌else◌, List, ◌++◌, map, filter, flat_map, Option, Some, None, Result, Ok, Err}
+use Rattle.std.specs.List.{list_any}
 use Rattle.std.specs.Option.{option_map_or, option_and_then}
 use Rattle.std.specs.Str.{bytes_eq}
 use Rattle.ebml_numbers.specs.Number.{id_octets}
-use Rattle.mkv_schema.specs.declared.ids.TheConstants.{SEEK_HEAD, SEEK, SEEK_ID, INFO, TRACKS}
+use Rattle.mkv_schema.specs.declared.ids.TheConstants.{SEEK_HEAD, SEEK, SEEK_ID}
 use Rattle.mkv_io.specs.declared.damage.Damage.{Damage}
 use Rattle.mkv_schema.specs.declared.element.Header.{Header}
 use Rattle.mkv_schema.specs.declared.limits.TheConstants.{MOST_OF_ONE}
@@ -48,13 +49,13 @@ abbrev pub is_seek_of : ℕ → Node → Bool
 is_seek_of id n =
     id_of n == SEEK && option_map_or (λ c. bytes_eq (tree.body_of c) (id_octets id)) (first_child SEEK_ID n) false
 
--- neither a Seek of Info nor one of Tracks
-abbrev pub stays : Node → Bool
-stays n = not (is_seek_of INFO n || is_seek_of TRACKS n)
+-- not a Seek of one of these IDs
+abbrev pub stays : List ℕ → Node → Bool
+stays ids n = not (list_any (λ id. is_seek_of id n) ids)
 
--- what is inside the SeekHead with these Seeks, and then what stays of the old one, in its normal form
-abbrev pub seek_head_body : List Seek → List Node → List ℕ
-seek_head_body seeks old = joined (map seek_element seeks) ++ flat_map octets (filter stays old)
+-- what is inside the SeekHead with these Seeks of these IDs, and then what stays of the old one, in its normal form
+abbrev pub seek_head_body : List ℕ → List Seek → List Node → List ℕ
+seek_head_body ids seeks old = joined (map seek_element seeks) ++ flat_map octets (filter (stays ids) old)
 
-abbrev pub seek_head_with : List Seek → List Node → Element
-seek_head_with seeks old = element SEEK_HEAD (seek_head_body seeks old)
+abbrev pub seek_head_with : List ℕ → List Seek → List Node → Element
+seek_head_with ids seeks old = element SEEK_HEAD (seek_head_body ids seeks old)

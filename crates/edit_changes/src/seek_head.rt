@@ -1,6 +1,7 @@
-//! The SeekHead that tells where Info and Tracks go.
+//! The SeekHead that is written anew.
 
 ghost use Rattle.std.specs.Prelude.{◌≡◌, ◌++◌, IfOk, IsTrue, OnOk, filter, flat_map};
+ghost use Rattle.std.specs.List.{AllPass};
 ghost use Rattle.ebml_numbers.specs.Number.{is_id};
 ghost use Rattle.tree_format.specs.NormalForm.{octets};
 ghost use Rattle.cues_seekhead.specs.Places.{AreIds};
@@ -10,7 +11,7 @@ use cues_seekhead::put_seeks;
 use ebml_numbers::put_id;
 use ebml_tree::Tree;
 use mkv_io::Bytes;
-use mkv_schema::ids::{INFO, SEEK, SEEK_ID, TRACKS};
+use mkv_schema::ids::{SEEK, SEEK_ID};
 use output_model::Seek;
 use std::alloc::{AllocError, Global};
 
@@ -28,33 +29,45 @@ fn is_seek_of(id: u32, tree: &Tree) -> bool
     }
 }
 
-/// Neither a Seek of Info nor one of Tracks.
-#[tactic(auto, unfolding(ebml_numbers::specs::Number::is_id))]
-fn stays(tree: &Tree) -> bool
-    ensures { result ≡ spec.stays tree.now }
+/// Not a Seek of one of these IDs.
+fn stays(ids: &[u32], tree: &Tree) -> bool
+    requires { AllPass is_id ids.now }
+    ensures { result ≡ spec.stays ids.now tree.now }
 {
-    !(is_seek_of(INFO, tree) || is_seek_of(TRACKS, tree))
+    for id in ids {
+        if is_seek_of(*id, tree) {
+            return false;
+        }
+    }
+    true
 }
 
-/// Adds what stays of a SeekHead.
-fn put_staying(out: &mut Bytes, old: &[Tree]) -> Result<(), AllocError>
-    ensures { OnOk result (out.new ≡ out.old ++ flat_map octets (filter spec.stays old.now)) }
+/// Adds what stays of a SeekHead that is to tell of these IDs.
+fn put_staying(out: &mut Bytes, ids: &[u32], old: &[Tree]) -> Result<(), AllocError>
+    requires { AllPass is_id ids.now }
+    ensures { OnOk result (out.new ≡ out.old ++ flat_map octets (filter (spec.stays ids.now) old.now)) }
 {
     for tree in old {
-        if stays(tree) {
+        if stays(ids, tree) {
             tree.put(out)?;
         }
     }
     Ok(())
 }
 
-/// The body of a SeekHead with these Seeks, and then what stays of the old one.
-pub fn seek_head_body(alloc: Global, seeks: &[Seek], old: &[Tree]) -> Result<Bytes, AllocError>
-    requires { AreIds seeks.now }
-    ensures { IfOk result (λ out. out ≡ spec.seek_head_body seeks.now old.now) }
+/// The body of a SeekHead with these Seeks, which tell of these IDs, and then what stays of the old one.
+pub fn seek_head_body(
+    alloc: Global,
+    ids: &[u32],
+    seeks: &[Seek],
+    old: &[Tree],
+) -> Result<Bytes, AllocError>
+    requires ids { AllPass is_id ids.now }
+    requires seeks { AreIds seeks.now }
+    ensures { IfOk result (λ out. out ≡ spec.seek_head_body ids.now seeks.now old.now) }
 {
     let mut out = Bytes::new(alloc);
     put_seeks(&mut out, seeks)?;
-    put_staying(&mut out, old)?;
+    put_staying(&mut out, ids, old)?;
     Ok(out)
 }

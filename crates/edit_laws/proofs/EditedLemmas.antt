@@ -22,11 +22,11 @@ use Rattle.edit_changes.specs.Change.{and_then, edited_trees}
 use Rattle.edit_changes.specs.Records.{EditableFile, editable, trees_of}
 use Rattle.edit_changes.specs.SeekHead.{SeekHeadAt, seek_head_of}
 use Rattle.edit_changes.specs.Span.{span_of}
-use Rattle.edit_changes.specs.Plan.{Part, appended, ascending, elements_moving, if_editable, lacks, length_in_place, length_moving, moves, moving, moving_refusals, moving_writes, new_end, part_writes, parts, place, plan_of, seek_head, size_refusal, tail_refusal, too_large, twin_refusal, unless, writes_in_place, writes_moving, writes_of_parts, first_refusal}
-use Rattle.edit_plan.proofs.PlanLemmas.{appended-some, editable-outline, first-none, head-first, lacks-none, plan_of-planned, unless-none}
+use Rattle.edit_changes.specs.Plan.{Part, appended, ascending, edit_ids, elements_moving, if_editable, lacks, length_in_place, length_moving, moves, moving, moving_refusals, moving_writes, new_end, part_writes, parts, place, plan_of, seek_head, size_refusal, tail_refusal, too_large, twin_refusal, unless, writes_in_place, writes_moving, writes_of_parts, first_refusal}
+use Rattle.edit_plan.proofs.PlanLemmas.{appended-some, editable-outline, first-none, head-first, if-true, lacks-none, plan_of-planned, unless-none}
 use Rattle.edit_plan.proofs.SitsLemmas.{element-some}
 use Rattle.ebml_numbers.proofs.NumberLemmas.{is_id-bounds}
-use Rattle.edit_plan.proofs.PlanLemmas.{seek_head-valid}
+use Rattle.edit_plan.proofs.PartLemmas.{seek_head-valid}
 use Rattle.edit_laws.proofs.SameLemmas.{InOrder}
 use Rattle.edit_laws.specs.Laws.{EditsChangeNothingElse, HoldsEdited, IsOutside}
 use Rattle.edit_laws.proofs.EndLemmas.{can-grow}
@@ -65,7 +65,7 @@ module _ (bytes : List ℕ) (are_octets : AreOctets bytes) (short : length bytes
       stayed bytes are_octets short edits f t ws op undamaged first made order outside_all still split.0 split.1
 
   moved : (s : SeekHeadAt) → first_of SEEK_HEAD others ≡ Some s.header → list_any moves ps ≡ true
-      → unless (first_refusal (moving_refusals f.outline ps (seek_head f.outline ps (Some s)) (span_of s.header others))) (moving_writes f.outline ps (seek_head f.outline ps (Some s)) s.header.offset (span_of s.header others)) ≡ Ok ws
+      → unless (first_refusal (moving_refusals f.outline ps (seek_head edit_ids f.outline ps (Some s)) (span_of s.header others))) (moving_writes f.outline ps (seek_head edit_ids f.outline ps (Some s)) s.header.offset (span_of s.header others)) ≡ Ok ws
       → HoldsEdited bytes (applied bytes ws) f t
   moved s head any is = of (elements_moving ps) refl
     where
@@ -75,43 +75,46 @@ module _ (bytes : List ℕ) (are_octets : AreOctets bytes) (short : length bytes
           let nothing : length (appended ps) ≡ 0 = ap (λ (l : List Element). length (flat_map octets_of l)) none in
           absurd (omega arith)
       of (d ∷ ds) are =
-          let split = unless-none (first_refusal (moving_refusals f.outline ps (seek_head f.outline ps (Some s)) (span_of s.header others))) (moving_writes f.outline ps (seek_head f.outline ps (Some s)) s.header.offset (span_of s.header others)) ws is in
-          let large = first-none (too_large (length_moving f.outline ps (seek_head f.outline ps (Some s)) (span_of s.header others)) ps) _ split.0 in
-          let tail = first-none (tail_refusal f.outline) _ large.1 in
+          let split = unless-none (first_refusal (moving_refusals f.outline ps (seek_head edit_ids f.outline ps (Some s)) (span_of s.header others))) (moving_writes f.outline ps (seek_head edit_ids f.outline ps (Some s)) s.header.offset (span_of s.header others)) ws is in
+          let large = first-none (too_large (length_moving f.outline ps (seek_head edit_ids f.outline ps (Some s)) (span_of s.header others)) ps) _ split.0 in
+          let tail = first-none (if list_any moves ps then tail_refusal f.outline else None) _ large.1 in
           let twin = first-none (twin_refusal f.outline.others (moving ps)) _ tail.1 in
-          let space = first-none (lacks room.SeekHead (length (octets_of (seek_head f.outline ps (Some s)))) (span_of s.header others)) _ twin.1 in
-          let size = first-none (size_refusal f.outline.segment (new_end f.outline ps)) [] space.1 in
-          moved-away bytes are_octets short edits f t ws op undamaged first made order outside_all s head (can-grow f.outline tail.0) large.0
-          (ap (λ (l : List Header). twin_refusal l (moving ps)) (sym op.others) ∙ twin.0) (lacks-none _ _ _ space.0) size.0 split.1 d ds are
+          let space = first-none (lacks room.SeekHead (length (octets_of (seek_head edit_ids f.outline ps (Some s)))) (span_of s.header others)) _ twin.1 in
+          let size = first-none (if list_any moves ps then size_refusal f.outline.segment (new_end f.outline ps) else None) [] space.1 in
+          let tail_none = if-true (list_any moves ps) (tail_refusal f.outline) None None any tail.0 in
+          let size_none = if-true (list_any moves ps) (size_refusal f.outline.segment (new_end f.outline ps)) None None any size.0 in
+          let all = if-true (list_any moves ps) _ _ ws any split.1 in
+          moved-away bytes are_octets short edits f t ws op undamaged first made order outside_all s head (can-grow f.outline tail_none) large.0
+          (ap (λ (l : List Header). twin_refusal l (moving ps)) (sym op.others) ∙ twin.0) (lacks-none _ _ _ space.0) size_none all d ds are
 
-  moves-away : (head : Option SeekHeadAt) → seek_head_of bytes f.outline ≡ head → list_any moves ps ≡ true → writes_moving f.outline ps head ≡ Ok ws → HoldsEdited bytes (applied bytes ws) f t
+  moves-away : (head : Option SeekHeadAt) → seek_head_of bytes f.outline ≡ head → list_any moves ps ≡ true → writes_moving edit_ids f.outline ps head ≡ Ok ws → HoldsEdited bytes (applied bytes ws) f t
   moves-away None is any made =
-      let split = unless-none (first_refusal (moving_refusals f.outline ps (seek_head f.outline ps None) 0)) _ ws made in
-      let large = first-none (too_large (length_moving f.outline ps (seek_head f.outline ps None) 0) ps) _ split.0 in
-      let tail = first-none (tail_refusal f.outline) _ large.1 in
+      let split = unless-none (first_refusal (moving_refusals f.outline ps (seek_head edit_ids f.outline ps None) 0)) _ ws made in
+      let large = first-none (too_large (length_moving f.outline ps (seek_head edit_ids f.outline ps None) 0) ps) _ split.0 in
+      let tail = first-none (if list_any moves ps then tail_refusal f.outline else None) _ large.1 in
       let twin = first-none (twin_refusal f.outline.others (moving ps)) _ tail.1 in
-      let space = first-none (lacks room.SeekHead (length (octets_of (seek_head f.outline ps None))) 0) _ twin.1 in
-      let reaches : length (octets_of (seek_head f.outline ps None)) ≤ 0 = lacks-none room.SeekHead (length (octets_of (seek_head f.outline ps None))) 0 space.0 in
-      let some : 1 ≤ length (octets_of (seek_head f.outline ps None)) = element-some SEEK_HEAD (seek_head f.outline ps None).body (is_id-bounds SEEK_HEAD seek_head-valid).0 in
+      let space = first-none (lacks room.SeekHead (length (octets_of (seek_head edit_ids f.outline ps None))) 0) _ twin.1 in
+      let reaches : length (octets_of (seek_head edit_ids f.outline ps None)) ≤ 0 = lacks-none room.SeekHead (length (octets_of (seek_head edit_ids f.outline ps None))) 0 space.0 in
+      let some : 1 ≤ length (octets_of (seek_head edit_ids f.outline ps None)) = element-some SEEK_HEAD (seek_head edit_ids f.outline ps None).body (is_id-bounds SEEK_HEAD seek_head-valid).0 in
       absurd (omega arith)
   moves-away (Some s) is any made =
       let head = head-first bytes f.outline s is in
       moved s (ap (first_of SEEK_HEAD) (sym op.others) ∙ head) any
-      (ap (λ n. unless (first_refusal (moving_refusals f.outline ps (seek_head f.outline ps (Some s)) n)) (moving_writes f.outline ps (seek_head f.outline ps (Some s)) s.header.offset n)) (ap (span_of s.header) (sym op.others)) ∙ made)
+      (ap (λ n. unless (first_refusal (moving_refusals f.outline ps (seek_head edit_ids f.outline ps (Some s)) n)) (moving_writes f.outline ps (seek_head edit_ids f.outline ps (Some s)) s.header.offset n)) (ap (span_of s.header) (sym op.others)) ∙ made)
 
-  pub written : writes_of_parts bytes f.outline ps ≡ Ok ws → HoldsEdited bytes (applied bytes ws) f t
+  pub written : writes_of_parts edit_ids false bytes f.outline ps ≡ Ok ws → HoldsEdited bytes (applied bytes ws) f t
   written is = of (list_any moves ps) refl is
     where
-      of : (any : Bool) → list_any moves ps ≡ any → (if any then writes_moving f.outline ps (seek_head_of bytes f.outline) else writes_in_place ps) ≡ Ok ws → HoldsEdited bytes (applied bytes ws) f t
+      of : (any : Bool) → list_any moves ps ≡ any → (if any then writes_moving edit_ids f.outline ps (seek_head_of bytes f.outline) else writes_in_place ps) ≡ Ok ws → HoldsEdited bytes (applied bytes ws) f t
       of true any is = moves-away (seek_head_of bytes f.outline) refl any is
       of false still is = stays still is
 
 -- what edits write
-planned-writes : (bytes : List ℕ) (edits : List Edit) (f : EditableFile) (t : Trees) (ws : List Write) → editable bytes ≡ Ok f → edited_trees edits f.trees ≡ Ok t → plan_of bytes edits ≡ Ok ws → writes_of_parts bytes f.outline (parts f.outline.others edits t) ≡ Ok ws
+planned-writes : (bytes : List ℕ) (edits : List Edit) (f : EditableFile) (t : Trees) (ws : List Write) → editable bytes ≡ Ok f → edited_trees edits f.trees ≡ Ok t → plan_of bytes edits ≡ Ok ws → writes_of_parts edit_ids false bytes f.outline (parts f.outline.others edits t) ≡ Ok ws
 unfolding plan_of
 planned-writes bytes edits f t ws found made is =
-    sym (ap (λ (x : Result EditableFile Damage). and_then (if_editable x) (λ f. and_then (edited_trees edits f.trees) (λ t. writes_of_parts bytes f.outline (parts f.outline.others edits t)))) found
-    ∙ ap (λ (x : Result Trees Refusal). and_then x (λ t. writes_of_parts bytes f.outline (parts f.outline.others edits t))) made) ∙ is
+    sym (ap (λ (x : Result EditableFile Damage). and_then (if_editable x) (λ f. and_then (edited_trees edits f.trees) (λ t. writes_of_parts edit_ids false bytes f.outline (parts f.outline.others edits t)))) found
+    ∙ ap (λ (x : Result Trees Refusal). and_then x (λ t. writes_of_parts edit_ids false bytes f.outline (parts f.outline.others edits t))) made) ∙ is
 
 -- An edited file holds what the old one held, but for what the edits change.
 pub nothing-else : EditsChangeNothingElse
@@ -123,7 +126,7 @@ nothing-else old new edits f t are_octets short outside_all found made is = of (
         let trees = editable-trees old f found in
         let record_is = plan_of-planned old edits ws short planned in
         written old are_octets short edits f t ws op trees.0 (trees-first old f.outline.segment f.trees trees.1) made (in-order (length old) 0 ws record_is.sound.order) outside_all
-        (ap (λ (l : List Header). writes_of_parts old f.outline (parts l edits t)) (sym op.others) ∙ planned-writes old edits f t ws found made planned)
+        (ap (λ (l : List Header). writes_of_parts edit_ids false old f.outline (parts l edits t)) (sym op.others) ∙ planned-writes old edits f t ws found made planned)
 
     of : (plan : Result (List Write) Refusal) → plan_of old edits ≡ plan → and_then plan (λ ws. Ok (applied old ws)) ≡ Ok new → HoldsEdited old new f t
     of (Ok ws) planned is = let same : applied old ws ≡ new = cc in subst (λ n. HoldsEdited old n f t) same (with-writes ws planned)

@@ -30,7 +30,7 @@ use Rattle.mkv_schema.specs.Value.{first_of}
 use Rattle.edit_laws.proofs.ItemLemmas.{IsItemIn, Item}
 use Rattle.edit_laws.proofs.OpenedLemmas.{IsOpened}
 use Rattle.edit_laws.proofs.RoomLemmas.{last-there}
-use Rattle.edit_laws.proofs.WriteLemmas.{AreOf, extent-within}
+use Rattle.edit_laws.proofs.WriteLemmas.{AreOf, extent-within, moves_from, of-moves, of-moving}
 
 -- ---- nothing refuses it at the end
 
@@ -160,15 +160,15 @@ extent-last old xs w order inside past =
 
 -- what all items have, what moves has
 pub moving-all : (Q : Element → Type 0) (list : List Header) (ps : List Part) (is : List Item) → AreOf list ps is → All (λ (i : Item). Q i.element) is → All Q (elements_moving ps)
-moving-all Q list [] is are all = All-nil Q
-moving-all Q list (p ∷ ps) [] are all = absurd are
-moving-all Q list (p ∷ ps) (i ∷ is) are all = of (moves p)
-    (moving-all Q list ps is are.3 (All-tail (λ (i : Item). Q i.element) i is all))
-    (subst Q (sym are.2) (All-head (λ (i : Item). Q i.element) i is all))
+moving-all Q list ps is are all = subst (All Q) (sym (of-moving list ps is are)) (kept is all)
   where
-    of : (b : Bool) → All Q (elements_moving ps) → Q p.element → All Q (map (λ (q : Part). q.element) (if b then p ∷ filter moves ps else filter moves ps))
-    of true rest own = All-cons Q p.element (elements_moving ps) own rest
-    of false rest own = rest
+    kept : (js : List Item) → All (λ (i : Item). Q i.element) js → All Q (map (λ (i : Item). i.element) (filter (moves_from list) js))
+    kept [] all = All-nil Q
+    kept (j ∷ js) all = of (moves_from list j) (kept js (All-tail (λ (i : Item). Q i.element) j js all))
+      where
+        of : (b : Bool) → All Q (map (λ (i : Item). i.element) (filter (moves_from list) js)) → All Q (map (λ (i : Item). i.element) (if b then j ∷ filter (moves_from list) js else filter (moves_from list) js))
+        of true rest = All-cons Q j.element (map (λ (i : Item). i.element) (filter (moves_from list) js)) (All-head (λ (i : Item). Q i.element) j js all) rest
+        of false rest = rest
 
 -- ---- the only one of its ID
 
@@ -229,60 +229,56 @@ alone-first id (g ∷ gs) h other few found = of (alone-first id gs h other) (g.
         All-cons (λ (g : Header). (g.id == id) ≡ true → g ≡ h) g gs (λ own. absurd (cc)) (further (fewer (g.id == CLUSTER) refl) later)
 
 -- nothing that moves has a twin
-pub twins-none : (list : List Header) (ps : List Part) → twin_refusal list ps ≡ None → All (λ (p : Part). number_of p.element.id list ≤ 1) ps
-twins-none list [] none = All-nil (λ (p : Part). number_of p.element.id list ≤ 1)
+pub twins-none : (list : List Header) (ps : List Part) → twin_refusal list ps ≡ None → All (λ (p : Part). number_of p.id list ≤ 1) ps
+twins-none list [] none = All-nil (λ (p : Part). number_of p.id list ≤ 1)
 twins-none list (p ∷ ps) none =
-    let both = or-none (twin_of list p.element.id) (twin_refusal list ps) none in
-    All-cons (λ (p : Part). number_of p.element.id list ≤ 1) p ps (of (nat_lt 1 (number_of p.element.id list)) refl both.0) (twins-none list ps both.1)
+    let both = or-none (twin_of list p.id) (twin_refusal list ps) none in
+    All-cons (λ (p : Part). number_of p.id list ≤ 1) p ps (of (nat_lt 1 (number_of p.id list)) refl both.0) (twins-none list ps both.1)
   where
-    of : (many : Bool) → nat_lt 1 (number_of p.element.id list) ≡ many → (if many then Some (refusal.NoRoom room.Twin 1 (number_of p.element.id list)) else None) ≡ None → number_of p.element.id list ≤ 1
+    of : (many : Bool) → nat_lt 1 (number_of p.id list) ≡ many → (if many then Some (refusal.NoRoom room.Twin 1 (number_of p.id list)) else None) ≡ None → number_of p.id list ≤ 1
     of true is none = absurd (cc)
     of false is none = grind (arith, nat_tests)
 
 -- so an item that moves has none
-pub twin-of : (list : List Header) (ps : List Part) (is : List Item) (i : Item) → AreOf list ps is → All (λ (p : Part). number_of p.element.id list ≤ 1) (moving ps) → IsItemIn is i → span_of i.header list < length (octets_of i.element) → number_of i.element.id list ≤ 1
+pub twin-of : (list : List Header) (ps : List Part) (is : List Item) (i : Item) → AreOf list ps is → All (λ (p : Part). number_of p.id list ≤ 1) (moving ps) → IsItemIn is i → span_of i.header list < length (octets_of i.element) → number_of i.element.id list ≤ 1
 twin-of list ps [] i are all member long = absurd member
 twin-of list [] (j ∷ js) i are all member long = absurd are
-twin-of list (p ∷ ps) (j ∷ js) i are all member long = of (λ rest. twin-of list ps js i are.3 rest) (moves p) refl all member
+twin-of list (p ∷ ps) (j ∷ js) i are all member long = of (λ rest. twin-of list ps js i are.1 rest) (moves p) refl all member
   where
-    moved : (j ≡ i) → p.room < length (octets_of p.element)
-    moved same =
-        let room_is = are.1 in
-        let len : length (octets_of p.element) ≡ length (octets_of i.element) = ap (λ (x : Element). length (octets_of x)) (are.2 ∙ ap (λ (k : Item). k.element) same) in
-        let span : span_of j.header list ≡ span_of i.header list = ap (λ (k : Item). span_of k.header list) same in
-        omega arith
-
-    of : (All (λ (p : Part). number_of p.element.id list ≤ 1) (moving ps) → IsItemIn js i → span_of i.header list < length (octets_of i.element) → number_of i.element.id list ≤ 1) → (b : Bool) → moves p ≡ b
-        → All (λ (p : Part). number_of p.element.id list ≤ 1) (if b then p ∷ moving ps else moving ps) → (j ≡ i) ⊎ IsItemIn js i → number_of i.element.id list ≤ 1
+    of : (All (λ (p : Part). number_of p.id list ≤ 1) (moving ps) → IsItemIn js i → span_of i.header list < length (octets_of i.element) → number_of i.element.id list ≤ 1) → (b : Bool) → moves p ≡ b
+        → All (λ (p : Part). number_of p.id list ≤ 1) (if b then p ∷ moving ps else moving ps) → (j ≡ i) ⊎ IsItemIn js i → number_of i.element.id list ≤ 1
     of further true is all (inl same) =
-        let own = All-head (λ (p : Part). number_of p.element.id list ≤ 1) p (moving ps) all in
-        let id : p.element.id ≡ i.element.id = ap (λ (x : Element). x.id) (are.2 ∙ ap (λ (k : Item). k.element) same) in
-        let number : number_of p.element.id list ≡ number_of i.element.id list = ap (λ n. number_of n list) id in
+        let own = All-head (λ (p : Part). number_of p.id list ≤ 1) p (moving ps) all in
+        let number : number_of p.id list ≡ number_of i.element.id list = ap (λ n. number_of n list) (are.0.id ∙ ap (λ (k : Item). k.element.id) same) in
         omega arith
-    of further true is all (inr later) = further (All-tail (λ (p : Part). number_of p.element.id list ≤ 1) p (moving ps) all) later long
-    of further false is all (inl same) = let less = moved same in absurd (let yes_it : moves p ≡ true = grind (arith, nat_tests) in cc)
+    of further true is all (inr later) = further (All-tail (λ (p : Part). number_of p.id list ≤ 1) p (moving ps) all) later long
+    of further false is all (inl same) =
+        let still : moves_from list i ≡ false = sym (of-moves list p j are.0 ∙ ap (moves_from list) same) ∙ is in
+        absurd (let wrong : moves_from list i ≡ true = grind (arith, nat_tests) in cc)
     of further false is all (inr later) = further all later long
 
 -- and what moves has it
 pub moves-found : (list : List Header) (ps : List Part) (is : List Item) (i : Item) (place : ℕ) → AreOf list ps is → IsItemIn is i → span_of i.header list < length (octets_of i.element) → (g : Header) × (first_of i.element.id (headers_in_place place (elements_moving ps)) ≡ Some g)
-moves-found list ps [] i place are member long = absurd member
-moves-found list [] (j ∷ js) i place are member long = absurd are
-moves-found list (p ∷ ps) (j ∷ js) i place are member long = of (λ q. moves-found list ps js i q are.3) (moves p) refl member
+moves-found list ps is i place are member long =
+    let there = found is place member in
+    (there.0, ap (λ (es : List Element). first_of i.element.id (headers_in_place place es)) (of-moving list ps is are) ∙ there.1)
   where
-    of : ((q : ℕ) → IsItemIn js i → span_of i.header list < length (octets_of i.element) → (g : Header) × (first_of i.element.id (headers_in_place q (elements_moving ps)) ≡ Some g)) → (b : Bool) → moves p ≡ b → (j ≡ i) ⊎ IsItemIn js i
-        → (g : Header) × (first_of i.element.id (headers_in_place place (map (λ (q : Part). q.element) (if b then p ∷ moving ps else moving ps))) ≡ Some g)
-    of further true is (inl same) =
-        let id : p.element.id ≡ i.element.id = ap (λ (x : Element). x.id) (are.2 ∙ ap (λ (k : Item). k.element) same) in
-        let test : (p.element.id == i.element.id) ≡ true = grind (arith, nat_tests) in
-        (header_in_place place p.element, ap (λ (b : Bool). if b then Some (header_in_place place p.element) else first_of i.element.id (headers_in_place (place + length (octets_of p.element)) (elements_moving ps))) test)
-    of further true is (inr later) = front (p.element.id == i.element.id)
+    found : (js : List Item) (q : ℕ) → IsItemIn js i → (g : Header) × (first_of i.element.id (headers_in_place q (map (λ (k : Item). k.element) (filter (moves_from list) js))) ≡ Some g)
+    found [] q member = absurd member
+    found (j ∷ js) q member = of (λ r. found js r) (moves_from list j) refl member
       where
-        front : (b : Bool) → (g : Header) × ((if b then Some (header_in_place place p.element) else first_of i.element.id (headers_in_place (place + length (octets_of p.element)) (elements_moving ps))) ≡ Some g)
-        front true = (header_in_place place p.element, refl)
-        front false = further (place + length (octets_of p.element)) later long
-    of further false is (inl same) =
-        let room_is = are.1 in
-        let len : length (octets_of p.element) ≡ length (octets_of i.element) = ap (λ (x : Element). length (octets_of x)) (are.2 ∙ ap (λ (k : Item). k.element) same) in
-        let span : span_of j.header list ≡ span_of i.header list = ap (λ (k : Item). span_of k.header list) same in
-        absurd (let moved : moves p ≡ true = (let less : p.room < length (octets_of p.element) = omega arith in grind (arith, nat_tests)) in cc)
-    of further false is (inr later) = further place later long
+        of : ((r : ℕ) → IsItemIn js i → (g : Header) × (first_of i.element.id (headers_in_place r (map (λ (k : Item). k.element) (filter (moves_from list) js))) ≡ Some g)) → (b : Bool) → moves_from list j ≡ b → (j ≡ i) ⊎ IsItemIn js i
+            → (g : Header) × (first_of i.element.id (headers_in_place q (map (λ (k : Item). k.element) (if b then j ∷ filter (moves_from list) js else filter (moves_from list) js))) ≡ Some g)
+        of further true test (inl same) =
+            let own : j.element.id ≡ i.element.id = ap (λ (k : Item). k.element.id) same in
+            let is_own : (j.element.id == i.element.id) ≡ true = grind (arith, nat_tests) in
+            (header_in_place q j.element, ap (λ (b : Bool). if b then Some (header_in_place q j.element) else first_of i.element.id (headers_in_place (q + length (octets_of j.element)) (map (λ (k : Item). k.element) (filter (moves_from list) js)))) is_own)
+        of further true test (inr later) = front (j.element.id == i.element.id)
+          where
+            front : (b : Bool) → (g : Header) × ((if b then Some (header_in_place q j.element) else first_of i.element.id (headers_in_place (q + length (octets_of j.element)) (map (λ (k : Item). k.element) (filter (moves_from list) js)))) ≡ Some g)
+            front true = (header_in_place q j.element, refl)
+            front false = further (q + length (octets_of j.element)) later
+        of further false test (inl same) =
+            let still : moves_from list i ≡ false = ap (moves_from list) (sym same) ∙ test in
+            absurd (let wrong : moves_from list i ≡ true = grind (arith, nat_tests) in cc)
+        of further false test (inr later) = further q later

@@ -2,6 +2,7 @@
 use Rattle.std.proofs.Common.{inl, inr, ◌≡◌, ◌⊎◌, ◌<◌, ◌≤◌, ℕ, ◌+◌, ◌-◌, ◌^◌, ◌==◌, min, max, nat_lt, Bool, true, false, ◌||◌, if◌then◌else◌, List, [], ◌∷◌, ◌++◌, length, length-append, append-nil, flat_map, All, Option, Some, None, IfSome, Result, Ok, refl, sym, ◌∙◌, ap, ap₂, subst, arith}
 use Rattle.std.specs.Bool.{⊤}
 use Rattle.std.specs.List.{list_any}
+use Rattle.std.specs.Prelude.{filter_map}
 use Rattle.std.specs.Option.{option_map, option_map_or}
 use Rattle.std.proofs.lemmas.Bool.Decides.{nat_tests}
 use Rattle.std.proofs.lemmas.List.Elements.{All-nil, All-cons, All-head, All-tail, All-append, All-weaker}
@@ -41,10 +42,10 @@ use Rattle.edit_changes.specs.declared.trees.Trees.{Trees}
 use Rattle.edit_changes.specs.declared.refusal.TheConstants.{MOST_WRITTEN}
 use Rattle.edit_changes.specs.Change.{are_of_info, are_of_tracks, edited_from}
 use Rattle.edit_changes.specs.Records.{EditableFile}
-use Rattle.edit_changes.specs.Plan.{Part, appended, ascending, elements_moving, info_nodes, length_in_place, length_moving, most_nodes, moves, moving, moving_writes, new_end, number_of, part, part_of, part_writes, parts, seek_head, size_refusal, size_width, size_writes, too_large, twin_refusal, write}
-use Rattle.edit_plan.proofs.PartLemmas.{first-own}
+use Rattle.edit_changes.specs.Plan.{Part, appended, ascending, edit_ids, elements_moving, info_nodes, length_in_place, length_moving, most_nodes, moves, moving, new_end, number_of, part, part_of, part_writes, parts, seek_head, size_refusal, size_width, size_writes, too_large, twin_refusal, write}
+use Rattle.edit_plan.proofs.PartLemmas.{first-own, info-valid, seek_head-valid, tracks-valid}
 use Rattle.edit_changes.specs.declared.refusal.Refusal.TheVariants as refusal
-use Rattle.edit_plan.proofs.PlanLemmas.{appended-cons, bound-most, info-valid, large-none, seek_head-valid, tracks-valid}
+use Rattle.edit_plan.proofs.PlanLemmas.{bound-most, large-none}
 use Rattle.edit_plan.proofs.LevelLemmas.{Stand}
 use Rattle.edit_plan.proofs.VoidLemmas.{first-room}
 use Rattle.edit_plan.proofs.FitLemmas.{fitted-same}
@@ -142,9 +143,9 @@ two-distinct one other a b list ns ms differ = of (items_of one a list ns) (item
 -- where nothing moves, nothing is appended
 appended-none : (ps : List Part) → list_any moves ps ≡ false → appended ps ≡ []
 appended-none [] none = refl
-appended-none (p ∷ ps) none = appended-cons p ps ∙ of (appended-none ps) (moves p) none
+appended-none (p ∷ ps) none = of (appended-none ps) (moves p) none
   where
-    of : (list_any moves ps ≡ false → appended ps ≡ []) → (b : Bool) → (b || list_any moves ps) ≡ false → (if b then octets_of p.element ++ appended ps else appended ps) ≡ []
+    of : (list_any moves ps ≡ false → appended ps ≡ []) → (b : Bool) → (b || list_any moves ps) ≡ false → flat_map octets_of (filter_map (λ (q : Part). q.element) (if b then p ∷ moving ps else moving ps)) ≡ []
     of further true is = absurd (cc)
     of further false is = further is
 
@@ -259,9 +260,12 @@ module _ (bytes : List ℕ) (are_octets : AreOctets bytes) (short : length bytes
   pub fit : AreFit t
   fit = fit-all 0 edits f.trees t before-fit made
 
+  pub stand : Stand segment.body last others
+  stand = tiles-stand bytes segment.size end segment.body last list (tiled (level bytes segment.size end) segment.body last list (advances-level bytes segment.size end) run).tiles
+
   pub are-of : AreOf others ps items
   are-of = of-append others (part_of (are_of_info edits) INFO others (info_nodes t.info)) (part_of (are_of_tracks edits) TRACKS others t.tracks) infos tracks
-      (of-part (are_of_info edits) INFO others (info_nodes t.info)) (of-part (are_of_tracks edits) TRACKS others t.tracks)
+      (of-part segment.body last others stand (are_of_info edits) INFO (info_nodes t.info)) (of-part segment.body last others stand (are_of_tracks edits) TRACKS t.tracks)
 
   pub offset-long : 4 ≤ segment.offset
   offset-long =
@@ -313,8 +317,7 @@ module _ (bytes : List ℕ) (are_octets : AreOctets bytes) (short : length bytes
   inside-room (i ∷ is) k are (inr later) = inside-room is k (All-tail (IsItem others) i is are) later
   inside-room (i ∷ is) k are (inl here) =
       let own = All-head (IsItem others) i is are in
-      let standing = tiles-stand bytes segment.size end segment.body last list (tiled (level bytes segment.size end) segment.body last list (advances-level bytes segment.size end) run).tiles in
-      let room = first-room i.element.id segment.body last others i.header standing own.first in
+      let room = first-room i.element.id segment.body last others i.header stand own.first in
       let from = room.from in let inside = room.inside in let left = here.0 in let right = here.1 in
       (omega arith, omega arith)
 
@@ -405,7 +408,7 @@ module _ (bytes : List ℕ) (are_octets : AreOctets bytes) (short : length bytes
 
     touch : (k : ℕ) → Touches ws k → IsInside others items k
     touch k touched =
-        touches-items segment.body last others (tiles-stand bytes segment.size end segment.body last list (tiled (level bytes segment.size end) segment.body last list (advances-level bytes segment.size end) run).tiles) items k it
+        touches-items segment.body last others stand items k it
         (touches-ascending (writes_of others items) k (subst (λ (vs : List Write). Touches vs k) (sym is_writes) touched))
 
     no-move : All (λ (i : Item). span_of i.header others < length (octets_of i.element) → ⊥) items
@@ -517,12 +520,12 @@ module _ (bytes : List ℕ) (are_octets : AreOctets bytes) (short : length bytes
   -- ---- something moves
 
   module _ (s : SeekHeadAt) (head : first_of SEEK_HEAD others ≡ Some s.header) (grow : CanGrow f.outline)
-      (large : too_large (length_moving f.outline ps (seek_head f.outline ps (Some s)) (span_of s.header others)) ps ≡ None) (twins : twin_refusal others (moving ps) ≡ None)
-      (reaches : length (octets_of (seek_head f.outline ps (Some s))) ≤ span_of s.header others) (size_fits : size_refusal segment (new_end f.outline ps) ≡ None)
-      (is_ws : moving_writes f.outline ps (seek_head f.outline ps (Some s)) s.header.offset (span_of s.header others) ≡ ws)
+      (large : too_large (length_moving f.outline ps (seek_head edit_ids f.outline ps (Some s)) (span_of s.header others)) ps ≡ None) (twins : twin_refusal others (moving ps) ≡ None)
+      (reaches : length (octets_of (seek_head edit_ids f.outline ps (Some s))) ≤ span_of s.header others) (size_fits : size_refusal segment (new_end f.outline ps) ≡ None)
+      (is_ws : size_writes segment (new_end f.outline ps) ++ ascending (write s.header.offset (unwrap_or (fitted (seek_head edit_ids f.outline ps (Some s)) (span_of s.header others)) []) ∷ part_writes ps) ++ write f.outline.total (appended ps) ∷ [] ≡ ws)
       (moved_first : Element) (moved_more : List Element) (moved_are : elements_moving ps ≡ moved_first ∷ moved_more) where
     abbrev seeks : Element
-    seeks = seek_head f.outline ps (Some s)
+    seeks = seek_head edit_ids f.outline ps (Some s)
 
     abbrev space : ℕ
     space = span_of s.header others
@@ -577,9 +580,6 @@ module _ (bytes : List ℕ) (are_octets : AreOctets bytes) (short : length bytes
 
     all-are : All (IsItem others) all
     all-are = All-cons (IsItem others) seek_item items seek-is part-items
-
-    stand : Stand segment.body last others
-    stand = tiles-stand bytes segment.size end segment.body last list (tiled (level bytes segment.size end) segment.body last list (advances-level bytes segment.size end) run).tiles
 
     seek-write : write s.header.offset (unwrap_or (fitted seeks space) []) ≡ write_of others seek_item
     seek-write = ap (write s.header.offset) (fitted-same seeks space [] (void_header space) reaches (item-some segment.body last others stand seek_item seek-is))

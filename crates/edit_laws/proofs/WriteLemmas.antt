@@ -1,8 +1,9 @@
 -- What edits write, by the Elements that are written anew.
 use Rattle.std.proofs.Common.{inl, inr, ◌≡◌, ◌⊎◌, ◌<◌, ◌≤◌, ℕ, ◌+◌, ◌-◌, ◌^◌, ◌==◌, ◌||◌, nat_lt, nat_le, max, Bool, true, false, if◌then◌else◌, List, [], ◌∷◌, ◌++◌, length, map, flat_map, All, Option, Some, None, refl, sym, ◌∙◌, ap, ap₂, subst, arith}
 use Rattle.std.specs.Bool.{⊤}
-use Rattle.std.specs.List.{list_any}
-use Rattle.std.specs.Option.{option_map_or, unwrap_or}
+use Rattle.std.specs.List.{cons_option, list_any}
+use Rattle.std.specs.Prelude.{filter, filter_map, sum_by}
+use Rattle.std.specs.Option.{option_and_then, option_map_or, unwrap_or}
 use Rattle.std.proofs.lemmas.List.{length-append}
 use Rattle.std.proofs.lemmas.List.Elements.{All-head, All-tail, All-nil, All-cons, All-weaker}
 use Rattle.std.proofs.lemmas.List.Sums.{sum_by-cons}
@@ -17,7 +18,7 @@ use Rattle.output_model.specs.Element.{Element, octets_of, element}
 use Rattle.output_model.proofs.ReadLemmas.{length-octets_of, length-header_of}
 use Rattle.sidecar_edit.specs.Writes.{Write, end_of, extent, Touches}
 use Rattle.edit_changes.specs.Span.{fitted, span_of, void_header, wider}
-use Rattle.edit_changes.specs.Plan.{Part, appended, ascending, in_place, inserted, length_in_place, moves, moving, part, part_of, part_writes, write}
+use Rattle.edit_changes.specs.Plan.{Part, appended, ascending, elements_moving, in_place, inserted, length_in_place, moves, moving, part, part_of, part_writes, stands, write}
 use Rattle.edit_plan.proofs.LevelLemmas.{Stand}
 use Rattle.edit_plan.proofs.VoidLemmas.{first-room}
 use Rattle.edit_plan.proofs.PartLemmas.{first-own}
@@ -126,52 +127,86 @@ item_at nodes h = record { header = h; element = element h.id (flat_map octets n
 abbrev pub items_of : Bool → ℕ → List Header → List Node → List Item
 items_of written id list nodes = if written then option_map_or (λ h. item_at nodes h ∷ []) (first_of id list) [] else []
 
+-- The part of an item: the old one stands where it does, and has its room.
+pub record IsOf (list : List Header) (p : Part) (i : Item) : Type 0 where
+  pub id : p.id ≡ i.element.id
+  pub place : p.place ≡ i.header.offset
+  pub room : p.room ≡ span_of i.header list
+  pub some : 1 ≤ p.room
+  pub new : p.element ≡ Some i.element
+
 -- parts are those of items
 abbrev pub AreOf : List Header → List Part → List Item → Type 0
 AreOf list [] [] = ⊤
 AreOf list [] (i ∷ is) = ⊥
 AreOf list (p ∷ ps) [] = ⊥
-AreOf list (p ∷ ps) (i ∷ is) = (p.place ≡ i.header.offset) × (p.room ≡ span_of i.header list) × (p.element ≡ i.element) × AreOf list ps is
+AreOf list (p ∷ ps) (i ∷ is) = IsOf list p i × AreOf list ps is
+
+-- an item is longer than its room
+abbrev pub moves_from : List Header → Item → Bool
+moves_from list i = nat_lt (span_of i.header list) (length (octets_of i.element))
+
+pub of-moves : (list : List Header) (p : Part) (i : Item) → IsOf list p i → moves p ≡ moves_from list i
+of-moves list p i is =
+    ap (λ (new : Option Element). option_map_or (λ e. nat_lt p.room (length (octets_of e))) new false) is.new
+    ∙ ap (λ n. nat_lt n (length (octets_of i.element))) is.room
+
+of-stands : (list : List Header) (p : Part) (i : Item) → IsOf list p i → stands p ≡ true
+of-stands list p i is = (let some = is.some in grind (arith, nat_tests))
+
+pub of-moving : (list : List Header) (ps : List Part) (is : List Item) → AreOf list ps is → elements_moving ps ≡ map (λ (i : Item). i.element) (filter (moves_from list) is)
+of-moving list [] [] are = refl
+of-moving list [] (i ∷ is) are = absurd are
+of-moving list (p ∷ ps) [] are = absurd are
+of-moving list (p ∷ ps) (i ∷ is) are =
+    ap (λ (b : Bool). filter_map (λ (q : Part). q.element) (if b then p ∷ moving ps else moving ps)) (of-moves list p i are.0) ∙ of (moves_from list i) (of-moving list ps is are.1)
+  where
+    of : (b : Bool) → elements_moving ps ≡ map (λ (j : Item). j.element) (filter (moves_from list) is)
+        → filter_map (λ (q : Part). q.element) (if b then p ∷ moving ps else moving ps) ≡ map (λ (j : Item). j.element) (if b then i ∷ filter (moves_from list) is else filter (moves_from list) is)
+    of true rest = ap₂ (λ (new : Option Element) (es : List Element). cons_option new es) are.0.new rest
+    of false rest = rest
 
 pub of-append : (list : List Header) (ps qs : List Part) (is js : List Item) → AreOf list ps is → AreOf list qs js → AreOf list (ps ++ qs) (is ++ js)
 of-append list [] qs [] js one two = two
 of-append list [] qs (i ∷ is) js one two = absurd one
 of-append list (p ∷ ps) qs [] js one two = absurd one
-of-append list (p ∷ ps) qs (i ∷ is) js one two = (one.0, one.1, one.2, of-append list ps qs is js one.3 two)
+of-append list (p ∷ ps) qs (i ∷ is) js one two = (one.0, of-append list ps qs is js one.1 two)
 
-pub of-part : (written : Bool) (id : ℕ) (list : List Header) (nodes : List Node) → AreOf list (part_of written id list nodes) (items_of written id list nodes)
-of-part false id list nodes = tt
-of-part true id list nodes = of (first_of id list)
+pub of-part : (q e : ℕ) (list : List Header) → Stand q e list → (written : Bool) (id : ℕ) (nodes : List Node) → AreOf list (part_of written id list nodes) (items_of written id list nodes)
+of-part q e list stand false id nodes = tt
+of-part q e list stand true id nodes = of (first_of id list) refl
   where
-    of : (first : Option Header) → AreOf list (option_map_or (λ h. part list nodes h ∷ []) first []) (option_map_or (λ h. item_at nodes h ∷ []) first [])
-    of None = tt
-    of (Some h) = (refl, refl, refl, tt)
+    of : (first : Option Header) → first_of id list ≡ first → AreOf list (option_map_or (λ h. part list nodes h ∷ []) first []) (option_map_or (λ h. item_at nodes h ∷ []) first [])
+    of None is = tt
+    of (Some h) is =
+        let least = (first-room id q e list h stand is).least in
+        (record { id = refl; place = refl; room = refl; some = omega arith; new = refl }, tt)
 
 pub of-writes : (list : List Header) (ps : List Part) (is : List Item) → AreOf list ps is → part_writes ps ≡ writes_of list is
 of-writes list [] [] are = refl
 of-writes list [] (i ∷ is) are = absurd are
 of-writes list (p ∷ ps) [] are = absurd are
 of-writes list (p ∷ ps) (i ∷ is) are =
-    ap₂ (λ w ws. w ∷ ws)
-    (ap (λ n. write n (in_place p)) are.0 ∙ ap (λ n. write i.header.offset (unwrap_or (fitted p.element n) (void_header n))) are.1 ∙ ap (λ (x : Element). write i.header.offset (unwrap_or (fitted x (span_of i.header list)) (void_header (span_of i.header list)))) are.2)
-    (of-writes list ps is are.3)
+    ap (λ (b : Bool). map (λ (q : Part). write q.place (in_place q)) (if b then p ∷ filter stands ps else filter stands ps)) (of-stands list p i are.0)
+    ∙ ap₂ (λ w ws. w ∷ ws)
+    (ap (λ n. write n (in_place p)) are.0.place
+    ∙ ap (λ n. write i.header.offset (unwrap_or (option_and_then (λ e. fitted e n) p.element) (void_header n))) are.0.room
+    ∙ ap (λ (new : Option Element). write i.header.offset (unwrap_or (option_and_then (λ e. fitted e (span_of i.header list)) new) (void_header (span_of i.header list)))) are.0.new)
+    (of-writes list ps is are.1)
 
 -- one that doesn't move has room
 pub of-still : (list : List Header) (ps : List Part) (is : List Item) → AreOf list ps is → list_any moves ps ≡ false → All (λ (i : Item). span_of i.header list < length (octets_of i.element) → ⊥) is
 of-still list [] [] are none = All-nil (λ (i : Item). span_of i.header list < length (octets_of i.element) → ⊥)
 of-still list [] (i ∷ is) are none = absurd are
 of-still list (p ∷ ps) [] are none = absurd are
-of-still list (p ∷ ps) (i ∷ is) are none = of (of-still list ps is are.3) (moves p) refl none
+of-still list (p ∷ ps) (i ∷ is) are none = of (of-still list ps is are.1) (moves p) refl none
   where
-    len : length (octets_of p.element) ≡ length (octets_of i.element)
-    len = ap (λ (x : Element). length (octets_of x)) are.2
-
     of : (list_any moves ps ≡ false → All (λ (i : Item). span_of i.header list < length (octets_of i.element) → ⊥) is) → (b : Bool) → moves p ≡ b → (b || list_any moves ps) ≡ false → All (λ (i : Item). span_of i.header list < length (octets_of i.element) → ⊥) (i ∷ is)
     of further true is none = absurd (cc)
     of further false still rest =
-        let room = are.1 in
-        let fits : length (octets_of p.element) ≤ p.room = grind (arith, nat_tests) in
-        All-cons (λ (i : Item). span_of i.header list < length (octets_of i.element) → ⊥) i is (λ long. omega (arith, len)) (further rest)
+        let test : moves_from list i ≡ false = sym (of-moves list p i are.0) ∙ still in
+        let fits : length (octets_of i.element) ≤ span_of i.header list = grind (arith, nat_tests) in
+        All-cons (λ (i : Item). span_of i.header list < length (octets_of i.element) → ⊥) i is (λ long. omega arith) (further rest)
 
 -- ---- they have few octets
 
@@ -185,44 +220,43 @@ fitted-long e room other fits = of (nat_lt room (length (octets_of e))) (room ==
     of false false true is = let all = wider-length e in omega arith
     of false false false is = let all = length-append (octets_of e) (void_header (room - length (octets_of e))) in omega arith
 
-parts-few : (ps : List Part) → All (λ (p : Part). length (octets_of p.element) ≤ length_in_place ps + length (appended ps)) ps
-parts-few [] = All-nil (λ (p : Part). length (octets_of p.element) ≤ 0)
-parts-few (p ∷ ps) =
-    All-cons (λ (x : Part). length (octets_of x.element) ≤ length_in_place (p ∷ ps) + length (appended (p ∷ ps))) p ps own
-    (All-weaker (λ (x : Part). length (octets_of x.element) ≤ length_in_place ps + length (appended ps)) (λ (x : Part). length (octets_of x.element) ≤ length_in_place (p ∷ ps) + length (appended (p ∷ ps))) (λ x few. more x few) ps (parts-few ps))
+pub few-parts : (list : List Header) (ps : List Part) (is : List Item) → AreOf list ps is → All (λ (i : Item). length (octets_of i.element) ≤ length_in_place ps + length (appended ps)) is
+few-parts list [] [] are = All-nil (λ (i : Item). length (octets_of i.element) ≤ 0)
+few-parts list [] (i ∷ is) are = absurd are
+few-parts list (p ∷ ps) [] are = absurd are
+few-parts list (p ∷ ps) (i ∷ is) are =
+    All-cons (λ (j : Item). length (octets_of j.element) ≤ length_in_place (p ∷ ps) + length (appended (p ∷ ps))) i is own
+    (All-weaker (λ (j : Item). length (octets_of j.element) ≤ length_in_place ps + length (appended ps)) (λ (j : Item). length (octets_of j.element) ≤ length_in_place (p ∷ ps) + length (appended (p ∷ ps))) (λ j few. more j few) is (few-parts list ps is are.1))
   where
     sum : length_in_place (p ∷ ps) ≡ length (in_place p) + length_in_place ps
-    sum = sum_by-cons (λ (q : Part). length (in_place q)) p ps
+    sum = ap (λ (b : Bool). sum_by (λ (q : Part). length (in_place q)) (if b then p ∷ filter stands ps else filter stands ps)) (of-stands list p i are.0)
+        ∙ sum_by-cons (λ (q : Part). length (in_place q)) p (filter stands ps)
 
-    moved : (b : Bool) → moves p ≡ b → (length (octets_of p.element) ≤ length (in_place p) + length (appended (p ∷ ps))) × (length (appended ps) ≤ length (appended (p ∷ ps)))
+    placed : in_place p ≡ unwrap_or (fitted i.element p.room) (void_header p.room)
+    placed = ap (λ (new : Option Element). unwrap_or (option_and_then (λ e. fitted e p.room) new) (void_header p.room)) are.0.new
+
+    moved : (b : Bool) → moves p ≡ b → (length (octets_of i.element) ≤ length (in_place p) + length (appended (p ∷ ps))) × (length (appended ps) ≤ length (appended (p ∷ ps)))
     moved true is =
-        let all : appended (p ∷ ps) ≡ octets_of p.element ++ appended ps = ap (λ (b : Bool). flat_map octets_of (map (λ (q : Part). q.element) (if b then p ∷ moving ps else moving ps))) is in
-        let len : length (appended (p ∷ ps)) ≡ length (octets_of p.element) + length (appended ps) = ap (λ (l : List ℕ). length l) all ∙ length-append (octets_of p.element) (appended ps) in
+        let all : appended (p ∷ ps) ≡ octets_of i.element ++ appended ps =
+        ap (λ (b : Bool). flat_map octets_of (filter_map (λ (q : Part). q.element) (if b then p ∷ moving ps else moving ps))) is
+        ∙ ap (λ (new : Option Element). flat_map octets_of (cons_option new (elements_moving ps))) are.0.new in
+        let len : length (appended (p ∷ ps)) ≡ length (octets_of i.element) + length (appended ps) = ap (λ (l : List ℕ). length l) all ∙ length-append (octets_of i.element) (appended ps) in
         (omega arith, omega arith)
     moved false is =
-        let all : appended (p ∷ ps) ≡ appended ps = ap (λ (b : Bool). flat_map octets_of (map (λ (q : Part). q.element) (if b then p ∷ moving ps else moving ps))) is in
+        let all : appended (p ∷ ps) ≡ appended ps = ap (λ (b : Bool). flat_map octets_of (filter_map (λ (q : Part). q.element) (if b then p ∷ moving ps else moving ps))) is in
         let len : length (appended (p ∷ ps)) ≡ length (appended ps) = ap (λ (l : List ℕ). length l) all in
-        let fits : length (octets_of p.element) ≤ p.room = grind (arith, nat_tests) in
-        let long = fitted-long p.element p.room (void_header p.room) fits in
+        let test : moves_from list i ≡ false = sym (of-moves list p i are.0) ∙ is in
+        let fits : length (octets_of i.element) ≤ span_of i.header list = grind (arith, nat_tests) in
+        let room = are.0.room in
+        let long = fitted-long i.element p.room (void_header p.room) (omega arith) in
+        let same = ap length placed in
         (omega arith, omega arith)
 
-    own : length (octets_of p.element) ≤ length_in_place (p ∷ ps) + length (appended (p ∷ ps))
+    own : length (octets_of i.element) ≤ length_in_place (p ∷ ps) + length (appended (p ∷ ps))
     own = (let both = moved (moves p) refl in let one = both.0 in omega (arith, sum))
 
-    more : (x : Part) → length (octets_of x.element) ≤ length_in_place ps + length (appended ps) → length (octets_of x.element) ≤ length_in_place (p ∷ ps) + length (appended (p ∷ ps))
-    more x few = (let both = moved (moves p) refl in let two = both.1 in omega (arith, sum))
-
-pub of-few : (list : List Header) (ps : List Part) (is : List Item) (most : ℕ) → AreOf list ps is → All (λ (p : Part). length (octets_of p.element) ≤ most) ps → All (λ (i : Item). length (octets_of i.element) ≤ most) is
-of-few list [] [] most are few = All-nil (λ (i : Item). length (octets_of i.element) ≤ most)
-of-few list [] (i ∷ is) most are few = absurd are
-of-few list (p ∷ ps) [] most are few = absurd are
-of-few list (p ∷ ps) (i ∷ is) most are few =
-    All-cons (λ (i : Item). length (octets_of i.element) ≤ most) i is
-    (let own = All-head (λ (p : Part). length (octets_of p.element) ≤ most) p ps few in let len : length (octets_of p.element) ≡ length (octets_of i.element) = ap (λ (x : Element). length (octets_of x)) are.2 in omega arith)
-    (of-few list ps is most are.3 (All-tail (λ (p : Part). length (octets_of p.element) ≤ most) p ps few))
-
-pub few-parts : (list : List Header) (ps : List Part) (is : List Item) → AreOf list ps is → All (λ (i : Item). length (octets_of i.element) ≤ length_in_place ps + length (appended ps)) is
-few-parts list ps is are = of-few list ps is (length_in_place ps + length (appended ps)) are (parts-few ps)
+    more : (j : Item) → length (octets_of j.element) ≤ length_in_place ps + length (appended ps) → length (octets_of j.element) ≤ length_in_place (p ∷ ps) + length (appended (p ∷ ps))
+    more j few = (let both = moved (moves p) refl in let two = both.1 in omega (arith, sum))
 
 -- items of Info or Tracks can be written anew
 pub items-are : (written : Bool) (id : ℕ) (list : List Header) (nodes : List Node) → IsName id → is_id id ≡ true → All (λ (i : Item). length (octets_of i.element) ≤ 2 ^ 24) (items_of written id list nodes) → All (IsItem list) (items_of written id list nodes)

@@ -53,7 +53,7 @@ fills-more e room less =
     let void = void-length (room - length (octets_of e)) (omega arith) in
     record { some = omega (arith, void.0, void.1); most = omega (arith, void.0, void.1) }
 
-fills-void : (room : ℕ) → 2 ≤ room → Fills room (void_header room)
+pub fills-void : (room : ℕ) → 2 ≤ room → Fills room (void_header room)
 fills-void room some = let void = void-length room some in record { some = void.0; most = void.1 }
 
 module _ (P : Option (List ℕ) → Type 0) (e : Element) (room : ℕ) (none : room < length (octets_of e) → P None) (fills : (octets : List ℕ) → Fills room octets → P (Some octets)) (some : 1 ≤ length (octets_of e)) where

@@ -1,80 +1,97 @@
--- What is written where something moves.
-use Rattle.std.proofs.Common.{◌≡◌, ℕ, ◌+◌, ◌≤◌, if◌then◌else◌, List, [], ◌∷◌, ◌++◌, length, Option, Some, None, Ok, Err, sym, ◌∙◌, ap, arith}
+-- What is written of parts and of the SeekHead.
+use Rattle.std.proofs.Common.{◌≡◌, ℕ, ◌+◌, ◌≤◌, Bool, true, false, if◌then◌else◌, List, [], ◌∷◌, ◌++◌, length, map, Option, Some, None, Ok, Err, sym, ◌∙◌, ap, arith}
+use Rattle.std.specs.List.{list_any}
 use Rattle.std.specs.Option.{unwrap_or}
 use Rattle.ebml_numbers.proofs.NumberLemmas.{is_id-bounds}
 use Rattle.mkv_schema.specs.declared.ids.TheConstants.{SEEK_HEAD}
-use Rattle.mkv_schema.specs.Element.{is_unknown}
 use Rattle.output_model.specs.Element.{Element, element, octets_of}
 use Rattle.element_reader.specs.Outline.{FileOutline}
 use Rattle.sidecar_edit.specs.Writes as disk
 use Rattle.edit_changes.specs.declared.refusal.Refusal.{Refusal}
 use Rattle.edit_changes.specs.SeekHead.{SeekHeadAt}
 use Rattle.edit_changes.specs.Span.{fitted}
-use Rattle.edit_changes.specs.Plan.{Part, appended, ascending, first_refusal, length_moving, moving_refusals, moving_writes, part_writes, place_of, room_of, seek_head, size_width, size_writes, unless, write, writes_moving}
-use Rattle.edit_plan.specs.Moving.{refused}
+use Rattle.edit_changes.specs.Plan.{Part, appended, ascending, first_refusal, length_moving, moves, moving_refusals, moving_writes, new_end, part_writes, place_of, room_of, seek_head, size_length, size_writes, unless, write, writes_moving}
+use Rattle.edit_plan.specs.declared.prepared.Prepared.{Prepared}
+use Rattle.edit_plan.specs.Moving.{IsPrepared, refused}
+use Rattle.edit_plan.specs.Shown.{written}
 use Rattle.edit_plan.proofs.FitLemmas.{fitted-same}
 use Rattle.edit_plan.proofs.OrderLemmas.{bytes_in}
-use Rattle.edit_plan.proofs.PlanLemmas.{seek_head-valid}
+use Rattle.edit_plan.proofs.PartLemmas.{seek_head-valid}
 use Rattle.edit_plan.proofs.SitsLemmas.{element-some, parts-bytes}
 
--- What was made of parts that move, and of the SeekHead: what is inside the new one, its room and how long it is; what is written of it;
--- what is written in the places of parts, and what is added; and how many octets that is.
-pub record IsMade (o : FileOutline) (ps : List Part) (head : Option SeekHeadAt) (body octets moved : List ℕ) (places : List disk.Write) (room need len : ℕ) : Type 0 where
-  pub body_is : element SEEK_HEAD body ≡ seek_head o ps head
+-- How the octets of the writes are counted: what is inside the new SeekHead and what its room is; what is written of it, where the old ones
+-- stand and at the end of the file; and how many octets the Segment's size has of that.
+pub record IsCounted (ids : List ℕ) (o : FileOutline) (ps : List Part) (head : Option SeekHeadAt) (body octets moved : List ℕ) (places : List disk.Write) (room size len : ℕ) : Type 0 where
+  pub body_is : element SEEK_HEAD body ≡ seek_head ids o ps head
   pub room_is : room ≡ room_of head o.others
-  pub need_is : length (octets_of (element SEEK_HEAD body)) ≡ need
   pub octets_is : octets ≡ unwrap_or (fitted (element SEEK_HEAD body) room) (octets_of (element SEEK_HEAD body))
   pub places_is : places ≡ part_writes ps
   pub moved_is : moved ≡ appended ps
-  pub len_is : len ≡ bytes_in places + length moved + length octets + (if is_unknown o.segment.size then 0 else size_width o.segment)
+  pub size_is : size ≡ (if list_any moves ps then size_length o.segment else 0)
+  pub len_is : len ≡ bytes_in places + length moved + length octets + size
 
-module _ (o : FileOutline) (ps : List Part) (head : Option SeekHeadAt) (body octets moved : List ℕ) (places : List disk.Write) (room need len : ℕ) (is : IsMade o ps head body octets moved places room need len) where
+module _ (ids : List ℕ) (o : FileOutline) (ps : List Part) (head : Option SeekHeadAt) where
   abbrev new : Element
-  new = seek_head o ps head
+  new = seek_head ids o ps head
 
   abbrev space : ℕ
   space = room_of head o.others
 
-  octets-is : octets ≡ unwrap_or (fitted new space) (octets_of new)
-  octets-is = is.octets_is ∙ ap (λ (e : Element). unwrap_or (fitted e room) (octets_of e)) is.body_is ∙ ap (λ r. unwrap_or (fitted new r) (octets_of new)) is.room_is
+  module _ (body octets moved : List ℕ) (places : List disk.Write) (room size len : ℕ) (is : IsCounted ids o ps head body octets moved places room size len) where
+    pub octets-are : octets ≡ unwrap_or (fitted new space) (octets_of new)
+    octets-are = is.octets_is ∙ ap (λ (e : Element). unwrap_or (fitted e room) (octets_of e)) is.body_is ∙ ap (λ r. unwrap_or (fitted new r) (octets_of new)) is.room_is
 
-  len-is : len ≡ length_moving o ps new space
-  len-is =
-      let one = ap bytes_in is.places_is ∙ parts-bytes ps in
-      let two = ap length is.moved_is in
-      let three = ap length octets-is in
-      let all = is.len_is in
-      omega arith
+    pub len-is : len ≡ length_moving o ps new space
+    len-is =
+        let one = ap bytes_in is.places_is ∙ parts-bytes ps in
+        let two = ap length is.moved_is in
+        let three = ap length octets-are in
+        let four = is.size_is in
+        let all = is.len_is in
+        omega arith
 
-  need-is : need ≡ length (octets_of new)
-  need-is = sym is.need_is ∙ ap (λ (e : Element). length (octets_of e)) is.body_is
+  module _ (p : Prepared) (is : IsPrepared ids o ps head p) where
+    refusals-are : refused o ps p.length (length p.moved.items) p.need p.room ≡ first_refusal (moving_refusals o ps new space)
+    refusals-are =
+        ap (λ n. refused o ps n (length p.moved.items) p.need p.room) is.all
+        ∙ ap (λ n. refused o ps (length_moving o ps new space) n p.need p.room) (ap length is.moved)
+        ∙ ap (λ n. refused o ps (length_moving o ps new space) (length (appended ps)) n p.room) is.need
+        ∙ ap (λ n. refused o ps (length_moving o ps new space) (length (appended ps)) (length (octets_of new)) n) is.room
 
-  refusals-are : refused o ps len (length moved) need room ≡ first_refusal (moving_refusals o ps new space)
-  refusals-are =
-      ap (λ n. refused o ps n (length moved) need room) len-is
-      ∙ ap (λ n. refused o ps (length_moving o ps new space) n need room) (ap length is.moved_is)
-      ∙ ap (λ n. refused o ps (length_moving o ps new space) (length (appended ps)) n room) need-is
-      ∙ ap (λ n. refused o ps (length_moving o ps new space) (length (appended ps)) (length (octets_of new)) n) is.room_is
+    unless-are : (r : Option Refusal) → r ≡ refused o ps p.length (length p.moved.items) p.need p.room → writes_moving ids o ps head ≡ unless r (moving_writes o ps new (place_of head) space)
+    unless-are r found = ap (λ x. unless x (moving_writes o ps new (place_of head) space)) (sym refusals-are ∙ sym found)
 
-  unless-are : (r : Option Refusal) → r ≡ refused o ps len (length moved) need room → writes_moving o ps head ≡ unless r (moving_writes o ps new (place_of head) space)
-  unless-are r found = ap (λ x. unless x (moving_writes o ps new (place_of head) space)) (sym refusals-are ∙ sym found)
+    -- it is refused
+    pub prepared-refused : (r : Refusal) → Some r ≡ refused o ps p.length (length p.moved.items) p.need p.room → writes_moving ids o ps head ≡ Err r
+    prepared-refused r found = unless-are (Some r) found
 
-  -- it is refused
-  pub moved-refused : (r : Refusal) → Some r ≡ refused o ps len (length moved) need room → writes_moving o ps head ≡ Err r
-  moved-refused r found = unless-are (Some r) found
+    module _ (found : None ≡ refused o ps p.length (length p.moved.items) p.need p.room) (reaches : p.need ≤ p.room) where
+      middle-is : ascending (write (place_of head) p.head.items ∷ map written p.places.items) ≡ ascending (write (place_of head) (unwrap_or (fitted new space) []) ∷ part_writes ps)
+      middle-is =
+          let some = element-some SEEK_HEAD _ (is_id-bounds SEEK_HEAD seek_head-valid).0 in
+          let need = is.need in let room = is.room in
+          let less : length (octets_of new) ≤ space = omega arith in
+          let whole : p.head.items ≡ unwrap_or (fitted new space) [] = is.head ∙ fitted-same new space (octets_of new) [] less some in
+          ap (λ (w : List ℕ). ascending (write (place_of head) w ∷ map written p.places.items)) whole
+          ∙ ap (λ (ws : List disk.Write). ascending (write (place_of head) (unwrap_or (fitted new space) []) ∷ ws)) is.places
 
-  -- it is written
-  pub moved-done : None ≡ refused o ps len (length moved) need room → need ≤ room → (place : ℕ) (all : List disk.Write) → place ≡ place_of head
-      → all ≡ size_writes o.segment (o.total + length moved) ++ ascending (write place octets ∷ places) ++ write o.total moved ∷ []
-      → writes_moving o ps head ≡ Ok all
-  moved-done found reaches place all at made =
-      let some = element-some SEEK_HEAD _ (is_id-bounds SEEK_HEAD seek_head-valid).0 in
-      let less : length (octets_of new) ≤ space = omega (arith, need-is, is.room_is) in
-      let written : octets ≡ unwrap_or (fitted new space) [] = octets-is ∙ fitted-same new space (octets_of new) [] less some in
-      unless-are None found
-      ∙ ap (λ (ws : List disk.Write). Ok ws) (sym (
-      made
-      ∙ ap (λ p. size_writes o.segment (o.total + length moved) ++ ascending (write p octets ∷ places) ++ write o.total moved ∷ []) at
-      ∙ ap (λ (w : List ℕ). size_writes o.segment (o.total + length moved) ++ ascending (write (place_of head) w ∷ places) ++ write o.total moved ∷ []) written
-      ∙ ap (λ (ws : List disk.Write). size_writes o.segment (o.total + length moved) ++ ascending (write (place_of head) (unwrap_or (fitted new space) []) ∷ ws) ++ write o.total moved ∷ []) is.places_is
-      ∙ ap (λ (m : List ℕ). size_writes o.segment (o.total + length m) ++ ascending (write (place_of head) (unwrap_or (fitted new space) []) ∷ part_writes ps) ++ write o.total m ∷ []) is.moved_is))
+      -- it is written, and nothing is appended
+      pub prepared-stays : list_any moves ps ≡ false → (all : List disk.Write) → all ≡ ascending (write (place_of head) p.head.items ∷ map written p.places.items) → writes_moving ids o ps head ≡ Ok all
+      prepared-stays still all made =
+          let others : List disk.Write = size_writes o.segment (new_end o ps) ++ ascending (write (place_of head) (unwrap_or (fitted new space) []) ∷ part_writes ps) ++ write o.total (appended ps) ∷ [] in
+          unless-are None found
+          ∙ ap (λ (b : Bool). Ok (if b then others else ascending (write (place_of head) (unwrap_or (fitted new space) []) ∷ part_writes ps))) still
+          ∙ ap (λ (ws : List disk.Write). Ok ws) (sym (made ∙ middle-is))
+
+      -- it is written, and something is appended
+      pub prepared-moves : list_any moves ps ≡ true → (all : List disk.Write)
+          → all ≡ size_writes o.segment (o.total + length p.moved.items) ++ ascending (write (place_of head) p.head.items ∷ map written p.places.items) ++ write o.total p.moved.items ∷ []
+          → writes_moving ids o ps head ≡ Ok all
+      prepared-moves any all made =
+          let inner : List disk.Write = ascending (write (place_of head) (unwrap_or (fitted new space) []) ∷ part_writes ps) in
+          unless-are None found
+          ∙ ap (λ (b : Bool). Ok (if b then size_writes o.segment (new_end o ps) ++ inner ++ write o.total (appended ps) ∷ [] else inner)) any
+          ∙ ap (λ (ws : List disk.Write). Ok ws) (sym (
+          made
+          ∙ ap (λ (ws : List disk.Write). size_writes o.segment (o.total + length p.moved.items) ++ ws ++ write o.total p.moved.items ∷ []) middle-is
+          ∙ ap (λ (m : List ℕ). size_writes o.segment (o.total + length m) ++ inner ++ write o.total m ∷ []) is.moved))

@@ -3,12 +3,28 @@ use Rattle.std.proofs.Common.{◌≡◌, ℕ, ◌==◌, Bool, true, false, if◌
 use Rattle.std.specs.Option.{option_map_or}
 use Rattle.std.proofs.lemmas.Bool.Decides.{nat_tests}
 use Rattle.ebml_numbers.specs.Number.{is_id}
-use Rattle.mkv_schema.specs.declared.ids.TheConstants.{CLUSTER}
+use Rattle.mkv_schema.specs.declared.ids.TheConstants.{CLUSTER, INFO, SEEK_HEAD, TRACKS}
 use Rattle.mkv_schema.specs.declared.element.Header.{Header}
 use Rattle.mkv_schema.specs.Value.{first_of}
 use Rattle.element_reader.specs.Outline.{FileOutline, first_in}
 use Rattle.tree_format.specs.Node.{Node}
 use Rattle.edit_changes.specs.Plan.{part, part_of}
+
+-- ---- IDs
+
+pub info-valid : is_id INFO ≡ true
+unfolding is_id
+info-valid = refl
+
+pub tracks-valid : is_id TRACKS ≡ true
+unfolding is_id
+tracks-valid = refl
+
+pub seek_head-valid : is_id SEEK_HEAD ≡ true
+unfolding is_id
+seek_head-valid = refl
+
+-- ---- the first of an ID
 
 -- the first of an ID has it
 pub first-own : (id : ℕ) (list : List Header) (h : Header) → first_of id list ≡ Some h → h.id ≡ id

@@ -1,14 +1,15 @@
 -- What edits write is the plan of an edit.
 use Rattle.std.proofs.Common.{◌≡◌, ℕ, ◌+◌, ◌-◌, ◌<◌, ◌≤◌, nat_lt, Bool, true, false, ◌||◌, if◌then◌else◌, List, [], ◌∷◌, ◌++◌, length, map, flat_map, Option, Some, None, Result, Ok, Err, refl, sym, ◌∙◌, ap, subst, arith}
-use Rattle.std.specs.List.{list_any}
-use Rattle.std.specs.Option.{option_and_then, unwrap_or}
-use Rattle.std.proofs.lemmas.List.{length-append, length-map, length-take, map-append}
+use Rattle.std.specs.List.{cons_option, list_any}
+use Rattle.std.specs.Prelude.{filter_map}
+use Rattle.std.specs.Option.{option_and_then, option_map_or, unwrap_or}
+use Rattle.std.proofs.lemmas.List.{length-append, length-map, length-take}
 use Rattle.std.proofs.lemmas.List.Sums.{sum_by-append}
 use Rattle.std.proofs.lemmas.Bool.Decides.{nat_tests}
-use Rattle.ebml_numbers.specs.Number.{id_octets, is_id, size_octets}
+use Rattle.ebml_numbers.specs.Number.{id_octets, size_octets}
 use Rattle.ebml_numbers.proofs.NumberLemmas.{length-size_octets, is_id-bounds}
 use Rattle.ebml_numbers.proofs.WidthLemmas.{least_size_width-IsLeast}
-use Rattle.mkv_schema.specs.declared.ids.TheConstants.{INFO, TRACKS, SEEK_HEAD, SEGMENT}
+use Rattle.mkv_schema.specs.declared.ids.TheConstants.{SEEK_HEAD, SEGMENT}
 use Rattle.mkv_io.specs.declared.damage.Damage.{Damage}
 use Rattle.mkv_io.specs.declared.outside.TheConstants.{LONGEST_FILE}
 use Rattle.word_values.specs.declared.edit.Edit.{Edit}
@@ -32,16 +33,18 @@ use Rattle.edit_changes.specs.declared.refusal.Room.{Room}
 use Rattle.edit_changes.specs.declared.refusal.Room.TheVariants as room
 use Rattle.edit_changes.specs.declared.refusal.TheConstants.{MOST_WRITTEN}
 use Rattle.edit_changes.specs.declared.trees.Trees.{Trees}
-use Rattle.edit_changes.specs.Change.{are_of_info, are_of_tracks, edited_trees, and_then as edits_then}
+use Rattle.edit_changes.specs.Change.{edited_trees, and_then as edits_then}
 use Rattle.edit_changes.specs.Records.{EditableFile, editable, trees_of}
 use Rattle.edit_changes.specs.SeekHead.{SeekHeadAt, before_clusters, if_read, if_sound, seek_head_of}
 use Rattle.edit_changes.specs.Span.{fitted, span_of}
-use Rattle.edit_changes.specs.Plan.{if_editable, plan_of, Part, part_of, part_writes, parts, in_place, info_nodes, place, write, recorded, ascending, moves, moving, appended, elements_moving, length_in_place, length_moving, most_nodes, too_large, unless, first_refusal, lacks, size_refusal, size_need, size_width, size_writes, new_end, tail_refusal, twin_refusal, moving_refusals, moving_writes, writes_moving, writes_in_place, writes_of_parts, seek_head}
+use Rattle.edit_changes.specs.Plan.{edit_ids, if_editable, plan_of, Part, part_writes, parts, place, write, recorded, ascending, moves, moving, appended, elements_moving, length_in_place, length_moving, most_nodes, too_large, unless, first_refusal, lacks, size_length, size_refusal, size_need, size_width, size_writes, new_end, tail_refusal, twin_refusal, moving_refusals, moving_writes, writes_moving, writes_in_place, writes_of_parts, seek_head}
+use Rattle.edit_plan.specs.Laws.{ArePartsOf, PartsAreInOrder}
 use Rattle.edit_plan.proofs.LevelLemmas.{Stand, Stand-later, level-stands}
 use Rattle.edit_plan.proofs.VoidLemmas.{first-room}
-use Rattle.edit_plan.proofs.OrderLemmas.{AreApart, Between, between-append, between-last, between-order, order-extent, ascending-between, ascending-bytes, ascending-length, bytes_in, bytes_in-cons, places-bytes}
+use Rattle.edit_plan.proofs.OrderLemmas.{Between, between-append, between-last, between-order, order-extent, ascending-between, ascending-bytes, ascending-length, bytes_in, bytes_in-cons, places-bytes}
 use Rattle.edit_plan.proofs.FitLemmas.{fills-fitted, fitted-same}
-use Rattle.edit_plan.proofs.SitsLemmas.{MaySit, SitsAt, element-some, part-few, part-sits, parts-bytes, three-apart, two-apart}
+use Rattle.edit_plan.proofs.PartLemmas.{seek_head-valid}
+use Rattle.edit_plan.proofs.SitsLemmas.{SitsAt, edits-are, element-some, head-apart, parts-apart, parts-bytes, parts-few}
 
 -- ---- level 1 of an outline
 
@@ -107,23 +110,26 @@ size-none segment end known is = of (is_unknown segment.size) known is
 flat_map-next : {X : Type 0} (f : X → List ℕ) (x : X) (xs : List X) → flat_map f (x ∷ xs) ≡ f x ++ flat_map f xs
 flat_map-next f x xs = refl
 
--- where something moves there is something to append
-pub appended-cons : (p : Part) (ps : List Part) → appended (p ∷ ps) ≡ (if moves p then octets_of p.element ++ appended ps else appended ps)
-appended-cons p ps = of (moves p)
-  where
-    of : (b : Bool) → flat_map octets_of (map (λ (q : Part). q.element) (if b then p ∷ moving ps else moving ps)) ≡ (if b then octets_of p.element ++ appended ps else appended ps)
-    of true = flat_map-next octets_of p.element (elements_moving ps)
-    of false = refl
+-- the first of two, where the test is known to be true
+pub if-true : {A : Type 0} (b : Bool) (x y z : A) → b ≡ true → (if b then x else y) ≡ z → x ≡ z
+if-true b x y z is found = sym (ap (λ (c : Bool). if c then x else y) is) ∙ found
 
+-- where something moves there is something to append
 pub appended-some : (ps : List Part) → list_any moves ps ≡ true → 1 ≤ length (appended ps)
 appended-some [] any = absurd (cc)
-appended-some (p ∷ ps) any = rw (appended-cons p ps) (of (appended-some ps) (moves p) refl any)
+appended-some (p ∷ ps) any = of (appended-some ps) (moves p) refl any
   where
-    of : (list_any moves ps ≡ true → 1 ≤ length (appended ps)) → (b : Bool) → moves p ≡ b → (b || list_any moves ps) ≡ true → 1 ≤ length (if b then octets_of p.element ++ appended ps else appended ps)
-    of later true is any =
-        let long : p.room < length (octets_of p.element) = grind (arith, nat_tests) in
-        let both = length-append (octets_of p.element) (appended ps) in
+    own : (new : Option Element) → option_map_or (λ e. nat_lt p.room (length (octets_of e))) new false ≡ true → 1 ≤ length (flat_map octets_of (cons_option new (elements_moving ps)))
+    own None test = absurd (cc)
+    own (Some e) test =
+        let long : p.room < length (octets_of e) = grind (arith, nat_tests) in
+        let all = ap length (flat_map-next octets_of e (elements_moving ps)) in
+        let both = length-append (octets_of e) (flat_map octets_of (elements_moving ps)) in
         omega arith
+
+    of : (list_any moves ps ≡ true → 1 ≤ length (appended ps)) → (b : Bool) → moves p ≡ b → (b || list_any moves ps) ≡ true
+        → 1 ≤ length (flat_map octets_of (filter_map (λ (q : Part). q.element) (if b then p ∷ moving ps else moving ps)))
+    of later true is any = own p.element is
     of later false is any = later any
 
 -- ---- the SeekHead that is there
@@ -149,18 +155,6 @@ head-first bytes o s is = of (first_of SEEK_HEAD o.others) is
 
 -- ---- the law
 
-pub info-valid : is_id INFO ≡ true
-unfolding is_id
-info-valid = refl
-
-pub tracks-valid : is_id TRACKS ≡ true
-unfolding is_id
-tracks-valid = refl
-
-pub seek_head-valid : is_id SEEK_HEAD ≡ true
-unfolding is_id
-seek_head-valid = refl
-
 bytes_in-append : (xs ys : List Write) → bytes_in (xs ++ ys) ≡ bytes_in xs + bytes_in ys
 bytes_in-append xs ys = sum_by-append (λ (w : Write). length w.bytes) xs ys
 
@@ -184,57 +178,34 @@ planned bytes ws short few small order = record {
         ap length (flat_map-next (λ (w : Write). w.bytes) v vs) ∙ length-append v.bytes (flat_map (λ (w : Write). w.bytes) vs)
         ∙ ap (λ n. length v.bytes + n) (payload vs) ∙ sym (bytes_in-cons v vs)
 
-module _ (bytes : List ℕ) (o : FileOutline) (edits : List Edit) (t : Trees) (level : IsLevel o) (total : o.total ≡ length bytes) (short : length bytes ≤ LONGEST_FILE) where
-  abbrev info : List Part
-  info = part_of (are_of_info edits) INFO o.others (info_nodes t.info)
+module _ (bytes : List ℕ) (o : FileOutline) (ids : List ℕ) (ps : List Part) (level : IsLevel o) (are : ArePartsOf o.others ps) (total : o.total ≡ length bytes) (short : length bytes ≤ LONGEST_FILE) where
+  all-few : length (part_writes ps) ≤ 5
+  all-few = let some = parts-few ps in let few = are.few in omega arith
 
-  abbrev tracks : List Part
-  tracks = part_of (are_of_tracks edits) TRACKS o.others t.tracks
-
-  abbrev all : List Part
-  all = info ++ tracks
-
-  info-sits : (q : ℕ) → Stand q o.total o.others → MaySit o.others INFO (part_writes info)
-  info-sits q stand = part-sits q o.total o.others stand (are_of_info edits) INFO (info_nodes t.info) (is_id-bounds INFO info-valid).0
-
-  tracks-sits : (q : ℕ) → Stand q o.total o.others → MaySit o.others TRACKS (part_writes tracks)
-  tracks-sits q stand = part-sits q o.total o.others stand (are_of_tracks edits) TRACKS t.tracks (is_id-bounds TRACKS tracks-valid).0
-
-  all-writes : part_writes all ≡ part_writes info ++ part_writes tracks
-  all-writes = map-append _ info tracks
-
-  all-few : length (part_writes all) ≤ 2
-  all-few =
-      let one = part-few (are_of_info edits) INFO o.others (info_nodes t.info) in
-      let two = part-few (are_of_tracks edits) TRACKS o.others t.tracks in
-      let both = length-append info tracks in
-      omega (arith, length-map all (λ (p : Part). write p.place (in_place p)))
-
-  head-some : (head : Option SeekHeadAt) → 1 ≤ length (octets_of (seek_head o all head))
+  head-some : (head : Option SeekHeadAt) → 1 ≤ length (octets_of (seek_head ids o ps head))
   head-some head = element-some SEEK_HEAD _ (is_id-bounds SEEK_HEAD seek_head-valid).0
 
-  -- what stays where it is
-  in-place-planned : (ws : List Write) → writes_in_place all ≡ Ok ws → IsPlan (recorded bytes ws)
+  -- the parts alone
+  in-place-planned : (ws : List Write) → writes_in_place ps ≡ Ok ws → IsPlan (recorded bytes ws)
   in-place-planned ws is =
-      let split = unless-none (too_large (length_in_place all) all) (ascending (part_writes all)) ws is in
-      let small = large-none (length_in_place all) all split.0 in
+      let split = unless-none (too_large (length_in_place ps) ps) (ascending (part_writes ps)) ws is in
+      let small = large-none (length_in_place ps) ps split.0 in
       let stand = Stand-later 0 o.segment.body o.total o.others (omega arith) level.stand in
-      let apart : AreApart 0 o.total (part_writes all) =
-      subst (AreApart 0 o.total) (sym all-writes) (two-apart 0 o.total o.others stand (part_writes info) (part_writes tracks) (omega arith) (info-sits 0 stand) (tracks-sits 0 stand)) in
-      let between = ascending-between 0 o.total (part_writes all) apart in
-      let order = between-order o.total 0 (ascending (part_writes all)) between in
+      let apart = parts-apart 0 o.total o.others stand ps (omega arith) are.parts are.distinct in
+      let between = ascending-between 0 o.total (part_writes ps) apart in
+      let order = between-order o.total 0 (ascending (part_writes ps)) between in
       subst (λ vs. IsPlan (recorded bytes vs)) split.1
-      (planned bytes (ascending (part_writes all)) short
-      (omega (arith, ascending-length (part_writes all), all-few))
-      (omega (arith, ascending-bytes (part_writes all), parts-bytes all, small))
-      (subst (λ n. AreInOrder n 0 (map place (ascending (part_writes all)))) total order))
+      (planned bytes (ascending (part_writes ps)) short
+      (omega (arith, ascending-length (part_writes ps), all-few))
+      (omega (arith, ascending-bytes (part_writes ps), parts-bytes ps, small))
+      (subst (λ n. AreInOrder n 0 (map place (ascending (part_writes ps)))) total order))
 
-  module _ (any : list_any moves all ≡ true) (s : SeekHeadAt) (first : first_of SEEK_HEAD o.others ≡ Some s.header) (seeks : Element) (some : 1 ≤ length (octets_of seeks)) where
+  module _ (s : SeekHeadAt) (first : first_of SEEK_HEAD o.others ≡ Some s.header) (seeks : Element) (some : 1 ≤ length (octets_of seeks)) where
     abbrev space : ℕ
     space = span_of s.header o.others
 
     abbrev middle : List Write
-    middle = write s.header.offset (unwrap_or (fitted seeks space) []) ∷ part_writes all
+    middle = write s.header.offset (unwrap_or (fitted seeks space) []) ∷ part_writes ps
 
     begins : o.segment.body ≤ o.total
     begins =
@@ -247,10 +218,12 @@ module _ (bytes : List ℕ) (o : FileOutline) (edits : List Edit) (t : Trees) (l
         let fills = fills-fitted seeks space reaches some in
         let sits : SitsAt o.others SEEK_HEAD (write s.header.offset (unwrap_or (fitted seeks space) [])) =
         record { header = s.header; first = first; at = refl; some = fills.some; most = fills.most } in
-        let apart = three-apart o.segment.body o.total o.others level.stand _ (part_writes info) (part_writes tracks) begins sits
-        (info-sits o.segment.body level.stand) (tracks-sits o.segment.body level.stand) in
-        ascending-between o.segment.body o.total middle
-        (subst (λ vs. AreApart o.segment.body o.total (write s.header.offset (unwrap_or (fitted seeks space) []) ∷ vs)) (sym all-writes) apart)
+        ascending-between o.segment.body o.total middle (head-apart o.segment.body o.total o.others level.stand _ ps begins sits are.parts are.distinct)
+
+    middle-bytes : length (octets_of seeks) ≤ space → bytes_in (ascending middle) ≡ length (unwrap_or (fitted seeks space) (octets_of seeks)) + length_in_place ps
+    middle-bytes reaches =
+        let same = ap length (fitted-same seeks space [] (octets_of seeks) reaches some) in
+        omega (arith, ascending-bytes middle, bytes_in-cons (write s.header.offset (unwrap_or (fitted seeks space) [])) (part_writes ps), parts-bytes ps, same)
 
     -- the Segment's size, in front of its body
     size-between : (unknown : Bool) (end : ℕ) → (unknown ≡ false → 1 ≤ size_width o.segment)
@@ -274,66 +247,93 @@ module _ (bytes : List ℕ) (o : FileOutline) (edits : List Edit) (t : Trees) (l
         ∙ (let long = length-size_octets (end - o.segment.body) (size_width o.segment) in omega arith)
 
     -- its size has space for one octet
-    size-wide : too_large (length_moving o all seeks space) all ≡ None → size_refusal o.segment (new_end o all) ≡ None → is_unknown o.segment.size ≡ false → 1 ≤ size_width o.segment
+    size-wide : too_large (length_moving o ps seeks space) ps ≡ None → size_refusal o.segment (new_end o ps) ≡ None → is_unknown o.segment.size ≡ false → 1 ≤ size_width o.segment
     size-wide large fits known =
-        let small = large-none (length_moving o all seeks space) all large in
-        let need = size-none o.segment (new_end o all) known fits in
-        let least = (least_size_width-IsLeast (new_end o all - o.segment.body) (omega (arith, total))).some in
+        let small = large-none (length_moving o ps seeks space) ps large in
+        let need = size-none o.segment (new_end o ps) known fits in
+        let least = (least_size_width-IsLeast (new_end o ps - o.segment.body) (omega (arith, total))).some in
         omega arith
 
-    -- what moves
-    moving-planned : (ws : List Write) → unless (first_refusal (moving_refusals o all seeks space)) (moving_writes o all seeks s.header.offset space) ≡ Ok ws → IsPlan (recorded bytes ws)
-    moving-planned ws is =
-        let split = unless-none (first_refusal (moving_refusals o all seeks space)) (moving_writes o all seeks s.header.offset space) ws is in
-        let large = first-none (too_large (length_moving o all seeks space) all) _ split.0 in
-        let tail = first-none (tail_refusal o) _ large.1 in
-        let twin = first-none (twin_refusal o.others (moving all)) _ tail.1 in
-        let head = first-none (lacks room.SeekHead (length (octets_of seeks)) space) _ twin.1 in
-        let size = first-none (size_refusal o.segment (new_end o all)) [] head.1 in
-        let reaches = lacks-none _ _ _ head.0 in
-        let small = large-none (length_moving o all seeks space) all large.0 in
-        let front : List Write = size_writes o.segment (new_end o all) in
-        let sized = size-between (is_unknown o.segment.size) (new_end o all) (size-wide large.0 size.0) in
+    -- the SeekHead and the parts, where nothing is appended
+    stays-planned : list_any moves ps ≡ false → (ws : List Write) → ascending middle ≡ ws → length (octets_of seeks) ≤ space → length_moving o ps seeks space ≤ MOST_WRITTEN → IsPlan (recorded bytes ws)
+    stays-planned still ws is reaches small =
+        let before = between-append 0 o.segment.body o.total [] (ascending middle) (omega arith) (middle-between reaches) in
+        let order = between-order o.total 0 (ascending middle) before in
+        subst (λ vs. IsPlan (recorded bytes vs)) is
+        (planned bytes (ascending middle) short
+        (omega (arith, ascending-length middle, all-few))
+        (omega (arith, middle-bytes reaches, small))
+        (subst (λ n. AreInOrder n 0 (map place (ascending middle))) total order))
+
+    -- where something is
+    moves-planned : list_any moves ps ≡ true → (ws : List Write) → size_writes o.segment (new_end o ps) ++ ascending middle ++ write o.total (appended ps) ∷ [] ≡ ws → length (octets_of seeks) ≤ space
+        → too_large (length_moving o ps seeks space) ps ≡ None → size_refusal o.segment (new_end o ps) ≡ None → IsPlan (recorded bytes ws)
+    moves-planned any ws is reaches large fits =
+        let small = large-none (length_moving o ps seeks space) ps large in
+        let front : List Write = size_writes o.segment (new_end o ps) in
+        let sized = size-between (is_unknown o.segment.size) (new_end o ps) (size-wide large fits) in
         let before = between-append 0 o.segment.body o.total front (ascending middle) sized (middle-between reaches) in
-        let order = between-last o.total 0 (front ++ ascending middle) (appended all) before (appended-some all any) in
-        let same = ap length (fitted-same seeks space [] (octets_of seeks) reaches some) in
-        let bytes_front = size-bytes (is_unknown o.segment.size) (new_end o all) in
-        subst (λ vs. IsPlan (recorded bytes vs)) split.1
-        (planned bytes (front ++ ascending middle ++ write o.total (appended all) ∷ []) short
-        (omega (arith, length-append (front ++ ascending middle) (write o.total (appended all) ∷ []), length-append front (ascending middle), ascending-length middle, size-few (is_unknown o.segment.size) (new_end o all), all-few))
+        let order = between-last o.total 0 (front ++ ascending middle) (appended ps) before (appended-some ps any) in
+        let counted : (if list_any moves ps then size_length o.segment else 0) ≡ size_length o.segment = ap (λ (b : Bool). if b then size_length o.segment else 0) any in
+        let bytes_front = size-bytes (is_unknown o.segment.size) (new_end o ps) in
+        subst (λ vs. IsPlan (recorded bytes vs)) is
+        (planned bytes (front ++ ascending middle ++ write o.total (appended ps) ∷ []) short
+        (omega (arith, length-append (front ++ ascending middle) (write o.total (appended ps) ∷ []), length-append front (ascending middle), ascending-length middle, size-few (is_unknown o.segment.size) (new_end o ps), all-few))
         (omega (
           arith,
-          bytes_in-append (front ++ ascending middle) (write o.total (appended all) ∷ []),
+          bytes_in-append (front ++ ascending middle) (write o.total (appended ps) ∷ []),
           bytes_in-append front (ascending middle),
-          ascending-bytes middle,
-          bytes_in-cons (write s.header.offset (unwrap_or (fitted seeks space) [])) (part_writes all),
-          bytes_in-cons (write o.total (appended all)) [],
-          parts-bytes all,
-          same,
+          middle-bytes reaches,
+          bytes_in-cons (write o.total (appended ps)) [],
+          counted,
           bytes_front,
           small,
         ))
-        (subst (λ n. AreInOrder n 0 (map place (front ++ ascending middle ++ write o.total (appended all) ∷ []))) total order))
+        (subst (λ n. AreInOrder n 0 (map place (front ++ ascending middle ++ write o.total (appended ps) ∷ []))) total order))
 
-  moving-found : (ws : List Write) → list_any moves all ≡ true → (head : Option SeekHeadAt) → seek_head_of bytes o ≡ head → writes_moving o all head ≡ Ok ws → IsPlan (recorded bytes ws)
-  moving-found ws any None is made =
-      let split = unless-none (first_refusal (moving_refusals o all (seek_head o all None) 0)) _ ws made in
-      let large = first-none (too_large (length_moving o all (seek_head o all None) 0) all) _ split.0 in
-      let tail = first-none (tail_refusal o) _ large.1 in
-      let twin = first-none (twin_refusal o.others (moving all)) _ tail.1 in
-      let head = first-none (lacks room.SeekHead (length (octets_of (seek_head o all None))) 0) _ twin.1 in
+    moving-planned : (ws : List Write) → unless (first_refusal (moving_refusals o ps seeks space)) (moving_writes o ps seeks s.header.offset space) ≡ Ok ws → IsPlan (recorded bytes ws)
+    moving-planned ws is =
+        let split = unless-none (first_refusal (moving_refusals o ps seeks space)) (moving_writes o ps seeks s.header.offset space) ws is in
+        let large = first-none (too_large (length_moving o ps seeks space) ps) _ split.0 in
+        let tail = first-none (if list_any moves ps then tail_refusal o else None) _ large.1 in
+        let twin = first-none (twin_refusal o.others (moving ps)) _ tail.1 in
+        let head = first-none (lacks room.SeekHead (length (octets_of seeks)) space) _ twin.1 in
+        let size = first-none (if list_any moves ps then size_refusal o.segment (new_end o ps) else None) [] head.1 in
+        let reaches = lacks-none _ _ _ head.0 in
+        of (list_any moves ps) refl reaches large.0 size.0 split.1
+      where
+        of : (any : Bool) → list_any moves ps ≡ any → length (octets_of seeks) ≤ space → too_large (length_moving o ps seeks space) ps ≡ None
+            → (if any then size_refusal o.segment (new_end o ps) else None) ≡ None → (if any then size_writes o.segment (new_end o ps) ++ ascending middle ++ write o.total (appended ps) ∷ [] else ascending middle) ≡ ws → IsPlan (recorded bytes ws)
+        of true any reaches large fits made = moves-planned any ws made reaches large fits
+        of false still reaches large fits made = stays-planned still ws made reaches (large-none (length_moving o ps seeks space) ps large)
+
+  moving-found : (ws : List Write) → (head : Option SeekHeadAt) → seek_head_of bytes o ≡ head → writes_moving ids o ps head ≡ Ok ws → IsPlan (recorded bytes ws)
+  moving-found ws None is made =
+      let split = unless-none (first_refusal (moving_refusals o ps (seek_head ids o ps None) 0)) _ ws made in
+      let large = first-none (too_large (length_moving o ps (seek_head ids o ps None) 0) ps) _ split.0 in
+      let tail = first-none (if list_any moves ps then tail_refusal o else None) _ large.1 in
+      let twin = first-none (twin_refusal o.others (moving ps)) _ tail.1 in
+      let head = first-none (lacks room.SeekHead (length (octets_of (seek_head ids o ps None))) 0) _ twin.1 in
       let reaches = lacks-none _ _ _ head.0 in
       let some = head-some None in
       absurd (omega arith)
-  moving-found ws any (Some s) is made = moving-planned any s (head-first bytes o s is) (seek_head o all (Some s)) (head-some (Some s)) ws made
+  moving-found ws (Some s) is made = moving-planned s (head-first bytes o s is) (seek_head ids o ps (Some s)) (head-some (Some s)) ws made
 
-  -- What edits write is the plan of an edit.
-  pub parts-planned : (ws : List Write) → writes_of_parts bytes o (parts o.others edits t) ≡ Ok ws → IsPlan (recorded bytes ws)
-  parts-planned ws made = of (list_any moves all) refl made
+  -- What is written of parts is the plan of an edit.
+  pub parts-planned : (always : Bool) (ws : List Write) → writes_of_parts ids always bytes o ps ≡ Ok ws → IsPlan (recorded bytes ws)
+  parts-planned always ws made = of (always || list_any moves ps) made
     where
-      of : (any : Bool) → list_any moves all ≡ any → (if any then writes_moving o all (seek_head_of bytes o) else writes_in_place all) ≡ Ok ws → IsPlan (recorded bytes ws)
-      of true any is = moving-found ws any (seek_head_of bytes o) refl is
-      of false any is = in-place-planned ws is
+      of : (heads : Bool) → (if heads then writes_moving ids o ps (seek_head_of bytes o) else writes_in_place ps) ≡ Ok ws → IsPlan (recorded bytes ws)
+      of true is = moving-found ws (seek_head_of bytes o) refl is
+      of false is = in-place-planned ws is
+
+-- the total of an outline is the file's
+total-is : (held : ℕ) (bytes : List ℕ) (o : FileOutline) → outline_in held bytes ≡ Ok o → o.total ≡ length bytes
+total-is held bytes o is = let shows = (Outlines-shown held bytes o is).shows in ap (λ (v : FileOutline). v.total) shows
+
+pub parts-in-order : PartsAreInOrder
+parts-in-order bytes held o ids always ps ws short outline are made =
+    parts-planned bytes o ids ps (IsLevel-shown held bytes o outline) are (total-is held bytes o outline) short always ws made
 
 -- the outline of a file that can be edited is the file's
 pub editable-outline : (bytes : List ℕ) (f : EditableFile) → editable bytes ≡ Ok f → outline_in 0 bytes ≡ Ok f.outline
@@ -349,18 +349,13 @@ pub plan_of-planned : (bytes : List ℕ) (edits : List Edit) (ws : List Write) �
 unfolding plan_of
 plan_of-planned bytes edits ws short is = of (editable bytes) refl is
   where
-    total-of : (o : FileOutline) → outline_in 0 bytes ≡ Ok o → o.total ≡ length bytes
-    total-of o is = let shows = (Outlines-shown 0 bytes o is).shows in ap (λ (v : FileOutline). v.total) shows
-
     trees : (f : EditableFile) → editable bytes ≡ Ok f → (t : Result Trees Refusal)
-        → edits_then t (λ x. writes_of_parts bytes f.outline (parts f.outline.others edits x)) ≡ Ok ws → IsPlan (recorded bytes ws)
-    trees f found (Ok t) is =
-        let outline = editable-outline bytes f found in
-        parts-planned bytes f.outline edits t (IsLevel-shown 0 bytes f.outline outline) (total-of f.outline outline) short ws is
+        → edits_then t (λ x. writes_of_parts edit_ids false bytes f.outline (parts f.outline.others edits x)) ≡ Ok ws → IsPlan (recorded bytes ws)
+    trees f found (Ok t) is = parts-in-order bytes 0 f.outline edit_ids false _ ws short (editable-outline bytes f found) (edits-are f.outline.others edits t) is
     trees f found (Err r) is = absurd (cc)
 
     of : (found : Result EditableFile Damage) → editable bytes ≡ found
-        → edits_then (if_editable found) (λ f. edits_then (edited_trees edits f.trees) (λ t. writes_of_parts bytes f.outline (parts f.outline.others edits t))) ≡ Ok ws
+        → edits_then (if_editable found) (λ f. edits_then (edited_trees edits f.trees) (λ t. writes_of_parts edit_ids false bytes f.outline (parts f.outline.others edits t))) ≡ Ok ws
         → IsPlan (recorded bytes ws)
     of (Ok f) found is = trees f found (edited_trees edits f.trees) is
     of (Err d) found is = absurd (cc)

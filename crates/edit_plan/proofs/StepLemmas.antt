@@ -1,5 +1,5 @@
 -- What edits write, one step after the other.
-use Rattle.std.proofs.Common.{◌≡◌, ℕ, List, Option, Some, None, Result, Ok, Err, refl, sym, ap, ◌∙◌}
+use Rattle.std.proofs.Common.{◌≡◌, ℕ, false, List, Option, Some, None, Result, Ok, Err, refl, sym, ap, ◌∙◌}
 use Rattle.mkv_io.specs.declared.damage.Damage.{Damage}
 use Rattle.word_values.specs.declared.edit.Edit.{Edit}
 use Rattle.mkv_schema.specs.Outline.{and_then, unless}
@@ -10,7 +10,7 @@ use Rattle.edit_changes.specs.declared.refusal.Refusal.TheVariants.{Damaged}
 use Rattle.edit_changes.specs.declared.trees.Trees.{Trees}
 use Rattle.edit_changes.specs.Change.{edited_trees, and_then as edits_then}
 use Rattle.edit_changes.specs.Records.{EditableFile, trees_of}
-use Rattle.edit_changes.specs.Plan.{if_editable, parts, plan_of, writes_of_parts}
+use Rattle.edit_changes.specs.Plan.{edit_ids, if_editable, parts, plan_of, writes_of_parts}
 use Rattle.edit_plan.specs.Answer.{Answers, Gives}
 use Rattle.edit_plan.specs.Opening.{opening}
 use Rattle.edit_plan.specs.declared.plan_end.PlanEnd.{PlanEnd}
@@ -41,7 +41,7 @@ pub ruleset opens = (open-refused, open-damaged, open-whole, trees-refused, tree
 
 -- what is written of what the edits leave
 abbrev pub behind_edits : List ℕ → List Edit → FileOutline → Trees → Result (List Write) Refusal
-behind_edits bytes edits o t = writes_of_parts bytes o (parts o.others edits t)
+behind_edits bytes edits o t = writes_of_parts edit_ids false bytes o (parts o.others edits t)
 
 abbrev pub behind_trees : List ℕ → List Edit → FileOutline → Trees → Result (List Write) Refusal
 behind_trees bytes edits o t = edits_then (edited_trees edits t) (behind_edits bytes edits o)
@@ -54,21 +54,21 @@ unfolding plan_of
 plan-steps bytes edits = outline (outline_in 0 bytes)
   where
     trees : (o : FileOutline) (read : Result Trees Damage)
-        → edits_then (if_editable (and_then read (λ t. Ok (record { outline = o; trees = t })))) (λ (f : EditableFile). edits_then (edited_trees edits f.trees) (λ t. writes_of_parts bytes f.outline (parts f.outline.others edits t)))
+        → edits_then (if_editable (and_then read (λ t. Ok (record { outline = o; trees = t })))) (λ (f : EditableFile). edits_then (edited_trees edits f.trees) (λ t. writes_of_parts edit_ids false bytes f.outline (parts f.outline.others edits t)))
         ≡ edits_then (if_editable read) (behind_trees bytes edits o)
     trees o (Ok t) = refl
     trees o (Err d) = refl
 
     damaged : (o : FileOutline) (damage : Option Damage)
         → edits_then (if_editable (and_then (unless damage o) (λ (v : FileOutline). and_then (trees_of bytes v.segment) (λ t. Ok (record { outline = v; trees = t })))))
-        (λ (f : EditableFile). edits_then (edited_trees edits f.trees) (λ t. writes_of_parts bytes f.outline (parts f.outline.others edits t)))
+        (λ (f : EditableFile). edits_then (edited_trees edits f.trees) (λ t. writes_of_parts edit_ids false bytes f.outline (parts f.outline.others edits t)))
         ≡ edits_then (if_editable (unless damage o)) (behind_outline bytes edits)
     damaged o None = trees o (trees_of bytes o.segment)
     damaged o (Some d) = refl
 
     outline : (found : Result FileOutline Damage)
         → edits_then (if_editable (and_then found (λ (o : FileOutline). and_then (unless o.damage o) (λ (v : FileOutline). and_then (trees_of bytes v.segment) (λ t. Ok (record { outline = v; trees = t }))))))
-        (λ (f : EditableFile). edits_then (edited_trees edits f.trees) (λ t. writes_of_parts bytes f.outline (parts f.outline.others edits t)))
+        (λ (f : EditableFile). edits_then (edited_trees edits f.trees) (λ t. writes_of_parts edit_ids false bytes f.outline (parts f.outline.others edits t)))
         ≡ edits_then (if_editable (and_then found (λ (o : FileOutline). unless o.damage o))) (behind_outline bytes edits)
     outline (Ok o) = damaged o o.damage
     outline (Err d) = refl
@@ -89,7 +89,7 @@ plan-trees bytes edits o t is read = plan-outline bytes edits o is ∙ ap (λ x.
 pub plan-edits_refused : (bytes : List ℕ) (edits : List Edit) (o : FileOutline) (t : Trees) (r : Refusal) → if_editable (opening bytes) ≡ Ok o → if_editable (trees_of bytes o.segment) ≡ Ok t → edited_trees edits t ≡ Err r → plan_of bytes edits ≡ Err r
 plan-edits_refused bytes edits o t r is read refused = plan-trees bytes edits o t is read ∙ ap (λ x. edits_then x (behind_edits bytes edits o)) refused
 
-pub plan-edits : (bytes : List ℕ) (edits : List Edit) (o : FileOutline) (t u : Trees) → if_editable (opening bytes) ≡ Ok o → if_editable (trees_of bytes o.segment) ≡ Ok t → edited_trees edits t ≡ Ok u → plan_of bytes edits ≡ writes_of_parts bytes o (parts o.others edits u)
+pub plan-edits : (bytes : List ℕ) (edits : List Edit) (o : FileOutline) (t u : Trees) → if_editable (opening bytes) ≡ Ok o → if_editable (trees_of bytes o.segment) ≡ Ok t → edited_trees edits t ≡ Ok u → plan_of bytes edits ≡ writes_of_parts edit_ids false bytes o (parts o.others edits u)
 plan-edits bytes edits o t u is read done = plan-trees bytes edits o t is read ∙ ap (λ x. edits_then x (behind_edits bytes edits o)) done
 
 -- the outline that was opened is the file's

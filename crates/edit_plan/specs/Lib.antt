@@ -1,4 +1,5 @@
 pub mod Shown
+pub mod Sought
 pub mod Found
 pub mod Laws
 pub mod Moving

@@ -1,17 +1,36 @@
--- What refuses what moves, and what is written of it.
-use Rattle.std.specs.Prelude.{◌≤◌, ℕ, ◌+◌, List, [], ◌∷◌, Option}
+-- What refuses parts, and what is written of them.
+use Rattle.std.specs.Prelude.{◌≡◌, ◌≤◌, ℕ, ◌+◌, if◌then◌else◌, List, [], ◌∷◌, length, map, Option, None, unwrap_or}
+use Rattle.std.specs.List.{list_any}
 use Rattle.element_reader.specs.Outline.{FileOutline}
+use Rattle.output_model.specs.Element.{octets_of}
 use Rattle.edit_changes.specs.declared.refusal.Refusal.{Refusal}
 use Rattle.edit_changes.specs.declared.refusal.Room.TheVariants.{SeekHead}
-use Rattle.edit_changes.specs.Plan.{Part, first_refusal, lacks, moving, size_refusal, size_width, tail_refusal, too_large, twin_refusal}
 use Rattle.edit_changes.specs.Ends.{EndsFit}
+use Rattle.edit_changes.specs.SeekHead.{SeekHeadAt}
+use Rattle.edit_changes.specs.Span.{fitted}
+use Rattle.edit_changes.specs.Plan.{Part, appended, first_refusal, lacks, length_moving, moves, moving, part_writes, room_of, seek_head, size_refusal, size_width, tail_refusal, too_large, twin_refusal}
+use Rattle.edit_plan.specs.declared.prepared.Prepared.{Prepared}
+use Rattle.edit_plan.specs.Shown.{written}
 
--- the first that refuses it, where so many octets are written, so many are added to the file, and the SeekHead needs and has so many
+-- the first that refuses parts, where so many octets are written, so many are added to the file, and the SeekHead needs and has so many
 abbrev pub refused : FileOutline → List Part → ℕ → ℕ → ℕ → ℕ → Option Refusal
 refused o ps length added need room =
-    first_refusal (too_large length ps ∷ tail_refusal o ∷ twin_refusal o.others (moving ps) ∷ lacks SeekHead need room ∷ size_refusal o.segment (o.total + added) ∷ [])
+    first_refusal (too_large length ps
+    ∷ (if list_any moves ps then tail_refusal o else None)
+    ∷ twin_refusal o.others (moving ps)
+    ∷ lacks SeekHead need room
+    ∷ (if list_any moves ps then size_refusal o.segment (o.total + added) else None) ∷ [])
 
 -- The ends that headers state have 64 bits, and the Segment's size has eight octets at most.
 pub record CanMove (o : FileOutline) : Type 0 where
   pub ends : EndsFit o
   pub size : size_width o.segment ≤ 8
+
+-- What is written of parts and of a SeekHead that tells of these IDs, whether it is refused or not.
+pub record IsPrepared (ids : List ℕ) (o : FileOutline) (ps : List Part) (old : Option SeekHeadAt) (p : Prepared) : Type 0 where
+  pub head : p.head.items ≡ unwrap_or (fitted (seek_head ids o ps old) (room_of old o.others)) (octets_of (seek_head ids o ps old))
+  pub need : p.need ≡ length (octets_of (seek_head ids o ps old))
+  pub room : p.room ≡ room_of old o.others
+  pub places : map written p.places.items ≡ part_writes ps
+  pub moved : p.moved.items ≡ appended ps
+  pub all : p.length ≡ length_moving o ps (seek_head ids o ps old) (room_of old o.others)

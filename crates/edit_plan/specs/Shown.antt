@@ -1,14 +1,23 @@
 -- Parts and writes as the definitions of edits have them.
+use Rattle.std.specs.Prelude.{ℕ, List, map, Result}
+use Rattle.std.specs.Option.{option_map}
+use Rattle.element_reader.specs.Outline.{FileOutline}
 use Rattle.output_model.specs.Element.{element}
 use Rattle.sidecar_edit.specs.Writes as disk
 use Rattle.edit_changes.specs.Plan as spec
+use Rattle.edit_changes.specs.declared.refusal.Refusal.{Refusal}
 use Rattle.edit_plan.specs.declared.part.Part.{Part}
+use Rattle.edit_plan.specs.declared.rewriting.Rewriting.{Rewriting}
 use Rattle.edit_plan.specs.declared.write.Write.{Write}
 
--- an Info or a Tracks that is written anew
+-- an Element that is written anew
 abbrev pub shown : Part → spec.Part
-shown p = record { place = p.place; room = p.room; nodes = p.nodes; element = element p.id p.body }
+shown p = record { id = p.id; place = p.place; room = p.room; nodes = p.nodes; element = option_map (element p.id) p.body }
 
 -- octets and where they are written
 abbrev pub written : Write → disk.Write
 written w = record { at = w.at; bytes = w.octets.items }
+
+-- what is written of parts, with a SeekHead that tells of such IDs, always or where something moves
+abbrev pub writes_in : Rewriting → List ℕ → FileOutline → List Part → Result (List disk.Write) Refusal
+writes_in r bytes o parts = spec.writes_of_parts r.ids.now r.always bytes o (map shown parts)

@@ -4,7 +4,6 @@ ghost use Rattle.std.specs.Prelude.{◌≡◌, ◌≤◌, ◌<◌, ◌^◌, ◌+
 ghost use Rattle.ebml_numbers.specs.Number.{is_id};
 ghost use Rattle.mkv_schema.specs.declared.ids.TheConstants.{CLUSTER};
 ghost use Rattle.tree_format.specs.NormalForm.{octets};
-ghost use Rattle.output_model.specs.Element.{element, octets_of};
 ghost use Rattle.element_reader.specs.Collected.{IsInFile};
 ghost use Rattle.edit_changes.specs.Change as change;
 ghost use Rattle.edit_changes.specs.Plan as spec;
@@ -13,7 +12,7 @@ ghost use Rattle.edit_plan.specs.Shown.{shown};
 use crate::counting::{kept_all, sum};
 use crate::part::Part;
 use ebml_tree::Tree;
-use edit_changes::{Trees, is_info, shortest, span_of};
+use edit_changes::{Trees, is_info, span_of};
 use element_reader::{Header, Outline};
 use mkv_io::{Bytes, LONGEST_FILE, List};
 use mkv_schema::ids::{INFO, TRACKS};
@@ -54,7 +53,7 @@ fn part(
         place: header.offset,
         room: span_of(outline, header),
         nodes,
-        body,
+        body: Some(body),
     })
 }
 
@@ -122,18 +121,4 @@ pub fn parts(
         add_part(alloc, &mut parts, outline, TRACKS, trees.tracks.as_slice())?;
     }
     Ok(parts)
-}
-
-/// How many octets it has.
-pub fn part_len(part: &Part) -> u64
-    ensures { result ≡ length (octets_of (element part.now.id part.now.body)) }
-{
-    shortest(part.id, part.body.len() as u64)
-}
-
-/// It is longer than its room, so it goes to the end of the file.
-pub fn moves(part: &Part) -> bool
-    ensures { result ≡ spec.moves (shown part.now) }
-{
-    part.room < part_len(part)
 }

@@ -1,24 +1,26 @@
 //! The new SeekHead, and the Segment's new size.
 
 ghost use Rattle.std.specs.Prelude.{◌≡◌, ◌≤◌, ◌^◌, ◌+◌, [], None, IfOk, IfSome, IsTrue, if◌then◌else◌, length, map, option_map, unwrap_or};
+ghost use Rattle.std.specs.List.{list_any};
 ghost use Rattle.std.specs.Option.{option_map_or};
 ghost use Rattle.ebml_numbers.specs.Number.{is_id};
 ghost use Rattle.mkv_schema.specs.declared.ids.TheConstants.{SEEK_HEAD as SEEK_HEAD_ID};
-ghost use Rattle.mkv_schema.specs.Element.{is_unknown};
 ghost use Rattle.output_model.specs.Element.{element, octets_of};
 ghost use Rattle.element_reader.specs.Collected.{IsInFile};
 ghost use Rattle.edit_changes.specs.Plan as spec;
 ghost use Rattle.edit_changes.specs.Span as span;
 ghost use Rattle.edit_plan.specs.Found.{found};
 ghost use Rattle.edit_plan.specs.Shown.{shown, written};
+ghost use Rattle.edit_plan.specs.Sought.{AreSought};
 
 use crate::found::SeekHead;
-use crate::moving::moving_seeks;
+use crate::moving::any_moves;
 use crate::part::Part;
+use crate::seeking::seeks;
 use crate::write::Write;
 use ebml_numbers::{Size, put_id, put_size};
 use ebml_tree::Tree;
-use edit_changes::{fit, seek_head_body, seeks, size_width, span_of, whole};
+use edit_changes::{fit, seek_head_body, size_width, span_of, whole};
 use element_reader::{Header, Outline};
 use mkv_io::{Bytes, LONGEST_FILE};
 use mkv_schema::ids::SEGMENT;
@@ -34,22 +36,22 @@ fn old_seeks(head: &Option<SeekHead>) -> &[Tree]
     }
 }
 
-/// What is inside the new SeekHead.
+/// What is inside the new SeekHead, which tells of these IDs.
 #[tactic(auto, using(crate::proofs::HeadLemmas::heads))]
 pub fn new_seek_head(
     alloc: Global,
+    ids: &[u32],
     outline: &Outline,
     parts: &[Part],
     head: &Option<SeekHead>,
 ) -> Result<Bytes, AllocError>
+    requires { AreSought ids.now }
     ensures exact { IfOk result (λ body. element SEEK_HEAD_ID body
-        ≡ spec.seek_head outline.now (map shown parts.now) (option_map found head.now)) }
+        ≡ spec.seek_head ids.now outline.now (map shown parts.now) (option_map found head.now)) }
     ensures short { IfOk result (λ body. length body ≤ 2 ^ 48) }
 {
-    let from = outline.total().saturating_sub(outline.segment().body);
-    let moved = moving_seeks(alloc, from, parts)?;
-    let seeks = seeks(alloc, outline, moved.as_slice())?;
-    let body = seek_head_body(alloc, seeks.as_slice(), old_seeks(head))?;
+    let seeks = seeks(alloc, ids, outline, parts)?;
+    let body = seek_head_body(alloc, ids, seeks.as_slice(), old_seeks(head))?;
     if body.len() as u64 > LONGEST_FILE {
         return Err(AllocError);
     }
@@ -98,13 +100,23 @@ pub fn fitted_or_whole(
 }
 
 /// How many octets are written of the Segment's size.
-pub fn size_len(segment: &Header) -> u64
-    ensures { result ≡ if is_unknown segment.now.size then 0 else spec.size_width segment.now }
+fn size_len(segment: &Header) -> u64
+    ensures { result ≡ spec.size_length segment.now }
 {
     match segment.size {
         Size::Known(_) => size_width(segment),
         Size::Unknown => 0,
     }
+}
+
+/// The same, where nothing of it is written unless something is appended.
+pub fn size_added(outline: &Outline, parts: &[Part]) -> u64
+    ensures { result ≡ if list_any spec.moves (map shown parts.now) then spec.size_length outline.now.segment else 0 }
+{
+    if any_moves(parts) {
+        return size_len(&outline.segment());
+    }
+    0
 }
 
 /// The Segment's size, where it is known and the Segment then ends at a place.

@@ -1,18 +1,36 @@
 //! What goes to the end of the file.
 
-ghost use Rattle.std.specs.Prelude.{◌≡◌, IfOk, map};
+ghost use Rattle.std.specs.Prelude.{◌≡◌, false, true, IfOk, MatchOption, map};
 ghost use Rattle.std.specs.List.{list_any};
 ghost use Rattle.output_model.specs.SeekHead.{seeks_from};
 ghost use Rattle.edit_changes.specs.Plan as spec;
 ghost use Rattle.edit_plan.specs.Shown.{shown};
 
-use crate::building::{moves, part_len};
 use crate::counting::sum;
 use crate::part::Part;
-use edit_changes::{Refusal, twin_refusal, whole};
+use edit_changes::{Refusal, shortest, twin_refusal, whole};
 use element_reader::Outline;
 use output_model::Seek;
 use std::alloc::{AllocError, Global};
+
+/// The body of the new Element, if that one is longer than its room: so it goes to the end of the file.
+fn moving_body(part: &Part) -> Option<&[u8]>
+    ensures { MatchOption result (spec.moves (shown part.now) ≡ false)
+        (λ body. (spec.moves (shown part.now) ≡ true) × (part.now.body ≡ Some body.now)) }
+{
+    let body = part.body.as_ref()?.as_slice();
+    if shortest(part.id, body.len() as u64) <= part.room {
+        return None;
+    }
+    Some(body)
+}
+
+/// The new one goes to the end of the file.
+fn moves(part: &Part) -> bool
+    ensures { result ≡ spec.moves (shown part.now) }
+{
+    moving_body(part).is_some()
+}
 
 /// One of them moves.
 pub fn any_moves(parts: &[Part]) -> bool
@@ -33,12 +51,12 @@ pub fn moving_seeks(alloc: Global, from: u64, parts: &[Part]) -> Result<Vec<Seek
     let mut seeks = Vec::new(alloc);
     let mut position = from;
     for part in parts {
-        if moves(part) {
+        if let Some(body) = moving_body(part) {
             seeks.push(Seek {
                 id: part.id,
                 position,
             })?;
-            position = sum(position, part_len(part))?;
+            position = sum(position, shortest(part.id, body.len() as u64))?;
         }
     }
     Ok(seeks)
@@ -50,8 +68,8 @@ pub fn appended(alloc: Global, parts: &[Part]) -> Result<Vec<u8>, AllocError>
 {
     let mut out = Vec::new(alloc);
     for part in parts {
-        if moves(part) {
-            let octets = whole(alloc, part.id, part.body.as_slice())?;
+        if let Some(body) = moving_body(part) {
+            let octets = whole(alloc, part.id, body)?;
             out.extend_from_slice(octets.as_slice())?;
         }
     }

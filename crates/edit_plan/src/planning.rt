@@ -14,13 +14,18 @@ ghost use Rattle.edit_plan.specs.Opening.{opening};
 use crate::building::parts;
 use crate::plan_end::PlanEnd;
 use crate::reading::read_trees;
+use crate::rewriting::Rewriting;
 use crate::write::Write;
 use crate::writing::parts_writes;
 use edit_changes::{EditsEnd, Refusal, Trees, edited};
 use element_reader::{Outline, OutlineEnd};
 use mkv_io::{FileId, List, Reads};
+use mkv_schema::ids::{INFO, TRACKS};
 use std::alloc::Global;
 use word_values::Edit;
+
+/// What edits rewrite, and a SeekHead then tells of.
+const EDITED: [u32; 2] = [INFO, TRACKS];
 
 /// The outline of a file without damage at level 1.
 #[tactic(auto, using(crate::proofs::StepLemmas::opens))]
@@ -102,5 +107,9 @@ pub fn edit_writes<R: Reads>(
     let trees = open_trees(alloc, &outline, src, file)?;
     let trees = edit_trees(alloc, trees, edits)?;
     let parts = parts(alloc, &outline, edits, &trees)?;
-    parts_writes(alloc, &outline, parts.as_slice(), src, file)
+    let rewriting = Rewriting {
+        ids: &EDITED,
+        always: false,
+    };
+    parts_writes(alloc, &rewriting, &outline, parts.as_slice(), src, file)
 }

@@ -66,7 +66,12 @@ fn end_behind(old_len: u64, from: u64, places: &[Place]) -> Option<u64>
 
 /// The record of some writes over a file of so many octets that begins with these. Writes that can't be recorded, as no
 /// edits come to, can't be held.
-fn recorded(alloc: Global, old_len: u64, first: &[u8], writes: &[Write]) -> Result<Plan, AllocError>
+pub fn recorded(
+    alloc: Global,
+    old_len: u64,
+    first: &[u8],
+    writes: &[Write],
+) -> Result<Plan, AllocError>
     requires short { old_len ≤ LONGEST }
     requires first { length first.now ≡ min KEPT_OCTETS old_len }
     ensures exact { IfOk result (λ plan. plan ≡ record_over old_len first.now (map written writes.now)) }

@@ -1,13 +1,14 @@
-//! What refuses what moves.
+//! What refuses what is rewritten.
 
-ghost use Rattle.std.specs.Prelude.{◌≡◌, ◌≤◌, ◌+◌, ◌^◌, None, map};
+ghost use Rattle.std.specs.Prelude.{◌≡◌, ◌≤◌, ◌+◌, ◌^◌, None, true, if◌then◌else◌, map};
+ghost use Rattle.std.specs.List.{list_any};
 ghost use Rattle.edit_changes.specs.Plan as spec;
 ghost use Rattle.edit_changes.specs.declared.refusal.TheConstants.{MOST_WRITTEN as MOST};
 ghost use Rattle.edit_changes.specs.Ends.{EndsFit};
 ghost use Rattle.edit_plan.specs.Moving.{refused};
 ghost use Rattle.edit_plan.specs.Shown.{shown};
 
-use crate::moving::{most_nodes, twins};
+use crate::moving::{any_moves, most_nodes, twins};
 use crate::part::Part;
 use ebml_tree::MOST_NODES;
 use edit_changes::{MOST_WRITTEN, Refusal, Room, lacks, size_refusal, tail_refusal};
@@ -25,8 +26,31 @@ pub fn too_large(length: u64, parts: &[Part]) -> Option<Refusal>
     None
 }
 
-/// The first that refuses what moves, where so many octets are written, so many are added to the file, and the SeekHead
-/// needs and has so many.
+/// Nothing may be added at the end of the file, and something is appended.
+fn end_refusal(outline: &Outline, parts: &[Part]) -> Option<Refusal>
+    ensures { EndsFit outline.now → result
+        ≡ if list_any spec.moves (map shown parts.now) then spec.tail_refusal outline.now else None }
+{
+    if any_moves(parts) {
+        return tail_refusal(outline);
+    }
+    None
+}
+
+/// Something is appended, and the Segment's size, where it then ends so many octets later, needs more than it has.
+fn growth_refusal(outline: &Outline, parts: &[Part], added: u64) -> Option<Refusal>
+    requires { outline.now.total + added ≤ 2 ^ 50 }
+    ensures { result ≡ if list_any spec.moves (map shown parts.now)
+        then spec.size_refusal outline.now.segment (outline.now.total + added) else None }
+{
+    if any_moves(parts) {
+        return size_refusal(&outline.segment(), outline.total() + added);
+    }
+    None
+}
+
+/// The first that refuses parts, where so many octets are written, so many are added to the file, and the SeekHead needs
+/// and has so many.
 pub fn moving_refusal(
     outline: &Outline,
     parts: &[Part],
@@ -40,12 +64,13 @@ pub fn moving_refusal(
     ensures exact { EndsFit outline.now → result ≡ refused outline.now (map shown parts.now) length added need room }
     ensures small { result ≡ None → length ≤ MOST }
     ensures room { result ≡ None → need ≤ room }
-    ensures size { result ≡ None → spec.size_refusal outline.now.segment (outline.now.total + added) ≡ None }
+    ensures size { result ≡ None → list_any spec.moves (map shown parts.now) ≡ true
+        → spec.size_refusal outline.now.segment (outline.now.total + added) ≡ None }
 {
     if let Some(refusal) = too_large(length, parts) {
         return Some(refusal);
     }
-    if let Some(refusal) = tail_refusal(outline) {
+    if let Some(refusal) = end_refusal(outline, parts) {
         return Some(refusal);
     }
     if let Some(refusal) = twins(outline, parts) {
@@ -54,5 +79,5 @@ pub fn moving_refusal(
     if let Some(refusal) = lacks(Room::SeekHead, need, room) {
         return Some(refusal);
     }
-    size_refusal(&outline.segment(), outline.total() + added)
+    growth_refusal(outline, parts, added)
 }

@@ -6,4 +6,4 @@ use Rattle.edit_changes.proofs.seek_head.put_staying.Given as goal
 -- what was added, with what is left, is the whole
 abbrev pub invariant-loop-tree : goal.invariant-loop-tree
 invariant-loop-tree l =
-    l.out ++ flat_map octets (filter stays (drop l.tree-index l.old)) ≡ l.fn.out ++ flat_map octets (filter stays l.old)
+    l.out ++ flat_map octets (filter (stays l.ids) (drop l.tree-index l.old)) ≡ l.fn.out ++ flat_map octets (filter (stays l.ids) l.old)

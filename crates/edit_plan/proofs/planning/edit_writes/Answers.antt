@@ -1,5 +1,5 @@
 -- One step after the other.
-use Rattle.std.proofs.Common.{◌≤◌, Result, List, length, map, sym, ◌∙◌, ap, subst, arith}
+use Rattle.std.proofs.Common.{◌≤◌, false, Result, List, length, map, sym, ◌∙◌, ap, subst, arith}
 use Rattle.std.proofs.lemmas.Result.{err_from_is_err_and}
 use Rattle.mkv_io.specs.declared.outside.TheConstants.{LONGEST_FILE}
 use Rattle.sidecar_edit.specs.Writes as disk
@@ -8,8 +8,12 @@ use Rattle.edit_changes.specs.Plan as spec
 use Rattle.edit_plan.specs.Answer.{Answers}
 use Rattle.edit_plan.specs.Shown.{shown}
 use Rattle.edit_plan.proofs.EndsLemmas.{CanMove-shown}
+use Rattle.edit_plan.proofs.HeadLemmas.{edits-sought}
 use Rattle.edit_plan.proofs.StepLemmas.{edits-answer, opening-outline, outline-answers, plan-edits, trees-answer}
 use Rattle.edit_plan.proofs.planning.edit_writes.Goals as goal
+
+pub parts_writes-requires-clause-sought : goal.parts_writes-requires-clause-sought
+parts_writes-requires-clause-sought g c = edits-sought
 
 pub returns-in_err-outline-clause-exact : goal.returns-in_err-outline-clause-exact
 returns-in_err-outline-clause-exact g c = λ bytes told.
@@ -48,4 +52,4 @@ returns-clause-exact g c = λ bytes told.
     let can = CanMove-shown 0 bytes o outline short in
     let parts = ap (map shown) c.as_slice.ensures.value ∙ c.in_ok-parts.ensures in
     let P : Result (List disk.Write) Refusal → Type 0 = λ found. Answers found c.parts_writes.result in
-    subst P (sym (plan ∙ ap (spec.writes_of_parts bytes o) (sym parts))) (c.parts_writes.ensures.exact can bytes again)
+    subst P (sym (plan ∙ ap (spec.writes_of_parts spec.edit_ids false bytes o) (sym parts))) (c.parts_writes.ensures.exact can bytes again)

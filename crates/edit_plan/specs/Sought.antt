@@ -1,0 +1,10 @@
+-- What a SeekHead tells of.
+use Rattle.std.specs.Prelude.{◌≡◌, ◌==◌, ℕ, false, List}
+use Rattle.std.specs.List.{All, AllPass}
+use Rattle.ebml_numbers.specs.Number.{is_id}
+use Rattle.mkv_schema.specs.declared.ids.TheConstants.{CLUSTER}
+
+-- IDs of Elements of level 1 other than Clusters.
+pub record AreSought (ids : List ℕ) : Type 0 where
+  pub valid : AllPass is_id ids
+  pub others : All (λ id. (id == CLUSTER) ≡ false) ids
