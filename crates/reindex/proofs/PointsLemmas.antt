@@ -1,0 +1,237 @@
+-- The points of blocks, one after the other.
+use Rattle.std.proofs.Common.{◌≡◌, ◌≤◌, ◌<◌, ℕ, ◌+◌, Bool, true, false, if◌then◌else◌, List, [], ◌∷◌, ◌++◌, length, filter, take, Some, None, Ok, Err, refl, sym, ◌∙◌, ap, subst, append_assoc, append-nil, length-append, inl, inr, max, arith}
+use Rattle.std.specs.Prelude.{slice_get}
+use Rattle.std.specs.List.{flat_map}
+use Rattle.std.specs.Option.{option_map_or}
+use Rattle.std.proofs.lemmas.Bool.{cases_lt}
+use Rattle.std.proofs.lemmas.List.{length-map, length-take-le, take-append-le, take-take, take_all, map-append}
+use Rattle.std.proofs.lemmas.List.Concat.{flat_map-append}
+use Rattle.std.proofs.lemmas.List.Elements.{filter-append}
+use Rattle.mkv_io.specs.declared.damage.Damage.{Damage}
+use Rattle.mkv_schema.specs.declared.element.Header.{Header}
+use Rattle.mkv_schema.specs.Outline.{outline_of, segment_run, unless}
+use Rattle.mkv_schema.proofs.OutlineLemmas.{and_then-ok}
+use Rattle.element_reader.specs.Outline.{FileOutline, outline_in, shown}
+use Rattle.tree_format.specs.Node.{Node}
+use Rattle.file_format.specs.FileBlocks.{file_events}
+use Rattle.file_format.specs.Info.{file_scale}
+use Rattle.block_format.specs.Block.{Block}
+use Rattle.block_format.specs.Elements.{with_limits}
+use Rattle.block_format.specs.Events.{Event, block, blocks_of, damages_of, events_of}
+use Rattle.elements.specs.Window.{ReadAhead, HasNotPassed, MovesTo, cost_of}
+use Rattle.cluster_reader.specs.Reading.{Reading, damage_event, paid}
+use Rattle.output_model.specs.declared.TheConstants.{MOST_CUES}
+use Rattle.output_model.specs.declared.places.CuePoint.{CuePoint}
+use Rattle.reindex.specs.Clusters.{HasComeTo}
+use Rattle.reindex.specs.Index.{file_damage, points_of}
+use Rattle.reindex.specs.Points.{cluster_before, indexed_tracks, is_indexed, point_in, points_among, points_to}
+use Rattle.reindex.specs.Reading.{AddsPoint, BlocksAscend, cue_of, cues_of, points_for, points_in}
+use Rattle.reindex.specs.declared.clusters.Clusters.{Clusters}
+use Rattle.reindex.specs.declared.indexing.Indexing.{Indexing}
+use Rattle.reindex.specs.declared.point.Point.{Point}
+use Rattle.reindex.proofs.PlaceLemmas.{BlocksAscend-later}
+
+-- ---- the points of one block more
+
+-- the points of one block
+points-one : (i : Indexing) (list : List Header) (b : Block) → points_among i.scale i.base list i.tracks (b ∷ []) ≡ points_for i list b
+points-one i list b = split (is_indexed i.tracks b)
+  where
+    split : (t : Bool) → flat_map (points_to i.scale i.base list) (if t then b ∷ [] else []) ≡ (if t then points_to i.scale i.base list b else [])
+    split true = append-nil (points_to i.scale i.base list b)
+    split false = refl
+
+-- the points of blocks and of one more
+pub points-more : (i : Indexing) (list : List Header) (passed : List Block) (b : Block) → points_among i.scale i.base list i.tracks (passed ++ b ∷ []) ≡ points_among i.scale i.base list i.tracks passed ++ points_for i list b
+points-more i list passed b =
+    ap (flat_map (points_to i.scale i.base list)) (filter-append (is_indexed i.tracks) passed (b ∷ []))
+    ∙ flat_map-append (points_to i.scale i.base list) (filter (is_indexed i.tracks) passed) (filter (is_indexed i.tracks) (b ∷ []))
+    ∙ ap (λ ps. points_among i.scale i.base list i.tracks passed ++ ps) (points-one i list b)
+
+-- of a list that was cut already no more is cut
+take-front : {A : Type 0} (n : ℕ) (xs ys : List A) → take n (take n xs ++ ys) ≡ take n (xs ++ ys)
+take-front n xs ys =
+    elim (cases_lt (length xs) n) [
+      | inl short ↦ ap (λ zs. take n (zs ++ ys)) (take_all n xs (omega arith))
+      | inr long ↦
+          take-append-le n (take n xs) ys (let is = length-take-le n xs long in omega arith)
+          ∙ take-take n n xs (omega arith)
+          ∙ sym (take-append-le n xs ys long)
+    ]
+
+-- ---- the points that are kept
+
+-- a block without a point adds none
+pub adds-none : (old : List Point) (more : List CuePoint) → more ≡ [] → length old ≤ MOST_CUES → cues_of old ≡ take MOST_CUES (cues_of old ++ more)
+adds-none old more none few =
+    sym (ap (λ ps. take MOST_CUES (cues_of old ++ ps)) none
+    ∙ ap (take MOST_CUES) (append-nil (cues_of old))
+    ∙ take_all MOST_CUES (cues_of old) (let is = length-map old cue_of in omega arith))
+
+-- where there is no room a point is left out
+pub adds-full : (old : List Point) (more : List CuePoint) → MOST_CUES ≤ length old → length old ≤ MOST_CUES → cues_of old ≡ take MOST_CUES (cues_of old ++ more)
+adds-full old more full few =
+    let is = length-map old cue_of in
+    sym (take-append-le MOST_CUES (cues_of old) more (omega arith) ∙ take_all MOST_CUES (cues_of old) (omega arith))
+
+-- a point is behind the others
+pub adds-one : (old : List Point) (p : Point) (more : List CuePoint) → more ≡ cue_of p ∷ [] → length old < MOST_CUES → cues_of (old ++ p ∷ []) ≡ take MOST_CUES (cues_of old ++ more)
+adds-one old p more one room =
+    let is = length-map old cue_of in
+    let behind = length-append (cues_of old) (cue_of p ∷ []) in
+    map-append cue_of old (p ∷ [])
+    ∙ sym (ap (λ ps. take MOST_CUES (cues_of old ++ ps)) one ∙ take_all MOST_CUES (cues_of old ++ cue_of p ∷ []) (omega arith))
+
+-- a block that gets no point, one in no Cluster, and one in a Cluster
+pub points_for-none : (i : Indexing) (list : List Header) (b : Block) → is_indexed i.tracks b ≡ false → points_for i list b ≡ []
+points_for-none i list b is = ap (λ t. if t then points_to i.scale i.base list b else []) is
+
+pub points_for-nowhere : (i : Indexing) (list : List Header) (b : Block) → is_indexed i.tracks b ≡ true → cluster_before b.offset list ≡ None → points_for i list b ≡ []
+points_for-nowhere i list b is none =
+    ap (λ t. if t then points_to i.scale i.base list b else []) is ∙ ap (λ c. option_map_or (λ h. point_in i.scale i.base b h ∷ []) c []) none
+
+pub points_for-one : (i : Indexing) (list : List Header) (b : Block) (h : Header) (p : Point) → is_indexed i.tracks b ≡ true → cluster_before b.offset list ≡ Some h → cue_of p ≡ point_in i.scale i.base b h → points_for i list b ≡ cue_of p ∷ []
+points_for-one i list b h p is some own =
+    ap (λ t. if t then points_to i.scale i.base list b else []) is
+    ∙ ap (λ c. option_map_or (λ h. point_in i.scale i.base b h ∷ []) c []) some
+    ∙ ap (λ q. q ∷ []) (sym own)
+
+-- the Cluster that is kept where the place of a block was reached
+pub kept-before : (list : List Header) (c : Clusters) (before at : ℕ) → c.last ≡ cluster_before c.reached list → c.reached ≡ max before at → before ≤ at → cluster_before at list ≡ c.last
+kept-before list c before at last reached on =
+    let is : c.reached ≡ at = omega arith in
+    sym (last ∙ ap (λ n. cluster_before n list) is)
+
+-- the points of the blocks that were passed, and of one more
+pub cues-more : (i : Indexing) (list : List Header) (passed : List Block) (b : Block) (old new : List Point) → cues_of old ≡ take MOST_CUES (points_among i.scale i.base list i.tracks passed) → cues_of new ≡ take MOST_CUES (cues_of old ++ points_for i list b)
+    → cues_of new ≡ take MOST_CUES (points_among i.scale i.base list i.tracks (passed ++ b ∷ []))
+cues-more i list passed b old new so is =
+    is
+    ∙ ap (λ ps. take MOST_CUES (ps ++ points_for i list b)) so
+    ∙ take-front MOST_CUES (points_among i.scale i.base list i.tracks passed) (points_for i list b)
+    ∙ ap (take MOST_CUES) (sym (points-more i list passed b))
+
+-- ---- what is met of a file
+
+-- These are the events up to a place: the blocks that were passed, and no damage.
+pub record HavePassed (all rest : List Event) (passed : List Block) : Type 0 where
+  pub blocks : blocks_of all ≡ passed ++ blocks_of rest
+  pub damages : damages_of all ≡ damages_of rest
+
+pub HavePassed-none : (all : List Event) → HavePassed all all []
+HavePassed-none all = record { blocks = refl; damages = refl }
+
+pub HavePassed-more : (all rest next : List Event) (passed : List Block) (b : Block) → HavePassed all rest passed → rest ≡ block b ∷ next → HavePassed all next (passed ++ b ∷ [])
+HavePassed-more all rest next passed b so is = record {
+  blocks = so.blocks ∙ ap (λ es. passed ++ blocks_of es) is ∙ sym (append_assoc passed (b ∷ []) (blocks_of next));
+  damages = so.damages ∙ ap damages_of is;
+}
+
+-- the first damage refuses the file
+pub points-damaged : (i : Indexing) (list : List Header) (all rest next : List Event) (passed : List Block) (ends : Bool) (d : Damage) → HavePassed all rest passed → rest ≡ damage_event ends d ∷ next → points_in i list all ≡ Err d
+points-damaged i list all rest next passed ends d so is =
+    ap (λ (ds : List Damage). unless (slice_get ds 0) (take MOST_CUES (points_among i.scale i.base list i.tracks (blocks_of all)))) (so.damages ∙ ap damages_of is ∙ first ends)
+  where
+    first : (t : Bool) → damages_of (damage_event t d ∷ next) ≡ d ∷ damages_of next
+    first true = refl
+    first false = refl
+
+-- without one the points are those of all blocks
+pub points-whole : (i : Indexing) (list : List Header) (all rest : List Event) (passed : List Block) → HavePassed all rest passed → rest ≡ [] → points_in i list all ≡ Ok (take MOST_CUES (points_among i.scale i.base list i.tracks passed))
+points-whole i list all rest passed so is =
+    ap (λ (ds : List Damage). unless (slice_get ds 0) (take MOST_CUES (points_among i.scale i.base list i.tracks (blocks_of all)))) (so.damages ∙ ap damages_of is)
+    ∙ ap (λ (bs : List Block). Ok (take MOST_CUES (points_among i.scale i.base list i.tracks bs))) (so.blocks ∙ ap (λ es. passed ++ blocks_of es) is ∙ append-nil passed)
+
+-- ---- the places of the blocks that are left
+
+-- the first stands behind a place, and the others behind it
+pub BlocksAscend-first : (p : ℕ) (rest next : List Event) (b : Block) → BlocksAscend p (blocks_of rest) → rest ≡ block b ∷ next → (p ≤ b.offset) × BlocksAscend b.offset (blocks_of next)
+BlocksAscend-first p rest next b ascends is =
+    let P : List Event → Type 0 = λ es. BlocksAscend p (blocks_of es) in
+    let both = subst P is ascends in
+    (both.0, later (blocks_of next) both.1)
+  where
+    later : (bs : List Block) → BlocksAscend (b.offset + 1) bs → BlocksAscend b.offset bs
+    later [] ascends = tt
+    later (c ∷ cs) ascends = (omega (arith, ascends.0), ascends.1)
+
+-- ---- the walk
+
+-- The points are those of the blocks that were passed, and the Clusters before the next block are to be passed yet.
+pub record Come (i : Indexing) (list : List Header) (bytes : List ℕ) (clusters : Clusters) (rest : List Event) (found : List Point) (passed : List Block) : Type 0 where
+  pub come : HasComeTo bytes list clusters
+  pub ascend : BlocksAscend clusters.reached (blocks_of rest)
+  pub points : cues_of found ≡ take MOST_CUES (points_among i.scale i.base list i.tracks passed)
+
+-- so it is, where it began so
+pub HaveCome : Indexing → List Header → List ℕ → Clusters → Clusters → List Event → List Event → List Point → List Block → Type 0
+HaveCome i list bytes old new all rest points passed = HasComeTo bytes list old → BlocksAscend old.reached (blocks_of all) → Come i list bytes new rest points passed
+
+pub HaveCome-begins : (i : Indexing) (list : List Header) (bytes : List ℕ) (c : Clusters) (all : List Event) (points : List Point) → points ≡ [] → HaveCome i list bytes c c all all points []
+unfolding HaveCome
+HaveCome-begins i list bytes c all points none = λ come ascend. record { come = come; ascend = ascend; points = ap cues_of none }
+
+-- a block was passed
+pub HaveCome-more : (i : Indexing) (list : List Header) (bytes : List ℕ) (old mid new : Clusters) (all rest next : List Event) (points more : List Point) (passed : List Block) (b : Block)
+    → HaveCome i list bytes old mid all rest points passed → rest ≡ block b ∷ next → new.reached ≤ max mid.reached b.offset
+    → (HasComeTo bytes list mid → mid.reached ≤ b.offset → AddsPoint i list bytes b points more new)
+    → HaveCome i list bytes old new all next more (passed ++ b ∷ [])
+unfolding HaveCome
+HaveCome-more i list bytes old mid new all rest next points more passed b so is reached adds = λ come ascend.
+    let here = so come ascend in
+    let first = BlocksAscend-first mid.reached rest next b here.ascend is in
+    let add = adds here.come first.0 in
+    let from = first.0 in
+    record {
+      come = add.come;
+      ascend = BlocksAscend-later new.reached b.offset (blocks_of next) (omega arith) first.1;
+      points = cues-more i list passed b points more here.points add.points;
+    }
+
+-- without a damage that is what is asked
+pub HaveCome-whole : (i : Indexing) (list : List Header) (bytes : List ℕ) (old new : Clusters) (all rest : List Event) (points : List Point) (passed : List Block)
+    → HaveCome i list bytes old new all rest points passed → HavePassed all rest passed → rest ≡ [] → HasComeTo bytes list old → BlocksAscend old.reached (blocks_of all) → points_in i list all ≡ Ok (cues_of points)
+unfolding HaveCome
+HaveCome-whole i list bytes old new all rest points passed so passes none come ascend =
+    points-whole i list all rest passed passes none ∙ ap (λ ps. Ok ps) (sym (so come ascend).points)
+
+-- ---- the points of a file
+
+pub outline-total : (held : ℕ) (bytes : List ℕ) (o : FileOutline) → outline_in held bytes ≡ Ok o → o.total ≡ length bytes
+outline-total held bytes o is =
+    let found = and_then-ok (outline_of held bytes) (λ found. Ok (shown bytes found)) o is in
+    let made : shown bytes found.0 ≡ o = cc (found.1.1) in
+    sym (ap (λ (v : FileOutline). v.total) made)
+
+-- the points of a file are those of its events
+pub points_in-file : (i : Indexing) (bytes : List ℕ) (segment : Header) (tracks : List Node) (events : List Event) → i.tracks ≡ indexed_tracks tracks → i.scale ≡ file_scale bytes segment → i.base ≡ segment.body → events ≡ events_of (with_limits i.scale) bytes segment
+    → points_in i (segment_run bytes segment).list events ≡ points_of bytes segment tracks
+points_in-file i bytes segment tracks events numbers scale base all =
+    let is : events ≡ file_events true bytes segment = all ∙ ap (λ n. events_of (with_limits n) bytes segment) scale in
+    ap (points_in i (segment_run bytes segment).list) is
+    ∙ ap (λ n. unless (file_damage bytes segment) (take MOST_CUES (points_among n i.base (segment_run bytes segment).list i.tracks (blocks_of (file_events true bytes segment))))) scale
+    ∙ ap (λ n. unless (file_damage bytes segment) (take MOST_CUES (points_among (file_scale bytes segment) n (segment_run bytes segment).list i.tracks (blocks_of (file_events true bytes segment))))) base
+    ∙ ap (λ ns. unless (file_damage bytes segment) (take MOST_CUES (points_among (file_scale bytes segment) segment.body (segment_run bytes segment).list ns (blocks_of (file_events true bytes segment))))) numbers
+
+-- ---- what was read
+
+-- Both ways have paid for what was read.
+pub record HavePaid (size : ℕ) (first cursor : Reading) (list ahead : ReadAhead) (at before now : ℕ) : Type 0 where
+  pub place : HasNotPassed ahead at size
+  pub pays : now + paid size first + cost_of size list ≤ before + paid size cursor + cost_of size ahead
+
+-- a block more was read, and then the Clusters up to it
+pub pays-both : (size here there before mid between now : ℕ) (first old new : Reading) (list mid_ahead ahead : ReadAhead) (p q : ℕ) → here ≡ size → there ≡ size
+    → mid + paid size first + cost_of size list ≤ before + paid size old + cost_of size mid_ahead
+    → between + paid here old ≤ mid + paid here new
+    → HasNotPassed mid_ahead p size → (HasNotPassed mid_ahead p there → MovesTo there q mid_ahead ahead between now)
+    → HavePaid size first new list ahead q before now
+pays-both size here there before mid between now first old new list mid_ahead ahead p q same list_same so step place goes =
+    let P : ℕ → Type 0 = λ n. between + paid n old ≤ mid + paid n new in
+    let read = subst P same step in
+    let Q : ℕ → Type 0 = λ n. HasNotPassed mid_ahead p n → MovesTo n q mid_ahead ahead between now in
+    let moves = subst Q list_same goes place in
+    record { place = moves.place; pays = sums (paid size first) (cost_of size list) (paid size old) (cost_of size mid_ahead) (paid size new) (cost_of size ahead) so read moves.pays }
+  where
+    sums : (a b c d e f : ℕ) → mid + a + b ≤ before + c + d → between + c ≤ mid + e → now + d ≤ between + f → now + a + b ≤ before + e + f
+    sums a b c d e f so read moves = omega arith

@@ -1,0 +1,7 @@
+-- The numbers so far, with those of what is left, are those of all.
+use Rattle.std.proofs.Common.{◌≡◌, ◌++◌, drop}
+use Rattle.reindex.specs.Points.{indexed_tracks}
+use Rattle.reindex.proofs.tracks.indexed_tracks.Given as goal
+
+abbrev pub invariant-loop-tree : goal.invariant-loop-tree
+invariant-loop-tree l = l.numbers ++ indexed_tracks (drop l.tree-index l.tracks) ≡ indexed_tracks l.tracks

@@ -1,0 +1,63 @@
+-- A walk over the Elements of level 1 that keeps the last Cluster before a place.
+use Rattle.std.specs.Prelude.{◌≡◌, ◌≤◌, ℕ, ◌+◌, ◌*◌, ◌-◌, List, [], ◌∷◌, Option, Some, None}
+use Rattle.std.specs.Option.{option_or}
+use Rattle.mkv_io.specs.LiveFiles.{LiveFiles}
+use Rattle.mkv_schema.specs.declared.element.Header.{Header}
+use Rattle.mkv_schema.specs.Order.{AscendFrom}
+use Rattle.element_reader.specs.LevelOne.{CanRead, left}
+use Rattle.reindex.specs.Points.{cluster_before}
+use Rattle.reindex.specs.declared.clusters.Clusters.{Clusters}
+
+-- an Element that was looked at stands in front of those that are left
+abbrev pub in_front : Option Header → List Header → List Header
+in_front None rest = rest
+in_front (Some h) rest = h ∷ rest
+
+-- the Elements that aren't passed yet
+abbrev pub due : List ℕ → Clusters → List Header
+due bytes c = in_front c.next (left bytes c.level)
+
+-- ---- how far it can go on
+
+abbrev pub looked_at : Option Header → ℕ
+looked_at None = 0
+looked_at (Some h) = 1
+
+-- a bound on the Elements that it can still pass
+abbrev pub steps_left : Clusters → ℕ
+steps_left c = 2 * (c.level.end - c.level.at) + looked_at c.next
+
+-- ---- what is known of it
+
+-- Among the Elements of a list the last Cluster before the place that was reached, and before each later one, is the
+-- last such among those that aren't passed, or else the one that is kept.
+pub record HasComeTo (bytes : List ℕ) (list : List Header) (c : Clusters) : Type 0 where
+  pub ascends : AscendFrom 0 (due bytes c)
+  pub before : (at : ℕ) → c.reached ≤ at → cluster_before at list ≡ option_or (cluster_before at (due bytes c)) c.last
+
+-- Every Cluster before the place that was reached is passed, and the last of them is kept.
+pub record HasReached (bytes : List ℕ) (list : List Header) (c : Clusters) : Type 0 where
+  pub come : HasComeTo bytes list c
+  pub last : c.last ≡ cluster_before c.reached list
+
+-- The next Element was looked at, if there is one.
+pub record LooksAt (bytes : List ℕ) (old new : Clusters) (found : Option Header) : Type 0 where
+  pub same : due bytes new ≡ due bytes old
+  pub none : found ≡ None → due bytes new ≡ []
+
+-- It is held until it is passed, and no more are left than before.
+pub record HoldsNext (old new : Clusters) (found : Option Header) : Type 0 where
+  pub next : new.next ≡ found
+  pub further : steps_left new ≤ steps_left old
+
+-- The walk can go on: it stands in its Segment, and in a live file.
+pub record IsReady (files : LiveFiles) (c : Clusters) : Type 0 where
+  pub inside : c.level.at ≤ c.level.end
+  pub reads : CanRead files c.level
+
+-- It has gone on in the same Segment, and can go on still.
+pub record StaysReady (files : LiveFiles) (old new : Clusters) : Type 0 where
+  pub file : new.level.file ≡ old.level.file
+  pub end : new.level.end ≡ old.level.end
+  pub forwards : old.level.at ≤ new.level.at
+  pub ready : IsReady files new

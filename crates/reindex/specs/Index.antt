@@ -1,0 +1,28 @@
+-- A file that can be indexed: RFC 9559, section 5.1.5 (Cues Element). What refuses it, and the order, are this project's.
+use Rattle.std.specs.Prelude.{ℕ, true, List, slice_get, Option, Result}
+use Rattle.mkv_io.specs.declared.damage.Damage.{Damage}
+use Rattle.mkv_schema.specs.declared.element.Header.{Header}
+use Rattle.mkv_schema.specs.Outline.{and_then, unless}
+use Rattle.element_reader.specs.Outline.{outline_in}
+use Rattle.tree_format.specs.Node.{Node}
+use Rattle.file_format.specs.FileBlocks.{file_events}
+use Rattle.block_format.specs.Events.{damages_of}
+use Rattle.edit_changes.specs.Records.{EditableFile, trees_of}
+use Rattle.output_model.specs.declared.places.CuePoint.{CuePoint}
+use Rattle.reindex.specs.Points.{index_points}
+
+-- the first of the damages of a file with this Segment, in Clusters and at level 1
+abbrev pub file_damage : List ℕ → Header → Option Damage
+file_damage bytes segment = slice_get (damages_of (file_events true bytes segment)) 0
+
+-- The file of a content, or what refuses it: what refuses its outline, then what refuses what describes it, and then the
+-- first of its damages.
+abbrev pub indexable : List ℕ → Result EditableFile Damage
+indexable bytes =
+    and_then (outline_in 0 bytes) (λ o.
+    and_then (trees_of bytes o.segment) (λ trees.
+    unless (file_damage bytes o.segment) (record { outline = o; trees = trees })))
+
+-- The points of a file with this Segment and this in its Tracks, or the first of its damages.
+abbrev pub points_of : List ℕ → Header → List Node → Result (List CuePoint) Damage
+points_of bytes segment tracks = unless (file_damage bytes segment) (index_points bytes segment tracks)

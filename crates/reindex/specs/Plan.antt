@@ -1,0 +1,70 @@
+-- What is written of a new index: RFC 9559, sections 5.1.1 (SeekHead Element) and 5.1.5 (Cues Element). Where it goes, and what refuses it, are this project's.
+use Rattle.std.specs.Prelude.{ℕ, true, List, [], ◌∷◌, length, slice_get, Option, Some, None, Result, Ok}
+use Rattle.mkv_schema.specs.declared.ids.TheConstants.{ATTACHMENTS, CHAPTERS, CUES, INFO, TAGS, TRACKS}
+use Rattle.mkv_schema.specs.declared.element.Header.{Header}
+use Rattle.mkv_schema.specs.Value.{first_of}
+use Rattle.element_reader.specs.Outline.{FileOutline}
+use Rattle.output_model.specs.Cues.{cues_elements}
+use Rattle.output_model.specs.Element.{Element}
+use Rattle.output_model.specs.declared.places.CuePoint.{CuePoint}
+use Rattle.sidecar_edit.specs.Writes.{Write}
+use Rattle.edit_changes.specs.declared.refusal.Refusal.{Refusal}
+use Rattle.edit_changes.specs.Change.{and_then}
+use Rattle.edit_changes.specs.Plan.{Part, if_editable, recorded, twin_of, unless, writes_of_parts}
+use Rattle.edit_changes.specs.Records.{EditableFile}
+use Rattle.edit_changes.specs.Span.{span_of}
+use Rattle.reindex.specs.declared.indexed.Indexed.{Indexed}
+use Rattle.reindex.specs.Index.{indexable}
+use Rattle.reindex.specs.Points.{index_points}
+
+-- ---- the Cues
+
+-- the Cues of these points, none where there are none
+abbrev pub new_cues : List CuePoint → Option Element
+new_cues points = slice_get (cues_elements points) 0
+
+-- a Cues that is written, or goes, where an old one has so much room
+abbrev pub cues_part : ℕ → ℕ → Option Element → Part
+cues_part place room new = record { id = CUES; place = place; room = room; nodes = 0; element = new }
+
+-- The new one stands where the old one does, or nowhere yet; without a new one the old one goes.
+abbrev pub cues_parts : List Header → Option Header → Option Element → List Part
+cues_parts list None None = []
+cues_parts list None (Some e) = cues_part 0 0 (Some e) ∷ []
+cues_parts list (Some old) new = cues_part old.offset (span_of old list) new ∷ []
+
+-- ---- what is written
+
+-- all that a SeekHead then tells of
+abbrev pub index_ids : List ℕ
+index_ids = INFO ∷ TRACKS ∷ ATTACHMENTS ∷ CUES ∷ CHAPTERS ∷ TAGS ∷ []
+
+-- The Cues of these points and the SeekHead, by ascending places, or what refuses them: a second Cues, or what has no room.
+abbrev pub index_writes : List ℕ → FileOutline → List CuePoint → Result (List Write) Refusal
+index_writes bytes o points =
+    and_then (unless (twin_of o.others CUES) (cues_parts o.others (first_of CUES o.others) (new_cues points)))
+    (writes_of_parts index_ids true bytes o)
+
+-- What is written of a new index, and the points that it then has.
+pub record Index : Type 0 where
+  pub writes : List Write
+  pub points : List CuePoint
+
+-- the new index of a file with this outline, which has these points
+abbrev pub index_with : List ℕ → FileOutline → List CuePoint → Result Index Refusal
+index_with bytes o points = and_then (index_writes bytes o points) (λ ws. Ok (record { writes = ws; points = points }))
+
+-- The new index of a file of this content, or the first that refuses it.
+abbrev pub index_of : List ℕ → Result Index Refusal
+index_of bytes =
+    and_then (if_editable (indexable bytes)) (λ (f : EditableFile).
+    index_with bytes f.outline (index_points bytes f.outline.segment f.trees.tracks))
+
+-- ---- its record
+
+-- the record of what is written, and the number of the points
+abbrev pub indexed : List ℕ → Index → Indexed
+indexed bytes x = record { plan = recorded bytes x.writes; cues = length x.points }
+
+abbrev pub indexed_of : List ℕ → Result Indexed Refusal
+indexed_of bytes = and_then (index_of bytes) (λ x. Ok (indexed bytes x))

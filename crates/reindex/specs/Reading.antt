@@ -1,0 +1,55 @@
+-- The points of a file as they are read.
+use Rattle.std.specs.Prelude.{◌≡◌, ◌≤◌, ⊤, ℕ, ◌+◌, if◌then◌else◌, List, [], ◌∷◌, ◌++◌, map, take, slice_get, Option, Some, None, Result, Ok, Err}
+use Rattle.mkv_io.specs.declared.damage.Damage.{Damage}
+use Rattle.mkv_schema.specs.declared.element.Header.{Header}
+use Rattle.mkv_schema.specs.Outline.{unless}
+use Rattle.element_reader.specs.declared.outline_end.OutlineEnd.{OutlineEnd}
+use Rattle.element_reader.specs.declared.outline_end.OutlineEnd.TheVariants as outline_end
+use Rattle.tree_format.specs.Node.{Node}
+use Rattle.file_format.specs.Entry.{number_of}
+use Rattle.block_format.specs.Block.{Block}
+use Rattle.block_format.specs.Events.{Event, blocks_of, damages_of}
+use Rattle.output_model.specs.declared.TheConstants.{MOST_CUES}
+use Rattle.output_model.specs.declared.places.CuePoint.{CuePoint}
+use Rattle.reindex.specs.Clusters.{HasComeTo}
+use Rattle.reindex.specs.Points.{is_indexed, is_indexed_track, points_among, points_to}
+use Rattle.reindex.specs.declared.clusters.Clusters.{Clusters}
+use Rattle.reindex.specs.declared.indexing.Indexing.{Indexing}
+use Rattle.reindex.specs.declared.point.Point.{Point}
+
+-- a point as it is written
+abbrev pub cue_of : Point → CuePoint
+cue_of p = record { tick = p.tick; lane = p.track; cluster = p.cluster; relative = p.relative }
+
+abbrev pub cues_of : List Point → List CuePoint
+cues_of points = map cue_of points
+
+-- the number of a track whose blocks get points; of another Element of Tracks none
+abbrev pub indexed_number : Node → Option ℕ
+indexed_number n = if is_indexed_track n then Some (number_of n) else None
+
+-- the point of a block, where it gets one and stands in one of the Clusters of a list
+abbrev pub points_for : Indexing → List Header → Block → List CuePoint
+points_for i list b = if is_indexed i.tracks b then points_to i.scale i.base list b else []
+
+-- These are the points, or this damage refuses the file; a read may fail, and there may be no memory.
+abbrev pub ReadsPoints : Result (List CuePoint) Damage → Result (List Point) OutlineEnd → Type 0
+ReadsPoints found (Ok points) = found ≡ Ok (cues_of points)
+ReadsPoints found (Err (outline_end.Refused d)) = found ≡ Err d
+ReadsPoints found (Err outline_end.ReadFault) = ⊤
+ReadsPoints found (Err outline_end.Memory) = ⊤
+
+-- the points of the blocks among events, or the first damage
+abbrev pub points_in : Indexing → List Header → List Event → Result (List CuePoint) Damage
+points_in i list events =
+    unless (slice_get (damages_of events) 0) (take MOST_CUES (points_among i.scale i.base list i.tracks (blocks_of events)))
+
+-- The places of these blocks ascend: the first stands at a place or behind it, each other behind the one before it.
+abbrev pub BlocksAscend : ℕ → List Block → Type 0
+BlocksAscend p [] = ⊤
+BlocksAscend p (b ∷ bs) = (p ≤ b.offset) × BlocksAscend (b.offset + 1) bs
+
+-- The point of a block is behind the others, where there is room for it.
+pub record AddsPoint (i : Indexing) (list : List Header) (bytes : List ℕ) (b : Block) (old new : List Point) (clusters : Clusters) : Type 0 where
+  pub come : HasComeTo bytes list clusters
+  pub points : cues_of new ≡ take MOST_CUES (cues_of old ++ points_for i list b)

@@ -1,0 +1,98 @@
+//! The Cluster in which a block stands: RFC 9559, section 5.1.3 (Cluster Element).
+
+ghost use Rattle.std.specs.Prelude.{◌≡◌, ◌==◌, ◌≤◌, ◌<◌, ℕ, List, [], Some, None, max, length, IfOk, IfSome, if◌then◌else◌};
+ghost use Rattle.mkv_io.specs.Faults.{HasCause, is_failure};
+ghost use Rattle.mkv_io.specs.Sources.{IfTold, OnlyReads, live_files};
+ghost use Rattle.mkv_schema.specs.declared.element.Header.{Header as AnyHeader};
+ghost use Rattle.mkv_schema.specs.declared.ids.TheConstants.{CLUSTER as CLUSTER_ID};
+ghost use Rattle.mkv_schema.specs.Outline.{segment_run};
+ghost use Rattle.elements.specs.Looks.{Goes};
+ghost use Rattle.element_reader.specs.LevelOne.{first_place};
+ghost use Rattle.reindex.specs.Clusters.{HasComeTo, HasReached, HoldsNext, IsReady, LooksAt, StaysReady};
+
+use element_reader::{Header, LevelOne, Outline};
+use mkv_io::{Failed, FileId, Reads};
+use mkv_schema::ids::CLUSTER;
+
+/// A walk over the Elements of level 1, up to a place.
+#[derive(Drop)]
+pub struct Clusters {
+    pub level: LevelOne,
+    /// The last Cluster that was passed.
+    pub last: Option<Header>,
+    /// An Element that was looked at and isn't passed yet.
+    pub next: Option<Header>,
+    /// Octets from the start of the file to the place: every Cluster before it is to be passed.
+    pub reached: u64,
+}
+
+impl Clusters {
+    /// None is passed yet.
+    pub fn start(outline: &Outline, file: FileId) -> Clusters
+        ensures place { result.level ≡ first_place outline.now.segment outline.now.total file }
+        ensures reached { result.reached ≡ 0 }
+        ensures come { (bytes : List ℕ) → outline.now.total ≡ length bytes
+            → HasComeTo bytes (segment_run bytes outline.now.segment).list result }
+    {
+        Clusters {
+            level: LevelOne::start(outline, file),
+            last: None,
+            next: None,
+            reached: 0,
+        }
+    }
+
+    // The next Element, which isn't passed yet. After `Failed` the same one is looked for again.
+    fn look<R: Reads>(&mut self, src: &mut R) -> Result<Option<Header>, Failed>
+        requires { IsReady (live_files R.Reads src.old) self.old }
+        ensures exact { IfOk result (λ found. IfTold R.Reads src.old self.old.level.file (λ bytes.
+            LooksAt bytes self.old self.new found)) }
+        ensures next { IfOk result (HoldsNext self.old self.new) }
+        ensures ready { StaysReady (live_files R.Reads src.new) self.old self.new }
+        ensures kept { (self.new.last ≡ self.old.last) × (self.new.reached ≡ self.old.reached) }
+        ensures same { OnlyReads R.Reads src.old src.new }
+        ensures cause { HasCause is_failure (R.reading_faults src.old) (R.reading_faults src.new) result }
+        ensures goes { Goes R.Reads self.old.level.file self.old.level.at (λ _. self.new.level.at)
+            self.old.level.ahead self.new.level.ahead src.old src.new result }
+    {
+        if self.next.is_none() {
+            self.next = self.level.next(src)?;
+        }
+        Ok(self.next)
+    }
+
+    // Passes the Element that was looked at.
+    fn pass(&mut self, header: Header)
+        ensures { self.new ≡ record self.old {
+          next = None;
+          last = if header.id == CLUSTER_ID then Some header else self.old.last;
+        } }
+    {
+        self.next = None;
+        if header.id == CLUSTER {
+            self.last = Some(header);
+        }
+    }
+
+    /// Goes on to a place, or stays where it is already behind it. After `Failed` the walk can be gone on with.
+    pub fn go_to<R: Reads>(&mut self, src: &mut R, at: u64) -> Result<(), Failed>
+        requires { IsReady (live_files R.Reads src.old) self.old }
+        ensures exact { IfOk result (λ _. IfTold R.Reads src.old self.old.level.file (λ bytes. (list : List AnyHeader)
+            → HasComeTo bytes list self.old → HasReached bytes list self.new)) }
+        ensures reached { self.new.reached ≡ max self.old.reached at }
+        ensures ready { StaysReady (live_files R.Reads src.new) self.old self.new }
+        ensures same { OnlyReads R.Reads src.old src.new }
+        ensures cause { HasCause is_failure (R.reading_faults src.old) (R.reading_faults src.new) result }
+        ensures goes { Goes R.Reads self.old.level.file self.old.level.at (λ _. self.new.level.at)
+            self.old.level.ahead self.new.level.ahead src.old src.new result }
+    {
+        self.reached = self.reached.max(at);
+        'passing: while let Some(header) = self.look(src)? {
+            if header.offset >= self.reached {
+                break;
+            }
+            self.pass(header);
+        }
+        Ok(())
+    }
+}

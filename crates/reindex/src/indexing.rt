@@ -1,0 +1,68 @@
+//! Which blocks get a point, and which.
+
+ghost use Rattle.std.specs.Prelude.{◌≡◌, ◌≤◌, ◌==◌, is_some, not, unwrap_or};
+ghost use Rattle.std.specs.List.{list_any};
+ghost use Rattle.block_records.specs.Buffered.{block_of};
+ghost use Rattle.merge_model.specs.Ticks.{since_start};
+ghost use Rattle.reindex.specs.Points as spec;
+ghost use Rattle.reindex.specs.Reading.{cue_of};
+
+use crate::point::Point;
+use cluster_reader::Cursor;
+use element_reader::Header;
+use mkv_io::List;
+
+/// By what the points of a file are made.
+#[derive(Drop)]
+pub struct Indexing {
+    /// The numbers of the tracks whose blocks get points.
+    pub tracks: List<u64>,
+    /// Nanoseconds a tick.
+    pub scale: u64,
+    /// Octets from the start of the file to the Segment's body.
+    pub base: u64,
+}
+
+// Nanoseconds from the start on, 0 where a time stands before it.
+fn since_start(time: i64) -> u64
+    ensures { result ≡ unwrap_or (since_start time) 0 }
+{
+    if time < 0 { 0 } else { time as u64 }
+}
+
+fn is_before_start(time: i64) -> bool
+    ensures { result ≡ not (is_some (since_start time)) }
+{
+    time < 0
+}
+
+impl Indexing {
+    // Whether the blocks of the track of a number get points.
+    fn has(&self, number: u64) -> bool
+        ensures { result ≡ list_any (λ n. n == number) self.now.tracks }
+    {
+        self.tracks.as_slice().iter().any(|n| *n == number)
+    }
+
+    /// Whether the block that a cursor gave gets a point.
+    pub fn is_indexed(&self, cursor: &Cursor) -> bool
+        ensures { result ≡ spec.is_indexed self.now.tracks (block_of cursor.now.block) }
+    {
+        let head = cursor.head();
+        head.key && !is_before_start(head.time) && self.has(head.track)
+    }
+
+    /// The point of the block that a cursor gave, in this Cluster.
+    pub fn point(&self, cursor: &Cursor, cluster: &Header) -> Point
+        requires { 1 ≤ self.now.scale }
+        ensures { cue_of result ≡ spec.point_in self.now.scale self.now.base (block_of cursor.now.block) cluster.now }
+    {
+        let head = cursor.head();
+        Point {
+            tick: since_start(head.time) / self.scale,
+            track: head.track,
+            cluster: cluster.offset.saturating_sub(self.base),
+            relative: head.offset.saturating_sub(cluster.body),
+        }
+    }
+}

@@ -1,0 +1,21 @@
+#![tactic(auto)]
+
+//! The index of a file that stands already: which of its blocks get a cue point, and where each stands (RFC 9559,
+//! sections 5.1.5, Cues Element, and 16, Segment Position).
+
+mod clusters;
+mod cues;
+mod found;
+mod indexed;
+mod indexing;
+mod parts;
+mod planning;
+mod point;
+mod reading;
+mod scale;
+mod tracks;
+
+pub use indexed::Indexed;
+pub use planning::plan_index;
+pub use point::Point;
+pub use reading::read_points;

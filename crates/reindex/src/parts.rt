@@ -1,0 +1,54 @@
+//! The Cues among the Elements of level 1.
+
+ghost use Rattle.std.specs.Prelude.{◌≡◌, ◌≤◌, ◌^◌, length, map, option_map, IfOk, IfSome};
+ghost use Rattle.mkv_schema.specs.Value.{first_of};
+ghost use Rattle.mkv_schema.specs.declared.ids.TheConstants.{CUES as CUES_ID};
+ghost use Rattle.output_model.specs.Element.{element};
+ghost use Rattle.edit_plan.specs.Shown.{shown};
+ghost use Rattle.reindex.specs.Plan as spec;
+ghost use Rattle.reindex.specs.Reading.{cues_of};
+
+use crate::cues::cues_body;
+use crate::point::Point;
+use edit_changes::span_of;
+use edit_plan::Part;
+use element_reader::Outline;
+use mkv_io::Bytes;
+use mkv_schema::ids::CUES;
+use std::alloc::{AllocError, Global};
+
+// A Cues with this body, or none, where an old one has so much room.
+#[tactic(auto, unfolding(ebml_numbers::specs::Number::is_id))]
+fn cues_part(place: u64, room: u64, body: Option<Bytes>) -> Part
+    requires short { IfSome body (λ octets. length octets ≤ 2 ^ 48) }
+    requires room { room ≤ 2 ^ 48 }
+    ensures { shown result ≡ spec.cues_part place room (option_map (element CUES_ID) body) }
+{
+    Part {
+        id: CUES,
+        place,
+        room,
+        nodes: 0,
+        body,
+    }
+}
+
+/// The Cues of these points, where the old one stands or nowhere yet. Without points the old one goes.
+pub fn cues_parts(
+    alloc: Global,
+    outline: &Outline,
+    points: &[Point],
+) -> Result<Vec<Part>, AllocError>
+    requires { outline.now.total ≤ 2 ^ 48 }
+    ensures { IfOk result (λ parts. map shown parts.items
+        ≡ spec.cues_parts outline.now.others (first_of CUES_ID outline.now.others) (spec.new_cues (cues_of points.now))) }
+{
+    let mut parts = Vec::new(alloc);
+    let body = cues_body(alloc, points)?;
+    if let Some(old) = outline.first(CUES) {
+        parts.push(cues_part(old.offset, span_of(outline, &old), body))?;
+    } else if body.is_some() {
+        parts.push(cues_part(0, 0, body))?;
+    }
+    Ok(parts)
+}

@@ -1,0 +1,128 @@
+//! What a new index writes to a file.
+
+ghost use Rattle.std.specs.Prelude.{◌≡◌, ◌≤◌, ◌+◌, ◌*◌, length, map, IfOk, Ok};
+ghost use Rattle.mkv_io.specs.Faults.{HasCause};
+ghost use Rattle.mkv_io.specs.Sources.{IfTold, IsLive, file_size};
+ghost use Rattle.mkv_disk.specs.Calls.{OfReads};
+ghost use Rattle.sidecar_edit.specs.declared.place.TheConstants.{KEPT as KEPT_OCTETS};
+ghost use Rattle.sidecar_edit.specs.Fields.{IsPlan};
+ghost use Rattle.element_reader.specs.Outline.{is_outline_fault, outline_in};
+ghost use Rattle.edit_changes.specs.Plan as spec;
+ghost use Rattle.edit_plan.specs.Answer.{Answers, Gives, is_plan_fault};
+ghost use Rattle.edit_plan.specs.Shown.{written};
+ghost use Rattle.reindex.specs.Found.{IsFound, ends_as};
+ghost use Rattle.reindex.specs.Plan.{index_writes, indexed_of};
+ghost use Rattle.reindex.specs.Reading.{cues_of};
+
+use crate::found::Found;
+use crate::indexed::Indexed;
+use crate::parts::cues_parts;
+use crate::reading::read_points;
+use edit_changes::{Refusal, twin_refusal};
+use edit_plan::{PlanEnd, Rewriting, Write, parts_writes, read_trees, recorded};
+use element_reader::{Outline, OutlineEnd};
+use mkv_disk::{Disk, MEDIA};
+use mkv_io::{FileId, Reads};
+use mkv_schema::ids::{ATTACHMENTS, CHAPTERS, CUES, INFO, TAGS, TRACKS};
+use sidecar_edit::{KEPT, Plan, read_first};
+use std::alloc::Global;
+
+/// All that a SeekHead tells of once the index is new.
+const INDEXED: [u32; 6] = [INFO, TRACKS, ATTACHMENTS, CUES, CHAPTERS, TAGS];
+
+// Why there is no plan, where a file can't be read.
+fn plan_end(end: OutlineEnd) -> PlanEnd
+    ensures exact { result ≡ ends_as end }
+    ensures cause { is_plan_fault result ≡ is_outline_fault end }
+{
+    match end {
+        OutlineEnd::Refused(damage) => PlanEnd::Refused(Refusal::Damaged(damage)),
+        OutlineEnd::ReadFault => PlanEnd::ReadFault,
+        OutlineEnd::Memory => PlanEnd::Memory,
+    }
+}
+
+// The outline of a file that can be indexed, and its points.
+fn find<R: Reads>(alloc: Global, src: &mut R, file: FileId) -> Result<Found, OutlineEnd>
+    requires { IsLive R.Reads src.old file }
+    ensures exact { IfTold R.Reads src.old file (λ bytes. IsFound bytes result) }
+    ensures total { IfOk result (λ found. found.outline.total ≡ file_size R.Reads src.old file) }
+    ensures standing { R.standing src.new ≡ R.standing src.old }
+    ensures cause { HasCause is_outline_fault (R.reading_faults src.old) (R.reading_faults src.new) result }
+    ensures octets { R.octets_read src.new ≤ R.octets_read src.old + 33 * file_size R.Reads src.old file }
+{
+    let outline = Outline::read(alloc, src, file)?;
+    let trees = read_trees(alloc, &outline, src, file)?;
+    let points = read_points(alloc, &outline, &trees, src, file)?;
+    Ok(Found { outline, points })
+}
+
+// The Cues of its points and the SeekHead, by ascending places, or what refuses them.
+fn writes_of<R: Reads>(
+    alloc: Global,
+    found: &Found,
+    src: &mut R,
+    file: FileId,
+) -> Result<Vec<Write>, PlanEnd>
+    requires live { IsLive R.Reads src.old file }
+    requires whole { found.now.outline.total ≡ file_size R.Reads src.old file }
+    ensures exact { IfTold R.Reads src.old file (λ bytes. outline_in 0 bytes ≡ Ok found.now.outline
+        → Answers (index_writes bytes found.now.outline (cues_of found.now.points)) result) }
+    ensures standing { R.standing src.new ≡ R.standing src.old }
+    ensures cause { HasCause is_plan_fault (R.reading_faults src.old) (R.reading_faults src.new) result }
+    ensures octets { R.octets_read src.new ≤ R.octets_read src.old + file_size R.Reads src.old file }
+{
+    let outline = &found.outline;
+    if let Some(refusal) = twin_refusal(outline, CUES) {
+        return Err(PlanEnd::Refused(refusal));
+    }
+    let parts = cues_parts(alloc, outline, found.points.as_slice())?;
+    let rewriting = Rewriting {
+        ids: &INDEXED,
+        always: true,
+    };
+    parts_writes(alloc, &rewriting, outline, parts.as_slice(), src, file)
+}
+
+// The record of some writes over a medium.
+fn plan_of<D: Disk>(alloc: Global, disk: &mut D, writes: &[Write]) -> Result<Plan, PlanEnd>
+    requires { IsLive D.Reads disk.old MEDIA }
+    ensures exact { OfReads D.Disk.own disk.old (λ M S. Gives (Ok (spec.recorded M (map written writes.now))) result) }
+    ensures sound { IfOk result IsPlan }
+    ensures some { IfOk result (λ plan. 1 ≤ length plan.head.places) }
+    ensures standing { D.standing disk.new ≡ D.standing disk.old }
+    ensures cause { HasCause is_plan_fault (D.reading_faults disk.old) (D.reading_faults disk.new) result }
+    ensures octets { D.octets_read disk.new ≤ D.octets_read disk.old + KEPT_OCTETS }
+{
+    let mut first = [0; KEPT as usize];
+    let count = read_first(disk, MEDIA, &mut first)?;
+    let old_len = disk.size(MEDIA);
+    let plan = recorded(alloc, old_len, &first[..count], writes)?;
+    Ok(plan)
+}
+
+/// The plan of a new index of a medium: the record of its Cues, one point for each key block of a video or subtitle track,
+/// and of the SeekHead, or the first thing that refuses them. All memory of it is taken here, and nothing is written.
+/// `Memory` is also the answer where what was read comes to writes that no content comes to, as it may where others write
+/// to the file.
+pub fn plan_index<D: Disk>(alloc: Global, disk: &mut D) -> Result<Indexed, PlanEnd>
+    requires { IsLive D.Reads disk.old MEDIA }
+    ensures exact { OfReads D.Disk.own disk.old (λ M S. Gives (indexed_of M) result) }
+    ensures sound { IfOk result (λ indexed. IsPlan indexed.plan) }
+    ensures some { IfOk result (λ indexed. 1 ≤ length indexed.plan.head.places) }
+    ensures standing { D.standing disk.new ≡ D.standing disk.old }
+    ensures cause { HasCause is_plan_fault (D.reading_faults disk.old) (D.reading_faults disk.new) result }
+    ensures octets { D.octets_read disk.new
+        ≤ D.octets_read disk.old + (34 * file_size D.Reads disk.old MEDIA + KEPT_OCTETS) }
+{
+    let found = match find(alloc, disk, MEDIA) {
+        Ok(found) => found,
+        Err(end) => return Err(plan_end(end)),
+    };
+    let writes = writes_of(alloc, &found, disk, MEDIA)?;
+    let plan = plan_of(alloc, disk, writes.as_slice())?;
+    Ok(Indexed {
+        plan,
+        cues: found.points.len() as u64,
+    })
+}

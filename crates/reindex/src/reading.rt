@@ -1,0 +1,123 @@
+//! The points of a file are read.
+
+ghost use Rattle.std.specs.Prelude.{◌≡◌, ◌≤◌, ◌+◌, ◌*◌, ℕ, List as AnyList, Ok, max, length, IfOk, OnOk};
+ghost use Rattle.mkv_io.specs.Faults.{HasCause, is_read_fault};
+ghost use Rattle.mkv_io.specs.Sources.{IfTold, IsLive, OnlyReads, file_size, live_files};
+ghost use Rattle.mkv_schema.specs.declared.element.Header.{Header};
+ghost use Rattle.elements.specs.Looks.{Goes};
+ghost use Rattle.elements.specs.Window.{HasNotPassed};
+ghost use Rattle.element_reader.specs.Outline.{is_outline_fault, outline_in};
+ghost use Rattle.block_format.specs.Events.{blocks_of};
+ghost use Rattle.block_records.specs.Buffered.{block_of};
+ghost use Rattle.cluster_reader.specs.Reading.{CanRead, left_of, paid};
+ghost use Rattle.edit_changes.specs.Records.{trees_of};
+ghost use Rattle.edit_changes.specs.Trees.{AreSound};
+ghost use Rattle.reindex.specs.Clusters.{HasComeTo, IsReady, StaysReady};
+ghost use Rattle.reindex.specs.Index.{points_of};
+ghost use Rattle.reindex.specs.Reading.{AddsPoint, BlocksAscend, ReadsPoints, points_in};
+
+use crate::clusters::Clusters;
+use crate::indexing::Indexing;
+use crate::point::Point;
+use crate::scale::scale_of;
+use crate::tracks::indexed_tracks;
+use cluster_reader::{Cursor, Step};
+use edit_changes::Trees;
+use element_reader::{Outline, OutlineEnd};
+use mkv_io::{FileId, List, ReadEnd, Reads};
+use output_model::MOST_CUES;
+use std::alloc::Global;
+
+// Adds the point of the block that a cursor gave, where it gets one and there is room.
+fn add_point<R: Reads>(
+    points: &mut List<Point>,
+    by: &Indexing,
+    clusters: &mut Clusters,
+    src: &mut R,
+    cursor: &Cursor,
+) -> Result<(), ReadEnd>
+    requires scale { 1 ≤ by.now.scale }
+    requires few { length points.old ≤ MOST_CUES }
+    requires ready { IsReady (live_files R.Reads src.old) clusters.old }
+    ensures adds { IfOk result (λ _. IfTold R.Reads src.old clusters.old.level.file (λ bytes. (list : AnyList Header)
+        → HasComeTo bytes list clusters.old → clusters.old.reached ≤ cursor.now.block.head.offset
+        → AddsPoint by.now list bytes (block_of cursor.now.block) points.old points.new clusters.new)) }
+    ensures few { length points.new ≤ MOST_CUES }
+    ensures reached { clusters.new.reached ≤ max clusters.old.reached cursor.now.block.head.offset }
+    ensures ready { StaysReady (live_files R.Reads src.new) clusters.old clusters.new }
+    ensures same { OnlyReads R.Reads src.old src.new }
+    ensures cause { HasCause is_read_fault (R.reading_faults src.old) (R.reading_faults src.new) result }
+    ensures goes { Goes R.Reads clusters.old.level.file clusters.old.level.at (λ _. clusters.new.level.at)
+        clusters.old.level.ahead clusters.new.level.ahead src.old src.new result }
+{
+    if points.len() >= MOST_CUES || !by.is_indexed(cursor) {
+        return Ok(());
+    }
+    clusters.go_to(src, cursor.head().offset)?;
+    if let Some(cluster) = clusters.last {
+        points.push(by.point(cursor, &cluster))?;
+    }
+    Ok(())
+}
+
+// The points of the blocks that a cursor has left, or the first damage that it has.
+fn collect<R: Reads>(
+    alloc: Global,
+    by: &Indexing,
+    clusters: &mut Clusters,
+    cursor: &mut Cursor,
+    src: &mut R,
+) -> Result<List<Point>, OutlineEnd>
+    requires scale { 1 ≤ by.now.scale }
+    requires file { clusters.old.level.file ≡ cursor.old.file }
+    requires stands { CanRead (live_files R.Reads src.old) cursor.old }
+    requires ready { IsReady (live_files R.Reads src.old) clusters.old }
+    requires window { HasNotPassed clusters.old.level.ahead clusters.old.level.at
+        (file_size R.Reads src.old cursor.old.file) }
+    ensures exact { IfTold R.Reads src.old cursor.old.file (λ bytes. (list : AnyList Header)
+        → HasComeTo bytes list clusters.old → BlocksAscend clusters.old.reached (blocks_of (left_of bytes cursor.old))
+        → ReadsPoints (points_in by.now list (left_of bytes cursor.old)) result) }
+    ensures few { IfOk result (λ points. length points ≤ MOST_CUES) }
+    ensures standing { R.standing src.new ≡ R.standing src.old }
+    ensures cause { HasCause is_outline_fault (R.reading_faults src.old) (R.reading_faults src.new) result }
+    ensures octets { R.octets_read src.new ≤ R.octets_read src.old + 9 * file_size R.Reads src.old cursor.old.file }
+{
+    let mut points = List::new(alloc);
+    'steps: loop {
+        match cursor.advance(src)? {
+            Step::Block => add_point(&mut points, by, clusters, src, cursor)?,
+            Step::Damaged(damage) => return Err(OutlineEnd::Refused(damage)),
+            Step::End => return Ok(points),
+        }
+    }
+}
+
+/// The points of a file with this outline and these trees, in the order of its blocks, or the first of its damages.
+/// There are 1,048,576 at most; behind them only damages count.
+pub fn read_points<R: Reads>(
+    alloc: Global,
+    outline: &Outline,
+    trees: &Trees,
+    src: &mut R,
+    file: FileId,
+) -> Result<List<Point>, OutlineEnd>
+    requires live { IsLive R.Reads src.old file }
+    requires whole { outline.now.total ≡ file_size R.Reads src.old file }
+    requires sound { AreSound trees.now }
+    ensures exact { IfTold R.Reads src.old file (λ bytes. (held : ℕ) → outline_in held bytes ≡ Ok outline.now
+        → trees_of bytes outline.now.segment ≡ Ok trees.now
+        → ReadsPoints (points_of bytes outline.now.segment trees.now.tracks) result) }
+    ensures few { IfOk result (λ points. length points ≤ MOST_CUES) }
+    ensures standing { R.standing src.new ≡ R.standing src.old }
+    ensures cause { HasCause is_outline_fault (R.reading_faults src.old) (R.reading_faults src.new) result }
+    ensures octets { R.octets_read src.new ≤ R.octets_read src.old + 9 * file_size R.Reads src.old file }
+{
+    let by = Indexing {
+        tracks: indexed_tracks(alloc, trees.tracks.as_slice())?,
+        scale: scale_of(&trees.info),
+        base: outline.segment().body,
+    };
+    let mut cursor = Cursor::start(alloc, outline, file, by.scale)?;
+    let mut clusters = Clusters::start(outline, file);
+    collect(alloc, &by, &mut clusters, &mut cursor, src)
+}

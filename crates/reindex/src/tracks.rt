@@ -1,0 +1,77 @@
+//! The tracks whose blocks get points.
+
+ghost use Rattle.std.specs.Prelude.{◌≡◌, ◌||◌, ◌==◌, IfOk};
+ghost use Rattle.std.specs.List.{All};
+ghost use Rattle.mkv_schema.specs.declared.ids.TheConstants.{TRACKS as TRACKS_ID};
+ghost use Rattle.tree_format.specs.Standing.{StandsIn};
+ghost use Rattle.file_format.specs.Entry as entry;
+ghost use Rattle.track_records.specs.Sound.{IsEntry};
+ghost use Rattle.reindex.specs.Points as spec;
+ghost use Rattle.reindex.specs.Reading.{indexed_number};
+
+use ebml_tree::{Tree, uint_in};
+use mkv_io::List;
+use mkv_schema::ids::{TRACK_ENTRY, TRACK_NUMBER, TRACK_TYPE};
+use std::alloc::{AllocError, Global};
+
+/// A video track, by its TrackType: RFC 9559, section 5.1.4 (Tracks Element).
+pub const VIDEO_TRACK: u64 = 1;
+
+/// A track of subtitles.
+pub const SUBTITLE_TRACK: u64 = 17;
+
+#[tactic(auto, using(track_records::proofs::EntryLemmas::known))]
+fn type_of(track: &Tree) -> u64
+    requires { IsEntry track.now }
+    ensures { result ≡ entry.type_of track.now }
+{
+    uint_in(track, TRACK_TYPE)
+}
+
+#[tactic(auto, using(track_records::proofs::EntryLemmas::known))]
+fn number_of(track: &Tree) -> u64
+    requires { IsEntry track.now }
+    ensures { result ≡ entry.number_of track.now }
+{
+    uint_in(track, TRACK_NUMBER)
+}
+
+// Whether an Element of Tracks is the TrackEntry of a track whose blocks get points.
+#[tactic(auto, using(edit_changes::proofs::SelectLemmas::entries))]
+fn is_indexed_track(tree: &Tree) -> bool
+    requires { StandsIn TRACKS_ID tree.now }
+    ensures { result ≡ spec.is_indexed_track tree.now }
+{
+    if tree.id() != TRACK_ENTRY {
+        return false;
+    }
+    let kind = type_of(tree);
+    kind == VIDEO_TRACK || kind == SUBTITLE_TRACK
+}
+
+// The number of such a track; of another Element of Tracks none.
+#[tactic(auto, using(edit_changes::proofs::SelectLemmas::entries))]
+fn indexed_number(tree: &Tree) -> Option<u64>
+    requires { StandsIn TRACKS_ID tree.now }
+    ensures { result ≡ indexed_number tree.now }
+{
+    if is_indexed_track(tree) {
+        Some(number_of(tree))
+    } else {
+        None
+    }
+}
+
+/// The numbers of the tracks whose blocks get points, among what stands in Tracks.
+pub fn indexed_tracks(alloc: Global, tracks: &[Tree]) -> Result<List<u64>, AllocError>
+    requires { All (StandsIn TRACKS_ID) tracks.now }
+    ensures { IfOk result (λ numbers. numbers ≡ spec.indexed_tracks tracks.now) }
+{
+    let mut numbers = List::new(alloc);
+    for tree in tracks {
+        if let Some(number) = indexed_number(tree) {
+            numbers.push(number)?;
+        }
+    }
+    Ok(numbers)
+}
