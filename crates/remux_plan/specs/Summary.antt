@@ -44,9 +44,14 @@ more_damages input told = if told.more == 0 then [] else record { input = input;
 
 -- ---- the summary
 
--- what is known of an output that stands: its name, and how many blocks it has
+-- what is known of an output that stands: its name, how many blocks it has, in how many Clusters, and with how many cue points
 abbrev pub written_of : PlannedOutput → Written
-written_of o = record { name = o.name; blocks = counted 0 (length o.blocks) }
+written_of o = record {
+  name = o.name;
+  blocks = counted 0 (length o.blocks);
+  clusters = counted 0 (length o.document.clusters);
+  cues = length o.document.cues;
+}
 
 -- The outputs are those of the plan, and these are the damages of the inputs.
 pub record IsSummary (f : LiveFiles) (p : MergePlan) (s : Summary) : Type 0 where

@@ -19,6 +19,10 @@ pub struct Written {
     pub name: Text,
     /// How many blocks it has.
     pub blocks: u64,
+    /// In how many Clusters these stand.
+    pub clusters: u64,
+    /// How many cue points it has.
+    pub cues: u64,
 }
 
 /// A damage of an input.

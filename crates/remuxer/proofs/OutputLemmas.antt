@@ -36,6 +36,7 @@ use Rattle.cues_seekhead.specs.Made.{MakesFile, WritesAndEnds}
 use Rattle.cues_seekhead.proofs.MadeLemmas.{MakesFile-ended, MakesFile-finished, MakesFile-kept}
 use Rattle.output_model.specs.Cued.{is_cue}
 use Rattle.remuxer.specs.Stands.{HasAll, Stands}
+use Rattle.remuxer.specs.declared.counts.Counts.{Counts}
 use Rattle.output_model.specs.declared.rule.CueRule.{CueRule}
 use Rattle.merge_model.specs.FileLinks.{IsOpenLink, KeepsLink}
 use Rattle.merge_model.specs.declared.link.Link.{Link}
@@ -80,6 +81,10 @@ begun-in_turn before now name d stands = record { stand = stands.stand; drafted 
     })
     step (o ∷ (p ∷ os)) begun = absurd begun.1
 
+-- of an output without blocks
+abbrev pub none_counted : Counts
+none_counted = record { clusters = 0; cues = 0 }
+
 -- the cue points by the same rules
 pub cued-as : (rules same : List CueRule) (d : Document) → same ≡ rules → d.cues ≡ cues_for (is_cue rules) d.front d.clusters → d.cues ≡ cues_for (is_cue same) d.front d.clusters
 cued-as rules same d are cues = cues ∙ ap (λ rs. cues_for (is_cue rs) d.front d.clusters) (sym are)
@@ -87,19 +92,20 @@ cued-as rules same d are cues = cues ∙ ap (λ rs. cues_for (is_cue rs) d.front
 module _ {S : Type 0} (r : Ghosts S) (f : writing.Ghosts S) (before : Names) (name : List ℕ) (d : Document) where
   -- it was begun: all its blocks are left
   pub stands-begun : (rules : List CueRule) (limits : ClusterLimits) (files : S) (o : OpenOutput) (g : Gathered) (blocks : List OutputBlock) → clusters limits blocks ≡ d.clusters → o.cues ≡ [] → Holds None g → g.limits ≡ limits
-      → StandsOpen r f before name d.front [] files o → Stands r f before name rules d files o g blocks
+      → StandsOpen r f before name d.front [] files o → Stands r f before name rules d files o g none_counted blocks
   stands-begun rules limits files o g blocks is cues holds same stands = record {
     done = [];
     cluster = None;
     cut = ap (λ l. clusters l blocks) same ∙ is;
     cues = cues ∙ sym (take_all MOST_CUES (let none : List CuePoint = [] in none) (omega arith));
     holds = holds;
+    counts = record { clusters = grind arith; cues = sym (ap length cues) };
     stands = stands;
   }
 
   -- it has all its Clusters, and is finished
-  pub finishes-all : (old new : S) (o : OpenOutput) (chapters tags : Option Node) (result : Result ℕ RemuxEnd) → d.chapters ≡ chapters → d.tags ≡ tags → Finishes r f o chapters tags old new result → HasAll r f before name d old o → Writes before (f.names new) name d result
-  finishes-all old new o chapters tags result its_chapters its_tags finishes all = step result finishes
+  pub finishes-all : (old new : S) (o : OpenOutput) (chapters tags : Option Node) (result : Result ℕ RemuxEnd) → d.chapters ≡ chapters → d.tags ≡ tags → Finishes r f o chapters tags old new result → (n : Counts) → HasAll r f before name d old o n → Writes before (f.names new) name d result
+  finishes-all old new o chapters tags result its_chapters its_tags finishes n all = step result finishes
     where
       named : f.holder old o.file.n ≡ name
       named = all.stands.holder
@@ -245,25 +251,26 @@ module _ {S : Type 0} (r : Ghosts S) (f : writing.Ghosts S) (o : OutputSpec) (na
 
   -- the output was begun
   pub begun-stands : (out : OpenOutput) (buffer : Gathered) → StandsOpen r f (f.names a) name (front_with (live_files r a) o.front) [] b out → out.cues ≡ [] → Holds None buffer → buffer.limits ≡ o.limits
-      → Stands r f (f.names a) name o.rules (document_with (live_files r a) o (part_in (live_files r a) p part)) b out buffer (part_in (live_files r b) p part).blocks
+      → Stands r f (f.names a) name o.rules (document_with (live_files r a) o (part_in (live_files r a) p part)) b out buffer none_counted (part_in (live_files r b) p part).blocks
   begun-stands out buffer opened cues holds limits =
       stands-begun r f (f.names a) name (document_with (live_files r a) o (part_in (live_files r a) p part)) o.rules o.limits b out buffer (part_in (live_files r b) p part).blocks
       (ap (λ (each : Part). clusters o.limits each.blocks) part-same) cues holds limits opened
 
   -- it was filled, and is finished
   pub filled-finishes : (c e : S) (w w' : BlockWriter) (p' : PlacedBlocks) (filled : Filled) (chapters : Option Node) (result : Result ℕ RemuxEnd) → FillsPart r f o part b c w w' p p' filled
-      → Stands r f (f.names a) name o.rules (document_with (live_files r a) o (part_in (live_files r a) p part)) b w.out w.buffer (part_in (live_files r b) p part).blocks
+      → Stands r f (f.names a) name o.rules (document_with (live_files r a) o (part_in (live_files r a) p part)) b w.out w.buffer w.counts (part_in (live_files r b) p part).blocks
       → chapters ≡ chapters_in o filled.chapters → Finishes r f w'.out chapters o.tags c e result → Writes (f.names a) (f.names e) name (document_with (live_files r a) o (part_in (live_files r a) p part)) result
   filled-finishes c e w w' p' filled chapters result fills stands its finishes =
       let d : Document = document_with (live_files r a) o (part_in (live_files r a) p part) in
       let cut : filled.chapters ≡ chapters_cut o part.start (part_in (live_files r a) p part).end = fills.chapters ∙ ap (λ (each : Part). chapters_cut o part.start each.end) part-same in
       finishes-all r f (f.names a) name d c e w'.out chapters o.tags result (chapters-are o (live_files r a) (part_in (live_files r a) p part) filled.chapters cut ∙ sym its) refl finishes
-      (fills.all (f.names a) name d refl stands)
+      w'.counts (fills.all (f.names a) name d refl stands)
 
   -- so many blocks, and the parts behind it
-  pub filled-written : (c e : S) (w w' : BlockWriter) (p' : PlacedBlocks) (filled : Filled) → FillsPart r f o part b c w w' p p' filled → w.blocks ≡ 0 → left (live_files r e) p'.merge ≡ left (live_files r c) p'.merge
-      → HasWritten (live_files r a) (live_files r e) part p p' (record { blocks = w'.blocks; ahead = filled.ahead })
-  filled-written c e w w' p' filled fills none later = record {
+  pub filled-written : (c e : S) (w w' : BlockWriter) (p' : PlacedBlocks) (filled : Filled) → FillsPart r f o part b c w w' p p' filled → Stands r f (f.names a) name o.rules (document_with (live_files r a) o (part_in (live_files r a) p part)) b w.out w.buffer w.counts (part_in (live_files r b) p part).blocks → w.blocks ≡ 0 → left (live_files r e) p'.merge ≡ left (live_files r c) p'.merge
+      → HasWritten (live_files r a) (live_files r e) o part p p' (record { blocks = w'.blocks; counts = w'.counts; ahead = filled.ahead })
+  filled-written c e w w' p' filled fills stands none later = record {
+    counts = (fills.all (f.names a) name (document_with (live_files r a) o (part_in (live_files r a) p part)) refl stands).counts;
     count = counted-all w'.blocks (counted 0 (length (part_in (live_files r a) p part).blocks)) (fills.few (omega (arith, none)))
         (fills.count ∙ ap₂ (λ (n : ℕ) (each : Part). counted n (length each.blocks)) none part-same);
     behind =

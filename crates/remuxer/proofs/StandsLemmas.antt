@@ -1,15 +1,21 @@
 -- An output on the way, one block more at a time.
 use Rattle.std.proofs.Common.{◌≡◌, ◌≤◌, ◌<◌, ℕ, ◌+◌, List, [], ◌∷◌, ◌++◌, length, take, refl, sym, ap, subst, ◌∙◌, append_assoc, append-nil, arith, nat_eq, Option, Some, None, true, false, if◌then◌else◌, ◌⊎◌, inl, inr}
-use Rattle.std.proofs.lemmas.List.{map-append}
+use Rattle.std.proofs.lemmas.List.{length-append, map-append}
 use Rattle.std.proofs.lemmas.List.Concat.{flat_map-append}
 use Rattle.std.proofs.lemmas.Bool.{cases_lt}
 use Rattle.std.proofs.lemmas.Bool.Decides.{nat_tests}
+use Rattle.std.specs.Prelude.{Bool, is_none}
 use Rattle.mkv_io.specs.Contents.{with_appended}
+use Rattle.mkv_io.specs.Faults.{counted}
 use Rattle.mkv_io.specs.Names.{Names, with_change, with_content}
 use Rattle.mkv_io.specs.declared.reads.Reads.{Ghosts}
 use Rattle.mkv_io.specs.declared.files.Files as writing
 use Rattle.mkv_outputs.specs.Written.{PassesSome}
+use Rattle.ebml_numbers.specs.Number.{is_id}
+use Rattle.ebml_numbers.proofs.NumberLemmas.{is_id-bounds}
+use Rattle.mkv_schema.specs.declared.ids.TheConstants.{CLUSTER}
 use Rattle.output_model.specs.Element.{joined, octets_of}
+use Rattle.output_model.proofs.ReadLemmas.{length-header_of, length-octets_of}
 use Rattle.output_model.specs.declared.TheConstants.{MOST_CUES}
 use Rattle.output_model.specs.declared.heads.ClusterLimits.{ClusterLimits}
 use Rattle.output_model.specs.declared.places.CuePoint.{CuePoint}
@@ -25,7 +31,8 @@ use Rattle.cues_seekhead.proofs.DraftLemmas.{StandsDrafted-begun}
 use Rattle.cues_seekhead.proofs.LayoutLemmas.{opened-more}
 use Rattle.cues_seekhead.proofs.OpenLemmas.{StandsOpen-cued, StandsOpen-grown}
 use Rattle.output_model.specs.Cued.{is_cue}
-use Rattle.remuxer.specs.Stands.{HasAll, Stands, cut_on, held}
+use Rattle.remuxer.specs.Stands.{AreCounts, HasAll, Stands, counted_with, cut_on, held, with_point}
+use Rattle.remuxer.specs.declared.counts.Counts.{Counts}
 use Rattle.output_model.specs.declared.rule.CueRule.{CueRule}
 use Rattle.remuxer.proofs.PointLemmas.{kept-more, points_from-push}
 
@@ -41,6 +48,46 @@ cut-joins limits (Some c) left b fits = sym (ap (λ t. if t then cut_from limits
 
 cut-breaks : (limits : ClusterLimits) (c : OutputCluster) (left : List OutputBlock) (b : OutputBlock) → joins limits c b ≡ false → cut_on limits (Some c) (b ∷ left) ≡ c ∷ cut_on limits None (b ∷ left)
 cut-breaks limits c left b never = ap (λ t. if t then cut_from limits (with_block c b) left else c ∷ cut_from limits (begun b) left) never
+
+-- ---- what is counted
+
+cluster-id : is_id CLUSTER ≡ true
+unfolding is_id
+cluster-id = refl
+
+-- a Cluster has octets
+cluster-some : (c : OutputCluster) → nat_eq (length (octets_of (cluster_element c))) 0 ≡ false
+cluster-some c =
+    let wide = (is_id-bounds CLUSTER cluster-id).0 in
+    let head = length-header_of (cluster_element c) in
+    let all = length-octets_of (cluster_element c) in
+    let some : 1 ≤ length (octets_of (cluster_element c)) = omega (arith, wide, head, all) in
+    by-length (length (octets_of (cluster_element c))) some
+  where
+    by-length : (n : ℕ) → 1 ≤ n → nat_eq n 0 ≡ false
+    by-length n some = grind (arith, nat_tests)
+
+-- nothing is held where the buffer has no octets
+none-held : (g : Gathered) (cl : Option OutputCluster) → Holds cl g → nat_eq (length (cluster_with g.timestamp g.elements)) 0 ≡ is_none cl
+none-held g None holds = ap (λ (x : Gathered). nat_eq (length (cluster_with x.timestamp x.elements)) 0) holds
+none-held g (Some c) holds = ap (λ (x : Gathered). nat_eq (length (cluster_with x.timestamp x.elements)) 0) holds ∙ cluster-some c
+
+-- a block begins a Cluster where none is held
+count-begun : (n : ℕ) (g : Gathered) (done : List OutputCluster) (cl : Option OutputCluster) (b : OutputBlock) (begins : Bool) → Holds cl g → begins ≡ nat_eq (length (cluster_with g.timestamp g.elements)) 0
+    → n ≡ counted 0 (length (done ++ held cl)) → (if begins then counted n 1 else n) ≡ counted 0 (length (done ++ held (Some (with_next cl b))))
+count-begun n g done cl b begins holds empties count = ap (λ (t : Bool). if t then counted n 1 else n) (empties ∙ none-held g cl holds) ∙ by-cluster cl count
+  where
+    by-cluster : (it : Option OutputCluster) → n ≡ counted 0 (length (done ++ held it)) → (if is_none it then counted n 1 else n) ≡ counted 0 (length (done ++ held (Some (with_next it b))))
+    by-cluster None count = let one = length-append done [] in let other = length-append done (begun b ∷ []) in grind (arith, one, other, count)
+    by-cluster (Some c) count = count ∙ ap (counted 0) (length-append done (c ∷ []) ∙ sym (length-append done (with_block c b ∷ [])))
+
+-- and a cue point is one more, as far as there may be one
+count-point : (old new : List CuePoint) (p : CuePoint) → (length old < MOST_CUES → new ≡ old ++ p ∷ []) → (MOST_CUES ≤ length old → new ≡ old) → with_point (length old) ≡ length new
+count-point old new p added full = either (cases_lt (length old) MOST_CUES)
+  where
+    either : (length old < MOST_CUES) ⊎ (MOST_CUES ≤ length old) → with_point (length old) ≡ length new
+    either (inl less) = let all = ap length (added less) ∙ length-append old (p ∷ []) in grind (arith, nat_tests, less, all)
+    either (inr more) = let same = ap length (full more) in grind (arith, nat_tests, more, same)
 
 -- ---- octets of Clusters
 
@@ -68,35 +115,36 @@ module _ {S : Type 0} (r : Ghosts S) (f : writing.Ghosts S) (before : Names) (na
       (StandsDrafted-begun before old now name (opened_with d.front (joined (clusters_elements done))) (bytes ++ more) (draft_of name d).patches had (PassesSome-more old now name bytes more some))
 
   -- what stands is a draft
-  pub stands-drafted : (files : S) (o : OpenOutput) (g : Gathered) (left : List OutputBlock) → Stands r f before name rules d files o g left → StandsDrafted before (f.names files) (draft_of name d)
-  stands-drafted files o g left stands =
+  pub stands-drafted : (files : S) (o : OpenOutput) (g : Gathered) (n : Counts) (left : List OutputBlock) → Stands r f before name rules d files o g n left → StandsDrafted before (f.names files) (draft_of name d)
+  stands-drafted files o g n left stands =
       let rest = cut_on g.limits stands.cluster left in
       drafted (f.names files) (f.names files) stands.done rest [] (joined (clusters_elements rest) ++ joined (back_elements d)) stands.cut refl stands.stands.names (PassesSome-none (f.names files) (f.names files) name [] refl)
 
   -- room was made in the buffer
-  pub stands-room : (files : S) (o : OpenOutput) (old new : Gathered) (left : List OutputBlock) → ((c : Option OutputCluster) → Holds c old → Holds c new) → new.limits ≡ old.limits
-      → Stands r f before name rules d files o old left → Stands r f before name rules d files o new left
-  stands-room files o old new left same limits stands = record {
+  pub stands-room : (files : S) (o : OpenOutput) (old new : Gathered) (n : Counts) (left : List OutputBlock) → ((c : Option OutputCluster) → Holds c old → Holds c new) → new.limits ≡ old.limits
+      → Stands r f before name rules d files o old n left → Stands r f before name rules d files o new n left
+  stands-room files o old new n left same limits stands = record {
     done = stands.done;
     cluster = stands.cluster;
     cut = ap (λ l. stands.done ++ cut_on l stands.cluster left) limits ∙ stands.cut;
     cues = stands.cues;
     holds = same stands.cluster stands.holds;
+    counts = stands.counts;
     stands = stands.stands;
   }
 
   -- ---- a Cluster is written
 
-  module _ (old new : S) (o : OpenOutput) (g g' : Gathered) (bytes : List ℕ) (b : OutputBlock) (left : List OutputBlock) where
-    pub stands-broken : Stands r f before name rules d old o g (b ∷ left) → ((c : Option OutputCluster) → Holds c g → joins_next g.limits c b ≡ false) → ((c : OutputCluster) → Holds (Some c) g → bytes ≡ octets_of (cluster_element c))
+  module _ (old new : S) (o : OpenOutput) (g g' : Gathered) (bytes : List ℕ) (b : OutputBlock) (n : Counts) (left : List OutputBlock) where
+    pub stands-broken : Stands r f before name rules d old o g n (b ∷ left) → ((c : Option OutputCluster) → Holds c g → joins_next g.limits c b ≡ false) → ((c : OutputCluster) → Holds (Some c) g → bytes ≡ octets_of (cluster_element c))
         → f.names new ≡ with_change (f.names old) (f.holder old o.file.n) (with_appended bytes) → f.holder new o.file.n ≡ f.holder old o.file.n → IsOpen r new (grown o (length bytes)) → Holds None g' → g'.limits ≡ g.limits
-        → Stands r f before name rules d new (grown o (length bytes)) g' (b ∷ left)
-    stands-broken stands never is added holder is_open empty limits = by-cluster stands.cluster stands.cut stands.cues stands.holds
+        → Stands r f before name rules d new (grown o (length bytes)) g' n (b ∷ left)
+    stands-broken stands never is added holder is_open empty limits = by-cluster stands.cluster stands.cut stands.cues stands.holds stands.counts
       where
-        by-cluster : (cl : Option OutputCluster) → stands.done ++ cut_on g.limits cl (b ∷ left) ≡ d.clusters → o.cues ≡ cues_for (is_cue rules) d.front (stands.done ++ held cl) → Holds cl g
-            → Stands r f before name rules d new (grown o (length bytes)) g' (b ∷ left)
-        by-cluster None cut cues holds = absurd (let no : joins_next g.limits None b ≡ false = never None holds in cc)
-        by-cluster (Some c) cut cues holds =
+        by-cluster : (cl : Option OutputCluster) → stands.done ++ cut_on g.limits cl (b ∷ left) ≡ d.clusters → o.cues ≡ cues_for (is_cue rules) d.front (stands.done ++ held cl) → Holds cl g → AreCounts (stands.done ++ held cl) (length o.cues) n
+            → Stands r f before name rules d new (grown o (length bytes)) g' n (b ∷ left)
+        by-cluster None cut cues holds counts = absurd (let no : joins_next g.limits None b ≡ false = never None holds in cc)
+        by-cluster (Some c) cut cues holds counts =
             let octets : joined (clusters_elements stands.done) ++ bytes ≡ joined (clusters_elements (stands.done ++ c ∷ [])) =
             ap (λ w. joined (clusters_elements stands.done) ++ w) (is c holds) ∙ clusters-push stands.done c in
             let grows = StandsOpen-grown r f before name d.front (joined (clusters_elements stands.done)) bytes old new o stands.stands added holder is_open in
@@ -107,11 +155,12 @@ module _ {S : Type 0} (r : Ghosts S) (f : writing.Ghosts S) (before : Names) (na
                   ∙ ap (λ cs. stands.done ++ cs) (sym (cut-breaks g.limits c left b (never (Some c) holds))) ∙ cut;
               cues = cues ∙ ap (cues_for (is_cue rules) d.front) (sym (append-nil (stands.done ++ c ∷ [])));
               holds = empty;
+              counts = subst (λ (cs : List OutputCluster). AreCounts cs (length o.cues) n) (sym (append-nil (stands.done ++ c ∷ []))) counts;
               stands = subst (λ (w : List ℕ). StandsOpen r f before name d.front w new (grown o (length bytes))) octets grows;
             }
 
     -- or a first part of it
-    pub broken-drafted : Stands r f before name rules d old o g (b ∷ left) → ((c : Option OutputCluster) → Holds c g → joins_next g.limits c b ≡ false) → ((c : OutputCluster) → Holds (Some c) g → bytes ≡ octets_of (cluster_element c))
+    pub broken-drafted : Stands r f before name rules d old o g n (b ∷ left) → ((c : Option OutputCluster) → Holds c g → joins_next g.limits c b ≡ false) → ((c : OutputCluster) → Holds (Some c) g → bytes ≡ octets_of (cluster_element c))
         → PassesSome (f.names old) (f.names new) (f.holder old o.file.n) bytes → StandsDrafted before (f.names new) (draft_of name d)
     broken-drafted stands never is some = by-cluster stands.cluster stands.cut stands.holds
       where
@@ -127,14 +176,14 @@ module _ {S : Type 0} (r : Ghosts S) (f : writing.Ghosts S) (before : Names) (na
 
   -- ---- a block is held
 
-  module _ (files : S) (o : OpenOutput) (old new : Gathered) (b : OutputBlock) (left : List OutputBlock) where
-    cut-held : (stands : Stands r f before name rules d files o old (b ∷ left)) → joins_next old.limits stands.cluster b ≡ true → new.limits ≡ old.limits → stands.done ++ cut_on new.limits (Some (with_next stands.cluster b)) left ≡ d.clusters
+  module _ (files : S) (o : OpenOutput) (old new : Gathered) (b : OutputBlock) (n : Counts) (left : List OutputBlock) where
+    cut-held : (stands : Stands r f before name rules d files o old n (b ∷ left)) → joins_next old.limits stands.cluster b ≡ true → new.limits ≡ old.limits → stands.done ++ cut_on new.limits (Some (with_next stands.cluster b)) left ≡ d.clusters
     cut-held stands fits limits =
         ap (λ l. stands.done ++ cut_on l (Some (with_next stands.cluster b)) left) limits ∙ ap (λ cs. stands.done ++ cs) (cut-joins old.limits stands.cluster left b fits) ∙ stands.cut
 
-    pub stands-kept : (stands : Stands r f before name rules d files o old (b ∷ left)) → joins_next old.limits stands.cluster b ≡ true → ((c : Option OutputCluster) → Holds c old → Holds (Some (with_next c b)) new) → new.limits ≡ old.limits → is_cue rules b ≡ false
-        → Stands r f before name rules d files o new left
-    stands-kept stands fits puts limits plain =
+    pub stands-kept : (begins : Bool) (stands : Stands r f before name rules d files o old n (b ∷ left)) → begins ≡ nat_eq (length (cluster_with old.timestamp old.elements)) 0 → joins_next old.limits stands.cluster b ≡ true → ((c : Option OutputCluster) → Holds c old → Holds (Some (with_next c b)) new) → new.limits ≡ old.limits → is_cue rules b ≡ false
+        → Stands r f before name rules d files o new (counted_with begins false n) left
+    stands-kept begins stands empties fits puts limits plain =
         let cued = is_cue rules in
         let c = clusters_at d.front in
         let ps = points_from cued c (stands.done ++ held stands.cluster) in
@@ -145,14 +194,15 @@ module _ {S : Type 0} (r : Ghosts S) (f : writing.Ghosts S) (before : Names) (na
           cues = stands.cues ∙ ap (take MOST_CUES) (sym (points_from-push cued old.limits old.spare c stands.done stands.cluster b
               ∙ ap (λ t. ps ++ points_where t (point_of (c + length (joined (clusters_elements stands.done))) (place_in (gathered_with old.limits old.spare stands.cluster) b.tick) b)) plain ∙ append-nil ps));
           holds = puts stands.cluster stands.holds;
+          counts = record { clusters = count-begun n.clusters old stands.done stands.cluster b begins stands.holds empties stands.counts.clusters; cues = stands.counts.cues };
           stands = stands.stands;
         }
 
     -- with its point
-    pub stands-cued : (o' : OpenOutput) (relative : ℕ) (stands : Stands r f before name rules d files o old (b ∷ left)) → joins_next old.limits stands.cluster b ≡ true → ((c : Option OutputCluster) → Holds c old → Holds (Some (with_next c b)) new) → new.limits ≡ old.limits → is_cue rules b ≡ true
+    pub stands-cued : (begins : Bool) (o' : OpenOutput) (relative : ℕ) (stands : Stands r f before name rules d files o old n (b ∷ left)) → begins ≡ nat_eq (length (cluster_with old.timestamp old.elements)) 0 → joins_next old.limits stands.cluster b ≡ true → ((c : Option OutputCluster) → Holds c old → Holds (Some (with_next c b)) new) → new.limits ≡ old.limits → is_cue rules b ≡ true
         → relative ≡ place_in old b.tick → (length o.cues < MOST_CUES → o' ≡ with_cue o (record { tick = b.tick; lane = b.lane; cluster = o.len; relative = relative })) → (MOST_CUES ≤ length o.cues → o' ≡ o)
-        → Stands r f before name rules d files o' new left
-    stands-cued o' relative stands fits puts limits cue is added full =
+        → Stands r f before name rules d files o' new (counted_with begins true n) left
+    stands-cued begins o' relative stands empties fits puts limits cue is added full =
         let cued = is_cue rules in
         let c = clusters_at d.front in
         let at = c + length (joined (clusters_elements stands.done)) in
@@ -170,6 +220,10 @@ module _ {S : Type 0} (r : Ghosts S) (f : writing.Ghosts S) (before : Names) (na
               ∙ ap (λ (each : CuePoint). take MOST_CUES (ps ++ each ∷ [])) point
               ∙ ap (take MOST_CUES) (sym (points_from-push cued old.limits old.spare c stands.done stands.cluster b ∙ ap (λ t. ps ++ points_where t (point_of at place b)) cue));
           holds = puts stands.cluster stands.holds;
+          counts = record {
+            clusters = count-begun n.clusters old stands.done stands.cluster b begins stands.holds empties stands.counts.clusters;
+            cues = ap with_point stands.counts.cues ∙ count-point o.cues o'.cues p (λ less. ap (λ (each : OpenOutput). each.cues) (added less)) (λ most. ap (λ (each : OpenOutput). each.cues) (full most));
+          };
           stands = either (cases_lt (length o.cues) MOST_CUES);
         }
       where
@@ -190,7 +244,7 @@ module _ {S : Type 0} (r : Ghosts S) (f : writing.Ghosts S) (before : Names) (na
   held-cut limits None = refl
   held-cut limits (Some c) = refl
 
-  module _ (old : S) (o : OpenOutput) (g : Gathered) (bytes : List ℕ) (stands : Stands r f before name rules d old o g []) (is : bytes ≡ cluster_with g.timestamp g.elements) where
+  module _ (old : S) (o : OpenOutput) (g : Gathered) (bytes : List ℕ) (n : Counts) (stands : Stands r f before name rules d old o g n []) (is : bytes ≡ cluster_with g.timestamp g.elements) where
     all : stands.done ++ held stands.cluster ≡ d.clusters
     all = ap (λ cs. stands.done ++ cs) (sym (held-cut g.limits stands.cluster)) ∙ stands.cut
 
@@ -202,19 +256,24 @@ module _ {S : Type 0} (r : Ghosts S) (f : writing.Ghosts S) (before : Names) (na
     cues : d.cues ≡ cues_for (is_cue rules) d.front d.clusters → d.cues ≡ o.cues
     cues points = points ∙ sym (ap (cues_for (is_cue rules) d.front) all) ∙ sym stands.cues
 
+    counts : d.cues ≡ cues_for (is_cue rules) d.front d.clusters → AreCounts d.clusters (length d.cues) n
+    counts points = record { clusters = stands.counts.clusters ∙ ap (λ (cs : List OutputCluster). counted 0 (length cs)) all; cues = stands.counts.cues ∙ sym (ap length (cues points)) }
+
     -- it is written
     pub all-written : (new : S) → d.cues ≡ cues_for (is_cue rules) d.front d.clusters → f.names new ≡ with_change (f.names old) (f.holder old o.file.n) (with_appended bytes) → f.holder new o.file.n ≡ f.holder old o.file.n → IsOpen r new (grown o (length bytes))
-        → HasAll r f before name d new (grown o (length bytes))
+        → HasAll r f before name d new (grown o (length bytes)) n
     all-written new points added holder is_open = record {
       cues = cues points;
+      counts = counts points;
       stands = subst (λ (w : List ℕ). StandsOpen r f before name d.front w new (grown o (length bytes))) octets
           (StandsOpen-grown r f before name d.front (joined (clusters_elements stands.done)) bytes old new o stands.stands added holder is_open);
     }
 
     -- there is none
-    pub all-stand : d.cues ≡ cues_for (is_cue rules) d.front d.clusters → bytes ≡ [] → HasAll r f before name d old o
+    pub all-stand : d.cues ≡ cues_for (is_cue rules) d.front d.clusters → bytes ≡ [] → HasAll r f before name d old o n
     all-stand points none = record {
       cues = cues points;
+      counts = counts points;
       stands = subst (λ (w : List ℕ). StandsOpen r f before name d.front w old o) (sym (append-nil (joined (clusters_elements stands.done))) ∙ ap (λ w. joined (clusters_elements stands.done) ++ w) (sym none) ∙ octets) stands.stands;
     }
 

@@ -22,7 +22,7 @@ use Rattle.cues_seekhead.specs.Draft.{StandsDrafted, draft_of}
 use Rattle.cues_seekhead.proofs.OpenLemmas.{StandsOpen-read}
 use Rattle.cluster_writer.specs.Gathered.{Gathered}
 use Rattle.output_model.specs.Cued.{is_cue}
-use Rattle.remuxer.specs.Stands.{Adds, Stands}
+use Rattle.remuxer.specs.Stands.{Adds, HasAll, Stands, counted_with}
 use Rattle.remuxer.specs.Stands as runs
 use Rattle.remuxer.proofs.StandsLemmas.{stands-drafted}
 use Rattle.output_model.specs.declared.rule.CueRule.{CueRule}
@@ -42,6 +42,7 @@ use Rattle.splitter.specs.Sections.{Split, beyond, cuts_at, in_part, parts_in, s
 use Rattle.splitter.specs.Steps.{start_of}
 use Rattle.splitter.specs.Steps as steps
 use Rattle.cluster_writer.specs.Lengths.{octets_taken}
+use Rattle.remuxer.specs.declared.counts.Counts.{Counts}
 use Rattle.remuxer.specs.declared.placing.Ahead.{Ahead}
 use Rattle.remuxer.specs.Places.{CanGive, first_tick, in_part_from, lane_of, lent_at, parts_ahead, parts_behind, parts_from, split_in}
 use Rattle.remux_plan.specs.declared.output.OutputSpec.{OutputSpec}
@@ -87,26 +88,32 @@ module _ {S : Type 0} (r : Ghosts S) (f : writing.Ghosts S) (old new : S) (read 
   }
 
   -- an output on the way
-  stands-read : (before : Names) (name : List ℕ) (rules : List CueRule) (d : Document) (o : OpenOutput) (g : Gathered) (left : List OutputBlock) → Stands r f before name rules d old o g left → Stands r f before name rules d new o g left
-  stands-read before name rules d o g left stands = record {
+  stands-read : (before : Names) (name : List ℕ) (rules : List CueRule) (d : Document) (o : OpenOutput) (g : Gathered) (n : Counts) (left : List OutputBlock) → Stands r f before name rules d old o g n left → Stands r f before name rules d new o g n left
+  stands-read before name rules d o g n left stands = record {
     done = stands.done;
     cluster = stands.cluster;
     cut = stands.cut;
     cues = stands.cues;
     holds = stands.holds;
+    counts = stands.counts;
     stands = StandsOpen-read r f before name d.front _ old new o read.standing read.names (read.holders o.file.n) stands.stands;
   }
 
 -- ---- a block is added
 
-pub takes-lent : {S T : Type 0} (r : Ghosts S) (f : writing.Ghosts S) (rules : List CueRule) (b lent : OutputBlock) (cued : Bool) (old new : S) (w w' : BlockWriter) (result : Result T RemuxEnd) → b ≡ lent → cued ≡ is_cue rules lent
-    → Adds r f b cued old new w.out w'.out w.buffer w'.buffer result → TakesNext r f rules lent old new w w' result
-takes-lent r f rules b lent cued old new w w' (Ok done) same cue adds = λ left before name d stands.
-    let P : OutputBlock → Type 0 = λ x. Stands r f before name rules d old w.out w.buffer (x ∷ left) in
-    adds before name rules d left (cue ∙ ap (is_cue rules) (sym same)) (subst P (sym same) stands)
-takes-lent r f rules b lent cued old new w w' (Err end) same cue adds = λ left before name d stands.
-    let P : OutputBlock → Type 0 = λ x. Stands r f before name rules d old w.out w.buffer (x ∷ left) in
-    adds before name rules d left (subst P (sym same) stands)
+pub takes-lent : {S T : Type 0} (r : Ghosts S) (f : writing.Ghosts S) (rules : List CueRule) (b lent : OutputBlock) (cued begins : Bool) (old new : S) (w w' : BlockWriter) (done : T) → b ≡ lent → cued ≡ is_cue rules lent
+    → w'.counts ≡ counted_with begins cued w.counts → Adds {E = RemuxEnd} r f b cued old new w.out w'.out w.buffer w'.buffer (Ok begins) → TakesNext r f rules lent old new w w' (Ok done)
+takes-lent r f rules b lent cued begins old new w w' done same cue counts adds = λ left before name d stands.
+    let P : OutputBlock → Type 0 = λ x. Stands r f before name rules d old w.out w.buffer w.counts (x ∷ left) in
+    let Q : Counts → Type 0 = λ n. Stands r f before name rules d new w'.out w'.buffer n left in
+    subst Q (sym counts) (adds before name rules d w.counts left (cue ∙ ap (is_cue rules) (sym same)) (subst P (sym same) stands))
+
+-- or it couldn't be
+pub refused-lent : {S : Type 0} (T : Type 0) (r : Ghosts S) (f : writing.Ghosts S) (rules : List CueRule) (b lent : OutputBlock) (cued : Bool) (old new : S) (w w' : BlockWriter) (end : RemuxEnd) → b ≡ lent
+    → Adds r f b cued old new w.out w'.out w.buffer w'.buffer (Err end) → TakesNext {T = T} r f rules lent old new w w' (Err end)
+refused-lent T r f rules b lent cued old new w w' end same adds = λ left before name d stands.
+    let P : OutputBlock → Type 0 = λ x. Stands r f before name rules d old w.out w.buffer w.counts (x ∷ left) in
+    adds before name rules d w.counts left (subst P (sym same) stands)
 
 -- ---- a merge is read, and then something is written
 
@@ -157,25 +164,25 @@ module _ {S : Type 0} (r : Ghosts S) (f : writing.Ghosts S) (rules : List CueRul
   pub turn-takes : (was now : List OutputBlock → List OutputBlock) (x : OutputBlock) → was (left (live_files r a) p.merge) ≡ x ∷ now (left (live_files r a) p'.merge) → ((others : List OutputBlock) → StaysOnTheWay r f rules (x ∷ others) others b c w w')
       → StaysOnTheWay r f rules (was (left (live_files r a) p.merge)) (now (left (live_files r c) p'.merge)) a c w w'
   turn-takes was now x gives takes before name d stands =
-      let P : List OutputBlock → Type 0 = λ bs. Stands r f before name rules d a w.out w.buffer bs in
-      let Q : List OutputBlock → Type 0 = λ bs. Stands r f before name rules d c w'.out w'.buffer (now bs) in
+      let P : List OutputBlock → Type 0 = λ bs. Stands r f before name rules d a w.out w.buffer w.counts bs in
+      let Q : List OutputBlock → Type 0 = λ bs. Stands r f before name rules d c w'.out w'.buffer w'.counts (now bs) in
       subst Q (sym turn-left)
       (takes (now (left (live_files r a) p'.merge)) before name d
-      (stands-read r f a b read before name rules d w.out w.buffer (x ∷ now (left (live_files r a) p'.merge)) (subst P gives stands)))
+      (stands-read r f a b read before name rules d w.out w.buffer w.counts (x ∷ now (left (live_files r a) p'.merge)) (subst P gives stands)))
 
   -- or the call is refused
   pub turn-drafted : (was now : List OutputBlock → List OutputBlock) (x : OutputBlock) → was (left (live_files r a) p.merge) ≡ x ∷ now (left (live_files r a) p'.merge) → ((others : List OutputBlock) → StaysDraft r f rules (x ∷ others) b c w)
       → StaysDraft r f rules (was (left (live_files r a) p.merge)) a c w
   turn-drafted was now x gives drafted before name d stands =
-      let P : List OutputBlock → Type 0 = λ bs. Stands r f before name rules d a w.out w.buffer bs in
+      let P : List OutputBlock → Type 0 = λ bs. Stands r f before name rules d a w.out w.buffer w.counts bs in
       drafted (now (left (live_files r a) p'.merge)) before name d
-      (stands-read r f a b read before name rules d w.out w.buffer (x ∷ now (left (live_files r a) p'.merge)) (subst P gives stands))
+      (stands-read r f a b read before name rules d w.out w.buffer w.counts (x ∷ now (left (live_files r a) p'.merge)) (subst P gives stands))
 
 -- a read was refused
 pub read-drafted : {S : Type 0} (r : Ghosts S) (f : writing.Ghosts S) (rules : List CueRule) (a b : S) (w : BlockWriter) (was : List OutputBlock) → OnlyRead r f a b → StaysDraft r f rules was a b w
 read-drafted r f rules a b w was read before name d stands =
     let P : Names → Type 0 = λ names. StandsDrafted before names (draft_of name d) in
-    subst P (sym read.names) (stands-drafted r f before name rules d a w.out w.buffer was stands)
+    subst P (sym read.names) (stands-drafted r f before name rules d a w.out w.buffer w.counts was stands)
 
 -- ---- the blocks of a part
 
@@ -224,8 +231,8 @@ over-ahead r f rules start a b w p p' ahead x read is cut split one at =
     let none : in_part_from s start n [] was ≡ [] = ap (in_part_from s start n []) is ∙ ap (map (in_part start)) (within-cut s start n x now cut) in
     record {
       stands = λ before name d stands.
-          let P : List OutputBlock → Type 0 = λ bs. Stands r f before name rules d a w.out w.buffer bs in
-          stands-read r f a b read before name rules d w.out w.buffer [] (subst P none stands);
+          let P : List OutputBlock → Type 0 = λ bs. Stands r f before name rules d a w.out w.buffer w.counts bs in
+          stands-read r f a b read before name rules d w.out w.buffer w.counts [] (subst P none stands);
       end = ap first_tick one ∙ sym (ap first_tick (ap (beyond s start n) is ∙ beyond-cut s start n x now cut));
       behind = ahead-parts (live_files r b) p p' ahead.lane x split one ∙ ap₂ (λ (k : ℕ) (bs : List OutputBlock). parts_from s k (x ∷ bs)) at same ∙ sym (behind-cut s start n x now cut) ∙ ap (parts_behind s start n) (sym is);
       count = sym (ap (λ (bs : List OutputBlock). counted w.blocks (length bs)) none);
@@ -239,8 +246,8 @@ over-ended r f rules start a b w p p' read is =
     let none : in_part_from s start p.cuts.load [] (left (live_files r a) p.merge) ≡ [] = ap (in_part_from s start p.cuts.load []) is in
     record {
       stands = λ before name d stands.
-          let P : List OutputBlock → Type 0 = λ bs. Stands r f before name rules d a w.out w.buffer bs in
-          stands-read r f a b read before name rules d w.out w.buffer [] (subst P none stands);
+          let P : List OutputBlock → Type 0 = λ bs. Stands r f before name rules d a w.out w.buffer w.counts bs in
+          stands-read r f a b read before name rules d w.out w.buffer w.counts [] (subst P none stands);
       end = sym (ap (λ (bs : List OutputBlock). first_tick (beyond s start p.cuts.load bs)) is);
       behind = sym (ap (parts_behind s start p.cuts.load) is);
       count = sym (ap (λ (bs : List OutputBlock). counted w.blocks (length bs)) none);
@@ -329,7 +336,7 @@ part-taken r f rules s start a b c w v u m p ahead x first is same one takes res
     let was = left (live_files r a) m.merge in
     let whole : TakesRest r f rules s start (x ∷ []) a c w u m p ahead = record {
       stands = λ before name d stands.
-          let P : List OutputBlock → Type 0 = λ bs. Stands r f before name rules d b v.out v.buffer (in_part_from s start m.cuts.load [] bs) in
+          let P : List OutputBlock → Type 0 = λ bs. Stands r f before name rules d b v.out v.buffer v.counts (in_part_from s start m.cuts.load [] bs) in
           rest.stands before name d (subst P (sym same) (takes (in_part_from s start m.cuts.load [] was) before name d stands));
       end = rest.end ∙ ap (λ (bs : List OutputBlock). first_tick (beyond s start m.cuts.load bs)) same;
       behind = rest.behind ∙ ap (parts_behind s start m.cuts.load) same;
@@ -344,7 +351,7 @@ pub part-none : {S : Type 0} (r : Ghosts S) (f : writing.Ghosts S) (rules : List
 part-none r f rules s start a w p is =
     let none : in_part_from s start p.cuts.load [] (left (live_files r a) p.merge) ≡ [] = ap (in_part_from s start p.cuts.load []) is in
     record {
-      stands = λ before name d stands. let P : List OutputBlock → Type 0 = λ bs. Stands r f before name rules d a w.out w.buffer bs in subst P none stands;
+      stands = λ before name d stands. let P : List OutputBlock → Type 0 = λ bs. Stands r f before name rules d a w.out w.buffer w.counts bs in subst P none stands;
       end = sym (ap (λ (bs : List OutputBlock). first_tick (beyond s start p.cuts.load bs)) is);
       behind = sym (ap (parts_behind s start p.cuts.load) is);
       count = sym (ap (λ (bs : List OutputBlock). counted w.blocks (length bs)) none);
@@ -408,15 +415,15 @@ pub part-then : {S : Type 0} (r : Ghosts S) (f : writing.Ghosts S) (rules : List
 part-then r f rules start lane a b c w v u p p' x (Ok ahead) is same one takes rest = part-taken r f rules (split_in p) start a b c w v u p p' ahead x (lent_at p.merge (Some lane)) is same one takes rest
 part-then r f rules start lane a b c w v u p p' x (Err end) is same one takes drafted = λ before name d stands.
     let s = split_in p in
-    let P : List OutputBlock → Type 0 = λ bs. Stands r f before name rules d b v.out v.buffer (in_part_from s start p.cuts.load [] bs) in
-    let Q : List OutputBlock → Type 0 = λ first. Stands r f before name rules d a w.out w.buffer (in_part_from s start p.cuts.load first (left (live_files r a) p.merge)) in
+    let P : List OutputBlock → Type 0 = λ bs. Stands r f before name rules d b v.out v.buffer v.counts (in_part_from s start p.cuts.load [] bs) in
+    let Q : List OutputBlock → Type 0 = λ first. Stands r f before name rules d a w.out w.buffer w.counts (in_part_from s start p.cuts.load first (left (live_files r a) p.merge)) in
     drafted before name d (subst P (sym same) (takes (in_part_from s start p.cuts.load [] (left (live_files r a) p.merge)) before name d (subst Q is stands)))
 
 -- the first block couldn't be added
 pub first-drafted : {S : Type 0} (r : Ghosts S) (f : writing.Ghosts S) (rules : List CueRule) (s : Split) (start n : ℕ) (a b : S) (w : BlockWriter) (x : OutputBlock) (first bs : List OutputBlock) → first ≡ x ∷ [] → ((others : List OutputBlock) → StaysDraft r f rules (in_part start x ∷ others) a b w)
     → StaysDraft r f rules (in_part_from s start n first bs) a b w
 first-drafted r f rules s start n a b w x first bs is drafted before name d stands =
-    let Q : List OutputBlock → Type 0 = λ each. Stands r f before name rules d a w.out w.buffer (in_part_from s start n each bs) in
+    let Q : List OutputBlock → Type 0 = λ each. Stands r f before name rules d a w.out w.buffer w.counts (in_part_from s start n each bs) in
     drafted (in_part_from s start n [] bs) before name d (subst Q is stands)
 
 -- two calls that write into one output
@@ -433,12 +440,12 @@ writes-then r f a b c w v u done result is_open first next =
 -- the last Cluster is written
 pub fills-part : {S : Type 0} (r : Ghosts S) (f : writing.Ghosts S) (o : OutputSpec) (rules : List CueRule) (part : PartStart) (a b c : S) (w v u : BlockWriter) (p p' : PlacedBlocks) (ahead : Option Ahead) (chapters : Option Node) (end : Option ℕ) → rules ≡ o.rules
     → TakesRest r f rules (split_in p) part.start (lent_at p.merge part.lane) a b w v p p' ahead → end ≡ option_map (max part.start) (first_tick (lent_at p'.merge (lane_of ahead))) → chapters ≡ chapters_cut o part.start end
-    → left (live_files r c) p'.merge ≡ left (live_files r b) p'.merge → runs.Ends {T = Unit {0}} {E = RemuxEnd} r f b c v.out u.out v.buffer (Ok tt) → u.blocks ≡ v.blocks
+    → left (live_files r c) p'.merge ≡ left (live_files r b) p'.merge → runs.Ends {T = Unit {0}} {E = RemuxEnd} r f b c v.out u.out v.buffer (Ok tt) → u.blocks ≡ v.blocks → u.counts ≡ v.counts
     → FillsPart r f o part a c w u p p' (record { ahead = ahead; chapters = chapters })
-fills-part r f o rules part a b c w v u p p' ahead chapters end are rest at cut same ends blocks = record {
+fills-part r f o rules part a b c w v u p p' ahead chapters end are rest at cut same ends blocks counts = record {
   all = λ before name d cues stands.
-      let P : List CueRule → Type 0 = λ each. Stands r f before name each d a w.out w.buffer (in_part_from (split_in p) part.start p.cuts.load (lent_at p.merge part.lane) (left (live_files r a) p.merge)) in
-      ends before name rules d (rest.stands before name d (subst P (sym are) stands)) (cues ∙ ap (λ (each : List CueRule). cues_for (is_cue each) d.front d.clusters) (sym are));
+      let P : List CueRule → Type 0 = λ each. Stands r f before name each d a w.out w.buffer w.counts (in_part_from (split_in p) part.start p.cuts.load (lent_at p.merge part.lane) (left (live_files r a) p.merge)) in
+      subst (HasAll r f before name d c u.out) (sym counts) (ends before name rules d v.counts (rest.stands before name d (subst P (sym are) stands)) (cues ∙ ap (λ (each : List CueRule). cues_for (is_cue each) d.front d.clusters) (sym are)));
   chapters = cut ∙ ap (chapters_cut o part.start) (at ∙ ap (option_map (max part.start)) rest.end);
   count = ap (λ (n : ℕ). counted n 0) blocks ∙ rest.count;
   behind = parts-ahead-same (live_files r c) (live_files r b) p' (lane_of ahead) same ∙ rest.behind;
@@ -447,8 +454,8 @@ fills-part r f o rules part a b c w v u p p' ahead chapters end are rest at cut 
 
 -- it couldn't be
 pub fills-none : {S : Type 0} (r : Ghosts S) (f : writing.Ghosts S) (o : OutputSpec) (rules : List CueRule) (start : ℕ) (first : List OutputBlock) (a b : S) (w v : BlockWriter) (p p' : PlacedBlocks) (ahead : Option Ahead) (now : S) → rules ≡ o.rules
-    → TakesRest r f rules (split_in p) start first a b w v p p' ahead → ((before : Names) (name : List ℕ) (d : Document) → Stands r f before name rules d b v.out v.buffer [] → StandsDrafted before (f.names now) (draft_of name d))
+    → TakesRest r f rules (split_in p) start first a b w v p p' ahead → ((before : Names) (name : List ℕ) (d : Document) → Stands r f before name rules d b v.out v.buffer v.counts [] → StandsDrafted before (f.names now) (draft_of name d))
     → StaysDraft r f o.rules (in_part_from (split_in p) start p.cuts.load first (left (live_files r a) p.merge)) a now w
 fills-none r f o rules start first a b w v p p' ahead now are rest drafted = λ before name d stands.
-    let P : List CueRule → Type 0 = λ each. Stands r f before name each d a w.out w.buffer (in_part_from (split_in p) start p.cuts.load first (left (live_files r a) p.merge)) in
+    let P : List CueRule → Type 0 = λ each. Stands r f before name each d a w.out w.buffer w.counts (in_part_from (split_in p) start p.cuts.load first (left (live_files r a) p.merge)) in
     drafted before name d (rest.stands before name d (subst P (sym are) stands))

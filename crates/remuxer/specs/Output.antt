@@ -34,6 +34,7 @@ use Rattle.remux_plan.specs.Uuids.{uuids_at, with_uuids}
 use Rattle.remux_plan.specs.declared.output.OutputSpec.{OutputSpec}
 use Rattle.remux_plan.specs.declared.summary.Written.{Written}
 use Rattle.remuxer.specs.Places.{CanBegin, CanGive, IsFresh, IsToldFrom, StandsAhead, lane_of, lent_at, part_from, parts_ahead, parts_behind, split_in, way_ahead}
+use Rattle.remuxer.specs.Stands.{AreCounts}
 use Rattle.remuxer.specs.Taking.{CanTake, GetsAll, StaysDraft, told_by}
 use Rattle.remuxer.specs.declared.output.Filled.{Filled}
 use Rattle.remuxer.specs.declared.output.WrittenPart.{WrittenPart}
@@ -126,14 +127,15 @@ FillsTold r f o p old new w w' b b' (Err _) = StaysDraft r f o.rules (part_in (l
 abbrev pub Fills : {S : Type 0} → Ghosts S → writing.Ghosts S → OutputSpec → PartStart → S → S → BlockWriter → BlockWriter → PlacedBlocks → PlacedBlocks → Result Filled RemuxEnd → Type 0
 Fills r f o p old new w w' b b' result = IsToldFrom (live_files r old) b p.lane → FillsTold r f o p old new w w' b b' result
 
--- It has so many blocks, and the parts behind it are those that were left.
-pub record HasWritten (f h : LiveFiles) (p : PartStart) (b b' : PlacedBlocks) (w : WrittenPart) : Type 0 where
+-- It has so many blocks, Clusters and cue points, and the parts behind it are those that were left.
+pub record HasWritten (f h : LiveFiles) (o : OutputSpec) (p : PartStart) (b b' : PlacedBlocks) (w : WrittenPart) : Type 0 where
   pub count : w.blocks ≡ counted 0 (length (part_in f b p).blocks)
+  pub counts : AreCounts (document_with f o (part_in f b p)).clusters (length (document_with f o (part_in f b p)).cues) w.counts
   pub behind : parts_ahead h b' (lane_of w.ahead) ≡ parts_behind (split_in b) p.start b.cuts.load (left f b.merge)
 
 -- So it is where the links' files are told. A block is ahead, or all lanes have ended; and no more turns are left.
-pub record StandsWritten (f h : LiveFiles) (p : PartStart) (b b' : PlacedBlocks) (w : WrittenPart) : Type 0 where
-  pub told : IsToldFrom f b p.lane → HasWritten f h p b b' w
+pub record StandsWritten (f h : LiveFiles) (o : OutputSpec) (p : PartStart) (b b' : PlacedBlocks) (w : WrittenPart) : Type 0 where
+  pub told : IsToldFrom f b p.lane → HasWritten f h o p b b' w
   pub stands : StandsAhead b' w.ahead
   pub on : way_ahead b' (lane_of w.ahead) ≤ way b.merge
 
@@ -187,6 +189,10 @@ own_spec o number = record o { front = record o.front { info = with_uuids (uuids
 abbrev pub next_spec : OutputSpec → List Written → OutputSpec
 next_spec o written = own_spec o (length written + 1)
 
+-- the output that this part becomes behind those that were written
+abbrev pub next_output : LiveFiles → OutputSpec → List Written → Part → PlannedOutput
+next_output f o written part = record { name = next_name o written; blocks = part.blocks; document = document_with f (next_spec o written) part }
+
 -- The output of the part that begins so can be written behind these; no file of a link was opened under a name that may be written.
 pub record CanWriteNext {S : Type 0} (r : Ghosts S) (f : writing.Ghosts S) (files : S) (o : OutputSpec) (written : List Written) (p : PartStart) (b : PlacedBlocks) : Type 0 where
   pub gives : CanGive (live_files r files) b
@@ -198,7 +204,7 @@ pub record CanWriteNext {S : Type 0} (r : Ghosts S) (f : writing.Ghosts S) (file
 -- One output more stands, and is among those that were written; the parts from the next one on are those that were left.
 pub record WritesOne {S : Type 0} (r : Ghosts S) (f : writing.Ghosts S) (p : PartStart) (old new : S) (o : OutputSpec) (b b' : PlacedBlocks) (written written' : List Written) (next : Option PartStart) : Type 0 where
   pub writes : WritesLayout (f.names old) (f.names new) (next_name o written) (document_with (live_files r old) (next_spec o written) (part_in (live_files r old) b p))
-  pub added : written' ≡ written ++ record { name = next_name o written; blocks = counted 0 (length (part_in (live_files r old) b p).blocks) } ∷ []
+  pub added : written' ≡ written ++ written_of (next_output (live_files r old) o written (part_in (live_files r old) b p)) ∷ []
   pub told : IsToldNext (live_files r new) b' next
   pub behind : parts_begun (live_files r new) b' next ≡ parts_behind (split_in b) p.start b.cuts.load (left (live_files r old) b.merge)
 

@@ -1,5 +1,6 @@
 -- An output on the way: what of its document stands in the file, what is held in the buffer, and what is left.
-use Rattle.std.specs.Prelude.{◌≡◌, ℕ, Bool, List, [], ◌∷◌, ◌++◌, Option, Some, None, Result, Ok, Err}
+use Rattle.std.specs.Prelude.{◌≡◌, ℕ, Bool, List, [], ◌∷◌, ◌++◌, Option, Some, None, Result, Ok, Err, length, nat_le, if◌then◌else◌, ◌+◌}
+use Rattle.mkv_io.specs.Faults.{counted}
 use Rattle.mkv_io.specs.Names.{Names}
 use Rattle.mkv_io.specs.declared.reads.Reads.{Ghosts}
 use Rattle.mkv_io.specs.declared.files.Files as writing
@@ -12,7 +13,9 @@ use Rattle.cluster_writer.specs.Gathered.{Gathered, Holds}
 use Rattle.cues_seekhead.specs.OpenOutput.{OpenOutput, StandsOpen}
 use Rattle.cues_seekhead.specs.Draft.{StandsDrafted, draft_of}
 use Rattle.output_model.specs.Cued.{is_cue}
+use Rattle.output_model.specs.declared.TheConstants.{MOST_CUES}
 use Rattle.output_model.specs.declared.rule.CueRule.{CueRule}
+use Rattle.remuxer.specs.declared.counts.Counts.{Counts}
 
 -- the Clusters that blocks make behind one that is held, or behind none
 abbrev pub cut_on : ClusterLimits → Option OutputCluster → List OutputBlock → List OutputCluster
@@ -23,19 +26,41 @@ abbrev pub held : Option OutputCluster → List OutputCluster
 held None = []
 held (Some c) = c ∷ []
 
+-- ---- what is counted
+
+-- with a cue point more, as far as an output may have one
+abbrev pub with_point : ℕ → ℕ
+with_point n = if nat_le MOST_CUES n then n else n + 1
+
+-- with a block, which begins a Cluster or doesn't, and gets a cue point or doesn't
+abbrev pub counted_with : Bool → Bool → Counts → Counts
+counted_with begins cued n = record {
+  clusters = if begins then counted n.clusters 1 else n.clusters;
+  cues = if cued then with_point n.cues else n.cues;
+}
+
+-- The counts are those of these Clusters, and of so many cue points.
+pub record AreCounts (cs : List OutputCluster) (points : ℕ) (n : Counts) : Type 0 where
+  pub clusters : n.clusters ≡ counted 0 (length cs)
+  pub cues : n.cues ≡ points
+
+-- ---- what stands
+
 -- Some Clusters of the document stand in the file, the buffer holds the one behind them, if there is one, and these
--- blocks are left; the cue points so far are those of these Clusters.
-pub record Stands {S : Type 0} (r : Ghosts S) (f : writing.Ghosts S) (before : Names) (name : List ℕ) (rules : List CueRule) (d : Document) (files : S) (o : OpenOutput) (g : Gathered) (left : List OutputBlock) : Type 0 where
+-- blocks are left; the cue points so far are those of these Clusters, and so are the counts.
+pub record Stands {S : Type 0} (r : Ghosts S) (f : writing.Ghosts S) (before : Names) (name : List ℕ) (rules : List CueRule) (d : Document) (files : S) (o : OpenOutput) (g : Gathered) (n : Counts) (left : List OutputBlock) : Type 0 where
   pub done : List OutputCluster
   pub cluster : Option OutputCluster
   pub cut : done ++ cut_on g.limits cluster left ≡ d.clusters
   pub cues : o.cues ≡ cues_for (is_cue rules) d.front (done ++ held cluster)
   pub holds : Holds cluster g
+  pub counts : AreCounts (done ++ held cluster) (length o.cues) n
   pub stands : StandsOpen r f before name d.front (joined (clusters_elements done)) files o
 
--- All Clusters of the document stand in the file, and its cue points are known.
-pub record HasAll {S : Type 0} (r : Ghosts S) (f : writing.Ghosts S) (before : Names) (name : List ℕ) (d : Document) (files : S) (o : OpenOutput) : Type 0 where
+-- All Clusters of the document stand in the file, and its cue points and the counts are known.
+pub record HasAll {S : Type 0} (r : Ghosts S) (f : writing.Ghosts S) (before : Names) (name : List ℕ) (d : Document) (files : S) (o : OpenOutput) (n : Counts) : Type 0 where
   pub cues : d.cues ≡ o.cues
+  pub counts : AreCounts d.clusters (length d.cues) n
   pub stands : StandsOpen r f before name d.front (joined (clusters_elements d.clusters)) files o
 
 -- ---- what a call makes of it; after a refusal the output stands as a draft
@@ -43,20 +68,20 @@ pub record HasAll {S : Type 0} (r : Ghosts S) (f : writing.Ghosts S) (before : N
 -- the next block is still left
 abbrev pub MakesRoom : {S T E : Type 0} → Ghosts S → writing.Ghosts S → OutputBlock → S → S → OpenOutput → OpenOutput → Gathered → Gathered → Result T E → Type 0
 MakesRoom r f b old new o o' g g' (Ok _) =
-    (before : Names) (name : List ℕ) (rules : List CueRule) (d : Document) (left : List OutputBlock) → Stands r f before name rules d old o g (b ∷ left) → Stands r f before name rules d new o' g' (b ∷ left)
+    (before : Names) (name : List ℕ) (rules : List CueRule) (d : Document) (n : Counts) (left : List OutputBlock) → Stands r f before name rules d old o g n (b ∷ left) → Stands r f before name rules d new o' g' n (b ∷ left)
 MakesRoom r f b old new o o' g g' (Err _) =
-    (before : Names) (name : List ℕ) (rules : List CueRule) (d : Document) (left : List OutputBlock) → Stands r f before name rules d old o g (b ∷ left) → StandsDrafted before (f.names new) (draft_of name d)
+    (before : Names) (name : List ℕ) (rules : List CueRule) (d : Document) (n : Counts) (left : List OutputBlock) → Stands r f before name rules d old o g n (b ∷ left) → StandsDrafted before (f.names new) (draft_of name d)
 
--- the next block isn't left any more
-abbrev pub Adds : {S T E : Type 0} → Ghosts S → writing.Ghosts S → OutputBlock → Bool → S → S → OpenOutput → OpenOutput → Gathered → Gathered → Result T E → Type 0
-Adds r f b cued old new o o' g g' (Ok _) =
-    (before : Names) (name : List ℕ) (rules : List CueRule) (d : Document) (left : List OutputBlock) → cued ≡ is_cue rules b → Stands r f before name rules d old o g (b ∷ left) → Stands r f before name rules d new o' g' left
+-- the next block isn't left any more; it is answered whether it begins a Cluster
+abbrev pub Adds : {S E : Type 0} → Ghosts S → writing.Ghosts S → OutputBlock → Bool → S → S → OpenOutput → OpenOutput → Gathered → Gathered → Result Bool E → Type 0
+Adds r f b cued old new o o' g g' (Ok begins) =
+    (before : Names) (name : List ℕ) (rules : List CueRule) (d : Document) (n : Counts) (left : List OutputBlock) → cued ≡ is_cue rules b → Stands r f before name rules d old o g n (b ∷ left) → Stands r f before name rules d new o' g' (counted_with begins cued n) left
 Adds r f b cued old new o o' g g' (Err _) =
-    (before : Names) (name : List ℕ) (rules : List CueRule) (d : Document) (left : List OutputBlock) → Stands r f before name rules d old o g (b ∷ left) → StandsDrafted before (f.names new) (draft_of name d)
+    (before : Names) (name : List ℕ) (rules : List CueRule) (d : Document) (n : Counts) (left : List OutputBlock) → Stands r f before name rules d old o g n (b ∷ left) → StandsDrafted before (f.names new) (draft_of name d)
 
 -- no block was left
 abbrev pub Ends : {S T E : Type 0} → Ghosts S → writing.Ghosts S → S → S → OpenOutput → OpenOutput → Gathered → Result T E → Type 0
 Ends r f old new o o' g (Ok _) =
-    (before : Names) (name : List ℕ) (rules : List CueRule) (d : Document) → Stands r f before name rules d old o g [] → d.cues ≡ cues_for (is_cue rules) d.front d.clusters → HasAll r f before name d new o'
+    (before : Names) (name : List ℕ) (rules : List CueRule) (d : Document) (n : Counts) → Stands r f before name rules d old o g n [] → d.cues ≡ cues_for (is_cue rules) d.front d.clusters → HasAll r f before name d new o' n
 Ends r f old new o o' g (Err _) =
-    (before : Names) (name : List ℕ) (rules : List CueRule) (d : Document) → Stands r f before name rules d old o g [] → StandsDrafted before (f.names new) (draft_of name d)
+    (before : Names) (name : List ℕ) (rules : List CueRule) (d : Document) (n : Counts) → Stands r f before name rules d old o g n [] → StandsDrafted before (f.names new) (draft_of name d)

@@ -48,17 +48,17 @@ pub record WritesInto {S T : Type 0} (r : Ghosts S) (f : writing.Ghosts S) (old 
 -- An output on the way, of whose blocks these were left, is on the way then, and those are left.
 abbrev pub StaysOnTheWay : {S : Type 0} → Ghosts S → writing.Ghosts S → List CueRule → List OutputBlock → List OutputBlock → S → S → BlockWriter → BlockWriter → Type 0
 StaysOnTheWay r f rules was left old new w w' =
-    (before : Names) (name : List ℕ) (d : Document) → Stands r f before name rules d old w.out w.buffer was → Stands r f before name rules d new w'.out w'.buffer left
+    (before : Names) (name : List ℕ) (d : Document) → Stands r f before name rules d old w.out w.buffer w.counts was → Stands r f before name rules d new w'.out w'.buffer w'.counts left
 
 -- It has all its Clusters then.
 abbrev pub GetsAll : {S : Type 0} → Ghosts S → writing.Ghosts S → List CueRule → List OutputBlock → S → S → BlockWriter → BlockWriter → Type 0
 GetsAll r f rules was old new w w' =
-    (before : Names) (name : List ℕ) (d : Document) → d.cues ≡ cues_for (is_cue rules) d.front d.clusters → Stands r f before name rules d old w.out w.buffer was → HasAll r f before name d new w'.out
+    (before : Names) (name : List ℕ) (d : Document) → d.cues ≡ cues_for (is_cue rules) d.front d.clusters → Stands r f before name rules d old w.out w.buffer w.counts was → HasAll r f before name d new w'.out w'.counts
 
 -- It stands as a draft then.
 abbrev pub StaysDraft : {S : Type 0} → Ghosts S → writing.Ghosts S → List CueRule → List OutputBlock → S → S → BlockWriter → Type 0
 StaysDraft r f rules was old new w =
-    (before : Names) (name : List ℕ) (d : Document) → Stands r f before name rules d old w.out w.buffer was → StandsDrafted before (f.names new) (draft_of name d)
+    (before : Names) (name : List ℕ) (d : Document) → Stands r f before name rules d old w.out w.buffer w.counts was → StandsDrafted before (f.names new) (draft_of name d)
 
 -- This block was the first of those that were left, and the others are left.
 abbrev pub TakesNext : {S T : Type 0} → Ghosts S → writing.Ghosts S → List CueRule → OutputBlock → S → S → BlockWriter → BlockWriter → Result T RemuxEnd → Type 0

@@ -11,6 +11,7 @@ ghost use Rattle.remuxer.specs.Places.{IsEnd};
 ghost use Rattle.remuxer.specs.Taking.{Goes, IsOver, WritesInto};
 ghost use Rattle.remuxer.specs.Output.{CanFill, CanWrite, Fills, StandsWritten, WritesPart, chapters_cut, chapters_in, data_of};
 
+use crate::counts::Counts;
 use crate::placed::{PartStart, PlacedBlocks};
 use crate::placing::Ahead;
 use crate::run::add_rest;
@@ -23,10 +24,12 @@ use record_changes::cut;
 use remux_plan::OutputSpec;
 use std::alloc::{AllocError, Global};
 
-/// What became of a part: how many blocks it has, and the block of the merge behind it, if there is one.
+/// What became of a part: how many blocks it has, what is counted of these, and the block of the merge behind it, if there is
+/// one.
 #[derive(Clone, Copy)]
 pub(crate) struct WrittenPart {
     pub(crate) blocks: u64,
+    pub(crate) counts: Counts,
     pub(crate) ahead: Option<Ahead>,
 }
 
@@ -106,7 +109,7 @@ pub(crate) fn write_output<F: Files>(
 ) -> Result<WrittenPart, OutEnd>
     requires { CanWrite F.Reads F.Files.own files.old spec.now name.now part blocks.old }
     ensures writes { WritesPart F.Reads F.Files.own files.old files.new spec.now name.now part blocks.old result }
-    ensures finds { IfOk result (StandsWritten (live_files F.Reads files.old) (live_files F.Reads files.new) part blocks.old blocks.new) }
+    ensures finds { IfOk result (StandsWritten (live_files F.Reads files.old) (live_files F.Reads files.new) spec.now part blocks.old blocks.new) }
     ensures goes { Goes F.Reads (data_of spec.now) files.old files.new blocks.old blocks.new result }
     ensures kept { KeepsOthers F.Reads F.Files.own (name.now ∷ []) files.old files.new }
     ensures cause { HasRemuxCause F.Reads F.Files.own files.old files.new result }
@@ -117,14 +120,21 @@ pub(crate) fn write_output<F: Files>(
         out,
         buffer,
         blocks: 0,
+        counts: Counts {
+            clusters: 0,
+            cues: 0,
+        },
     };
     match fill(alloc, files, spec, part, blocks, &mut writer) {
         Ok(filled) => {
-            let blocks = writer.blocks;
-            let ahead = filled.ahead;
+            let written = WrittenPart {
+                blocks: writer.blocks,
+                counts: writer.counts,
+                ahead: filled.ahead,
+            };
             let chapters = chapters_in(spec, &filled.chapters);
             writer.out.finish_with(files, chapters, &spec.tags)?;
-            Ok(WrittenPart { blocks, ahead })
+            Ok(written)
         }
         Err(end) => {
             writer.out.abandon(files);

@@ -40,7 +40,7 @@ fn write_own<F: Files>(
 ) -> Result<WrittenPart, OutEnd>
     requires { CanWrite F.Reads F.Files.own files.old spec.old name.now part blocks.old }
     ensures writes { WritesPart F.Reads F.Files.own files.old files.new (own_spec spec.old number) name.now part blocks.old result }
-    ensures finds { IfOk result (StandsWritten (live_files F.Reads files.old) (live_files F.Reads files.new) part blocks.old blocks.new) }
+    ensures finds { IfOk result (StandsWritten (live_files F.Reads files.old) (live_files F.Reads files.new) (own_spec spec.old number) part blocks.old blocks.new) }
     ensures spec { OnOk result (spec.new ≡ spec.old) }
     ensures goes { Goes F.Reads (data_of spec.old) files.old files.new blocks.old blocks.new result }
     ensures kept { KeepsOthers F.Reads F.Files.own (name.now ∷ []) files.old files.new }
@@ -77,6 +77,8 @@ fn write_next<F: Files>(
     written.push(Written {
         name,
         blocks: done.blocks,
+        clusters: done.counts.clusters,
+        cues: done.counts.cues,
     })?;
     spec.front.attachments = List::new(alloc);
     let next = blocks.next_part(files, done.ahead)?;

@@ -41,14 +41,14 @@ fn make_room<F: Files>(
 }
 
 /// Adds the next block of an output, and its cue point, where it gets one. A Cluster that it doesn't join is
-/// written first.
+/// written first. Answers whether it begins a Cluster.
 pub fn add_block<F: Files>(
     files: &mut F,
     out: &mut OutFile,
     buffer: &mut ClusterBuf,
     block: &LentBlock<'_>,
     cued: bool,
-) -> Result<(), OutEnd>
+) -> Result<bool, OutEnd>
     requires block { CanBePut block.now }
     requires open { IsOpen F.Reads files.old out.old }
     ensures adds { Adds F.Reads F.Files.own (block_of block.now) cued files.old files.new out.old out.new buffer.old buffer.new result }
@@ -61,11 +61,12 @@ pub fn add_block<F: Files>(
     let len = block.element_len();
     buffer.reserve(len)?;
     make_room(files, out, buffer, block, len)?;
+    let begins = buffer.octets().is_empty();
     let relative = buffer.put_block(block);
     if cued {
         out.cue(block.tick, block.lane, relative)?;
     }
-    Ok(())
+    Ok(begins)
 }
 
 /// Writes the Cluster that is held, if there is one. All blocks have been added then.

@@ -13,6 +13,7 @@ ghost use Rattle.cluster_writer.specs.Lent.{CanBePut, block_of};
 ghost use Rattle.output_model.specs.Cued.{is_cue_by};
 ghost use Rattle.output_model.specs.declared.rule.CueRule.TheVariants as cue_rule;
 
+use crate::counts::Counts;
 use crate::placed::{PartStart, PlacedBlocks, is_same};
 use crate::placing::{Ahead, place_next};
 use crate::run::add_block;
@@ -61,12 +62,14 @@ pub(crate) enum Turn {
     Over { ahead: Option<Ahead> },
 }
 
-/// An output that takes blocks: its file, the Cluster that the next block may join, and how many blocks it has taken.
+/// An output that takes blocks: its file, the Cluster that the next block may join, how many blocks it has taken, and what is
+/// counted of these.
 #[derive(Drop)]
 pub(crate) struct BlockWriter {
     pub(crate) out: OutFile,
     pub(crate) buffer: ClusterBuf,
     pub(crate) blocks: u64,
+    pub(crate) counts: Counts,
 }
 
 impl BlockWriter {
@@ -94,8 +97,9 @@ impl BlockWriter {
     {
         let block = lent_by(lane, k, start);
         let cued = is_cued(rules, k, block.head.key);
-        add_block(files, &mut self.out, &mut self.buffer, &block, cued)?;
+        let begins = add_block(files, &mut self.out, &mut self.buffer, &block, cued)?;
         self.blocks = self.blocks.saturating_add(1);
+        self.counts.add(begins, cued);
         Ok(())
     }
 

@@ -39,7 +39,7 @@ returns-in_err-chapters-clause-fills g c = λ told.
     let v = c.add_part.new.self in
     rw p.1 (fills-none g.F.Reads g.F.Files c.args.spec.now c.as_slice.result.now c.args.part.start (lent_at c.args.blocks.now.merge c.args.part.lane) c.args.files.now x c.args.writer.now v c.args.blocks.now c.add_part.new.blocks c.in_ok-ahead.ahead x c.as_slice.ensures
     (c.in_ok-ahead.ensures.takes told)
-    (λ before name d stands. stands-drafted g.F.Reads g.F.Files before name c.as_slice.result.now d x v.out v.buffer [] stands))
+    (λ before name d stands. stands-drafted g.F.Reads g.F.Files before name c.as_slice.result.now d x v.out v.buffer v.counts [] stands))
 
 -- the last Cluster couldn't be written
 pub returns-in_err-add_rest-clause-fills : goal.returns-in_err-add_rest-clause-fills
@@ -49,12 +49,12 @@ returns-in_err-add_rest-clause-fills g c = λ told.
     let v = c.add_part.new.self in
     rw p.1 (fills-none g.F.Reads g.F.Files c.args.spec.now c.as_slice.result.now c.args.part.start (lent_at c.args.blocks.now.merge c.args.part.lane) c.args.files.now x c.args.writer.now v c.args.blocks.now c.add_part.new.blocks c.in_ok-ahead.ahead c.add_rest.new.files c.as_slice.ensures
     (c.in_ok-ahead.ensures.takes told)
-    (λ before name d stands. c.in_err-add_rest.ensures.ends before name c.as_slice.result.now d stands))
+    (λ before name d stands. c.in_err-add_rest.ensures.ends before name c.as_slice.result.now d v.counts stands))
 
 pub returns-in_err-add_rest-clause-writes : goal.returns-in_err-add_rest-clause-writes
 returns-in_err-add_rest-clause-writes g c =
     let p = err_from_is_err_and c.from_residual-in_err-add_rest.result c.from_residual-in_err-add_rest.ensures.1 in
-    rw p.1 (writes-then g.F.Reads g.F.Files c.args.files.now c.add_part.new.files c.add_rest.new.files c.args.writer.now c.add_part.new.self (record { out = c.add_rest.new.out; buffer = c.add_rest.new.buffer; blocks = c.add_part.new.self.blocks }) c.in_ok-ahead.ahead _ c.requires.can.is_open c.in_ok-ahead.ensures.writes
+    rw p.1 (writes-then g.F.Reads g.F.Files c.args.files.now c.add_part.new.files c.add_rest.new.files c.args.writer.now c.add_part.new.self (record { out = c.add_rest.new.out; buffer = c.add_rest.new.buffer; blocks = c.add_part.new.self.blocks; counts = c.add_part.new.self.counts }) c.in_ok-ahead.ahead _ c.requires.can.is_open c.in_ok-ahead.ensures.writes
     (record { file = c.in_err-add_rest.ensures.file; is_open = tt; kept = c.in_err-add_rest.ensures.only.kept }))
 
 -- all was written
@@ -65,13 +65,13 @@ returns-clause-fills g c = λ told.
     let v = c.add_part.new.self in
     let q = c.add_part.new.blocks in
     let can = can-again g.F.Reads g.F.Files a x c.args.writer.now v c.args.blocks.now q c.requires.can c.in_ok-ahead.ensures.writes.file c.in_ok-ahead.ensures.writes.is_open c.in_ok-ahead.ensures.writes.kept c.in_ok-ahead.ensures.goes in
-    fills-part g.F.Reads g.F.Files c.args.spec.now c.as_slice.result.now c.args.part a x c.add_rest.new.files c.args.writer.now v (record { out = c.add_rest.new.out; buffer = c.add_rest.new.buffer; blocks = v.blocks }) c.args.blocks.now q c.in_ok-ahead.ahead c.in_ok-chapters.chapters c.end_of.result
+    fills-part g.F.Reads g.F.Files c.args.spec.now c.as_slice.result.now c.args.part a x c.add_rest.new.files c.args.writer.now v (record { out = c.add_rest.new.out; buffer = c.add_rest.new.buffer; blocks = v.blocks; counts = v.counts }) c.args.blocks.now q c.in_ok-ahead.ahead c.in_ok-chapters.chapters c.end_of.result
     c.as_slice.ensures (c.in_ok-ahead.ensures.takes told) c.end_of.ensures c.in_ok-chapters.ensures.exact
-    (rest-left g.F.Reads g.F.Files x c.add_rest.new.files v q can c.in_ok-add_rest.ensures.only.kept c.in_ok-add_rest.ensures.only.octets) c.in_ok-add_rest.ensures.ends refl
+    (rest-left g.F.Reads g.F.Files x c.add_rest.new.files v q can c.in_ok-add_rest.ensures.only.kept c.in_ok-add_rest.ensures.only.octets) c.in_ok-add_rest.ensures.ends refl refl
 
 pub returns-clause-writes : goal.returns-clause-writes
 returns-clause-writes g c =
-    writes-then g.F.Reads g.F.Files c.args.files.now c.add_part.new.files c.add_rest.new.files c.args.writer.now c.add_part.new.self (record { out = c.add_rest.new.out; buffer = c.add_rest.new.buffer; blocks = c.add_part.new.self.blocks }) c.in_ok-ahead.ahead _ c.requires.can.is_open c.in_ok-ahead.ensures.writes
+    writes-then g.F.Reads g.F.Files c.args.files.now c.add_part.new.files c.add_rest.new.files c.args.writer.now c.add_part.new.self (record { out = c.add_rest.new.out; buffer = c.add_rest.new.buffer; blocks = c.add_part.new.self.blocks; counts = c.add_part.new.self.counts }) c.in_ok-ahead.ahead _ c.requires.can.is_open c.in_ok-ahead.ensures.writes
     (record { file = c.in_ok-add_rest.ensures.file; is_open = c.in_ok-add_rest.ensures.open; kept = c.in_ok-add_rest.ensures.only.kept })
 
 pub returns-clause-goes : goal.returns-clause-goes

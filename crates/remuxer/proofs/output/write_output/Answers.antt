@@ -9,7 +9,7 @@ use Rattle.remux_plan.specs.Parts.{document_with}
 use Rattle.remuxer.specs.Output.{data_of, part_in}
 use Rattle.remuxer.specs.declared.output.Filled.{Filled}
 use Rattle.remuxer.specs.declared.writer.BlockWriter.{BlockWriter}
-use Rattle.remuxer.proofs.OutputLemmas.{abandoned-keeps, begun-can, begun-goes, begun-in_turn, begun-left, begun-stands, begun-told, drafted-in_turn, ending-goes, ending-left, filled-finishes, filled-written, finished-keeps, goes-refused, goes-whole}
+use Rattle.remuxer.proofs.OutputLemmas.{abandoned-keeps, begun-can, begun-goes, begun-in_turn, begun-left, begun-stands, begun-told, drafted-in_turn, ending-goes, ending-left, filled-finishes, filled-written, finished-keeps, goes-refused, goes-whole, none_counted}
 use Rattle.remuxer.proofs.output.write_output.Goals as goal
 
 -- the output couldn't be begun
@@ -28,7 +28,7 @@ fill-requires g c =
     let file = c.in_ok-out.out.file in
     let made = c.in_ok-out.ensures.made in
     record {
-      can = begun-can g.F.Reads g.F.Files a b name file p made c.requires.gives c.requires.apart (record { out = c.in_ok-out.out; buffer = c.in_ok-buffer.buffer; blocks = 0 }) refl c.in_ok-out.ensures.ok.is_open;
+      can = begun-can g.F.Reads g.F.Files a b name file p made c.requires.gives c.requires.apart (record { out = c.in_ok-out.out; buffer = c.in_ok-buffer.buffer; blocks = 0; counts = none_counted }) refl c.in_ok-out.ensures.ok.is_open;
       begins = c.requires.begins;
       scale = c.requires.scale;
       chapters = c.requires.records.chapters;
@@ -46,7 +46,7 @@ returns-in_err-finish_with-in-Ok-clause-writes g c = λ told.
     let made = c.in_ok-out.ensures.made in
     let spec = c.args.spec.now in
     let part = c.args.part in
-    let w : BlockWriter = record { out = c.in_ok-out.out; buffer = c.in_ok-buffer.buffer; blocks = 0 } in
+    let w : BlockWriter = record { out = c.in_ok-out.out; buffer = c.in_ok-buffer.buffer; blocks = 0; counts = none_counted } in
     let begun = begun-left g.F.Reads g.F.Files a b name file p made c.requires.gives c.requires.apart in
     let stands = begun-stands g.F.Reads g.F.Files spec name a b p part begun w.out w.buffer c.in_ok-out.ensures.ok c.in_ok-out.ensures.cues c.in_ok-buffer.ensures.empty c.in_ok-buffer.ensures.limits in
     let filled = c.in-Ok.filled in
@@ -88,7 +88,7 @@ returns-in-Ok-clause-writes g c = λ told.
     let made = c.in_ok-out.ensures.made in
     let spec = c.args.spec.now in
     let part = c.args.part in
-    let w : BlockWriter = record { out = c.in_ok-out.out; buffer = c.in_ok-buffer.buffer; blocks = 0 } in
+    let w : BlockWriter = record { out = c.in_ok-out.out; buffer = c.in_ok-buffer.buffer; blocks = 0; counts = none_counted } in
     let begun = begun-left g.F.Reads g.F.Files a b name file p made c.requires.gives c.requires.apart in
     let stands = begun-stands g.F.Reads g.F.Files spec name a b p part begun w.out w.buffer c.in_ok-out.ensures.ok c.in_ok-out.ensures.cues c.in_ok-buffer.ensures.empty c.in_ok-buffer.ensures.limits in
     let filled = c.in-Ok.filled in
@@ -105,7 +105,7 @@ returns-in-Ok-clause-finds g c =
     let made = c.in_ok-out.ensures.made in
     let spec = c.args.spec.now in
     let part = c.args.part in
-    let w : BlockWriter = record { out = c.in_ok-out.out; buffer = c.in_ok-buffer.buffer; blocks = 0 } in
+    let w : BlockWriter = record { out = c.in_ok-out.out; buffer = c.in_ok-buffer.buffer; blocks = 0; counts = none_counted } in
     let begun = begun-left g.F.Reads g.F.Files a b name file p made c.requires.gives c.requires.apart in
     let stands = begun-stands g.F.Reads g.F.Files spec name a b p part begun w.out w.buffer c.in_ok-out.ensures.ok c.in_ok-out.ensures.cues c.in_ok-buffer.ensures.empty c.in_ok-buffer.ensures.limits in
     let filled = c.in-Ok.filled in
@@ -114,7 +114,7 @@ returns-in-Ok-clause-finds g c =
     let p' = c.fill.new.blocks in
     let later = ending-left g.F.Reads g.F.Files a b x e name file c.fill.new.writer.out.file (g.met.F.Files.numbered a) made c.in-Ok.ensures.writes.kept c.in-Ok.ensures.writes.file p p' c.requires.gives c.requires.apart c.in-Ok.ensures.goes c.in_ok-finish_with-in-Ok.ensures.ended in
     record {
-      told = λ told. filled-written g.F.Reads g.F.Files spec name a b p part begun x e w c.fill.new.writer p' filled (c.in-Ok.ensures.fills (begun-told g.F.Reads g.F.Files a b name file p made c.requires.gives c.requires.apart part.lane told)) refl later;
+      told = λ told. filled-written g.F.Reads g.F.Files spec name a b p part begun x e w c.fill.new.writer p' filled (c.in-Ok.ensures.fills (begun-told g.F.Reads g.F.Files a b name file p made c.requires.gives c.requires.apart part.lane told)) stands refl later;
       stands = c.in-Ok.ensures.finds.stands;
       on = c.in-Ok.ensures.finds.on;
     }
@@ -155,7 +155,7 @@ returns-clause-writes g c = λ told.
     let made = c.in_ok-out.ensures.made in
     let spec = c.args.spec.now in
     let part = c.args.part in
-    let w : BlockWriter = record { out = c.in_ok-out.out; buffer = c.in_ok-buffer.buffer; blocks = 0 } in
+    let w : BlockWriter = record { out = c.in_ok-out.out; buffer = c.in_ok-buffer.buffer; blocks = 0; counts = none_counted } in
     let begun = begun-left g.F.Reads g.F.Files a b name file p made c.requires.gives c.requires.apart in
     let stands = begun-stands g.F.Reads g.F.Files spec name a b p part begun w.out w.buffer c.in_ok-out.ensures.ok c.in_ok-out.ensures.cues c.in_ok-buffer.ensures.empty c.in_ok-buffer.ensures.limits in
     subst (λ (names : Names). StandsInTurn (g.F.Files.names a) names (draft_of name (document_with (live_files g.F.Reads a) spec (part_in (live_files g.F.Reads a) p part)) ∷ [])) (sym c.abandon.ensures.names)

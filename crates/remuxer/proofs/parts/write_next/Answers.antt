@@ -1,6 +1,7 @@
 use Rattle.std.proofs.Common.{◌≡◌, ◌<◌, ◌+◌, ◌^◌, ℕ, List, [], ◌∷◌, ◌++◌, length, sym, ◌∙◌, ap, ap₂, subst, arith}
 use Rattle.std.proofs.lemmas.Result.{err_from_is_err_and}
 use Rattle.std.proofs.lemmas.List.{length-append}
+use Rattle.mkv_io.specs.Faults.{counted}
 use Rattle.mkv_io.specs.Names.{Names}
 use Rattle.mkv_io.specs.Sources.{live_files}
 use Rattle.mkv_io.specs.Writing.{KeepsOthers}
@@ -15,7 +16,7 @@ use Rattle.time_merge.specs.Laws.{IsApart}
 use Rattle.remux_plan.specs.Parts.{document_with, name_of}
 use Rattle.remux_plan.specs.declared.output.OutputSpec.{OutputSpec}
 use Rattle.remux_plan.specs.declared.summary.Written.{Written}
-use Rattle.remuxer.specs.Output.{HasRecords, WritesLayout, data_of, next_name, own_spec, part_in}
+use Rattle.remuxer.specs.Output.{HasRecords, HasWritten, WritesLayout, data_of, next_name, own_spec, part_in}
 use Rattle.remuxer.proofs.OutputLemmas.{whole-in_turn}
 use Rattle.remuxer.proofs.OutputsLemmas.{keeps-none, keeps-one, named-so, told-merge, unwritten-apart}
 use Rattle.remuxer.proofs.TakingLemmas.{goes-more, only-read, read-keeps}
@@ -174,10 +175,13 @@ returns-clause-writes g c = λ told.
     (subst (λ (n : ℕ). WritesLayout (g.F.Files.names c.args.files.now) (g.F.Files.names c.write_own.new.files) c.as_str.result.now (of n)) num (c.in_ok-done.ensures.writes told)) in
     let is_told = told-merge f c.args.blocks.now c.args.part.lane told in
     let on = (c.in_ok-done.ensures.goes.told is_told).told in
-    let wrote = c.in_ok-done.ensures.finds.told told in
+    let wrote = subst (λ (n : ℕ). HasWritten f (live_files g.F.Reads e) (own_spec spec n) c.args.part c.args.blocks.now c.write_own.new.blocks c.in_ok-done.done) num (c.in_ok-done.ensures.finds.told told) in
     record {
       writes = record { names = read.names ∙ stands.names; becomes = stands.becomes };
-      added = c.in_ok-push.ensures.ok ∙ ap₂ (λ (n : List ℕ) (blocks : ℕ). let w : Written = record { name = n; blocks = blocks } in written ++ w ∷ []) (sym c.as_str.ensures.same ∙ same) wrote.count;
+      added = c.in_ok-push.ensures.ok
+          ∙ ap (λ (n : List ℕ). let w : Written = record { name = n; blocks = c.in_ok-done.done.blocks; clusters = c.in_ok-done.done.counts.clusters; cues = c.in_ok-done.done.counts.cues } in written ++ w ∷ []) (sym c.as_str.ensures.same ∙ same)
+          ∙ ap (λ (blocks : ℕ). let w : Written = record { name = next_name spec written; blocks = blocks; clusters = c.in_ok-done.done.counts.clusters; cues = c.in_ok-done.done.counts.cues } in written ++ w ∷ []) wrote.count
+          ∙ ap₂ (λ (clusters cues : ℕ). let w : Written = record { name = next_name spec written; blocks = counted 0 (length (part_in f c.args.blocks.now c.args.part).blocks); clusters = clusters; cues = cues } in written ++ w ∷ []) wrote.counts.clusters wrote.counts.cues;
       told = c.in_ok-next.ensures.finds.told on;
       behind = c.in_ok-next.ensures.finds.found on ∙ wrote.behind;
     }

@@ -1,53 +1,60 @@
-use Rattle.std.proofs.Common.{◌∷◌, refl, sym, ap, ◌∙◌}
+use Rattle.std.proofs.Common.{ℕ, Bool, List, length, nat_eq, ◌∷◌, refl, sym, ap, subst, ◌∙◌}
 use Rattle.std.proofs.lemmas.Result.{err_from_is_err_and}
 use Rattle.cluster_writer.specs.Gathered.{Gathered}
 use Rattle.cluster_writer.specs.Lent.{block_of}
 use Rattle.cluster_writer.proofs.BufferLemmas.{joins-held}
+use Rattle.remuxer.specs.Stands.{Stands, counted_with}
 use Rattle.remuxer.proofs.StandsLemmas.{stands-cued, stands-drafted, stands-kept, stands-room}
 use Rattle.remuxer.proofs.run.add_block.Goals as goal
 
 pub returns-in_err-reserve-clause-adds : goal.returns-in_err-reserve-clause-adds
 returns-in_err-reserve-clause-adds g c =
     let p = err_from_is_err_and c.from_residual.result c.from_residual.ensures.1 in
-    rw p.1 (λ before name rules d left stands. stands-drafted g.F.Reads g.F.Files before name rules d c.args.files.now c.args.out.now c.args.buffer.now (block_of c.args.block.now ∷ left) stands)
+    rw p.1 (λ before name rules d n left stands. stands-drafted g.F.Reads g.F.Files before name rules d c.args.files.now c.args.out.now c.args.buffer.now n (block_of c.args.block.now ∷ left) stands)
 
 pub returns-in_err-make_room-clause-adds : goal.returns-in_err-make_room-clause-adds
 returns-in_err-make_room-clause-adds g c =
     let p = err_from_is_err_and c.from_residual-in_err-make_room.result c.from_residual-in_err-make_room.ensures.1 in
     let b = block_of c.args.block.now in
-    rw p.1 (λ before name rules d left stands.
-    c.in_err-make_room.ensures.makes before name rules d left
-    (stands-room g.F.Reads g.F.Files before name rules d c.args.files.now c.args.out.now c.args.buffer.now c.reserve.new.self (b ∷ left) c.reserve.ensures.holds (ap (λ (x : Gathered). x.limits) c.reserve.ensures.same) stands))
+    rw p.1 (λ before name rules d n left stands.
+    c.in_err-make_room.ensures.makes before name rules d n left
+    (stands-room g.F.Reads g.F.Files before name rules d c.args.files.now c.args.out.now c.args.buffer.now c.reserve.new.self n (b ∷ left) c.reserve.ensures.holds (ap (λ (x : Gathered). x.limits) c.reserve.ensures.same) stands))
 
 -- there is no memory for the point
 pub returns-in_err-cue-clause-adds : goal.returns-in_err-cue-clause-adds
 returns-in_err-cue-clause-adds g c =
     let p = err_from_is_err_and c.from_residual-in_err-cue.result c.from_residual-in_err-cue.ensures.1 in
     let b = block_of c.args.block.now in
-    rw p.1 (λ before name rules d left stands.
-    stands-drafted g.F.Reads g.F.Files before name rules d c.make_room.new.files c.make_room.new.out c.make_room.new.buffer (b ∷ left)
-    (c.in_ok-make_room.ensures.makes before name rules d left
-    (stands-room g.F.Reads g.F.Files before name rules d c.args.files.now c.args.out.now c.args.buffer.now c.reserve.new.self (b ∷ left) c.reserve.ensures.holds (ap (λ (x : Gathered). x.limits) c.reserve.ensures.same) stands)))
+    rw p.1 (λ before name rules d n left stands.
+    stands-drafted g.F.Reads g.F.Files before name rules d c.make_room.new.files c.make_room.new.out c.make_room.new.buffer n (b ∷ left)
+    (c.in_ok-make_room.ensures.makes before name rules d n left
+    (stands-room g.F.Reads g.F.Files before name rules d c.args.files.now c.args.out.now c.args.buffer.now c.reserve.new.self n (b ∷ left) c.reserve.ensures.holds (ap (λ (x : Gathered). x.limits) c.reserve.ensures.same) stands)))
 
 -- the block is held, and its point is kept
 pub returns-in_ok-cue-clause-adds : goal.returns-in_ok-cue-clause-adds
-returns-in_ok-cue-clause-adds g c = λ before name rules d left cued stands.
+returns-in_ok-cue-clause-adds g c = λ before name rules d n left cued stands.
     let b = block_of c.args.block.now in
     let buffer = c.make_room.new.buffer in
-    let roomy = c.in_ok-make_room.ensures.makes before name rules d left
-    (stands-room g.F.Reads g.F.Files before name rules d c.args.files.now c.args.out.now c.args.buffer.now c.reserve.new.self (b ∷ left) c.reserve.ensures.holds (ap (λ (x : Gathered). x.limits) c.reserve.ensures.same) stands) in
+    let roomy = c.in_ok-make_room.ensures.makes before name rules d n left
+    (stands-room g.F.Reads g.F.Files before name rules d c.args.files.now c.args.out.now c.args.buffer.now c.reserve.new.self n (b ∷ left) c.reserve.ensures.holds (ap (λ (x : Gathered). x.limits) c.reserve.ensures.same) stands) in
     let fits = sym (joins-held buffer roomy.cluster b c.args.block.now.tick c.element_len-len.result roomy.holds refl (sym c.element_len-len.ensures.exact)) ∙ c.in_ok-make_room.ensures.joins in
-    stands-cued g.F.Reads g.F.Files before name rules d c.make_room.new.files c.make_room.new.out buffer c.put_block-relative.new.self b left c.cue.new.self c.put_block-relative.result roomy fits
+    let empties = c.is_empty-begins.ensures ∙ ap (λ (bytes : List ℕ). nat_eq (length bytes) 0) c.octets.ensures.exact in
+    let P : Bool → Type 0 = λ t. Stands g.F.Reads g.F.Files before name rules d c.make_room.new.files c.cue.new.self c.put_block-relative.new.self (counted_with c.is_empty-begins.result t n) left in
+    subst P (sym c.if-cued.true)
+    (stands-cued g.F.Reads g.F.Files before name rules d c.make_room.new.files c.make_room.new.out buffer c.put_block-relative.new.self b n left c.is_empty-begins.result c.cue.new.self c.put_block-relative.result roomy empties fits
     c.put_block-relative.ensures.holds c.put_block-relative.ensures.added.limits (sym cued ∙ c.if-cued.true) c.put_block-relative.ensures.place
-    c.in_ok-cue.ensures.ok (λ most. (c.in_ok-cue.ensures.full most).1)
+    c.in_ok-cue.ensures.ok (λ most. (c.in_ok-cue.ensures.full most).1))
 
 -- the block is held
 pub returns-else-cued-clause-adds : goal.returns-else-cued-clause-adds
-returns-else-cued-clause-adds g c = λ before name rules d left cued stands.
+returns-else-cued-clause-adds g c = λ before name rules d n left cued stands.
     let b = block_of c.args.block.now in
     let buffer = c.make_room.new.buffer in
-    let roomy = c.in_ok-make_room.ensures.makes before name rules d left
-    (stands-room g.F.Reads g.F.Files before name rules d c.args.files.now c.args.out.now c.args.buffer.now c.reserve.new.self (b ∷ left) c.reserve.ensures.holds (ap (λ (x : Gathered). x.limits) c.reserve.ensures.same) stands) in
+    let roomy = c.in_ok-make_room.ensures.makes before name rules d n left
+    (stands-room g.F.Reads g.F.Files before name rules d c.args.files.now c.args.out.now c.args.buffer.now c.reserve.new.self n (b ∷ left) c.reserve.ensures.holds (ap (λ (x : Gathered). x.limits) c.reserve.ensures.same) stands) in
     let fits = sym (joins-held buffer roomy.cluster b c.args.block.now.tick c.element_len-len.result roomy.holds refl (sym c.element_len-len.ensures.exact)) ∙ c.in_ok-make_room.ensures.joins in
-    stands-kept g.F.Reads g.F.Files before name rules d c.make_room.new.files c.make_room.new.out buffer c.put_block-relative.new.self b left roomy fits
-    c.put_block-relative.ensures.holds c.put_block-relative.ensures.added.limits (sym cued ∙ c.if-cued.false)
+    let empties = c.is_empty-begins.ensures ∙ ap (λ (bytes : List ℕ). nat_eq (length bytes) 0) c.octets.ensures.exact in
+    let P : Bool → Type 0 = λ t. Stands g.F.Reads g.F.Files before name rules d c.make_room.new.files c.make_room.new.out c.put_block-relative.new.self (counted_with c.is_empty-begins.result t n) left in
+    subst P (sym c.if-cued.false)
+    (stands-kept g.F.Reads g.F.Files before name rules d c.make_room.new.files c.make_room.new.out buffer c.put_block-relative.new.self b n left c.is_empty-begins.result roomy empties fits
+    c.put_block-relative.ensures.holds c.put_block-relative.ensures.added.limits (sym cued ∙ c.if-cued.false))
