@@ -6,7 +6,7 @@ use Rattle.mkv_schema.specs.declared.element.Header.{Header}
 use Rattle.sidecar_edit.specs.declared.outcome.Mark.{Mark}
 use Rattle.mkv_lines.specs.Shown.{damage_text, element_text, level_0_name, level_1_name, mark_text, place_text, shown_text, track_text}
 use Rattle.mkv_lines.specs.declared.line.Line.{Line}
-use Rattle.mkv_lines.specs.declared.line.Line.TheVariants.{Level0, Level1, Track, Refused, Warned, MoreDamages, MoreBadFrames, NoTrack, NoAttachment, NoExtractor, BadConfig, Missing, BadText, TextTooLarge, PendingEdit, OutputIsInput, AppendDiffers, NoLane, TooManyLanes, NotWebm, TooLarge, Wrote, WroteBlocks, UuidCount, Edited, EditRefused, NoRoom, EditTooLarge, Recovered, NothingToRecover, BadSidecar, Foreign, Word, FilesFault}
+use Rattle.mkv_lines.specs.declared.line.Line.TheVariants.{Level0, Level1, Track, Refused, Warned, MoreDamages, MoreBadFrames, NoTrack, NoAttachment, NoExtractor, BadConfig, Missing, BadText, TextTooLarge, PendingEdit, OutputIsInput, AppendDiffers, NoLane, TooManyLanes, NotWebm, TooLarge, Wrote, WroteBlocks, Generated, UuidCount, Edited, Reindexed, EditRefused, NoRoom, EditTooLarge, Recovered, NothingToRecover, BadSidecar, Foreign, Word, FilesFault}
 
 -- an Element at the top of a file
 abbrev pub level_0_line : Header → List ℕ
@@ -109,6 +109,14 @@ wrote_line name = codes "wrote " ++ shown_text name
 abbrev pub wrote_blocks_line : List ℕ → ℕ → List ℕ
 wrote_blocks_line name blocks = wrote_line name ++ (codes ": " ++ (decimal blocks ++ codes " blocks"))
 
+-- files that were made of a number: how many blocks, Clusters and cue points the one has that is merged of two, and in how many parts that
+-- was split
+abbrev pub generated_line : ℕ → ℕ → ℕ → ℕ → ℕ → List ℕ
+generated_line n blocks clusters cues parts =
+    codes "generated "
+    ++ (decimal n ++ (codes ": " ++ (decimal blocks ++ (codes " blocks, " ++ (decimal clusters ++ (codes " clusters, "
+    ++ (decimal cues ++ (codes " cues, " ++ (decimal parts ++ codes " parts")))))))))
+
 -- segment identifiers that are given, and not one for each output
 abbrev pub uuid_count_line : ℕ → ℕ → List ℕ
 uuid_count_line uuids outputs = codes "warning: " ++ (decimal uuids ++ (codes " segment identifiers, " ++ (decimal outputs ++ codes " parts")))
@@ -116,6 +124,10 @@ uuid_count_line uuids outputs = codes "warning: " ++ (decimal uuids ++ (codes " 
 -- a file whose properties are edited
 abbrev pub edited_line : List ℕ → List ℕ
 edited_line name = codes "edited " ++ shown_text name
+
+-- a file whose index is written anew, with so many cue points
+abbrev pub reindexed_line : List ℕ → ℕ → List ℕ
+reindexed_line name cues = codes "reindexed " ++ (shown_text name ++ (codes ": " ++ (decimal cues ++ codes " cues")))
 
 -- a file of which one edit, counted from 1, is refused
 abbrev pub edit_refused_line : List ℕ → List ℕ → ℕ → List ℕ
@@ -192,8 +204,10 @@ text_of (NotWebm codec) = not_webm_line codec.now
 text_of (TooLarge name id) = too_large_line name.now id
 text_of (Wrote name) = wrote_line name.now
 text_of (WroteBlocks name blocks) = wrote_blocks_line name.now blocks
+text_of (Generated n blocks clusters cues parts) = generated_line n blocks clusters cues parts
 text_of (UuidCount uuids outputs) = uuid_count_line uuids outputs
 text_of (Edited name) = edited_line name.now
+text_of (Reindexed name cues) = reindexed_line name.now cues
 text_of (EditRefused name why edit) = edit_refused_line name.now why.now edit
 text_of (NoRoom name why need have) = no_room_line name.now why.now need have
 text_of (EditTooLarge name length nodes) = edit_too_large_line name.now length nodes

@@ -3,7 +3,7 @@
 ghost use Rattle.std.specs.Prelude.{◌++◌, codes};
 ghost use Rattle.std.specs.Fmt.{WritesOnOk, decimal};
 ghost use Rattle.mkv_lines.specs.Shown.{damage_text, element_text, shown_text};
-ghost use Rattle.mkv_lines.specs.Line.{edit_refused_line, edit_too_large_line, foreign_line, level_0_line, level_1_line, no_room_line, uuid_count_line, wrote_blocks_line};
+ghost use Rattle.mkv_lines.specs.Line.{edit_refused_line, edit_too_large_line, foreign_line, generated_line, level_0_line, level_1_line, no_room_line, reindexed_line, uuid_count_line, wrote_blocks_line};
 
 use crate::shown::{
     Level0Name, Level1Name, ShownDamage, ShownElement, ShownMark, ShownPlace, ShownTrack,
@@ -111,6 +111,14 @@ pub enum Line<'a> {
         name: &'a str,
         blocks: u64,
     },
+    /// Files were made of a number: what one of them has that is merged of two, and in how many parts that was split.
+    Generated {
+        n: u32,
+        blocks: u64,
+        clusters: u64,
+        cues: u64,
+        parts: usize,
+    },
     /// Segment identifiers are given, and not one for each output.
     UuidCount {
         uuids: u64,
@@ -119,6 +127,11 @@ pub enum Line<'a> {
     /// A file's properties are edited.
     Edited {
         name: &'a str,
+    },
+    /// A file's index is written anew, with so many cue points.
+    Reindexed {
+        name: &'a str,
+        cues: u64,
     },
     /// One of the edits of a file, counted from 1, is refused.
     EditRefused {
@@ -217,8 +230,16 @@ impl fmt::Display for Line<'_> {
             Line::TooLarge { name, id } => of_element(f, name, "HeaderTooLarge", id),
             Line::Wrote { name } => headed(f, "wrote ", name),
             Line::WroteBlocks { name, blocks } => wrote_blocks(f, name, blocks),
+            Line::Generated {
+                n,
+                blocks,
+                clusters,
+                cues,
+                parts,
+            } => generated(f, n, blocks, clusters, cues, parts),
             Line::UuidCount { uuids, outputs } => uuid_count(f, uuids, outputs),
             Line::Edited { name } => headed(f, "edited ", name),
+            Line::Reindexed { name, cues } => reindexed(f, name, cues),
             Line::EditRefused { name, why, edit } => edit_refused(f, name, why, edit),
             Line::NoRoom {
                 name,
@@ -339,6 +360,29 @@ fn wrote_blocks<W: fmt::Write>(f: &mut fmt::Formatter<W>, name: &str, blocks: u6
 {
     let name = ShownText(name);
     write!(f, "wrote {name}: {blocks} blocks")
+}
+
+fn reindexed<W: fmt::Write>(f: &mut fmt::Formatter<W>, name: &str, cues: u64) -> fmt::Result
+    ensures { WritesOnOk W.write_str_gives f.old result (reindexed_line name.now cues) f.new }
+{
+    let name = ShownText(name);
+    write!(f, "reindexed {name}: {cues} cues")
+}
+
+fn generated<W: fmt::Write>(
+    f: &mut fmt::Formatter<W>,
+    n: u32,
+    blocks: u64,
+    clusters: u64,
+    cues: u64,
+    parts: usize,
+) -> fmt::Result
+    ensures { WritesOnOk W.write_str_gives f.old result (generated_line n blocks clusters cues parts) f.new }
+{
+    write!(
+        f,
+        "generated {n}: {blocks} blocks, {clusters} clusters, {cues} cues, {parts} parts"
+    )
 }
 
 fn uuid_count<W: fmt::Write>(f: &mut fmt::Formatter<W>, uuids: u64, outputs: u64) -> fmt::Result

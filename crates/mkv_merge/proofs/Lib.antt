@@ -1,3 +1,4 @@
+pub mod JoinedLemmas
 pub mod MergingLemmas
 pub mod NamesLemmas
 pub mod PreparingLemmas

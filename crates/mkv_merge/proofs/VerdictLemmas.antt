@@ -38,7 +38,7 @@ use Rattle.mkv_merge.proofs.WritingLemmas.{IsMergeOf, lanes-for, reads-are}
 
 -- ---- the summary is that of the sources
 
-tells-is : (f : LiveFiles) (p : MergePlan) (s : Summary) → IsSummary f p s → Tells (damages_of f p.lanes) (count_to (flat_map (λ (l : PlannedLane). l.inputs) p.lanes)) s
+pub tells-is : (f : LiveFiles) (p : MergePlan) (s : Summary) → IsSummary f p s → Tells (damages_of f p.lanes) (count_to (flat_map (λ (l : PlannedLane). l.inputs) p.lanes)) s
 tells-is f p s is = record { damages = is.damages; more = is.more; past = past-damages f p.lanes }
 
 -- as many outputs

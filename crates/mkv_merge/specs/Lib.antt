@@ -4,6 +4,7 @@ pub mod Prepared
 pub mod Read
 pub mod Refused
 pub mod Ends
+pub mod Joined
 pub mod Chapters
 pub mod Texts
 pub mod Timed

@@ -3,6 +3,7 @@
 //! The command `merge`, which writes one file of several: the tracks that the words take of each, as they say them.
 
 mod chapters;
+mod joining;
 mod merging;
 mod names;
 mod pending;
@@ -12,4 +13,8 @@ mod telling;
 mod texts;
 mod writing;
 
+pub use joining::{Merged, merge_files};
 pub use merging::merge_of;
+pub use refusal::Refusal;
+pub use telling::{refuse, warn};
+pub use writing::stop_of;

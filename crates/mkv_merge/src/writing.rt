@@ -29,7 +29,7 @@ use remuxer::remux;
 use std::alloc::Global;
 
 /// Why a command stops whose merge ended early.
-fn stop_of(end: RemuxEnd) -> Stop
+pub fn stop_of(end: RemuxEnd) -> Stop
     ensures { result ≡ stop_of end }
 {
     match end {

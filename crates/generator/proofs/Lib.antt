@@ -1,0 +1,7 @@
+mod FileLemmas
+mod MadeLemmas
+mod MakingLemmas
+mod SoundLemmas
+mod StandardFacts
+mod TellingLemmas
+mod TurnLemmas

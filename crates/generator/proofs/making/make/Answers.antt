@@ -1,0 +1,12 @@
+use Rattle.generator.proofs.MakingLemmas.{files-left}
+use Rattle.generator.proofs.making.make.Goals as goal
+
+-- the two files stand
+pub returns-in-Ok-clause-makes : goal.returns-in-Ok-clause-makes
+returns-in-Ok-clause-makes g c = λ world told.
+    c.make_both.ensures.makes c.args.n (g.F.Files.names c.args.files.now) world told c.requires.apart c.in-Ok.ensures.writes
+
+-- they couldn't be written
+pub returns-in-Err-clause-makes : goal.returns-in-Err-clause-makes
+returns-in-Err-clause-makes g c = λ world told.
+    files-left (g.F.Files.names c.args.files.now) (g.F.Files.names c.write_files.new.files) c.args.n c.args.names.now c.in-Err.ensures.writes

@@ -1,0 +1,21 @@
+use Rattle.generator.specs.Generate.{both_words}
+use Rattle.generator.proofs.MakingLemmas.{both-made, both-refused, both-stopped}
+use Rattle.generator.proofs.SoundLemmas.{both-sound, sound-as}
+use Rattle.generator.proofs.making.merge_both.Goals as goal
+
+pub merge_files-requires : goal.merge_files-requires
+merge_files-requires g c = sound-as c.args.words (both_words c.args.names.now) c.requires (both-sound c.args.names.now)
+
+pub returns-in-Ok-Written-clause-makes : goal.returns-in-Ok-Written-clause-makes
+returns-in-Ok-Written-clause-makes g c =
+    both-made (g.F.Files.names c.args.files.now) (g.F.Files.names c.make_parts.new.files) c.args.names.now c.args.words c.requires (g.F.Files.names c.merge_files.new.files) c.in-Ok-Written.summary c.make_parts.result
+    (λ world told. rw c.in-Ok-Written.field-0-is at (c.in-Ok-Written.ensures.merges world told)) c.make_parts.ensures.makes
+
+pub returns-in-Ok-Refused-clause-makes : goal.returns-in-Ok-Refused-clause-makes
+returns-in-Ok-Refused-clause-makes g c =
+    both-refused (g.F.Files.names c.args.files.now) (g.F.Files.names c.merge_files.new.files) c.args.names.now c.args.words c.requires c.in-Ok-Refused.why
+    (λ world told. rw c.in-Ok-Refused.field-0-is at (c.in-Ok-Refused.ensures.merges world told))
+
+pub returns-in-Err-clause-makes : goal.returns-in-Err-clause-makes
+returns-in-Err-clause-makes g c =
+    both-stopped (g.F.Files.names c.args.files.now) (g.F.Files.names c.merge_files.new.files) c.args.names.now c.args.words c.requires c.in-Err.why c.in-Err.ensures.merges

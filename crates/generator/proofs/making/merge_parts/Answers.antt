@@ -1,0 +1,21 @@
+use Rattle.generator.specs.Generate.{parts_words}
+use Rattle.generator.proofs.MakingLemmas.{parts-made, parts-refused, parts-stopped}
+use Rattle.generator.proofs.SoundLemmas.{parts-sound, sound-as}
+use Rattle.generator.proofs.making.merge_parts.Goals as goal
+
+pub merge_files-requires : goal.merge_files-requires
+merge_files-requires g c = sound-as c.args.words (parts_words c.args.names.now) c.requires (parts-sound c.args.names.now)
+
+pub returns-in-Ok-Written-clause-makes : goal.returns-in-Ok-Written-clause-makes
+returns-in-Ok-Written-clause-makes g c =
+    parts-made (g.F.Files.names c.args.files.now) (g.F.Files.names c.merge_files.new.files) c.args.names.now c.args.words c.requires c.args.both c.in-Ok-Written.summary
+    (λ world told. rw c.in-Ok-Written.field-0-is at (c.in-Ok-Written.ensures.merges world told))
+
+pub returns-in-Ok-Refused-clause-makes : goal.returns-in-Ok-Refused-clause-makes
+returns-in-Ok-Refused-clause-makes g c =
+    parts-refused (g.F.Files.names c.args.files.now) (g.F.Files.names c.merge_files.new.files) c.args.names.now c.args.words c.requires c.args.both c.in-Ok-Refused.why
+    (λ world told. rw c.in-Ok-Refused.field-0-is at (c.in-Ok-Refused.ensures.merges world told))
+
+pub returns-in-Err-clause-makes : goal.returns-in-Err-clause-makes
+returns-in-Err-clause-makes g c =
+    parts-stopped (g.F.Files.names c.args.files.now) (g.F.Files.names c.merge_files.new.files) c.args.names.now c.args.words c.requires c.args.both c.in-Err.why c.in-Err.ensures.merges

@@ -1,0 +1,6 @@
+pub mod Blocks
+pub mod Files
+pub mod Generate
+pub mod Made
+pub mod Outcome
+pub mod Writing

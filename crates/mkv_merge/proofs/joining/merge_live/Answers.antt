@@ -1,0 +1,40 @@
+use Rattle.std.proofs.Common.{◌≡◌, List, Result, sym, ◌∙◌, ap, subst}
+use Rattle.mkv_io.specs.LiveFiles.{LiveFiles}
+use Rattle.mkv_io.specs.Names.{Names}
+use Rattle.mkv_io.specs.Sources.{live_files}
+use Rattle.input_files.specs.declared.text_files.TextFiles.{TextFiles}
+use Rattle.input_files.specs.declared.times_file.TimesFile.{TimesFile}
+use Rattle.input_files.specs.declared.chapter_file.ChapterFile.TheVariants.{Absent}
+use Rattle.merge_plan.specs.Plan.{Source}
+use Rattle.mkv_merge.specs.Joined.{Merges, no_texts}
+use Rattle.mkv_merge.specs.Merge.{sources_with}
+use Rattle.mkv_merge.specs.Prepared.{AreTold}
+use Rattle.mkv_merge.specs.declared.refusal.Refusal.{Refusal}
+use Rattle.mkv_merge.proofs.JoinedLemmas.{merges-begun}
+use Rattle.mkv_merge.proofs.joining.merge_live.Goals as goal
+
+-- reading has changed nothing, and what was prepared is what the sources come to
+pub returns-in-Ok-clause-merges : goal.returns-in-Ok-clause-merges
+returns-in-Ok-clause-merges g c = λ contents told.
+    let old = c.args.files.now in
+    let mid = c.prepare.new.src in
+    let standing = c.in-Ok.ensures.standing in
+    let same : live_files g.F.Reads mid ≡ live_files g.F.Reads old = ap g.F.Reads.files standing in
+    let names : g.F.Files.names mid ≡ g.F.Files.names old = g.met.F.Files.names_stand mid old standing in
+    let plain = ap (λ (times : List TimesFile). let texts : TextFiles = record { chapters = Absent; times = times } in sources_with c.args.words.now texts contents) c.new.ensures in
+    subst (λ (before : Names). Merges before (g.F.Files.names c.merge_prepared.new.files) c.args.words.now (sources_with c.args.words.now no_texts contents) c.merge_prepared.result) names
+    (subst (λ (found : Result (List Source) Refusal). Merges (g.F.Files.names mid) (g.F.Files.names c.merge_prepared.new.files) c.args.words.now found c.merge_prepared.result) (sym (c.in-Ok.ensures.exact contents told) ∙ plain)
+    (c.merge_prepared.ensures.merges contents (subst (λ (f : LiveFiles). AreTold f c.args.ids.now contents) (sym same) told)))
+
+-- it is refused
+pub returns-in-Err-Refused-clause-merges : goal.returns-in-Err-Refused-clause-merges
+returns-in-Err-Refused-clause-merges g c = λ contents told.
+    let plain = ap (λ (times : List TimesFile). let texts : TextFiles = record { chapters = Absent; times = times } in sources_with c.args.words.now texts contents) c.new.ensures in
+    let why = rw c.in-Err-Refused.field-0-is at (c.in-Err-Refused.ensures.exact contents told) in
+    rw c.in-Err-Refused.field-0-is (sym plain ∙ why, g.met.F.Files.names_stand c.prepare.new.src c.args.files.now c.in-Err-Refused.ensures.standing)
+
+-- an input couldn't be read
+pub returns-in-Err-Stopped-clause-merges : goal.returns-in-Err-Stopped-clause-merges
+returns-in-Err-Stopped-clause-merges g c = λ contents told.
+    merges-begun (g.F.Files.names c.args.files.now) (g.F.Files.names c.prepare.new.src) c.args.words.now (sources_with c.args.words.now no_texts contents) c.from.result
+    (g.met.F.Files.names_stand c.prepare.new.src c.args.files.now c.in-Err-Stopped.ensures.standing)
