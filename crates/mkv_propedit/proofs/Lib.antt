@@ -1,2 +1,3 @@
 pub mod PropeditLemmas
 pub mod RecoverLemmas
+pub mod ReindexLemmas

@@ -1,5 +1,5 @@
 -- What edits leave, and how they are told.
-use Rattle.std.proofs.Common.{◌≡◌, ◌∙◌, inl, inr, ⊎_elim, ℕ, ◌+◌, ◌≤◌, IsTrue, Bool, true, false, not, ◌||◌, nat_le, nat_lt, if◌then◌else◌, List, [], ◌∷◌, length, slice_index, Option, Some, None, option_map, Result, Ok, Err, refl, ap, sym, subst, arith, eq-eqb}
+use Rattle.std.proofs.Common.{◌≡◌, ◌∙◌, ◌⊎◌, inl, inr, ⊎_elim, ℕ, ◌+◌, ◌≤◌, IsTrue, Bool, true, false, not, ◌||◌, nat_le, nat_lt, if◌then◌else◌, List, [], ◌∷◌, length, slice_index, Option, Some, None, option_map, Result, Ok, Err, refl, ap, sym, subst, arith, eq-eqb}
 use Rattle.std.specs.Prelude.{◌==◌, OnOk}
 use Rattle.std.proofs.lemmas.List.{get_or-take}
 use Rattle.std.proofs.lemmas.Bool.Decides.{nat_tests}
@@ -26,7 +26,7 @@ use Rattle.mkv_propedit.proofs.RecoverLemmas.{said-stop}
 use Rattle.sidecar_edit.specs.declared.held.Gate.{Gate}
 use Rattle.sidecar_edit.specs.declared.held.Gate.TheVariants.{Bad, Live, Quiet}
 use Rattle.sidecar_edit.specs.declared.place.TheConstants.{HEAD, HEAD_1, OPEN}
-use Rattle.sidecar_edit.specs.Fields.{IsMadeFor, Planned, head_of, total_in, writes_of}
+use Rattle.sidecar_edit.specs.Fields.{IsMadeFor, Planned, body_of, head_of, total_in, writes_of}
 use Rattle.sidecar_edit.specs.Gate.{first_breach, is_quiet, rules_of, state, unless_broken}
 use Rattle.sidecar_edit.specs.Recovery.{IsQuiet, recovered}
 use Rattle.sidecar_edit.specs.Writes.{Write, applied}
@@ -34,10 +34,9 @@ use Rattle.sidecar_edit.specs.Leaves.{IsEditing}
 use Rattle.sidecar_edit.proofs.GateLemmas.{both_image}
 use Rattle.edit_changes.specs.declared.refusal.Refusal.{Refusal}
 use Rattle.edit_changes.specs.Change.{and_then}
-use Rattle.edit_changes.specs.Plan.{edited, plan_of, recorded as record_for}
-use Rattle.edit_plan.specs.Record.{record_of}
+use Rattle.edit_changes.specs.Plan.{edited, recorded as record_for}
 use Rattle.edit_plan.proofs.RecordLemmas.{writes_of-recorded}
-use Rattle.mkv_propedit.specs.Left.{HasMadeCause, IsEdit, IsPropediting, IsUnderway, LeavesEdited, LeavesPlanned, StaysOpen}
+use Rattle.mkv_propedit.specs.Left.{HasMadeCause, IsBeingEdited, IsEdit, IsUnderway, LeavesEdited, LeavesPlanned, StaysOpen}
 use Rattle.mkv_propedit.specs.Propedit.{propedit_on, propedit_verdict, told, unless_begun}
 
 -- ---- a quiet sidecar
@@ -71,53 +70,56 @@ quiet-state s is = of (is_quiet (head_of s) (length s)) refl is
 
 -- ---- the record of edits, and the edited file
 
-module _ (M : List ℕ) (edits : List Edit) where
+module _ (M : List ℕ) (found : List ℕ → Result (List Write) Refusal) where
   abbrev record_from : Result (List Write) Refusal → Result Planned Refusal
   record_from r = and_then r (λ ws. Ok (record_for M ws))
 
   abbrev file_from : Result (List Write) Refusal → Result (List ℕ) Refusal
   file_from r = and_then r (λ ws. Ok (applied M ws))
 
-  pub record-edited : (p : Planned) → record_of M edits ≡ Ok p → edited M edits ≡ Ok (applied M (writes_of p))
-  record-edited p is = of (plan_of M edits) is
+  -- the writes that were recorded
+  record-writes : (p : Planned) → record_from (found M) ≡ Ok p → (ws : List Write) × (found M ≡ Ok ws) × (record_for M ws ≡ p)
+  record-writes p is = of (found M) refl is
     where
-      of : (r : Result (List Write) Refusal) → record_from r ≡ Ok p → file_from r ≡ Ok (applied M (writes_of p))
-      of (Ok ws) is =
-          let its : record_for M ws ≡ p = cc in
-          ap (λ (vs : List Write). Ok (applied M vs)) (sym (writes_of-recorded M ws) ∙ ap writes_of its)
-      of (Err r) is = absurd (cc)
+      of : (r : Result (List Write) Refusal) → found M ≡ r → record_from r ≡ Ok p → (ws : List Write) × (found M ≡ Ok ws) × (record_for M ws ≡ p)
+      of (Ok ws) made is = let its : record_for M ws ≡ p = cc in (ws, made, its)
+      of (Err r) made is = absurd (cc)
 
-  pub record-refused : (why : Refusal) → record_of M edits ≡ Err why → edited M edits ≡ Err why
-  record-refused why is = of (plan_of M edits) is
+  record-same : (p : Planned) (is : record_from (found M) ≡ Ok p) → writes_of p ≡ (record-writes p is).0
+  record-same p is = let all = record-writes p is in sym (ap writes_of all.2) ∙ writes_of-recorded M all.0
+
+  pub record-edited : (p : Planned) → record_from (found M) ≡ Ok p → file_from (found M) ≡ Ok (applied M (writes_of p))
+  record-edited p is =
+      ap file_from (record-writes p is).1 ∙ ap (λ (vs : List Write). Ok (applied M vs)) (sym (record-same p is))
+
+  pub record-refused : (why : Refusal) → record_from (found M) ≡ Err why → file_from (found M) ≡ Err why
+  record-refused why is = of (found M) is
     where
       of : (r : Result (List Write) Refusal) → record_from r ≡ Err why → file_from r ≡ Err why
       of (Ok ws) is = absurd (cc)
       of (Err r) is = let its : r ≡ why = cc in ap (λ (w : Refusal). Err w) its
 
-  pub record-made : (p : Planned) → record_of M edits ≡ Ok p → IsMadeFor p.head M
-  record-made p is = of (plan_of M edits) is
-    where
-      of : (r : Result (List Write) Refusal) → record_from r ≡ Ok p → IsMadeFor p.head M
-      of (Ok ws) is =
-          let its : record_for M ws ≡ p = cc in
-          subst (λ (q : Planned). IsMadeFor q.head M) its (record { len = refl; first = refl })
-      of (Err r) is = absurd (cc)
+  pub record-made : (p : Planned) → record_from (found M) ≡ Ok p → IsMadeFor p.head M
+  record-made p is = subst (λ (q : Planned). IsMadeFor q.head M) (record-writes p is).2 (record { len = refl; first = refl })
 
   -- a crash while its plan is carried out
-  pub underway : (S m s : List ℕ) (p : Planned) → state S ≡ Quiet → record_of M edits ≡ Ok p → IsEditing p M m s → IsUnderway edits M S m s
-  underway S m s p quiet is editing = record {
-    quiet = quiet;
-    plan = p;
-    planned = is;
-    stands = ⊎_elim (λ (was : recovered m s ≡ M). inl was) (λ (made : recovered m s ≡ applied M (writes_of p)). inr (record-edited p is ∙ ap (λ (f : List ℕ). Ok f) (sym made))) editing.stands;
-    recoverable = editing.recoverable;
-    sidecar = editing.sidecar;
-    no_shorter = editing.no_shorter;
-  }
+  pub underway : (S m s : List ℕ) (p : Planned) → state S ≡ Quiet → record_from (found M) ≡ Ok p → IsEditing p M m s → IsUnderway found M S m s
+  underway S m s p quiet is editing =
+      let all = record-writes p is in record {
+        quiet = quiet;
+        writes = all.0;
+        made = all.1;
+        stands = ⊎_elim (λ (was : recovered m s ≡ M). inl was) (λ (new : recovered m s ≡ applied M (writes_of p)). inr (new ∙ ap (λ (vs : List Write). applied M vs) (record-same p is))) editing.stands;
+        recoverable = editing.recoverable;
+        sidecar = subst (λ (q : Planned). IsQuiet s ⊎ (s ≡ OPEN ∷ body_of q)) (sym all.2) editing.sidecar;
+        no_shorter = editing.no_shorter;
+      }
 
   -- what its plan leaves when it has ended
-  pub leaves-planned : (S : List ℕ) (p : Planned) (s : Status) (q : Pair) → state S ≡ Quiet → record_of M edits ≡ Ok p → LeavesPlanned s p M S q → LeavesEdited s edits M S q
-  leaves-planned S p status.Done q quiet is leaves = record { quiet = quiet; file = applied M (writes_of p); made = record-edited p is; pair = leaves }
+  pub leaves-planned : (S : List ℕ) (p : Planned) (s : Status) (q : Pair) → state S ≡ Quiet → record_from (found M) ≡ Ok p → LeavesPlanned s p M S q → LeavesEdited s found M S q
+  leaves-planned S p status.Done q quiet is leaves =
+      let all = record-writes p is in
+      record { quiet = quiet; writes = all.0; made = all.1; pair = leaves ∙ ap (λ (vs : List Write). both (applied M vs) (0 ∷ [])) (record-same p is) }
   leaves-planned S p status.Warned q quiet is leaves = leaves
   leaves-planned S p status.Refused q quiet is leaves = leaves
   leaves-planned S p status.NoMemory q quiet is leaves = leaves
@@ -134,40 +136,40 @@ module _ {D : Type 0} (r : reads.Ghosts D) (d : Ghosts D) where
   pub stays-then : (old mid new : D) (n more : ℕ) → IsLeft r d old mid → r.octets_read mid ≤ r.octets_read old + n → StaysOpen r d mid new more → StaysOpen r d old new (n + more)
   stays-then old mid new n more left read later = record { opened = later.opened ∙ left.opened; octets = omega arith }
 
-module _ {D : Type 0} (d : Ghosts D) (edits : List Edit) where
+module _ {D : Type 0} (d : Ghosts D) (found : List ℕ → Result (List Write) Refusal) where
   abbrev pub Edits : D → D → Type 0
-  Edits old new = LeavesOnly d.moment d.left_since old new (IsPropediting edits (d.pair old).media.reads (d.pair old).sidecar.reads)
+  Edits old new = LeavesOnly d.moment d.left_since old new (IsBeingEdited found (d.pair old).media.reads (d.pair old).sidecar.reads)
 
   -- a call that leaves the pair
   pub left-moment : (old new : D) → IsSynced (d.pair old) → LeavesOnly d.moment d.left_since old new (IsPairImage (d.pair old)) → Edits old new
   left-moment old new synced run =
-      weaker d.moment d.left_since old new (IsPairImage (d.pair old)) (IsPropediting edits (d.pair old).media.reads (d.pair old).sidecar.reads)
+      weaker d.moment d.left_since old new (IsPairImage (d.pair old)) (IsBeingEdited found (d.pair old).media.reads (d.pair old).sidecar.reads)
       (λ m s image. inl (both_image (d.pair old) m s synced image)) run
 
   -- an edit behind a call that leaves the pair
-  pub edit-then : (old mid new : D) (s : Status) → AtRest d old → (IsTrue d.told → d.pair mid ≡ d.pair old) → (IsTrue d.told → LeavesOnly d.moment d.left_since old mid (IsPairImage (d.pair old))) → IsEdit d edits mid new s → IsEdit d edits old new s
+  pub edit-then : (old mid new : D) (s : Status) → AtRest d old → (IsTrue d.told → d.pair mid ≡ d.pair old) → (IsTrue d.told → LeavesOnly d.moment d.left_since old mid (IsPairImage (d.pair old))) → IsEdit d found mid new s → IsEdit d found old new s
   edit-then old mid new s rest pair run edit = record {
-    pair = λ told. subst (λ (p : Pair). LeavesEdited s edits p.media.reads p.sidecar.reads (d.pair new)) (pair told) (edit.pair told);
+    pair = λ told. subst (λ (p : Pair). LeavesEdited s found p.media.reads p.sidecar.reads (d.pair new)) (pair told) (edit.pair told);
     any_moment = λ told.
-        joined d.moment d.left_since old mid new (IsPropediting edits (d.pair old).media.reads (d.pair old).sidecar.reads) (left-moment old mid (rest told) (run told))
-        (subst (λ (p : Pair). LeavesOnly d.moment d.left_since mid new (IsPropediting edits p.media.reads p.sidecar.reads)) (pair told) (edit.any_moment told));
+        joined d.moment d.left_since old mid new (IsBeingEdited found (d.pair old).media.reads (d.pair old).sidecar.reads) (left-moment old mid (rest told) (run told))
+        (subst (λ (p : Pair). LeavesOnly d.moment d.left_since mid new (IsBeingEdited found p.media.reads p.sidecar.reads)) (pair told) (edit.any_moment told));
   }
 
   -- nothing was edited, and the pair is left
-  pub edit-none : (old new : D) (s : Status) → AtRest d old → ((M S : List ℕ) (p : Pair) → p ≡ both M S → LeavesEdited s edits M S p) → (IsTrue d.told → d.pair new ≡ d.pair old) → (IsTrue d.told → LeavesOnly d.moment d.left_since old new (IsPairImage (d.pair old))) → IsEdit d edits old new s
+  pub edit-none : (old new : D) (s : Status) → AtRest d old → ((M S : List ℕ) (p : Pair) → p ≡ both M S → LeavesEdited s found M S p) → (IsTrue d.told → d.pair new ≡ d.pair old) → (IsTrue d.told → LeavesOnly d.moment d.left_since old new (IsPairImage (d.pair old))) → IsEdit d found old new s
   edit-none old new s rest leaves pair run = record {
     pair = λ told. leaves (d.pair old).media.reads (d.pair old).sidecar.reads (d.pair new) (pair told ∙ rest told);
     any_moment = λ told. left-moment old new (rest told) (run told);
   }
 
   -- the same of a disk that isn't touched
-  pub edit-still : (old : D) (s : Status) → AtRest d old → ((M S : List ℕ) (p : Pair) → p ≡ both M S → LeavesEdited s edits M S p) → ((m t : List ℕ) → IsTrue d.told → d.left_since old (d.moment old) m t → IsPairImage (d.pair old) m t) → IsEdit d edits old old s
+  pub edit-still : (old : D) (s : Status) → AtRest d old → ((M S : List ℕ) (p : Pair) → p ≡ both M S → LeavesEdited s found M S p) → ((m t : List ℕ) → IsTrue d.told → d.left_since old (d.moment old) m t → IsPairImage (d.pair old) m t) → IsEdit d found old old s
   edit-still old s rest leaves only =
       edit-none old old s rest leaves (λ told. refl) (λ told. stays d.moment d.left_since old (IsPairImage (d.pair old)) (λ m t left. only m t told left))
 
   -- a refusal that is told, or couldn't be
-  pub refused-left : (line : List ℕ) (old new : ReportLines) (result : Result Status Stop) → SaysVerdict old new result (refused line) → (M S : List ℕ) (p : Pair) → p ≡ both M S → LeavesEdited (status_of result) edits M S p
-  refused-left line old new (Ok s) says M S p same = subst (λ (t : Status). LeavesEdited t edits M S p) (sym says.0) same
+  pub refused-left : (line : List ℕ) (old new : ReportLines) (result : Result Status Stop) → SaysVerdict old new result (refused line) → (M S : List ℕ) (p : Pair) → p ≡ both M S → LeavesEdited (status_of result) found M S p
+  refused-left line old new (Ok s) says M S p same = subst (λ (t : Status). LeavesEdited t found M S p) (sym says.0) same
   refused-left line old new (Err stop.Memory) says M S p same = same
   refused-left line old new (Err stop.Files) says M S p same = tt
   refused-left line old new (Err stop.Disk) says M S p same = tt
@@ -196,7 +198,7 @@ told-outputs : (name : List ℕ) (r : Result (List ℕ) Refusal) → (told name 
 told-outputs name (Ok file) = refl
 told-outputs name (Err why) = refl
 
-begun-outputs : (name : List ℕ) (gate : Gate) (v : Verdict) → v.outputs ≡ nothing → (unless_begun name gate v).outputs ≡ nothing
+pub begun-outputs : (name : List ℕ) (gate : Gate) (v : Verdict) → v.outputs ≡ nothing → (unless_begun name gate v).outputs ≡ nothing
 begun-outputs name Quiet v none = none
 begun-outputs name Live v none = refl
 begun-outputs name (Bad offset) v none = refl

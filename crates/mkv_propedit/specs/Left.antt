@@ -1,4 +1,4 @@
--- What `propedit` leaves of the disk.
+-- What an edit in place leaves of the disk, whatever it writes.
 use Rattle.std.specs.Prelude.{◌≡◌, ◌≢◌, ◌⊎◌, ◌≤◌, ◌+◌, ℕ, List, [], ◌∷◌, length, Some, Result, Ok, Err}
 use Rattle.mkv_io.specs.declared.reads.Reads as reads
 use Rattle.mkv_disk.specs.Calls.{AnyMoment, OfReads}
@@ -16,53 +16,59 @@ use Rattle.sidecar_edit.specs.declared.place.TheConstants.{OPEN}
 use Rattle.sidecar_edit.specs.Fields.{IsMadeFor, IsPlan, Planned, body_of, writes_of}
 use Rattle.sidecar_edit.specs.Gate.{state}
 use Rattle.sidecar_edit.specs.Recovery.{IsQuiet, recovered}
-use Rattle.sidecar_edit.specs.Writes.{applied}
+use Rattle.sidecar_edit.specs.Writes.{Write, applied}
 use Rattle.sidecar_edit.specs.Leaves.{IsRecoverable}
-use Rattle.edit_changes.specs.Plan.{edited}
-use Rattle.edit_plan.specs.Record.{record_of}
+use Rattle.edit_changes.specs.declared.refusal.Refusal.{Refusal}
+use Rattle.edit_changes.specs.Plan.{plan_of, recorded}
+
+-- ---- what is written
+
+-- what edits write to a file of a content, or what refuses them
+abbrev pub writes_of_edits : List Edit → List ℕ → Result (List Write) Refusal
+writes_of_edits edits M = plan_of M edits
 
 -- ---- when it has ended
 
--- No edit was pending, these aren't refused, and the medium is the edited file, beside a closed gate.
-pub record IsEdited (edits : List Edit) (M S : List ℕ) (p : Pair) : Type 0 where
+-- No edit was pending, these writes are found for the file, and the medium is the file with them, beside a closed gate.
+pub record IsEdited (found : List ℕ → Result (List Write) Refusal) (M S : List ℕ) (p : Pair) : Type 0 where
   pub quiet : state S ≡ Quiet
-  pub file : List ℕ
-  pub made : edited M edits ≡ Ok file
-  pub pair : p ≡ both file (0 ∷ [])
+  pub writes : List Write
+  pub made : found M ≡ Ok writes
+  pub pair : p ≡ both (applied M writes) (0 ∷ [])
 
 -- Where all is done, the file is edited; where it is refused, and without memory, nothing has changed.
-abbrev pub LeavesEdited : Status → List Edit → List ℕ → List ℕ → Pair → Type 0
-LeavesEdited status.Done edits M S p = IsEdited edits M S p
-LeavesEdited status.Outside edits M S p = Unit {0}
-LeavesEdited s edits M S p = p ≡ both M S
+abbrev pub LeavesEdited : Status → (List ℕ → Result (List Write) Refusal) → List ℕ → List ℕ → Pair → Type 0
+LeavesEdited status.Done found M S p = IsEdited found M S p
+LeavesEdited status.Outside found M S p = Unit {0}
+LeavesEdited s found M S p = p ≡ both M S
 
 -- ---- at any moment
 
--- No edit was pending, and these aren't refused. The two stand for the file as it was or as it is to be, and can be recovered; the
--- sidecar is quiet, or holds exactly the record of these edits; and the file is no shorter than it was.
-pub record IsUnderway (edits : List Edit) (M S m s : List ℕ) : Type 0 where
+-- No edit was pending, and these writes are found for the file. The two stand for the file as it was or with them, and can be
+-- recovered; the sidecar is quiet, or holds exactly their record; and the file is no shorter than it was.
+pub record IsUnderway (found : List ℕ → Result (List Write) Refusal) (M S m s : List ℕ) : Type 0 where
   pub quiet : state S ≡ Quiet
-  pub plan : Planned
-  pub planned : record_of M edits ≡ Ok plan
-  pub stands : (recovered m s ≡ M) ⊎ (edited M edits ≡ Ok (recovered m s))
+  pub writes : List Write
+  pub made : found M ≡ Ok writes
+  pub stands : (recovered m s ≡ M) ⊎ (recovered m s ≡ applied M writes)
   pub recoverable : IsRecoverable m s
-  pub sidecar : IsQuiet s ⊎ (s ≡ OPEN ∷ body_of plan)
+  pub sidecar : IsQuiet s ⊎ (s ≡ OPEN ∷ body_of (recorded M writes))
   pub no_shorter : length M ≤ length m
 
--- What a crash may leave of a file M beside a sidecar S while properties are edited: both as they were, or an edit that is underway.
-abbrev pub IsPropediting : List Edit → List ℕ → List ℕ → List ℕ → List ℕ → Type 0
-IsPropediting edits M S m s = ((m ≡ M) × (s ≡ S)) ⊎ IsUnderway edits M S m s
+-- What a crash may leave of a file M beside a sidecar S while it is edited: both as they were, or an edit that is underway.
+abbrev pub IsBeingEdited : (List ℕ → Result (List Write) Refusal) → List ℕ → List ℕ → List ℕ → List ℕ → Type 0
+IsBeingEdited found M S m s = ((m ≡ M) × (s ≡ S)) ⊎ IsUnderway found M S m s
 
 -- ---- both
 
--- What edits leave of the two files when they have ended, and what a crash leaves of them at any moment.
-pub record IsEdit {D : Type 0} (d : Ghosts D) (edits : List Edit) (old new : D) (s : Status) : Type 0 where
-  pub pair : OfReads d old (λ M S. LeavesEdited s edits M S (d.pair new))
-  pub any_moment : AnyMoment d old new (IsPropediting edits)
+-- What an edit leaves of the two files when it has ended, and what a crash leaves of them at any moment.
+pub record IsEdit {D : Type 0} (d : Ghosts D) (found : List ℕ → Result (List Write) Refusal) (old new : D) (s : Status) : Type 0 where
+  pub pair : OfReads d old (λ M S. LeavesEdited s found M S (d.pair new))
+  pub any_moment : AnyMoment d old new (IsBeingEdited found)
 
 -- The same of a name: the pair is open under it, or couldn't be opened.
-pub record IsEditOf {D : Type 0} (r : reads.Ghosts D) (d : Ghosts D) (name : List ℕ) (edits : List Edit) (old new : D) (s : Status) : Type 0 where
-  pub leaves : IsEdit d edits old new s
+pub record IsEditOf {D : Type 0} (r : reads.Ghosts D) (d : Ghosts D) (name : List ℕ) (found : List ℕ → Result (List Write) Refusal) (old new : D) (s : Status) : Type 0 where
+  pub leaves : IsEdit d found old new s
   pub opened : (d.opened new ≡ Some name) ⊎ IsUnopened r d name old new s
 
 -- The pair stays open under its name, and at most so many octets are read.

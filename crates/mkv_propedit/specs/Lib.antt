@@ -3,3 +3,4 @@ pub mod Left
 pub mod Propedit
 pub mod Recover
 pub mod Recovery
+pub mod Reindex

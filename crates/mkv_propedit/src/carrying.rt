@@ -6,7 +6,7 @@ ghost use Rattle.mkv_disk.specs.Pair.{both};
 ghost use Rattle.mkv_disk.specs.Calls.{AnyMoment, IsReady, Makes, OfReads};
 ghost use Rattle.mkv_disk.specs.Writing.{OnlyWrites};
 ghost use Rattle.mkv_lines.specs.Code.{status_of};
-ghost use Rattle.mkv_lines.specs.Line.{edited_line};
+ghost use Rattle.mkv_lines.specs.Line.{text_of};
 ghost use Rattle.mkv_lines.specs.Ordinary.{IsOrdinary};
 ghost use Rattle.mkv_lines.specs.Said.{SaysLast};
 ghost use Rattle.mkv_lines.specs.Verdict.{SaysVerdict, done};
@@ -16,17 +16,17 @@ ghost use Rattle.sidecar_edit.specs.Writes.{applied};
 ghost use Rattle.sidecar_edit.specs.Leaves.{IsEditing};
 ghost use Rattle.mkv_propedit.specs.Left.{IsPlannedFor, LeavesPlanned};
 
-use crate::telling::{edited_text, tell};
+use crate::telling::{line_text, tell};
 use mkv_disk::Disk;
 use mkv_io::Report;
-use mkv_lines::{Status, Stop};
+use mkv_lines::{Line, Status, Stop};
 use sidecar_edit::{DiskFault, Plan, commit, settle};
 use std::alloc::Global;
 
-/// Makes the edits of a plan beside a quiet sidecar, and says so. All memory is taken before anything is written.
+/// Makes the edits of a plan beside a quiet sidecar, and says so by a line. All memory is taken before anything is written.
 pub fn edit_planned<D: Disk, R: Report>(
     alloc: Global,
-    name: &str,
+    line: &Line,
     plan: &Plan,
     disk: &mut D,
     report: &mut R,
@@ -34,7 +34,7 @@ pub fn edit_planned<D: Disk, R: Report>(
     requires ready { IsReady D.Reads D.Disk.own disk.old }
     requires some { 1 ≤ length plan.now.head.places }
     requires planned { OfReads D.Disk.own disk.old (IsPlannedFor plan.now) }
-    ensures verdict { SaysVerdict (R.lines report.old) (R.lines report.new) result (done (edited_line name.now ∷ [])) }
+    ensures verdict { SaysVerdict (R.lines report.old) (R.lines report.new) result (done (text_of line.now ∷ [])) }
     ensures ordinary { IfOk result IsOrdinary }
     ensures pair { OfReads D.Disk.own disk.old (λ M S. LeavesPlanned (status_of result) plan.now M S (D.pair disk.new)) }
     ensures any_moment { AnyMoment D.Disk.own disk.old disk.new (λ M S m s. IsEditing plan.now M m s) }
@@ -42,7 +42,7 @@ pub fn edit_planned<D: Disk, R: Report>(
     ensures cause { HasDiskStop D.Reads D.Disk.own disk.old disk.new (R.faults report.old) (R.faults report.new) result }
     ensures last { SaysLast (R.lines report.old) (R.lines report.new) result }
 {
-    let Ok(edited) = edited_text(alloc, name) else {
+    let Ok(edited) = line_text(alloc, line) else {
         return Err(Stop::Memory);
     };
     let made = carry_out(plan, disk);

@@ -12,7 +12,7 @@ ghost use Rattle.mkv_propedit.specs.Recovery.{HasDiskStop};
 ghost use Rattle.sidecar_edit.specs.Gate.{state};
 ghost use Rattle.edit_changes.specs.Plan.{edited};
 ghost use Rattle.mkv_propedit.specs.Bound.{most_to_edit, most_to_plan};
-ghost use Rattle.mkv_propedit.specs.Left.{IsEdit, IsEditOf, StaysOpen};
+ghost use Rattle.mkv_propedit.specs.Left.{IsEdit, IsEditOf, StaysOpen, writes_of_edits};
 ghost use Rattle.mkv_propedit.specs.Propedit.{propedit_verdict, told, unless_begun};
 
 use crate::carrying::edit_planned;
@@ -38,7 +38,7 @@ pub fn propedit_of<D: Disk, R: Report>(
     ensures verdict { OfReads D.Disk.own disk.old (λ M S. SaysVerdict (R.lines report.old) (R.lines report.new) result
         (propedit_verdict (D.is_there disk.old name.now) name.now edits.now M S)) }
     ensures ordinary { IfOk result IsOrdinary }
-    ensures edit { IsEditOf D.Reads D.Disk.own name.now edits.now disk.old disk.new (status_of result) }
+    ensures edit { IsEditOf D.Reads D.Disk.own name.now (writes_of_edits edits.now) disk.old disk.new (status_of result) }
     ensures octets { OfReads D.Disk.own disk.old (λ M S.
         D.octets_read disk.new ≤ D.octets_read disk.old + most_to_edit (length M)) }
     ensures cause { HasDiskStop D.Reads D.Disk.own disk.old disk.new (R.faults report.old) (R.faults report.new) result }
@@ -64,7 +64,7 @@ fn edit_open<D: Disk, R: Report>(
     ensures verdict { OfReads D.Disk.own disk.old (λ M S. SaysVerdict (R.lines report.old) (R.lines report.new) result
         (unless_begun name.now (state S) (told name.now (edited M edits.now)))) }
     ensures ordinary { IfOk result IsOrdinary }
-    ensures edit { IsEdit D.Disk.own edits.now disk.old disk.new (status_of result) }
+    ensures edit { IsEdit D.Disk.own (writes_of_edits edits.now) disk.old disk.new (status_of result) }
     ensures stays { StaysOpen D.Reads D.Disk.own disk.old disk.new (most_to_edit (file_size D.Reads disk.old MEDIA)) }
     ensures cause { HasDiskStop D.Reads D.Disk.own disk.old disk.new (R.faults report.old) (R.faults report.new) result }
     ensures last { SaysLast (R.lines report.old) (R.lines report.new) result }
@@ -90,13 +90,13 @@ fn edit_quiet<D: Disk, R: Report>(
     ensures verdict { OfReads D.Disk.own disk.old (λ M S. SaysVerdict (R.lines report.old) (R.lines report.new) result
         (told name.now (edited M edits.now))) }
     ensures ordinary { IfOk result IsOrdinary }
-    ensures edit { IsEdit D.Disk.own edits.now disk.old disk.new (status_of result) }
+    ensures edit { IsEdit D.Disk.own (writes_of_edits edits.now) disk.old disk.new (status_of result) }
     ensures stays { StaysOpen D.Reads D.Disk.own disk.old disk.new (most_to_plan (file_size D.Reads disk.old MEDIA)) }
     ensures cause { HasDiskStop D.Reads D.Disk.own disk.old disk.new (R.faults report.old) (R.faults report.new) result }
     ensures last { SaysLast (R.lines report.old) (R.lines report.new) result }
 {
     match plan(alloc, disk, edits) {
-        Ok(plan) => edit_planned(alloc, name, &plan, disk, report),
+        Ok(plan) => edit_planned(alloc, &Line::Edited { name }, &plan, disk, report),
         Err(PlanEnd::Refused(why)) => refuse(alloc, &refusal_line(name, why), report),
         Err(PlanEnd::ReadFault) => Err(Stop::Disk),
         Err(PlanEnd::Memory) => Err(Stop::Memory),

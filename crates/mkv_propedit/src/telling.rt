@@ -2,7 +2,7 @@
 
 ghost use Rattle.std.specs.Prelude.{◌≡◌, [], ◌∷◌, IfOk};
 ghost use Rattle.std.specs.String.{string_bytes};
-ghost use Rattle.mkv_lines.specs.Line.{edited_line, text_of};
+ghost use Rattle.mkv_lines.specs.Line.{text_of};
 ghost use Rattle.mkv_lines.specs.Ordinary.{IsOrdinary};
 ghost use Rattle.mkv_lines.specs.Said.{SaysLast};
 ghost use Rattle.mkv_lines.specs.Verdict.{SaysVerdict, done};
@@ -15,11 +15,10 @@ use mkv_lines::{Line, Status, Stop, say_text};
 use sidecar_edit::DiskFault;
 use std::alloc::{AllocError, Global};
 
-/// The line of edits that are made.
-pub fn edited_text(alloc: Global, name: &str) -> Result<String, AllocError>
-    ensures { IfOk result (λ text. string_bytes text ≡ edited_line name.now) }
+/// The text of a line that is said once there is nothing left to fail.
+pub fn line_text(alloc: Global, line: &Line) -> Result<String, AllocError>
+    ensures { IfOk result (λ text. string_bytes text ≡ text_of line.now) }
 {
-    let line = Line::Edited { name };
     format!(in alloc; "{line}")
 }
 

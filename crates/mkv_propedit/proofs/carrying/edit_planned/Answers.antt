@@ -1,6 +1,6 @@
 use Rattle.std.proofs.Common.{◌∙◌, ℕ, List, [], ◌∷◌, sym, subst}
 use Rattle.mkv_disk.proofs.MomentsLemmas.{stays}
-use Rattle.mkv_lines.specs.Line.{edited_line}
+use Rattle.mkv_lines.specs.Line.{text_of}
 use Rattle.mkv_lines.specs.Verdict.{SaysVerdict, done}
 use Rattle.sidecar_edit.specs.Recovery.{IsQuiet}
 use Rattle.sidecar_edit.specs.Leaves.{IsEditing}
@@ -24,7 +24,7 @@ returns-in_default-clause-any_moment g c = λ told.
 pub returns-clause-pair : goal.returns-clause-pair
 returns-clause-pair g c = λ told.
     let d = g.D.Disk in let a = c.args.disk.now in
-    made-left (g.R.Report.faults c.args.report.now) (g.R.Report.faults c.tell.new.report) c.args.plan.now (d.pair a).media.reads (d.pair a).sidecar.reads (d.pair c.carry_out-made.new.disk) (edited_line c.args.name.now)
+    made-left (g.R.Report.faults c.args.report.now) (g.R.Report.faults c.tell.new.report) c.args.plan.now (d.pair a).media.reads (d.pair a).sidecar.reads (d.pair c.carry_out-made.new.disk) (text_of c.args.line.now)
     (g.R.Report.lines c.args.report.now) (g.R.Report.lines c.tell.new.report) c.carry_out-made.result c.tell.result (c.carry_out-made.ensures.ok told) c.tell.ensures.cause
     (subst (λ (line : List ℕ). SaysVerdict (g.R.Report.lines c.args.report.now) (g.R.Report.lines c.tell.new.report) c.tell.result (done (line ∷ []))) (c.deref.ensures ∙ c.in-Ok.ensures) c.tell.ensures.verdict)
 

@@ -15,7 +15,7 @@ use Rattle.sidecar_edit.specs.declared.place.TheConstants.{HEAD}
 use Rattle.sidecar_edit.specs.Gate.{state}
 use Rattle.edit_changes.specs.Plan.{edited}
 use Rattle.mkv_propedit.specs.Bound.{most_to_edit, most_to_plan}
-use Rattle.mkv_propedit.specs.Left.{StaysOpen}
+use Rattle.mkv_propedit.specs.Left.{StaysOpen, writes_of_edits}
 use Rattle.mkv_propedit.specs.Propedit.{told, unless_begun}
 use Rattle.mkv_propedit.proofs.PropeditLemmas.{edit-none, edit-then, reads-moment, refused-left, stays-then}
 use Rattle.mkv_propedit.proofs.editing.edit_open.Given.{Over}
@@ -66,7 +66,7 @@ returns-in-Ok-Quiet-clause-verdict g c = λ tells.
 pub returns-in-Ok-Quiet-clause-edit : goal.returns-in-Ok-Quiet-clause-edit
 returns-in-Ok-Quiet-clause-edit g c =
     let a = c.args.disk.now in let b = c.state.new.src in let same = c.state.ensures.only.standing in
-    edit-then g.D.Disk c.args.edits.now a b c.edit_quiet.new.disk (status_of c.edit_quiet.result) c.requires.at_rest (λ tells. (stands g a b same).pair) (reads g a b same) c.edit_quiet.ensures.edit
+    edit-then g.D.Disk (writes_of_edits c.args.edits.now) a b c.edit_quiet.new.disk (status_of c.edit_quiet.result) c.requires.at_rest (λ tells. (stands g a b same).pair) (reads g a b same) c.edit_quiet.ensures.edit
 
 pub returns-in-Ok-Quiet-clause-stays : goal.returns-in-Ok-Quiet-clause-stays
 returns-in-Ok-Quiet-clause-stays g c =
@@ -92,8 +92,8 @@ returns-in-Ok-Live-clause-verdict g c = λ tells.
 
 pub returns-in-Ok-Live-clause-edit : goal.returns-in-Ok-Live-clause-edit
 returns-in-Ok-Live-clause-edit g c =
-    let a = c.args.disk.now in let b = c.state.new.src in let same = c.state.ensures.only.standing in let edits = c.args.edits.now in
-    edit-none g.D.Disk edits a b (status_of c.refuse.result) c.requires.at_rest (refused-left g.D.Disk edits (pending_edit_line c.args.name.now) (g.R.Report.lines c.args.report.now) (g.R.Report.lines c.refuse.new.report) c.refuse.result c.refuse.ensures.verdict)
+    let a = c.args.disk.now in let b = c.state.new.src in let same = c.state.ensures.only.standing in let found = writes_of_edits c.args.edits.now in
+    edit-none g.D.Disk found a b (status_of c.refuse.result) c.requires.at_rest (refused-left g.D.Disk found (pending_edit_line c.args.name.now) (g.R.Report.lines c.args.report.now) (g.R.Report.lines c.refuse.new.report) c.refuse.result c.refuse.ensures.verdict)
     (λ tells. (stands g a b same).pair) (reads g a b same)
 
 pub returns-in-Ok-Live-clause-stays : goal.returns-in-Ok-Live-clause-stays
@@ -115,8 +115,8 @@ returns-in-Ok-Bad-clause-verdict g c = λ tells.
 
 pub returns-in-Ok-Bad-clause-edit : goal.returns-in-Ok-Bad-clause-edit
 returns-in-Ok-Bad-clause-edit g c =
-    let a = c.args.disk.now in let b = c.state.new.src in let same = c.state.ensures.only.standing in let edits = c.args.edits.now in
-    edit-none g.D.Disk edits a b (status_of c.refuse-in-Ok-Bad.result) c.requires.at_rest (refused-left g.D.Disk edits (bad_sidecar_line c.args.name.now c.in-Ok-Bad.offset) (g.R.Report.lines c.args.report.now) (g.R.Report.lines c.refuse-in-Ok-Bad.new.report) c.refuse-in-Ok-Bad.result c.refuse-in-Ok-Bad.ensures.verdict)
+    let a = c.args.disk.now in let b = c.state.new.src in let same = c.state.ensures.only.standing in let found = writes_of_edits c.args.edits.now in
+    edit-none g.D.Disk found a b (status_of c.refuse-in-Ok-Bad.result) c.requires.at_rest (refused-left g.D.Disk found (bad_sidecar_line c.args.name.now c.in-Ok-Bad.offset) (g.R.Report.lines c.args.report.now) (g.R.Report.lines c.refuse-in-Ok-Bad.new.report) c.refuse-in-Ok-Bad.result c.refuse-in-Ok-Bad.ensures.verdict)
     (λ tells. (stands g a b same).pair) (reads g a b same)
 
 pub returns-in-Ok-Bad-clause-stays : goal.returns-in-Ok-Bad-clause-stays
@@ -133,7 +133,7 @@ returns-in-Ok-Bad-clause-cause g c =
 pub returns-in-Err-clause-edit : goal.returns-in-Err-clause-edit
 returns-in-Err-clause-edit g c =
     let a = c.args.disk.now in let b = c.state.new.src in let same = c.state.ensures.only.standing in
-    edit-none g.D.Disk c.args.edits.now a b status.Outside c.requires.at_rest (λ M S p is. tt) (λ tells. (stands g a b same).pair) (reads g a b same)
+    edit-none g.D.Disk (writes_of_edits c.args.edits.now) a b status.Outside c.requires.at_rest (λ M S p is. tt) (λ tells. (stands g a b same).pair) (reads g a b same)
 
 pub returns-in-Err-clause-stays : goal.returns-in-Err-clause-stays
 returns-in-Err-clause-stays g c = looked g c.args.disk.now c.state.new.src c.state.ensures.only.standing c.state.ensures.octets

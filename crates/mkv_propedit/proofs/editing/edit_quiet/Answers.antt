@@ -11,7 +11,7 @@ use Rattle.sidecar_edit.specs.declared.held.Gate.TheVariants.{Quiet}
 use Rattle.sidecar_edit.specs.Gate.{state}
 use Rattle.edit_changes.specs.declared.refusal.Refusal.{Refusal}
 use Rattle.edit_plan.specs.Record.{record_of}
-use Rattle.mkv_propedit.specs.Left.{IsPlannedFor, IsPropediting}
+use Rattle.mkv_propedit.specs.Left.{IsBeingEdited, IsPlannedFor, writes_of_edits}
 use Rattle.mkv_propedit.specs.Propedit.{told}
 use Rattle.mkv_propedit.proofs.PropeditLemmas.{edit-none, edit-then, leaves-planned, quiet-state, reads-moment, record-edited, record-made, record-refused, refused-left, underway}
 use Rattle.mkv_propedit.proofs.editing.edit_quiet.Given.{Over}
@@ -46,7 +46,7 @@ edit_planned-requires-clause-planned g c = λ tells.
     let M = (g.D.Disk.pair a).media.reads in let S = (g.D.Disk.pair a).sidecar.reads in let plan = c.in-Ok.plan in
     subst (λ (p : Pair). IsPlannedFor plan p.media.reads p.sidecar.reads) (sym left.pair) (record {
       sound = c.in-Ok.ensures.sound;
-      made = record-made M c.args.edits.now plan (c.in-Ok.ensures.exact tells);
+      made = record-made M (writes_of_edits c.args.edits.now) plan (c.in-Ok.ensures.exact tells);
       quiet = quiet-state S (c.requires.quiet tells);
     })
 
@@ -54,7 +54,7 @@ pub returns-in-Ok-clause-verdict : goal.returns-in-Ok-clause-verdict
 returns-in-Ok-clause-verdict g c = λ tells.
     let M = (g.D.Disk.pair c.args.disk.now).media.reads in let edits = c.args.edits.now in
     let was = g.R.Report.lines c.args.report.now in let now = g.R.Report.lines c.edit_planned.new.report in
-    subst (λ (r : Result (List ℕ) Refusal). SaysVerdict was now c.edit_planned.result (told c.args.name.now r)) (sym (record-edited M edits c.in-Ok.plan (c.in-Ok.ensures.exact tells))) c.edit_planned.ensures.verdict
+    subst (λ (r : Result (List ℕ) Refusal). SaysVerdict was now c.edit_planned.result (told c.args.name.now r)) (sym (record-edited M (writes_of_edits edits) c.in-Ok.plan (c.in-Ok.ensures.exact tells))) c.edit_planned.ensures.verdict
 
 pub returns-in-Ok-clause-edit : goal.returns-in-Ok-clause-edit
 returns-in-Ok-clause-edit g c =
@@ -63,10 +63,11 @@ returns-in-Ok-clause-edit g c =
     let M = (d.pair b).media.reads in let S = (d.pair b).sidecar.reads in
     let quiet = λ (tells : IsTrue d.told). subst (λ (p : Pair). state p.sidecar.reads ≡ Quiet) (sym left.pair) (c.requires.quiet tells) in
     let is = λ (tells : IsTrue d.told). subst (λ (p : Pair). record_of p.media.reads edits ≡ Ok plan) (sym left.pair) (c.in-Ok.ensures.exact tells) in
-    edit-then d edits a b new (status_of c.edit_planned.result) c.requires.ready.at_rest (λ tells. left.pair) (reads g a b same) (record {
-      pair = λ tells. leaves-planned M edits S plan (status_of c.edit_planned.result) (d.pair new) (quiet tells) (is tells) (c.edit_planned.ensures.pair tells);
+    let found = writes_of_edits edits in
+    edit-then d found a b new (status_of c.edit_planned.result) c.requires.ready.at_rest (λ tells. left.pair) (reads g a b same) (record {
+      pair = λ tells. leaves-planned M found S plan (status_of c.edit_planned.result) (d.pair new) (quiet tells) (is tells) (c.edit_planned.ensures.pair tells);
       any_moment = λ tells.
-          weaker d.moment d.left_since b new _ (IsPropediting edits M S) (λ m s editing. inr (underway M edits S m s plan (quiet tells) (is tells) editing)) (c.edit_planned.ensures.any_moment tells);
+          weaker d.moment d.left_since b new _ (IsBeingEdited found M S) (λ m s editing. inr (underway M found S m s plan (quiet tells) (is tells) editing)) (c.edit_planned.ensures.any_moment tells);
     })
 
 pub returns-in-Ok-clause-stays : goal.returns-in-Ok-clause-stays
@@ -89,13 +90,14 @@ returns-in-Err-Refused-clause-verdict g c = λ tells.
     let why = c.in-Err-Refused.why in
     let gives : record_of M edits ≡ Err why = rw c.in-Err-Refused.field-0-is at (c.in-Err-Refused.ensures.exact tells) in
     let says = subst (λ (line : List ℕ). SaysVerdict was now c.refuse.result (refused line)) c.refusal_line.ensures c.refuse.ensures.verdict in
-    subst (λ (r : Result (List ℕ) Refusal). SaysVerdict was now c.refuse.result (told c.args.name.now r)) (sym (record-refused M edits why gives))
+    subst (λ (r : Result (List ℕ) Refusal). SaysVerdict was now c.refuse.result (told c.args.name.now r)) (sym (record-refused M (writes_of_edits edits) why gives))
     says
 
 pub returns-in-Err-Refused-clause-edit : goal.returns-in-Err-Refused-clause-edit
 returns-in-Err-Refused-clause-edit g c =
     let a = c.args.disk.now in let b = c.plan.new.disk in let same = c.plan.ensures.standing in let edits = c.args.edits.now in
-    edit-none g.D.Disk edits a b (status_of c.refuse.result) c.requires.ready.at_rest (refused-left g.D.Disk edits _ (g.R.Report.lines c.args.report.now) (g.R.Report.lines c.refuse.new.report) c.refuse.result c.refuse.ensures.verdict) (λ tells. (stands g a b same).pair) (reads g a b same)
+    let found = writes_of_edits edits in
+    edit-none g.D.Disk found a b (status_of c.refuse.result) c.requires.ready.at_rest (refused-left g.D.Disk found _ (g.R.Report.lines c.args.report.now) (g.R.Report.lines c.refuse.new.report) c.refuse.result c.refuse.ensures.verdict) (λ tells. (stands g a b same).pair) (reads g a b same)
 
 pub returns-in-Err-Refused-clause-cause : goal.returns-in-Err-Refused-clause-cause
 returns-in-Err-Refused-clause-cause g c =
@@ -108,12 +110,12 @@ returns-in-Err-Refused-clause-cause g c =
 pub returns-in-Err-ReadFault-clause-edit : goal.returns-in-Err-ReadFault-clause-edit
 returns-in-Err-ReadFault-clause-edit g c =
     let a = c.args.disk.now in let b = c.plan.new.disk in let same = c.plan.ensures.standing in
-    edit-none g.D.Disk c.args.edits.now a b status.Outside c.requires.ready.at_rest (λ M S p is. tt) (λ tells. (stands g a b same).pair) (reads g a b same)
+    edit-none g.D.Disk (writes_of_edits c.args.edits.now) a b status.Outside c.requires.ready.at_rest (λ M S p is. tt) (λ tells. (stands g a b same).pair) (reads g a b same)
 
 pub returns-in-Err-Memory-clause-edit : goal.returns-in-Err-Memory-clause-edit
 returns-in-Err-Memory-clause-edit g c =
     let a = c.args.disk.now in let b = c.plan.new.disk in let same = c.plan.ensures.standing in
-    edit-none g.D.Disk c.args.edits.now a b status.NoMemory c.requires.ready.at_rest (λ M S p is. is) (λ tells. (stands g a b same).pair) (reads g a b same)
+    edit-none g.D.Disk (writes_of_edits c.args.edits.now) a b status.NoMemory c.requires.ready.at_rest (λ M S p is. is) (λ tells. (stands g a b same).pair) (reads g a b same)
 
 pub returns-in-Err-ReadFault-clause-stays : goal.returns-in-Err-ReadFault-clause-stays
 returns-in-Err-ReadFault-clause-stays g c = record { opened = (stands g c.args.disk.now c.plan.new.disk c.plan.ensures.standing).opened; octets = c.plan.ensures.octets }

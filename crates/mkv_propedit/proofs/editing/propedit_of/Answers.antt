@@ -7,6 +7,7 @@ use Rattle.mkv_lines.specs.Verdict.{SaysVerdict}
 use Rattle.mkv_propedit.proofs.RecoverLemmas.{refused-status, stop-then, there}
 use Rattle.sidecar_edit.specs.Gate.{state}
 use Rattle.edit_changes.specs.Plan.{edited}
+use Rattle.mkv_propedit.specs.Left.{writes_of_edits}
 use Rattle.mkv_propedit.specs.Propedit.{propedit_verdict, told, unless_begun}
 use Rattle.mkv_propedit.proofs.PropeditLemmas.{edit-none, edit-then, refused-left}
 use Rattle.mkv_propedit.proofs.editing.propedit_of.Goals as goal
@@ -30,7 +31,7 @@ returns-in-Ok-clause-verdict g c = λ tells.
 
 pub returns-in-Ok-clause-edit : goal.returns-in-Ok-clause-edit
 returns-in-Ok-clause-edit g c = record {
-  leaves = edit-then g.D.Disk c.args.edits.now c.args.disk.now c.open_pair.new.self c.edit_open.new.disk (status_of c.edit_open.result) c.requires c.open_pair.ensures.pair c.open_pair.ensures.any_moment c.edit_open.ensures.edit;
+  leaves = edit-then g.D.Disk (writes_of_edits c.args.edits.now) c.args.disk.now c.open_pair.new.self c.edit_open.new.disk (status_of c.edit_open.result) c.requires c.open_pair.ensures.pair c.open_pair.ensures.any_moment c.edit_open.ensures.edit;
   opened = inl (c.edit_open.ensures.stays.opened ∙ c.in-Ok.ensures.opened);
 }
 
@@ -58,11 +59,11 @@ returns-in-Err-Missing-clause-verdict g c = λ tells.
 
 pub returns-in-Err-Missing-clause-edit : goal.returns-in-Err-Missing-clause-edit
 returns-in-Err-Missing-clause-edit g c =
-    let a = c.args.disk.now in let b = c.open_pair.new.self in let edits = c.args.edits.now in
+    let a = c.args.disk.now in let b = c.open_pair.new.self in let found = writes_of_edits c.args.edits.now in
     let line = missing_line c.args.name.now in
     let was = g.R.Report.lines c.args.report.now in let now = g.R.Report.lines c.refuse.new.report in
     record {
-      leaves = edit-none g.D.Disk edits a b (status_of c.refuse.result) c.requires (refused-left g.D.Disk edits line was now c.refuse.result c.refuse.ensures.verdict) c.open_pair.ensures.pair c.open_pair.ensures.any_moment;
+      leaves = edit-none g.D.Disk found a b (status_of c.refuse.result) c.requires (refused-left g.D.Disk found line was now c.refuse.result c.refuse.ensures.verdict) c.open_pair.ensures.pair c.open_pair.ensures.any_moment;
       opened = inr record {
         standing = c.in-Err-Missing.ensures.err;
         not_done = refused-status line was now c.refuse.result c.refuse.ensures.verdict;
@@ -72,12 +73,12 @@ returns-in-Err-Missing-clause-edit g c =
 
 pub returns-in-Err-Failed-clause-edit : goal.returns-in-Err-Failed-clause-edit
 returns-in-Err-Failed-clause-edit g c = record {
-  leaves = edit-none g.D.Disk c.args.edits.now c.args.disk.now c.open_pair.new.self status.Outside c.requires (λ M S p same. tt) c.open_pair.ensures.pair c.open_pair.ensures.any_moment;
+  leaves = edit-none g.D.Disk (writes_of_edits c.args.edits.now) c.args.disk.now c.open_pair.new.self status.Outside c.requires (λ M S p same. tt) c.open_pair.ensures.pair c.open_pair.ensures.any_moment;
   opened = inr record { standing = c.in-Err-Failed.ensures.err; not_done = λ is. absurd (cc); missing = λ is tells. absurd (cc) };
 }
 
 pub returns-in-Err-Memory-clause-edit : goal.returns-in-Err-Memory-clause-edit
 returns-in-Err-Memory-clause-edit g c = record {
-  leaves = edit-none g.D.Disk c.args.edits.now c.args.disk.now c.open_pair.new.self status.NoMemory c.requires (λ M S p same. same) c.open_pair.ensures.pair c.open_pair.ensures.any_moment;
+  leaves = edit-none g.D.Disk (writes_of_edits c.args.edits.now) c.args.disk.now c.open_pair.new.self status.NoMemory c.requires (λ M S p same. same) c.open_pair.ensures.pair c.open_pair.ensures.any_moment;
   opened = inr record { standing = c.in-Err-Memory.ensures.err; not_done = λ is. absurd (cc); missing = λ is tells. absurd (cc) };
 }

@@ -1,0 +1,41 @@
+-- What `reindex` comes to: its status and its lines.
+use Rattle.std.specs.Prelude.{ℕ, ◌+◌, ◌*◌, Bool, if◌then◌else◌, List, [], ◌∷◌, length, Result, Ok, Err}
+use Rattle.mkv_lines.specs.Line.{missing_line, reindexed_line}
+use Rattle.mkv_lines.specs.Verdict.{Verdict, done, refused}
+use Rattle.sidecar_edit.specs.declared.place.TheConstants.{HEAD, KEPT}
+use Rattle.sidecar_edit.specs.Gate.{state}
+use Rattle.sidecar_edit.specs.Writes.{Write}
+use Rattle.edit_changes.specs.Change.{and_then}
+use Rattle.edit_changes.specs.declared.refusal.Refusal.{Refusal}
+use Rattle.reindex.specs.Plan.{Index, index_of}
+use Rattle.mkv_propedit.specs.Propedit.{refusal_text, unless_begun}
+use Rattle.mkv_propedit.specs.Recover.{DiskWorld}
+
+-- ---- what it comes to
+
+-- what a new index writes to a file of a content, or what refuses it
+abbrev pub writes_of_index : List ℕ → Result (List Write) Refusal
+writes_of_index M = and_then (index_of M) (λ x. Ok x.writes)
+
+-- what is told of a file, by what its new index comes to
+abbrev pub indexed_told : List ℕ → Result Index Refusal → Verdict
+indexed_told name (Ok x) = done (reindexed_line name (length x.points) ∷ [])
+indexed_told name (Err why) = refused (refusal_text name why)
+
+-- what `reindex` comes to: by whether there is a medium of the name, and by what it and its sidecar read
+abbrev pub reindex_verdict : Bool → List ℕ → List ℕ → List ℕ → Verdict
+reindex_verdict is_there name media sidecar =
+    if is_there then unless_begun name (state sidecar) (indexed_told name (index_of media)) else refused (missing_line name)
+
+-- what it comes to over a disk that tells all
+abbrev pub reindex_on : DiskWorld → List ℕ → Verdict
+reindex_on world name = reindex_verdict (world.is_there name) name world.media world.sidecar
+
+-- ---- how much is read
+
+-- what may be read to plan a new index of a file of so many octets, and to write it in place
+abbrev pub most_to_index : ℕ → ℕ
+most_to_index octets = 34 * octets + KEPT
+
+abbrev pub most_to_reindex : ℕ → ℕ
+most_to_reindex octets = HEAD + most_to_index octets
