@@ -11,4 +11,5 @@ mod ChapterLemmas
 mod PartLemmas
 mod DocumentLemmas
 mod OutputLemmas
+mod ExactLemmas
 pub mod MergeLemmas

@@ -1,6 +1,6 @@
 -- What is written of a merge holds it.
 use Rattle.std.proofs.Common.{◌≡◌, ◌≢◌, ◌≤◌, ℕ, false, List, [], ◌∷◌, length, map, Option, Some, Result, Ok, Err, IfOk, refl, sym, ap, ap₂, ◌∙◌}
-use Rattle.std.specs.List.{All, AllZip}
+use Rattle.std.specs.List.{All}
 use Rattle.std.specs.Str.{IsUtf8}
 use Rattle.std.proofs.lemmas.List.{length-map}
 use Rattle.std.proofs.lemmas.List.Elements.{All-head, All-tail}
@@ -20,9 +20,9 @@ use Rattle.output_laws.proofs.AreaLemmas.{length-area_of}
 use Rattle.cues_seekhead.specs.Draft.{draft_of}
 use Rattle.cues_seekhead.proofs.LayoutLemmas.{draft-layout}
 use Rattle.merge_model.specs.Lanes.{lane_blocks}
-use Rattle.output_laws.specs.Lanes.{blocks_read, lanes_read}
+use Rattle.output_laws.specs.Lanes.{lanes_read}
+use Rattle.output_laws.specs.Places.{block_in_place}
 use Rattle.output_laws.proofs.AgainLemmas.{lanes-again}
-use Rattle.output_laws.proofs.OrderLemmas.{order-again}
 use Rattle.splitter.specs.Sections.{Part}
 use Rattle.remux_plan.specs.Parts.{PlannedOutput, name_of}
 use Rattle.remuxer.specs.Output.{drafts_of}
@@ -42,33 +42,25 @@ use Rattle.mkv_lines.specs.Seen.{Seen}
 use Rattle.mkv_lines.specs.Verdict.{IsDone}
 use Rattle.mkv_lines.specs.declared.status.Status.{Status}
 use Rattle.mkv_lines.specs.declared.status.Status.TheVariants as status
-use Rattle.merged_outputs.specs.Merge.{Holds, HoldsLanes, IsMerged, lanes_selected, named}
+use Rattle.merged_outputs.specs.Merge.{Holds, HoldsLanes, IsMerged, laid_out, lanes_selected}
 use Rattle.merged_outputs.specs.Sources.{AreSources, HoldsOctets}
 use Rattle.merged_outputs.proofs.DocumentLemmas.{document-ids, document-plain, document-scale, document-sound, document_with}
+use Rattle.merged_outputs.proofs.ExactLemmas.{blocks-exact}
 use Rattle.merged_outputs.proofs.LaneLemmas.{lanes-free}
 use Rattle.merged_outputs.proofs.LoadLemmas.{loads-kept}
-use Rattle.merged_outputs.proofs.OutputLemmas.{IsPartOf, output_with, outputs-hold}
+use Rattle.merged_outputs.proofs.OutputLemmas.{IsPartOf, output_with, outputs-hold, outputs-parts}
 use Rattle.merged_outputs.proofs.SourceLemmas.{sources-read}
 
 -- ---- lists of outputs
-
-abbrev layouts : List PlannedOutput → List (List ℕ)
-layouts outputs = map (λ (o : PlannedOutput). layout o.document) outputs
-
--- what holds of each output with the octets of its document
-zip-layouts : (R : PlannedOutput → List ℕ → Type 0) (outputs : List PlannedOutput) → All (λ (o : PlannedOutput). R o (layout o.document)) outputs → AllZip R outputs (layouts outputs)
-zip-layouts R [] each = tt
-zip-layouts R (o ∷ os) each =
-    (All-head (λ (x : PlannedOutput). R x (layout x.document)) o os each, zip-layouts R os (All-tail (λ (x : PlannedOutput). R x (layout x.document)) o os each))
 
 -- the draft of an output becomes these
 abbrev Becomes : PlannedOutput → Type 0
 Becomes o = patched (opened o.document) (draft_of o.name o.document).patches ≡ layout o.document
 
-drafts-named : (outputs : List PlannedOutput) → All Becomes outputs → outputs_of_drafts (drafts_of outputs) ≡ named outputs (layouts outputs)
-drafts-named [] become = refl
-drafts-named (o ∷ os) become =
-    ap₂ (λ (content : List ℕ) (others : List Output). record { name = o.name; content = content } ∷ others) (All-head Becomes o os become) (drafts-named os (All-tail Becomes o os become))
+drafts-laid : (outputs : List PlannedOutput) → All Becomes outputs → outputs_of_drafts (drafts_of outputs) ≡ map laid_out outputs
+drafts-laid [] become = refl
+drafts-laid (o ∷ os) become =
+    ap₂ (λ (content : List ℕ) (others : List Output). record { name = o.name; content = content } ∷ others) (All-head Becomes o os become) (drafts-laid os (All-tail Becomes o os become))
 
 -- ---- what is written
 
@@ -83,11 +75,10 @@ module _ (words : MergeWords) (sources : List Source) (sound : IsSoundMerge word
     holds-one : Holds words (output_with words sources number files part) (layout document)
     holds-one short =
         let good = sound-one short in
-        let events = file_events false (layout document) (header_of_segment document) in
         record {
           document = layout-read document good;
           plain = document-plain words sources sound texts are;
-          order = ap (λ s. blocks_read s events) (sym (document-scale words sources sound texts are number)) ∙ order-again document (limits_of words) part.blocks good refl;
+          blocks = blocks-exact document (limits_of words) part.blocks good refl ∙ ap (λ (s : ℕ). map (block_in_place s 0) part.blocks) (document-scale words sources sound texts are number);
         }
 
     lanes-one : HoldsLanes words sources (output_with words sources number files part) (layout document)
@@ -114,8 +105,8 @@ module _ (words : MergeWords) (sources : List Source) (sound : IsSoundMerge word
   layouts-hold_lanes : All (λ (o : PlannedOutput). HoldsLanes words sources o (layout o.document)) (outputs_of words sources)
   layouts-hold_lanes = outputs-hold words sources sound are (λ (o : PlannedOutput). HoldsLanes words sources o (layout o.document)) have lanes-one
 
-  drafts-become : outputs_of_drafts (drafts_of (outputs_of words sources)) ≡ named (outputs_of words sources) (layouts (outputs_of words sources))
-  drafts-become = drafts-named (outputs_of words sources) (outputs-hold words sources sound are Becomes have becomes-one)
+  drafts-become : outputs_of_drafts (drafts_of (outputs_of words sources)) ≡ map laid_out (outputs_of words sources)
+  drafts-become = drafts-laid (outputs_of words sources) (outputs-hold words sources sound are Becomes have becomes-one)
 
 -- ---- a verdict that was reached
 
@@ -132,11 +123,12 @@ verdict-merged world words old new s told holds sound texts found other = split 
         record {
           sources = sources;
           taken = is;
-          contents = layouts outputs;
+          records = have;
           written = done.names ∙ ap (λ names. with_outputs names (outputs_of_drafts (drafts_of outputs))) told
               ∙ ap (with_outputs (Some world)) (drafts-become words sources sound texts are have);
-          holds = zip-layouts (Holds words) outputs (layouts-hold words sources sound texts are have);
-          lanes = zip-layouts (HoldsLanes words sources) outputs (layouts-hold_lanes words sources sound texts are have);
+          holds = layouts-hold words sources sound texts are have;
+          lanes = layouts-hold_lanes words sources sound texts are have;
+          parts = outputs-parts words sources;
           loads = loads-kept words sources sound;
         }
 

@@ -4,6 +4,7 @@ use Rattle.std.specs.List.{All, enumerate_from}
 use Rattle.std.proofs.lemmas.List.Elements.{All-nil, All-cons, All-head, All-map, All-tail, All-weaker}
 use Rattle.tree_format.specs.Node.{Node}
 use Rattle.output_model.specs.Cued.{document_of}
+use Rattle.output_model.specs.OutputBlock.{OutputBlock}
 use Rattle.output_laws.proofs.MergedClusterLemmas.{IsOf, merged-of}
 use Rattle.splitter.specs.Sections.{Part}
 use Rattle.splitter.specs.Words.{size_of, spec_of}
@@ -20,11 +21,11 @@ use Rattle.mkv_merge.specs.Merge.{blocks_of, chapters_in, output_at, outputs_of,
 use Rattle.mkv_merge.specs.Read.{is_split}
 use Rattle.mkv_merge.specs.Records.{HaveRecords, IsFilled}
 use Rattle.merged_outputs.specs.Laws.{WholeMergesAreOne, name_and_blocks}
-use Rattle.merged_outputs.specs.Merge.{lanes_selected}
+use Rattle.merged_outputs.specs.Merge.{ArePartsOf, lanes_selected}
 use Rattle.merged_outputs.specs.Sources.{AreSources}
 use Rattle.merged_outputs.proofs.DocumentLemmas.{document_with}
 use Rattle.merged_outputs.proofs.LaneLemmas.{lanes-sound}
-use Rattle.merged_outputs.proofs.PartLemmas.{parts-sound}
+use Rattle.merged_outputs.proofs.PartLemmas.{blocks_by_part, parts-cut, parts-sound}
 
 -- ---- what isn't split
 
@@ -44,6 +45,22 @@ pub one-output : WholeMergesAreOne
 one-output words sources whole =
     ap (λ (ps : List Part). map name_and_blocks (map (output_at words sources) (enumerate_from 1 ps))) (one-part words sources whole)
     ∙ ap (λ (o : Option SplitWords). (name_of (is_some o) words.output 1, blocks_of words sources) ∷ []) whole
+
+-- ---- all together
+
+-- the blocks of outputs, output by output
+abbrev blocks_by_output : List PlannedOutput → List (List OutputBlock)
+blocks_by_output outputs = map (λ (o : PlannedOutput). o.blocks) outputs
+
+blocks-numbered : (words : MergeWords) (sources : List Source) (number : ℕ) (ps : List Part) → blocks_by_output (map (output_at words sources) (enumerate_from number ps)) ≡ blocks_by_part ps
+blocks-numbered words sources number [] = refl
+blocks-numbered words sources number (p ∷ ps) = ap (λ (more : List (List OutputBlock)). p.blocks ∷ more) (blocks-numbered words sources (number + 1) ps)
+
+-- The outputs are the parts of the merged list.
+pub outputs-parts : (words : MergeWords) (sources : List Source) → ArePartsOf (split_of words sources) (blocks_of words sources) (blocks_by_output (outputs_of words sources))
+outputs-parts words sources =
+    subst (ArePartsOf (split_of words sources) (blocks_of words sources)) (sym (blocks-numbered words sources 1 (parts_of words sources)))
+    (parts-cut (split_of words sources) (blocks_of words sources))
 
 -- ---- each output
 

@@ -1,12 +1,33 @@
--- The blocks of a part of a merged list are sound, where those of the list are.
-use Rattle.std.proofs.Common.{ℕ, ◌+◌, ◌-◌, Bool, true, false, if◌then◌else◌, List, [], ◌∷◌, length, map, flat_map, length-append, sym, subst, arith}
-use Rattle.std.specs.List.{All}
+-- The parts of a merged list are those of its sections that are written, and their blocks are sound, where those of the list are.
+use Rattle.std.proofs.Common.{◌≡◌, ap, refl, ℕ, ◌+◌, ◌-◌, Bool, true, false, if◌then◌else◌, List, [], ◌∷◌, length, map, flat_map, length-append, sym, subst, arith}
+use Rattle.std.specs.List.{All, filter}
 use Rattle.std.proofs.lemmas.List.{get_or-append-add, get_or_append_left}
 use Rattle.std.proofs.lemmas.List.Elements.{All-nil, All-cons, All-head, All-map, All-tail, All-weaker}
 use Rattle.output_model.specs.OutputBlock.{OutputBlock}
 use Rattle.output_laws.proofs.MergedClusterLemmas.{IsOf, earlier-of}
 use Rattle.splitter.specs.Sections.{Part, Section, Split, in_part, is_written, next_start, part_of, parts, parts_in, sections}
 use Rattle.splitter.proofs.SectionLemmas.{sections-cut}
+use Rattle.merged_outputs.specs.Merge.{ArePartsOf, blocks_in_part}
+
+-- ---- the parts together
+
+-- the blocks of parts, part by part
+abbrev pub blocks_by_part : List Part → List (List OutputBlock)
+blocks_by_part ps = map (λ (p : Part). p.blocks) ps
+
+parts-written : (s : Split) (xs : List Section) → blocks_by_part (parts_in s xs) ≡ map blocks_in_part (filter (is_written s) xs)
+parts-written s [] = refl
+parts-written s (x ∷ xs) = of (is_written s x) (parts-written s xs)
+  where
+    of : (written : Bool) → blocks_by_part (parts_in s xs) ≡ map blocks_in_part (filter (is_written s) xs)
+        → blocks_by_part (if written then part_of x (next_start xs) ∷ parts_in s xs else parts_in s xs) ≡ map blocks_in_part (if written then x ∷ filter (is_written s) xs else filter (is_written s) xs)
+    of true rest = ap (λ (more : List (List OutputBlock)). blocks_in_part x ∷ more) rest
+    of false rest = rest
+
+pub parts-cut : (s : Split) (blocks : List OutputBlock) → ArePartsOf s blocks (blocks_by_part (parts s blocks))
+parts-cut s blocks = record { sections = sections s blocks; are = sections-cut s blocks; written = parts-written s (sections s blocks) }
+
+-- ---- what holds of each block
 
 module _ (lanes : ℕ) where
   -- sound blocks, each in one of the lanes

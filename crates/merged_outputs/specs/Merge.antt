@@ -1,6 +1,5 @@
 -- Contents that hold a merge.
-use Rattle.std.specs.Prelude.{◌≡◌, ◌≤◌, ⊤, ℕ, false, List, All, IfSome, Option, None, Some, Ok, length, map}
-use Rattle.std.specs.List.{AllZip, zip}
+use Rattle.std.specs.Prelude.{◌≡◌, ◌≤◌, ⊤, ℕ, false, List, All, IfSome, Option, None, Some, Ok, filter, length, map}
 use Rattle.mkv_io.specs.declared.outside.TheConstants.{LONGEST_FILE}
 use Rattle.mkv_io.specs.Names.{Names}
 use Rattle.mkv_io.specs.Told.{Told}
@@ -9,13 +8,18 @@ use Rattle.mkv_schema.specs.declared.ids.TheConstants.{CONTENT_ENCODINGS}
 use Rattle.tree_format.specs.Node.{Node}
 use Rattle.tree_format.specs.Values.{first_child}
 use Rattle.file_format.specs.Entry.{entries_of}
+use Rattle.block_format.specs.Block.{Block}
 use Rattle.block_format.specs.Events.{Event}
+use Rattle.block_format.specs.Events.{blocks_of as blocks_found}
 use Rattle.file_format.specs.FileBlocks.{file_events}
+use Rattle.output_model.specs.Document.{layout}
 use Rattle.output_model.specs.OutputBlock.{OutputBlock}
+use Rattle.output_laws.specs.Places.{block_in_place}
 use Rattle.output_laws.specs.Reading.{header_of_segment, IsReadAs}
 use Rattle.merge_model.specs.Lanes.{lane_blocks}
-use Rattle.output_laws.specs.Lanes.{blocks_read, lanes_read}
-use Rattle.splitter.specs.Sections.{Split, parts}
+use Rattle.output_laws.specs.Lanes.{lanes_read}
+use Rattle.splitter.specs.Laws.{AreSections}
+use Rattle.splitter.specs.Sections.{Section, Split, in_part, is_written, parts}
 use Rattle.splitter.specs.Words.{size_of}
 use Rattle.part_size.specs.Laws.{AllButLast, IsFull, IsSmall}
 use Rattle.remux_plan.specs.Parts.{PlannedOutput}
@@ -24,6 +28,7 @@ use Rattle.merge_plan.specs.Plan.{Source, lanes_given}
 use Rattle.mkv_args.specs.Words.{command}
 use Rattle.mkv_args.specs.declared.command.Command.TheVariants.{Merge}
 use Rattle.mkv_merge.specs.Merge.{blocks_of, outputs_of, sources_of, split_of}
+use Rattle.mkv_merge.specs.Records.{HaveRecords}
 use Rattle.mkv_lines.specs.declared.status.Status.{Status}
 use Rattle.mkv_lines.specs.declared.status.Status.TheVariants.{Done, Warned}
 use Rattle.merged_outputs.specs.Sources.{HoldsOctets}
@@ -39,6 +44,14 @@ lanes_selected words sources = map (lane_blocks words.scale) (lanes_given source
 abbrev pub events_read : PlannedOutput → List ℕ → List Event
 events_read o bytes = file_events false bytes (header_of_segment o.document)
 
+-- a block, wherever it stands
+abbrev pub without_place : Block → Block
+without_place b = record b { offset = 0 }
+
+-- the blocks that are read of such a content, wherever they stand
+abbrev pub blocks_held : PlannedOutput → List ℕ → List Block
+blocks_held o bytes = map without_place (blocks_found (events_read o bytes))
+
 -- no ContentEncodings stand in an entry, so the frames of its track are as they stand
 abbrev pub IsPlain : Node → Type 0
 IsPlain entry = first_child CONTENT_ENCODINGS entry ≡ None
@@ -47,11 +60,12 @@ IsPlain entry = first_child CONTENT_ENCODINGS entry ≡ None
 
 -- A content holds an output. Read by the format's definition, without a reader's limits, it is the output's document: undamaged,
 -- with its scale, its records, its Seeks, and its cue points, each at its block. The frames of its tracks are as they stand. The
--- blocks that it has are the output's, each once and in its order.
+-- blocks that it has are the output's, each once and in its order: with their frames, laces and flags, and with times, durations and
+-- references of so many nanoseconds as their ticks have.
 pub record HoldsOutput (words : MergeWords) (o : PlannedOutput) (bytes : List ℕ) : Type 0 where
   pub document : IsReadAs o.document bytes
   pub plain : All IsPlain (entries_of o.document.front.tracks)
-  pub order : blocks_read words.scale (events_read o bytes) ≡ o.blocks
+  pub blocks : blocks_held o bytes ≡ map (block_in_place words.scale 0) o.blocks
 
 -- So it is of a content of 2^48 octets at most.
 abbrev pub Holds : MergeWords → PlannedOutput → List ℕ → Type 0
@@ -62,9 +76,18 @@ abbrev pub HoldsLanes : MergeWords → List Source → PlannedOutput → List �
 HoldsLanes words sources o bytes =
     words.split ≡ None → length bytes ≤ LONGEST_FILE → lanes_read words.scale 1 (length (lanes_given sources)) (events_read o bytes) ≡ lanes_selected words sources
 
--- outputs with these contents, under their names
-abbrev pub named : List PlannedOutput → List (List ℕ) → List Output
-named outputs contents = map (λ (each : PlannedOutput × List ℕ). record { name = each.0.name; content = each.1 }) (zip outputs contents)
+-- ---- the parts
+
+-- the blocks of a section in the part that it is, whose ticks count from the section's start
+abbrev pub blocks_in_part : Section → List OutputBlock
+blocks_in_part x = map (in_part x.start) x.blocks
+
+-- The blocks of parts, part by part, come from a merged list: sections are that list, one behind the other, with cuts between them and
+-- nowhere else; and the parts are those of the sections that are written, in their order.
+pub record ArePartsOf (s : Split) (merged : List OutputBlock) (blocks : List (List OutputBlock)) : Type 0 where
+  pub sections : List Section
+  pub are : AreSections s merged sections
+  pub written : blocks ≡ map blocks_in_part (filter (is_written s) sections)
 
 -- Parts that end at a load: each but the last has come to the limit, and in each the load before each block at which it might be cut, so
 -- also before the last of them, is below it.
@@ -72,15 +95,23 @@ pub record KeepsLimit (s : Split) (blocks : List OutputBlock) (limit : ℕ) : Ty
   pub full : AllButLast (IsFull limit) (parts s blocks)
   pub small : All (IsSmall s limit) (parts s blocks)
 
--- A merge was written in a world of names: each of its outputs, the parts of its merged list, has a content that holds it; one that isn't
--- split holds all lanes; parts that end at a load keep its limit; and every other name has what it had before.
+-- ---- the whole
+
+-- an output as it is written: the octets of its document under its name
+abbrev pub laid_out : PlannedOutput → Output
+laid_out o = record { name = o.name; content = layout o.document }
+
+-- A merge was written in a world of names: its outputs are laid out, octet for octet, and every other name has what it had before. What
+-- the sources give besides tracks and blocks can be read again. Each output holds what it is to hold, and one that isn't split all
+-- lanes; together they are the parts of the merged list; and parts that end at a load keep its limit.
 pub record IsMerged (world : List ℕ → Option (List ℕ)) (words : MergeWords) (new : Names) : Type 0 where
   pub sources : List Source
   pub taken : sources_of world words ≡ Ok sources
-  pub contents : List (List ℕ)
-  pub written : new ≡ with_outputs (Some world) (named (outputs_of words sources) contents)
-  pub holds : AllZip (Holds words) (outputs_of words sources) contents
-  pub lanes : AllZip (HoldsLanes words sources) (outputs_of words sources) contents
+  pub records : HaveRecords sources
+  pub written : new ≡ with_outputs (Some world) (map laid_out (outputs_of words sources))
+  pub holds : All (λ (o : PlannedOutput). Holds words o (layout o.document)) (outputs_of words sources)
+  pub lanes : All (λ (o : PlannedOutput). HoldsLanes words sources o (layout o.document)) (outputs_of words sources)
+  pub parts : ArePartsOf (split_of words sources) (blocks_of words sources) (map (λ (o : PlannedOutput). o.blocks) (outputs_of words sources))
   pub loads : IfSome (size_of words.split) (KeepsLimit (split_of words sources) (blocks_of words sources))
 
 -- ---- a run
