@@ -1,11 +1,12 @@
 -- How runs end, and why.
 use Rattle.std.proofs.Math.Seq.{drop-cons}
-use Rattle.std.proofs.Common.{◌≡◌, ℕ, IsTrue, suc, ◌+◌, ◌<◌, length, drop, get_or, add-one, List, [], ◌∷◌, ◌++◌, Result, Ok, Err, inl, inr, Option, Some, None, ◌⊎◌, refl, sym, ◌∙◌, ap, subst}
+use Rattle.std.proofs.Common.{◌≡◌, ℕ, Bool, true, false, if◌then◌else◌, IsTrue, suc, ◌+◌, ◌<◌, ◌≤◌, length, drop, get_or, add-one, List, [], ◌∷◌, ◌++◌, Result, Ok, Err, inl, inr, Option, Some, None, ◌⊎◌, refl, sym, ◌∙◌, ap, subst, arith}
 use Rattle.mkv_io.specs.Faults.{HasRisen}
 use Rattle.mkv_io.specs.Lines.{with_lines}
 use Rattle.mkv_io.specs.Names.{Names}
+use Rattle.mkv_io.specs.Told.{Told}
 use Rattle.mkv_io.specs.declared.reads.Reads as reads
-use Rattle.mkv_disk.specs.Calls.{AnyMoment, AtRest}
+use Rattle.mkv_disk.specs.Calls.{AnyMoment, AtRest, OfReads}
 use Rattle.mkv_disk.specs.Moments.{LeavesOnly}
 use Rattle.mkv_disk.specs.Pair.{IsPairImage}
 use Rattle.mkv_disk.proofs.MomentsLemmas.{stays}
@@ -15,15 +16,15 @@ use Rattle.mkv_lines.specs.Said.{HasSayCause, ReportLines, Says, SaysLast, SaysP
 use Rattle.mkv_lines.specs.Verdict.{Reaches, StopsSaying, Verdict}
 use Rattle.mkv_lines.specs.Ordinary.{IsOrdinary}
 use Rattle.sidecar_edit.proofs.GateLemmas.{both_image}
-use Rattle.word_values.specs.declared.edit.Edit.{Edit}
+use Rattle.mkv_propedit.specs.Recover.{DiskWorld, disk_world}
 use Rattle.mkv_propedit.specs.Recovery.{HasDiskStop}
 use Rattle.mkv_propedit.proofs.RecoverLemmas.{recovery-still}
+use Rattle.mkv_propedit.specs.Left.{writes_of_edits}
+use Rattle.mkv_propedit.specs.Reindex.{writes_of_index}
 use Rattle.mkv_propedit.proofs.PropeditLemmas.{edit-still}
 use Rattle.mkv_run.specs.Ends.{Ends, SaysFault}
 use Rattle.mkv_run.specs.RunSeen.{HasRunStop, IsSilent, RunSeen}
-use Rattle.mkv_run.specs.Touched.{LeftOnTheWay, Reach, Touches, edited, files, nothing, reach_of, recovered}
-use Rattle.mkv_args.specs.declared.command.Command.{Command}
-use Rattle.mkv_args.specs.declared.command.Command.TheVariants as command
+use Rattle.mkv_run.specs.Touched.{IsInPlace, LeftOnTheWay, Reach, Touches, edited, files, indexed, nothing, recovered}
 use Rattle.mkv_lines.specs.declared.status.Status.{Status}
 use Rattle.mkv_lines.specs.declared.status.Status.TheVariants as status
 use Rattle.mkv_lines.specs.declared.status.Stop.{Stop}
@@ -108,6 +109,7 @@ silent-same nothing old new same = tt
 silent-same files old new same = tt
 silent-same (recovered file) old new same = same
 silent-same (edited file edits) old new same = same
+silent-same (indexed file) old new same = same
 
 -- a command over the disk, of a run that leaves the files
 module _ {D : Type 0} (r : reads.Ghosts D) (d : disks.Ghosts D) (a b : D) (reading writing before now : ℕ) (lines lines_now : ReportLines) (names : Names) where
@@ -158,56 +160,57 @@ touches-moment r d nothing before after was now s rest only touches = untouched 
 touches-moment r d files before after was now s rest only touches = untouched d was now rest only touches
 touches-moment r d (recovered name) before after was now s rest only touches = touches.1.leaves.any_moment
 touches-moment r d (edited name edits) before after was now s rest only touches = touches.1.leaves.any_moment
+touches-moment r d (indexed name) before after was now s rest only touches = touches.1.leaves.any_moment
 
 -- without memory nothing was touched, whatever was asked for
 pub touches-nothing : {F D : Type 0} (r : reads.Ghosts D) (d : disks.Ghosts D) (reach : Reach) (before : F) (disk : D)
-    → AtRest d disk → ((m s : List ℕ) → IsTrue d.told → d.left_since disk (d.moment disk) m s → IsPairImage (d.pair disk) m s) → Touches r d reach before before disk disk status.NoMemory
+    → (IsInPlace reach → AtRest d disk) → ((m s : List ℕ) → IsTrue d.told → d.left_since disk (d.moment disk) m s → IsPairImage (d.pair disk) m s) → Touches r d reach before before disk disk status.NoMemory
 touches-nothing r d (recovered name) before disk rest only = (
   refl,
   record {
-    leaves = recovery-still d disk status.NoMemory rest (λ M S p same. same) only;
+    leaves = recovery-still d disk status.NoMemory (rest tt) (λ M S p same. same) only;
     opened = inr record { standing = refl; not_done = λ is. absurd (cc); missing = λ is told. absurd (cc) };
   },
 )
 touches-nothing r d (edited name edits) before disk rest only = (
   refl,
   record {
-    leaves = edit-still d edits disk status.NoMemory rest (λ M S p same. same) only;
+    leaves = edit-still d (writes_of_edits edits) disk status.NoMemory (rest tt) (λ M S p same. same) only;
+    opened = inr record { standing = refl; not_done = λ is. absurd (cc); missing = λ is told. absurd (cc) };
+  },
+  tt,
+)
+touches-nothing r d (indexed name) before disk rest only = (
+  refl,
+  record {
+    leaves = edit-still d writes_of_index disk status.NoMemory (rest tt) (λ M S p same. same) only;
     opened = inr record { standing = refl; not_done = λ is. absurd (cc); missing = λ is told. absurd (cc) };
   },
 )
 touches-nothing r d nothing before disk rest only = (refl, refl)
 touches-nothing r d files before disk rest only = refl
 
--- what edits no file in place, and changes nothing
-module _ {F D : Type 0} (r : reads.Ghosts D) (d : disks.Ghosts D) (before : F) (disk : D) (s : Status) where
-  abbrev Stays : Command → Type 0
-  Stays c = Touches r d (reach_of c) before before disk disk s
+-- ---- how much is read
 
-  pub stays-untouched : (c : Command) → ((file : List ℕ) → c ≡ command.Recover file → ⊥) → ((file : List ℕ) (edits : List Edit) → c ≡ command.Propedit file edits → ⊥) → Stays c
-  stays-untouched (command.Help about) isnt other = (refl, refl)
-  stays-untouched command.Version isnt other = (refl, refl)
-  stays-untouched (command.Info file) isnt other = refl
-  stays-untouched (command.Identify file) isnt other = refl
-  stays-untouched (command.Recover file) isnt other = absurd (isnt file refl)
-  stays-untouched (command.Reindex file) isnt other = (refl, refl)
-  stays-untouched (command.Generate n prefix) isnt other = (refl, refl)
-  stays-untouched (command.Extract file job) isnt other = refl
-  stays-untouched (command.Propedit file edits) isnt other = absurd (other file edits refl)
-  stays-untouched (command.Merge words) isnt other = refl
+-- what is read of the files alone, or of the disk alone, is read of both together
+pub files-alone : (before now most other : ℕ) → now ≤ before + most → now + other ≤ before + other + most
+files-alone before now most other within = omega arith
 
--- what edits no file in place may say what it does
-pub stays-silent : (c : Command) (old new : ReportLines) → ((file : List ℕ) → c ≡ command.Recover file → ⊥) → ((file : List ℕ) (edits : List Edit) → c ≡ command.Propedit file edits → ⊥) → IsSilent (reach_of c) old new
-stays-silent (command.Help about) old new isnt other = tt
-stays-silent command.Version old new isnt other = tt
-stays-silent (command.Info file) old new isnt other = tt
-stays-silent (command.Identify file) old new isnt other = tt
-stays-silent (command.Recover file) old new isnt other = absurd (isnt file refl)
-stays-silent (command.Reindex file) old new isnt other = tt
-stays-silent (command.Generate n prefix) old new isnt other = tt
-stays-silent (command.Extract file job) old new isnt other = tt
-stays-silent (command.Propedit file edits) old new isnt other = absurd (other file edits refl)
-stays-silent (command.Merge words) old new isnt other = tt
+pub disk-alone : (before now most other : ℕ) → now ≤ before + most → other + now ≤ other + before + most
+disk-alone before now most other within = omega arith
+
+-- ---- what a disk tells
+
+-- a fact of what the medium reads is one of the world that the disk tells
+pub media-told : {D : Type 0} (d : disks.Ghosts D) (disk : D) (P : List ℕ → Type 0) → OfReads d disk (λ M S. P M) → Told (disk_world d disk) (λ world. P world.media)
+media-told d disk P so = by_told d.told so
+  where
+    world : DiskWorld
+    world = record { is_there = d.is_there disk; media = (d.pair disk).media.reads; sidecar = (d.pair disk).sidecar.reads }
+
+    by_told : (told : Bool) → (IsTrue told → P world.media) → Told (if told then Some world else None) (λ w. P w.media)
+    by_told true so = λ w is. let same : world ≡ w = cc in subst (λ (each : DiskWorld). P each.media) same (so refl)
+    by_told false so = λ w is. absurd (cc)
 
 -- ---- texts that are said one after the other
 

@@ -1,5 +1,6 @@
 pub mod Ends
 pub mod Exit
+pub mod Kept
 pub mod Run
 pub mod RunSeen
 pub mod Touched

@@ -1,5 +1,5 @@
 -- What the words of a command line come to.
-use Rattle.std.specs.Prelude.{◌≤◌, ⊤, IfOk, ℕ, ◌+◌, Bool, true, false, if◌then◌else◌, List, [], ◌∷◌, Option, Some, option_map, Result, Ok, Err}
+use Rattle.std.specs.Prelude.{◌≤◌, ⊤, IfOk, ℕ, ◌+◌, List, [], ◌∷◌, length, Option, Some, option_map, Result, Ok, Err}
 use Rattle.mkv_io.specs.Names.{Names}
 use Rattle.mkv_io.specs.Told.{Told}
 use Rattle.word_values.specs.Why.{why_name}
@@ -8,15 +8,18 @@ use Rattle.mkv_args.specs.Help.{usage_lines, version_line}
 use Rattle.mkv_args.specs.Words.{command}
 use Rattle.mkv_args.specs.declared.command.Command.{Command}
 use Rattle.mkv_args.specs.declared.command.Command.TheVariants.{Help, Version, Info, Identify, Recover, Reindex, Generate, Extract, Propedit, Merge}
-use Rattle.mkv_lines.specs.Line.{not_built_line, word_line}
+use Rattle.mkv_lines.specs.Line.{word_line}
 use Rattle.mkv_lines.specs.Verdict.{Verdict, done, refused}
 use Rattle.mkv_lines.specs.declared.status.Status.{Status}
 use Rattle.mkv_lines.specs.declared.status.Stop.{Stop}
 use Rattle.mkv_info.specs.Info.{info_verdict}
 use Rattle.mkv_info.specs.declared.info.Form.TheVariants.{Lines, Json}
+use Rattle.mkv_propedit.specs.Bound.{most_to_edit}
 use Rattle.mkv_propedit.specs.Recover.{DiskWorld, verdict_on}
 use Rattle.mkv_propedit.specs.Propedit.{propedit_on}
+use Rattle.mkv_propedit.specs.Reindex.{most_to_reindex, reindex_on}
 use Rattle.mkv_extract.specs.Extract.{extract_verdict}
+use Rattle.generator.specs.Generate.{generate_verdict}
 use Rattle.mkv_merge.specs.Bound.{most_read}
 use Rattle.mkv_merge.specs.Merge.{merge_verdict, sources_of}
 use Rattle.mkv_merge.specs.Records.{EndsWithRecords}
@@ -25,35 +28,19 @@ use Rattle.mkv_merge.specs.Records.{EndsWithRecords}
 abbrev pub usage_line : Usage → List ℕ
 usage_line usage = word_line usage.word (why_name usage.why)
 
--- Which commands are built, whatever their words are.
-abbrev pub is_built : Command → Bool
-is_built (Help about) = true
-is_built Version = true
-is_built (Info file) = true
-is_built (Identify file) = true
-is_built (Recover file) = true
-is_built (Reindex file) = false
-is_built (Generate n prefix) = false
-is_built (Extract file job) = true
-is_built (Propedit file edits) = true
-is_built (Merge words) = true
-
--- What a command that is built comes to, where the names tell, or for an edit in place the disk: its verdict is a function
--- of the whole world of names, or of all that the disk tells. What asks for no file needs none of them.
-abbrev pub built_verdict : Names → Option DiskWorld → Command → Option Verdict
-built_verdict names disk (Help about) = Some (done (usage_lines about))
-built_verdict names disk Version = Some (done (version_line ∷ []))
-built_verdict names disk (Info file) = option_map (λ world. info_verdict Lines world file) names
-built_verdict names disk (Identify file) = option_map (λ world. info_verdict Json world file) names
-built_verdict names disk (Recover file) = option_map (λ world. verdict_on world file) disk
-built_verdict names disk (Propedit file edits) = option_map (λ world. propedit_on world file edits) disk
-built_verdict names disk (Extract file job) = option_map (λ world. extract_verdict world file job) names
-built_verdict names disk (Merge words) = option_map (λ world. merge_verdict world words) names
-built_verdict names disk _ = Some (refused not_built_line)
-
--- what a command comes to; one that isn't built is refused
+-- What a command comes to, where the names tell, or for an edit in place the disk: its verdict is a function of the whole world of names, or
+-- of all that the disk tells. What asks for no file needs none of them.
 abbrev pub verdict_of : Names → Option DiskWorld → Command → Option Verdict
-verdict_of names disk command = if is_built command then built_verdict names disk command else Some (refused not_built_line)
+verdict_of names disk (Help about) = Some (done (usage_lines about))
+verdict_of names disk Version = Some (done (version_line ∷ []))
+verdict_of names disk (Info file) = option_map (λ world. info_verdict Lines world file) names
+verdict_of names disk (Identify file) = option_map (λ world. info_verdict Json world file) names
+verdict_of names disk (Recover file) = option_map (λ world. verdict_on world file) disk
+verdict_of names disk (Reindex file) = option_map (λ world. reindex_on world file) disk
+verdict_of names disk (Generate n prefix) = option_map (λ world. generate_verdict n prefix) names
+verdict_of names disk (Extract file job) = option_map (λ world. extract_verdict world file job) names
+verdict_of names disk (Propedit file edits) = option_map (λ world. propedit_on world file edits) disk
+verdict_of names disk (Merge words) = option_map (λ world. merge_verdict world words) names
 
 -- words that are no command are refused, whatever the outside tells
 abbrev pub verdict_after : Names → Option DiskWorld → Result Command Usage → Option Verdict
@@ -65,14 +52,17 @@ verdict_in names disk words = verdict_after names disk (command words)
 
 -- ---- how much is read
 
--- Of a merge the count of octets read rises by at most its bound, where the names tell. Of other commands no bound is stated.
-abbrev pub ReadsWithin : Names → Command → ℕ → ℕ → Type 0
-ReadsWithin names (Merge words) before now = Told names (λ world. now ≤ before + most_read world words)
-ReadsWithin names _ before now = ⊤
+-- Of a merge the count of octets read rises by at most its bound, where the names tell, and of edits in place by at most theirs, where the
+-- disk tells. Of other commands no bound is stated.
+abbrev pub ReadsWithin : Names → Option DiskWorld → Command → ℕ → ℕ → Type 0
+ReadsWithin names disk (Merge words) before now = Told names (λ world. now ≤ before + most_read world words)
+ReadsWithin names disk (Propedit file edits) before now = Told disk (λ world. now ≤ before + most_to_edit (length world.media))
+ReadsWithin names disk (Reindex file) before now = Told disk (λ world. now ≤ before + most_to_reindex (length world.media))
+ReadsWithin names disk _ before now = ⊤
 
 -- the same of the words of a command line; of words that are no command none is stated
-abbrev pub ReadsWithinIn : Names → List (List ℕ) → ℕ → ℕ → Type 0
-ReadsWithinIn names words before now = IfOk (command words) (λ (c : Command). ReadsWithin names c before now)
+abbrev pub ReadsWithinIn : Names → Option DiskWorld → List (List ℕ) → ℕ → ℕ → Type 0
+ReadsWithinIn names disk words before now = IfOk (command words) (λ (c : Command). ReadsWithin names disk c before now)
 
 -- ---- the records of a merge
 

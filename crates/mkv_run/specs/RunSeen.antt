@@ -12,7 +12,7 @@ use Rattle.mkv_lines.specs.declared.status.Status.{Status}
 use Rattle.mkv_lines.specs.declared.status.Status.TheVariants as status
 use Rattle.mkv_lines.specs.declared.status.Stop.{Stop}
 use Rattle.mkv_lines.specs.declared.status.Stop.TheVariants as stop
-use Rattle.mkv_run.specs.Touched.{Reach, edited, recovered}
+use Rattle.mkv_run.specs.Touched.{Reach, edited, indexed, recovered}
 
 -- how often opening or reading failed, and writing
 pub record DiskFaults : Type 0 where
@@ -40,10 +40,11 @@ pub record IsFaultless (old new : RunSeen) : Type 0 where
   pub counts : new.seen.counts ≡ old.seen.counts
   pub disk : new.disk ≡ old.disk
 
--- Nothing is said of a file in place that wasn't recovered or edited for want of memory.
+-- Nothing is said of a file in place that wasn't recovered, edited or indexed for want of memory.
 abbrev pub IsSilent : Reach → ReportLines → ReportLines → Type 0
 IsSilent (recovered file) old new = new ≡ old
 IsSilent (edited file edits) old new = new ≡ old
+IsSilent (indexed file) old new = new ≡ old
 IsSilent _ old new = ⊤
 
 -- Why a command stops: a fault is told only where a count of its object rose, and no other count does. Where the disk failed, no line

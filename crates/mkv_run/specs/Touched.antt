@@ -1,5 +1,5 @@
 -- Which of the objects that it is given a run changes, and how.
-use Rattle.std.specs.Prelude.{◌≡◌, List, ℕ, Result, Ok, Err}
+use Rattle.std.specs.Prelude.{◌≡◌, ⊤, List, ℕ, Result, Ok, Err}
 use Rattle.mkv_io.specs.declared.reads.Reads as reads
 use Rattle.mkv_disk.specs.declared.disk.Disk as disks
 use Rattle.word_values.specs.declared.edit.Edit.{Edit}
@@ -9,24 +9,27 @@ use Rattle.mkv_args.specs.declared.command.Command.TheVariants.{Extract, Generat
 use Rattle.mkv_lines.specs.declared.status.Status.{Status}
 use Rattle.sidecar_edit.specs.Recovering.{IsRecovering}
 use Rattle.mkv_propedit.specs.Recovery.{IsRecoveryOf}
-use Rattle.mkv_propedit.specs.Left.{IsEditOf, IsPropediting}
+use Rattle.mkv_propedit.specs.Left.{IsBeingEdited, IsEditOf, writes_of_edits}
+use Rattle.mkv_propedit.specs.Reindex.{writes_of_index}
+use Rattle.mkv_run.specs.Kept.{EditKeepsRest}
 
--- What a run reaches: nothing, as for help or words that are refused; files; or a file in place, that is recovered or edited.
+-- What a run reaches: nothing, as for help or words that are refused; files; or a file in place, that is recovered, edited, or indexed anew.
 pub data Reach : Type 0 where
   nothing : Reach
   files : Reach
   recovered : List ℕ → Reach
   edited : List ℕ → List Edit → Reach
+  indexed : List ℕ → Reach
 
--- what a command reaches; one that isn't built is refused
+-- what a command reaches
 abbrev pub reach_of : Command → Reach
 reach_of (Help about) = nothing
 reach_of Version = nothing
 reach_of (Info file) = files
 reach_of (Identify file) = files
 reach_of (Recover file) = recovered file
-reach_of (Reindex file) = nothing
-reach_of (Generate n prefix) = nothing
+reach_of (Reindex file) = indexed file
+reach_of (Generate n prefix) = files
 reach_of (Extract file job) = files
 reach_of (Propedit file edits) = edited file edits
 reach_of (Merge words) = files
@@ -36,16 +39,27 @@ abbrev pub reach_in : Result Command Usage → Reach
 reach_in (Ok command) = reach_of command
 reach_in (Err usage) = nothing
 
+-- A file in place is recovered, edited or indexed.
+abbrev pub IsInPlace : Reach → Type 0
+IsInPlace nothing = ⊥
+IsInPlace files = ⊥
+IsInPlace (recovered file) = ⊤
+IsInPlace (edited file edits) = ⊤
+IsInPlace (indexed file) = ⊤
+
 -- What isn't reached is left as it is: by an edit in place the files, by what else is done the disk, and both by what reaches nothing.
+-- Of a file that is edited the rest is kept.
 abbrev pub Touches : {F D : Type 0} → reads.Ghosts D → disks.Ghosts D → Reach → F → F → D → D → Status → Type 0
 Touches r d nothing old new disk disk_now s = (new ≡ old) × (disk_now ≡ disk)
 Touches r d files old new disk disk_now s = disk_now ≡ disk
 Touches r d (recovered file) old new disk disk_now s = (new ≡ old) × IsRecoveryOf r d file disk disk_now s
-Touches r d (edited file edits) old new disk disk_now s = (new ≡ old) × IsEditOf r d file edits disk disk_now s
+Touches r d (edited file edits) old new disk disk_now s = (new ≡ old) × IsEditOf r d file (writes_of_edits edits) disk disk_now s × EditKeepsRest d edits disk disk_now s
+Touches r d (indexed file) old new disk disk_now s = (new ≡ old) × IsEditOf r d file writes_of_index disk disk_now s
 
 -- What a crash at any moment of it may leave of a file M beside a sidecar S.
 abbrev pub LeftOnTheWay : Reach → List ℕ → List ℕ → List ℕ → List ℕ → Type 0
 LeftOnTheWay nothing M S m s = (m ≡ M) × (s ≡ S)
 LeftOnTheWay files M S m s = (m ≡ M) × (s ≡ S)
 LeftOnTheWay (recovered file) M S m s = IsRecovering M S m s
-LeftOnTheWay (edited file edits) M S m s = IsPropediting edits M S m s
+LeftOnTheWay (edited file edits) M S m s = IsBeingEdited (writes_of_edits edits) M S m s
+LeftOnTheWay (indexed file) M S m s = IsBeingEdited writes_of_index M S m s

@@ -1,6 +1,6 @@
 //! The program: its words, and the exit status with which it ends.
 
-ghost use Rattle.std.specs.Prelude.{◌≡◌, ◌<◌, ◌⊎◌, ℕ, IfOk, IfErr, MatchResult, OnErr};
+ghost use Rattle.std.specs.Prelude.{◌≡◌, ◌+◌, ◌<◌, ◌⊎◌, ℕ, IfOk, IfErr, IsOkAnd, MatchResult, OnErr};
 ghost use Rattle.std.specs.Process.{exit_status};
 ghost use Rattle.mkv_io.specs.Sources.{live_files};
 ghost use Rattle.mkv_disk.specs.Calls.{AnyMoment, AtRest};
@@ -12,7 +12,7 @@ ghost use Rattle.merged_outputs.specs.Merge.{HasMerged};
 ghost use Rattle.mkv_run.specs.Exit.{HasExited};
 ghost use Rattle.mkv_run.specs.Run.{ReadsWithinIn, verdict_in};
 ghost use Rattle.mkv_run.specs.RunSeen.{run_seen};
-ghost use Rattle.mkv_run.specs.Touched.{LeftOnTheWay, Touches, reach_in};
+ghost use Rattle.mkv_run.specs.Touched.{IsInPlace, LeftOnTheWay, Touches, reach_in};
 
 use crate::running::run;
 use mkv_disk::Disk;
@@ -38,7 +38,8 @@ pub fn words_of<R: Env + AllocGlobal>(rt: &R) -> Result<Vec<String>, Status>
 }
 
 /// Does what the words ask for, and answers the exit status of the program. Where they couldn't be read,
-/// nothing is done, and the exit status is that of the status in their place.
+/// nothing is done, and the exit status is that of the status in their place. Nothing is pending on the disk where they
+/// recover or edit a file in place.
 pub fn program<F: Files, D: Disk, R: Report>(
     alloc: Global,
     words: &Result<Vec<String>, Status>,
@@ -46,7 +47,7 @@ pub fn program<F: Files, D: Disk, R: Report>(
     disk: &mut D,
     report: &mut R,
 ) -> ExitCode
-    requires { AtRest D.Disk.own disk.old }
+    requires { IsOkAnd words.now (λ words. IsInPlace (reach_in (command (texts words.items)))) → AtRest D.Disk.own disk.old }
     ensures ok { IfOk words.now (λ words. HasExited (reach_in (command (texts words.items)))
         (run_seen F.Reads F.Files.own D.Reads D.Disk.own R.Report files.old disk.old report.old)
         (run_seen F.Reads F.Files.own D.Reads D.Disk.own R.Report files.new disk.new report.new)
@@ -59,11 +60,11 @@ pub fn program<F: Files, D: Disk, R: Report>(
     ensures unread { IfErr words.now (λ status. exit_status result ≡ code_of status) }
     ensures idle { OnErr words.now (run_seen F.Reads F.Files.own D.Reads D.Disk.own R.Report files.new disk.new report.new
         ≡ run_seen F.Reads F.Files.own D.Reads D.Disk.own R.Report files.old disk.old report.old) }
-    ensures any_moment { MatchResult words.now (λ words. AnyMoment D.Disk.own disk.old disk.new
+    ensures any_moment { MatchResult words.now (λ words. AtRest D.Disk.own disk.old → AnyMoment D.Disk.own disk.old disk.new
         (LeftOnTheWay (reach_in (command (texts words.items))))) (λ _. disk.new ≡ disk.old) }
     ensures closed { (file : ℕ) → (live_files F.Reads files.new).live file ≡ (live_files F.Reads files.old).live file }
-    ensures octets { IfOk words.now (λ words.
-        ReadsWithinIn (F.names files.old) (texts words.items) (F.octets_read files.old) (F.octets_read files.new)) }
+    ensures octets { IfOk words.now (λ words. ReadsWithinIn (F.names files.old) (disk_world D.Disk.own disk.old) (texts words.items)
+        (F.octets_read files.old + D.octets_read disk.old) (F.octets_read files.new + D.octets_read disk.new)) }
 {
     match words {
         Ok(words) => ExitCode::from(run(alloc, words, files, disk, report).code()),

@@ -1,6 +1,6 @@
 //! A run, from the words of its command line to its status.
 
-ghost use Rattle.std.specs.Prelude.{◌≡◌, ℕ, IfOk};
+ghost use Rattle.std.specs.Prelude.{◌≡◌, ◌+◌, ℕ, IfOk};
 ghost use Rattle.mkv_io.specs.Sources.{live_files};
 ghost use Rattle.mkv_io.specs.Told.{Told};
 ghost use Rattle.mkv_args.specs.Sound.{IsSound};
@@ -18,9 +18,11 @@ ghost use Rattle.merged_outputs.specs.Merge.{MergesWell};
 ghost use Rattle.mkv_run.specs.Ends.{Ends};
 ghost use Rattle.mkv_run.specs.Run.{MergesRecords, MergesRecordsIn, ReadsWithin, ReadsWithinIn, verdict_in, verdict_of};
 ghost use Rattle.mkv_run.specs.RunSeen.{HasRunStop, HasStatusCause, run_seen};
-ghost use Rattle.mkv_run.specs.Touched.{LeftOnTheWay, Touches, reach_in, reach_of};
+ghost use Rattle.mkv_run.specs.Touched.{IsInPlace, LeftOnTheWay, Touches, reach_in, reach_of};
 
 use crate::help::{help, version};
+use edit_laws::edits_change_nothing_else;
+use generator::generate_of;
 use mkv_args::{ArgsEnd, Command, read_words};
 use mkv_disk::Disk;
 use mkv_extract::extract_of;
@@ -28,10 +30,11 @@ use mkv_info::{Form, info_of};
 use mkv_io::{Files, Report};
 use mkv_lines::{Line, Status, Stop, say_disk_fault, say_files_fault};
 use mkv_merge::merge_of;
-use mkv_propedit::{propedit_of, recover_of};
+use mkv_propedit::{propedit_of, recover_of, reindex_of};
 use std::alloc::Global;
 
-/// Does what the words of a command line ask for, and says its lines. Nothing is pending on the disk.
+/// Does what the words of a command line ask for, and says its lines. Where they recover or edit a file in place, nothing
+/// is pending on the disk.
 pub fn run<F: Files, D: Disk, R: Report>(
     alloc: Global,
     words: &Vec<String>,
@@ -39,7 +42,7 @@ pub fn run<F: Files, D: Disk, R: Report>(
     disk: &mut D,
     report: &mut R,
 ) -> Status
-    requires { AtRest D.Disk.own disk.old }
+    requires { IsInPlace (reach_in (command (texts words.now.items))) → AtRest D.Disk.own disk.old }
 
     // The status, the lines and the outputs are those of the verdict, as far as a fault of the outside or want of
     // memory lets it come; no other name has changed.
@@ -59,15 +62,18 @@ pub fn run<F: Files, D: Disk, R: Report>(
     // No file stays open, and none is closed.
     ensures closed { (file : ℕ) → (live_files F.Reads files.new).live file ≡ (live_files F.Reads files.old).live file }
 
-    // What a merge may read; of other commands no bound is stated.
-    ensures octets { ReadsWithinIn (F.names files.old) (texts words.now.items) (F.octets_read files.old) (F.octets_read files.new) }
+    // What a merge or an edit in place may read, of files and of the disk together; of other commands no bound is stated.
+    ensures octets { ReadsWithinIn (F.names files.old) (disk_world D.Disk.own disk.old) (texts words.now.items)
+        (F.octets_read files.old + D.octets_read disk.old) (F.octets_read files.new + D.octets_read disk.new) }
 
-    // An edit in place leaves the files as they are, and all else the disk; help and words that are refused leave both.
+    // An edit in place leaves the files as they are, and all else the disk; help and words that are refused leave both. What
+    // is edited keeps the rest of the file.
     ensures touches { Touches D.Reads D.Disk.own (reach_in (command (texts words.now.items))) files.old files.new disk.old disk.new result }
 
-    // What a crash at any moment leaves of the two files of the disk: after an edit they come to the file as it was or as
-    // it is to be, and where one is recovered to what they came to.
-    ensures any_moment { AnyMoment D.Disk.own disk.old disk.new (LeftOnTheWay (reach_in (command (texts words.now.items)))) }
+    // What a crash at any moment leaves of the two files of the disk, where nothing was pending: after an edit they come to
+    // the file as it was or as it is to be, and where one is recovered to what they came to.
+    ensures any_moment { AtRest D.Disk.own disk.old
+        → AnyMoment D.Disk.own disk.old disk.new (LeftOnTheWay (reach_in (command (texts words.now.items)))) }
 {
     match carry_out(alloc, words, files, disk, report) {
         Ok(status) => status,
@@ -92,7 +98,7 @@ fn carry_out<F: Files, D: Disk, R: Report>(
     disk: &mut D,
     report: &mut R,
 ) -> Result<Status, Stop>
-    requires { AtRest D.Disk.own disk.old }
+    requires { IsInPlace (reach_in (command (texts words.now.items))) → AtRest D.Disk.own disk.old }
     ensures verdict { Told (verdict_in (F.names files.old) (disk_world D.Disk.own disk.old) (texts words.now.items)) (Reaches
         (seen F.Reads F.writing_faults F.names R.Report files.old report.old)
         (seen F.Reads F.writing_faults F.names R.Report files.new report.new) result) }
@@ -102,7 +108,8 @@ fn carry_out<F: Files, D: Disk, R: Report>(
         (run_seen F.Reads F.Files.own D.Reads D.Disk.own R.Report files.new disk.new report.new) result }
     ensures closed { (file : ℕ) → (live_files F.Reads files.new).live file ≡ (live_files F.Reads files.old).live file }
     ensures records { MergesRecordsIn (F.names files.old) (texts words.now.items) result }
-    ensures octets { ReadsWithinIn (F.names files.old) (texts words.now.items) (F.octets_read files.old) (F.octets_read files.new) }
+    ensures octets { ReadsWithinIn (F.names files.old) (disk_world D.Disk.own disk.old) (texts words.now.items)
+        (F.octets_read files.old + D.octets_read disk.old) (F.octets_read files.new + D.octets_read disk.new) }
     ensures touches { Touches D.Reads D.Disk.own (reach_in (command (texts words.now.items))) files.old files.new disk.old disk.new (status_of result) }
 {
     match read_words(alloc, words) {
@@ -121,7 +128,7 @@ fn obey<F: Files, D: Disk, R: Report>(
     report: &mut R,
 ) -> Result<Status, Stop>
     requires sound { IsSound command.now }
-    requires at_rest { AtRest D.Disk.own disk.old }
+    requires at_rest { IsInPlace (reach_of command.now) → AtRest D.Disk.own disk.old }
     ensures verdict { Told (verdict_of (F.names files.old) (disk_world D.Disk.own disk.old) command.now) (Reaches
         (seen F.Reads F.writing_faults F.names R.Report files.old report.old)
         (seen F.Reads F.writing_faults F.names R.Report files.new report.new) result) }
@@ -131,7 +138,8 @@ fn obey<F: Files, D: Disk, R: Report>(
         (run_seen F.Reads F.Files.own D.Reads D.Disk.own R.Report files.new disk.new report.new) result }
     ensures closed { (file : ℕ) → (live_files F.Reads files.new).live file ≡ (live_files F.Reads files.old).live file }
     ensures records { MergesRecords (F.names files.old) command.now result }
-    ensures octets { ReadsWithin (F.names files.old) command.now (F.octets_read files.old) (F.octets_read files.new) }
+    ensures octets { ReadsWithin (F.names files.old) (disk_world D.Disk.own disk.old) command.now
+        (F.octets_read files.old + D.octets_read disk.old) (F.octets_read files.new + D.octets_read disk.new) }
     ensures touches { Touches D.Reads D.Disk.own (reach_of command.now) files.old files.new disk.old disk.new (status_of result) }
 {
     match command {
@@ -140,12 +148,16 @@ fn obey<F: Files, D: Disk, R: Report>(
         Command::Info { file } => info_of(alloc, Form::Lines, file.as_str(), files, report),
         Command::Identify { file } => info_of(alloc, Form::Json, file.as_str(), files, report),
         Command::Recover { file } => recover_of(alloc, file.as_str(), disk, report),
+        Command::Reindex { file } => reindex_of(alloc, file.as_str(), disk, report),
         Command::Propedit { file, edits } => {
+            edits_change_nothing_else();
             propedit_of(alloc, file.as_str(), edits, disk, report)
         }
         Command::Extract { file, job } => extract_of(alloc, file.as_str(), job, files, report),
         Command::Merge { words } => merge_of(alloc, words, files, report),
-        _ => refuse(alloc, 0, "NotBuilt", report),
+        Command::Generate { n, prefix } => {
+            generate_of(alloc, *n, prefix.as_str(), files, report)
+        }
     }
 }
 

@@ -7,3 +7,7 @@ use Rattle.mkv_run.proofs.exit.program.Goals as goal
 pub returns-in-Ok-clause-merged : goal.returns-in-Ok-clause-merged
 returns-in-Ok-clause-merged g c =
     rw c.in-Ok.is (λ below. code-merged _ _ _ c.run.result (exit_status c.from.result) (c.from.ensures ∙ c.code.ensures) below c.run.ensures.merged)
+
+-- the words were read
+pub run-requires : goal.run-requires
+run-requires g c = rw c.in-Ok.is at c.requires

@@ -1,9 +1,11 @@
-use Rattle.std.proofs.Common.{refl}
+use Rattle.std.proofs.Common.{Result, refl, sym, subst}
 use Rattle.mkv_lines.specs.Seen.{seen}
 use Rattle.mkv_lines.proofs.VerdictLemmas.{IsStopped-before}
 use Rattle.mkv_args.specs.Words.{command}
+use Rattle.mkv_args.specs.declared.command.Command.{Command}
 use Rattle.word_values.specs.Place.{texts}
-use Rattle.mkv_run.specs.Touched.{reach_in}
+use Rattle.word_values.specs.declared.usage.Usage.{Usage}
+use Rattle.mkv_run.specs.Touched.{IsInPlace, reach_in}
 use Rattle.mkv_run.proofs.RunLemmas.{touches-nothing}
 use Rattle.mkv_run.proofs.running.carry_out.Goals as goal
 
@@ -16,3 +18,8 @@ returns-in-Err-Memory-clause-verdict g c = λ v told.
 pub returns-in-Err-Memory-clause-touches : goal.returns-in-Err-Memory-clause-touches
 returns-in-Err-Memory-clause-touches g c =
     touches-nothing g.D.Reads g.D.Disk (reach_in (command (texts c.args.words.now.items))) c.args.files.now c.args.disk.now c.requires (g.met.D.Disk.only_now c.args.disk.now)
+
+-- what the words reach, the command does
+pub obey-requires-clause-at_rest : goal.obey-requires-clause-at_rest
+obey-requires-clause-at_rest g c = λ place.
+    c.requires (subst (λ (asked : Result Command Usage). IsInPlace (reach_in asked)) (sym c.in-Ok.ensures.exact) place)

@@ -1,4 +1,4 @@
-use Rattle.std.proofs.Common.{List, ℕ, Option, sym, subst, refl}
+use Rattle.std.proofs.Common.{◌+◌, ◌≤◌, List, ℕ, length, Option, sym, subst, refl}
 use Rattle.mkv_io.specs.Told.{Told}
 use Rattle.mkv_disk.specs.Calls.{OfReads}
 use Rattle.mkv_lines.specs.Code.{status_of}
@@ -7,12 +7,19 @@ use Rattle.mkv_lines.specs.Verdict.{Reaches, SaysVerdict}
 use Rattle.mkv_lines.proofs.VerdictLemmas.{Reaches-lines}
 use Rattle.mkv_args.specs.Sound.{IsSound}
 use Rattle.mkv_args.specs.declared.command.Command.{Command}
+use Rattle.mkv_merge.specs.Bound.{most_read}
+use Rattle.mkv_propedit.specs.Bound.{most_to_edit}
 use Rattle.mkv_propedit.specs.Recover.{disk_world, recover_verdict}
 use Rattle.mkv_propedit.proofs.RecoverLemmas.{recover-outputs, verdict-told}
+use Rattle.mkv_propedit.specs.Left.{IsEditOf, writes_of_edits}
 use Rattle.mkv_propedit.specs.Propedit.{propedit_verdict}
+use Rattle.mkv_propedit.specs.Reindex.{most_to_reindex, reindex_verdict}
+use Rattle.mkv_propedit.proofs.ReindexLemmas.{index-told_on, reindex-outputs}
 use Rattle.mkv_propedit.proofs.PropeditLemmas.{edit-told, propedit-outputs}
-use Rattle.mkv_run.specs.Run.{verdict_of}
-use Rattle.mkv_run.proofs.RunLemmas.{job-done, stays-untouched}
+use Rattle.mkv_run.specs.Run.{ReadsWithin, verdict_of}
+use Rattle.mkv_run.specs.Touched.{IsInPlace, Touches, reach_of}
+use Rattle.mkv_run.proofs.KeptLemmas.{edit-keeps}
+use Rattle.mkv_run.proofs.RunLemmas.{disk-alone, files-alone, job-done, media-told}
 use Rattle.mkv_run.proofs.running.obey.Goals as goal
 
 pub returns-in-Recover-clause-verdict : goal.returns-in-Recover-clause-verdict
@@ -26,6 +33,17 @@ returns-in-Recover-clause-verdict g c =
     (λ told. Reaches-lines old new result (recover_verdict (d.is_there a file) file M S) (says told) (recover-outputs (d.is_there a file) file M S) refl) in
     subst (λ (asked : Command). Told (verdict_of (g.F.Files.names c.args.files.now) (disk_world d a) asked) (λ v. Reaches old new result v)) (sym c.in-Recover.is) reaches
 
+pub returns-in-Reindex-clause-verdict : goal.returns-in-Reindex-clause-verdict
+returns-in-Reindex-clause-verdict g c =
+    let d = g.D.Disk in let a = c.args.disk.now in let file = c.in-Reindex.file in let result = c.reindex_of.result in
+    let old = seen g.F.Reads g.F.Files.writing_faults g.F.Files.names g.R.Report c.args.files.now c.args.report.now in
+    let new = seen g.F.Reads g.F.Files.writing_faults g.F.Files.names g.R.Report c.args.files.now c.reindex_of.new.report in
+    let M = (d.pair a).media.reads in let S = (d.pair a).sidecar.reads in
+    let says = subst (λ (name : List ℕ). OfReads d a (λ m s. SaysVerdict old.lines new.lines result (reindex_verdict (d.is_there a name) name m s))) c.as_str-in-Reindex.ensures.same c.reindex_of.ensures.verdict in
+    let reaches = index-told_on d a file (λ v. Reaches old new result v)
+    (λ told. Reaches-lines old new result (reindex_verdict (d.is_there a file) file M S) (says told) (reindex-outputs (d.is_there a file) file M S) refl) in
+    subst (λ (asked : Command). Told (verdict_of (g.F.Files.names c.args.files.now) (disk_world d a) asked) (λ v. Reaches old new result v)) (sym c.in-Reindex.is) reaches
+
 pub returns-in-Propedit-clause-verdict : goal.returns-in-Propedit-clause-verdict
 returns-in-Propedit-clause-verdict g c =
     let d = g.D.Disk in let a = c.args.disk.now in let file = c.in-Propedit.file in let edits = c.in-Propedit.edits in let result = c.propedit_of.result in
@@ -38,9 +56,49 @@ returns-in-Propedit-clause-verdict g c =
     (λ told. Reaches-lines old new result v (says told) (propedit-outputs (d.is_there a file) file edits M S) refl) in
     subst (λ (asked : Command). Told (verdict_of (g.F.Files.names c.args.files.now) (disk_world d a) asked) (λ v. Reaches old new result v)) (sym c.in-Propedit.is) reaches
 
-pub returns-in_default-clause-touches : goal.returns-in_default-clause-touches
-returns-in_default-clause-touches g c =
-    stays-untouched g.D.Reads g.D.Disk c.args.files.now c.args.disk.now (status_of c.refuse.result) c.args.command.now c.in_default.not-Recover c.in_default.not-Propedit
+-- ---- what is read
+
+pub returns-in-Propedit-clause-octets : goal.returns-in-Propedit-clause-octets
+returns-in-Propedit-clause-octets g c =
+    let d = g.D.Disk in let a = c.args.disk.now in
+    let files = g.F.Reads.octets_read c.args.files.now in
+    let within = media-told d a (λ (M : List ℕ). files + g.D.Reads.octets_read c.propedit_of.new.disk ≤ files + g.D.Reads.octets_read a + most_to_edit (length M))
+    (λ told. disk-alone (g.D.Reads.octets_read a) (g.D.Reads.octets_read c.propedit_of.new.disk) (most_to_edit (length (d.pair a).media.reads)) files (c.propedit_of.ensures.octets told)) in
+    subst (λ (asked : Command). ReadsWithin (g.F.Files.names c.args.files.now) (disk_world d a) asked (files + g.D.Reads.octets_read a) (files + g.D.Reads.octets_read c.propedit_of.new.disk)) (sym c.in-Propedit.is) within
+
+pub returns-in-Reindex-clause-octets : goal.returns-in-Reindex-clause-octets
+returns-in-Reindex-clause-octets g c =
+    let d = g.D.Disk in let a = c.args.disk.now in
+    let files = g.F.Reads.octets_read c.args.files.now in
+    let within = media-told d a (λ (M : List ℕ). files + g.D.Reads.octets_read c.reindex_of.new.disk ≤ files + g.D.Reads.octets_read a + most_to_reindex (length M))
+    (λ told. disk-alone (g.D.Reads.octets_read a) (g.D.Reads.octets_read c.reindex_of.new.disk) (most_to_reindex (length (d.pair a).media.reads)) files (c.reindex_of.ensures.octets told)) in
+    subst (λ (asked : Command). ReadsWithin (g.F.Files.names c.args.files.now) (disk_world d a) asked (files + g.D.Reads.octets_read a) (files + g.D.Reads.octets_read c.reindex_of.new.disk)) (sym c.in-Reindex.is) within
+
+pub returns-in-Merge-clause-octets : goal.returns-in-Merge-clause-octets
+returns-in-Merge-clause-octets g c =
+    let disk = g.D.Reads.octets_read c.args.disk.now in let before = g.F.Reads.octets_read c.args.files.now in let now = g.F.Reads.octets_read c.merge_of.new.files in
+    subst (λ (asked : Command). ReadsWithin (g.F.Files.names c.args.files.now) (disk_world g.D.Disk c.args.disk.now) asked (before + disk) (now + disk)) (sym c.in-Merge.is)
+    (λ world told. files-alone before now (most_read world c.in-Merge.words) disk (c.merge_of.ensures.octets world told))
+
+-- ---- what is touched
+
+-- what is edited keeps the rest of the file
+pub returns-in-Propedit-clause-touches : goal.returns-in-Propedit-clause-touches
+returns-in-Propedit-clause-touches g c =
+    let d = g.D.Disk in let a = c.args.disk.now in let b = c.propedit_of.new.disk in let s = status_of c.propedit_of.result in let edits = c.in-Propedit.edits in
+    let is = subst (λ (name : List ℕ). IsEditOf g.D.Reads d name (writes_of_edits edits) a b s) c.as_str-in-Propedit.ensures.same c.propedit_of.ensures.edit in
+    subst (λ (asked : Command). Touches g.D.Reads d (reach_of asked) c.args.files.now c.args.files.now a b s) (sym c.in-Propedit.is)
+    (refl, is, edit-keeps d edits a b s c.edits_change_nothing_else.ensures is.leaves)
+
+-- a file in place is recovered, edited, or indexed
+pub recover_of-requires : goal.recover_of-requires
+recover_of-requires g c = c.requires.at_rest (subst (λ (asked : Command). IsInPlace (reach_of asked)) (sym c.in-Recover.is) tt)
+
+pub reindex_of-requires : goal.reindex_of-requires
+reindex_of-requires g c = c.requires.at_rest (subst (λ (asked : Command). IsInPlace (reach_of asked)) (sym c.in-Reindex.is) tt)
+
+pub propedit_of-requires : goal.propedit_of-requires
+propedit_of-requires g c = c.requires.at_rest (subst (λ (asked : Command). IsInPlace (reach_of asked)) (sym c.in-Propedit.is) tt)
 
 -- the words asked for a job that can be done
 pub extract_of-requires : goal.extract_of-requires

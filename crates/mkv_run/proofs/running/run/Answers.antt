@@ -75,26 +75,26 @@ returns-in-Ok-clause-merged g c =
 -- ---- what a crash leaves
 
 pub returns-in-Ok-clause-any_moment : goal.returns-in-Ok-clause-any_moment
-returns-in-Ok-clause-any_moment g c =
+returns-in-Ok-clause-any_moment g c = λ rest.
     touches-moment g.D.Reads g.D.Disk (reach_in (command (texts c.args.words.now.items))) c.args.files.now c.carry_out.new.files c.args.disk.now c.carry_out.new.disk (status_of c.carry_out.result)
-    c.requires (g.met.D.Disk.only_now c.args.disk.now) c.carry_out.ensures.touches
+    rest (g.met.D.Disk.only_now c.args.disk.now) c.carry_out.ensures.touches
 
 pub returns-in-Err-Memory-clause-any_moment : goal.returns-in-Err-Memory-clause-any_moment
-returns-in-Err-Memory-clause-any_moment g c =
+returns-in-Err-Memory-clause-any_moment g c = λ rest.
     touches-moment g.D.Reads g.D.Disk (reach_in (command (texts c.args.words.now.items))) c.args.files.now c.carry_out.new.files c.args.disk.now c.carry_out.new.disk (status_of c.carry_out.result)
-    c.requires (g.met.D.Disk.only_now c.args.disk.now) c.carry_out.ensures.touches
+    rest (g.met.D.Disk.only_now c.args.disk.now) c.carry_out.ensures.touches
 
 pub returns-in-Err-Report-clause-any_moment : goal.returns-in-Err-Report-clause-any_moment
-returns-in-Err-Report-clause-any_moment g c =
+returns-in-Err-Report-clause-any_moment g c = λ rest.
     touches-moment g.D.Reads g.D.Disk (reach_in (command (texts c.args.words.now.items))) c.args.files.now c.carry_out.new.files c.args.disk.now c.carry_out.new.disk (status_of c.carry_out.result)
-    c.requires (g.met.D.Disk.only_now c.args.disk.now) c.carry_out.ensures.touches
+    rest (g.met.D.Disk.only_now c.args.disk.now) c.carry_out.ensures.touches
 
 pub returns-in-Err-Files-clause-any_moment : goal.returns-in-Err-Files-clause-any_moment
-returns-in-Err-Files-clause-any_moment g c =
+returns-in-Err-Files-clause-any_moment g c = λ rest.
     touches-moment g.D.Reads g.D.Disk (reach_in (command (texts c.args.words.now.items))) c.args.files.now c.carry_out.new.files c.args.disk.now c.carry_out.new.disk (status_of c.carry_out.result)
-    c.requires (g.met.D.Disk.only_now c.args.disk.now) c.carry_out.ensures.touches
+    rest (g.met.D.Disk.only_now c.args.disk.now) c.carry_out.ensures.touches
 
 pub returns-in-Err-Disk-clause-any_moment : goal.returns-in-Err-Disk-clause-any_moment
-returns-in-Err-Disk-clause-any_moment g c =
+returns-in-Err-Disk-clause-any_moment g c = λ rest.
     touches-moment g.D.Reads g.D.Disk (reach_in (command (texts c.args.words.now.items))) c.args.files.now c.carry_out.new.files c.args.disk.now c.carry_out.new.disk (status_of c.carry_out.result)
-    c.requires (g.met.D.Disk.only_now c.args.disk.now) c.carry_out.ensures.touches
+    rest (g.met.D.Disk.only_now c.args.disk.now) c.carry_out.ensures.touches

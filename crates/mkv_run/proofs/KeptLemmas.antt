@@ -1,0 +1,60 @@
+-- Edits that were made keep the rest of a file.
+use Rattle.std.proofs.Common.{◌≡◌, ℕ, List, Result, Ok, Err, refl, sym, subst, ap, ◌∙◌}
+use Rattle.mkv_io.specs.declared.damage.Damage.{Damage}
+use Rattle.mkv_disk.specs.Pair.{Pair}
+use Rattle.mkv_disk.specs.declared.disk.Disk.{Ghosts}
+use Rattle.sidecar_edit.specs.Writes.{Write, applied}
+use Rattle.word_values.specs.declared.edit.Edit.{Edit}
+use Rattle.edit_changes.specs.declared.refusal.Refusal.{Refusal}
+use Rattle.edit_changes.specs.declared.trees.Trees.{Trees}
+use Rattle.edit_changes.specs.Change.{and_then, edited_trees}
+use Rattle.edit_changes.specs.Plan.{edited, if_editable, plan_of}
+use Rattle.edit_changes.specs.Records.{EditableFile, editable}
+use Rattle.edit_laws.specs.Laws.{EditsChangeNothingElse}
+use Rattle.mkv_lines.specs.declared.status.Status.{Status}
+use Rattle.mkv_lines.specs.declared.status.Status.TheVariants as status
+use Rattle.mkv_propedit.specs.Left.{IsEdit, writes_of_edits}
+use Rattle.mkv_run.specs.Kept.{EditKeepsRest, KeepsRest}
+
+-- A file that is edited could be, and its trees are changed.
+record IsChanged (edits : List Edit) (bytes : List ℕ) : Type 0 where
+  file : EditableFile
+  trees : Trees
+  editable : editable bytes ≡ Ok file
+  changed : edited_trees edits file.trees ≡ Ok trees
+
+module _ (edits : List Edit) (bytes new : List ℕ) (writes : EditableFile → Trees → Result (List Write) Refusal) where
+  with-trees : (f : EditableFile) (r : Result Trees Refusal) → editable bytes ≡ Ok f → edited_trees edits f.trees ≡ r → and_then (and_then r (writes f)) (λ ws. Ok (applied bytes ws)) ≡ Ok new → IsChanged edits bytes
+  with-trees f (Ok t) found is made = record { file = f; trees = t; editable = found; changed = is }
+  with-trees f (Err why) found is made = absurd (cc)
+
+  with-file : (r : Result EditableFile Damage) → editable bytes ≡ r → and_then (and_then (if_editable r) (λ f. and_then (edited_trees edits f.trees) (writes f))) (λ ws. Ok (applied bytes ws)) ≡ Ok new → IsChanged edits bytes
+  with-file (Ok f) found made = with-trees f (edited_trees edits f.trees) found refl made
+  with-file (Err why) found made = absurd (cc)
+
+changed : (edits : List Edit) (bytes new : List ℕ) → edited bytes edits ≡ Ok new → IsChanged edits bytes
+unfolding plan_of
+changed edits bytes new made = with-file edits bytes new _ (editable bytes) refl made
+
+rest-kept : EditsChangeNothingElse → (edits : List Edit) (bytes new : List ℕ) → edited bytes edits ≡ Ok new → KeepsRest edits bytes new
+rest-kept law edits bytes new made =
+    let c = changed edits bytes new made in
+    record {
+      file = c.file;
+      trees = c.trees;
+      editable = c.editable;
+      changed = c.changed;
+      holds = λ octets short outside. law bytes new edits c.file c.trees octets short outside c.editable c.changed made;
+    }
+
+-- So does `propedit`.
+pub edit-keeps : {D : Type 0} (d : Ghosts D) (edits : List Edit) (old new : D) (s : Status) → EditsChangeNothingElse → IsEdit d (writes_of_edits edits) old new s → EditKeepsRest d edits old new s
+edit-keeps d edits old new status.Done law is = λ told.
+    let made = is.pair told in
+    let bytes = (d.pair old).media.reads in
+    let whole = ap (λ (r : Result (List Write) Refusal). and_then r (λ ws. Ok (applied bytes ws))) made.made in
+    subst (KeepsRest edits bytes) (sym (ap (λ (p : Pair). p.media.reads) made.pair)) (rest-kept law edits bytes (applied bytes made.writes) whole)
+edit-keeps d edits old new status.Warned law is = tt
+edit-keeps d edits old new status.Refused law is = tt
+edit-keeps d edits old new status.NoMemory law is = tt
+edit-keeps d edits old new status.Outside law is = tt

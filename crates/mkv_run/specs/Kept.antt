@@ -1,0 +1,28 @@
+-- What an edit in place keeps of a file: RFC 9559, section 5.1 (Segment Element).
+use Rattle.std.specs.Prelude.{◌≡◌, ◌≤◌, ⊤, ℕ, List, All, length, Ok}
+use Rattle.ebml_numbers.specs.Number.{AreOctets}
+use Rattle.mkv_schema.specs.Outline.{segment_run}
+use Rattle.mkv_io.specs.declared.outside.TheConstants.{LONGEST_FILE}
+use Rattle.mkv_disk.specs.Calls.{OfReads}
+use Rattle.mkv_disk.specs.declared.disk.Disk.{Ghosts}
+use Rattle.word_values.specs.declared.edit.Edit.{Edit}
+use Rattle.edit_changes.specs.declared.trees.Trees.{Trees}
+use Rattle.edit_changes.specs.Change.{edited_trees}
+use Rattle.edit_changes.specs.Records.{EditableFile, editable}
+use Rattle.edit_laws.specs.Laws.{HoldsEdited, IsOutside}
+use Rattle.mkv_lines.specs.declared.status.Status.{Status}
+use Rattle.mkv_lines.specs.declared.status.Status.TheVariants.{Done}
+
+-- A content could be edited, and what edits made of it holds what it held, but for what they change: where it is octets, 2^48 at most,
+-- and at level 1 neither a Timestamp nor a block stands.
+pub record KeepsRest (edits : List Edit) (old new : List ℕ) : Type 0 where
+  pub file : EditableFile
+  pub trees : Trees
+  pub editable : editable old ≡ Ok file
+  pub changed : edited_trees edits file.trees ≡ Ok trees
+  pub holds : AreOctets old → length old ≤ LONGEST_FILE → All IsOutside (segment_run old file.outline.segment).list → HoldsEdited old new file trees
+
+-- So it is of the medium of a disk after edits that were made.
+abbrev pub EditKeepsRest : {D : Type 0} → Ghosts D → List Edit → D → D → Status → Type 0
+EditKeepsRest d edits old new Done = OfReads d old (λ M S. KeepsRest edits M (d.pair new).media.reads)
+EditKeepsRest d edits old new s = ⊤
