@@ -1,3 +1,4 @@
 pub mod Laws
 pub mod BadLine
 pub mod Given
+pub mod GivenBack

@@ -19,8 +19,8 @@ use Rattle.input_files.specs.declared.times_file.TimesGiven.TheVariants.{Missing
 use Rattle.input_files.specs.declared.times_file.TimesName.{TimesName}
 use Rattle.mkv_merge.specs.Texts.{given_listing, given_refusal, listings_at, missing_given, missing_times, times_refusal}
 use Rattle.merge_inputs.specs.Taken.{value_for}
-use Rattle.own_times.specs.Given.{HasOption, World, is_timed, is_too_long, set_input}
-use Rattle.own_times.proofs.AlikeLemmas.{ListsMore}
+use Rattle.times_laws.specs.GivenBack.{HasOption, World, is_timed, is_too_long, set_input}
+use Rattle.times_laws.proofs.AlikeLemmas.{ListsMore}
 
 -- ---- which files are named
 

@@ -12,8 +12,8 @@ use Rattle.merge_plan.specs.Places.{begun_at, end_of, in_place_from}
 use Rattle.merge_plan.specs.Plan.{Source, given_from, given_of, later_by}
 use Rattle.merge_plan.specs.Records.{is_appended}
 use Rattle.mkv_merge.specs.Texts.{listings_at, timed_from, with_listings}
-use Rattle.own_times.proofs.BareLemmas.{AreAlike, bare, untimed}
-use Rattle.own_times.proofs.GivenLemmas.{GivesTheSame}
+use Rattle.times_laws.proofs.BareLemmas.{AreAlike, bare, untimed}
+use Rattle.times_laws.proofs.GivenLemmas.{GivesTheSame}
 
 -- A source is the other but for the times that files list, and gives the same wherever it begins.
 pub record IsAlike (new old : Source) : Type 0 where

@@ -24,7 +24,7 @@ use Rattle.sidecar_edit.specs.Pending.{is_pending}
 use Rattle.mkv_extract.specs.Extract.{job_verdict, name_verdict, read_verdict, taken_verdict, unless_unfit, unless_written}
 use Rattle.mkv_extract.specs.Names.{first_written}
 use Rattle.mkv_extract.specs.Read.{FileRead, first_unusable, read_of, read_with}
-use Rattle.own_times.specs.Given.{World, WritesTimes, times_job}
+use Rattle.times_laws.specs.GivenBack.{World, WritesTimes, times_job}
 
 -- times, as an extraction writes them
 abbrev pub times_coding : Coding

@@ -8,12 +8,12 @@ use Rattle.merge_words.specs.declared.files.FileWords.{FileWords}
 use Rattle.merge_words.specs.declared.output.MergeWords.{MergeWords}
 use Rattle.merge_inputs.specs.Input.{InputRead, input_of}
 use Rattle.mkv_merge.specs.Merge.{sources_of}
-use Rattle.own_times.specs.Given.{TimesGivenBackChangeNothing, is_too_long, with_input}
-use Rattle.own_times.proofs.ExtractLemmas.{extracted}
-use Rattle.own_times.proofs.GivenLemmas.{GivesTheSame, gives-back}
-use Rattle.own_times.proofs.FilesLemmas.{AreMore, IsNamedMore, count_long, lists-more, missing-more, named-more, refusal-more, times-more}
-use Rattle.own_times.proofs.SourcesLemmas.{sources-both}
-use Rattle.own_times.proofs.VerdictLemmas.{verdict-same}
+use Rattle.times_laws.specs.GivenBack.{TimesGivenBackChangeNothing, is_too_long, with_input}
+use Rattle.times_laws.proofs.ExtractLemmas.{extracted}
+use Rattle.times_laws.proofs.GivenLemmas.{GivesTheSame, gives-back}
+use Rattle.times_laws.proofs.FilesLemmas.{AreMore, IsNamedMore, count_long, lists-more, missing-more, named-more, refusal-more, times-more}
+use Rattle.times_laws.proofs.SourcesLemmas.{sources-both}
+use Rattle.times_laws.proofs.VerdictLemmas.{verdict-same}
 
 -- the same files are too long, so as many are
 counted : (new old : List TimesFile) → map (λ (f : TimesFile). f.named) (filter (λ (f : TimesFile). is_too_long f.given) new) ≡ map (λ (f : TimesFile). f.named) (filter (λ (f : TimesFile). is_too_long f.given) old) → count_long new ≡ count_long old

@@ -22,9 +22,9 @@ use Rattle.merge_plan.specs.Plan.{Source}
 use Rattle.mkv_merge.specs.Read.{inputs_from, numbered}
 use Rattle.mkv_merge.specs.Refused.{and_then}
 use Rattle.mkv_merge.specs.declared.refusal.Refusal.{Refusal}
-use Rattle.own_times.specs.Given.{World, set_input, untold}
-use Rattle.own_times.proofs.BothLemmas.{Both, both-same, both-then, both-weaker}
-use Rattle.own_times.proofs.AlikeLemmas.{At}
+use Rattle.times_laws.specs.GivenBack.{World, set_input, untold}
+use Rattle.times_laws.proofs.BothLemmas.{Both, both-same, both-then, both-weaker}
+use Rattle.times_laws.proofs.AlikeLemmas.{At}
 
 -- ---- what is read of an input
 

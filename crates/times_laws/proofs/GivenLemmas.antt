@@ -32,8 +32,8 @@ use Rattle.merge_inputs.specs.Input.{BlocksRead, Clusters, InputRead, input_of}
 use Rattle.merge_inputs.specs.Taken.{taken_from, value_for}
 use Rattle.merge_inputs.specs.declared.taken.TakenTrack.{TakenTrack}
 use Rattle.merge_plan.specs.Plan.{given_for, given_from, placing_for}
-use Rattle.own_times.proofs.ExtractLemmas.{ListsTimes, times_coding}
-use Rattle.own_times.proofs.ReadLemmas.{IsReadAs, IsSaid, StandsAt, at-place, input-read, taken-stand, tracks-said}
+use Rattle.times_laws.proofs.ExtractLemmas.{ListsTimes, times_coding}
+use Rattle.times_laws.proofs.ReadLemmas.{IsReadAs, IsSaid, StandsAt, at-place, input-read, taken-stand, tracks-said}
 
 -- ---- the value of an ID
 

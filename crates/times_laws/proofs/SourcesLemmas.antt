@@ -36,12 +36,12 @@ use Rattle.mkv_merge.specs.Refused.{and_then, unless}
 use Rattle.mkv_merge.specs.Texts.{missing_times, times_refusal, timed_from, with_times}
 use Rattle.mkv_merge.specs.declared.refusal.Refusal.{Refusal}
 use Rattle.mkv_merge.specs.declared.refusal.Refusal.TheVariants.{Differs, OutputIsInput, Plan}
-use Rattle.own_times.specs.Given.{World, untold, with_input}
-use Rattle.own_times.proofs.GivenLemmas.{GivesTheSame}
-use Rattle.own_times.proofs.BareLemmas.{AreAlike, differs-bare, records-bare, reads-same, same-of, tracks-bare, untimed}
-use Rattle.own_times.proofs.AlikeLemmas.{AllAlike, At, ListsMore, placed-alike, timed-alike, timed-same}
-use Rattle.own_times.proofs.BothLemmas.{Both, both-past, both-then, both-unless}
-use Rattle.own_times.proofs.InputsLemmas.{held_by, inputs-same, names-same}
+use Rattle.times_laws.specs.GivenBack.{World, untold, with_input}
+use Rattle.times_laws.proofs.GivenLemmas.{GivesTheSame}
+use Rattle.times_laws.proofs.BareLemmas.{AreAlike, differs-bare, records-bare, reads-same, same-of, tracks-bare, untimed}
+use Rattle.times_laws.proofs.AlikeLemmas.{AllAlike, At, ListsMore, placed-alike, timed-alike, timed-same}
+use Rattle.times_laws.proofs.BothLemmas.{Both, both-past, both-then, both-unless}
+use Rattle.times_laws.proofs.InputsLemmas.{held_by, inputs-same, names-same}
 
 -- ---- inputs with the Chapters of a file
 

@@ -34,11 +34,11 @@ use Rattle.mkv_merge.specs.Read.{is_split}
 use Rattle.mkv_merge.specs.Refused.{input_line, line_of}
 use Rattle.mkv_merge.specs.declared.refusal.Refusal.{Refusal}
 use Rattle.mkv_merge.specs.declared.refusal.Refusal.TheVariants.{Chapters, Differs, Input, Missing, MissingChapters, MissingTimes, OutputIsInput, PendingInput, PendingOutput, Plan, Times}
-use Rattle.own_times.specs.Given.{others, set_input, with_input}
-use Rattle.own_times.proofs.BareLemmas.{AreAlike, attachments-same, lanes-same, length-same, numbers-bare, reads-same, records-bare, same-of, titles-bare, tracks-bare, untimed}
-use Rattle.own_times.proofs.AlikeLemmas.{At}
-use Rattle.own_times.proofs.BothLemmas.{Both}
-use Rattle.own_times.proofs.SourcesLemmas.{AreGiven, Has}
+use Rattle.times_laws.specs.GivenBack.{others, set_input, with_input}
+use Rattle.times_laws.proofs.BareLemmas.{AreAlike, attachments-same, lanes-same, length-same, numbers-bare, reads-same, records-bare, same-of, titles-bare, tracks-bare, untimed}
+use Rattle.times_laws.proofs.AlikeLemmas.{At}
+use Rattle.times_laws.proofs.BothLemmas.{Both}
+use Rattle.times_laws.proofs.SourcesLemmas.{AreGiven, Has}
 
 -- the damages of the input of this number, by the inputs of links and what these give
 abbrev met_by : List (List ℕ) → List (List Given) → ℕ → List Damage
