@@ -8,7 +8,7 @@ use Rattle.mkv_schema.specs.declared.element.Header.{Header}
 use Rattle.mkv_schema.specs.Element.{in_master, is_unknown, end_in}
 use Rattle.mkv_schema.specs.Elements.{never, children_in, open_cluster}
 use Rattle.block_format.specs.Elements.{Rules}
-use Rattle.block_format.specs.Events.{Found, Event, found_at, timestamp_behind, found_among, found_behind, found_in_run, found_in, events_then, blocks_of}
+use Rattle.block_format.specs.Events.{Found, Event, found_at, timestamp_behind, found_among, found_behind, found_in_run, found_in, events_then, blocks_of, damages_of}
 use Rattle.edit_laws.proofs.SameLemmas.{AreSame}
 use Rattle.edit_laws.proofs.RunLemmas.{runs-alike, run-inside, StandsInside}
 use Rattle.edit_laws.proofs.BlockLemmas.{AreAlike, alike-append, IsHeld, shared-inside, among-alike, at-alike, behind-same}
@@ -88,3 +88,13 @@ blocks-then closed (Ok x ∷ xs) (Err d ∷ ys) us vs alike rest = absurd alike
 blocks-then closed (Err c ∷ xs) (Ok y ∷ ys) us vs alike rest = absurd alike
 blocks-then true (Err c ∷ xs) (Err d ∷ ys) us vs alike rest = rest
 blocks-then false (Err c ∷ xs) (Err d ∷ ys) us vs alike rest = refl
+
+-- nor are there damages where there were none
+pub undamaged-then : (closed closed' : Bool) (xs ys : List Found) (us vs : List Event) → AreAlike xs ys → (damages_of us ≡ [] → damages_of vs ≡ []) → damages_of (events_then closed xs us) ≡ [] → damages_of (events_then closed' ys vs) ≡ []
+undamaged-then closed closed' [] [] us vs alike rest none = rest none
+undamaged-then closed closed' [] (y ∷ ys) us vs alike rest none = absurd alike
+undamaged-then closed closed' (Ok x ∷ xs) [] us vs alike rest none = absurd alike
+undamaged-then closed closed' (Ok x ∷ xs) (Ok y ∷ ys) us vs alike rest none = undamaged-then closed closed' xs ys us vs alike.1 rest none
+undamaged-then closed closed' (Ok x ∷ xs) (Err d ∷ ys) us vs alike rest none = absurd alike
+undamaged-then true closed' (Err c ∷ xs) ys us vs alike rest none = absurd (cc)
+undamaged-then false closed' (Err c ∷ xs) ys us vs alike rest none = absurd (cc)

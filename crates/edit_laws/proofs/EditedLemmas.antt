@@ -1,43 +1,30 @@
 -- Whatever edits write, the file holds what they make of it.
-use Rattle.std.proofs.Common.{◌≡◌, ◌≤◌, ◌+◌, ℕ, Bool, true, false, if◌then◌else◌, List, [], ◌∷◌, length, map, flat_map, All, Option, Some, None, Result, Ok, Err, refl, sym, ◌∙◌, ap, subst, arith}
+use Rattle.std.proofs.Common.{◌≡◌, ◌≤◌, ℕ, Bool, true, false, if◌then◌else◌, List, [], ◌∷◌, length, flat_map, All, None, Result, Ok, Err, refl, sym, ◌∙◌, ap, subst, arith}
 use Rattle.std.specs.List.{list_any}
 use Rattle.ebml_numbers.specs.Number.{AreOctets}
-use Rattle.mkv_schema.specs.declared.ids.TheConstants.{SEEK_HEAD}
 use Rattle.mkv_io.specs.declared.damage.Damage.{Damage}
 use Rattle.mkv_io.specs.declared.outside.TheConstants.{LONGEST_FILE}
 use Rattle.word_values.specs.declared.edit.Edit.{Edit}
 use Rattle.mkv_schema.specs.declared.element.Header.{Header}
 use Rattle.mkv_schema.specs.Outline.{segment_run, unless as unless_damaged}
-use Rattle.mkv_schema.specs.Value.{first_of}
 use Rattle.mkv_schema.proofs.OutlineLemmas.{and_then-ok, unless-ok}
 use Rattle.element_reader.specs.Outline.{FileOutline, outline_in}
 use Rattle.element_reader.specs.Collected.{others_of}
 use Rattle.output_model.specs.Element.{Element, octets_of}
-use Rattle.sidecar_edit.specs.Fields.{AreInOrder}
 use Rattle.sidecar_edit.specs.Writes.{Write, applied}
 use Rattle.edit_changes.specs.declared.refusal.Refusal.{Refusal}
-use Rattle.edit_changes.specs.declared.refusal.Room.TheVariants as room
 use Rattle.edit_changes.specs.declared.trees.Trees.{Trees}
 use Rattle.edit_changes.specs.Change.{and_then, edited_trees}
 use Rattle.edit_changes.specs.Records.{EditableFile, editable, trees_of}
-use Rattle.edit_changes.specs.SeekHead.{SeekHeadAt, seek_head_of}
-use Rattle.edit_changes.specs.Span.{span_of}
-use Rattle.edit_changes.specs.Plan.{Part, appended, ascending, edit_ids, elements_moving, if_editable, lacks, length_in_place, length_moving, moves, moving, moving_refusals, moving_writes, new_end, part_writes, parts, place, plan_of, seek_head, size_refusal, tail_refusal, too_large, twin_refusal, unless, writes_in_place, writes_moving, writes_of_parts, first_refusal}
-use Rattle.edit_plan.proofs.PlanLemmas.{appended-some, editable-outline, first-none, head-first, if-true, lacks-none, plan_of-planned, unless-none}
-use Rattle.edit_plan.proofs.SitsLemmas.{element-some}
-use Rattle.ebml_numbers.proofs.NumberLemmas.{is_id-bounds}
-use Rattle.edit_plan.proofs.PartLemmas.{seek_head-valid}
+use Rattle.edit_changes.specs.SeekHead.{seek_head_of}
+use Rattle.edit_changes.specs.Plan.{Part, appended, ascending, edit_ids, elements_moving, if_editable, length_in_place, moves, part_writes, parts, plan_of, too_large, writes_in_place, writes_moving, writes_of_parts}
+use Rattle.edit_plan.proofs.PlanLemmas.{appended-some, editable-outline, plan_of-planned, unless-none}
 use Rattle.edit_laws.proofs.SameLemmas.{InOrder}
 use Rattle.edit_laws.specs.Laws.{EditsChangeNothingElse, HoldsEdited, IsOutside}
-use Rattle.edit_laws.proofs.EndLemmas.{can-grow}
 use Rattle.edit_laws.proofs.OpenedLemmas.{IsOpened, opened}
 use Rattle.edit_laws.proofs.SectionLemmas.{AreFirst, trees-first}
+use Rattle.edit_laws.proofs.PlannedLemmas.{in-order, writes-planned}
 use Rattle.edit_laws.proofs.OutcomeLemmas.{moved-away, stayed}
-
--- the places of a record are those of the writes
-in-order : (old from : ℕ) (ws : List Write) → AreInOrder old from (map place ws) → InOrder old from ws
-in-order old from [] order = tt
-in-order old from (w ∷ ws) order = (order.0, order.1, order.2, in-order old (w.at + length w.bytes) ws order.3)
 
 -- the trees of a file that can be edited
 editable-trees : (bytes : List ℕ) (f : EditableFile) → editable bytes ≡ Ok f → (f.outline.damage ≡ None) × (trees_of bytes f.outline.segment ≡ Ok f.trees)
@@ -51,7 +38,7 @@ editable-trees bytes f is =
     subst P made (ap (λ (o : FileOutline). o.damage) (sym whole.1) ∙ whole.0, third.1.0)
 
 module _ (bytes : List ℕ) (are_octets : AreOctets bytes) (short : length bytes ≤ LONGEST_FILE) (edits : List Edit) (f : EditableFile) (t : Trees) (ws : List Write)
-    (op : IsOpened bytes f.outline) (undamaged : f.outline.damage ≡ None) (first : AreFirst bytes f.outline.segment f.trees) (made : edited_trees edits f.trees ≡ Ok t)
+    (op : IsOpened bytes f.outline) (undamaged : f.outline.damage ≡ None) (first : AreFirst bytes f.outline.segment f.trees) (made_trees : edited_trees edits f.trees ≡ Ok t)
     (order : InOrder (length bytes) 0 ws) (outside_all : All IsOutside (segment_run bytes f.outline.segment).list) where
   abbrev others : List Header
   others = others_of (segment_run bytes f.outline.segment).list
@@ -62,12 +49,10 @@ module _ (bytes : List ℕ) (are_octets : AreOctets bytes) (short : length bytes
   stays : list_any moves ps ≡ false → writes_in_place ps ≡ Ok ws → HoldsEdited bytes (applied bytes ws) f t
   stays still is =
       let split = unless-none (too_large (length_in_place ps) ps) (ascending (part_writes ps)) ws is in
-      stayed bytes are_octets short edits f t ws op undamaged first made order outside_all still split.0 split.1
+      stayed bytes are_octets short edits f t ws op undamaged first made_trees order outside_all still split.0 split.1
 
-  moved : (s : SeekHeadAt) → first_of SEEK_HEAD others ≡ Some s.header → list_any moves ps ≡ true
-      → unless (first_refusal (moving_refusals f.outline ps (seek_head edit_ids f.outline ps (Some s)) (span_of s.header others))) (moving_writes f.outline ps (seek_head edit_ids f.outline ps (Some s)) s.header.offset (span_of s.header others)) ≡ Ok ws
-      → HoldsEdited bytes (applied bytes ws) f t
-  moved s head any is = of (elements_moving ps) refl
+  moves-away : list_any moves ps ≡ true → writes_moving edit_ids f.outline ps (seek_head_of bytes f.outline) ≡ Ok ws → HoldsEdited bytes (applied bytes ws) f t
+  moves-away any made = of (elements_moving ps) refl
     where
       of : (es : List Element) → elements_moving ps ≡ es → HoldsEdited bytes (applied bytes ws) f t
       of [] none =
@@ -75,38 +60,14 @@ module _ (bytes : List ℕ) (are_octets : AreOctets bytes) (short : length bytes
           let nothing : length (appended ps) ≡ 0 = ap (λ (l : List Element). length (flat_map octets_of l)) none in
           absurd (omega arith)
       of (d ∷ ds) are =
-          let split = unless-none (first_refusal (moving_refusals f.outline ps (seek_head edit_ids f.outline ps (Some s)) (span_of s.header others))) (moving_writes f.outline ps (seek_head edit_ids f.outline ps (Some s)) s.header.offset (span_of s.header others)) ws is in
-          let large = first-none (too_large (length_moving f.outline ps (seek_head edit_ids f.outline ps (Some s)) (span_of s.header others)) ps) _ split.0 in
-          let tail = first-none (if list_any moves ps then tail_refusal f.outline else None) _ large.1 in
-          let twin = first-none (twin_refusal f.outline.others (moving ps)) _ tail.1 in
-          let space = first-none (lacks room.SeekHead (length (octets_of (seek_head edit_ids f.outline ps (Some s)))) (span_of s.header others)) _ twin.1 in
-          let size = first-none (if list_any moves ps then size_refusal f.outline.segment (new_end f.outline ps) else None) [] space.1 in
-          let tail_none = if-true (list_any moves ps) (tail_refusal f.outline) None None any tail.0 in
-          let size_none = if-true (list_any moves ps) (size_refusal f.outline.segment (new_end f.outline ps)) None None any size.0 in
-          let all = if-true (list_any moves ps) _ _ ws any split.1 in
-          moved-away bytes are_octets short edits f t ws op undamaged first made order outside_all s head (can-grow f.outline tail_none) large.0
-          (ap (λ (l : List Header). twin_refusal l (moving ps)) (sym op.others) ∙ twin.0) (lacks-none _ _ _ space.0) size_none all d ds are
-
-  moves-away : (head : Option SeekHeadAt) → seek_head_of bytes f.outline ≡ head → list_any moves ps ≡ true → writes_moving edit_ids f.outline ps head ≡ Ok ws → HoldsEdited bytes (applied bytes ws) f t
-  moves-away None is any made =
-      let split = unless-none (first_refusal (moving_refusals f.outline ps (seek_head edit_ids f.outline ps None) 0)) _ ws made in
-      let large = first-none (too_large (length_moving f.outline ps (seek_head edit_ids f.outline ps None) 0) ps) _ split.0 in
-      let tail = first-none (if list_any moves ps then tail_refusal f.outline else None) _ large.1 in
-      let twin = first-none (twin_refusal f.outline.others (moving ps)) _ tail.1 in
-      let space = first-none (lacks room.SeekHead (length (octets_of (seek_head edit_ids f.outline ps None))) 0) _ twin.1 in
-      let reaches : length (octets_of (seek_head edit_ids f.outline ps None)) ≤ 0 = lacks-none room.SeekHead (length (octets_of (seek_head edit_ids f.outline ps None))) 0 space.0 in
-      let some : 1 ≤ length (octets_of (seek_head edit_ids f.outline ps None)) = element-some SEEK_HEAD (seek_head edit_ids f.outline ps None).body (is_id-bounds SEEK_HEAD seek_head-valid).0 in
-      absurd (omega arith)
-  moves-away (Some s) is any made =
-      let head = head-first bytes f.outline s is in
-      moved s (ap (first_of SEEK_HEAD) (sym op.others) ∙ head) any
-      (ap (λ n. unless (first_refusal (moving_refusals f.outline ps (seek_head edit_ids f.outline ps (Some s)) n)) (moving_writes f.outline ps (seek_head edit_ids f.outline ps (Some s)) s.header.offset n)) (ap (span_of s.header) (sym op.others)) ∙ made)
+          let plan = writes-planned bytes f.outline edit_ids ps ws op made in
+          moved-away bytes are_octets short edits f t ws op undamaged first made_trees order outside_all plan.0 plan.2 any d ds are
 
   pub written : writes_of_parts edit_ids false bytes f.outline ps ≡ Ok ws → HoldsEdited bytes (applied bytes ws) f t
   written is = of (list_any moves ps) refl is
     where
       of : (any : Bool) → list_any moves ps ≡ any → (if any then writes_moving edit_ids f.outline ps (seek_head_of bytes f.outline) else writes_in_place ps) ≡ Ok ws → HoldsEdited bytes (applied bytes ws) f t
-      of true any is = moves-away (seek_head_of bytes f.outline) refl any is
+      of true any is = moves-away any is
       of false still is = stays still is
 
 -- what edits write

@@ -228,16 +228,20 @@ alone-first id (g ∷ gs) h other few found = of (alone-first id gs h other) (g.
     of further false same later =
         All-cons (λ (g : Header). (g.id == id) ≡ true → g ≡ h) g gs (λ own. absurd (cc)) (further (fewer (g.id == CLUSTER) refl) later)
 
+-- where an ID has no twin, at most one Element is of it
+pub twin-none : (list : List Header) (id : ℕ) → twin_of list id ≡ None → number_of id list ≤ 1
+twin-none list id none = of (nat_lt 1 (number_of id list)) refl none
+  where
+    of : (many : Bool) → nat_lt 1 (number_of id list) ≡ many → (if many then Some (refusal.NoRoom room.Twin 1 (number_of id list)) else None) ≡ None → number_of id list ≤ 1
+    of true is none = absurd (cc)
+    of false is none = grind (arith, nat_tests)
+
 -- nothing that moves has a twin
 pub twins-none : (list : List Header) (ps : List Part) → twin_refusal list ps ≡ None → All (λ (p : Part). number_of p.id list ≤ 1) ps
 twins-none list [] none = All-nil (λ (p : Part). number_of p.id list ≤ 1)
 twins-none list (p ∷ ps) none =
     let both = or-none (twin_of list p.id) (twin_refusal list ps) none in
-    All-cons (λ (p : Part). number_of p.id list ≤ 1) p ps (of (nat_lt 1 (number_of p.id list)) refl both.0) (twins-none list ps both.1)
-  where
-    of : (many : Bool) → nat_lt 1 (number_of p.id list) ≡ many → (if many then Some (refusal.NoRoom room.Twin 1 (number_of p.id list)) else None) ≡ None → number_of p.id list ≤ 1
-    of true is none = absurd (cc)
-    of false is none = grind (arith, nat_tests)
+    All-cons (λ (p : Part). number_of p.id list ≤ 1) p ps (twin-none list p.id both.0) (twins-none list ps both.1)
 
 -- so an item that moves has none
 pub twin-of : (list : List Header) (ps : List Part) (is : List Item) (i : Item) → AreOf list ps is → All (λ (p : Part). number_of p.id list ≤ 1) (moving ps) → IsItemIn is i → span_of i.header list < length (octets_of i.element) → number_of i.element.id list ≤ 1

@@ -116,6 +116,26 @@ id_in-same may_open may_open' o total p e h found =
 pub id-same : (may_open may_open' : ℕ → Bool) (bytes : List ℕ) (p e : ℕ) (h : Header) → element_at (outside may_open) bytes p e ≡ Ok h → id_of (element_at (outside may_open') bytes p e) ≡ h.id
 id-same may_open may_open' bytes p e h found = id_in-same may_open may_open' (octets_between bytes p e) (length bytes) p e h found
 
+-- so is the ID at a place where a damage was found
+id_in-either : (may_open may_open' : ℕ → Bool) (o : List ℕ) (total p e : ℕ) → id_of (element_in (outside may_open') o total p e) ≡ id_of (element_in (outside may_open) o total p e)
+unfolding element_in
+id_in-either may_open may_open' o total p e = of-id (id_at o)
+  where
+    of-size : (id at : ℕ) (read : Result SizeRead NumFault) → id_of (with_size (outside may_open') total p e id at read) ≡ id_of (with_size (outside may_open) total p e id at read)
+    of-size id at (Err (fault.More n)) = refl
+    of-size id at (Err fault.Bad) = refl
+    of-size id at (Ok size) =
+        let made : Header = record { id = id; offset = p; body = at + size.len; size = size.size } in
+        id-of_body made (body_damage (outside may_open') total e made) ∙ sym (id-of_body made (body_damage (outside may_open) total e made))
+
+    of-id : (read : Result IdRead NumFault) → id_of (with_id (outside may_open') o total p e read) ≡ id_of (with_id (outside may_open) o total p e read)
+    of-id (Err fault.Bad) = refl
+    of-id (Err (fault.More n)) = refl
+    of-id (Ok id) = of-size id.id (p + id.len) (size_at (drop id.len o))
+
+pub id-either : (may_open may_open' : ℕ → Bool) (bytes : List ℕ) (p e : ℕ) → id_of (element_at (outside may_open') bytes p e) ≡ id_of (element_at (outside may_open) bytes p e)
+id-either may_open may_open' bytes p e = id_in-either may_open may_open' (octets_between bytes p e) (length bytes) p e
+
 -- a header has the octets that its ID announces
 pub announced-inside : (may_open : ℕ → Bool) (bytes : List ℕ) (p e : ℕ) (h : Header) → element_at (outside may_open) bytes p e ≡ Ok h → p + announced (octets_between bytes p e) ≤ h.body
 announced-inside may_open bytes p e h found =

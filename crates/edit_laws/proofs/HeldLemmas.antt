@@ -5,7 +5,7 @@ use Rattle.std.proofs.lemmas.Bool.Decides.{nat_tests}
 use Rattle.std.proofs.lemmas.List.Elements.{All-head, All-tail}
 use Rattle.mkv_schema.specs.Schema.{entry_of}
 use Rattle.mkv_schema.specs.Table.{table}
-use Rattle.mkv_schema.specs.declared.ids.TheConstants.{ATTACHMENTS, CHAPTERS, CLUSTER, TAGS, VOID}
+use Rattle.mkv_schema.specs.declared.ids.TheConstants.{ATTACHMENTS, CHAPTERS, CLUSTER, TAGS}
 use Rattle.mkv_schema.specs.declared.element.Header.{Header}
 use Rattle.mkv_schema.specs.Elements.{Run, ends_cluster}
 use Rattle.mkv_schema.specs.Outline.{and_then, segment_bound, segment_run}
@@ -17,14 +17,14 @@ use Rattle.tree_format.specs.Node.{Node, master, nodes_of}
 use Rattle.tree_format.specs.NormalForm.{octets}
 use Rattle.tree_format.specs.Reading.{tree_of}
 use Rattle.block_format.specs.Elements.{Rules}
-use Rattle.block_format.specs.Events.{blocks_of, events_among, events_in_run, events_of}
+use Rattle.block_format.specs.Events.{blocks_of, damages_of, events_among, events_in_run, events_of}
 use Rattle.meta_records.specs.Attached.{AttachedFile, files_at, first_attached}
 use Rattle.meta_records.specs.Records.{first_tree, tree_at}
 use Rattle.edit_laws.proofs.BlockLemmas.{IsHeld, shared-body}
 use Rattle.edit_laws.proofs.AttachedLemmas.{files-same}
 use Rattle.edit_laws.proofs.TileLemmas.{run_of, whole}
 use Rattle.edit_laws.proofs.LevelLemmas.{Spot, Edit, new_level, IsSpot, IsIn, IsListed}
-use Rattle.edit_laws.proofs.ResultLemmas.{blocks-stay, first-stays, held-stays, first-now, first-moved}
+use Rattle.edit_laws.proofs.ResultLemmas.{blocks-stay, damages-stay, first-stays, held-stays, first-now}
 use Rattle.edit_laws.specs.Laws.{normal_form}
 use Rattle.edit_laws.proofs.AgainLemmas.{CanBeRead, again}
 
@@ -78,14 +78,22 @@ first-written new id body p (d ∷ ds) held spells g found =
           spells = w.spells;
         }
 
+-- it is so in each list of which it is the first
+pub written-first : (new : List ℕ) (id : ℕ) (body : List ℕ) (hs ns : List Header) → first_of id ns ≡ first_of id hs → IsWritten new id body hs → IsWritten new id body ns
+written-first new id body hs ns same is = record { place = is.place; element = is.element; first = same ∙ is.first; held = is.held; own = is.own; spells = is.spells }
+
+-- it is read as it was written
+pub written-again : (new : List ℕ) (now : Header) (list : List Header) (end : ℕ) → segment_run new now ≡ whole list end → (id : ℕ) (nodes : List Node) → CanBeRead id nodes → IsWritten new id (flat_map octets nodes) list
+    → normal_form id new now ≡ Ok (Some (octets (master id 0 (nodes_of nodes))))
+written-again new now list end run id nodes can is =
+    ap (λ (o : Option Header). and_then (tree_at new o) (λ (n : Option Node). Ok (option_map octets n))) (ap (λ (r : Run). first_of id r.list) run ∙ is.first)
+    ∙ again id nodes new is.place is.element can is.own is.spells is.held
+
 module _ (t : Edit) (Moves : Type 0) (listed : IsListed t Moves t.list t.start) (was now : Header)
     (old_run : segment_run t.old was ≡ whole t.list t.last) (new_run : segment_run t.new now ≡ run_of (new_level t) t.start)
     (old_bound : segment_bound t.old was ≡ t.end) (new_bound : segment_bound t.new now ≡ t.now_end) where
-  now-is : segment_run t.new now ≡ whole listed.list listed.end
+  pub now-is : segment_run t.new now ≡ whole listed.list listed.end
   now-is = new_run ∙ listed.run
-
-  pub now-whole : (segment_run t.new now).damage ≡ None
-  now-whole = ap (λ (r : Run). r.damage) now-is
 
   -- ---- the blocks
 
@@ -96,6 +104,14 @@ module _ (t : Edit) (Moves : Type 0) (listed : IsListed t Moves t.list t.start) 
       ∙ ap (λ e. blocks_of (events_among r t.new e listed.list None)) new_bound
       ∙ sym (blocks-stay t Moves r tail spots t.list listed.list listed.becomes)
       ∙ sym (ap (λ (x : Run). blocks_of (events_in_run r t.old (segment_bound t.old was) x)) old_run ∙ ap (λ e. blocks_of (events_among r t.old e t.list None)) old_bound)
+
+  pub same-undamaged : (r : Rules) → events_among r t.new t.now_end t.behind None ≡ [] → All (λ (s : Spot). (s.header.id == CLUSTER) ≡ false) t.spots → damages_of (events_of r t.old was) ≡ [] → damages_of (events_of r t.new now) ≡ []
+  unfolding events_of
+  same-undamaged r tail spots none =
+      ap (λ (x : Run). damages_of (events_in_run r t.new (segment_bound t.new now) x)) now-is
+      ∙ ap (λ e. damages_of (events_among r t.new e listed.list None)) new_bound
+      ∙ damages-stay t Moves r tail spots t.list listed.list listed.becomes
+      (sym (ap (λ (x : Run). damages_of (events_in_run r t.old (segment_bound t.old was) x)) old_run ∙ ap (λ e. damages_of (events_among r t.old e t.list None)) old_bound) ∙ none)
 
   -- ---- what isn't written anew
 
@@ -125,15 +141,9 @@ module _ (t : Edit) (Moves : Type 0) (listed : IsListed t Moves t.list t.start) 
 
   -- ---- what is written anew
 
-  -- it is read as it was written
-  pub written-again : (id : ℕ) (nodes : List Node) → CanBeRead id nodes → IsWritten t.new id (flat_map octets nodes) listed.list → normal_form id t.new now ≡ Ok (Some (octets (master id 0 (nodes_of nodes))))
-  written-again id nodes can is =
-      ap (λ (o : Option Header). and_then (tree_at t.new o) (λ (n : Option Node). Ok (option_map octets n))) (ap (λ (r : Run). first_of id r.list) now-is ∙ is.first)
-      ∙ again id nodes t.new is.place is.element can is.own is.spells is.held
-
   module _ (s : Spot) (member : IsIn t.spots s) (spot : IsSpot t Moves s) (id : ℕ) (body : List ℕ) (own : s.header.id ≡ id) (level : ends_cluster id ≡ true) (single : All (λ (o : Spot). o.header ≡ s.header → o ≡ s) t.spots) (first : first_of id t.list ≡ Some s.header) where
     -- in its place
-    pub in-place : s.now.id ≡ id → s.now.body ≡ body → IsWritten t.new id body listed.list
+    abbrev pub in-place : s.now.id ≡ id → s.now.body ≡ body → IsWritten t.new id body listed.list
     in-place same spells = record {
       place = s.header.offset;
       element = s.now;
@@ -141,15 +151,4 @@ module _ (t : Edit) (Moves : Type 0) (listed : IsListed t Moves t.list t.start) 
       held = held-left t.new s.header.offset (octets_of s.now) (joined s.voids) spot.held;
       own = same;
       spells = spells;
-    }
-
-    -- or behind the old end
-    pub at-end : s.now.id ≡ VOID → All (λ (h : Header). (h.id == id) ≡ true → h ≡ s.header) t.list → IsWritten t.new id body t.behind → IsWritten t.new id body listed.list
-    at-end void alone is = record {
-      place = is.place;
-      element = is.element;
-      first = first-moved t Moves s member spot id own level single void t.list listed.list alone listed.becomes ∙ is.first;
-      held = is.held;
-      own = is.own;
-      spells = is.spells;
     }

@@ -119,6 +119,7 @@ pub record IsEdit (t : Edit) (Moves : Type 0) : Type 0 where
 
 -- An Element stays where it is, with its blocks if it is a Cluster, and else with all its octets.
 pub record IsKept (t : Edit) (h : Header) : Type 0 where
+  pub found : element_at in_segment t.new h.offset t.now_end ≡ Ok h
   pub apart : All (λ (s : Spot). (s.header.offset == h.offset) ≡ false) t.spots
   pub alike : (r : Rules) → AreAlike (found_in r t.old t.end h) (found_in r t.new t.now_end h)
   pub closed : is_closed (length t.new) h ≡ is_closed (length t.old) h
@@ -407,6 +408,9 @@ module _ (t : Edit) (Moves : Type 0) (is : IsEdit t Moves) where
         (let within = placed.within in let longer = is.longer in omega arith)
         (let later = placed.later in let inside = header-inside in same-part t.old t.new p m p h.body (omega arith) (omega arith) (omega arith) same) old.sound
 
+    stays : element_at in_segment t.new h.offset t.now_end ≡ Ok h
+    stays = subst (λ k. element_at in_segment t.new k t.now_end ≡ Ok h) (sym at) found
+
     stands-now : (q : ℕ) → behind_in_segment t.new t.now_end h ≡ Ok q → Stands (new_level t) p h q
     stands-now q next = record { inside = (let inside = stands.inside in let longer = is.longer in omega arith); found = found; goes = is.stops h.id ∙ stands.goes; next = next }
 
@@ -426,6 +430,7 @@ module _ (t : Edit) (Moves : Type 0) (is : IsEdit t Moves) where
         becomes = (
           rest.list,
           kept (record {
+            found = stays;
             apart = apart;
             alike = λ r. known-alike r t.old t.new t.end t.now_end h known (old.ends known) (within t.old is.within) (within t.new (let now = is.now_within in let longer = is.longer in omega arith))
                 (let later = placed.later in let inner = header-inside in subst (λ k. AreSame t.old t.new h.body k) (sym next-is) (same-part t.old t.new p m h.body m (omega arith) inner (omega arith) same));
@@ -472,6 +477,7 @@ module _ (t : Edit) (Moves : Type 0) (is : IsEdit t Moves) where
           becomes = (
             further.rest.list,
             kept (record {
+              found = stays;
               apart = apart;
               alike = λ r. open-alike r t.old t.new t.end t.now_end m further.end h children further.more unknown run_is now_run are.held further.none;
               closed = old.closed;

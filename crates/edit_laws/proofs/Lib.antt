@@ -21,6 +21,13 @@ mod TreeLemmas
 mod AgainLemmas
 mod HeldLemmas
 mod SectionLemmas
-mod OutcomeLemmas
 mod EndLemmas
+mod RestLemmas
+mod PlannedLemmas
+mod OutcomeLemmas
 mod EditedLemmas
+mod StandLemmas
+mod TickLemmas
+mod PointLemmas
+mod CuesLemmas
+mod AnewLemmas

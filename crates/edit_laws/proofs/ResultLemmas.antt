@@ -8,9 +8,10 @@ use Rattle.mkv_schema.specs.Elements.{ends_cluster}
 use Rattle.mkv_schema.specs.Value.{first_of}
 use Rattle.output_model.specs.Element.{Element, octets_of, header_in_place, headers_in_place}
 use Rattle.block_format.specs.Elements.{Rules}
-use Rattle.block_format.specs.Events.{found_in, is_closed, events_then, events_among, blocks_of}
+use Rattle.block_format.specs.Events.{found_in, is_closed, events_then, events_among, blocks_of, damages_of}
 use Rattle.edit_laws.proofs.BlockLemmas.{IsHeld}
-use Rattle.edit_laws.proofs.ClusterLemmas.{blocks-then}
+use Rattle.edit_laws.proofs.ClusterLemmas.{blocks-then, undamaged-then}
+use Rattle.edit_laws.proofs.TileLemmas.{IsAhead}
 use Rattle.edit_laws.proofs.LevelLemmas.{Spot, Edit, all_now, IsSpot, IsIn, IsKept, IsGone, Becomes, Turn, kept, now, gone, cluster-ends, void-goes}
 
 -- IDs that differ from one of an Element
@@ -100,6 +101,29 @@ module _ (t : Edit) (Moves : Type 0) where
           ∙ sym (ap (λ l. blocks_of (events_among r t.new t.now_end l None)) is ∙ ap blocks_of (events-skip r s.header.offset (all_now s) ks (spot-cluster s spot)))
       of behind (gone is-gone is) = none-here behind (gone-other CLUSTER h cluster-ends spots is-gone) ∙ ap (λ l. blocks_of (events_among r t.new t.now_end l None)) (sym is)
 
+  -- Where the old ones have no damage, the new ones have none.
+  pub damages-stay : (r : Rules) → events_among r t.new t.now_end t.behind None ≡ [] → All (λ (s : Spot). (s.header.id == CLUSTER) ≡ false) t.spots → (hs ns : List Header) → Becomes t Moves hs ns
+      → damages_of (events_among r t.old t.end hs None) ≡ [] → damages_of (events_among r t.new t.now_end ns None) ≡ []
+  damages-stay r none spots [] ns is old = ap (λ l. damages_of (events_among r t.new t.now_end l None)) is ∙ ap damages_of none
+  damages-stay r none spots (h ∷ hs) ns (ks, turn, rest) old = of (damages-stay r none spots hs ks rest) turn
+    where
+      undamaged : (h.id == CLUSTER) ≡ false → damages_of (events_among r t.old t.end hs None) ≡ []
+      undamaged other =
+          sym (ap (λ (b : Bool). damages_of (if b then events_then (is_closed (length t.old) h) (found_in r t.old t.end h) (events_among r t.old t.end hs None) else events_among r t.old t.end hs None)) other) ∙ old
+
+      stays : (damages_of (events_among r t.old t.end hs None) ≡ [] → damages_of (events_among r t.new t.now_end ks None) ≡ []) → IsKept t h → (cluster : Bool)
+          → damages_of (if cluster then events_then (is_closed (length t.old) h) (found_in r t.old t.end h) (events_among r t.old t.end hs None) else events_among r t.old t.end hs None) ≡ []
+          → damages_of (if cluster then events_then (is_closed (length t.new) h) (found_in r t.new t.now_end h) (events_among r t.new t.now_end ks None) else events_among r t.new t.now_end ks None) ≡ []
+      stays further keeps true is = undamaged-then (is_closed (length t.old) h) (is_closed (length t.new) h) (found_in r t.old t.end h) (found_in r t.new t.now_end h) _ _ (keeps.alike r) further is
+      stays further keeps false is = further is
+
+      of : (damages_of (events_among r t.old t.end hs None) ≡ [] → damages_of (events_among r t.new t.now_end ks None) ≡ []) → Turn t Moves h ks ns → damages_of (events_among r t.new t.now_end ns None) ≡ []
+      of further (kept keeps is) = ap (λ l. damages_of (events_among r t.new t.now_end l None)) is ∙ stays further keeps (h.id == CLUSTER) old
+      of further (now s member spot own is) =
+          ap (λ l. damages_of (events_among r t.new t.now_end l None)) is ∙ ap damages_of (events-skip r s.header.offset (all_now s) ks (spot-cluster s spot))
+          ∙ further (undamaged (ap (λ (g : Header). g.id == CLUSTER) (sym own) ∙ spot.cluster))
+      of further (gone is-gone is) = ap (λ l. damages_of (events_among r t.new t.now_end l None)) is ∙ further (undamaged (gone-other CLUSTER h cluster-ends spots is-gone))
+
   -- ---- the first Element of an ID
 
   -- of an ID that isn't written anew it is the same
@@ -117,6 +141,37 @@ module _ (t : Edit) (Moves : Type 0) where
           ap (first_of id) is ∙ first-skips id s.header.offset (all_now s) ks (not-now id s spot (void-other id ends) (inr other))
           ∙ skip behind (other-id h.id s.header.id id (ap (λ (g : Header). g.id) (sym own)) other)
       of behind (gone is-gone is) = ap (first_of id) is ∙ skip behind (gone-other id h ends others is-gone)
+
+  -- where there was none, it is the first that stands behind the old end
+  pub first-behind : (id : ℕ) → ends_cluster id ≡ true → All (λ (s : Spot). (s.header.id == id) ≡ false) t.spots → (hs ns : List Header) → Becomes t Moves hs ns → first_of id hs ≡ None → first_of id ns ≡ first_of id t.behind
+  first-behind id ends others [] ns is none = ap (first_of id) is
+  first-behind id ends others (h ∷ hs) ns (ks, turn, rest) none = of (first-behind id ends others hs ks rest) (h.id == id) refl none turn
+    where
+      of : (first_of id hs ≡ None → first_of id ks ≡ first_of id t.behind) → (test : Bool) → (h.id == id) ≡ test → (if test then Some h else first_of id hs) ≡ None → Turn t Moves h ks ns → first_of id ns ≡ first_of id t.behind
+      of further true same some turn = absurd (cc)
+      of further false other nothing (kept keeps is) = ap (first_of id) is ∙ ap (λ (b : Bool). if b then Some h else first_of id ks) other ∙ further nothing
+      of further false other nothing (now s member spot own is) =
+          let differs = all-in (λ (s : Spot). (s.header.id == id) ≡ false) t.spots s others member in
+          ap (first_of id) is ∙ first-skips id s.header.offset (all_now s) ks (not-now id s spot (void-other id ends) (inr differs)) ∙ further nothing
+      of further false other nothing (gone is-gone is) = ap (first_of id) is ∙ further nothing
+
+  -- a Cluster stays where it is
+  pub cluster-kept : (h : Header) → (h.id == CLUSTER) ≡ true → (hs ns : List Header) → Becomes t Moves hs ns → IsAhead hs h → IsKept t h
+  cluster-kept h cluster [] ns is ahead = absurd ahead
+  cluster-kept h cluster (g ∷ hs) ns (ks, turn, rest) ahead = of (cluster-kept h cluster hs ks rest) ahead
+    where
+      differs : (g.id == CLUSTER) ≡ false → g ≡ h → ⊥
+      differs other same = (let wrong : (h.id == CLUSTER) ≡ false = ap (λ (x : Header). x.id == CLUSTER) (sym same) ∙ other in absurd (cc))
+
+      here : Turn t Moves g ks ns → g ≡ h → IsKept t h
+      here (kept keeps is) same = subst (IsKept t) same keeps
+      here (now s member spot own is) same = absurd (differs (ap (λ (x : Header). x.id == CLUSTER) (sym own) ∙ spot.cluster) same)
+      here (gone (inl goes) is) same = absurd (differs (goes-other g.id CLUSTER goes cluster-ends) same)
+      here (gone (inr (s, member, spot, own, void)) is) same = absurd (differs (ap (λ (x : Header). x.id == CLUSTER) (sym own) ∙ spot.cluster) same)
+
+      of : (IsAhead hs h → IsKept t h) → (g ≡ h) ⊎ IsAhead hs h → IsKept t h
+      of further (inl same) = here turn same
+      of further (inr later) = further later
 
   -- and its octets are
   pub held-stays : (id : ℕ) (g : Header) → ends_cluster id ≡ true → (id == CLUSTER) ≡ false → All (λ (s : Spot). (s.header.id == id) ≡ false) t.spots → (hs ns : List Header) → Becomes t Moves hs ns → first_of id hs ≡ Some g → IsHeld t.old t.new g

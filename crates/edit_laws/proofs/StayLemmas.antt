@@ -1,11 +1,16 @@
--- Edits of which nothing moves: the new content is as long as the old one, and its Segment ends where it did.
-use Rattle.std.proofs.Common.{inl, inr, ◌≡◌, ◌⊎◌, ◌<◌, ◌≤◌, ℕ, Bool, false, List, [], ◌∷◌, length, All, refl, sym, ◌∙◌, ap, ap₂, arith}
+-- Edits of which nothing stands behind the old end: the new content is as long as the old one, and its Segment ends where it did.
+use Rattle.std.proofs.Common.{inl, inr, ◌≡◌, ◌⊎◌, ◌<◌, ◌≤◌, ℕ, Bool, true, false, ◌||◌, List, [], ◌∷◌, length, All, Ok, refl, sym, ◌∙◌, ap, ap₂, arith}
+use Rattle.std.specs.Bool.{⊤}
+use Rattle.std.proofs.lemmas.Bool.{cases_lt}
 use Rattle.std.proofs.lemmas.List.Elements.{All-head, All-tail}
 use Rattle.ebml_numbers.specs.declared.number.Size.{Size}
+use Rattle.ebml_numbers.specs.declared.number.Size.TheVariants.{Known, Unknown}
 use Rattle.mkv_io.specs.declared.outside.TheConstants.{LONGEST_FILE}
 use Rattle.mkv_schema.specs.declared.element.Header.{Header}
-use Rattle.mkv_schema.specs.Element.{in_segment, body_damage, element_in, element_at}
-use Rattle.mkv_schema.specs.Elements.{Run, ends_cluster, ends_at}
+use Rattle.mkv_schema.specs.Schema.{is_level0, is_level1}
+use Rattle.mkv_schema.specs.Element.{in_segment, in_master, body_damage, element_in, element_at, end_in}
+use Rattle.mkv_schema.specs.Elements.{Run, ends_cluster, ends_at, ends_segment, id_of}
+use Rattle.mkv_schema.proofs.ElementsLemmas.{elements-end}
 use Rattle.element_reader.specs.Collected.{others_of}
 use Rattle.output_model.specs.Element.{octets_of}
 use Rattle.block_format.specs.Events.{is_closed}
@@ -15,9 +20,9 @@ use Rattle.edit_changes.specs.Span.{span_of}
 use Rattle.edit_plan.proofs.LevelLemmas.{Stand}
 use Rattle.edit_plan.proofs.VoidLemmas.{first-room}
 use Rattle.edit_laws.proofs.SameLemmas.{AreSame, same-clear, InOrder, order-fits, IsOneOf}
-use Rattle.edit_laws.proofs.HeaderLemmas.{outside, found-sound}
+use Rattle.edit_laws.proofs.HeaderLemmas.{outside, found-sound, id-either}
 use Rattle.edit_laws.proofs.ClusterLemmas.{HasNoBlock}
-use Rattle.edit_laws.proofs.TileLemmas.{level, inner, run_of, advances-level, advances-inner, Stands, Tiles, whole, tiled, end-same, IsAhead}
+use Rattle.edit_laws.proofs.TileLemmas.{level, inner, run_of, advances-level, advances-inner, Stands, Tiles, whole, tiled, end-same, end-stops, run-stops, IsAhead}
 use Rattle.edit_laws.proofs.LevelLemmas.{Edit, Spot, IsEdit, IsIn, IsListed, level-within}
 use Rattle.edit_laws.proofs.RoomLemmas.{tiles-stand}
 use Rattle.edit_laws.proofs.FillLemmas.{IsFilled}
@@ -29,7 +34,6 @@ module _ (bytes : List ℕ) (size : Size) (start e last : ℕ) (list : List Head
     (run : run_of (level bytes size e) start ≡ whole list last)
     (order : InOrder (length bytes) 0 ws) (are : All (IsItem (others_of list)) items) (one : All (λ (i : Item). IsOneOf ws (write_of (others_of list) i)) items)
     (touch : (k : ℕ) → Touches ws k → IsInside (others_of list) items k)
-    (still : All (λ (i : Item). span_of i.header (others_of list) < length (octets_of i.element) → ⊥) items)
     (blocks : (h : Header) → IsAhead list h → ends_cluster h.id ≡ false → HasNoBlock h) where
   abbrev new : List ℕ
   new = applied bytes ws
@@ -88,9 +92,25 @@ module _ (bytes : List ℕ) (size : Size) (start e last : ℕ) (list : List Head
   tail : run_of (level new size e) last ≡ ends_at last
   tail = end-same (level bytes size e) (level new size e) last (advances-level bytes size e) (advances-level new size e) refl (behind-same ((in_segment).may_open)) (λ id. refl) ended
 
-  closes : (run_of (inner bytes e) last ≡ ends_at last) ⊎ ⊥ → run_of (inner new e) last ≡ ends_at last
-  closes (inl over) = end-same (inner bytes e) (inner new e) last (advances-inner bytes e) (advances-inner new e) refl (behind-same (λ id. false)) (λ id. refl) over
-  closes (inr none) = absurd none
+  -- what ends the list ends a Cluster of unknown size too: the end of the Segment, or an ID of level 0
+  stops-cluster : (z : Size) (id : ℕ) → ends_segment z id ≡ true → ends_cluster id ≡ true
+  stops-cluster (Known n) id is = absurd (cc)
+  stops-cluster Unknown id is = of (is_level1 id)
+    where
+      of : (level : Bool) → (level || is_level0 id) ≡ true
+      of true = refl
+      of false = is
+
+  closes : (run_of (inner bytes e) last ≡ ends_at last) ⊎ ⊤ → run_of (inner new e) last ≡ ends_at last
+  closes can =
+      elim (cases_lt last e) [
+        | inl inside ↦
+            run-stops (inner new e) last (advances-inner new e) inside
+            (ap (λ f. ends_cluster (id_of f)) (behind-same (λ id. false))
+            ∙ ap ends_cluster (id-either ((in_segment).may_open) (λ id. false) bytes last e)
+            ∙ stops-cluster size (id_of (element_at in_segment bytes last e)) (end-stops (level bytes size e) last (advances-level bytes size e) ended inside))
+        | inr past ↦ elements-end in_master ends_cluster (λ h. Ok (end_in e h)) new last e past
+      ]
 
   pub touch-all : (k : ℕ) → Touches ws k → (k < start) ⊎ ((length bytes ≤ k) ⊎ IsInside (others_of list) items k)
   touch-all k touched = inr (inr (touch k touched))
@@ -101,26 +121,29 @@ module _ (bytes : List ℕ) (size : Size) (start e last : ℕ) (list : List Head
   now-within : e ≤ length new
   now-within = omega (arith, same-length)
 
-  abbrev pub stays : Edit
-  stays = edit bytes size size start e e last list items ws [] ⊥ short within no-longer reaches run order are one touch-all still
+  pub may-move : All (λ (i : Item). span_of i.header (others_of list) < length (octets_of i.element) → ⊤) items
+  may-move = λ k d below long. tt
 
-  pub stays-edit : IsEdit stays ⊥
+  abbrev pub stays : Edit
+  stays = edit bytes size size start e e last list items ws [] ⊤ short within no-longer reaches run order are one touch-all may-move
+
+  pub stays-edit : IsEdit stays ⊤
   stays-edit =
-      is-edit bytes size size start e e last list items ws [] ⊥ short within no-longer reaches run order are one touch-all still
+      is-edit bytes size size start e e last list items ws [] ⊤ short within no-longer reaches run order are one touch-all may-move
       now-within (λ id. refl) keep blocks (tail ∙ sym (ap (λ n. whole [] n) (ap (λ (r : Run). r.end) tail))) closes
 
-  pub stays-listed : IsListed stays ⊥ list start
+  pub stays-listed : IsListed stays ⊤ list start
   stays-listed =
-      listed bytes size size start e e last list items ws [] ⊥ short within no-longer reaches run order are one touch-all still
+      listed bytes size size start e e last list items ws [] ⊤ short within no-longer reaches run order are one touch-all may-move
       now-within (λ id. refl) keep blocks (tail ∙ sym (ap (λ n. whole [] n) (ap (λ (r : Run). r.end) tail))) closes
 
   -- ---- its spots
 
   pub stays-ids : (P : ℕ → Type 0) → All (λ (i : Item). P i.element.id) items → All (λ (s : Spot). P s.header.id) stays.spots
-  stays-ids P all = ids-are bytes size size start e e last list items ws [] ⊥ short within no-longer reaches run order are one touch-all still P items are one all
+  stays-ids P all = ids-are bytes size size start e e last list items ws [] ⊤ short within no-longer reaches run order are one touch-all may-move P items are one all
 
   pub stays-in : (i : Item) → IsItemIn items i → (f : IsFilled new i.header.offset (span_of i.header (others_of list)) i.element) × IsIn stays.spots (record { header = i.header; now = f.now; voids = f.voids })
-  stays-in i member = spot-in bytes size size start e e last list items ws [] ⊥ short within no-longer reaches run order are one touch-all still items are one i member
+  stays-in i member = spot-in bytes size size start e e last list items ws [] ⊤ short within no-longer reaches run order are one touch-all may-move items are one i member
 
   pub stays-single : AreDistinct items → (s : Spot) → IsIn stays.spots s → All (λ (o : Spot). o.header ≡ s.header → o ≡ s) stays.spots
-  stays-single distinct s member = single-in bytes size size start e e last list items ws [] ⊥ short within no-longer reaches run order are one touch-all still items are one distinct s member
+  stays-single distinct s member = single-in bytes size size start e e last list items ws [] ⊤ short within no-longer reaches run order are one touch-all may-move items are one distinct s member

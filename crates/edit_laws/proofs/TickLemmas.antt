@@ -12,7 +12,7 @@ use Rattle.block_format.specs.Content.{content_in}
 use Rattle.block_format.specs.Elements.{Rules, timestamp_for, at_place, in_time, simple_block, group_children, block_or, too_many_references, group_with, group_among, block_group}
 use Rattle.merge_model.specs.Ticks.{since_start}
 use Rattle.output_laws.proofs.WalkLemmas.{each-block}
-use Rattle.index_laws.specs.Laws.{TimesAreTicks}
+use Rattle.edit_laws.specs.IndexLaws.{TimesAreTicks}
 
 -- so many ticks that don't stand before the start are as many nanoseconds, and no rest
 whole-ticks : (s : ℕ) (z : ℤ) (t : ℕ) → 1 ≤ s → since_start (nanoseconds s z) ≡ Some t → nanoseconds s z ≡ nanoseconds s (pos (t / s))

@@ -22,24 +22,24 @@ use Rattle.output_laws.specs.Points.{PointsAt, PointsAtBlock}
 use Rattle.output_laws.proofs.LimitLemmas.{limits-change_nothing}
 use Rattle.edit_changes.specs.Records.{EditableFile, trees_of}
 use Rattle.reindex.specs.Index.{file_damage, indexable}
-use Rattle.reindex.specs.Points.{indexed_tracks, is_indexed, point_in, points_among, points_to}
+use Rattle.reindex.specs.Points.{index_points, indexed_tracks, is_indexed, point_in, points_among, points_to}
 use Rattle.reindex.proofs.ScaleLemmas.{trees-scale}
-use Rattle.index_laws.specs.Laws.{EachBlockHasItsPoint, IsPointOf, LimitsHideNothing, PointsPointAtBlocks, StandsIn, indexed_blocks}
-use Rattle.index_laws.proofs.StandLemmas.{blocks-stand}
-use Rattle.index_laws.proofs.TickLemmas.{times-ticks}
+use Rattle.edit_laws.specs.IndexLaws.{EachBlockHasItsPoint, IsPointOf, LimitsHideNothing, PointsPointAtBlocks, StandsIn, indexed_blocks}
+use Rattle.edit_laws.proofs.StandLemmas.{blocks-stand}
+use Rattle.edit_laws.proofs.TickLemmas.{times-ticks}
 
 -- ---- a file that can be indexed
 
 -- no damage is told of it, and its scale is at least 1
-record IsWhole (bytes : List ℕ) (segment : Header) : Type 0 where
-  undamaged : damages_of (file_events true bytes segment) ≡ []
-  scale : 1 ≤ file_scale bytes segment
+pub record IsWhole (bytes : List ℕ) (segment : Header) : Type 0 where
+  pub undamaged : damages_of (file_events true bytes segment) ≡ []
+  pub scale : 1 ≤ file_scale bytes segment
 
 none-first : (ds : List Damage) → slice_get ds 0 ≡ None → ds ≡ []
 none-first [] none = refl
 none-first (d ∷ ds) none = absurd (cc)
 
-indexable-whole : (bytes : List ℕ) (f : EditableFile) → indexable bytes ≡ Ok f → IsWhole bytes f.outline.segment
+pub indexable-whole : (bytes : List ℕ) (f : EditableFile) → indexable bytes ≡ Ok f → IsWhole bytes f.outline.segment
 indexable-whole bytes f is =
     let outline = and_then-ok (outline_in 0 bytes) _ f is in
     let trees = and_then-ok (trees_of bytes outline.0.segment) _ f outline.1.1 in
@@ -58,10 +58,10 @@ hidden-none bytes f is =
 -- ---- the point of a block
 
 -- A block that stands in a Cluster, at a whole tick.
-record IsAtTick (bytes : List ℕ) (segment : Header) (b : Block) : Type 0 where
-  cluster : Header
-  stands : StandsIn (without_limits (file_scale bytes segment)) bytes segment b cluster
-  time : (t : ℕ) → since_start b.time ≡ Some t → b.time ≡ nanoseconds (file_scale bytes segment) (pos (t / file_scale bytes segment))
+pub record IsAtTick (bytes : List ℕ) (segment : Header) (b : Block) : Type 0 where
+  pub cluster : Header
+  pub stands : StandsIn (without_limits (file_scale bytes segment)) bytes segment b cluster
+  pub time : (t : ℕ) → since_start b.time ≡ Some t → b.time ≡ nanoseconds (file_scale bytes segment) (pos (t / file_scale bytes segment))
 
 second : (a b c : Bool) → (a && b && c) ≡ true → b ≡ true
 second true true c is = refl
@@ -71,6 +71,11 @@ second false b c is = absurd (cc)
 since : (z : ℤ) → is_some (since_start z) ≡ true → since_start z ≡ Some (unwrap_or (since_start z) 0)
 since (pos t) is = refl
 since (negsuc n) is = absurd (cc)
+
+-- the time of a block that gets a point
+pub indexed-time : (bytes : List ℕ) (segment : Header) (numbers : List ℕ) (b : Block) (at : IsAtTick bytes segment b) → is_indexed numbers b ≡ true
+    → b.time ≡ nanoseconds (file_scale bytes segment) (pos (unwrap_or (since_start b.time) 0 / file_scale bytes segment))
+indexed-time bytes segment numbers b at is = at.time _ (since b.time (second b.key (is_some (since_start b.time)) (list_any (λ n. n == b.track) numbers) is))
 
 point-at : (bytes : List ℕ) (segment : Header) (numbers : List ℕ) (b : Block) (at : IsAtTick bytes segment b) → is_indexed numbers b ≡ true
     → PointsAt (file_scale bytes segment) bytes segment (point_in (file_scale bytes segment) segment.body b at.cluster) at.cluster b
@@ -85,24 +90,24 @@ point-at bytes segment numbers b at is =
       found = at.stands.found;
       place = omega arith;
       track = refl;
-      time = at.time _ (since b.time (second b.key (is_some (since_start b.time)) (list_any (λ n. n == b.track) numbers) is));
+      time = indexed-time bytes segment numbers b at is;
     }
 
--- the points of blocks point at them
-points-point : (bytes : List ℕ) (segment : Header) (numbers : List ℕ) (blocks : List Block) → All (IsAtTick bytes segment) blocks
-    → All (PointsAtBlock (file_scale bytes segment) bytes segment) (points_among (file_scale bytes segment) segment.body (segment_run bytes segment).list numbers blocks)
-points-point bytes segment numbers [] each = All-nil (PointsAtBlock (file_scale bytes segment) bytes segment)
-points-point bytes segment numbers (b ∷ bs) each = split (points-point bytes segment numbers bs (All-tail (IsAtTick bytes segment) b bs each)) (is_indexed numbers b) refl
+-- what each of the points has that blocks get
+points-have : (P : CuePoint → Type 0) (bytes : List ℕ) (segment : Header) (numbers : List ℕ) (blocks : List Block) → All (IsAtTick bytes segment) blocks
+    → ((b : Block) (at : IsAtTick bytes segment b) → is_indexed numbers b ≡ true → P (point_in (file_scale bytes segment) segment.body b at.cluster))
+    → All P (points_among (file_scale bytes segment) segment.body (segment_run bytes segment).list numbers blocks)
+points-have P bytes segment numbers [] each has = All-nil P
+points-have P bytes segment numbers (b ∷ bs) each has = split (points-have P bytes segment numbers bs (All-tail (IsAtTick bytes segment) b bs each) has) (is_indexed numbers b) refl
   where
-    here : is_indexed numbers b ≡ true → All (PointsAtBlock (file_scale bytes segment) bytes segment) (points_to (file_scale bytes segment) segment.body (segment_run bytes segment).list b)
+    here : is_indexed numbers b ≡ true → All P (points_to (file_scale bytes segment) segment.body (segment_run bytes segment).list b)
     here is =
         let at = All-head (IsAtTick bytes segment) b bs each in
         let own : points_to (file_scale bytes segment) segment.body (segment_run bytes segment).list b ≡ point_in (file_scale bytes segment) segment.body b at.cluster ∷ [] = ap (λ c. option_map_or (λ h. point_in (file_scale bytes segment) segment.body b h ∷ []) c []) at.stands.before in
-        All-same (PointsAtBlock (file_scale bytes segment) bytes segment) _ _ own
-        (All-cons (PointsAtBlock (file_scale bytes segment) bytes segment) (point_in (file_scale bytes segment) segment.body b at.cluster) [] (at.cluster, b, point-at bytes segment numbers b at is) (All-nil (PointsAtBlock (file_scale bytes segment) bytes segment)))
+        All-same P _ _ own (All-cons P (point_in (file_scale bytes segment) segment.body b at.cluster) [] (has b at is) (All-nil P))
 
-    split : All (PointsAtBlock (file_scale bytes segment) bytes segment) (points_among (file_scale bytes segment) segment.body (segment_run bytes segment).list numbers bs) → (t : Bool) → is_indexed numbers b ≡ t → All (PointsAtBlock (file_scale bytes segment) bytes segment) (flat_map (points_to (file_scale bytes segment) segment.body (segment_run bytes segment).list) (if t then b ∷ filter (is_indexed numbers) bs else filter (is_indexed numbers) bs))
-    split rest true is = All-append (PointsAtBlock (file_scale bytes segment) bytes segment) _ _ (here is) rest
+    split : All P (points_among (file_scale bytes segment) segment.body (segment_run bytes segment).list numbers bs) → (t : Bool) → is_indexed numbers b ≡ t → All P (flat_map (points_to (file_scale bytes segment) segment.body (segment_run bytes segment).list) (if t then b ∷ filter (is_indexed numbers) bs else filter (is_indexed numbers) bs))
+    split rest true is = All-append P _ _ (here is) rest
     split rest false is = rest
 
 -- ---- each block has its point
@@ -141,9 +146,11 @@ both : (P Q R : Block → Type 0) → ((b : Block) → P b → Q b → R b) → 
 both P Q R more [] ps qs = All-nil R
 both P Q R more (b ∷ bs) ps qs = All-cons R b bs (more b (All-head P b bs ps) (All-head Q b bs qs)) (both P Q R more bs (All-tail P b bs ps) (All-tail Q b bs qs))
 
--- Each point of a file that can be indexed points at a block of it.
-pub points-point_at : PointsPointAtBlocks
-points-point_at bytes f is =
+-- what each point of a file that can be indexed has
+pub each-has : (P : CuePoint → Type 0) (bytes : List ℕ) (f : EditableFile) → indexable bytes ≡ Ok f
+    → ((b : Block) (at : IsAtTick bytes f.outline.segment b) → is_indexed (indexed_tracks f.trees.tracks) b ≡ true → P (point_in (file_scale bytes f.outline.segment) f.outline.segment.body b at.cluster))
+    → All P (index_points bytes f.outline.segment f.trees.tracks)
+each-has P bytes f is has =
     let whole = indexable-whole bytes f is in
     let segment = f.outline.segment in
     let scale = file_scale bytes segment in
@@ -153,6 +160,12 @@ points-point_at bytes f is =
     (λ (b : Block). (t : ℕ) → since_start b.time ≡ Some t → b.time ≡ nanoseconds scale (pos (t / scale))) (IsAtTick bytes segment)
     (λ b stands time. record { cluster = stands.0; stands = stands.1; time = time }) (blocks_of unlimited)
     (blocks-stand (without_limits scale) bytes segment) (times-ticks (without_limits scale) bytes segment whole.scale) in
-    All-take (PointsAtBlock scale bytes segment) MOST_CUES (points_among scale segment.body (segment_run bytes segment).list numbers (blocks_of (file_events true bytes segment)))
-    (points-point bytes segment numbers (blocks_of (file_events true bytes segment))
-    (All-same (IsAtTick bytes segment) (blocks_of (file_events true bytes segment)) (blocks_of unlimited) (sym (ap blocks_of (hidden-none bytes f is))) at))
+    All-take P MOST_CUES (points_among scale segment.body (segment_run bytes segment).list numbers (blocks_of (file_events true bytes segment)))
+    (points-have P bytes segment numbers (blocks_of (file_events true bytes segment))
+    (All-same (IsAtTick bytes segment) (blocks_of (file_events true bytes segment)) (blocks_of unlimited) (sym (ap blocks_of (hidden-none bytes f is))) at) has)
+
+-- Each point of a file that can be indexed points at a block of it.
+pub points-point_at : PointsPointAtBlocks
+points-point_at bytes f is =
+    each-has (PointsAtBlock (file_scale bytes f.outline.segment) bytes f.outline.segment) bytes f is
+    (λ b at indexed. (at.cluster, b, point-at bytes f.outline.segment (indexed_tracks f.trees.tracks) b at indexed))

@@ -21,7 +21,7 @@ use Rattle.block_format.specs.Events.{Found, Event, found_in, is_closed, events_
 use Rattle.reindex.specs.Points.{cluster_before}
 use Rattle.reindex.proofs.ClustersLemmas.{before-none}
 use Rattle.reindex.proofs.PlaceLemmas.{FoundBetween, between-ends, found-between, found-somewhere}
-use Rattle.index_laws.specs.Laws.{StandsIn, BlocksStandInClusters}
+use Rattle.edit_laws.specs.IndexLaws.{StandsIn, BlocksStandInClusters}
 
 -- A block stands in a Cluster of a list, which begins at p or behind it.
 record StandsAmong (r : Rules) (bytes : List ℕ) (e p : ℕ) (list : List Header) (b : Block) : Type 0 where

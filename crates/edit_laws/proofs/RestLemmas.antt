@@ -1,0 +1,607 @@
+-- What stays of a content of which some Elements of level 1 are written anew, with others behind its old end or none.
+use Rattle.std.proofs.Common.{inl, inr, ◌≡◌, ◌⊎◌, ◌<◌, ◌≤◌, ℕ, ◌+◌, ◌-◌, ◌^◌, ◌==◌, min, Bool, true, false, if◌then◌else◌, List, [], ◌∷◌, ◌++◌, length, length-append, append-nil, All, None, Some, Ok, refl, sym, ◌∙◌, ap, ap₂, subst, arith}
+use Rattle.std.specs.Bool.{⊤}
+use Rattle.std.proofs.lemmas.List.Elements.{All-nil, All-head, All-tail, All-weaker}
+use Rattle.ebml_numbers.specs.declared.number.Size.{Size}
+use Rattle.ebml_numbers.specs.declared.number.Size.TheVariants.{Known, Unknown}
+use Rattle.ebml_numbers.specs.Number.{AreOctets, all_ones, id_octets, is_id, size_octets, uint_width}
+use Rattle.ebml_numbers.proofs.NumberLemmas.{length-size_octets, length-uint_octets}
+use Rattle.mkv_schema.specs.Schema.{entry_of}
+use Rattle.mkv_schema.specs.Table.{table}
+use Rattle.mkv_schema.specs.declared.ids.TheConstants.{ATTACHMENTS, CLUSTER, SEEK_HEAD, SEGMENT}
+use Rattle.mkv_io.specs.declared.outside.TheConstants.{LONGEST_FILE}
+use Rattle.mkv_schema.specs.declared.element.Header.{Header}
+use Rattle.mkv_schema.specs.Element.{at_level_0, body_damage, element_at, end_in, in_segment, is_unknown, known, octets_between, stated_end}
+use Rattle.mkv_schema.specs.Elements.{ends_cluster, ends_segment, level_1}
+use Rattle.mkv_schema.specs.Outline.{ebml_header, segment_bound, segment_of, segment_run}
+use Rattle.mkv_schema.specs.Value.{first_of}
+use Rattle.mkv_schema.proofs.ElementLemmas.{element_at-placed, length-octets_between}
+use Rattle.element_reader.specs.Collected.{others_of}
+use Rattle.element_reader.specs.Outline.{FileOutline}
+use Rattle.element_reader.proofs.OutlineLemmas.{first_in-others}
+use Rattle.output_model.specs.Element.{Element, HoldsAt, IsElement, element, header_in_place, header_of, headers_in_place, joined, octets_of}
+use Rattle.output_model.proofs.ReadLemmas.{element_at-read, length-header_of, length-octets_of}
+use Rattle.output_model.proofs.HeldLemmas.{between-split, held-left}
+use Rattle.output_model.proofs.WrittenLemmas.{Written, element-written}
+use Rattle.block_format.specs.Elements.{Rules}
+use Rattle.block_format.specs.Events.{blocks_of, damages_of, events_among, events_of, found_in}
+use Rattle.meta_records.specs.Attached.{AttachedFile, first_attached}
+use Rattle.meta_records.specs.Records.{first_tree}
+use Rattle.sidecar_edit.specs.Writes.{Write, applied, extent, Touches}
+use Rattle.sidecar_edit.proofs.RedoLemmas.{length-applied}
+use Rattle.edit_changes.specs.Plan.{ascending, number_of, size_refusal, size_width, size_writes, write}
+use Rattle.edit_changes.specs.Span.{span_of}
+use Rattle.edit_plan.proofs.LevelLemmas.{Stand}
+use Rattle.edit_plan.proofs.PartLemmas.{first-own}
+use Rattle.edit_plan.proofs.PlanLemmas.{bound-most}
+use Rattle.edit_plan.proofs.SizeLemmas.{HasSize, has-size}
+use Rattle.edit_plan.proofs.VoidLemmas.{first-room}
+use Rattle.edit_laws.proofs.SameLemmas.{AreSame, InOrder, IsOneOf, order-fits, order-held, same-clear, same-part}
+use Rattle.edit_laws.proofs.HeaderLemmas.{found-same, found-sound}
+use Rattle.edit_laws.proofs.HeadLemmas.{header-long, header-same, sound-longer}
+use Rattle.edit_laws.proofs.SegmentLemmas.{IsSegment, segment-is, segment-same}
+use Rattle.edit_laws.proofs.BlockLemmas.{AreAlike}
+use Rattle.edit_laws.proofs.ClusterLemmas.{HasNoBlock}
+use Rattle.edit_laws.proofs.TileLemmas.{advances-level, level, run_of, Stands, tiled, whole, IsAhead}
+use Rattle.edit_laws.proofs.LevelLemmas.{Edit, Spot, IsEdit, IsIn, IsListed, IsSpot, level-within, new_level}
+use Rattle.edit_laws.proofs.ResultLemmas.{all-in, cluster-kept, events-skip, first-behind, first-moved, first-skips, first-stays}
+use Rattle.edit_laws.proofs.FillLemmas.{IsFilled, small-widen}
+use Rattle.edit_laws.proofs.HeldLemmas.{IsWritten, attached-same, first-tree, in-place, same-blocks, same-undamaged}
+use Rattle.edit_laws.proofs.ItemLemmas.{AreDistinct, IsInside, IsItem, IsItemIn, IsName, Item, goes-on, write_of}
+use Rattle.edit_laws.proofs.OpenedLemmas.{IsOpened}
+use Rattle.edit_laws.proofs.EndLemmas.{CanGrow, alone-first, bound-total, ends-total, extent-last, last-total, touches-size}
+use Rattle.edit_laws.proofs.MoveLemmas.{moved, moved-edit, moved-ids, moved-in, moved-listed, moved-single}
+use Rattle.edit_laws.proofs.RoomLemmas.{tiles-stand}
+use Rattle.edit_laws.proofs.StayLemmas.{same-length, same-outside, stays, stays-edit, stays-ids, stays-in, stays-listed, stays-single}
+use Rattle.edit_laws.proofs.WriteLemmas.{one-ascending, one-items, one-left, one-right, touches-append, touches-ascending, touches-items, writes_of}
+use Rattle.edit_laws.specs.Laws.{IsOutside}
+
+-- ---- what stays
+
+-- No Element of an ID, one that ends a Cluster and isn't its own, is written anew or stands behind the old end.
+pub record IsUntouched (items : List Item) (added : List Element) (id : ℕ) : Type 0 where
+  pub level : ends_cluster id ≡ true
+  pub other : (id == CLUSTER) ≡ false
+  pub written : All (λ (i : Item). (i.element.id == id) ≡ false) items
+  pub behind : All (λ (d : Element). (d.id == id) ≡ false) added
+
+-- A Cluster of the old content stands in the new one too, and gives the same blocks.
+pub record HoldsCluster (old new : List ℕ) (was now h : Header) : Type 0 where
+  pub found : element_at in_segment new h.offset (segment_bound new now) ≡ Ok h
+  pub alike : (r : Rules) → AreAlike (found_in r old (segment_bound old was) h) (found_in r new (segment_bound new now) h)
+
+-- What a content holds where these Elements of level 1 of the old one are written anew, and these stand behind its old end:
+-- an undamaged level 1; Clusters, blocks and what else isn't written anew as they were, at their places, and no damage where
+-- none was; and what is written anew in its place, or else, where it is the only one of its ID, behind the old end or nowhere.
+pub record HoldsRest (old new : List ℕ) (o : FileOutline) (was : List Header) (items : List Item) (added : List Element) : Type 0 where
+  pub segment : Header
+  pub ebml : ebml_header new ≡ Ok o.ebml
+  pub found : segment_of new o.ebml ≡ Ok segment
+  pub body : segment.body ≡ o.segment.body
+  pub list : List Header
+  pub end : ℕ
+  pub run : segment_run new segment ≡ whole list end
+  pub held : HoldsAt new (length old) (joined added)
+  pub same : (id : ℕ) → IsUntouched items added id → first_of id list ≡ first_of id was
+  pub tree : (id : ℕ) → IsUntouched items added id → first_tree id new segment ≡ first_tree id old o.segment
+  pub attached : (files : List AttachedFile) → IsUntouched items added ATTACHMENTS → first_attached old o.segment ≡ Ok files → first_attached new segment ≡ Ok files
+  pub blocks : (r : Rules) → blocks_of (events_of r new segment) ≡ blocks_of (events_of r old o.segment)
+  pub undamaged : (r : Rules) → damages_of (events_of r old o.segment) ≡ [] → damages_of (events_of r new segment) ≡ []
+  pub clusters : (h : Header) → (h.id == CLUSTER) ≡ true → IsAhead was h → HoldsCluster old new o.segment segment h
+  pub stays : (i : Item) → IsItemIn items i → length (octets_of i.element) ≤ span_of i.header (others_of was) → (w : IsWritten new i.element.id i.element.body list) × (w.place ≡ i.header.offset)
+  pub moves : (i : Item) → IsItemIn items i → span_of i.header (others_of was) < length (octets_of i.element) → number_of i.element.id (others_of was) ≤ 1
+      → first_of i.element.id list ≡ first_of i.element.id (headers_in_place (length old) added)
+  pub joins : (id : ℕ) → ends_cluster id ≡ true → All (λ (i : Item). (i.element.id == id) ≡ false) items → first_of id was ≡ None
+      → first_of id list ≡ first_of id (headers_in_place (length old) added)
+
+-- ---- items
+
+-- what all items have, one has
+pub all-items : (P : Item → Type 0) (is : List Item) (i : Item) → All P is → IsItemIn is i → P i
+all-items P [] i all member = absurd member
+all-items P (j ∷ js) i all (inl same) = subst P same (All-head P j js all)
+all-items P (j ∷ js) i all (inr later) = all-items P js i (All-tail P j js all) later
+
+pub seek-name : IsName SEEK_HEAD
+unfolding entry_of table
+seek-name = record { cluster = refl; void = refl; level = refl; inner = refl }
+
+-- an Element of few octets can be written anew
+pub small-item : (others : List Header) (id : ℕ) (body : List ℕ) (h : Header) → IsName id → is_id id ≡ true → first_of id others ≡ Some h → length (octets_of (element id body)) ≤ 2 ^ 24 → IsItem others (record { header = h; element = element id body })
+small-item others id body h name valid first few =
+    let all = length-octets_of (element id body) in
+    record { first = first; name = name; widen = small-widen id body valid (omega arith) }
+
+-- ---- octets
+
+-- octets that stand one behind the other
+held-join : (bytes : List ℕ) (p : ℕ) (a b : List ℕ) → HoldsAt bytes p a → HoldsAt bytes (p + length a) b → HoldsAt bytes p (a ++ b)
+held-join bytes p a b one two =
+    let len = length-append a b in
+    ap (octets_between bytes p) (let end : p + length (a ++ b) ≡ p + length a + length b = omega arith in end)
+    ∙ between-split bytes p (p + length a) (p + length a + length b) (omega arith) (omega arith)
+    ∙ ap₂ (λ x y. x ++ y) one two
+
+held-nothing : (bytes : List ℕ) (p : ℕ) → HoldsAt bytes p []
+held-nothing bytes p = let len = length-octets_between bytes p (p + 0) in of (octets_between bytes p (p + 0)) (omega arith)
+  where
+    of : (l : List ℕ) → length l ≡ 0 → l ≡ []
+    of [] is = refl
+    of (x ∷ xs) is = absurd (omega arith)
+
+-- an Element of level 1 holds no block
+outside-ahead : (list : List Header) → All IsOutside list → (h : Header) → IsAhead list h → HasNoBlock h
+outside-ahead [] all h ahead = absurd ahead
+outside-ahead (g ∷ gs) all h (inl same) = let is = All-head IsOutside g gs all in subst HasNoBlock same (record { time = is.timestamp; simple = is.simple; group = is.group })
+outside-ahead (g ∷ gs) all h (inr later) = outside-ahead gs (All-tail IsOutside g gs all) h later
+
+-- ---- what the new list gives
+
+module _ (t : Edit) (o : FileOutline) (items : List Item) (added : List Element) (now : Header) (listed : IsListed t ⊤ t.list t.start) (holds : IsEdit t ⊤)
+    (old_run : segment_run t.old o.segment ≡ whole t.list t.last) (new_run : segment_run t.new now ≡ run_of (new_level t) t.start)
+    (old_bound : segment_bound t.old o.segment ≡ t.end) (new_bound : segment_bound t.new now ≡ t.now_end)
+    (are : All (IsItem (others_of t.list)) items) (behind : t.behind ≡ headers_in_place (length t.old) added) (none : All (λ (d : Element). (d.id == CLUSTER) ≡ false) added)
+    (ids : (P : ℕ → Type 0) → All (λ (i : Item). P i.element.id) items → All (λ (s : Spot). P s.header.id) t.spots)
+    (in_it : (i : Item) → IsItemIn items i → (f : IsFilled t.new i.header.offset (span_of i.header (others_of t.list)) i.element) × IsIn t.spots (record { header = i.header; now = f.now; voids = f.voids }))
+    (single : (s : Spot) → IsIn t.spots s → All (λ (x : Spot). x.header ≡ s.header → x ≡ s) t.spots) where
+  none-spot : (id : ℕ) → All (λ (i : Item). (i.element.id == id) ≡ false) items → All (λ (s : Spot). (s.header.id == id) ≡ false) t.spots
+  none-spot id written = ids (λ n. (n == id) ≡ false) written
+
+  none-behind : (id : ℕ) → All (λ (d : Element). (d.id == id) ≡ false) added → first_of id t.behind ≡ None
+  none-behind id others =
+      ap (first_of id) (behind ∙ sym (append-nil (headers_in_place (length t.old) added))) ∙ first-skips id (length t.old) added [] others
+
+  no-events : (r : Rules) → events_among r t.new t.now_end t.behind None ≡ []
+  no-events r =
+      ap (λ l. events_among r t.new t.now_end l None) (behind ∙ sym (append-nil (headers_in_place (length t.old) added)))
+      ∙ events-skip t ⊤ r (length t.old) added [] none
+
+  no-cluster : All (λ (i : Item). (i.element.id == CLUSTER) ≡ false) items
+  no-cluster = All-weaker (IsItem (others_of t.list)) (λ (i : Item). (i.element.id == CLUSTER) ≡ false) (λ i is. is.name.cluster) items are
+
+  cluster-holds : (h : Header) → (h.id == CLUSTER) ≡ true → IsAhead t.list h → HoldsCluster t.old t.new o.segment now h
+  cluster-holds h cluster ahead =
+      let keeps = cluster-kept t ⊤ h cluster t.list listed.list listed.becomes ahead in
+      record {
+        found = subst (λ e. element_at in_segment t.new h.offset e ≡ Ok h) (sym new_bound) keeps.found;
+        alike = λ r.
+            subst (λ e. AreAlike (found_in r t.old e h) (found_in r t.new (segment_bound t.new now) h)) (sym old_bound)
+            (subst (λ e. AreAlike (found_in r t.old t.end h) (found_in r t.new e h)) (sym new_bound) (keeps.alike r));
+      }
+
+  -- one that is written anew
+  module _ (i : Item) (member : IsItemIn items i) where
+    is : IsItem (others_of t.list) i
+    is = all-items (IsItem (others_of t.list)) items i are member
+
+    abbrev fill : IsFilled t.new i.header.offset (span_of i.header (others_of t.list)) i.element
+    fill = (in_it i member).0
+
+    abbrev spot : Spot
+    spot = record { header = i.header; now = fill.now; voids = fill.voids }
+
+    in_them : IsIn t.spots spot
+    in_them = (in_it i member).1
+
+    own : i.header.id ≡ i.element.id
+    own = first-own i.element.id (others_of t.list) i.header is.first
+
+    first : first_of i.element.id t.list ≡ Some i.header
+    first = sym (first_in-others i.element.id t.list is.name.cluster) ∙ is.first
+
+    holds-spot : IsSpot t ⊤ spot
+    holds-spot = all-in (IsSpot t ⊤) t.spots spot holds.spots in_them
+
+    item-stays : length (octets_of i.element) ≤ span_of i.header (others_of t.list) → (w : IsWritten t.new i.element.id i.element.body listed.list) × (w.place ≡ i.header.offset)
+    item-stays fits = elim fill.is [
+      | inl (same, body, room) ↦ (in-place t ⊤ listed o.segment now old_run new_run old_bound new_bound spot in_them holds-spot i.element.id i.element.body own is.name.level (single spot in_them) first same body, refl)
+      | inr (void, alone, long) ↦ absurd (omega arith)
+    ]
+
+    item-moves : span_of i.header (others_of t.list) < length (octets_of i.element) → number_of i.element.id (others_of t.list) ≤ 1 → first_of i.element.id listed.list ≡ first_of i.element.id (headers_in_place (length t.old) added)
+    item-moves long few = elim fill.is [
+      | inl (same, body, room) ↦ absurd (omega arith)
+      | inr (void, alone, more) ↦
+          first-moved t ⊤ spot in_them holds-spot i.element.id own is.name.level (single spot in_them) void t.list listed.list (alone-first i.element.id t.list i.header is.name.cluster few first) listed.becomes
+          ∙ ap (first_of i.element.id) behind
+    ]
+
+  rest-of : HoldsAt t.new (length t.old) (joined added) → ebml_header t.new ≡ Ok o.ebml → segment_of t.new o.ebml ≡ Ok now → now.body ≡ o.segment.body → HoldsRest t.old t.new o t.list items added
+  rest-of held ebml found body = record {
+    segment = now;
+    ebml = ebml;
+    found = found;
+    body = body;
+    list = listed.list;
+    end = listed.end;
+    run = new_run ∙ listed.run;
+    held = held;
+    same = λ id is. first-stays t ⊤ id is.level (none-spot id is.written) (none-behind id is.behind) t.list listed.list listed.becomes;
+    tree = λ id is. first-tree t ⊤ listed o.segment now old_run new_run old_bound new_bound id is.level is.other (none-spot id is.written) (none-behind id is.behind);
+    attached = λ files is old. attached-same t ⊤ listed o.segment now old_run new_run old_bound new_bound files (none-spot ATTACHMENTS is.written) (none-behind ATTACHMENTS is.behind) old;
+    blocks = λ r. same-blocks t ⊤ listed o.segment now old_run new_run old_bound new_bound r (no-events r) (none-spot CLUSTER no-cluster);
+    undamaged = λ r. same-undamaged t ⊤ listed o.segment now old_run new_run old_bound new_bound r (no-events r) (none-spot CLUSTER no-cluster);
+    clusters = cluster-holds;
+    stays = item-stays;
+    moves = item-moves;
+    joins = λ id level written nothing. first-behind t ⊤ id level (none-spot id written) t.list listed.list listed.becomes nothing ∙ ap (first_of id) behind;
+  }
+
+-- ---- the two contents
+
+module _ (bytes : List ℕ) (are_octets : AreOctets bytes) (short : length bytes ≤ LONGEST_FILE) (o : FileOutline) (ws : List Write) (op : IsOpened bytes o) (undamaged : o.damage ≡ None)
+    (order : InOrder (length bytes) 0 ws) (outside_all : All IsOutside (segment_run bytes o.segment).list) where
+  abbrev segment : Header
+  segment = o.segment
+
+  abbrev list : List Header
+  list = (segment_run bytes segment).list
+
+  abbrev others : List Header
+  others = others_of list
+
+  abbrev last : ℕ
+  last = (segment_run bytes segment).end
+
+  abbrev end : ℕ
+  end = segment_bound bytes segment
+
+  abbrev total : ℕ
+  total = length bytes
+
+  abbrev new : List ℕ
+  new = applied bytes ws
+
+  run : run_of (level bytes segment.size end) segment.body ≡ whole list last
+  run = ap (λ d. record { list = list; damage = d; end = last }) (sym op.damage ∙ undamaged)
+
+  seg : IsSegment bytes o.ebml segment
+  seg = segment-is bytes o.ebml segment op.segment
+
+  body-inside : segment.body ≤ length bytes
+  body-inside = (element_at-placed at_level_0 bytes segment.offset (length bytes) segment (omega (arith, seg.inside)) seg.found).within
+
+  body-later : segment.offset < segment.body
+  body-later = (element_at-placed at_level_0 bytes segment.offset (length bytes) segment (omega (arith, seg.inside)) seg.found).later
+
+  begins : segment.body ≤ end
+  begins = of (is_unknown segment.size)
+    where
+      of : (unknown : Bool) → segment.body ≤ (if unknown then length bytes else end_in (length bytes) segment)
+      of true = body-inside
+      of false = omega (arith, body-inside)
+
+  within : end ≤ length bytes
+  within = bound-most bytes segment
+
+  pub stand : Stand segment.body last others
+  stand = tiles-stand bytes segment.size end segment.body last list (tiled (level bytes segment.size end) segment.body last list (advances-level bytes segment.size end) run).tiles
+
+  -- the list ends within the file
+  pub last-within : last ≤ length bytes
+  last-within =
+      let reaches = level-within bytes segment.size end segment.body last list (tiled (level bytes segment.size end) segment.body last list (advances-level bytes segment.size end) run).tiles begins in
+      omega (arith, reaches, within)
+
+  offset-long : 4 ≤ segment.offset
+  offset-long =
+      let long = header-long bytes o.ebml op.ebml in
+      let before = seg.before in omega arith
+
+  blocks : (h : Header) → IsAhead list h → ends_cluster h.id ≡ false → HasNoBlock h
+  blocks h ahead goes = outside-ahead list outside_all h ahead
+
+  -- an octet of a room stands in front of the end of the list
+  inside-room : (is : List Item) (k : ℕ) → All (IsItem others) is → IsInside others is k → (segment.body ≤ k) × (k < last)
+  inside-room [] k are inside = absurd inside
+  inside-room (i ∷ is) k are (inr later) = inside-room is k (All-tail (IsItem others) i is are) later
+  inside-room (i ∷ is) k are (inl here) =
+      let own = All-head (IsItem others) i is are in
+      let room = first-room i.element.id segment.body last others i.header stand own.first in
+      let from = room.from in let inside = room.inside in let left = here.0 in let right = here.1 in
+      (omega arith, omega arith)
+
+  -- ---- nothing stands behind the old end
+
+  module _ (items : List Item) (are : All (IsItem others) items) (distinct : AreDistinct items) (is_ws : ascending (writes_of others items) ≡ ws) where
+    one : All (λ (i : Item). IsOneOf ws (write_of others i)) items
+    one = subst (λ (vs : List Write). All (λ (i : Item). IsOneOf vs (write_of others i)) items) is_ws
+        (All-weaker (λ (i : Item). IsOneOf (writes_of others items) (write_of others i)) (λ (i : Item). IsOneOf (ascending (writes_of others items)) (write_of others i)) (λ i is. one-ascending (writes_of others items) (write_of others i) is) items (one-items others items))
+
+    touch : (k : ℕ) → Touches ws k → IsInside others items k
+    touch k touched =
+        touches-items segment.body last others stand items k are
+        (touches-ascending (writes_of others items) k (subst (λ (vs : List Write). Touches vs k) (sym is_ws) touched))
+
+    len : length new ≡ length bytes
+    len = same-length bytes segment.size segment.body end last list items ws short within begins run order are one touch blocks
+
+    front-same : AreSame bytes new 0 segment.body
+    front-same = same-outside bytes segment.size segment.body end last list items ws short within begins run order are one touch blocks 0 segment.body body-inside (inl (omega arith))
+
+    abbrev edit-is : Edit
+    edit-is = stays bytes segment.size segment.body end last list items ws short within begins run order are one touch blocks
+
+    bound-same : segment_bound new segment ≡ end
+    bound-same = ap (λ n. if is_unknown segment.size then n else end_in n segment) len
+
+    new-run : segment_run new segment ≡ run_of (level new segment.size end) segment.body
+    new-run = ap (λ n. level_1 new segment.size segment.body n) bound-same
+
+    there : element_at at_level_0 new segment.offset (length new) ≡ Ok segment
+    there =
+        let inside = seg.inside in let later = body-later in let short_body = body-inside in
+        found-same ((at_level_0).may_open) ((at_level_0).may_open) bytes new segment.offset (length bytes) (length new) segment (omega arith) seg.found (omega (arith, len))
+        (same-part bytes new 0 segment.body segment.offset segment.body (omega arith) (omega arith) (omega arith) front-same)
+        (ap (λ n. body_damage at_level_0 n n segment) len ∙ found-sound ((at_level_0).may_open) bytes segment.offset (length bytes) segment seg.found)
+
+    front-part : AreSame bytes new 0 segment.offset
+    front-part = same-part bytes new 0 segment.body 0 segment.offset (omega arith) (omega arith) (omega (arith, body-later)) front-same
+
+    -- What stays where nothing stands behind the old end.
+    pub rest-stays : HoldsRest bytes new o list items []
+    rest-stays =
+        rest-of edit-is o items [] segment
+        (stays-listed bytes segment.size segment.body end last list items ws short within begins run order are one touch blocks)
+        (stays-edit bytes segment.size segment.body end last list items ws short within begins run order are one touch blocks)
+        run new-run refl bound-same are refl (All-nil (λ (d : Element). (d.id == CLUSTER) ≡ false))
+        (stays-ids bytes segment.size segment.body end last list items ws short within begins run order are one touch blocks)
+        (stays-in bytes segment.size segment.body end last list items ws short within begins run order are one touch blocks)
+        (stays-single bytes segment.size segment.body end last list items ws short within begins run order are one touch blocks distinct)
+        (held-nothing new total)
+        (header-same bytes new o.ebml segment.offset front-part offset-long seg.before (omega (arith, seg.inside)) (omega (arith, len)) op.ebml)
+        (segment-same bytes new o.ebml segment segment seg (omega (arith, len)) front-part there seg.own)
+        refl
+
+  -- ---- something stands there
+
+  module _ (items : List Item) (are : All (IsItem others) items) (distinct : AreDistinct items) (grow : CanGrow o) (first : Element) (more : List Element)
+      (elements : All IsElement (first ∷ more)) (names : All (λ (d : Element). IsName d.id) (first ∷ more)) (few : length (joined (first ∷ more)) ≤ 2 ^ 24)
+      (size_fits : size_refusal o.segment (length bytes + length (joined (first ∷ more))) ≡ None)
+      (is_ws : size_writes o.segment (length bytes + length (joined (first ∷ more))) ++ ascending (writes_of (others_of (segment_run bytes o.segment).list) items) ++ write (length bytes) (joined (first ∷ more)) ∷ [] ≡ ws) where
+    abbrev added : List ℕ
+    added = joined (first ∷ more)
+
+    abbrev now_end : ℕ
+    now_end = total + length added
+
+    abbrev front : List Write
+    front = size_writes segment now_end
+
+    abbrev middle : List Write
+    middle = ascending (writes_of others items)
+
+    abbrev tail_write : Write
+    tail_write = write total added
+
+    one-moving : All (λ (i : Item). IsOneOf ws (write_of others i)) items
+    one-moving = subst (λ (vs : List Write). All (λ (i : Item). IsOneOf vs (write_of others i)) items) is_ws
+        (All-weaker (λ (i : Item). IsOneOf (writes_of others items) (write_of others i)) (λ (i : Item). IsOneOf (front ++ middle ++ tail_write ∷ []) (write_of others i))
+        (λ i is. one-left (front ++ middle) (tail_write ∷ []) (write_of others i) (one-right front middle (write_of others i) (one-ascending (writes_of others items) (write_of others i) is))) items (one-items others items))
+
+    -- where an octet is written
+    where-written : (k : ℕ) → Touches ws k → ((segment.offset + length (id_octets SEGMENT) ≤ k) × (k < segment.body)) ⊎ ((total ≤ k) ⊎ IsInside others items k)
+    where-written k touched = elim (touches-append (front ++ middle) (tail_write ∷ []) k (subst (λ (vs : List Write). Touches vs k) (sym is_ws) touched)) [
+      | inl before ↦ elim (touches-append front middle k before) [
+        | inl size ↦ inl (touches-size segment now_end k size)
+        | inr mid ↦ inr (inr (touches-items segment.body last others stand items k are (touches-ascending (writes_of others items) k mid)))
+      ]
+      | inr behind ↦ elim behind [
+        | inl here ↦ inr (inl here.0)
+        | inr none ↦ absurd none
+      ]
+    ]
+
+    touch-moving : (k : ℕ) → Touches ws k → (k < segment.body) ⊎ ((total ≤ k) ⊎ IsInside others items k)
+    touch-moving k touched = elim (where-written k touched) [
+      | inl size ↦ inl size.1
+      | inr rest ↦ inr rest
+    ]
+
+    -- ---- how long the file is
+
+    inside-front : (k : ℕ) → Touches (front ++ middle) k → k < total
+    inside-front k touched = elim (touches-append front middle k touched) [
+      | inl size ↦ (let is = touches-size segment now_end k size in let before = is.1 in let most = body-inside in omega arith)
+      | inr mid ↦ (let is = inside-room items k are (touches-items segment.body last others stand items k are (touches-ascending (writes_of others items) k mid)) in let right = is.1 in let ends = last-total bytes o op undamaged grow body-inside run in omega arith)
+    ]
+
+    order-is : InOrder total 0 (front ++ middle ++ tail_write ∷ [])
+    order-is = subst (InOrder total 0) (sym is_ws) order
+
+    grown-len : length new ≡ now_end
+    grown-len =
+        length-applied bytes ws (order-fits total 0 total ws (omega arith) (omega arith) order)
+        ∙ ap (extent total) (sym is_ws)
+        ∙ extent-last total (front ++ middle) tail_write order-is inside-front (omega arith)
+
+    added-held : HoldsAt new total added
+    added-held = order-held total ws bytes tail_write refl order (subst (λ (vs : List Write). IsOneOf vs tail_write) is_ws (one-right (front ++ middle) (tail_write ∷ []) tail_write (inl refl))) (omega (arith, grown-len))
+
+    -- ---- level 1
+
+    abbrev now_size : Size
+    now_size = if is_unknown segment.size then segment.size else Known (now_end - segment.body)
+
+    added-go : All (λ (d : Element). ends_segment now_size d.id ≡ false) (first ∷ more)
+    added-go = All-weaker (λ (d : Element). IsName d.id) (λ (d : Element). ends_segment now_size d.id ≡ false) (λ d is. goes-on now_size d.id is.inner) (first ∷ more) names
+
+    added-level : ends_cluster first.id ≡ true
+    added-level = (All-head (λ (d : Element). IsName d.id) first more names).level
+
+    stops : (id : ℕ) → ends_segment now_size id ≡ ends_segment segment.size id
+    stops id = of segment.size
+      where
+        of : (z : Size) → ends_segment (if is_unknown z then z else Known (now_end - segment.body)) id ≡ ends_segment z id
+        of (Known n) = refl
+        of Unknown = refl
+
+    bound-is : end ≡ total
+    bound-is = bound-total bytes o op undamaged grow body-inside run
+
+    run-moving : run_of (level bytes segment.size total) segment.body ≡ whole list total
+    run-moving = ap (λ n. run_of (level bytes segment.size n) segment.body) (sym bound-is) ∙ run ∙ ap (whole list) (last-total bytes o op undamaged grow body-inside run)
+
+    ends-moving : (h : Header) (m : ℕ) → Stands (level bytes segment.size total) h.offset h m → IsAhead list h → stated_end h ≤ total
+    ends-moving h m stands ahead = ends-total bytes o op undamaged grow body-inside run h m (subst (λ n. Stands (level bytes segment.size n) h.offset h m) (sym bound-is) stands) ahead
+
+    abbrev moving-edit : Edit
+    moving-edit = moved bytes segment.size now_size segment.body list items ws first more short run-moving order are one-moving touch-moving stops ends-moving blocks grown-len added-held elements added-go added-level
+
+    -- ---- the Segment
+
+    -- the Segment that stands there now: its size is written anew where it is known
+    record IsNow (now : Header) : Type 0 where
+      there : element_at at_level_0 new segment.offset (length new) ≡ Ok now
+      own : now.id ≡ SEGMENT
+      body : now.body ≡ segment.body
+      size : now.size ≡ now_size
+
+    clear-before : (p q : ℕ) → q ≤ segment.offset + length (id_octets SEGMENT) → q ≤ segment.body → q ≤ total → AreSame bytes new p q
+    clear-before p q header before inside =
+        same-clear ws bytes p q (order-fits total 0 total ws (omega arith) (omega arith) order) inside
+        (λ k from to touched. elim (where-written k touched) [
+          | inl size ↦ (let is = size.0 in let wrong : ⊥ = omega arith in wrong)
+          | inr rest ↦ elim rest [
+            | inl past ↦ (let wrong : ⊥ = omega arith in wrong)
+            | inr room ↦ (let is = (inside-room items k are room).0 in let wrong : ⊥ = omega arith in wrong)
+          ]
+        ])
+
+    clear-all : is_unknown segment.size ≡ true → (p q : ℕ) → q ≤ segment.body → AreSame bytes new p q
+    clear-all unknown p q before =
+        let inside = body-inside in
+        same-clear ws bytes p q (order-fits total 0 total ws (omega arith) (omega arith) order) (omega arith)
+        (λ k from to touched. elim (touches-append (front ++ middle) (tail_write ∷ []) k (subst (λ (vs : List Write). Touches vs k) (sym is_ws) touched)) [
+          | inl head_or ↦ elim (touches-append front middle k head_or) [
+            | inl size ↦ no-size k size
+            | inr mid ↦ (let is = (inside-room items k are (touches-items segment.body last others stand items k are (touches-ascending (writes_of others items) k mid))).0 in let wrong : ⊥ = omega arith in wrong)
+          ]
+          | inr behind ↦ elim behind [
+            | inl here ↦ (let is = here.0 in let wrong : ⊥ = omega arith in wrong)
+            | inr none ↦ none
+          ]
+        ])
+      where
+        no-size : (k : ℕ) → Touches (size_writes segment now_end) k → ⊥
+        no-size k touched = subst (λ (u : Bool). Touches (if u then [] else write (segment.offset + length (id_octets SEGMENT)) (size_octets (now_end - segment.body) (size_width segment)) ∷ []) k) unknown touched
+
+    now-unknown : is_unknown segment.size ≡ true → IsNow segment
+    now-unknown unknown =
+        let later = body-later in let inside = body-inside in let start_inside = seg.inside in
+        record {
+          there = found-same ((at_level_0).may_open) ((at_level_0).may_open) bytes new segment.offset total (length new) segment (omega arith) seg.found (omega (arith, grown-len))
+              (clear-all unknown segment.offset segment.body (omega arith))
+              (sound-longer ((at_level_0).may_open) total (length new) total (length new) segment (found-sound ((at_level_0).may_open) bytes segment.offset total segment seg.found) (omega (arith, unknown-end segment.size refl, grown-len)) (omega arith));
+          own = seg.own;
+          body = refl;
+          size = sym (ap (λ (u : Bool). if u then segment.size else Known (now_end - segment.body)) unknown);
+        }
+      where
+        unknown-end : (z : Size) → segment.size ≡ z → stated_end segment ≤ total
+        unknown-end (Known n) is = absurd (let wrong : true ≡ false = sym unknown ∙ ap is_unknown is in cc)
+        unknown-end Unknown is = let none : known segment.size ≡ 0 = ap known is in let inside = body-inside in omega arith
+
+    now-known : is_unknown segment.size ≡ false → (now : Header) × IsNow now
+    now-known known_size = of (element-written at_level_0 bytes segment.offset total segment are_octets (omega (arith, seg.inside)) refl seg.found known_size (omega (arith, grow.segment known_size, op.total)))
+      where
+        sized : (n : ℕ) → segment.size ≡ Known n → HasSize segment now_end
+        sized n is = has-size segment now_end n is (omega (arith, few)) size_fits
+
+        has : (z : Size) → segment.size ≡ z → HasSize segment now_end
+        has (Known n) is = sized n is
+        has Unknown is = absurd (let wrong : true ≡ false = ap is_unknown (sym is) ∙ known_size in cc)
+
+        of : Written bytes segment.offset segment → (now : Header) × IsNow now
+        of (d, w) =
+            let z = has segment.size refl in
+            let some = z.some in let fits = z.fits in let behind = z.behind in
+            let own_id : d.id ≡ SEGMENT = sym (ap (λ (h : Header). h.id) w.header) ∙ seg.own in
+            let head = length-header_of d in
+            let id_len : length (id_octets SEGMENT) ≡ uint_width SEGMENT = length-uint_octets SEGMENT in
+            let id_same : uint_width d.id ≡ uint_width SEGMENT = ap uint_width own_id in
+            let body_is : segment.body ≡ segment.offset + length (header_of d) = ap (λ (h : Header). h.body) w.header in
+            let most = w.piece.most in
+            let width : size_width segment ≡ d.width = omega arith in
+            let inside = body-inside in
+            let now_body : List ℕ = octets_between new segment.body now_end in
+            let body_len : length now_body ≡ now_end - segment.body = (let len = length-octets_between new segment.body now_end in omega (arith, grown-len)) in
+            let e : Element = record { id = SEGMENT; width = size_width segment; body = now_body } in
+            let e_head = length-header_of e in
+            let e_all = length-octets_of e in
+            let is_e : IsElement e = record { id_stands = subst (λ n. is_id n ≡ true) own_id w.piece.id_stands; some = omega arith; most = omega arith; fits = (let same_width : min (size_width segment) 8 ≡ size_width segment = omega arith in subst (λ n. length now_body < all_ones n) same_width (omega (arith, body_len))) } in
+            let id_held : HoldsAt bytes segment.offset (id_octets SEGMENT) = held-left bytes segment.offset (id_octets SEGMENT) (size_octets (length d.body) d.width) (subst (λ n. HoldsAt bytes segment.offset (id_octets n ++ size_octets (length d.body) d.width)) own_id (held-left bytes segment.offset (header_of d) d.body w.stands)) in
+            let id_now : HoldsAt new segment.offset (id_octets SEGMENT) = clear-before segment.offset (segment.offset + length (id_octets SEGMENT)) (omega arith) behind (omega arith) ∙ id_held in
+            let size_one : IsOneOf ws (write (segment.offset + length (id_octets SEGMENT)) (size_octets (now_end - segment.body) (size_width segment))) =
+            subst (λ (vs : List Write). IsOneOf vs (write (segment.offset + length (id_octets SEGMENT)) (size_octets (now_end - segment.body) (size_width segment)))) is_ws
+            (one-left (front ++ middle) (tail_write ∷ []) _ (one-left front middle _
+            (subst (λ (u : Bool). IsOneOf (if u then [] else write (segment.offset + length (id_octets SEGMENT)) (size_octets (now_end - segment.body) (size_width segment)) ∷ []) (write (segment.offset + length (id_octets SEGMENT)) (size_octets (now_end - segment.body) (size_width segment)))) (sym known_size) (inl refl)))) in
+            let size_len = length-size_octets (now_end - segment.body) (size_width segment) in
+            let size_now : HoldsAt new (segment.offset + length (id_octets SEGMENT)) (size_octets (length now_body) (size_width segment)) =
+            subst (λ n. HoldsAt new (segment.offset + length (id_octets SEGMENT)) (size_octets n (size_width segment))) (sym body_len)
+            (order-held total ws bytes (write (segment.offset + length (id_octets SEGMENT)) (size_octets (now_end - segment.body) (size_width segment))) refl order size_one (omega (arith, grown-len))) in
+            let header_now : HoldsAt new segment.offset (header_of e) = held-join new segment.offset (id_octets SEGMENT) (size_octets (length now_body) (size_width segment)) id_now size_now in
+            let place : segment.offset + length (header_of e) ≡ segment.body = omega arith in
+            let body_now : HoldsAt new (segment.offset + length (header_of e)) now_body = ap (λ n. octets_between new n (n + length now_body)) place ∙ ap (octets_between new segment.body) (let last_is : segment.body + length now_body ≡ now_end = omega arith in last_is) in
+            let held : HoldsAt new segment.offset (octets_of e) = held-join new segment.offset (header_of e) now_body header_now body_now in (
+              header_in_place segment.offset e,
+              record {
+                there = element_at-read at_level_0 new e segment.offset (length new) refl is_e held (omega (arith, grown-len));
+                own = refl;
+                body = place;
+                size = ap (λ n. Known n) body_len ∙ sym (ap (λ (u : Bool). if u then segment.size else Known (now_end - segment.body)) known_size);
+              },
+            )
+
+    now-is : (now : Header) × IsNow now
+    now-is = of (is_unknown segment.size) refl
+      where
+        of : (unknown : Bool) → is_unknown segment.size ≡ unknown → (now : Header) × IsNow now
+        of true unknown = (segment, now-unknown unknown)
+        of false known_size = now-known known_size
+
+    module _ (now : Header) (is : IsNow now) where
+      moving-bound : segment_bound new now ≡ now_end
+      moving-bound = of (is_unknown segment.size) refl
+        where
+          of : (unknown : Bool) → is_unknown segment.size ≡ unknown → (if is_unknown now.size then length new else end_in (length new) now) ≡ now_end
+          of true unknown =
+              let same : is_unknown now.size ≡ true = ap is_unknown (is.size ∙ ap (λ (u : Bool). if u then segment.size else Known (now_end - segment.body)) unknown) ∙ unknown in
+              ap (λ (u : Bool). if u then length new else end_in (length new) now) same ∙ grown-len
+          of false known_size =
+              let same : now.size ≡ Known (now_end - segment.body) = is.size ∙ ap (λ (u : Bool). if u then segment.size else Known (now_end - segment.body)) known_size in
+              let body = is.body in let inside = body-inside in
+              let size_is : known now.size ≡ now_end - segment.body = ap known same in
+              ap (λ (u : Bool). if u then length new else end_in (length new) now) (ap is_unknown same)
+              ∙ (let end : min (now.body + known now.size) (length new) ≡ now_end = omega (arith, grown-len) in end)
+
+      moving-run : segment_run new now ≡ run_of (level new now_size now_end) segment.body
+      moving-run =
+          ap (λ n. level_1 new now.size now.body n) moving-bound
+          ∙ ap (λ (z : Size). level_1 new z now.body now_end) is.size
+          ∙ ap (λ n. level_1 new now_size n now_end) is.body
+
+      old-run : segment_run bytes segment ≡ whole list total
+      old-run = run ∙ ap (whole list) (last-total bytes o op undamaged grow body-inside run)
+
+      front-clear : AreSame bytes new 0 segment.offset
+      front-clear = clear-before 0 segment.offset (omega arith) (omega (arith, body-later)) (omega (arith, seg.inside))
+
+      rest-now : HoldsRest bytes new o list items (first ∷ more)
+      rest-now =
+          rest-of moving-edit o items (first ∷ more) now
+          (moved-listed bytes segment.size now_size segment.body list items ws first more short run-moving order are one-moving touch-moving stops ends-moving blocks grown-len added-held elements added-go added-level)
+          (moved-edit bytes segment.size now_size segment.body list items ws first more short run-moving order are one-moving touch-moving stops ends-moving blocks grown-len added-held elements added-go added-level)
+          old-run moving-run bound-is moving-bound are refl
+          (All-weaker (λ (d : Element). IsName d.id) (λ (d : Element). (d.id == CLUSTER) ≡ false) (λ d name. name.cluster) (first ∷ more) names)
+          (moved-ids bytes segment.size now_size segment.body list items ws first more short run-moving order are one-moving touch-moving stops ends-moving blocks grown-len added-held elements added-go added-level)
+          (moved-in bytes segment.size now_size segment.body list items ws first more short run-moving order are one-moving touch-moving stops ends-moving blocks grown-len added-held elements added-go added-level)
+          (moved-single bytes segment.size now_size segment.body list items ws first more short run-moving order are one-moving touch-moving stops ends-moving blocks grown-len added-held elements added-go added-level distinct)
+          added-held
+          (header-same bytes new o.ebml segment.offset front-clear offset-long seg.before (omega (arith, seg.inside)) (omega (arith, grown-len)) op.ebml)
+          (segment-same bytes new o.ebml segment now seg (omega (arith, grown-len)) front-clear is.there is.own)
+          is.body
+
+    -- What stays where these Elements stand behind the old end.
+    pub rest-moves : HoldsRest bytes new o list items (first ∷ more)
+    rest-moves = rest-now now-is.0 now-is.1

@@ -1,0 +1,126 @@
+-- What the index of a file says of it: RFC 9559, sections 5.1.5 (Cues Element), 11 (Timestamps) and 16 (Segment Position).
+use Rattle.std.specs.Prelude.{◌≡◌, ◌≤◌, ◌/◌, ℕ, pos, true, List, [], ◌++◌, length, map, filter, filter_map, flat_map, take, None, Some, Ok}
+use Rattle.std.specs.List.{All, AllZip, Contains}
+use Rattle.std.specs.Option.{option_map}
+use Rattle.ebml_numbers.specs.Number.{AreOctets}
+use Rattle.mkv_schema.specs.declared.ids.TheConstants.{CHAPTERS, CLUSTER, INFO, SEEK_HEAD, TAGS, TRACKS}
+use Rattle.mkv_io.specs.declared.outside.TheConstants.{LONGEST_FILE}
+use Rattle.mkv_schema.specs.declared.element.Header.{Header}
+use Rattle.mkv_schema.specs.Element.{in_segment, element_at}
+use Rattle.mkv_schema.specs.Outline.{ebml_header, segment_bound, segment_of, segment_run}
+use Rattle.mkv_schema.specs.Value.{body_of, first_of}
+use Rattle.tree_format.specs.Node.{Node, children}
+use Rattle.tree_format.specs.NormalForm.{octets}
+use Rattle.file_format.specs.Info.{file_scale}
+use Rattle.file_format.specs.FileBlocks.{file_events}
+use Rattle.block_format.specs.Block.{Block, nanoseconds}
+use Rattle.block_format.specs.Elements.{Rules, with_limits, without_limits}
+use Rattle.block_format.specs.Events.{blocks_of, damages_of, events_of, found_in}
+use Rattle.merge_model.specs.Ticks.{since_start}
+use Rattle.output_model.specs.declared.TheConstants.{MOST_CUES}
+use Rattle.output_model.specs.declared.places.CuePoint.{CuePoint}
+use Rattle.output_model.specs.declared.places.Seek.{Seek}
+use Rattle.output_model.specs.Element.{joined}
+use Rattle.output_model.specs.SeekHead.{seek_element}
+use Rattle.output_laws.specs.Points.{PointsAtBlock}
+use Rattle.output_laws.specs.Reading.{CuesAre}
+use Rattle.meta_records.specs.Attached.{first_attached}
+use Rattle.meta_records.specs.Records.{first_tree}
+use Rattle.sidecar_edit.specs.Writes.{applied}
+use Rattle.edit_changes.specs.Plan.{seek_to}
+use Rattle.edit_changes.specs.Records.{EditableFile}
+use Rattle.edit_changes.specs.SeekHead.{stays}
+use Rattle.edit_laws.specs.Laws.{IsOutside}
+use Rattle.reindex.specs.Index.{indexable}
+use Rattle.reindex.specs.Plan.{Index, index_ids, index_of}
+use Rattle.reindex.specs.Points.{cluster_before, index_points, indexed_tracks, is_indexed, point_in}
+
+-- A block is one of those that this Cluster of the Segment gives, and no other Cluster begins between the two.
+pub record StandsIn (r : Rules) (bytes : List ℕ) (segment : Header) (b : Block) (cluster : Header) : Type 0 where
+  pub before : cluster_before b.offset (segment_run bytes segment).list ≡ Some cluster
+  pub is_cluster : cluster.id ≡ CLUSTER
+  pub behind : segment.body ≤ cluster.offset
+  pub place : element_at in_segment bytes cluster.offset (segment_bound bytes segment) ≡ Ok cluster
+  pub found : Contains (found_in r bytes (segment_bound bytes segment) cluster) (Ok b)
+  pub inside : cluster.body ≤ b.offset
+
+-- Each block of a file stands in the last Cluster that begins before it.
+abbrev pub BlocksStandInClusters : Type 0
+BlocksStandInClusters =
+    (r : Rules) (bytes : List ℕ) (segment : Header)
+    → All (λ (b : Block). (cluster : Header) × StandsIn r bytes segment b cluster) (blocks_of (events_of r bytes segment))
+
+-- The time of a block that doesn't stand before the start is a whole number of ticks.
+abbrev pub TimesAreTicks : Type 0
+TimesAreTicks =
+    (r : Rules) (bytes : List ℕ) (segment : Header) → 1 ≤ r.scale
+    → All (λ (b : Block). (t : ℕ) → since_start b.time ≡ Some t → b.time ≡ nanoseconds r.scale (pos (t / r.scale))) (blocks_of (events_of r bytes segment))
+
+-- Of a file that can be indexed a reader without limits finds what one with limits finds, at the same scale.
+abbrev pub LimitsHideNothing : Type 0
+LimitsHideNothing =
+    (bytes : List ℕ) (f : EditableFile) → indexable bytes ≡ Ok f
+    → events_of (without_limits (file_scale bytes f.outline.segment)) bytes f.outline.segment ≡ file_events true bytes f.outline.segment
+
+-- the blocks of a file that get a point
+abbrev pub indexed_blocks : List ℕ → Header → List Node → List Block
+indexed_blocks bytes segment tracks = filter (is_indexed (indexed_tracks tracks)) (blocks_of (file_events true bytes segment))
+
+-- This is the point of a block, in the Cluster in which the block stands.
+pub record IsPointOf (bytes : List ℕ) (segment : Header) (b : Block) (p : CuePoint) : Type 0 where
+  pub cluster : Header
+  pub stands : StandsIn (with_limits (file_scale bytes segment)) bytes segment b cluster
+  pub point : p ≡ point_in (file_scale bytes segment) segment.body b cluster
+
+-- The points of a file are those of the first of these blocks, one for each, in the order of the file.
+abbrev pub EachBlockHasItsPoint : Type 0
+EachBlockHasItsPoint =
+    (bytes : List ℕ) (segment : Header) (tracks : List Node)
+    → AllZip (IsPointOf bytes segment) (take MOST_CUES (indexed_blocks bytes segment tracks)) (index_points bytes segment tracks)
+
+-- Each point of a file that can be indexed points at a block of it.
+abbrev pub PointsPointAtBlocks : Type 0
+PointsPointAtBlocks =
+    (bytes : List ℕ) (f : EditableFile) → indexable bytes ≡ Ok f
+    → All (PointsAtBlock (file_scale bytes f.outline.segment) bytes f.outline.segment) (index_points bytes f.outline.segment f.trees.tracks)
+
+-- the Seeks of the first Elements of these IDs, each where there is one, in a Segment whose body begins there
+abbrev pub first_seeks : List ℕ → ℕ → List Header → List Seek
+first_seeks ids base list = filter_map (λ id. option_map (seek_to base) (first_of id list)) ids
+
+-- The first SeekHead of the new content has the Seek of the first Element of each of these IDs, and then what stood in that of
+-- the old one and is no Seek of one of these.
+pub record TellsOf (ids : List ℕ) (old new : List ℕ) (was now : Header) : Type 0 where
+  pub header : Header
+  pub first : first_of SEEK_HEAD (segment_run new now).list ≡ Some header
+  pub old_head : Node
+  pub read : first_tree SEEK_HEAD old was ≡ Ok (Some old_head)
+  pub body : body_of new header
+      ≡ joined (map seek_element (first_seeks ids now.body (segment_run new now).list)) ++ flat_map octets (filter (stays ids) (children old_head))
+
+-- What a file with a new index holds, where the old one was this: the EBML header, the first Info, Tracks, Chapters and Tags, the
+-- attached files and the blocks are the old ones, at their places; the Cues is of these points, each of which points at its block; the
+-- SeekHead has a Seek of the first Info, Tracks, Attachments, Cues, Chapters and Tags; and nothing is damaged.
+pub record HoldsIndex (old new : List ℕ) (f : EditableFile) (points : List CuePoint) : Type 0 where
+  pub segment : Header
+  pub ebml : ebml_header new ≡ Ok f.outline.ebml
+  pub found : segment_of new f.outline.ebml ≡ Ok segment
+  pub body : segment.body ≡ f.outline.segment.body
+  pub whole : (segment_run new segment).damage ≡ None
+  pub undamaged : damages_of (file_events true new segment) ≡ []
+  pub info : first_tree INFO new segment ≡ first_tree INFO old f.outline.segment
+  pub tracks : first_tree TRACKS new segment ≡ first_tree TRACKS old f.outline.segment
+  pub attachments : first_attached new segment ≡ first_attached old f.outline.segment
+  pub chapters : first_tree CHAPTERS new segment ≡ first_tree CHAPTERS old f.outline.segment
+  pub tags : first_tree TAGS new segment ≡ first_tree TAGS old f.outline.segment
+  pub blocks : (r : Rules) → blocks_of (events_of r new segment) ≡ blocks_of (events_of r old f.outline.segment)
+  pub cues : CuesAre new (segment_run new segment).list points
+  pub points_at : All (PointsAtBlock (file_scale new segment) new segment) points
+  pub seeks : TellsOf index_ids old new f.outline.segment segment
+
+-- A file whose Cues are written anew holds what it held, and its index.
+abbrev pub NewIndexIsWhole : Type 0
+NewIndexIsWhole =
+    (old : List ℕ) (f : EditableFile) (x : Index) → AreOctets old → length old ≤ LONGEST_FILE
+    → All IsOutside (segment_run old f.outline.segment).list
+    → indexable old ≡ Ok f → index_of old ≡ Ok x → HoldsIndex old (applied old x.writes) f x.points

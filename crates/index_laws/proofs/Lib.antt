@@ -1,3 +1,0 @@
-pub mod StandLemmas
-pub mod TickLemmas
-pub mod PointLemmas

@@ -1,5 +1,0 @@
-use Rattle.index_laws.proofs.StandLemmas.{blocks-stand}
-use Rattle.index_laws.proofs.blocks_stand_in_clusters.Goals as goal
-
-pub returns : goal.returns
-returns c = blocks-stand

@@ -1,5 +1,0 @@
-use Rattle.index_laws.proofs.PointLemmas.{block-point}
-use Rattle.index_laws.proofs.each_block_has_its_point.Goals as goal
-
-pub returns : goal.returns
-returns c = block-point

@@ -1,5 +1,0 @@
-use Rattle.index_laws.proofs.TickLemmas.{times-ticks}
-use Rattle.index_laws.proofs.times_are_ticks.Goals as goal
-
-pub returns : goal.returns
-returns c = times-ticks
