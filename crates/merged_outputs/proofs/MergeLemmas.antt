@@ -36,13 +36,13 @@ use Rattle.mkv_args.proofs.TextLemmas.{asked-texts}
 use Rattle.merge_plan.specs.Plan.{Source, lanes_given, limits_of}
 use Rattle.mkv_merge.specs.Merge.{merge_verdict, outputs_of, sources_of, verdict_of}
 use Rattle.mkv_merge.specs.Read.{is_split}
-use Rattle.mkv_merge.specs.Records.{HaveRecords, IsFilled}
+use Rattle.mkv_merge.specs.Records.{CanBeRead, HaveRecords, IsFilled}
 use Rattle.mkv_merge.specs.declared.refusal.Refusal.{Refusal}
 use Rattle.mkv_lines.specs.Seen.{Seen}
 use Rattle.mkv_lines.specs.Verdict.{IsDone}
 use Rattle.mkv_lines.specs.declared.status.Status.{Status}
 use Rattle.mkv_lines.specs.declared.status.Status.TheVariants as status
-use Rattle.merged_outputs.specs.Merge.{Holds, HoldsLanes, IsMerged, laid_out, lanes_selected}
+use Rattle.merged_outputs.specs.Merge.{HoldsLanes, HoldsOutput, IsMerged, laid_out, lanes_selected}
 use Rattle.merged_outputs.specs.Sources.{AreSources, HoldsOctets}
 use Rattle.merged_outputs.proofs.DocumentLemmas.{document-ids, document-plain, document-scale, document-sound, document_with}
 use Rattle.merged_outputs.proofs.ExactLemmas.{blocks-exact}
@@ -72,7 +72,7 @@ module _ (words : MergeWords) (sources : List Source) (sound : IsSoundMerge word
     sound-one : length (layout document) ≤ LONGEST_FILE → IsSoundDocument document
     sound-one = document-sound words sources sound texts are number files part have filled is.blocks
 
-    holds-one : Holds words (output_with words sources number files part) (layout document)
+    holds-one : length (layout document) ≤ LONGEST_FILE → HoldsOutput words (output_with words sources number files part) (layout document)
     holds-one short =
         let good = sound-one short in
         record {
@@ -81,8 +81,8 @@ module _ (words : MergeWords) (sources : List Source) (sound : IsSoundMerge word
           blocks = blocks-exact document (limits_of words) part.blocks good refl ∙ ap (λ (s : ℕ). map (block_in_place s 0) part.blocks) (document-scale words sources sound texts are number);
         }
 
-    lanes-one : HoldsLanes words sources (output_with words sources number files part) (layout document)
-    lanes-one whole short =
+    lanes-one : length (layout document) ≤ LONGEST_FILE → HoldsLanes words sources (output_with words sources number files part) (layout document)
+    lanes-one short whole =
         let scale = document-scale words sources sound texts are number in
         let events = file_events false (layout document) (header_of_segment document) in
         let lanes = lanes_selected words sources in
@@ -98,12 +98,12 @@ module _ (words : MergeWords) (sources : List Source) (sound : IsSoundMerge word
   documents-sound = outputs-hold words sources sound are (λ (o : PlannedOutput). length (layout o.document) ≤ LONGEST_FILE → IsSoundDocument o.document) have sound-one
 
   -- What is written of it holds the output,
-  pub layouts-hold : All (λ (o : PlannedOutput). Holds words o (layout o.document)) (outputs_of words sources)
-  layouts-hold = outputs-hold words sources sound are (λ (o : PlannedOutput). Holds words o (layout o.document)) have holds-one
+  pub layouts-hold : All (λ (o : PlannedOutput). length (layout o.document) ≤ LONGEST_FILE → HoldsOutput words o (layout o.document)) (outputs_of words sources)
+  layouts-hold = outputs-hold words sources sound are (λ (o : PlannedOutput). length (layout o.document) ≤ LONGEST_FILE → HoldsOutput words o (layout o.document)) have holds-one
 
   -- and where nothing is split, all lanes.
-  layouts-hold_lanes : All (λ (o : PlannedOutput). HoldsLanes words sources o (layout o.document)) (outputs_of words sources)
-  layouts-hold_lanes = outputs-hold words sources sound are (λ (o : PlannedOutput). HoldsLanes words sources o (layout o.document)) have lanes-one
+  layouts-hold_lanes : All (λ (o : PlannedOutput). length (layout o.document) ≤ LONGEST_FILE → HoldsLanes words sources o (layout o.document)) (outputs_of words sources)
+  layouts-hold_lanes = outputs-hold words sources sound are (λ (o : PlannedOutput). length (layout o.document) ≤ LONGEST_FILE → HoldsLanes words sources o (layout o.document)) have lanes-one
 
   drafts-become : outputs_of_drafts (drafts_of (outputs_of words sources)) ≡ map laid_out (outputs_of words sources)
   drafts-become = drafts-laid (outputs_of words sources) (outputs-hold words sources sound are Becomes have becomes-one)
@@ -112,12 +112,13 @@ module _ (words : MergeWords) (sources : List Source) (sound : IsSoundMerge word
 
 -- A command that has come to what a merge of sound records comes to, and wasn't refused, has written it.
 pub verdict-merged : (world : List ℕ → Option (List ℕ)) (words : MergeWords) (old new : Seen) (s : Status) → old.names ≡ Some world → HoldsOctets world → IsSoundMerge words → AreTexts words
-    → IfOk (sources_of world words) HaveRecords → s ≢ status.Refused → s ≡ (merge_verdict world words).status → IsDone old new (merge_verdict world words) → IsMerged world words new.names
+    → IfOk (sources_of world words) (CanBeRead words) → s ≢ status.Refused → s ≡ (merge_verdict world words).status → IsDone old new (merge_verdict world words) → IsMerged world words new.names
 verdict-merged world words old new s told holds sound texts found other = split (sources_of world words) refl found
   where
-    split : (found : Result (List Source) Refusal) → sources_of world words ≡ found → IfOk found HaveRecords → s ≡ (verdict_of words found).status → IsDone old new (verdict_of words found) → IsMerged world words new.names
+    split : (found : Result (List Source) Refusal) → sources_of world words ≡ found → IfOk found (CanBeRead words) → s ≡ (verdict_of words found).status → IsDone old new (verdict_of words found) → IsMerged world words new.names
     split (Err why) is have same done = absurd (other same)
-    split (Ok sources) is have same done =
+    split (Ok sources) is can same done =
+        let have = can.records in
         let outputs : List PlannedOutput = outputs_of words sources in
         let are = sources-read words sources sound texts world holds is in
         record {
@@ -126,13 +127,13 @@ verdict-merged world words old new s told holds sound texts found other = split 
           records = have;
           written = done.names ∙ ap (λ names. with_outputs names (outputs_of_drafts (drafts_of outputs))) told
               ∙ ap (with_outputs (Some world)) (drafts-become words sources sound texts are have);
-          holds = layouts-hold words sources sound texts are have;
-          lanes = layouts-hold_lanes words sources sound texts are have;
+          holds = λ k d below. layouts-hold words sources sound texts are have k d below (can.short k d below);
+          lanes = λ k d below. layouts-hold_lanes words sources sound texts are have k d below (can.short k d below);
           parts = outputs-parts words sources;
           loads = loads-kept words sources sound;
         }
 
 -- So has a run whose words ask for it.
 pub run-merged : (old new : Seen) (words : List (List ℕ)) (asked : MergeWords) (world : List ℕ → Option (List ℕ)) (s : Status) → All IsUtf8 words → old.names ≡ Some world → HoldsOctets world → command words ≡ Ok (Merge asked)
-    → IfOk (sources_of world asked) HaveRecords → s ≢ status.Refused → s ≡ (merge_verdict world asked).status → IsDone old new (merge_verdict world asked) → IsMerged world asked new.names
+    → IfOk (sources_of world asked) (CanBeRead asked) → s ≢ status.Refused → s ≡ (merge_verdict world asked).status → IsDone old new (merge_verdict world asked) → IsMerged world asked new.names
 run-merged old new words asked world s utf8 told holds is = verdict-merged world asked old new s told holds (command-sound words (Merge asked) is) (asked-texts words asked utf8 is)

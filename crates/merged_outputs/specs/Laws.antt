@@ -10,7 +10,7 @@ use Rattle.merge_words.specs.Sound.{IsSoundMerge}
 use Rattle.merge_plan.specs.Plan.{Source}
 use Rattle.mkv_merge.specs.Merge.{blocks_of, outputs_of, sources_of}
 use Rattle.mkv_merge.specs.Records.{HaveRecords}
-use Rattle.merged_outputs.specs.Merge.{Holds, lanes_selected}
+use Rattle.merged_outputs.specs.Merge.{HoldsOutput, lanes_selected}
 use Rattle.merge_words.specs.Texts.{AreTexts}
 use Rattle.merged_outputs.specs.Sources.{AreSources, HoldsOctets}
 
@@ -31,11 +31,11 @@ MergedDocumentsAreSound =
     (words : MergeWords) (sources : List Source) → IsSoundMerge words → AreTexts words → AreSources words sources → HaveRecords sources
     → All (λ (o : PlannedOutput). length (layout o.document) ≤ LONGEST_FILE → IsSoundDocument o.document) (outputs_of words sources)
 
--- What is written of each holds it.
+-- What is written of each holds it, where it has 2^48 octets at most.
 abbrev pub LayoutsHoldOutputs : Type 0
 LayoutsHoldOutputs =
     (words : MergeWords) (sources : List Source) → IsSoundMerge words → AreTexts words → AreSources words sources → HaveRecords sources
-    → All (λ (o : PlannedOutput). Holds words o (layout o.document)) (outputs_of words sources)
+    → All (λ (o : PlannedOutput). length (layout o.document) ≤ LONGEST_FILE → HoldsOutput words o (layout o.document)) (outputs_of words sources)
 
 -- the name of an output, and its blocks
 abbrev pub name_and_blocks : PlannedOutput → List ℕ × List OutputBlock

@@ -1,6 +1,5 @@
 -- Contents that hold a merge.
-use Rattle.std.specs.Prelude.{◌≡◌, ◌≤◌, ⊤, ℕ, false, List, All, IfSome, Option, None, Some, Ok, filter, length, map}
-use Rattle.mkv_io.specs.declared.outside.TheConstants.{LONGEST_FILE}
+use Rattle.std.specs.Prelude.{◌≡◌, ⊤, ℕ, false, List, All, IfSome, Option, None, Some, Ok, filter, length, map}
 use Rattle.mkv_io.specs.Names.{Names}
 use Rattle.mkv_io.specs.Told.{Told}
 use Rattle.mkv_outputs.specs.Outputs.{Output, with_outputs}
@@ -67,14 +66,10 @@ pub record HoldsOutput (words : MergeWords) (o : PlannedOutput) (bytes : List �
   pub plain : All IsPlain (entries_of o.document.front.tracks)
   pub blocks : blocks_held o bytes ≡ map (block_in_place words.scale 0) o.blocks
 
--- So it is of a content of 2^48 octets at most.
-abbrev pub Holds : MergeWords → PlannedOutput → List ℕ → Type 0
-Holds words o bytes = length bytes ≤ LONGEST_FILE → HoldsOutput words o bytes
-
 -- Of a merge that isn't split a content has, lane by lane, the blocks that were selected.
 abbrev pub HoldsLanes : MergeWords → List Source → PlannedOutput → List ℕ → Type 0
 HoldsLanes words sources o bytes =
-    words.split ≡ None → length bytes ≤ LONGEST_FILE → lanes_read words.scale 1 (length (lanes_given sources)) (events_read o bytes) ≡ lanes_selected words sources
+    words.split ≡ None → lanes_read words.scale 1 (length (lanes_given sources)) (events_read o bytes) ≡ lanes_selected words sources
 
 -- ---- the parts
 
@@ -109,7 +104,7 @@ pub record IsMerged (world : List ℕ → Option (List ℕ)) (words : MergeWords
   pub taken : sources_of world words ≡ Ok sources
   pub records : HaveRecords sources
   pub written : new ≡ with_outputs (Some world) (map laid_out (outputs_of words sources))
-  pub holds : All (λ (o : PlannedOutput). Holds words o (layout o.document)) (outputs_of words sources)
+  pub holds : All (λ (o : PlannedOutput). HoldsOutput words o (layout o.document)) (outputs_of words sources)
   pub lanes : All (λ (o : PlannedOutput). HoldsLanes words sources o (layout o.document)) (outputs_of words sources)
   pub parts : ArePartsOf (split_of words sources) (blocks_of words sources) (map (λ (o : PlannedOutput). o.blocks) (outputs_of words sources))
   pub loads : IfSome (size_of words.split) (KeepsLimit (split_of words sources) (blocks_of words sources))

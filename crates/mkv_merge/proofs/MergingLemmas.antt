@@ -16,6 +16,7 @@ use Rattle.merge_words.specs.declared.output.MergeWords.{MergeWords}
 use Rattle.merge_plan.specs.Front.{attached_length, reads_of}
 use Rattle.merge_plan.specs.Plan.{Source, lanes_given}
 use Rattle.mkv_merge.specs.Bound.{contents_length, files_size, most_beside, most_looked, most_of, most_read}
+use Rattle.mkv_merge.specs.Joined.{sources_alone}
 use Rattle.mkv_merge.specs.Merge.{sources_beside, sources_of, sources_settled, sources_with}
 use Rattle.mkv_merge.specs.Prepared.{AreTold}
 use Rattle.mkv_merge.specs.Read.{begun_refusal, first_written, unless_missing}
@@ -98,6 +99,14 @@ reads-few world words texts found old opened merged closed size is length begun 
   where
     within : (n m l : ℕ) → n ≡ m → merged ≤ opened + (n + l) → closed ≤ old + (m + l)
     within n m l same most = omega arith
+
+-- the same where no sidecar is looked into
+pub reads-alone : (world : List ℕ → Option (List ℕ)) (words : MergeWords) (found : Result (List Source) Refusal) (old opened merged closed size : ℕ) → sources_alone world words ≡ found → size ≡ contents_length world words.files → opened ≡ old → merged ≤ opened + most_of found size → closed ≡ merged → closed ≤ old + most_of (sources_alone world words) (contents_length world words.files)
+reads-alone world words found old opened merged closed size is length begun most ended =
+    within (most_of found size) (most_of (sources_alone world words) (contents_length world words.files)) (ap (λ (n : ℕ). most_of found n) length ∙ ap (λ (r : Result (List Source) Refusal). most_of r (contents_length world words.files)) (sym is)) most
+  where
+    within : (n m : ℕ) → n ≡ m → merged ≤ opened + n → closed ≤ old + m
+    within n m same most = omega arith
 
 -- the chapter file is read in front of them
 pub reads-chaptered : (world : List ℕ → Option (List ℕ)) (words : MergeWords) (found : Result (List Source) Refusal) (old mid new : ℕ) → sources_of world words ≡ found → mid ≤ old + text_octets world words.chapters words.files → new ≤ mid + most_beside world words found → new ≤ old + most_read world words

@@ -1,5 +1,5 @@
 -- A merge comes to its verdict.
-use Rattle.std.proofs.Common.{◌≡◌, ℕ, Bool, ◌||◌, List, ◌++◌, length, map, Result, Err, IfOk, inl, refl, sym, ◌∙◌, ap, ap₂, subst}
+use Rattle.std.proofs.Common.{◌≡◌, ℕ, Bool, ◌||◌, All, List, ◌++◌, length, map, Option, Some, Result, Ok, Err, IfOk, inl, refl, sym, ◌∙◌, ap, ap₂, subst}
 use Rattle.std.specs.List.{enumerate_from, flat_map}
 use Rattle.std.proofs.lemmas.List.{length-map}
 use mathlib.Core.List.{map-map}
@@ -15,7 +15,7 @@ use Rattle.remux_plan.specs.declared.plan.MergePlan.{MergePlan}
 use Rattle.remux_plan.specs.declared.plan.PlannedLane.{PlannedLane}
 use Rattle.remux_plan.specs.declared.summary.Summary.{Summary}
 use Rattle.remux_plan.specs.declared.summary.Written.{Written}
-use Rattle.remuxer.specs.Output.{WritesAll, drafts_of}
+use Rattle.remuxer.specs.Output.{IsShort, WritesAll, drafts_of}
 use Rattle.merge_words.specs.declared.output.MergeWords.{MergeWords}
 use Rattle.merge_inputs.specs.Input.{InputRead}
 use Rattle.merge_inputs.specs.declared.input.Input.{Input}
@@ -31,6 +31,7 @@ use Rattle.mkv_lines.proofs.SaidLemmas.{SaysPart-all}
 use Rattle.mkv_lines.proofs.VerdictLemmas.{Leaves-same, Reaches-behind}
 use Rattle.mkv_merge.specs.Merge.{has_absent, has_damage, has_other_count, lines_before, lines_behind, merged_verdict, output_line, outputs_of, status_of, uuid_lines, warnings}
 use Rattle.mkv_merge.specs.Prepared.{reads_in}
+use Rattle.mkv_merge.specs.Records.{AreShort}
 use Rattle.mkv_merge.specs.Told.{is_warned, warnings_from}
 use Rattle.mkv_merge.proofs.OutputsLemmas.{outputs-are}
 use Rattle.mkv_merge.proofs.SummaryLemmas.{Tells, damages-are, past-damages, some-told, warnings-told}
@@ -80,6 +81,17 @@ merge-left old new why f words inputs p sources is said stands =
 -- the outputs stand whole
 all-whole : (old new : Names) (outputs : List PlannedOutput) → WritesAll old new outputs → new ≡ with_outputs old (outputs_of_drafts (drafts_of outputs))
 all-whole old new outputs writes = writes.names ∙ sym (ap (with_outputs old) writes.become)
+
+-- none of them is longer than a file may be
+pub outputs-short : (old new : Names) (world : List ℕ → Option (List ℕ)) (r : Result Status Stop) (f : LiveFiles) (words : MergeWords) (inputs : List Input) (p : MergePlan) (sources : List Source) → IsMergeOf f words inputs p sources → old ≡ Some world → WritesAll old new (outputs_in f p) → IfOk r (λ (s : Status). AreShort words sources)
+outputs-short old new world r f words inputs p sources is told writes = by_end r
+  where
+    short : AreShort words sources
+    short = subst (All (λ (o : PlannedOutput). IsShort o.document)) (outputs-are f words inputs p sources is) (writes.short world told)
+
+    by_end : (r : Result Status Stop) → IfOk r (λ (s : Status). AreShort words sources)
+    by_end (Ok s) = short
+    by_end (Err why) = tt
 
 -- and the rest is told
 pub merge-told : (old new : Seen) (mid : ReportLines) (r : Result Status Stop) (f : LiveFiles) (words : MergeWords) (inputs : List Input) (p : MergePlan) (sources : List Source) (s : Summary) (absent : Bool) → IsMergeOf f words inputs p sources → IsSummary f p s

@@ -1,5 +1,5 @@
 -- A merge that was prepared can be written, and is that of its sources.
-use Rattle.std.proofs.Common.{◌≡◌, ◌≢◌, ℕ, ◌+◌, ◌*◌, ◌<◌, ◌≤◌, Bool, true, false, ◌||◌, List, [], ◌∷◌, length, map, get_or, Option, Some, None, Result, Ok, Err, IfSome, refl, sym, ◌∙◌, ap, ap₂, subst, arith}
+use Rattle.std.proofs.Common.{◌≡◌, ◌≢◌, ℕ, ◌+◌, ◌*◌, ◌<◌, ◌≤◌, Bool, true, false, ◌||◌, List, [], ◌∷◌, length, map, get_or, Option, Some, None, Result, Ok, Err, IfOk, IfSome, refl, sym, ◌∙◌, ap, ap₂, subst, arith}
 use Rattle.std.specs.List.{All, sum_by, zip}
 use Rattle.std.proofs.Math.ListN.{get_or-map}
 use Rattle.std.proofs.lemmas.List.{length-map}
@@ -52,7 +52,7 @@ use Rattle.mkv_lines.specs.declared.status.Stop.{Stop}
 use Rattle.mkv_merge.specs.Bound.{files_size}
 use Rattle.mkv_merge.specs.Merge.{blocks_of}
 use Rattle.mkv_merge.specs.Prepared.{AreTold, IsPrepared, reads_in}
-use Rattle.mkv_merge.specs.Records.{EndsWithRecords, HaveRecords, IsFilled}
+use Rattle.mkv_merge.specs.Records.{AreShort, EndsReadable, HaveRecords, IsFilled}
 use Rattle.mkv_merge.specs.declared.preparing.Prepared.{Prepared}
 use Rattle.mkv_merge.specs.declared.refusal.Refusal.{Refusal}
 use Rattle.mkv_merge.proofs.PreparingLemmas.{each-told, inputs-size, sources-told, told-contents}
@@ -263,18 +263,18 @@ records-are f words inputs p sources is written =
     }
 
 -- where sources were found
-pub records-found : (found : Result (List Source) Refusal) (sources : List Source) (r : Result Status Stop) → found ≡ Ok sources → HaveRecords sources → EndsWithRecords found r
-records-found found sources r is have = subst (λ (o : Result (List Source) Refusal). EndsWithRecords o r) (sym is) (of r)
+pub readable-found : (words : MergeWords) (found : Result (List Source) Refusal) (sources : List Source) (r : Result Status Stop) → found ≡ Ok sources → HaveRecords sources → IfOk r (λ (s : Status). AreShort words sources) → EndsReadable words found r
+readable-found words found sources r is have short = subst (λ (o : Result (List Source) Refusal). EndsReadable words o r) (sym is) (of r short)
   where
-    of : (r : Result Status Stop) → EndsWithRecords (Ok sources) r
-    of (Ok s) = have
-    of (Err why) = tt
+    of : (r : Result Status Stop) → IfOk r (λ (s : Status). AreShort words sources) → EndsReadable words (Ok sources) r
+    of (Ok s) short = record { records = have; short = short }
+    of (Err why) short = tt
 
--- where a merge is refused there are none
-pub records-none : (found : Result (List Source) Refusal) (why : Refusal) (r : Result Status Stop) → found ≡ Err why → EndsWithRecords found r
-records-none found why r is = subst (λ (o : Result (List Source) Refusal). EndsWithRecords o r) (sym is) (of r)
+-- where a merge is refused there is nothing to be read
+pub readable-none : (words : MergeWords) (found : Result (List Source) Refusal) (why : Refusal) (r : Result Status Stop) → found ≡ Err why → EndsReadable words found r
+readable-none words found why r is = subst (λ (o : Result (List Source) Refusal). EndsReadable words o r) (sym is) (of r)
   where
-    of : (r : Result Status Stop) → EndsWithRecords (Err why) r
+    of : (r : Result Status Stop) → EndsReadable words (Err why) r
     of (Ok s) = tt
     of (Err stop) = tt
 

@@ -1,15 +1,19 @@
--- What the sources of a merge give besides their tracks and blocks, as far as it can be written: RFC 9559, sections 5.1.6 (Attachments Element), 5.1.7 (Chapters Element) and 5.1.8 (Tags Element).
+-- What is written of the sources of a merge can be read again; of what they give besides their tracks and blocks: RFC 9559, sections 5.1.6 (Attachments Element), 5.1.7 (Chapters Element) and 5.1.8 (Tags Element).
 use Rattle.std.specs.Prelude.{◌≡◌, ℕ, List, IfSome, IfOk, Result}
 use Rattle.std.specs.List.{All}
 use Rattle.mkv_schema.specs.declared.ids.TheConstants.{CHAPTERS, TAGS}
 use Rattle.tree_format.specs.Node.{Node}
 use Rattle.output_model.specs.Attached.{with_data}
 use Rattle.output_model.specs.Sound.{IsAttachment, IsRecord}
+use Rattle.merge_words.specs.declared.output.MergeWords.{MergeWords}
+use Rattle.remux_plan.specs.Parts.{PlannedOutput}
+use Rattle.remuxer.specs.Output.{IsShort}
 use Rattle.merge_plan.specs.Front.{attachments_of, reads_of}
 use Rattle.merge_plan.specs.Plan.{Source}
 use Rattle.merge_plan.specs.Records.{chapters_of, tags_of}
 use Rattle.mkv_lines.specs.declared.status.Status.{Status}
 use Rattle.mkv_lines.specs.declared.status.Stop.{Stop}
+use Rattle.mkv_merge.specs.Merge.{outputs_of}
 use Rattle.mkv_merge.specs.declared.refusal.Refusal.{Refusal}
 
 -- An AttachedFile that was read, with these octets as its data.
@@ -25,6 +29,15 @@ pub record HaveRecords (sources : List Source) : Type 0 where
   pub chapters : IfSome (chapters_of (reads_of sources)) (IsRecord CHAPTERS)
   pub tags : IfSome (tags_of (reads_of sources)) (IsRecord TAGS)
 
--- So can those of a merge that ended by itself, and that nothing refused.
-abbrev pub EndsWithRecords : Result (List Source) Refusal → Result Status Stop → Type 0
-EndsWithRecords found result = IfOk result (λ _. IfOk found HaveRecords)
+-- None of the outputs of sources is longer than a file may be.
+abbrev pub AreShort : MergeWords → List Source → Type 0
+AreShort words sources = All (λ (o : PlannedOutput). IsShort o.document) (outputs_of words sources)
+
+-- What is written of sources can be read again: the records that they give, and outputs that are as long as files may be.
+pub record CanBeRead (words : MergeWords) (sources : List Source) : Type 0 where
+  pub records : HaveRecords sources
+  pub short : AreShort words sources
+
+-- So can what a merge has written that ended by itself, and that nothing refused.
+abbrev pub EndsReadable : MergeWords → Result (List Source) Refusal → Result Status Stop → Type 0
+EndsReadable words found result = IfOk result (λ _. IfOk found (CanBeRead words))

@@ -1,12 +1,14 @@
 //! Files are merged, and no line is said.
 
-ghost use Rattle.std.specs.Prelude.{◌≡◌, ℕ, List};
+ghost use Rattle.std.specs.Prelude.{◌≡◌, ◌+◌, ◌*◌, ◌≤◌, ℕ, List, length};
 ghost use Rattle.std.specs.List.{zip};
 ghost use Rattle.mkv_io.specs.Sources.{live_files};
 ghost use Rattle.mkv_io.specs.Told.{Told};
 ghost use Rattle.input_files.specs.Inputs.{AreInputs, file_names};
 ghost use Rattle.merge_words.specs.Sound.{IsSoundMerge};
 ghost use Rattle.mkv_lines.specs.Faults.{HasStopCause};
+ghost use Rattle.remuxer.specs.Plan.{data_length};
+ghost use Rattle.mkv_merge.specs.Bound.{contents_length, files_size, most_of};
 ghost use Rattle.mkv_merge.specs.Joined.{Merges, files_counts, no_texts, sources_alone};
 ghost use Rattle.mkv_merge.specs.Merge.{sources_with};
 ghost use Rattle.mkv_merge.specs.Prepared.{AreTold, IsPrepared, reads_in};
@@ -46,6 +48,8 @@ fn merge_prepared<F: Files>(
         → Merges (F.names files.old) (F.names files.new) words.now (Ok (zip contents (reads_in prepared.inputs))) result }
     ensures live { (file : ℕ) → (live_files F.Reads files.new).live file ≡ (live_files F.Reads files.old).live file }
     ensures cause { HasStopCause (files_counts F.Reads F.Files.own files.old) (files_counts F.Reads F.Files.own files.new) result }
+    ensures octets { F.octets_read files.new ≤ F.octets_read files.old
+        + (6 * (length prepared.plan.lanes * files_size (live_files F.Reads files.old) ids.now) + data_length prepared.plan) }
 {
     let (_words, _ids) = (words, ids);
     match remux(alloc, prepared.plan, files) {
@@ -67,6 +71,8 @@ fn merge_live<F: Files>(
         → Merges (F.names files.old) (F.names files.new) words.now (sources_with words.now no_texts contents) result }
     ensures live { (file : ℕ) → (live_files F.Reads files.new).live file ≡ (live_files F.Reads files.old).live file }
     ensures cause { HasStopCause (files_counts F.Reads F.Files.own files.old) (files_counts F.Reads F.Files.own files.new) result }
+    ensures octets { (contents : List (List ℕ)) → AreTold (live_files F.Reads files.old) ids.now contents → F.octets_read files.new
+        ≤ F.octets_read files.old + most_of (sources_with words.now no_texts contents) (files_size (live_files F.Reads files.old) ids.now) }
 {
     let texts = TextFiles {
         chapters: ChapterFile::Absent,
@@ -89,6 +95,8 @@ pub fn merge_files<F: Files>(
     ensures merges { Told (F.names files.old) (λ world. Merges (F.names files.old) (F.names files.new) words.now (sources_alone world words.now) result) }
     ensures live { (file : ℕ) → (live_files F.Reads files.new).live file ≡ (live_files F.Reads files.old).live file }
     ensures cause { HasStopCause (files_counts F.Reads F.Files.own files.old) (files_counts F.Reads F.Files.own files.new) result }
+    ensures octets { Told (F.names files.old) (λ world. F.octets_read files.new
+        ≤ F.octets_read files.old + most_of (sources_alone world words.now) (contents_length world words.now.files)) }
 {
     match first_written(alloc, words) {
         Ok(None) => {}

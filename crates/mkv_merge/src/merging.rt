@@ -14,7 +14,7 @@ ghost use Rattle.mkv_merge.specs.Bound.{files_size, most_beside, most_looked, mo
 ghost use Rattle.mkv_merge.specs.Merge.{merge_verdict, sources_beside, sources_of, sources_settled, sources_with, verdict_of};
 ghost use Rattle.mkv_merge.specs.Prepared.{AreTold};
 ghost use Rattle.mkv_merge.specs.Read.{IsApartMerge};
-ghost use Rattle.mkv_merge.specs.Records.{EndsWithRecords};
+ghost use Rattle.mkv_merge.specs.Records.{EndsReadable};
 
 use crate::names::first_written;
 use crate::pending::begun_refusal;
@@ -49,8 +49,8 @@ fn merge_opened<F: Files, P: Report>(
     ensures cause { HasStopCause
         (seen F.Reads F.writing_faults F.names P.Report files.old report.old).counts
         (seen F.Reads F.writing_faults F.names P.Report files.new report.new).counts result }
-    ensures records { (contents : List (List ℕ)) → AreTold (live_files F.Reads files.old) ids.now contents
-        → EndsWithRecords (sources_with words.now texts contents) result }
+    ensures readable { Told (F.names files.old) (λ world. (contents : List (List ℕ)) → AreTold (live_files F.Reads files.old) ids.now contents
+        → EndsReadable words.now (sources_with words.now texts contents) result) }
     ensures octets { (contents : List (List ℕ)) → AreTold (live_files F.Reads files.old) ids.now contents → F.octets_read files.new
         ≤ F.octets_read files.old + most_of (sources_with words.now texts contents) (files_size (live_files F.Reads files.old) ids.now) }
 {
@@ -82,8 +82,8 @@ fn merge_settled<F: Files, P: Report>(
     ensures cause { HasStopCause
         (seen F.Reads F.writing_faults F.names P.Report files.old report.old).counts
         (seen F.Reads F.writing_faults F.names P.Report files.new report.new).counts result }
-    ensures records { Told (F.names files.old) (λ world. (contents : List (List ℕ)) → AreTold (live_files F.Reads files.old) ids.now contents
-        → EndsWithRecords (sources_settled world words.now texts contents) result) }
+    ensures readable { Told (F.names files.old) (λ world. (contents : List (List ℕ)) → AreTold (live_files F.Reads files.old) ids.now contents
+        → EndsReadable words.now (sources_settled world words.now texts contents) result) }
     ensures octets { Told (F.names files.old) (λ world. (contents : List (List ℕ)) → AreTold (live_files F.Reads files.old) ids.now contents
         → F.octets_read files.new ≤ F.octets_read files.old
         + (most_of (sources_settled world words.now texts contents) (files_size (live_files F.Reads files.old) ids.now) + most_looked words.now)) }
@@ -114,7 +114,7 @@ fn merge_beside<F: Files, P: Report>(
     ensures cause { HasStopCause
         (seen F.Reads F.writing_faults F.names P.Report files.old report.old).counts
         (seen F.Reads F.writing_faults F.names P.Report files.new report.new).counts result }
-    ensures records { Told (F.names files.old) (λ world. EndsWithRecords (sources_beside world words.now texts) result) }
+    ensures readable { Told (F.names files.old) (λ world. EndsReadable words.now (sources_beside world words.now texts) result) }
     ensures octets { Told (F.names files.old) (λ world. F.octets_read files.new
         ≤ F.octets_read files.old + most_beside world words.now (sources_beside world words.now texts)) }
 {
@@ -150,8 +150,9 @@ pub fn merge_of<F: Files, P: Report>(
         (seen F.Reads F.writing_faults F.names P.Report files.old report.old).counts
         (seen F.Reads F.writing_faults F.names P.Report files.new report.new).counts result }
 
-    // What the inputs of a merge that ended give besides tracks and blocks can be read again.
-    ensures records { Told (F.names files.old) (λ world. EndsWithRecords (sources_of world words.now) result) }
+    // What a merge that ended has written can be read again: what its inputs give besides tracks and blocks, and outputs of
+    // no more octets than a file may have.
+    ensures readable { Told (F.names files.old) (λ world. EndsReadable words.now (sources_of world words.now) result) }
     ensures octets { Told (F.names files.old) (λ world. F.octets_read files.new ≤ F.octets_read files.old + most_read world words.now) }
 {
     match first_written(alloc, words) {

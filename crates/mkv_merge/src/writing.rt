@@ -3,6 +3,7 @@
 ghost use Rattle.std.specs.Prelude.{◌≡◌, ◌+◌, ◌*◌, ◌≤◌, ℕ, List, ◌++◌, ◌||◌, length, map, IfOk};
 ghost use Rattle.std.specs.List.{zip};
 ghost use Rattle.mkv_io.specs.Sources.{live_files};
+ghost use Rattle.mkv_io.specs.Told.{Told};
 ghost use Rattle.input_files.specs.Inputs.{AreInputs, file_names};
 ghost use Rattle.mkv_lines.specs.Faults.{HasStopCause};
 ghost use Rattle.mkv_lines.specs.Line.{wrote_blocks_line};
@@ -17,6 +18,7 @@ ghost use Rattle.mkv_merge.specs.Ends.{stop_of};
 ghost use Rattle.mkv_merge.specs.Merge.{has_other_count, merged_verdict, status_of, uuid_lines};
 ghost use Rattle.mkv_merge.specs.Prepared.{AreTold, IsPrepared, reads_in};
 ghost use Rattle.mkv_merge.specs.Read.{IsApartMerge};
+ghost use Rattle.mkv_merge.specs.Records.{AreShort};
 ghost use Rattle.mkv_merge.specs.Told.{is_warned, warnings_from};
 
 use crate::preparing::Prepared;
@@ -112,6 +114,8 @@ pub fn write<F: Files, P: Report>(
     ensures cause { HasStopCause
         (seen F.Reads F.writing_faults F.names P.Report files.old report.old).counts
         (seen F.Reads F.writing_faults F.names P.Report files.new report.new).counts result }
+    ensures short { Told (F.names files.old) (λ world. (contents : List (List ℕ)) → AreTold (live_files F.Reads files.old) ids.now contents
+        → IfOk result (λ _. AreShort words.now (zip contents (reads_in prepared.inputs)))) }
 
     // Each lane reads at most six times the file of its input, and attached files are copied.
     ensures octets { F.octets_read files.new ≤ F.octets_read files.old

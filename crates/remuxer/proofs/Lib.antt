@@ -1,4 +1,5 @@
 pub mod InfoLemmas
+pub mod ShortLemmas
 pub mod PartLemmas
 pub mod StepLemmas
 pub mod TakingLemmas

@@ -36,6 +36,7 @@ use Rattle.cues_seekhead.specs.Made.{MakesFile, WritesAndEnds}
 use Rattle.cues_seekhead.proofs.MadeLemmas.{MakesFile-ended, MakesFile-finished, MakesFile-kept}
 use Rattle.output_model.specs.Cued.{is_cue}
 use Rattle.remuxer.specs.Stands.{HasAll, Stands}
+use Rattle.remuxer.proofs.ShortLemmas.{HoldsOfFiles, ended-short}
 use Rattle.remuxer.specs.declared.counts.Counts.{Counts}
 use Rattle.output_model.specs.declared.rule.CueRule.{CueRule}
 use Rattle.merge_model.specs.FileLinks.{IsOpenLink, KeepsLink}
@@ -104,8 +105,8 @@ module _ {S : Type 0} (r : Ghosts S) (f : writing.Ghosts S) (before : Names) (na
   }
 
   -- it has all its Clusters, and is finished
-  pub finishes-all : (old new : S) (o : OpenOutput) (chapters tags : Option Node) (result : Result ℕ RemuxEnd) → d.chapters ≡ chapters → d.tags ≡ tags → Finishes r f o chapters tags old new result → (n : Counts) → HasAll r f before name d old o n → Writes before (f.names new) name d result
-  finishes-all old new o chapters tags result its_chapters its_tags finishes n all = step result finishes
+  pub finishes-all : (old new : S) (o : OpenOutput) (chapters tags : Option Node) (result : Result ℕ RemuxEnd) → d.chapters ≡ chapters → d.tags ≡ tags → HoldsOfFiles r f → Finishes r f o chapters tags old new result → WritesAndEnds r f o.file old new → (n : Counts) → HasAll r f before name d old o n → Writes before (f.names new) name d result
+  finishes-all old new o chapters tags result its_chapters its_tags of_files finishes ended n all = step result finishes
     where
       named : f.holder old o.file.n ≡ name
       named = all.stands.holder
@@ -119,7 +120,7 @@ module _ {S : Type 0} (r : Ghosts S) (f : writing.Ghosts S) (before : Names) (na
       step (Ok len) ends =
           let P : List ℕ → Type 0 = λ n. HoldsLayout before (f.names new) n d len in
           let holds = subst P named (ends before d ready) in
-          record { names = holds.names; becomes = holds.becomes }
+          record { names = holds.names; becomes = holds.becomes; short = ended-short r f before name (layout d) o.file old new of_files all.stands.is_open.live named holds.names ended }
       step (Err end) ends =
           let P : List ℕ → Type 0 = λ n. StandsInTurn before (f.names new) (draft_of n d ∷ []) in
           subst P named (drafted-in_turn before (f.names new) (f.holder old o.file.n) d (ends before d ready))
@@ -259,11 +260,11 @@ module _ {S : Type 0} (r : Ghosts S) (f : writing.Ghosts S) (o : OutputSpec) (na
   -- it was filled, and is finished
   pub filled-finishes : (c e : S) (w w' : BlockWriter) (p' : PlacedBlocks) (filled : Filled) (chapters : Option Node) (result : Result ℕ RemuxEnd) → FillsPart r f o part b c w w' p p' filled
       → Stands r f (f.names a) name o.rules (document_with (live_files r a) o (part_in (live_files r a) p part)) b w.out w.buffer w.counts (part_in (live_files r b) p part).blocks
-      → chapters ≡ chapters_in o filled.chapters → Finishes r f w'.out chapters o.tags c e result → Writes (f.names a) (f.names e) name (document_with (live_files r a) o (part_in (live_files r a) p part)) result
-  filled-finishes c e w w' p' filled chapters result fills stands its finishes =
+      → chapters ≡ chapters_in o filled.chapters → HoldsOfFiles r f → Finishes r f w'.out chapters o.tags c e result → WritesAndEnds r f w'.out.file c e → Writes (f.names a) (f.names e) name (document_with (live_files r a) o (part_in (live_files r a) p part)) result
+  filled-finishes c e w w' p' filled chapters result fills stands its of_files finishes ended =
       let d : Document = document_with (live_files r a) o (part_in (live_files r a) p part) in
       let cut : filled.chapters ≡ chapters_cut o part.start (part_in (live_files r a) p part).end = fills.chapters ∙ ap (λ (each : Part). chapters_cut o part.start each.end) part-same in
-      finishes-all r f (f.names a) name d c e w'.out chapters o.tags result (chapters-are o (live_files r a) (part_in (live_files r a) p part) filled.chapters cut ∙ sym its) refl finishes
+      finishes-all r f (f.names a) name d c e w'.out chapters o.tags result (chapters-are o (live_files r a) (part_in (live_files r a) p part) filled.chapters cut ∙ sym its) refl of_files finishes ended
       w'.counts (fills.all (f.names a) name d refl stands)
 
   -- so many blocks, and the parts behind it

@@ -5,8 +5,9 @@ use Rattle.std.proofs.lemmas.List.{length-map, map-append}
 use Rattle.std.proofs.lemmas.List.Elements.{All-append, All-cons, All-nil}
 use Rattle.std.proofs.lemmas.Bool.Decides.{nat_tests}
 use Rattle.mkv_io.specs.LiveFiles.{LiveFiles}
-use Rattle.mkv_io.specs.Names.{AreOthers, Names, with_content}
+use Rattle.mkv_io.specs.Names.{AreOthers, Names, changed_at, with_content}
 use Rattle.mkv_io.specs.Sources.{live_files}
+use Rattle.mkv_io.specs.Told.{Told}
 use Rattle.mkv_io.specs.Writing.{KeepsOthers}
 use Rattle.mkv_io.specs.declared.reads.Reads.{Ghosts}
 use Rattle.mkv_io.specs.declared.files.Files as writing
@@ -44,7 +45,7 @@ use Rattle.remuxer.specs.Taking.{GoesOn}
 use Rattle.remuxer.specs.declared.placed.PartStart.{PartStart}
 use Rattle.remuxer.specs.declared.placed.PlacedBlocks.{PlacedBlocks}
 use Rattle.remuxer.proofs.TakingLemmas.{OnlyRead, files-same, goes-then, read-keeps}
-use Rattle.remuxer.specs.Output.{CanBeNext, FindsNext, FindsPart, HasRecords, IsToldNext, IsUnwritten, IsUnwrittenLink, KeepsUnwritten, ReadsParts, WritesAll, WritesOne, data_of, drafts_of, laid_out, next_name, next_spec, own_spec, part_in, parts_begun}
+use Rattle.remuxer.specs.Output.{CanBeNext, FindsNext, FindsPart, HasRecords, IsShort, IsToldNext, IsUnwritten, IsUnwrittenLink, KeepsUnwritten, ReadsParts, WritesAll, WritesOne, data_of, drafts_of, laid_out, next_name, next_spec, own_spec, part_in, parts_begun}
 
 -- ---- one behind the other
 
@@ -57,6 +58,15 @@ outputs-split f o number (p ∷ done) more =
 count-outputs : (f : LiveFiles) (o : OutputSpec) (number : ℕ) (done : List Part) → length (outputs_from f o number done) ≡ length done
 count-outputs f o number [] = refl
 count-outputs f o number (p ∷ done) = ap suc (count-outputs f o (suc number) done)
+
+-- what the names tell after each of these outputs was written
+abbrev pub world_with : (List ℕ → Option (List ℕ)) → List Output → List ℕ → Option (List ℕ)
+world_with world [] = world
+world_with world (o ∷ os) = world_with (changed_at o.name (λ _. Some o.content) world) os
+
+pub told-with : (world : List ℕ → Option (List ℕ)) (os : List Output) → with_outputs (Some world) os ≡ Some (world_with world os)
+told-with world [] = refl
+told-with world (o ∷ os) = told-with (changed_at o.name (λ _. Some o.content) world) os
 
 -- some first drafts are whole, and one more
 whole-behind : (old mid new : Names) (done : List Draft) (d : Draft) → mid ≡ with_outputs old (outputs_of done) → new ≡ with_content mid (output_of d).name (output_of d).content → new ≡ with_outputs old (outputs_of (done ++ d ∷ []))
@@ -160,6 +170,7 @@ module _ {S : Type 0} (r : Ghosts S) (f : writing.Ghosts S) (o : OutputSpec) (a 
     pub written_are : written ≡ map written_of (outputs_from (live_files r a) o 1 done)
     pub names : f.names b ≡ with_outputs (f.names a) (outputs_of (drafts_of (outputs_from (live_files r a) o 1 done)))
     pub become : outputs_of (drafts_of (outputs_from (live_files r a) o 1 done)) ≡ map laid_out (outputs_from (live_files r a) o 1 done)
+    pub short : Told (f.names a) (λ world. All (λ (each : PlannedOutput). IsShort each.document) (outputs_from (live_files r a) o 1 done))
     pub told : IsToldNext (live_files r b) p' next
     pub front : front_with (live_files r b) o'.front ≡ front_with (live_files r a) o'.front
 
@@ -192,6 +203,7 @@ module _ {S : Type 0} (r : Ghosts S) (f : writing.Ghosts S) (o : OutputSpec) (a 
       written_are = refl;
       names = read.names;
       become = refl;
+      short = λ world is. All-nil (λ (each : PlannedOutput). IsShort each.document);
       told = finds.told told;
       front = ap (λ (h : LiveFiles). front_with h o.front) (files-same r f a b read);
     };
@@ -313,6 +325,11 @@ module _ {S : Type 0} (r : Ghosts S) (f : writing.Ghosts S) (o : OutputSpec) (a 
             ∙ ap₂ (λ (before : List Output) (x : Output). before ++ x ∷ []) so_far.become writes.writes.becomes
             ∙ sym (map-append laid_out (outputs_from (live_files r a) o 1 so_far.done) (its ∷ []))
             ∙ ap (map laid_out) (sym one-more);
+        short = λ world is.
+            let told-then = so_far.names ∙ ap (λ (names : Names). with_outputs names (outputs_of done_drafts)) is ∙ told-with world (outputs_of done_drafts) in
+            subst (All (λ (each : PlannedOutput). IsShort each.document)) (sym one-more)
+            (All-append (λ (each : PlannedOutput). IsShort each.document) (outputs_from (live_files r a) o 1 so_far.done) (its ∷ []) (so_far.short world is)
+            (All-cons (λ (each : PlannedOutput). IsShort each.document) its [] (writes.writes.short (world_with world (outputs_of done_drafts)) told-then) (All-nil (λ (each : PlannedOutput). IsShort each.document))));
         told = writes.told;
         front = subst (λ (each : OutputSpec). front_with (live_files r e) each.front ≡ front_with (live_files r a) each.front) (sym spec) refl;
       }
@@ -347,7 +364,7 @@ pub all-written : {S : Type 0} (r : Ghosts S) (f : writing.Ghosts S) (o : Output
 all-written r f o a b p p' o' written standing =
     let whole : parts (split_in p) (left (live_files r a) p.merge) ≡ standing.done = standing.whole ∙ append-nil standing.done in
     subst (λ (all : List Part). WritesAll (f.names a) (f.names b) (outputs_from (live_files r a) o 1 all)) (sym whole)
-    (record { names = standing.names ∙ ap (with_outputs (f.names a)) standing.become; become = standing.become })
+    (record { names = standing.names ∙ ap (with_outputs (f.names a)) standing.become; become = standing.become; short = standing.short })
 
 pub all-summed : {S : Type 0} (r : Ghosts S) (f : writing.Ghosts S) (o : OutputSpec) (a b : S) (p p' : PlacedBlocks) (o' : OutputSpec) (written : List Written) → Standing r f o a p b o' p' written None
     → written ≡ map written_of (outputs_from (live_files r a) o 1 (parts (split_in p) (left (live_files r a) p.merge)))

@@ -5,10 +5,12 @@ use Rattle.mkv_io.specs.Faults.{counted, last_count}
 use Rattle.mkv_io.specs.LiveFiles.{LiveFiles}
 use Rattle.mkv_io.specs.Names.{Names, with_content}
 use Rattle.mkv_io.specs.Sources.{live_files}
+use Rattle.mkv_io.specs.Told.{Told}
 use Rattle.mkv_io.specs.Writing.{KeepsOthers}
 use Rattle.mkv_io.specs.declared.reads.Reads.{Ghosts}
 use Rattle.mkv_io.specs.declared.files.Files as writing
 use Rattle.mkv_io.specs.declared.outside.ReadEnd.{ReadEnd}
+use Rattle.mkv_io.specs.declared.outside.TheConstants.{LONGEST_FILE}
 use Rattle.mkv_io.specs.declared.remux_end.RemuxEnd.{RemuxEnd}
 use Rattle.mkv_outputs.specs.Drafts.{Draft, StandsInTurn, output_of, outputs_of}
 use Rattle.mkv_outputs.specs.Outputs.{Output, with_outputs}
@@ -80,10 +82,16 @@ data_of o = sum_by (λ (a : Attachment). a.len) o.front.attachments
 abbrev pub part_in : LiveFiles → PlacedBlocks → PartStart → Part
 part_in f b p = part_from (split_in b) p.start b.cuts.load (lent_at b.merge p.lane) (left f b.merge)
 
--- The octets of the document stand under the name, and no other name changes; they are what its draft becomes.
+-- Its octets are no more than a file may have.
+abbrev pub IsShort : Document → Type 0
+IsShort d = length (layout d) ≤ LONGEST_FILE
+
+-- The octets of the document stand under the name, and no other name changes; they are what its draft becomes, and where the names are told
+-- no more than a file may have.
 pub record WritesLayout (old new : Names) (name : List ℕ) (d : Document) : Type 0 where
   pub names : new ≡ with_content old name (layout d)
   pub becomes : output_of (draft_of name d) ≡ record { name = name; content = layout d }
+  pub short : Told old (λ world. IsShort d)
 
 -- After a refusal the output stands as a draft, or the name is as before. No other name changes.
 abbrev pub Writes : {T : Type 0} → Names → Names → List ℕ → Document → Result T RemuxEnd → Type 0
@@ -232,10 +240,12 @@ drafts_of outputs = map (λ (o : PlannedOutput). draft_of o.name o.document) out
 abbrev pub laid_out : PlannedOutput → Output
 laid_out o = record { name = o.name; content = layout o.document }
 
--- The octets of all documents stand under their names, and no other name changes; they are what the drafts become.
+-- The octets of all documents stand under their names, and no other name changes; they are what the drafts become, and where the names are
+-- told no more of each than a file may have.
 pub record WritesAll (old new : Names) (outputs : List PlannedOutput) : Type 0 where
   pub names : new ≡ with_outputs old (map laid_out outputs)
   pub become : outputs_of (drafts_of outputs) ≡ map laid_out outputs
+  pub short : Told old (λ world. All (λ (o : PlannedOutput). IsShort o.document) outputs)
 
 -- After a refusal some first outputs stand whole, and the next one as a draft; every other name is as before.
 abbrev pub WritesOutputs : {T : Type 0} → Names → Names → List PlannedOutput → Result T RemuxEnd → Type 0

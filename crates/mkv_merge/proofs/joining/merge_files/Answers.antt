@@ -5,12 +5,14 @@ use Rattle.mkv_io.specs.Sources.{live_files}
 use Rattle.input_files.specs.Inputs.{file_names}
 use Rattle.merge_plan.specs.Plan.{Source}
 use Rattle.mkv_lines.specs.declared.status.Stop.TheVariants as stop
-use Rattle.mkv_merge.specs.Joined.{Merges, sources_alone}
+use Rattle.mkv_merge.specs.Bound.{files_size}
+use Rattle.mkv_merge.specs.Merge.{sources_with}
+use Rattle.mkv_merge.specs.Joined.{Merges, no_texts, sources_alone}
 use Rattle.mkv_merge.specs.Prepared.{AreTold}
 use Rattle.mkv_merge.specs.Read.{first_written}
 use Rattle.mkv_merge.specs.declared.refusal.Refusal.{Refusal}
 use Rattle.mkv_merge.proofs.JoinedLemmas.{alone-missing, alone-taken, alone-there, merges-begun}
-use Rattle.mkv_merge.proofs.MergingLemmas.{opened-told}
+use Rattle.mkv_merge.proofs.MergingLemmas.{opened-told, reads-alone, size-told}
 use Rattle.mkv_merge.proofs.joining.merge_files.Goals as goal
 
 -- an output has a name that is read
@@ -53,3 +55,20 @@ returns-clause-merges g c = λ world told.
     (subst (λ (before : Names). Merges before (g.F.Files.names c.merge_live-ended.new.files) words (sources_alone world words) c.merge_live-ended.result) names
     (subst (λ (found : Result (List Source) Refusal). Merges (g.F.Files.names c.open_all.new.files) (g.F.Files.names c.merge_live-ended.new.files) words found c.merge_live-ended.result) (sym sources)
     (c.merge_live-ended.ensures.merges contents told_files)))
+
+-- ---- how much is read
+
+pub returns-clause-octets : goal.returns-clause-octets
+returns-clause-octets g c = λ world told.
+    let words = c.args.words.now in
+    let opened = c.open_all.new.files in
+    let ids = c.as_slice-2.result.now in
+    let f = live_files g.F.Reads opened in
+    let contents = map (λ name. unwrap_or (world name) []) (file_names words.files) in
+    let apart : first_written words ≡ None = sym c.in-Ok-None.ensures ∙ c.in-Ok-None.field-0-is in
+    let there = c.in-Ok.ensures.missing world told in
+    let told_files : AreTold f ids contents =
+    opened-told f world words c.as_slice.result.now c.in-Ok.ids ids c.as_slice.ensures c.as_slice-2.ensures there (c.in-Ok.ensures.contents world told) in
+    reads-alone world words (sources_with words no_texts contents) (g.F.Reads.octets_read c.args.files.now) (g.F.Reads.octets_read opened) (g.F.Reads.octets_read c.merge_live-ended.new.files) (g.F.Reads.octets_read c.close_all.new.files) (files_size f ids)
+    (alone-there world words c.as_slice.result.now apart c.as_slice.ensures there) (size-told f (g.met.F.Reads.told_size (g.F.Reads.standing opened)) world words.files ids told_files)
+    c.in-Ok.ensures.same.octets (c.merge_live-ended.ensures.octets contents told_files) c.close_all.ensures.octets

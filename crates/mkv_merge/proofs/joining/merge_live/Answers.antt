@@ -1,4 +1,5 @@
-use Rattle.std.proofs.Common.{◌≡◌, List, Result, sym, ◌∙◌, ap, subst}
+use Rattle.std.proofs.Common.{◌≡◌, List, length, Result, sym, ◌∙◌, ap, subst}
+use Rattle.std.specs.List.{zip}
 use Rattle.mkv_io.specs.LiveFiles.{LiveFiles}
 use Rattle.mkv_io.specs.Names.{Names}
 use Rattle.mkv_io.specs.Sources.{live_files}
@@ -6,11 +7,15 @@ use Rattle.input_files.specs.declared.text_files.TextFiles.{TextFiles}
 use Rattle.input_files.specs.declared.times_file.TimesFile.{TimesFile}
 use Rattle.input_files.specs.declared.chapter_file.ChapterFile.TheVariants.{Absent}
 use Rattle.merge_plan.specs.Plan.{Source}
+use Rattle.remuxer.specs.Plan.{data_length}
+use Rattle.mkv_merge.specs.Bound.{files_size}
 use Rattle.mkv_merge.specs.Joined.{Merges, no_texts}
 use Rattle.mkv_merge.specs.Merge.{sources_with}
-use Rattle.mkv_merge.specs.Prepared.{AreTold}
+use Rattle.mkv_merge.specs.Prepared.{AreTold, reads_in}
 use Rattle.mkv_merge.specs.declared.refusal.Refusal.{Refusal}
 use Rattle.mkv_merge.proofs.JoinedLemmas.{merges-begun}
+use Rattle.mkv_merge.proofs.MergingLemmas.{reads-both}
+use Rattle.mkv_merge.proofs.WritingLemmas.{data-counted, lanes-count, many-inputs, merge-is}
 use Rattle.mkv_merge.proofs.joining.merge_live.Goals as goal
 
 -- reading has changed nothing, and what was prepared is what the sources come to
@@ -38,3 +43,21 @@ pub returns-in-Err-Stopped-clause-merges : goal.returns-in-Err-Stopped-clause-me
 returns-in-Err-Stopped-clause-merges g c = λ contents told.
     merges-begun (g.F.Files.names c.args.files.now) (g.F.Files.names c.prepare.new.src) c.args.words.now (sources_with c.args.words.now no_texts contents) c.from.result
     (g.met.F.Files.names_stand c.prepare.new.src c.args.files.now c.in-Err-Stopped.ensures.standing)
+
+-- ---- how much is read
+
+pub returns-in-Ok-clause-octets : goal.returns-in-Ok-clause-octets
+returns-in-Ok-clause-octets g c = λ contents told.
+    let words = c.args.words.now in
+    let ids = c.args.ids.now in
+    let old = c.args.files.now in
+    let mid = c.prepare.new.src in
+    let p = c.in-Ok.prepared in
+    let now = live_files g.F.Reads mid in
+    let same : now ≡ live_files g.F.Reads old = ap g.F.Reads.files c.in-Ok.ensures.standing in
+    let plain = ap (λ (times : List TimesFile). let texts : TextFiles = record { chapters = Absent; times = times } in sources_with words texts contents) c.new.ensures in
+    let sources = zip contents (reads_in p.inputs) in
+    let many = many-inputs g.F.Reads g.F.Files old words ids p.inputs c.requires.inputs c.in-Ok.ensures.prepared.inputs.of in
+    let is = merge-is now words ids contents p c.in-Ok.ensures.prepared (subst (λ (f : LiveFiles). AreTold f ids contents) (sym same) told) many in
+    reads-both (sources_with words no_texts contents) sources (length p.plan.lanes) (g.F.Reads.octets_read old) (g.F.Reads.octets_read mid) (g.F.Reads.octets_read c.merge_prepared.new.files) (files_size (live_files g.F.Reads old) ids) (files_size now ids) (data_length p.plan)
+    (sym plain ∙ c.in-Ok.ensures.exact contents told) (lanes-count now words p.inputs p.plan sources is) (ap (λ (f : LiveFiles). files_size f ids) same) (data-counted now words p.inputs p.plan sources is) c.prepare.ensures.octets c.merge_prepared.ensures.octets

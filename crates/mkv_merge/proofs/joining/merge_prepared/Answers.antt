@@ -3,7 +3,7 @@ use Rattle.std.specs.List.{zip}
 use Rattle.mkv_io.specs.Sources.{live_files}
 use Rattle.mkv_merge.specs.Prepared.{reads_in}
 use Rattle.mkv_merge.proofs.JoinedLemmas.{merges-stopped, merges-written}
-use Rattle.mkv_merge.proofs.WritingLemmas.{many-inputs, merge-is, plan-good, plan-told}
+use Rattle.mkv_merge.proofs.WritingLemmas.{many-inputs, merge-is, plan-good, plan-reads, plan-told}
 use Rattle.mkv_merge.proofs.joining.merge_prepared.Goals as goal
 
 pub remux-requires : goal.remux-requires
@@ -34,3 +34,13 @@ returns-clause-merges g c = λ contents told.
     merges-stopped (g.F.Files.names old) (g.F.Files.names c.remux.new.files) words (Ok sources) f prepared.inputs prepared.plan sources c.stop_of.result refl
     (merge-is f words c.args.ids.now contents prepared c.requires.prepared told many)
     (c.in-Err.ensures.output (plan-told f words c.args.ids.now contents prepared c.requires.prepared told))
+
+-- ---- how much is read
+
+pub returns-in-Ok-clause-octets : goal.returns-in-Ok-clause-octets
+returns-in-Ok-clause-octets g c =
+    plan-reads (live_files g.F.Reads c.args.files.now) c.args.words.now c.args.ids.now c.args.prepared (g.F.Reads.octets_read c.args.files.now) (g.F.Reads.octets_read c.remux.new.files) c.requires.prepared c.remux.ensures.octets
+
+pub returns-clause-octets : goal.returns-clause-octets
+returns-clause-octets g c =
+    plan-reads (live_files g.F.Reads c.args.files.now) c.args.words.now c.args.ids.now c.args.prepared (g.F.Reads.octets_read c.args.files.now) (g.F.Reads.octets_read c.remux.new.files) c.requires.prepared c.remux.ensures.octets

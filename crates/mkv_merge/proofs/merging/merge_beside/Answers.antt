@@ -9,7 +9,7 @@ use Rattle.mkv_lines.proofs.VerdictLemmas.{IsStopped-before}
 use Rattle.mkv_merge.specs.Bound.{files_size}
 use Rattle.mkv_merge.specs.Merge.{sources_beside, sources_settled, verdict_of}
 use Rattle.mkv_merge.specs.Prepared.{AreTold}
-use Rattle.mkv_merge.specs.Records.{EndsWithRecords}
+use Rattle.mkv_merge.specs.Records.{EndsReadable}
 use Rattle.mkv_merge.specs.declared.refusal.Refusal.{Refusal}
 use Rattle.mkv_merge.proofs.MergingLemmas.{opened-sources, opened-told, reads-few, size-told}
 use Rattle.mkv_merge.proofs.merging.merge_beside.Goals as goal
@@ -80,10 +80,10 @@ returns-clause-octets g c = λ world told.
     (opened-sources world words c.args.texts c.as_slice.result.now c.as_slice.ensures there) (size-told f (g.met.F.Reads.told_size (g.F.Reads.standing opened)) world words.files ids contents-told)
     c.in-Ok.ensures.same.octets (c.merge_settled-ended.ensures.octets world (c.in-Ok.ensures.same.names ∙ told) contents contents-told) c.close_all.ensures.octets
 
--- ---- the records
+-- ---- what can be read again
 
-pub returns-clause-records : goal.returns-clause-records
-returns-clause-records g c = λ world told.
+pub returns-clause-readable : goal.returns-clause-readable
+returns-clause-readable g c = λ world told.
     let words = c.args.words.now in
     let f = live_files g.F.Reads c.open_all.new.files in
     let ids = c.as_slice-2.result.now in
@@ -91,6 +91,6 @@ returns-clause-records g c = λ world told.
     let there = c.in-Ok.ensures.missing world told in
     let contents-told : AreTold f ids contents =
     opened-told f world words c.as_slice.result.now c.in-Ok.ids ids c.as_slice.ensures c.as_slice-2.ensures there (c.in-Ok.ensures.contents world told) in
-    subst (λ (found : Result (List Source) Refusal). EndsWithRecords found c.merge_settled-ended.result)
+    subst (λ (found : Result (List Source) Refusal). EndsReadable words found c.merge_settled-ended.result)
     (sym (opened-sources world words c.args.texts c.as_slice.result.now c.as_slice.ensures there))
-    (c.merge_settled-ended.ensures.records world (c.in-Ok.ensures.same.names ∙ told) contents contents-told)
+    (c.merge_settled-ended.ensures.readable world (c.in-Ok.ensures.same.names ∙ told) contents contents-told)

@@ -7,7 +7,7 @@ use Rattle.mkv_lines.specs.Verdict.{Reaches, Verdict}
 use Rattle.mkv_lines.proofs.VerdictLemmas.{IsStopped-before}
 use Rattle.mkv_merge.specs.Merge.{merge_verdict, sources_beside, verdict_of}
 use Rattle.mkv_merge.specs.Read.{first_written}
-use Rattle.mkv_merge.specs.Records.{EndsWithRecords}
+use Rattle.mkv_merge.specs.Records.{EndsReadable}
 use Rattle.mkv_merge.specs.declared.refusal.Refusal.{Refusal}
 use Rattle.mkv_merge.proofs.MergingLemmas.{chaptered-sources, reads-chaptered}
 use Rattle.mkv_merge.proofs.merging.merge_of.Goals as goal
@@ -61,12 +61,12 @@ returns-in-Ok-clause-octets g c = λ world told.
     (subst (λ (files : List FileWords). g.F.Reads.octets_read c.read_text_files.new.files ≤ g.F.Reads.octets_read c.args.files.now + text_octets world words.chapters files) c.as_slice.ensures
     (c.read_text_files.ensures.octets world told)) (c.merge_beside.ensures.octets world (c.read_text_files.ensures.looks.names ∙ told))
 
--- ---- the records
+-- ---- what can be read again
 
-pub returns-in-Ok-clause-records : goal.returns-in-Ok-clause-records
-returns-in-Ok-clause-records g c = λ world told.
+pub returns-in-Ok-clause-readable : goal.returns-in-Ok-clause-readable
+returns-in-Ok-clause-readable g c = λ world told.
     let words = c.args.words.now in
     let apart : first_written words ≡ None = sym c.in-Ok-None.ensures ∙ c.in-Ok-None.field-0-is in
-    subst (λ (found : Result (List Source) Refusal). EndsWithRecords found c.merge_beside.result)
+    subst (λ (found : Result (List Source) Refusal). EndsReadable words found c.merge_beside.result)
     (sym (chaptered-sources world words c.in-Ok.texts apart (c.in-Ok.ensures.exact world told ∙ ap (text_files world words.chapters) c.as_slice.ensures)))
-    (c.merge_beside.ensures.records world (c.read_text_files.ensures.looks.names ∙ told))
+    (c.merge_beside.ensures.readable world (c.read_text_files.ensures.looks.names ∙ told))

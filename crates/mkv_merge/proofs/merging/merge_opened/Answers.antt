@@ -1,4 +1,4 @@
-use Rattle.std.proofs.Common.{◌≡◌, length, refl, sym, ap, subst}
+use Rattle.std.proofs.Common.{◌≡◌, length, refl, sym, ◌∙◌, ap, subst}
 use Rattle.std.specs.List.{zip}
 use Rattle.mkv_io.specs.LiveFiles.{LiveFiles}
 use Rattle.mkv_io.specs.Sources.{live_files}
@@ -10,7 +10,7 @@ use Rattle.mkv_merge.specs.Merge.{sources_with, verdict_of}
 use Rattle.mkv_merge.specs.Bound.{files_size}
 use Rattle.mkv_merge.specs.Prepared.{AreTold, reads_in}
 use Rattle.mkv_merge.proofs.MergingLemmas.{reads-both}
-use Rattle.mkv_merge.proofs.WritingLemmas.{data-counted, lanes-count, many-inputs, merge-is, records-are, records-found, records-none}
+use Rattle.mkv_merge.proofs.WritingLemmas.{data-counted, lanes-count, many-inputs, merge-is, readable-found, readable-none, records-are}
 use Rattle.mkv_merge.proofs.merging.merge_opened.Goals as goal
 
 -- reading has changed nothing that is seen, and what was prepared is what the sources come to
@@ -62,10 +62,10 @@ returns-in-Ok-clause-octets g c = λ contents told.
     reads-both (sources_with words c.args.texts contents) sources (length p.plan.lanes) (g.F.Reads.octets_read old) (g.F.Reads.octets_read mid) (g.F.Reads.octets_read c.write.new.files) (files_size (live_files g.F.Reads old) ids) (files_size now ids) (data_length p.plan)
     (c.in-Ok.ensures.exact contents told) (lanes-count now words p.inputs p.plan sources is) (ap (λ (f : LiveFiles). files_size f ids) same) (data-counted now words p.inputs p.plan sources is) c.prepare.ensures.octets c.write.ensures.octets
 
--- ---- the records
+-- ---- what can be read again
 
-pub returns-in-Ok-clause-records : goal.returns-in-Ok-clause-records
-returns-in-Ok-clause-records g c = λ contents told.
+pub returns-in-Ok-clause-readable : goal.returns-in-Ok-clause-readable
+returns-in-Ok-clause-readable g c = λ world named contents told.
     let words = c.args.words.now in
     let ids = c.args.ids.now in
     let old = c.args.files.now in
@@ -74,11 +74,13 @@ returns-in-Ok-clause-records g c = λ contents told.
     let same : now ≡ live_files g.F.Reads old = ap g.F.Reads.files c.in-Ok.ensures.standing in
     let sources = zip contents (reads_in p.inputs) in
     let many = many-inputs g.F.Reads g.F.Files old words ids p.inputs c.requires.inputs c.in-Ok.ensures.prepared.inputs.of in
-    let is = merge-is now words ids contents p c.in-Ok.ensures.prepared (subst (λ (f : LiveFiles). AreTold f ids contents) (sym same) told) many in
-    records-found (sources_with words c.args.texts contents) sources c.write.result (c.in-Ok.ensures.exact contents told)
+    let mid-told : AreTold now ids contents = subst (λ (f : LiveFiles). AreTold f ids contents) (sym same) told in
+    let is = merge-is now words ids contents p c.in-Ok.ensures.prepared mid-told many in
+    readable-found words (sources_with words c.args.texts contents) sources c.write.result (c.in-Ok.ensures.exact contents told)
     (records-are now words p.inputs p.plan sources is c.in-Ok.ensures.prepared.written)
+    (c.write.ensures.short world (g.met.F.Files.names_stand c.prepare.new.src old c.in-Ok.ensures.standing ∙ named) contents mid-told)
 
 -- refused
-pub returns-in-Err-Refused-clause-records : goal.returns-in-Err-Refused-clause-records
-returns-in-Err-Refused-clause-records g c = λ contents told.
-    records-none (sources_with c.args.words.now c.args.texts contents) c.in-Err-Refused.why c.refuse.result (rw c.in-Err-Refused.field-0-is at (c.in-Err-Refused.ensures.exact contents told))
+pub returns-in-Err-Refused-clause-readable : goal.returns-in-Err-Refused-clause-readable
+returns-in-Err-Refused-clause-readable g c = λ world named contents told.
+    readable-none c.args.words.now (sources_with c.args.words.now c.args.texts contents) c.in-Err-Refused.why c.refuse.result (rw c.in-Err-Refused.field-0-is at (c.in-Err-Refused.ensures.exact contents told))

@@ -10,11 +10,11 @@ use Rattle.mkv_merge.specs.Bound.{files_size, most_looked}
 use Rattle.mkv_merge.specs.Merge.{sources_settled, sources_with, verdict_of}
 use Rattle.mkv_merge.specs.Prepared.{AreTold}
 use Rattle.mkv_merge.specs.Read.{begun_refusal}
-use Rattle.mkv_merge.specs.Records.{EndsWithRecords}
+use Rattle.mkv_merge.specs.Records.{EndsReadable}
 use Rattle.mkv_merge.specs.Refused.{and_then, line_of, unless}
 use Rattle.mkv_merge.specs.declared.refusal.Refusal.{Refusal}
 use Rattle.mkv_merge.proofs.MergingLemmas.{contents-kept, reads-settled, sizes-kept}
-use Rattle.mkv_merge.proofs.WritingLemmas.{records-none}
+use Rattle.mkv_merge.proofs.WritingLemmas.{readable-none}
 use Rattle.mkv_merge.proofs.merging.merge_settled.Goals as goal
 
 -- the inputs stand while sidecars are looked into
@@ -85,10 +85,10 @@ returns-in-Ok-None-clause-octets g c = λ world told contents held.
     reads-settled world words c.args.texts contents (g.F.Reads.octets_read c.args.files.now) (g.F.Reads.octets_read c.begun_refusal.new.files) (g.F.Reads.octets_read c.merge_opened.new.files) (files_size old ids) (files_size mid ids) (most_looked words)
     none (sizes-kept old mid ids (λ file. kept.others file tt) c.requires.inputs.live) c.begun_refusal.ensures.octets (c.merge_opened.ensures.octets contents mid-told)
 
--- ---- the records
+-- ---- what can be read again
 
-pub returns-in-Ok-None-clause-records : goal.returns-in-Ok-None-clause-records
-returns-in-Ok-None-clause-records g c = λ world told contents held.
+pub returns-in-Ok-None-clause-readable : goal.returns-in-Ok-None-clause-readable
+returns-in-Ok-None-clause-readable g c = λ world told contents held.
     let words = c.args.words.now in
     let kept = c.begun_refusal.ensures.looks.kept in
     let old = live_files g.F.Reads c.args.files.now in
@@ -98,11 +98,12 @@ returns-in-Ok-None-clause-records g c = λ world told contents held.
     ap (λ (why : Option Refusal). and_then (unless why contents) (sources_with words c.args.texts)) none in
     let mid-told : AreTold mid c.args.ids.now contents =
     contents-kept old.live old.content mid.content c.args.ids.now (λ file live. (kept.others file tt).content live) c.requires.inputs.live ∙ held in
-    subst (λ (found : Result (List Source) Refusal). EndsWithRecords found c.merge_opened.result) (sym settled) (c.merge_opened.ensures.records contents mid-told)
+    subst (λ (found : Result (List Source) Refusal). EndsReadable words found c.merge_opened.result) (sym settled)
+    (c.merge_opened.ensures.readable world (c.begun_refusal.ensures.looks.names ∙ told) contents mid-told)
 
-pub returns-in-Ok-Some-clause-records : goal.returns-in-Ok-Some-clause-records
-returns-in-Ok-Some-clause-records g c = λ world told contents held.
+pub returns-in-Ok-Some-clause-readable : goal.returns-in-Ok-Some-clause-readable
+returns-in-Ok-Some-clause-readable g c = λ world told contents held.
     let words = c.args.words.now in
     let why = c.in-Ok-Some.why in
     let some : begun_refusal world words c.args.texts ≡ Some why = sym (c.in-Ok-Some.ensures.exact world told) ∙ c.in-Ok-Some.field-0-is in
-    records-none (sources_settled world words c.args.texts contents) why c.refuse.result (ap (λ (found : Option Refusal). and_then (unless found contents) (sources_with words c.args.texts)) some)
+    readable-none words (sources_settled world words c.args.texts contents) why c.refuse.result (ap (λ (found : Option Refusal). and_then (unless found contents) (sources_with words c.args.texts)) some)

@@ -8,7 +8,7 @@ use Rattle.mkv_lines.specs.Said.{SaysPart}
 use Rattle.mkv_lines.specs.Seen.{seen}
 use Rattle.mkv_merge.specs.Merge.{has_absent, lines_before}
 use Rattle.mkv_merge.specs.Prepared.{reads_in}
-use Rattle.mkv_merge.proofs.VerdictLemmas.{merge-begun, merge-left, merge-told}
+use Rattle.mkv_merge.proofs.VerdictLemmas.{merge-begun, merge-left, merge-told, outputs-short}
 use Rattle.mkv_merge.proofs.WritingLemmas.{many-inputs, merge-is, plan-good, plan-reads, plan-told}
 use Rattle.mkv_merge.proofs.writing.write.Goals as goal
 
@@ -60,6 +60,16 @@ returns-clause-verdict g c = λ contents told.
     merge-told was now (g.P.Report.lines c.say_absent.new.report) c.tell.result f words prepared.inputs prepared.plan (zip contents (reads_in prepared.inputs)) c.in-Ok.summary c.has_absent-absent.result
     (merge-is f words c.args.ids.now contents prepared c.requires.prepared told many)
     (c.in-Ok.ensures.summary planned) missing said c.tell.ensures.said c.tell.ensures.status (c.in-Ok.ensures.output planned)
+
+-- none is longer than a file may be
+pub returns-clause-short : goal.returns-clause-short
+returns-clause-short g c = λ world is contents told.
+    let words = c.args.words.now in
+    let prepared = c.args.prepared in
+    let f = live_files g.F.Reads c.args.files.now in
+    let many = many-inputs g.F.Reads g.F.Files c.args.files.now words c.args.ids.now prepared.inputs c.requires.inputs c.requires.prepared.inputs.of in
+    outputs-short (g.F.Files.names c.args.files.now) (g.F.Files.names c.remux.new.files) world c.tell.result f words prepared.inputs prepared.plan (zip contents (reads_in prepared.inputs))
+    (merge-is f words c.args.ids.now contents prepared c.requires.prepared told many) is (c.in-Ok.ensures.output (plan-told f words c.args.ids.now contents prepared c.requires.prepared told))
 
 -- ---- how much is read
 

@@ -10,7 +10,13 @@ use Rattle.remuxer.specs.Output.{data_of, part_in}
 use Rattle.remuxer.specs.declared.output.Filled.{Filled}
 use Rattle.remuxer.specs.declared.writer.BlockWriter.{BlockWriter}
 use Rattle.remuxer.proofs.OutputLemmas.{abandoned-keeps, begun-can, begun-goes, begun-in_turn, begun-left, begun-stands, begun-told, drafted-in_turn, ending-goes, ending-left, filled-finishes, filled-written, finished-keeps, goes-refused, goes-whole, none_counted}
+use Rattle.remuxer.proofs.ShortLemmas.{HoldsOfFiles}
+use Rattle.remuxer.proofs.output.write_output.Given.{Over}
 use Rattle.remuxer.proofs.output.write_output.Goals as goal
+
+-- what holds of all files
+of_files : (g : Over) → HoldsOfFiles g.F.Reads g.F.Files
+of_files g = record { short = g.met.F.Reads.short; told_size = λ x. g.met.F.Reads.told_size (g.F.Reads.standing x); named = g.met.F.Files.named }
 
 -- the output couldn't be begun
 pub returns-in_err-out-clause-writes : goal.returns-in_err-out-clause-writes
@@ -51,7 +57,7 @@ returns-in_err-finish_with-in-Ok-clause-writes g c = λ told.
     let stands = begun-stands g.F.Reads g.F.Files spec name a b p part begun w.out w.buffer c.in_ok-out.ensures.ok c.in_ok-out.ensures.cues c.in_ok-buffer.ensures.empty c.in_ok-buffer.ensures.limits in
     let filled = c.in-Ok.filled in
     rw end.1 (filled-finishes g.F.Reads g.F.Files spec name a b p part begun c.fill.new.files c.finish_with.new.files w c.fill.new.writer c.fill.new.blocks filled c.chapters_in-chapters.result.now (Err c.in_err-finish_with-in-Ok.field-0.0)
-    (c.in-Ok.ensures.fills (begun-told g.F.Reads g.F.Files a b name file p made c.requires.gives c.requires.apart part.lane told)) stands c.chapters_in-chapters.ensures c.in_err-finish_with-in-Ok.ensures.finishes)
+    (c.in-Ok.ensures.fills (begun-told g.F.Reads g.F.Files a b name file p made c.requires.gives c.requires.apart part.lane told)) stands c.chapters_in-chapters.ensures (of_files g) c.in_err-finish_with-in-Ok.ensures.finishes c.in_err-finish_with-in-Ok.ensures.ended)
 
 pub returns-in_err-finish_with-in-Ok-clause-kept : goal.returns-in_err-finish_with-in-Ok-clause-kept
 returns-in_err-finish_with-in-Ok-clause-kept g c =
@@ -93,7 +99,7 @@ returns-in-Ok-clause-writes g c = λ told.
     let stands = begun-stands g.F.Reads g.F.Files spec name a b p part begun w.out w.buffer c.in_ok-out.ensures.ok c.in_ok-out.ensures.cues c.in_ok-buffer.ensures.empty c.in_ok-buffer.ensures.limits in
     let filled = c.in-Ok.filled in
     filled-finishes g.F.Reads g.F.Files spec name a b p part begun c.fill.new.files c.finish_with.new.files w c.fill.new.writer c.fill.new.blocks filled c.chapters_in-chapters.result.now (Ok c.in_ok-finish_with-in-Ok.field-0)
-    (c.in-Ok.ensures.fills (begun-told g.F.Reads g.F.Files a b name file p made c.requires.gives c.requires.apart part.lane told)) stands c.chapters_in-chapters.ensures c.in_ok-finish_with-in-Ok.ensures.finishes
+    (c.in-Ok.ensures.fills (begun-told g.F.Reads g.F.Files a b name file p made c.requires.gives c.requires.apart part.lane told)) stands c.chapters_in-chapters.ensures (of_files g) c.in_ok-finish_with-in-Ok.ensures.finishes c.in_ok-finish_with-in-Ok.ensures.ended
 
 pub returns-in-Ok-clause-finds : goal.returns-in-Ok-clause-finds
 returns-in-Ok-clause-finds g c =

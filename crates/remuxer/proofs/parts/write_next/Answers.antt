@@ -177,7 +177,7 @@ returns-clause-writes g c = λ told.
     let on = (c.in_ok-done.ensures.goes.told is_told).told in
     let wrote = subst (λ (n : ℕ). HasWritten f (live_files g.F.Reads e) (own_spec spec n) c.args.part c.args.blocks.now c.write_own.new.blocks c.in_ok-done.done) num (c.in_ok-done.ensures.finds.told told) in
     record {
-      writes = record { names = read.names ∙ stands.names; becomes = stands.becomes };
+      writes = record { names = read.names ∙ stands.names; becomes = stands.becomes; short = stands.short };
       added = c.in_ok-push.ensures.ok
           ∙ ap (λ (n : List ℕ). let w : Written = record { name = n; blocks = c.in_ok-done.done.blocks; clusters = c.in_ok-done.done.counts.clusters; cues = c.in_ok-done.done.counts.cues } in written ++ w ∷ []) (sym c.as_str.ensures.same ∙ same)
           ∙ ap (λ (blocks : ℕ). let w : Written = record { name = next_name spec written; blocks = blocks; clusters = c.in_ok-done.done.counts.clusters; cues = c.in_ok-done.done.counts.cues } in written ++ w ∷ []) wrote.count
