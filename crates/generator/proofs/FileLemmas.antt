@@ -22,11 +22,13 @@ use Rattle.output_model.specs.Cued.{is_cue, is_cue_by}
 use Rattle.merge_model.specs.Merged.{in_lane}
 use Rattle.cluster_writer.specs.Gathered.{Gathered, Holds}
 use Rattle.cues_seekhead.specs.Finished.{Finishes}
+use Rattle.cues_seekhead.specs.Made.{WritesAndEnds}
 use Rattle.cues_seekhead.specs.OpenOutput.{OpenOutput, StandsOpen}
 use Rattle.cues_seekhead.specs.Draft.{draft_of}
 use Rattle.remuxer.specs.Output.{Writes}
 use Rattle.remuxer.specs.Stands.{Adds, Ends, Stands, counted_with}
 use Rattle.remuxer.proofs.OutputLemmas.{begun-in_turn, finishes-all, none_counted, stands-begun}
+use Rattle.remuxer.proofs.ShortLemmas.{HoldsOfFiles}
 use Rattle.generator.specs.declared.blocks.Medium.{Medium}
 use Rattle.generator.specs.Blocks.{block_of, count_of}
 use Rattle.generator.specs.Files.{IsFrontOf, file_of, front_of, lane_blocks, rule_of, usual_limits}
@@ -122,7 +124,7 @@ module _ {S : Type 0} (r : Ghosts S) (f : writing.Ghosts S) (medium : Medium) (n
 
   -- all its blocks were added, and it is finished
   pub file-finished : (c e : S) (o' : OpenOutput) (result : Result ℕ RemuxEnd) → IsOnTheWay r f (f.names a) name medium (file_of medium n) b o g (lane_blocks medium n) → AddsAll {T = Unit {0}} r f medium n b c o o' g (Ok tt)
-      → Finishes r f o' None None c e result → Writes (f.names a) (f.names e) name (file_of medium n) result
-  file-finished c e o' result begun adds finishes =
+      → HoldsOfFiles r f → Finishes r f o' None None c e result → WritesAndEnds r f o'.file c e → Writes (f.names a) (f.names e) name (file_of medium n) result
+  file-finished c e o' result begun adds of_files finishes ended =
       let whole = adds (f.names a) name (file_of medium n) refl begun in
-      finishes-all r f (f.names a) name (file_of medium n) c e o' None None result refl refl finishes whole.counts whole.has
+      finishes-all r f (f.names a) name (file_of medium n) c e o' None None result refl refl of_files finishes ended whole.counts whole.has

@@ -1,3 +1,4 @@
+mod BoundLemmas
 mod FileLemmas
 mod MadeLemmas
 mod MakingLemmas

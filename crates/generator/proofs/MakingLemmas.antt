@@ -35,7 +35,8 @@ use Rattle.generator.specs.declared.blocks.Medium.TheVariants.{Pictures, Sounds}
 use Rattle.generator.specs.Files.{file_of}
 use Rattle.generator.specs.Generate.{MergeMade, both_words, first_written, line_for, made_file, made_of, made_outputs, merge_of, parts_words, two_files, verdict_of, whole_file, with_both, with_parts}
 use Rattle.generator.specs.Outcome.{HasMade, IsOneFile, Makes, MakesBoth, MakesParts}
-use Rattle.generator.proofs.TurnLemmas.{drafts-append, first-told, in_turn-more, last-told, stopped-behind, told-with, world_with, written-behind}
+use Rattle.remuxer.proofs.OutputsLemmas.{told-with, world_with}
+use Rattle.generator.proofs.TurnLemmas.{drafts-append, first-told, in_turn-more, last-told, stopped-behind, written-behind}
 
 -- ---- the contents of the inputs
 
@@ -55,11 +56,11 @@ one-content : (world : List ℕ → Option (List ℕ)) (a x : List ℕ) → worl
 one-content world a x is = ap (λ (p : Option (List ℕ)). unless_missing (cond (is_none p) (Some 0) None) (unwrap_or p [] ∷ [])) is
 
 -- what the names tell once outputs stand
-told-then : (before now : Names) (world : List ℕ → Option (List ℕ)) (done : List PlannedOutput) → before ≡ Some world → WritesAll before now done → now ≡ Some (world_with world (map laid_out done))
+pub told-then : (before now : Names) (world : List ℕ → Option (List ℕ)) (done : List PlannedOutput) → before ≡ Some world → WritesAll before now done → now ≡ Some (world_with world (map laid_out done))
 told-then before now world done told writes = writes.names ∙ ap (λ (names : Names). with_outputs names (map laid_out done)) told ∙ told-with world (map laid_out done)
 
 -- the merge of the two files
-both-found : (world : List ℕ → Option (List ℕ)) (n : ℕ) (names : own.Names) → names.pictures ≢ names.sounds
+pub both-found : (world : List ℕ → Option (List ℕ)) (n : ℕ) (names : own.Names) → names.pictures ≢ names.sounds
     → sources_alone (world_with world (map laid_out (two_files n names))) (both_words names) ≡ sources_apart (both_words names) (map (λ (o : PlannedOutput). layout o.document) (two_files n names))
 both-found world n names apart =
     let all = map laid_out (two_files n names) in
@@ -76,7 +77,7 @@ made-found words (Ok sources) = refl
 made-found words (Err why) = refl
 
 -- what isn't split is one file
-both-one : (names : own.Names) (sources : List Source) → IsOneFile names.both (made_of (both_words names) sources)
+pub both-one : (names : own.Names) (sources : List Source) → IsOneFile names.both (made_of (both_words names) sources)
 both-one names sources =
     let words = both_words names in
     let one = whole-part (split_of words sources) (blocks_of words sources) refl refl in
@@ -86,21 +87,22 @@ both-one names sources =
       named = refl;
     }
 
+-- the merged file stands under its name
+pub both-there : (world : List ℕ → Option (List ℕ)) (n : ℕ) (names : own.Names) (file : PlannedOutput) → file.name ≡ names.both → world_with world (map laid_out (two_files n names ++ file ∷ [])) names.both ≡ Some (layout file.document)
+both-there world n names file named =
+    ap (world_with world (map laid_out (two_files n names ++ file ∷ []))) (sym named)
+    ∙ last-told world (map laid_out (two_files n names)) (laid_out file)
+
 -- the merge of the one
-parts-found : (world : List ℕ → Option (List ℕ)) (n : ℕ) (names : own.Names) (outputs : List PlannedOutput) (file : PlannedOutput) → outputs ≡ file ∷ [] → file.name ≡ names.both
+pub parts-found : (world : List ℕ → Option (List ℕ)) (n : ℕ) (names : own.Names) (outputs : List PlannedOutput) (file : PlannedOutput) → outputs ≡ file ∷ [] → file.name ≡ names.both
     → sources_alone (world_with world (map laid_out (two_files n names ++ outputs))) (parts_words names) ≡ sources_apart (parts_words names) (map (λ (o : PlannedOutput). layout o.document) outputs)
 parts-found world n names outputs file alone named = subst P (sym alone) base
   where
     P : List PlannedOutput → Type 0
     P os = sources_alone (world_with world (map laid_out (two_files n names ++ os))) (parts_words names) ≡ sources_apart (parts_words names) (map (λ (o : PlannedOutput). layout o.document) os)
 
-    there : world_with world (map laid_out (two_files n names ++ file ∷ [])) names.both ≡ Some (layout file.document)
-    there =
-        ap (world_with world (map laid_out (two_files n names ++ file ∷ []))) (sym named)
-        ∙ last-told world (map laid_out (two_files n names)) (laid_out file)
-
     base : P (file ∷ [])
-    base = alone-is (world_with world (map laid_out (two_files n names ++ file ∷ []))) (parts_words names) (layout file.document ∷ []) (one-content (world_with world (map laid_out (two_files n names ++ file ∷ []))) names.both (layout file.document) there)
+    base = alone-is (world_with world (map laid_out (two_files n names ++ file ∷ []))) (parts_words names) (layout file.document ∷ []) (one-content (world_with world (map laid_out (two_files n names ++ file ∷ []))) names.both (layout file.document) (both-there world n names file named))
 
 -- ---- what stands on the way
 

@@ -1,6 +1,7 @@
 -- Outputs that are written one behind the other: what stands of them.
 use Rattle.std.proofs.Common.{◌≡◌, ◌≢◌, ℕ, List, [], ◌∷◌, ◌++◌, map, Option, Some, Result, Ok, Err, inl, refl, sym, ◌∙◌, ap, subst}
 use Rattle.std.proofs.lemmas.List.{map-append}
+use Rattle.std.proofs.lemmas.List.Elements.{All-append, All-cons, All-nil}
 use Rattle.mkv_io.specs.Names.{Names, changed_at, with_content}
 use Rattle.mkv_io.proofs.NamesLemmas.{changed_at-other, changed_at-same}
 use Rattle.mkv_outputs.specs.Drafts.{AreDrafted, Draft, StandsInTurn, output_of, outputs_of}
@@ -8,7 +9,8 @@ use Rattle.mkv_outputs.specs.Outputs.{Output, with_outputs}
 use Rattle.cues_seekhead.specs.Draft.{draft_of}
 use Rattle.remux_plan.specs.Parts.{PlannedOutput}
 use Rattle.mkv_io.specs.declared.remux_end.RemuxEnd.{RemuxEnd}
-use Rattle.remuxer.specs.Output.{Writes, WritesAll, WritesLayout, WritesOutputs, drafts_of, laid_out}
+use Rattle.remuxer.specs.Output.{IsShort, Writes, WritesAll, WritesLayout, WritesOutputs, drafts_of, laid_out}
+use Rattle.remuxer.proofs.OutputsLemmas.{told-with, world_with}
 use Rattle.generator.specs.declared.blocks.Medium.TheVariants.{Pictures, Sounds}
 use Rattle.generator.specs.declared.names.Names as own
 use Rattle.generator.specs.Files.{file_of}
@@ -66,18 +68,12 @@ written-behind old mid new done more first next = record {
       ap outputs_of (drafts-append done more) ∙ map-append output_of (drafts_of done) (drafts_of more)
       ∙ ap (λ (os : List Output). os ++ outputs_of (drafts_of more)) first.become ∙ ap (λ (os : List Output). map laid_out done ++ os) next.become
       ∙ sym (map-append laid_out done more);
+  short = λ world told.
+      let then = first.names ∙ ap (λ (names : Names). with_outputs names (map laid_out done)) told ∙ told-with world (map laid_out done) in
+      All-append (λ (each : PlannedOutput). IsShort each.document) done more (first.short world told) (next.short (world_with world (map laid_out done)) then);
 }
 
 -- ---- what the names tell then
-
--- the contents after each of these outputs was written
-abbrev pub world_with : (List ℕ → Option (List ℕ)) → List Output → List ℕ → Option (List ℕ)
-world_with world [] = world
-world_with world (o ∷ os) = world_with (changed_at o.name (λ _. Some o.content) world) os
-
-pub told-with : (world : List ℕ → Option (List ℕ)) (os : List Output) → with_outputs (Some world) os ≡ Some (world_with world os)
-told-with world [] = refl
-told-with world (o ∷ os) = told-with (changed_at o.name (λ _. Some o.content) world) os
 
 -- the last output of a name counts
 pub last-told : (world : List ℕ → Option (List ℕ)) (done : List Output) (o : Output) → world_with world (done ++ o ∷ []) o.name ≡ Some o.content
@@ -94,7 +90,11 @@ first-told world a b apart =
 
 -- one output
 pub one-written : (old new : Names) (o : PlannedOutput) → WritesLayout old new o.name o.document → WritesAll old new (o ∷ [])
-one-written old new o writes = record { names = writes.names; become = ap (λ (each : Output). each ∷ []) writes.becomes }
+one-written old new o writes = record {
+  names = writes.names;
+  become = ap (λ (each : Output). each ∷ []) writes.becomes;
+  short = λ world told. All-cons (λ (each : PlannedOutput). IsShort each.document) o [] (writes.short world told) (All-nil (λ (each : PlannedOutput). IsShort each.document));
+}
 
 -- the first couldn't be written
 pub one-stopped : (old new : Names) (n : ℕ) (names : own.Names) → StandsInTurn old new (draft_of names.pictures (file_of Pictures n) ∷ []) → StandsInTurn old new (drafts_of (two_files n names))

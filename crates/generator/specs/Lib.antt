@@ -1,4 +1,5 @@
 pub mod Blocks
+pub mod Bound
 pub mod Files
 pub mod Generate
 pub mod Made

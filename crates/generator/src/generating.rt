@@ -1,6 +1,6 @@
 //! The command.
 
-ghost use Rattle.std.specs.Prelude.{◌≡◌, ◌≢◌, ◌≤◌, ℕ, IfOk};
+ghost use Rattle.std.specs.Prelude.{◌≡◌, ◌≢◌, ◌+◌, ◌≤◌, ℕ, IfOk};
 ghost use Rattle.mkv_io.specs.Sources.{live_files};
 ghost use Rattle.mkv_io.specs.Told.{Told};
 ghost use Rattle.mkv_lines.specs.Faults.{HasStopCause};
@@ -9,6 +9,7 @@ ghost use Rattle.mkv_lines.specs.Ordinary.{IsOrdinary};
 ghost use Rattle.mkv_lines.specs.Said.{HasSayCause, Says};
 ghost use Rattle.mkv_lines.specs.Seen.{seen};
 ghost use Rattle.mkv_lines.specs.Verdict.{Reaches};
+ghost use Rattle.generator.specs.Bound.{most_made, most_to_generate};
 ghost use Rattle.generator.specs.Generate.{first_written, generate_verdict, line_for, verdict_of};
 ghost use Rattle.generator.specs.Outcome.{lines_of, status_for};
 
@@ -111,6 +112,7 @@ fn generate<F: Files, P: Report>(
     ensures cause { HasStopCause
         (seen F.Reads F.writing_faults F.names P.Report files.old report.old).counts
         (seen F.Reads F.writing_faults F.names P.Report files.new report.new).counts result }
+    ensures octets { Told (F.names files.old) (λ world. F.octets_read files.new ≤ F.octets_read files.old + most_made n names.now) }
 {
     match make(alloc, n, names, files) {
         Ok(outcome) => tell(alloc, n, &outcome, report),
@@ -140,6 +142,8 @@ pub fn generate_of<F: Files, P: Report>(
     ensures cause { HasStopCause
         (seen F.Reads F.writing_faults F.names P.Report files.old report.old).counts
         (seen F.Reads F.writing_faults F.names P.Report files.new report.new).counts result }
+    ensures octets { Told (F.names files.old) (λ world.
+        F.octets_read files.new ≤ F.octets_read files.old + most_to_generate n prefix.now) }
 {
     match Names::new(alloc, prefix) {
         Ok(names) => generate(alloc, n, &names, files, report),

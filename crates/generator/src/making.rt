@@ -1,12 +1,13 @@
 //! The files are made.
 
-ghost use Rattle.std.specs.Prelude.{◌≡◌, ◌≢◌, ◌<◌, ◌^◌, ℕ};
+ghost use Rattle.std.specs.Prelude.{◌≡◌, ◌≢◌, ◌+◌, ◌<◌, ◌≤◌, ◌^◌, ℕ};
 ghost use Rattle.mkv_io.specs.Ends.{HasRemuxCause};
 ghost use Rattle.mkv_io.specs.Sources.{live_files};
 ghost use Rattle.mkv_io.specs.Told.{Told};
 ghost use Rattle.mkv_lines.specs.Faults.{HasStopCause};
 ghost use Rattle.remuxer.specs.Output.{WritesOutputs};
 ghost use Rattle.mkv_merge.specs.Joined.{files_counts};
+ghost use Rattle.generator.specs.Bound.{ReadsBoth, ReadsParts, most_made};
 ghost use Rattle.generator.specs.Generate.{both_words, parts_words, two_files};
 ghost use Rattle.generator.specs.Outcome.{Makes, MakesBoth, MakesParts};
 
@@ -48,6 +49,7 @@ fn write_files<F: Files>(
     ensures writes { WritesOutputs (F.names files.old) (F.names files.new) (two_files n names.now) result }
     ensures live { (file : ℕ) → (live_files F.Reads files.new).live file ≡ (live_files F.Reads files.old).live file }
     ensures cause { HasRemuxCause F.Reads F.Files.own files.old files.new result }
+    ensures octets { F.octets_read files.new ≤ F.octets_read files.old }
 {
     write_file(alloc, files, names.pictures.as_str(), Medium::Pictures, n)?;
     write_file(alloc, files, names.sounds.as_str(), Medium::Sounds, n)
@@ -63,6 +65,7 @@ fn merge_parts<F: Files>(
 ) -> Result<Outcome, Stop>
     requires { words ≡ parts_words names.now }
     ensures makes { MakesParts (F.names files.old) (F.names files.new) names.now both result }
+    ensures octets { ReadsParts (F.names files.old) names.now (F.octets_read files.old) (F.octets_read files.new) }
     ensures live { (file : ℕ) → (live_files F.Reads files.new).live file ≡ (live_files F.Reads files.old).live file }
     ensures cause { HasStopCause (files_counts F.Reads F.Files.own files.old) (files_counts F.Reads F.Files.own files.new) result }
 {
@@ -85,6 +88,7 @@ fn make_parts<F: Files>(
     files: &mut F,
 ) -> Result<Outcome, Stop>
     ensures makes { MakesParts (F.names files.old) (F.names files.new) names.now both result }
+    ensures octets { ReadsParts (F.names files.old) names.now (F.octets_read files.old) (F.octets_read files.new) }
     ensures live { (file : ℕ) → (live_files F.Reads files.new).live file ≡ (live_files F.Reads files.old).live file }
     ensures cause { HasStopCause (files_counts F.Reads F.Files.own files.old) (files_counts F.Reads F.Files.own files.new) result }
 {
@@ -103,6 +107,7 @@ fn merge_both<F: Files>(
 ) -> Result<Outcome, Stop>
     requires { words ≡ both_words names.now }
     ensures makes { MakesBoth (F.names files.old) (F.names files.new) names.now result }
+    ensures octets { ReadsBoth (F.names files.old) names.now (F.octets_read files.old) (F.octets_read files.new) }
     ensures live { (file : ℕ) → (live_files F.Reads files.new).live file ≡ (live_files F.Reads files.old).live file }
     ensures cause { HasStopCause (files_counts F.Reads F.Files.own files.old) (files_counts F.Reads F.Files.own files.new) result }
 {
@@ -116,6 +121,7 @@ fn merge_both<F: Files>(
 // Merges the two files, and splits what they are merged into.
 fn make_both<F: Files>(alloc: Global, names: &Names, files: &mut F) -> Result<Outcome, Stop>
     ensures makes { MakesBoth (F.names files.old) (F.names files.new) names.now result }
+    ensures octets { ReadsBoth (F.names files.old) names.now (F.octets_read files.old) (F.octets_read files.new) }
     ensures live { (file : ℕ) → (live_files F.Reads files.new).live file ≡ (live_files F.Reads files.old).live file }
     ensures cause { HasStopCause (files_counts F.Reads F.Files.own files.old) (files_counts F.Reads F.Files.own files.new) result }
 {
@@ -135,6 +141,7 @@ pub(crate) fn make<F: Files>(
     requires number { n < 2 ^ 18 }
     requires apart { names.now.pictures ≢ names.now.sounds }
     ensures makes { Told (F.names files.old) (λ world. Makes (F.names files.old) (F.names files.new) n names.now result) }
+    ensures octets { Told (F.names files.old) (λ world. F.octets_read files.new ≤ F.octets_read files.old + most_made n names.now) }
     ensures live { (file : ℕ) → (live_files F.Reads files.new).live file ≡ (live_files F.Reads files.old).live file }
     ensures cause { HasStopCause (files_counts F.Reads F.Files.own files.old) (files_counts F.Reads F.Files.own files.new) result }
 {

@@ -1,8 +1,8 @@
 //! Attached files are taken out of a file.
 
-ghost use Rattle.std.specs.Prelude.{◌≡◌, ◌≤◌, ℕ, map, All, IfOk};
+ghost use Rattle.std.specs.Prelude.{◌≡◌, ◌+◌, ◌*◌, ◌≤◌, ℕ, length, map, All, IfOk};
 ghost use Rattle.mkv_io.specs.Names.{AreOthers};
-ghost use Rattle.mkv_io.specs.Sources.{IfTold, live_files};
+ghost use Rattle.mkv_io.specs.Sources.{IfTold, file_size, live_files};
 ghost use Rattle.word_values.specs.declared.job.Target.{Target as TargetSeen};
 ghost use Rattle.meta_records.specs.Attached.{in_file};
 ghost use Rattle.extractors.specs.Job.{names_of};
@@ -42,6 +42,8 @@ pub fn extract_attachments<F: Files, P: Report>(
     ensures cause { HasStopCause
         (seen F.Reads F.writing_faults F.names P.Report files.old report.old).counts
         (seen F.Reads F.writing_faults F.names P.Report files.new report.new).counts result }
+    ensures octets { F.octets_read files.new
+        ≤ F.octets_read files.old + length targets.now * file_size F.Reads files.old source.now.file }
 {
     let count = source.attachments.as_slice().len() as u64 + 1;
     say_absent(alloc, Missing::Attachment, name, targets, count, report)?;

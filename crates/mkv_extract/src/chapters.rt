@@ -1,6 +1,6 @@
 //! The chapters of a file are taken out.
 
-ghost use Rattle.std.specs.Prelude.{◌≡◌, ℕ, ◌∷◌, [], false, IfOk, IfSome};
+ghost use Rattle.std.specs.Prelude.{◌≡◌, ◌≤◌, ℕ, ◌∷◌, [], false, IfOk, IfSome};
 ghost use Rattle.mkv_io.specs.Sources.{live_files};
 ghost use Rattle.mkv_schema.specs.declared.ids.TheConstants.{CHAPTERS};
 ghost use Rattle.tree_format.specs.Standing.{IsSoundOf};
@@ -39,6 +39,7 @@ pub fn extract_chapters<F: Files, P: Report>(
     ensures cause { HasStopCause
         (seen F.Reads F.writing_faults F.names P.Report files.old report.old).counts
         (seen F.Reads F.writing_faults F.names P.Report files.new report.new).counts result }
+    ensures octets { F.octets_read files.new ≤ F.octets_read files.old }
 {
     if let Err(end) = write_chapters(alloc, files, &source.chapters, out) {
         return Err(stop_of(end));

@@ -1,6 +1,6 @@
 //! Cue points are taken out of a file.
 
-ghost use Rattle.std.specs.Prelude.{◌≡◌, ℕ, IfOk};
+ghost use Rattle.std.specs.Prelude.{◌≡◌, ◌≤◌, ℕ, IfOk};
 ghost use Rattle.mkv_io.specs.Sources.{live_files};
 ghost use Rattle.extractors.specs.Source.{IsSource};
 ghost use Rattle.mkv_lines.specs.Faults.{HasStopCause};
@@ -37,6 +37,7 @@ pub fn extract_cues<F: Files, P: Report>(
     ensures cause { HasStopCause
         (seen F.Reads F.writing_faults F.names P.Report files.old report.old).counts
         (seen F.Reads F.writing_faults F.names P.Report files.new report.new).counts result }
+    ensures octets { F.octets_read files.new ≤ F.octets_read files.old }
 {
     let count = source.tracks.len() as u64;
     say_absent(alloc, Missing::Track, name, targets, count, report)?;

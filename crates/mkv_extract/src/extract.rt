@@ -1,17 +1,19 @@
 //! A file is opened, its tracks are taken out, and it is closed.
 
-ghost use Rattle.std.specs.Prelude.{◌≡◌, ℕ, None, IfOk, IsSome};
+ghost use Rattle.std.specs.Prelude.{◌≡◌, ◌+◌, ◌*◌, ◌≤◌, ℕ, None, IfOk, IsSome};
 ghost use Rattle.mkv_io.specs.Names.{AreApart, AreOthers};
-ghost use Rattle.mkv_io.specs.Sources.{IfTold, IsLive, live_files};
+ghost use Rattle.mkv_io.specs.Sources.{IfTold, IsLive, file_size, live_files};
 ghost use Rattle.mkv_io.specs.Told.{Told};
 ghost use Rattle.extractors.specs.Job.{CanBeDone, form_of, job_refusal, names_for, names_of, targets_of};
 ghost use Rattle.extractors.specs.Source.{AreUsable, IsSource, entries_in, events_in};
 ghost use Rattle.sidecar_edit.specs.Pending.{is_pending};
+ghost use Rattle.sidecar_edit.specs.declared.place.TheConstants.{HEAD};
 ghost use Rattle.mkv_lines.specs.Faults.{HasStopCause};
 ghost use Rattle.mkv_lines.specs.Line.{text_of};
 ghost use Rattle.mkv_lines.specs.Ordinary.{IsOrdinary};
 ghost use Rattle.mkv_lines.specs.Seen.{seen};
 ghost use Rattle.mkv_lines.specs.Verdict.{Reaches, unless_pending};
+ghost use Rattle.mkv_extract.specs.Bound.{most_of_content, most_of_file, most_to_extract};
 ghost use Rattle.mkv_extract.specs.End.{stop_of};
 ghost use Rattle.mkv_extract.specs.Extract.{extract_verdict, fit_verdict, job_verdict, read_verdict, taken_verdict, unfit_line};
 ghost use Rattle.mkv_extract.specs.Read.{read_in, read_of};
@@ -48,6 +50,8 @@ pub fn extract_of<F: Files, P: Report>(
     ensures cause { HasStopCause
         (seen F.Reads F.writing_faults F.names P.Report files.old report.old).counts
         (seen F.Reads F.writing_faults F.names P.Report files.new report.new).counts result }
+    ensures octets { Told (F.names files.old) (λ world.
+        F.octets_read files.new ≤ F.octets_read files.old + most_to_extract world name.now job.now) }
 {
     match first_written(alloc, name, job) {
         Ok(None) => {}
@@ -90,6 +94,8 @@ fn extract_settled<F: Files, P: Report>(
     ensures cause { HasStopCause
         (seen F.Reads F.writing_faults F.names P.Report files.old report.old).counts
         (seen F.Reads F.writing_faults F.names P.Report files.new report.new).counts result }
+    ensures octets { F.octets_read files.new
+        ≤ F.octets_read files.old + (HEAD + most_of_file job.now (file_size F.Reads files.old file)) }
 {
     if is_pending(alloc, name, files)? {
         return refuse(alloc, &Line::PendingEdit { name }, report);
@@ -118,6 +124,8 @@ fn extract_file<F: Files, P: Report>(
     ensures cause { HasStopCause
         (seen F.Reads F.writing_faults F.names P.Report files.old report.old).counts
         (seen F.Reads F.writing_faults F.names P.Report files.new report.new).counts result }
+    ensures octets { F.octets_read files.new
+        ≤ F.octets_read files.old + most_of_file job.now (file_size F.Reads files.old file) }
 {
     match read_source(alloc, job, files, file) {
         Ok(source) => extract_job(alloc, name, job, &source, files, report),
@@ -151,6 +159,8 @@ fn extract_job<F: Files, P: Report>(
     ensures cause { HasStopCause
         (seen F.Reads F.writing_faults F.names P.Report files.old report.old).counts
         (seen F.Reads F.writing_faults F.names P.Report files.new report.new).counts result }
+    ensures octets { F.octets_read files.new
+        ≤ F.octets_read files.old + most_of_content job.now (file_size F.Reads files.old source.now.file) }
 {
     match job {
         Job::Chapters { name: out } => extract_chapters(
@@ -192,6 +202,7 @@ fn extract_fit<F: Files, P: Report>(
     ensures cause { HasStopCause
         (seen F.Reads F.writing_faults F.names P.Report files.old report.old).counts
         (seen F.Reads F.writing_faults F.names P.Report files.new report.new).counts result }
+    ensures octets { F.octets_read files.new ≤ F.octets_read files.old + 6 * file_size F.Reads files.old source.now.file }
 {
     match job_refusal(alloc, job, source.tracks.as_slice()) {
         Ok(None) => extract_source(alloc, name, job, source, files, report),
@@ -235,6 +246,7 @@ fn extract_source<F: Files, P: Report>(
     ensures cause { HasStopCause
         (seen F.Reads F.writing_faults F.names P.Report files.old report.old).counts
         (seen F.Reads F.writing_faults F.names P.Report files.new report.new).counts result }
+    ensures octets { F.octets_read files.new ≤ F.octets_read files.old + 6 * file_size F.Reads files.old source.now.file }
 {
     let targets = targets_of(job);
     let count = source.tracks.len() as u64;

@@ -1,6 +1,6 @@
 //! What is read of a file before its blocks.
 
-ghost use Rattle.std.specs.Prelude.{◌≡◌, true, None, ℕ, Ok, IfOk, IfSome};
+ghost use Rattle.std.specs.Prelude.{◌≡◌, ◌+◌, ◌≤◌, true, None, ℕ, Ok, IfOk, IfSome};
 ghost use Rattle.mkv_io.specs.Faults.{HasCause};
 ghost use Rattle.mkv_io.specs.Sources.{IfTold, IsLive, file_size};
 ghost use Rattle.mkv_schema.specs.declared.ids.TheConstants.{CUES};
@@ -12,6 +12,7 @@ ghost use Rattle.extractors.specs.Job.{targets_of};
 ghost use Rattle.extractors.specs.Source.{AreUsable, IsSource, events_in};
 ghost use Rattle.mkv_schema.specs.Outline.{first_damage};
 ghost use Rattle.track_records.specs.Sound.{IsEntry};
+ghost use Rattle.mkv_extract.specs.Bound.{ReadsAtMost, most_before, most_of_cues};
 ghost use Rattle.mkv_extract.specs.Read.{ReadsSource, causes_of, cues_for, first_unusable, is_named, read_of};
 
 use ebml_tree::Tree;
@@ -40,7 +41,7 @@ pub fn read_source<R: Reads>(
     // A tick has as many nanoseconds as in the file's own blocks and damages.
     ensures events { IfOk result (λ source. IfTold R.Reads src.old file (λ bytes.
         events_in source bytes ≡ file_events true bytes source.outline.segment)) }
-    ensures standing { R.standing src.new ≡ R.standing src.old }
+    ensures reads { ReadsAtMost R.Reads src.old src.new (most_before job.now (file_size R.Reads src.old file)) }
     ensures cause { HasCause is_outline_fault (R.reading_faults src.old) (R.reading_faults src.new) result }
 {
     let outline = Outline::read(alloc, src, file)?;
@@ -75,6 +76,7 @@ fn cues_for<R: Reads>(
     ensures sound { IfOk result (λ tree. IfSome tree (IsSoundOf CUES)) }
     ensures standing { R.standing src.new ≡ R.standing src.old }
     ensures cause { HasCause is_outline_fault (R.reading_faults src.old) (R.reading_faults src.new) result }
+    ensures octets { R.octets_read src.new ≤ R.octets_read src.old + most_of_cues job.now (file_size R.Reads src.old file) }
 {
     match job {
         Job::Cues { .. } => first_cues(alloc, outline, src, file),

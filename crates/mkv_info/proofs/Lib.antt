@@ -7,3 +7,4 @@ pub mod JsonLemmas
 pub mod ValueLemmas
 pub mod TagLemmas
 pub mod FloatLemmas
+pub mod WalkLemmas

@@ -1,3 +1,4 @@
+pub mod Bound
 pub mod Identified
 pub mod Info
 pub mod Listed

@@ -1,13 +1,15 @@
 //! A file is opened, told of and closed.
 
-ghost use Rattle.std.specs.Prelude.{◌≡◌, ℕ, IfOk};
-ghost use Rattle.mkv_io.specs.Sources.{IfTold, IsLive, live_files};
+ghost use Rattle.std.specs.Prelude.{◌≡◌, ◌+◌, ◌≤◌, ℕ, IfOk};
+ghost use Rattle.mkv_io.specs.Sources.{IfTold, IsLive, file_size, live_files};
 ghost use Rattle.mkv_io.specs.Told.{Told};
 ghost use Rattle.sidecar_edit.specs.Pending.{LooksOnly, is_pending};
+ghost use Rattle.sidecar_edit.specs.declared.place.TheConstants.{HEAD};
 ghost use Rattle.mkv_lines.specs.Faults.{HasReadStop, HasStopCause};
 ghost use Rattle.mkv_lines.specs.Ordinary.{IsOrdinary};
 ghost use Rattle.mkv_lines.specs.Seen.{seen};
 ghost use Rattle.mkv_lines.specs.Verdict.{Reaches, SaysVerdict, unless_pending};
+ghost use Rattle.mkv_info.specs.Bound.{most_of_form, most_to_tell};
 ghost use Rattle.mkv_info.specs.Info.{content_verdict, info_verdict};
 
 use crate::identified::identify_file;
@@ -44,6 +46,8 @@ pub fn info_of<F: Files, P: Report>(
     ensures cause { HasStopCause
         (seen F.Reads F.writing_faults F.names P.Report files.old report.old).counts
         (seen F.Reads F.writing_faults F.names P.Report files.new report.new).counts result }
+    ensures octets { Told (F.names files.old) (λ world.
+        F.octets_read files.new ≤ F.octets_read files.old + most_to_tell form world name.now) }
 {
     let file = match files.open_file(name) {
         Ok(file) => file,
@@ -71,6 +75,8 @@ fn tell_settled<F: Files, P: Report>(
     ensures ordinary { IfOk result IsOrdinary }
     ensures looks { LooksOnly F.Reads F.Files.own files.old files.new }
     ensures cause { HasReadStop (F.reading_faults files.old) (F.reading_faults files.new) (P.faults report.old) (P.faults report.new) result }
+    ensures octets { F.octets_read files.new
+        ≤ F.octets_read files.old + (HEAD + most_of_form form (file_size F.Reads files.old file)) }
 {
     if is_pending(alloc, name, files)? {
         return refuse(alloc, &Line::PendingEdit { name }, report);

@@ -1,6 +1,6 @@
 //! A file's Elements, a line for each.
 
-ghost use Rattle.std.specs.Prelude.{◌≡◌, Ok, map, IfOk};
+ghost use Rattle.std.specs.Prelude.{◌≡◌, ◌+◌, ◌*◌, ◌≤◌, Ok, map, IfOk};
 ghost use Rattle.mkv_io.specs.Sources.{IfTold, IsLive, file_size};
 ghost use Rattle.mkv_schema.specs.Outline.{segment_run};
 ghost use Rattle.elements.specs.Window.{nothing_at};
@@ -10,6 +10,7 @@ ghost use Rattle.mkv_lines.specs.Line.{level_1_line};
 ghost use Rattle.mkv_lines.specs.Ordinary.{IsOrdinary};
 ghost use Rattle.mkv_lines.specs.Said.{HasSayCause, Says};
 ghost use Rattle.mkv_lines.specs.Verdict.{SaysVerdict};
+ghost use Rattle.mkv_info.specs.Bound.{most_to_list};
 ghost use Rattle.mkv_info.specs.Listed.{listed_verdict, shown_lines, status_with, warnings};
 
 use crate::tracks::{say_tracks, tracks_of};
@@ -33,6 +34,7 @@ pub fn list_file<R: Reads, P: Report>(
     ensures ordinary { IfOk result IsOrdinary }
     ensures standing { R.standing src.new ≡ R.standing src.old }
     ensures cause { HasReadStop (R.reading_faults src.old) (R.reading_faults src.new) (P.faults report.old) (P.faults report.new) result }
+    ensures octets { R.octets_read src.new ≤ R.octets_read src.old + most_to_list (file_size R.Reads src.old file) }
 {
     match Outline::read(alloc, src, file) {
         Ok(outline) => list_outline(alloc, name, &outline, src, file, report),
@@ -60,6 +62,7 @@ fn list_outline<R: Reads, P: Report>(
     ensures ordinary { IfOk result IsOrdinary }
     ensures standing { R.standing src.new ≡ R.standing src.old }
     ensures cause { HasReadStop (R.reading_faults src.old) (R.reading_faults src.new) (P.faults report.old) (P.faults report.new) result }
+    ensures octets { R.octets_read src.new ≤ R.octets_read src.old + 4 * file_size R.Reads src.old file }
 {
     match tracks_of(alloc, outline, src, file)? {
         Ok(tracks) => {
@@ -84,6 +87,7 @@ fn say_elements<R: Reads, P: Report>(
     ensures said { IfTold R.Reads src.old file (λ bytes. Says (P.lines report.old) (P.lines report.new) (shown_lines bytes outline.now) result) }
     ensures standing { R.standing src.new ≡ R.standing src.old }
     ensures cause { HasReadStop (R.reading_faults src.old) (R.reading_faults src.new) (P.faults report.old) (P.faults report.new) result }
+    ensures octets { R.octets_read src.new ≤ R.octets_read src.old + 3 * file_size R.Reads src.old file }
 {
     let Ok(mut window) = Window::new(alloc) else {
         return Err(Stop::Memory);
@@ -109,6 +113,7 @@ fn say_level_1<R: Reads, P: Report>(
         Says (P.lines report.old) (P.lines report.new) (map level_1_line (segment_run bytes outline.now.segment).list) result) }
     ensures standing { R.standing src.new ≡ R.standing src.old }
     ensures cause { HasReadStop (R.reading_faults src.old) (R.reading_faults src.new) (P.faults report.old) (P.faults report.new) result }
+    ensures octets { R.octets_read src.new ≤ R.octets_read src.old + 3 * file_size R.Reads src.old file }
 {
     let segment = outline.segment();
     let end = segment_bound(&segment, outline.total());

@@ -32,6 +32,7 @@ pub fn tracks_of<R: Reads>(
         outline_in 0 bytes ≡ Ok outline.now → found ≡ tracks_at bytes (first_in TRACKS_ID outline.now))) }
     ensures standing { R.standing src.new ≡ R.standing src.old }
     ensures cause { HasCause is_read_fault (R.reading_faults src.old) (R.reading_faults src.new) result }
+    ensures octets { R.octets_read src.new ≤ R.octets_read src.old + file_size R.Reads src.old file }
 {
     let Some(header) = outline.first(TRACKS) else {
         return Ok(Ok(List::new(alloc)));

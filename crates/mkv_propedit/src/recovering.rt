@@ -1,12 +1,14 @@
 //! A file and its sidecar are opened, and recovered.
 
-ghost use Rattle.std.specs.Prelude.{◌≡◌, IfOk};
+ghost use Rattle.std.specs.Prelude.{◌≡◌, ◌+◌, ◌≤◌, IfOk};
 ghost use Rattle.mkv_disk.specs.Calls.{AtRest, IsReady, OfReads};
 ghost use Rattle.mkv_lines.specs.Code.{status_of};
 ghost use Rattle.mkv_lines.specs.Ordinary.{IsOrdinary};
 ghost use Rattle.mkv_lines.specs.Said.{SaysLast};
 ghost use Rattle.mkv_lines.specs.Verdict.{SaysVerdict};
 ghost use Rattle.sidecar_edit.specs.Recovery.{recovery};
+ghost use Rattle.mkv_propedit.specs.Bound.{most_to_recover};
+ghost use Rattle.mkv_propedit.specs.Left.{StaysOpen};
 ghost use Rattle.mkv_propedit.specs.Recover.{recover_verdict, told};
 ghost use Rattle.mkv_propedit.specs.Recovery.{HasDiskStop, IsRecovery, IsRecoveryOf};
 
@@ -29,6 +31,7 @@ pub fn recover_of<D: Disk, R: Report>(
         SaysVerdict (R.lines report.old) (R.lines report.new) result (recover_verdict (D.is_there disk.old name.now) name.now M S)) }
     ensures ordinary { IfOk result IsOrdinary }
     ensures recovery { IsRecoveryOf D.Reads D.Disk.own name.now disk.old disk.new (status_of result) }
+    ensures octets { D.octets_read disk.new ≤ D.octets_read disk.old + most_to_recover }
     ensures cause { HasDiskStop D.Reads D.Disk.own disk.old disk.new (R.faults report.old) (R.faults report.new) result }
     ensures last { SaysLast (R.lines report.old) (R.lines report.new) result }
 {
@@ -51,7 +54,7 @@ fn recover_open<D: Disk, R: Report>(
     ensures verdict { OfReads D.Disk.own disk.old (λ M S. SaysVerdict (R.lines report.old) (R.lines report.new) result (told name.now (recovery M S))) }
     ensures ordinary { IfOk result IsOrdinary }
     ensures recovery { IsRecovery D.Disk.own disk.old disk.new (status_of result) }
-    ensures opened { D.opened disk.new ≡ D.opened disk.old }
+    ensures stays { StaysOpen D.Reads D.Disk.own disk.old disk.new most_to_recover }
     ensures cause { HasDiskStop D.Reads D.Disk.own disk.old disk.new (R.faults report.old) (R.faults report.new) result }
     ensures last { SaysLast (R.lines report.old) (R.lines report.new) result }
 {

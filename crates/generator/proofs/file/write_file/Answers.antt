@@ -7,9 +7,15 @@ use Rattle.mkv_outputs.proofs.DraftsLemmas.{StandsInTurn-none}
 use Rattle.cues_seekhead.specs.Draft.{draft_of}
 use Rattle.tree_format.specs.Node.{id_of}
 use Rattle.remuxer.proofs.OutputLemmas.{abandoned-keeps, drafted-in_turn, finished-keeps}
+use Rattle.remuxer.proofs.ShortLemmas.{HoldsOfFiles}
 use Rattle.generator.specs.Files.{file_of}
 use Rattle.generator.proofs.FileLemmas.{file-begun, file-finished, file-refused, none-read}
+use Rattle.generator.proofs.file.write_file.Given.{Over}
 use Rattle.generator.proofs.file.write_file.Goals as goal
+
+-- what holds of all files
+of_files : (g : Over) → HoldsOfFiles g.F.Reads g.F.Files
+of_files g = record { short = g.met.F.Reads.short; told_size = λ x. g.met.F.Reads.told_size (g.F.Reads.standing x); named = g.met.F.Files.named }
 
 -- there is no memory for what stands in front, nor for a Cluster
 pub returns-in_err-front-clause-writes : goal.returns-in_err-front-clause-writes
@@ -38,7 +44,7 @@ returns-in_err-finish_with-in-Ok-clause-writes g c =
     let buffer = c.in_ok-buffer.buffer in
     let front = c.in_ok-front.front in
     let begun = file-begun g.F.Reads g.F.Files c.args.medium c.args.n c.args.name.now front a b o buffer c.in_ok-front.ensures c.in_ok-out.ensures.ok c.in_ok-out.ensures.cues c.in_ok-buffer.ensures.empty (c.in_ok-buffer.ensures.limits ∙ c.usual_limits.ensures) in
-    rw p.1 (file-finished g.F.Reads g.F.Files c.args.medium c.args.n c.args.name.now front a b o buffer c.in_ok-front.ensures c.add_all.new.files c.finish_with.new.files c.add_all.new.out (Err c.in_err-finish_with-in-Ok.field-0.0) begun c.in-Ok.ensures.adds c.in_err-finish_with-in-Ok.ensures.finishes)
+    rw p.1 (file-finished g.F.Reads g.F.Files c.args.medium c.args.n c.args.name.now front a b o buffer c.in_ok-front.ensures c.add_all.new.files c.finish_with.new.files c.add_all.new.out (Err c.in_err-finish_with-in-Ok.field-0.0) begun c.in-Ok.ensures.adds (of_files g) c.in_err-finish_with-in-Ok.ensures.finishes c.in_err-finish_with-in-Ok.ensures.ended)
 
 -- it was finished
 pub returns-in-Ok-clause-writes : goal.returns-in-Ok-clause-writes
@@ -49,7 +55,7 @@ returns-in-Ok-clause-writes g c =
     let buffer = c.in_ok-buffer.buffer in
     let front = c.in_ok-front.front in
     let begun = file-begun g.F.Reads g.F.Files c.args.medium c.args.n c.args.name.now front a b o buffer c.in_ok-front.ensures c.in_ok-out.ensures.ok c.in_ok-out.ensures.cues c.in_ok-buffer.ensures.empty (c.in_ok-buffer.ensures.limits ∙ c.usual_limits.ensures) in
-    file-finished g.F.Reads g.F.Files c.args.medium c.args.n c.args.name.now front a b o buffer c.in_ok-front.ensures c.add_all.new.files c.finish_with.new.files c.add_all.new.out (Ok c.in_ok-finish_with-in-Ok.field-0) begun c.in-Ok.ensures.adds c.in_ok-finish_with-in-Ok.ensures.finishes
+    file-finished g.F.Reads g.F.Files c.args.medium c.args.n c.args.name.now front a b o buffer c.in_ok-front.ensures c.add_all.new.files c.finish_with.new.files c.add_all.new.out (Ok c.in_ok-finish_with-in-Ok.field-0) begun c.in-Ok.ensures.adds (of_files g) c.in_ok-finish_with-in-Ok.ensures.finishes c.in_ok-finish_with-in-Ok.ensures.ended
 
 -- it was given up
 pub returns-clause-writes : goal.returns-clause-writes

@@ -1,8 +1,9 @@
-use Rattle.std.proofs.Common.{◌≢◌, refl, sym, subst}
+use Rattle.std.proofs.Common.{◌+◌, ◌≤◌, ◌≢◌, refl, sym, subst}
 use Rattle.mkv_lines.specs.Seen.{seen}
 use Rattle.mkv_lines.specs.Verdict.{Reaches}
 use Rattle.mkv_lines.proofs.VerdictLemmas.{IsStopped-before}
 use Rattle.generator.specs.declared.names.Names as own
+use Rattle.generator.specs.Bound.{most_made}
 use Rattle.generator.specs.Generate.{generate_verdict, verdict_of}
 use Rattle.generator.proofs.SoundLemmas.{names-apart}
 use Rattle.generator.proofs.generating.generate_of.Goals as goal
@@ -21,3 +22,8 @@ pub returns-in-Err-clause-verdict : goal.returns-in-Err-clause-verdict
 returns-in-Err-clause-verdict g c = λ world told.
     let still = seen g.F.Reads g.F.Files.writing_faults g.F.Files.names g.P.Report c.args.files.now c.args.report.now in
     IsStopped-before still still (generate_verdict c.args.n c.args.prefix.now) refl refl
+
+-- how much is read
+pub returns-in-Ok-clause-octets : goal.returns-in-Ok-clause-octets
+returns-in-Ok-clause-octets g c = λ world told.
+    subst (λ (names : own.Names). g.F.Reads.octets_read c.generate.new.files ≤ g.F.Reads.octets_read c.args.files.now + most_made c.args.n names) c.in-Ok.ensures (c.generate.ensures.octets world told)

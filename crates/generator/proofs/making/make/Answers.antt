@@ -1,3 +1,4 @@
+use Rattle.std.proofs.Common.{arith}
 use Rattle.generator.proofs.MakingLemmas.{files-left}
 use Rattle.generator.proofs.making.make.Goals as goal
 
@@ -10,3 +11,10 @@ returns-in-Ok-clause-makes g c = λ world told.
 pub returns-in-Err-clause-makes : goal.returns-in-Err-clause-makes
 returns-in-Err-clause-makes g c = λ world told.
     files-left (g.F.Files.names c.args.files.now) (g.F.Files.names c.write_files.new.files) c.args.n c.args.names.now c.in-Err.ensures.writes
+
+-- ---- how much is read
+
+pub returns-in-Ok-clause-octets : goal.returns-in-Ok-clause-octets
+returns-in-Ok-clause-octets g c = λ world told.
+    let read = c.make_both.ensures.octets c.args.n (g.F.Files.names c.args.files.now) world told c.requires.apart c.in-Ok.ensures.writes in
+    omega (arith, read, c.write_files.ensures.octets)

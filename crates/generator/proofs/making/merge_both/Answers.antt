@@ -1,4 +1,5 @@
 use Rattle.generator.specs.Generate.{both_words}
+use Rattle.generator.proofs.BoundLemmas.{both-alone, both-more}
 use Rattle.generator.proofs.MakingLemmas.{both-made, both-refused, both-stopped}
 use Rattle.generator.proofs.SoundLemmas.{both-sound, sound-as}
 use Rattle.generator.proofs.making.merge_both.Goals as goal
@@ -19,3 +20,19 @@ returns-in-Ok-Refused-clause-makes g c =
 pub returns-in-Err-clause-makes : goal.returns-in-Err-clause-makes
 returns-in-Err-clause-makes g c =
     both-stopped (g.F.Files.names c.args.files.now) (g.F.Files.names c.merge_files.new.files) c.args.names.now c.args.words c.requires c.in-Err.why c.in-Err.ensures.merges
+
+-- ---- how much is read
+
+pub returns-in-Ok-Written-clause-octets : goal.returns-in-Ok-Written-clause-octets
+returns-in-Ok-Written-clause-octets g c =
+    both-more (g.F.Files.names c.args.files.now) c.args.names.now c.args.words c.requires (g.F.Reads.octets_read c.args.files.now) (g.F.Reads.octets_read c.merge_files.new.files) c.merge_files.ensures.octets
+    (g.F.Files.names c.merge_files.new.files) c.in-Ok-Written.summary (g.F.Reads.octets_read c.make_parts.new.files)
+    (λ world told. rw c.in-Ok-Written.field-0-is at (c.in-Ok-Written.ensures.merges world told)) c.make_parts.ensures.octets
+
+pub returns-in-Ok-Refused-clause-octets : goal.returns-in-Ok-Refused-clause-octets
+returns-in-Ok-Refused-clause-octets g c =
+    both-alone (g.F.Files.names c.args.files.now) c.args.names.now c.args.words c.requires (g.F.Reads.octets_read c.args.files.now) (g.F.Reads.octets_read c.merge_files.new.files) c.merge_files.ensures.octets
+
+pub returns-in-Err-clause-octets : goal.returns-in-Err-clause-octets
+returns-in-Err-clause-octets g c =
+    both-alone (g.F.Files.names c.args.files.now) c.args.names.now c.args.words c.requires (g.F.Reads.octets_read c.args.files.now) (g.F.Reads.octets_read c.merge_files.new.files) c.merge_files.ensures.octets

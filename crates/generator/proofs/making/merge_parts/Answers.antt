@@ -1,4 +1,5 @@
 use Rattle.generator.specs.Generate.{parts_words}
+use Rattle.generator.proofs.BoundLemmas.{parts-alone}
 use Rattle.generator.proofs.MakingLemmas.{parts-made, parts-refused, parts-stopped}
 use Rattle.generator.proofs.SoundLemmas.{parts-sound, sound-as}
 use Rattle.generator.proofs.making.merge_parts.Goals as goal
@@ -19,3 +20,17 @@ returns-in-Ok-Refused-clause-makes g c =
 pub returns-in-Err-clause-makes : goal.returns-in-Err-clause-makes
 returns-in-Err-clause-makes g c =
     parts-stopped (g.F.Files.names c.args.files.now) (g.F.Files.names c.merge_files.new.files) c.args.names.now c.args.words c.requires c.args.both c.in-Err.why c.in-Err.ensures.merges
+
+-- ---- how much is read
+
+pub returns-in-Ok-Written-clause-octets : goal.returns-in-Ok-Written-clause-octets
+returns-in-Ok-Written-clause-octets g c =
+    parts-alone (g.F.Files.names c.args.files.now) c.args.names.now c.args.words (g.F.Reads.octets_read c.args.files.now) (g.F.Reads.octets_read c.merge_files.new.files) c.requires c.merge_files.ensures.octets
+
+pub returns-in-Ok-Refused-clause-octets : goal.returns-in-Ok-Refused-clause-octets
+returns-in-Ok-Refused-clause-octets g c =
+    parts-alone (g.F.Files.names c.args.files.now) c.args.names.now c.args.words (g.F.Reads.octets_read c.args.files.now) (g.F.Reads.octets_read c.merge_files.new.files) c.requires c.merge_files.ensures.octets
+
+pub returns-in-Err-clause-octets : goal.returns-in-Err-clause-octets
+returns-in-Err-clause-octets g c =
+    parts-alone (g.F.Files.names c.args.files.now) c.args.names.now c.args.words (g.F.Reads.octets_read c.args.files.now) (g.F.Reads.octets_read c.merge_files.new.files) c.requires c.merge_files.ensures.octets

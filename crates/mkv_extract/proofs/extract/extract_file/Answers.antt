@@ -15,13 +15,13 @@ pub returns-in-Err-ReadFault-clause-verdict : goal.returns-in-Err-ReadFault-clau
 returns-in-Err-ReadFault-clause-verdict g c = λ bytes told.
     IsStopped-before (seen g.F.Reads g.F.Files.writing_faults g.F.Files.names g.P.Report c.args.files.now c.args.report.now)
     (seen g.F.Reads g.F.Files.writing_faults g.F.Files.names g.P.Report c.read_source.new.src c.args.report.now)
-    (read_verdict c.args.name.now c.args.job.now bytes (read_of c.args.job.now bytes)) refl (g.met.F.Files.names_stand c.read_source.new.src c.args.files.now c.in-Err-ReadFault.ensures.standing)
+    (read_verdict c.args.name.now c.args.job.now bytes (read_of c.args.job.now bytes)) refl (g.met.F.Files.names_stand c.read_source.new.src c.args.files.now c.in-Err-ReadFault.ensures.reads.standing)
 
 pub returns-in-Err-Memory-clause-verdict : goal.returns-in-Err-Memory-clause-verdict
 returns-in-Err-Memory-clause-verdict g c = λ bytes told.
     IsStopped-before (seen g.F.Reads g.F.Files.writing_faults g.F.Files.names g.P.Report c.args.files.now c.args.report.now)
     (seen g.F.Reads g.F.Files.writing_faults g.F.Files.names g.P.Report c.read_source.new.src c.args.report.now)
-    (read_verdict c.args.name.now c.args.job.now bytes (read_of c.args.job.now bytes)) refl (g.met.F.Files.names_stand c.read_source.new.src c.args.files.now c.in-Err-Memory.ensures.standing)
+    (read_verdict c.args.name.now c.args.job.now bytes (read_of c.args.job.now bytes)) refl (g.met.F.Files.names_stand c.read_source.new.src c.args.files.now c.in-Err-Memory.ensures.reads.standing)
 
 -- reading leaves all as it was
 pub returns-in-Ok-clause-verdict : goal.returns-in-Ok-clause-verdict
@@ -31,7 +31,7 @@ returns-in-Ok-clause-verdict g c = λ bytes told.
     let old = c.args.files.now in
     let mid = c.read_source.new.src in
     let source = c.in-Ok.source in
-    let standing : g.F.Reads.standing mid ≡ g.F.Reads.standing old = c.in-Ok.ensures.standing in
+    let standing : g.F.Reads.standing mid ≡ g.F.Reads.standing old = c.in-Ok.ensures.reads.standing in
     let reading : g.F.Reads.reading_faults mid ≡ g.F.Reads.reading_faults old = c.in-Ok.ensures.cause in
     let writing : g.F.Files.writing_faults mid ≡ g.F.Files.writing_faults old = g.met.F.Files.writing_stands mid old standing in
     let names : g.F.Files.names mid ≡ g.F.Files.names old = g.met.F.Files.names_stand mid old standing in
@@ -55,7 +55,7 @@ returns-in-Ok-clause-cause g c =
     let old = c.args.files.now in
     let mid = c.read_source.new.src in
     let reading : g.F.Reads.reading_faults mid ≡ g.F.Reads.reading_faults old = c.in-Ok.ensures.cause in
-    let writing : g.F.Files.writing_faults mid ≡ g.F.Files.writing_faults old = g.met.F.Files.writing_stands mid old c.in-Ok.ensures.standing in
+    let writing : g.F.Files.writing_faults mid ≡ g.F.Files.writing_faults old = g.met.F.Files.writing_stands mid old c.in-Ok.ensures.reads.standing in
     let after : Counts = (seen g.F.Reads g.F.Files.writing_faults g.F.Files.names g.P.Report c.extract_job.new.files c.extract_job.new.report).counts in
     let same : (seen g.F.Reads g.F.Files.writing_faults g.F.Files.names g.P.Report mid c.args.report.now).counts ≡ (seen g.F.Reads g.F.Files.writing_faults g.F.Files.names g.P.Report old c.args.report.now).counts =
     λ i. record { reading = reading i; writing = writing i; report = g.P.Report.faults c.args.report.now } in

@@ -1,0 +1,42 @@
+-- How many octets `extract` may read.
+use Rattle.std.specs.Prelude.{◌≡◌, ◌≤◌, ℕ, ◌+◌, ◌*◌, min, List, length, Option, Some, None}
+use Rattle.mkv_io.specs.declared.reads.Reads.{Ghosts}
+use Rattle.word_values.specs.declared.job.Job.{Job}
+use Rattle.word_values.specs.declared.job.Job.TheVariants as jobs
+use Rattle.meta_records.specs.declared.limits.TheConstants.{MOST_OF_ATTACHMENTS}
+use Rattle.sidecar_edit.specs.declared.place.TheConstants.{HEAD}
+
+-- of a file of so many octets the first Cues is read once, for a job that takes it
+abbrev pub most_of_cues : Job → ℕ → ℕ
+most_of_cues (jobs.Cues list) octets = octets
+most_of_cues job octets = 0
+
+-- what may be read of it before its blocks: besides, its outline four times, Info, Tracks, Chapters and Tags once each, and
+-- what names its attached files, but none of their data
+abbrev pub most_before : Job → ℕ → ℕ
+most_before job octets = 8 * octets + min (16 * octets) (2 * MOST_OF_ATTACHMENTS) + most_of_cues job octets
+
+-- what may be read of its blocks and of the data of its attached files: six times the file for tracks, however many, and the
+-- file for each attached file that is taken
+abbrev pub most_of_content : Job → ℕ → ℕ
+most_of_content (jobs.Tracks form list) octets = 6 * octets
+most_of_content (jobs.Attachments list) octets = length list * octets
+most_of_content job octets = 0
+
+-- what may be read of it in all
+abbrev pub most_of_file : Job → ℕ → ℕ
+most_of_file job octets = most_before job octets + most_of_content job octets
+
+-- what may be read of a name, which may have no content: besides, what its sidecar begins with
+abbrev pub most_with : Job → Option (List ℕ) → ℕ
+most_with job None = 0
+most_with job (Some bytes) = HEAD + most_of_file job (length bytes)
+
+-- what may be read of a name in a world of names
+abbrev pub most_to_extract : (List ℕ → Option (List ℕ)) → List ℕ → Job → ℕ
+most_to_extract world name job = most_with job (world name)
+
+-- Nothing has changed but the count of octets read, which has risen by at most so many.
+pub record ReadsAtMost {S : Type 0} (r : Ghosts S) (old new : S) (most : ℕ) : Type 0 where
+  pub standing : r.standing new ≡ r.standing old
+  pub octets : r.octets_read new ≤ r.octets_read old + most

@@ -1,0 +1,28 @@
+-- How many octets `info` and `merge -J` may read.
+use Rattle.std.specs.Prelude.{ℕ, ◌+◌, ◌*◌, min, List, length, Option, Some, None}
+use Rattle.meta_records.specs.declared.limits.TheConstants.{MOST_OF_ATTACHMENTS}
+use Rattle.sidecar_edit.specs.declared.place.TheConstants.{HEAD}
+use Rattle.mkv_info.specs.declared.info.Form.{Form}
+use Rattle.mkv_info.specs.declared.info.Form.TheVariants.{Lines, Json}
+
+-- what may be read of a file of so many octets to list it: its outline four times, Tracks once, and level 1 three times
+abbrev pub most_to_list : ℕ → ℕ
+most_to_list octets = 8 * octets
+
+-- what may be read of it to identify it: its outline four times, Info, Tracks, Chapters and Tags once each, and what names its
+-- attached files, but none of their data
+abbrev pub most_to_identify : ℕ → ℕ
+most_to_identify octets = 8 * octets + min (16 * octets) (2 * MOST_OF_ATTACHMENTS)
+
+abbrev pub most_of_form : Form → ℕ → ℕ
+most_of_form Lines octets = most_to_list octets
+most_of_form Json octets = most_to_identify octets
+
+-- what may be read of a name, which may have no content: besides, what its sidecar begins with
+abbrev pub most_with : Form → Option (List ℕ) → ℕ
+most_with form None = 0
+most_with form (Some bytes) = HEAD + most_of_form form (length bytes)
+
+-- what may be read of a name in a world of names
+abbrev pub most_to_tell : Form → (List ℕ → Option (List ℕ)) → List ℕ → ℕ
+most_to_tell form world name = most_with form (world name)
