@@ -1,4 +1,4 @@
--- Edits that were made keep the rest of a file.
+-- Edits that were made keep the rest of a file, and so does a new index.
 use Rattle.std.proofs.Common.{◌≡◌, ℕ, List, Result, Ok, Err, refl, sym, subst, ap, ◌∙◌}
 use Rattle.mkv_io.specs.declared.damage.Damage.{Damage}
 use Rattle.mkv_disk.specs.Pair.{Pair}
@@ -11,10 +11,15 @@ use Rattle.edit_changes.specs.Change.{and_then, edited_trees}
 use Rattle.edit_changes.specs.Plan.{edited, if_editable, plan_of}
 use Rattle.edit_changes.specs.Records.{EditableFile, editable}
 use Rattle.edit_laws.specs.Laws.{EditsChangeNothingElse}
+use Rattle.reindex.specs.Index.{indexable}
+use Rattle.reindex.specs.Plan.{Index, index_of, index_with}
+use Rattle.reindex.specs.Points.{index_points}
+use Rattle.edit_laws.specs.IndexLaws.{HoldsIndex, NewIndexIsWhole}
 use Rattle.mkv_lines.specs.declared.status.Status.{Status}
 use Rattle.mkv_lines.specs.declared.status.Status.TheVariants as status
 use Rattle.mkv_propedit.specs.Left.{IsEdit, writes_of_edits}
-use Rattle.mkv_run.specs.Kept.{EditKeepsRest, KeepsRest}
+use Rattle.mkv_propedit.specs.Reindex.{writes_of_index}
+use Rattle.mkv_run.specs.Kept.{EditKeepsRest, IndexKeepsRest, HasNewIndex, KeepsRest}
 
 -- A file that is edited could be, and its trees are changed.
 record IsChanged (edits : List Edit) (bytes : List ℕ) : Type 0 where
@@ -58,3 +63,34 @@ edit-keeps d edits old new status.Warned law is = tt
 edit-keeps d edits old new status.Refused law is = tt
 edit-keeps d edits old new status.NoMemory law is = tt
 edit-keeps d edits old new status.Outside law is = tt
+
+-- ---- a new index
+
+-- What has an index could be indexed.
+could-be : (bytes : List ℕ) (x : Index) (r : Result EditableFile Damage) → indexable bytes ≡ r → and_then (if_editable r) (λ (f : EditableFile). index_with bytes f.outline (index_points bytes f.outline.segment f.trees.tracks)) ≡ Ok x → (f : EditableFile) × (indexable bytes ≡ Ok f)
+could-be bytes x (Ok f) found made = (f, found)
+could-be bytes x (Err why) found made = absurd (cc)
+
+indexed-kept : NewIndexIsWhole → (bytes : List ℕ) (ws : List Write) (r : Result Index Refusal) → index_of bytes ≡ r → and_then r (λ x. Ok x.writes) ≡ Ok ws → HasNewIndex bytes (applied bytes ws)
+indexed-kept law bytes ws (Ok x) found made =
+    let could = could-be bytes x (indexable bytes) refl found in
+    let same : x.writes ≡ ws = cc in
+    record {
+      file = could.0;
+      index = x;
+      indexable = could.1;
+      made = found;
+      holds = λ octets short outside. subst (λ (w : List Write). HoldsIndex bytes (applied bytes w) could.0 x.points) same (law bytes could.0 x octets short outside could.1 found);
+    }
+indexed-kept law bytes ws (Err why) found made = absurd (cc)
+
+-- So does `reindex`.
+pub index-keeps : {D : Type 0} (d : Ghosts D) (old new : D) (s : Status) → NewIndexIsWhole → IsEdit d writes_of_index old new s → IndexKeepsRest d old new s
+index-keeps d old new status.Done law is = λ told.
+    let made = is.pair told in
+    let bytes = (d.pair old).media.reads in
+    subst (HasNewIndex bytes) (sym (ap (λ (p : Pair). p.media.reads) made.pair)) (indexed-kept law bytes made.writes (index_of bytes) refl made.made)
+index-keeps d old new status.Warned law is = tt
+index-keeps d old new status.Refused law is = tt
+index-keeps d old new status.NoMemory law is = tt
+index-keeps d old new status.Outside law is = tt

@@ -21,13 +21,13 @@ use Rattle.mkv_lines.specs.Verdict.{IsDone}
 use Rattle.mkv_lines.specs.declared.status.Status.{Status}
 use Rattle.mkv_lines.specs.declared.status.Status.TheVariants as status
 use Rattle.mkv_merge.specs.Merge.{merge_verdict, sources_of}
-use Rattle.mkv_merge.specs.Records.{HaveRecords}
+use Rattle.mkv_merge.specs.Records.{CanBeRead}
 use Rattle.merged_outputs.specs.Merge.{HasMerged, IsMerged, MergesWell}
 use Rattle.merged_outputs.specs.Sources.{HoldsOctets}
 use Rattle.merged_outputs.proofs.MergeLemmas.{run-merged}
 use Rattle.mkv_propedit.specs.Recover.{DiskWorld}
 use Rattle.mkv_run.specs.Ends.{Ends}
-use Rattle.mkv_run.specs.Run.{MergesRecords, MergesRecordsIn, verdict_after, verdict_in}
+use Rattle.mkv_run.specs.Run.{MergesReadable, MergesReadableIn, verdict_after, verdict_in}
 use Rattle.mkv_run.specs.RunSeen.{RunSeen}
 
 -- the words of a command line are texts
@@ -35,25 +35,25 @@ texts-utf8 : (words : List (String Global)) → All IsUtf8 (texts words)
 texts-utf8 words = All-map IsUtf8 string_bytes words (λ k d below. IsUtf8-string_bytes (get_or words k d))
 
 -- what was reached, and is no refusal, has written the merge that was asked for
-has-merged : (old new : Seen) (disk : Option DiskWorld) (words : List (List ℕ)) (s : Status) → s ≢ status.Refused → All IsUtf8 words → MergesRecordsIn old.names words (Ok s) → Told (verdict_in old.names disk words) (λ v. (s ≡ v.status) × IsDone old new v) → HasMerged old.names words new.names
-has-merged old new disk words s other utf8 records reached = λ world told holds asked is.
+has-merged : (old new : Seen) (disk : Option DiskWorld) (words : List (List ℕ)) (s : Status) → s ≢ status.Refused → All IsUtf8 words → MergesReadableIn old.names words (Ok s) → Told (verdict_in old.names disk words) (λ v. (s ≡ v.status) × IsDone old new v) → HasMerged old.names words new.names
+has-merged old new disk words s other utf8 readable reached = λ world told holds asked is.
     let at = reached (merge_verdict world asked) (ap₂ (λ (n : Names) (c : Result Command Usage). verdict_after n disk c) told is) in
     run-merged old new words asked world s utf8 told holds is (have world asked told is) other at.0 at.1
   where
-    -- its records can be read again
-    have : (world : List ℕ → Option (List ℕ)) (asked : MergeWords) → old.names ≡ Some world → command words ≡ Ok (Merge asked) → IfOk (sources_of world asked) HaveRecords
+    -- what it has written can be read again
+    have : (world : List ℕ → Option (List ℕ)) (asked : MergeWords) → old.names ≡ Some world → command words ≡ Ok (Merge asked) → IfOk (sources_of world asked) (CanBeRead asked)
     have world asked told is =
-        let P : Result Command Usage → Type 0 = λ c. IfOk c (λ (each : Command). MergesRecords old.names each (Ok s)) in
-        let merges : MergesRecords old.names (Merge asked) (Ok s) = subst P is records in
+        let P : Result Command Usage → Type 0 = λ c. IfOk c (λ (each : Command). MergesReadable old.names each (Ok s)) in
+        let merges : MergesReadable old.names (Merge asked) (Ok s) = subst P is readable in
         merges world told
 
 -- A run that ends well has written it.
-pub merges-well : (old new : RunSeen) (disk : Option DiskWorld) (words : List (String Global)) (s : Status) → MergesRecordsIn old.seen.names (texts words) (Ok s) → Told (verdict_in old.seen.names disk (texts words)) (Ends old new s) → MergesWell old.seen.names (texts words) new.seen.names s
-merges-well old new disk words status.Done records told = has-merged old.seen new.seen disk (texts words) status.Done (λ same. cc) (texts-utf8 words) records told
-merges-well old new disk words status.Warned records told = has-merged old.seen new.seen disk (texts words) status.Warned (λ same. cc) (texts-utf8 words) records told
-merges-well old new disk words status.Refused records told = tt
-merges-well old new disk words status.NoMemory records told = tt
-merges-well old new disk words status.Outside records told = tt
+pub merges-well : (old new : RunSeen) (disk : Option DiskWorld) (words : List (String Global)) (s : Status) → MergesReadableIn old.seen.names (texts words) (Ok s) → Told (verdict_in old.seen.names disk (texts words)) (Ends old new s) → MergesWell old.seen.names (texts words) new.seen.names s
+merges-well old new disk words status.Done readable told = has-merged old.seen new.seen disk (texts words) status.Done (λ same. cc) (texts-utf8 words) readable told
+merges-well old new disk words status.Warned readable told = has-merged old.seen new.seen disk (texts words) status.Warned (λ same. cc) (texts-utf8 words) readable told
+merges-well old new disk words status.Refused readable told = tt
+merges-well old new disk words status.NoMemory readable told = tt
+merges-well old new disk words status.Outside readable told = tt
 
 -- A program whose exit status is 0 or 1 is one that ends well.
 pub code-merged : (old new : Names) (words : List (List ℕ)) (s : Status) (code : ℕ) → code ≡ code_of s → code < 2 → MergesWell old words new s → HasMerged old words new

@@ -23,6 +23,7 @@ use Rattle.mkv_propedit.specs.Left.{writes_of_edits}
 use Rattle.mkv_propedit.specs.Reindex.{writes_of_index}
 use Rattle.mkv_propedit.proofs.PropeditLemmas.{edit-still}
 use Rattle.mkv_run.specs.Ends.{Ends, SaysFault}
+use Rattle.mkv_run.specs.Run.{ReadsWithinAfter}
 use Rattle.mkv_run.specs.RunSeen.{HasRunStop, IsSilent, RunSeen}
 use Rattle.mkv_run.specs.Touched.{IsInPlace, LeftOnTheWay, Reach, Touches, edited, files, indexed, nothing, recovered}
 use Rattle.mkv_lines.specs.declared.status.Status.{Status}
@@ -31,6 +32,9 @@ use Rattle.mkv_lines.specs.declared.status.Stop.{Stop}
 use Rattle.mkv_lines.specs.declared.status.Stop.TheVariants as stop
 use Rattle.word_values.specs.declared.job.Job.{Job}
 use Rattle.word_values.specs.declared.job.Job.TheVariants as jobs
+use Rattle.word_values.specs.declared.usage.Usage.{Usage}
+use Rattle.mkv_args.specs.declared.command.Command.{Command}
+use Rattle.mkv_args.specs.declared.command.Command.TheVariants.{Extract, Generate, Help, Identify, Info, Merge, Propedit, Recover, Reindex, Version}
 use Rattle.mkv_args.specs.Sound.{IsSoundJob}
 use Rattle.extractors.specs.Job.{CanBeDone}
 use Rattle.mkv_lines.proofs.SaidLemmas.{SaysPart-before, SaysPart-none, with_lines-both, with_lines-none}
@@ -186,6 +190,7 @@ touches-nothing r d (indexed name) before disk rest only = (
     leaves = edit-still d writes_of_index disk status.NoMemory (rest tt) (λ M S p same. same) only;
     opened = inr record { standing = refl; not_done = λ is. absurd (cc); missing = λ is told. absurd (cc) };
   },
+  tt,
 )
 touches-nothing r d nothing before disk rest only = (refl, refl)
 touches-nothing r d files before disk rest only = refl
@@ -228,3 +233,17 @@ job-done (jobs.Tracks form list) sound = record { apart = sound.apart; numbers =
 job-done (jobs.Attachments list) sound = record { apart = sound.apart; numbers = sound.from }
 job-done (jobs.Cues list) sound = record { apart = sound.apart; numbers = tt }
 job-done (jobs.Chapters name) sound = record { apart = (tt, tt); numbers = tt }
+
+-- without memory nothing was read, whatever was asked for
+pub reads-nothing : (names : Names) (disk : Option DiskWorld) (asked : Result Command Usage) (count : ℕ) → ReadsWithinAfter names disk asked count count
+reads-nothing names disk (Ok (Help about)) count = refl
+reads-nothing names disk (Ok Version) count = refl
+reads-nothing names disk (Ok (Info file)) count = λ world told. omega arith
+reads-nothing names disk (Ok (Identify file)) count = λ world told. omega arith
+reads-nothing names disk (Ok (Recover file)) count = omega arith
+reads-nothing names disk (Ok (Reindex file)) count = λ world told. omega arith
+reads-nothing names disk (Ok (Generate n prefix)) count = λ world told. omega arith
+reads-nothing names disk (Ok (Extract file job)) count = λ world told. omega arith
+reads-nothing names disk (Ok (Propedit file edits)) count = λ world told. omega arith
+reads-nothing names disk (Ok (Merge words)) count = λ world told. omega arith
+reads-nothing names disk (Err usage) count = refl

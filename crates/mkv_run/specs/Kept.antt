@@ -1,4 +1,4 @@
--- What an edit in place keeps of a file: RFC 9559, section 5.1 (Segment Element).
+-- What an edit or a new index keeps of a file: RFC 9559, section 5.1 (Segment Element).
 use Rattle.std.specs.Prelude.{◌≡◌, ◌≤◌, ⊤, ℕ, List, All, length, Ok}
 use Rattle.ebml_numbers.specs.Number.{AreOctets}
 use Rattle.mkv_schema.specs.Outline.{segment_run}
@@ -10,6 +10,9 @@ use Rattle.edit_changes.specs.declared.trees.Trees.{Trees}
 use Rattle.edit_changes.specs.Change.{edited_trees}
 use Rattle.edit_changes.specs.Records.{EditableFile, editable}
 use Rattle.edit_laws.specs.Laws.{HoldsEdited, IsOutside}
+use Rattle.reindex.specs.Index.{indexable}
+use Rattle.reindex.specs.Plan.{Index, index_of}
+use Rattle.edit_laws.specs.IndexLaws.{HoldsIndex}
 use Rattle.mkv_lines.specs.declared.status.Status.{Status}
 use Rattle.mkv_lines.specs.declared.status.Status.TheVariants.{Done}
 
@@ -26,3 +29,17 @@ pub record KeepsRest (edits : List Edit) (old new : List ℕ) : Type 0 where
 abbrev pub EditKeepsRest : {D : Type 0} → Ghosts D → List Edit → D → D → Status → Type 0
 EditKeepsRest d edits old new Done = OfReads d old (λ M S. KeepsRest edits M (d.pair new).media.reads)
 EditKeepsRest d edits old new s = ⊤
+
+-- A content could be indexed, and with its new index it holds what it held, and the points of the index. That is so where it is octets,
+-- 2^48 at most, and at level 1 neither a Timestamp nor a block stands.
+pub record HasNewIndex (old new : List ℕ) : Type 0 where
+  pub file : EditableFile
+  pub index : Index
+  pub indexable : indexable old ≡ Ok file
+  pub made : index_of old ≡ Ok index
+  pub holds : AreOctets old → length old ≤ LONGEST_FILE → All IsOutside (segment_run old file.outline.segment).list → HoldsIndex old new file index.points
+
+-- So it is of the medium of a disk after its index was made.
+abbrev pub IndexKeepsRest : {D : Type 0} → Ghosts D → D → D → Status → Type 0
+IndexKeepsRest d old new Done = OfReads d old (λ M S. HasNewIndex M (d.pair new).media.reads)
+IndexKeepsRest d old new s = ⊤

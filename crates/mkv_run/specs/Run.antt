@@ -1,5 +1,5 @@
 -- What the words of a command line come to.
-use Rattle.std.specs.Prelude.{◌≤◌, ⊤, IfOk, ℕ, ◌+◌, List, [], ◌∷◌, length, Option, Some, option_map, Result, Ok, Err}
+use Rattle.std.specs.Prelude.{◌≡◌, ◌≤◌, ⊤, IfOk, ℕ, ◌+◌, List, [], ◌∷◌, length, Option, Some, option_map, Result, Ok, Err}
 use Rattle.mkv_io.specs.Names.{Names}
 use Rattle.mkv_io.specs.Told.{Told}
 use Rattle.word_values.specs.Why.{why_name}
@@ -12,17 +12,20 @@ use Rattle.mkv_lines.specs.Line.{word_line}
 use Rattle.mkv_lines.specs.Verdict.{Verdict, done, refused}
 use Rattle.mkv_lines.specs.declared.status.Status.{Status}
 use Rattle.mkv_lines.specs.declared.status.Stop.{Stop}
+use Rattle.mkv_info.specs.Bound.{most_to_tell}
 use Rattle.mkv_info.specs.Info.{info_verdict}
 use Rattle.mkv_info.specs.declared.info.Form.TheVariants.{Lines, Json}
-use Rattle.mkv_propedit.specs.Bound.{most_to_edit}
+use Rattle.mkv_propedit.specs.Bound.{most_to_edit, most_to_recover}
 use Rattle.mkv_propedit.specs.Recover.{DiskWorld, verdict_on}
 use Rattle.mkv_propedit.specs.Propedit.{propedit_on}
 use Rattle.mkv_propedit.specs.Reindex.{most_to_reindex, reindex_on}
+use Rattle.mkv_extract.specs.Bound.{most_to_extract}
 use Rattle.mkv_extract.specs.Extract.{extract_verdict}
+use Rattle.generator.specs.Bound.{most_to_generate}
 use Rattle.generator.specs.Generate.{generate_verdict}
 use Rattle.mkv_merge.specs.Bound.{most_read}
 use Rattle.mkv_merge.specs.Merge.{merge_verdict, sources_of}
-use Rattle.mkv_merge.specs.Records.{EndsWithRecords}
+use Rattle.mkv_merge.specs.Records.{EndsReadable}
 
 -- the first word that is wrong, and why
 abbrev pub usage_line : Usage → List ℕ
@@ -52,25 +55,35 @@ verdict_in names disk words = verdict_after names disk (command words)
 
 -- ---- how much is read
 
--- Of a merge the count of octets read rises by at most its bound, where the names tell, and of edits in place by at most theirs, where the
--- disk tells. Of other commands no bound is stated.
+-- The count of octets read rises by at most a command's bound: where the names tell, or for an edit in place the disk. Recovering a
+-- file reads no more than a record may have, however long the file is; for help and the version nothing is read.
 abbrev pub ReadsWithin : Names → Option DiskWorld → Command → ℕ → ℕ → Type 0
-ReadsWithin names disk (Merge words) before now = Told names (λ world. now ≤ before + most_read world words)
-ReadsWithin names disk (Propedit file edits) before now = Told disk (λ world. now ≤ before + most_to_edit (length world.media))
+ReadsWithin names disk (Help about) before now = now ≡ before
+ReadsWithin names disk Version before now = now ≡ before
+ReadsWithin names disk (Info file) before now = Told names (λ world. now ≤ before + most_to_tell Lines world file)
+ReadsWithin names disk (Identify file) before now = Told names (λ world. now ≤ before + most_to_tell Json world file)
+ReadsWithin names disk (Recover file) before now = now ≤ before + most_to_recover
 ReadsWithin names disk (Reindex file) before now = Told disk (λ world. now ≤ before + most_to_reindex (length world.media))
-ReadsWithin names disk _ before now = ⊤
+ReadsWithin names disk (Generate n prefix) before now = Told names (λ world. now ≤ before + most_to_generate n prefix)
+ReadsWithin names disk (Extract file job) before now = Told names (λ world. now ≤ before + most_to_extract world file job)
+ReadsWithin names disk (Propedit file edits) before now = Told disk (λ world. now ≤ before + most_to_edit (length world.media))
+ReadsWithin names disk (Merge words) before now = Told names (λ world. now ≤ before + most_read world words)
 
--- the same of the words of a command line; of words that are no command none is stated
+-- the same of words that were read; for those that are no command nothing is read
+abbrev pub ReadsWithinAfter : Names → Option DiskWorld → Result Command Usage → ℕ → ℕ → Type 0
+ReadsWithinAfter names disk (Ok command) before now = ReadsWithin names disk command before now
+ReadsWithinAfter names disk (Err usage) before now = now ≡ before
+
 abbrev pub ReadsWithinIn : Names → Option DiskWorld → List (List ℕ) → ℕ → ℕ → Type 0
-ReadsWithinIn names disk words before now = IfOk (command words) (λ (c : Command). ReadsWithin names disk c before now)
+ReadsWithinIn names disk words before now = ReadsWithinAfter names disk (command words) before now
 
--- ---- the records of a merge
+-- ---- what a merge has written
 
--- What a merge that ended by itself gives besides tracks and blocks can be read again, where the names tell.
-abbrev pub MergesRecords : Names → Command → Result Status Stop → Type 0
-MergesRecords names (Merge words) r = Told names (λ world. EndsWithRecords (sources_of world words) r)
-MergesRecords names _ r = ⊤
+-- What a merge has written that ended by itself can be read again, where the names are told.
+abbrev pub MergesReadable : Names → Command → Result Status Stop → Type 0
+MergesReadable names (Merge words) r = Told names (λ world. EndsReadable words (sources_of world words) r)
+MergesReadable names _ r = ⊤
 
 -- the same of the words of a command line
-abbrev pub MergesRecordsIn : Names → List (List ℕ) → Result Status Stop → Type 0
-MergesRecordsIn names words r = IfOk (command words) (λ (c : Command). MergesRecords names c r)
+abbrev pub MergesReadableIn : Names → List (List ℕ) → Result Status Stop → Type 0
+MergesReadableIn names words r = IfOk (command words) (λ (c : Command). MergesReadable names c r)

@@ -11,7 +11,7 @@ use Rattle.sidecar_edit.specs.Recovering.{IsRecovering}
 use Rattle.mkv_propedit.specs.Recovery.{IsRecoveryOf}
 use Rattle.mkv_propedit.specs.Left.{IsBeingEdited, IsEditOf, writes_of_edits}
 use Rattle.mkv_propedit.specs.Reindex.{writes_of_index}
-use Rattle.mkv_run.specs.Kept.{EditKeepsRest}
+use Rattle.mkv_run.specs.Kept.{EditKeepsRest, IndexKeepsRest}
 
 -- What a run reaches: nothing, as for help or words that are refused; files; or a file in place, that is recovered, edited, or indexed anew.
 pub data Reach : Type 0 where
@@ -48,13 +48,13 @@ IsInPlace (edited file edits) = ⊤
 IsInPlace (indexed file) = ⊤
 
 -- What isn't reached is left as it is: by an edit in place the files, by what else is done the disk, and both by what reaches nothing.
--- Of a file that is edited the rest is kept.
+-- Of a file that is edited or indexed the rest is kept.
 abbrev pub Touches : {F D : Type 0} → reads.Ghosts D → disks.Ghosts D → Reach → F → F → D → D → Status → Type 0
 Touches r d nothing old new disk disk_now s = (new ≡ old) × (disk_now ≡ disk)
 Touches r d files old new disk disk_now s = disk_now ≡ disk
 Touches r d (recovered file) old new disk disk_now s = (new ≡ old) × IsRecoveryOf r d file disk disk_now s
 Touches r d (edited file edits) old new disk disk_now s = (new ≡ old) × IsEditOf r d file (writes_of_edits edits) disk disk_now s × EditKeepsRest d edits disk disk_now s
-Touches r d (indexed file) old new disk disk_now s = (new ≡ old) × IsEditOf r d file writes_of_index disk disk_now s
+Touches r d (indexed file) old new disk disk_now s = (new ≡ old) × IsEditOf r d file writes_of_index disk disk_now s × IndexKeepsRest d disk disk_now s
 
 -- What a crash at any moment of it may leave of a file M beside a sidecar S.
 abbrev pub LeftOnTheWay : Reach → List ℕ → List ℕ → List ℕ → List ℕ → Type 0

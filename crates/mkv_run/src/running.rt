@@ -16,12 +16,12 @@ ghost use Rattle.mkv_propedit.specs.Recover.{disk_world};
 ghost use Rattle.word_values.specs.Place.{texts};
 ghost use Rattle.merged_outputs.specs.Merge.{MergesWell};
 ghost use Rattle.mkv_run.specs.Ends.{Ends};
-ghost use Rattle.mkv_run.specs.Run.{MergesRecords, MergesRecordsIn, ReadsWithin, ReadsWithinIn, verdict_in, verdict_of};
+ghost use Rattle.mkv_run.specs.Run.{MergesReadable, MergesReadableIn, ReadsWithin, ReadsWithinIn, verdict_in, verdict_of};
 ghost use Rattle.mkv_run.specs.RunSeen.{HasRunStop, HasStatusCause, run_seen};
 ghost use Rattle.mkv_run.specs.Touched.{IsInPlace, LeftOnTheWay, Touches, reach_in, reach_of};
 
 use crate::help::{help, version};
-use edit_laws::edits_change_nothing_else;
+use edit_laws::{edits_change_nothing_else, new_index_is_whole};
 use generator::generate_of;
 use mkv_args::{ArgsEnd, Command, read_words};
 use mkv_disk::Disk;
@@ -62,12 +62,12 @@ pub fn run<F: Files, D: Disk, R: Report>(
     // No file stays open, and none is closed.
     ensures closed { (file : ℕ) → (live_files F.Reads files.new).live file ≡ (live_files F.Reads files.old).live file }
 
-    // What a merge or an edit in place may read, of files and of the disk together; of other commands no bound is stated.
+    // What a command may read, of files and of the disk together.
     ensures octets { ReadsWithinIn (F.names files.old) (disk_world D.Disk.own disk.old) (texts words.now.items)
         (F.octets_read files.old + D.octets_read disk.old) (F.octets_read files.new + D.octets_read disk.new) }
 
     // An edit in place leaves the files as they are, and all else the disk; help and words that are refused leave both. What
-    // is edited keeps the rest of the file.
+    // is edited or indexed keeps the rest of the file.
     ensures touches { Touches D.Reads D.Disk.own (reach_in (command (texts words.now.items))) files.old files.new disk.old disk.new result }
 
     // What a crash at any moment leaves of the two files of the disk, where nothing was pending: after an edit they come to
@@ -107,7 +107,7 @@ fn carry_out<F: Files, D: Disk, R: Report>(
         (run_seen F.Reads F.Files.own D.Reads D.Disk.own R.Report files.old disk.old report.old)
         (run_seen F.Reads F.Files.own D.Reads D.Disk.own R.Report files.new disk.new report.new) result }
     ensures closed { (file : ℕ) → (live_files F.Reads files.new).live file ≡ (live_files F.Reads files.old).live file }
-    ensures records { MergesRecordsIn (F.names files.old) (texts words.now.items) result }
+    ensures readable { MergesReadableIn (F.names files.old) (texts words.now.items) result }
     ensures octets { ReadsWithinIn (F.names files.old) (disk_world D.Disk.own disk.old) (texts words.now.items)
         (F.octets_read files.old + D.octets_read disk.old) (F.octets_read files.new + D.octets_read disk.new) }
     ensures touches { Touches D.Reads D.Disk.own (reach_in (command (texts words.now.items))) files.old files.new disk.old disk.new (status_of result) }
@@ -137,7 +137,7 @@ fn obey<F: Files, D: Disk, R: Report>(
         (run_seen F.Reads F.Files.own D.Reads D.Disk.own R.Report files.old disk.old report.old)
         (run_seen F.Reads F.Files.own D.Reads D.Disk.own R.Report files.new disk.new report.new) result }
     ensures closed { (file : ℕ) → (live_files F.Reads files.new).live file ≡ (live_files F.Reads files.old).live file }
-    ensures records { MergesRecords (F.names files.old) command.now result }
+    ensures readable { MergesReadable (F.names files.old) command.now result }
     ensures octets { ReadsWithin (F.names files.old) (disk_world D.Disk.own disk.old) command.now
         (F.octets_read files.old + D.octets_read disk.old) (F.octets_read files.new + D.octets_read disk.new) }
     ensures touches { Touches D.Reads D.Disk.own (reach_of command.now) files.old files.new disk.old disk.new (status_of result) }
@@ -148,7 +148,10 @@ fn obey<F: Files, D: Disk, R: Report>(
         Command::Info { file } => info_of(alloc, Form::Lines, file.as_str(), files, report),
         Command::Identify { file } => info_of(alloc, Form::Json, file.as_str(), files, report),
         Command::Recover { file } => recover_of(alloc, file.as_str(), disk, report),
-        Command::Reindex { file } => reindex_of(alloc, file.as_str(), disk, report),
+        Command::Reindex { file } => {
+            new_index_is_whole();
+            reindex_of(alloc, file.as_str(), disk, report)
+        }
         Command::Propedit { file, edits } => {
             edits_change_nothing_else();
             propedit_of(alloc, file.as_str(), edits, disk, report)

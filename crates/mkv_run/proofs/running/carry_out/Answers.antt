@@ -1,12 +1,14 @@
-use Rattle.std.proofs.Common.{Result, refl, sym, subst}
+use Rattle.std.proofs.Common.{◌+◌, Result, refl, sym, subst}
 use Rattle.mkv_lines.specs.Seen.{seen}
 use Rattle.mkv_lines.proofs.VerdictLemmas.{IsStopped-before}
 use Rattle.mkv_args.specs.Words.{command}
 use Rattle.mkv_args.specs.declared.command.Command.{Command}
+use Rattle.mkv_propedit.specs.Recover.{disk_world}
 use Rattle.word_values.specs.Place.{texts}
 use Rattle.word_values.specs.declared.usage.Usage.{Usage}
+use Rattle.mkv_run.specs.Run.{ReadsWithinAfter}
 use Rattle.mkv_run.specs.Touched.{IsInPlace, reach_in}
-use Rattle.mkv_run.proofs.RunLemmas.{touches-nothing}
+use Rattle.mkv_run.proofs.RunLemmas.{reads-nothing, touches-nothing}
 use Rattle.mkv_run.proofs.running.carry_out.Goals as goal
 
 -- there was no memory for the words
@@ -23,3 +25,18 @@ returns-in-Err-Memory-clause-touches g c =
 pub obey-requires-clause-at_rest : goal.obey-requires-clause-at_rest
 obey-requires-clause-at_rest g c = λ place.
     c.requires (subst (λ (asked : Result Command Usage). IsInPlace (reach_in asked)) (sym c.in-Ok.ensures.exact) place)
+
+pub returns-in-Err-Memory-clause-octets : goal.returns-in-Err-Memory-clause-octets
+returns-in-Err-Memory-clause-octets g c =
+    reads-nothing (g.F.Files.names c.args.files.now) (disk_world g.D.Disk c.args.disk.now) (command (texts c.args.words.now.items)) (g.F.Reads.octets_read c.args.files.now + g.D.Reads.octets_read c.args.disk.now)
+
+-- nor where the words are refused
+pub returns-in-Err-Usage-clause-octets : goal.returns-in-Err-Usage-clause-octets
+returns-in-Err-Usage-clause-octets g c =
+    reads-nothing (g.F.Files.names c.args.files.now) (disk_world g.D.Disk c.args.disk.now) (command (texts c.args.words.now.items)) (g.F.Reads.octets_read c.args.files.now + g.D.Reads.octets_read c.args.disk.now)
+
+-- a command reads no more than it may
+pub returns-in-Ok-clause-octets : goal.returns-in-Ok-clause-octets
+returns-in-Ok-clause-octets g c =
+    subst (λ (asked : Result Command Usage). ReadsWithinAfter (g.F.Files.names c.args.files.now) (disk_world g.D.Disk c.args.disk.now) asked
+    (g.F.Reads.octets_read c.args.files.now + g.D.Reads.octets_read c.args.disk.now) (g.F.Reads.octets_read c.obey.new.files + g.D.Reads.octets_read c.obey.new.disk)) (sym c.in-Ok.ensures.exact) c.obey.ensures.octets

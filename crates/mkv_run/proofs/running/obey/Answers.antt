@@ -1,4 +1,4 @@
-use Rattle.std.proofs.Common.{◌+◌, ◌≤◌, List, ℕ, length, Option, sym, subst, refl}
+use Rattle.std.proofs.Common.{◌+◌, ◌≤◌, List, ℕ, length, Option, Ok, sym, subst, refl}
 use Rattle.mkv_io.specs.Told.{Told}
 use Rattle.mkv_disk.specs.Calls.{OfReads}
 use Rattle.mkv_lines.specs.Code.{status_of}
@@ -7,19 +7,23 @@ use Rattle.mkv_lines.specs.Verdict.{Reaches, SaysVerdict}
 use Rattle.mkv_lines.proofs.VerdictLemmas.{Reaches-lines}
 use Rattle.mkv_args.specs.Sound.{IsSound}
 use Rattle.mkv_args.specs.declared.command.Command.{Command}
+use Rattle.mkv_info.specs.Bound.{most_to_tell}
+use Rattle.mkv_info.specs.declared.info.Form.TheVariants.{Lines, Json}
+use Rattle.mkv_extract.specs.Bound.{most_to_extract}
 use Rattle.mkv_merge.specs.Bound.{most_read}
-use Rattle.mkv_propedit.specs.Bound.{most_to_edit}
+use Rattle.mkv_propedit.specs.Bound.{most_to_edit, most_to_recover}
 use Rattle.mkv_propedit.specs.Recover.{disk_world, recover_verdict}
 use Rattle.mkv_propedit.proofs.RecoverLemmas.{recover-outputs, verdict-told}
 use Rattle.mkv_propedit.specs.Left.{IsEditOf, writes_of_edits}
 use Rattle.mkv_propedit.specs.Propedit.{propedit_verdict}
-use Rattle.mkv_propedit.specs.Reindex.{most_to_reindex, reindex_verdict}
+use Rattle.mkv_propedit.specs.Reindex.{most_to_reindex, reindex_verdict, writes_of_index}
 use Rattle.mkv_propedit.proofs.ReindexLemmas.{index-told_on, reindex-outputs}
 use Rattle.mkv_propedit.proofs.PropeditLemmas.{edit-told, propedit-outputs}
+use Rattle.generator.specs.Bound.{most_to_generate}
 use Rattle.mkv_run.specs.Run.{ReadsWithin, verdict_of}
 use Rattle.mkv_run.specs.Touched.{IsInPlace, Touches, reach_of}
-use Rattle.mkv_run.proofs.KeptLemmas.{edit-keeps}
-use Rattle.mkv_run.proofs.RunLemmas.{disk-alone, files-alone, job-done, media-told}
+use Rattle.mkv_run.proofs.KeptLemmas.{edit-keeps, index-keeps}
+use Rattle.mkv_run.proofs.RunLemmas.{disk-alone, files-alone, job-done, media-told, reads-nothing}
 use Rattle.mkv_run.proofs.running.obey.Goals as goal
 
 pub returns-in-Recover-clause-verdict : goal.returns-in-Recover-clause-verdict
@@ -58,6 +62,48 @@ returns-in-Propedit-clause-verdict g c =
 
 -- ---- what is read
 
+pub returns-in-Help-clause-octets : goal.returns-in-Help-clause-octets
+returns-in-Help-clause-octets g c =
+    reads-nothing (g.F.Files.names c.args.files.now) (disk_world g.D.Disk c.args.disk.now) (Ok c.args.command.now) (g.F.Reads.octets_read c.args.files.now + g.D.Reads.octets_read c.args.disk.now)
+
+pub returns-in-Version-clause-octets : goal.returns-in-Version-clause-octets
+returns-in-Version-clause-octets g c =
+    reads-nothing (g.F.Files.names c.args.files.now) (disk_world g.D.Disk c.args.disk.now) (Ok c.args.command.now) (g.F.Reads.octets_read c.args.files.now + g.D.Reads.octets_read c.args.disk.now)
+
+pub returns-in-Info-clause-octets : goal.returns-in-Info-clause-octets
+returns-in-Info-clause-octets g c =
+    let disk = g.D.Reads.octets_read c.args.disk.now in let before = g.F.Reads.octets_read c.args.files.now in let now = g.F.Reads.octets_read c.info_of.new.files in
+    let most = λ (world : List ℕ → Option (List ℕ)) (name : List ℕ). now ≤ before + most_to_tell Lines world name in
+    subst (λ (asked : Command). ReadsWithin (g.F.Files.names c.args.files.now) (disk_world g.D.Disk c.args.disk.now) asked (before + disk) (now + disk)) (sym c.in-Info.is)
+    (λ world told. files-alone before now (most_to_tell Lines world c.in-Info.file) disk (subst (most world) c.as_str.ensures.same (c.info_of.ensures.octets world told)))
+
+pub returns-in-Identify-clause-octets : goal.returns-in-Identify-clause-octets
+returns-in-Identify-clause-octets g c =
+    let disk = g.D.Reads.octets_read c.args.disk.now in let before = g.F.Reads.octets_read c.args.files.now in let now = g.F.Reads.octets_read c.info_of-in-Identify.new.files in
+    let most = λ (world : List ℕ → Option (List ℕ)) (name : List ℕ). now ≤ before + most_to_tell Json world name in
+    subst (λ (asked : Command). ReadsWithin (g.F.Files.names c.args.files.now) (disk_world g.D.Disk c.args.disk.now) asked (before + disk) (now + disk)) (sym c.in-Identify.is)
+    (λ world told. files-alone before now (most_to_tell Json world c.in-Identify.file) disk (subst (most world) c.as_str-in-Identify.ensures.same (c.info_of-in-Identify.ensures.octets world told)))
+
+pub returns-in-Extract-clause-octets : goal.returns-in-Extract-clause-octets
+returns-in-Extract-clause-octets g c =
+    let disk = g.D.Reads.octets_read c.args.disk.now in let before = g.F.Reads.octets_read c.args.files.now in let now = g.F.Reads.octets_read c.extract_of.new.files in
+    let most = λ (world : List ℕ → Option (List ℕ)) (name : List ℕ). now ≤ before + most_to_extract world name c.in-Extract.job in
+    subst (λ (asked : Command). ReadsWithin (g.F.Files.names c.args.files.now) (disk_world g.D.Disk c.args.disk.now) asked (before + disk) (now + disk)) (sym c.in-Extract.is)
+    (λ world told. files-alone before now (most_to_extract world c.in-Extract.file c.in-Extract.job) disk (subst (most world) c.as_str-in-Extract.ensures.same (c.extract_of.ensures.octets world told)))
+
+pub returns-in-Generate-clause-octets : goal.returns-in-Generate-clause-octets
+returns-in-Generate-clause-octets g c =
+    let disk = g.D.Reads.octets_read c.args.disk.now in let before = g.F.Reads.octets_read c.args.files.now in let now = g.F.Reads.octets_read c.generate_of.new.files in
+    let most = λ (prefix : List ℕ). now ≤ before + most_to_generate c.in-Generate.n prefix in
+    subst (λ (asked : Command). ReadsWithin (g.F.Files.names c.args.files.now) (disk_world g.D.Disk c.args.disk.now) asked (before + disk) (now + disk)) (sym c.in-Generate.is)
+    (λ world told. files-alone before now (most_to_generate c.in-Generate.n c.in-Generate.prefix) disk (subst most c.as_str-in-Generate.ensures.same (c.generate_of.ensures.octets world told)))
+
+pub returns-in-Recover-clause-octets : goal.returns-in-Recover-clause-octets
+returns-in-Recover-clause-octets g c =
+    let files = g.F.Reads.octets_read c.args.files.now in let before = g.D.Reads.octets_read c.args.disk.now in let now = g.D.Reads.octets_read c.recover_of.new.disk in
+    subst (λ (asked : Command). ReadsWithin (g.F.Files.names c.args.files.now) (disk_world g.D.Disk c.args.disk.now) asked (files + before) (files + now)) (sym c.in-Recover.is)
+    (disk-alone before now most_to_recover files c.recover_of.ensures.octets)
+
 pub returns-in-Propedit-clause-octets : goal.returns-in-Propedit-clause-octets
 returns-in-Propedit-clause-octets g c =
     let d = g.D.Disk in let a = c.args.disk.now in
@@ -89,6 +135,14 @@ returns-in-Propedit-clause-touches g c =
     let is = subst (λ (name : List ℕ). IsEditOf g.D.Reads d name (writes_of_edits edits) a b s) c.as_str-in-Propedit.ensures.same c.propedit_of.ensures.edit in
     subst (λ (asked : Command). Touches g.D.Reads d (reach_of asked) c.args.files.now c.args.files.now a b s) (sym c.in-Propedit.is)
     (refl, is, edit-keeps d edits a b s c.edits_change_nothing_else.ensures is.leaves)
+
+-- so does what is indexed
+pub returns-in-Reindex-clause-touches : goal.returns-in-Reindex-clause-touches
+returns-in-Reindex-clause-touches g c =
+    let d = g.D.Disk in let a = c.args.disk.now in let b = c.reindex_of.new.disk in let s = status_of c.reindex_of.result in
+    let is = subst (λ (name : List ℕ). IsEditOf g.D.Reads d name writes_of_index a b s) c.as_str-in-Reindex.ensures.same c.reindex_of.ensures.edit in
+    subst (λ (asked : Command). Touches g.D.Reads d (reach_of asked) c.args.files.now c.args.files.now a b s) (sym c.in-Reindex.is)
+    (refl, is, index-keeps d a b s c.new_index_is_whole.ensures is.leaves)
 
 -- a file in place is recovered, edited, or indexed
 pub recover_of-requires : goal.recover_of-requires

@@ -69,7 +69,7 @@ pub returns-in-Ok-clause-merged : goal.returns-in-Ok-clause-merged
 returns-in-Ok-clause-merged g c =
     let before : RunSeen = run_seen g.F.Reads g.F.Files g.D.Reads g.D.Disk g.R.Report c.args.files.now c.args.disk.now c.args.report.now in
     let now : RunSeen = run_seen g.F.Reads g.F.Files g.D.Reads g.D.Disk g.R.Report c.carry_out.new.files c.carry_out.new.disk c.carry_out.new.report in
-    merges-well before now (disk_world g.D.Disk c.args.disk.now) c.args.words.now.items c.in-Ok.status c.in-Ok.ensures.records
+    merges-well before now (disk_world g.D.Disk c.args.disk.now) c.args.words.now.items c.in-Ok.status c.in-Ok.ensures.readable
     (λ verdict told. ends-done before now c.in-Ok.status verdict c.in-Ok.ensures.ordinary (c.in-Ok.ensures.verdict verdict told))
 
 -- ---- what a crash leaves
