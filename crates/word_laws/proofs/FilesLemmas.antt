@@ -1,0 +1,101 @@
+-- The files of a merge are read back, one behind the other.
+use Rattle.std.proofs.Common.{◌≡◌, ◌<◌, ◌≤◌, ℕ, ◌+◌, Bool, true, false, ◌&&◌, ◌||◌, if◌then◌else◌, List, [], ◌∷◌, ◌++◌, length, Ok, refl, ◌∙◌, arith, append_assoc, All}
+use Rattle.std.proofs.lemmas.Bool.Decides.{nat_tests}
+use Rattle.std.proofs.lemmas.List.{append-nil}
+use Rattle.std.proofs.lemmas.List.Elements.{All-head, All-tail}
+use Rattle.std.specs.Prelude.{◌==◌}
+use Rattle.std.specs.List.{flat_map}
+use Rattle.word_values.specs.declared.values.Value.TheVariants.{Name}
+use Rattle.merge_words.specs.declared.files.FileWords.{FileWords}
+use Rattle.merge_words.specs.declared.options.Subject.TheVariants as subject
+use Rattle.merge_words.specs.declared.options.Scope.{Scope}
+use Rattle.merge_words.specs.declared.options.Scope.TheVariants as scope
+use Rattle.merge_words.specs.Items.{files_in, stands, is_file, since_file, latest}
+use Rattle.merge_words.specs.Files.{file, files}
+use Rattle.merge_words.specs.Merge.{starts, read_all}
+use Rattle.merge_words.specs.Sound.{IsSoundFile}
+use Rattle.word_laws.specs.SpelledMerge.{file_words}
+use Rattle.word_laws.specs.SpellableMerge.{IsMergeFile}
+use Rattle.word_laws.proofs.SayingLemmas.{Item, Piece, item, piece_items, after_pieces, other_stands}
+use Rattle.word_laws.proofs.GroupLemmas.{both_hold, among, AreFree}
+use Rattle.word_laws.proofs.FileLemmas.{group, file_items, after_file, file_read, counted_both, same_count}
+use Rattle.word_laws.proofs.OwnLemmas.{group_says, file_is}
+
+-- ---- behind a file nothing is said yet
+latest_file : (before items : List Item) (i : Item) → is_file i ≡ true → latest before (items ++ i ∷ []) ≡ []
+latest_file before [] i named = rw named refl
+latest_file before (x ∷ xs) i named =
+    elim (is_file x) as (λ b. (if b then latest [] (xs ++ i ∷ []) else latest (before ++ x ∷ []) (xs ++ i ∷ [])) ≡ []) [
+      | true ↦ latest_file [] xs i named
+      | false ↦ latest_file (before ++ x ∷ []) xs i named
+    ]
+
+pub none_since : (before : List Item) (at : ℕ) (f : FileWords) → since_file (before ++ file_items at f) ≡ []
+unfolding since_file
+none_since before at f =
+    let last = item (after_pieces at (group f)) subject.File scope.Output (Name f.name) in
+    rw (← append_assoc before (piece_items at (group f)) (last ∷ [])) (latest_file [] (before ++ piece_items at (group f)) last refl)
+
+abbrev in_file : Scope → Bool
+in_file scope.Output = false
+in_file scope.File = true
+in_file scope.Track = true
+
+abbrev in_files : List Piece → Bool
+in_files [] = true
+in_files (p ∷ ps) = in_file p.scope && in_files ps
+
+none_among : (before : List Item) (c : Scope) → since_file before ≡ [] → in_file c ≡ true → among c before ≡ []
+none_among before scope.Output none is = absurd (cc)
+none_among before scope.File none is = none
+none_among before scope.Track none is = none
+
+all_free : (before : List Item) (ps : List Piece) → since_file before ≡ [] → in_files ps ≡ true → AreFree before ps
+all_free before [] none are = tt
+all_free before (p ∷ ps) none are =
+    let parts = both_hold (in_file p.scope) (in_files ps) are in
+    (rw (none_among before p.scope none parts.0) refl, all_free before ps none parts.1)
+
+-- ---- all files are read
+abbrev pub files_items : ℕ → List FileWords → List Item
+files_items at [] = []
+files_items at (f ∷ fs) = file_items at f ++ files_items (after_file at f) fs
+
+pub one_counted : (before : List Item) (at : ℕ) (f : FileWords) → files_in (before ++ file_items at f) ≡ files_in before + 1
+one_counted before at f =
+    let last = item (after_pieces at (group f)) subject.File scope.Output (Name f.name) in
+    let first = same_count before (piece_items at (group f)) (other_stands at subject.File (group f) refl) in
+    let both = counted_both (before ++ piece_items at (group f)) (last ∷ []) in
+    rw (← append_assoc before (piece_items at (group f)) (last ∷ [])) (both ∙ rw first refl)
+
+pub files_read : (fs : List FileWords) (count : ℕ) (before : List Item) (at : ℕ) → All IsSoundFile fs → All IsMergeFile fs → 0 < files_in before → files_in before + length fs ≤ 64 → since_file before ≡ []
+    → read_all count before (starts at (flat_map file_words fs)) ≡ Ok (before ++ files_items at fs)
+files_read [] count before at sound are some few none = rw (append-nil before) refl
+files_read (f ∷ fs) count before at sound are some few none =
+    let joins : (files_in before == 0) ≡ false = grind (arith, nat_tests) in
+    let here = file_read count before at f (flat_map file_words fs) (All-head IsSoundFile f fs sound) (All-head IsMergeFile f fs are) (λ is. joins) (omega arith) (all_free before (group f) none refl) in
+    let one = one_counted before at f in
+    let next = files_read fs count (before ++ file_items at f) (after_file at f) (All-tail IsSoundFile f fs sound) (All-tail IsMergeFile f fs are) (omega arith) (omega arith) (none_since before at f) in
+    here ∙ (next ∙ rw (append_assoc before (file_items at f) (files_items (after_file at f) fs)) refl)
+
+-- ---- and are what they were spelled from
+pub files_behind : (front own rest : List Item) → stands subject.File own ≡ false → files front (own ++ rest) ≡ files (front ++ own) rest
+files_behind front [] rest none = rw (append-nil front) refl
+files_behind front (i ∷ is) rest none = split (is_file i) refl none (λ h. files_behind (front ++ i ∷ []) is rest h)
+  where
+    split : (b : Bool) → is_file i ≡ b → (b || stands subject.File is) ≡ false → (stands subject.File is ≡ false → files (front ++ i ∷ []) (is ++ rest) ≡ files ((front ++ i ∷ []) ++ is) rest)
+        → files front ((i ∷ is) ++ rest) ≡ files (front ++ i ∷ is) rest
+    split true named none more = absurd (cc)
+    split false named none more = rw named (more none ∙ rw (append_assoc front (i ∷ []) is) refl)
+
+pub files_first : (front : List Item) (at : ℕ) (f : FileWords) (rest : List Item) → files front (file_items at f ++ rest) ≡ file (front ++ piece_items at (group f)) (Name f.name) ∷ files [] rest
+files_first front at f rest =
+    let own = piece_items at (group f) in
+    let last = item (after_pieces at (group f)) subject.File scope.Output (Name f.name) in
+    rw (append_assoc own (last ∷ []) rest) (files_behind front own (last ∷ rest) (other_stands at subject.File (group f) refl))
+
+pub files_are : (fs : List FileWords) (at : ℕ) → All IsMergeFile fs → files [] (files_items at fs) ≡ fs
+files_are [] at are = refl
+files_are (f ∷ fs) at are =
+    let is = All-head IsMergeFile f fs are in
+    files_first [] at f (files_items (after_file at f) fs) ∙ rw (file_is f (group f) at (group_says f) is.named) (rw (files_are fs (after_file at f) (All-tail IsMergeFile f fs are)) refl)

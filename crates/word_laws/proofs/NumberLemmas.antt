@@ -1,0 +1,102 @@
+-- Numbers in decimal digits are read back.
+use Rattle.std.proofs.Common.{◌≡◌, ℕ, suc, ◌+◌, ◌^◌, ◌<◌, ◌≤◌, Bool, true, false, not, ◌&&◌, nat_lt, nat_le, List, [], ◌∷◌, ◌++◌, length, take, drop, Some, refl, arith, eqb-true}
+use Rattle.std.proofs.lemmas.Grind.{common_steps}
+use Rattle.std.proofs.lemmas.Bool.Decides.{nat_tests}
+use Rattle.std.proofs.lemmas.Fmt.{decimal_is_IsNumeral, decimal_nonempty, length-decimal-le}
+use Rattle.std.specs.Prelude.{◌==◌, slice_index}
+use Rattle.std.specs.List.{list_all, position_or_len}
+use Rattle.std.specs.Char.{is_ascii_digit, digit_value}
+use Rattle.std.specs.Str.Parse.{AllDigits}
+use Rattle.std.specs.Fmt.{decimal}
+use Rattle.word_values.specs.Numbers.{cut, whole, number}
+use Rattle.word_values.specs.Values.{track_and_rest}
+use Rattle.word_laws.specs.Values.{HasFewDigits, with_number, lacks}
+
+-- ---- the digits of a number
+value_digit : (c : ℕ) → digit_value c < 10 → is_ascii_digit c ≡ true
+value_digit c small = grind (arith, nat_tests, common_steps)
+
+all_digits : (ds : List ℕ) → AllDigits 10 ds → list_all is_ascii_digit ds ≡ true
+all_digits [] all = refl
+all_digits (c ∷ cs) all = rw (value_digit c all.0, all_digits cs all.1) refl
+
+pub decimal_all : (n : ℕ) → n < 2 ^ 64 → list_all is_ascii_digit (decimal n) ≡ true
+decimal_all n small = all_digits (decimal n) (decimal_is_IsNumeral n small).0.1
+
+pub whole_read : (n : ℕ) → n < 2 ^ 64 → whole (decimal n) ≡ Some n
+unfolding whole
+whole_read n small =
+    let some : nat_lt 0 (length (decimal n)) ≡ true = (let h = decimal_nonempty n small in grind (arith, nat_tests)) in
+    rw (some, decimal_all n small, (decimal_is_IsNumeral n small).1) refl
+
+pub short_fits : (n : ℕ) → HasFewDigits n → n < 2 ^ 64
+short_fits n short = omega arith
+
+pub short_length : (n : ℕ) → HasFewDigits n → length (decimal n) ≤ 18
+short_length n short = length-decimal-le 18 n (omega arith) short (short_fits n short)
+
+pub number_read : (n : ℕ) → HasFewDigits n → number (decimal n) ≡ Some n
+unfolding number
+number_read n short =
+    let few : nat_le (length (decimal n)) 18 ≡ true = (let h = short_length n short in grind (arith, nat_tests)) in
+    rw few (whole_read n (short_fits n short))
+
+-- ---- digits are no other octet
+pub digit_is_not : (o b : ℕ) → is_ascii_digit o ≡ false → is_ascii_digit b ≡ true → (b == o) ≡ false
+digit_is_not o b other is = split (b == o) refl
+  where
+    split : (c : Bool) → (b == o) ≡ c → (b == o) ≡ false
+    split true same = let e : b ≡ o = eqb-true b o same in absurd (cc)
+    split false same = same
+
+pub digits_lack : (o : ℕ) (ds : List ℕ) → is_ascii_digit o ≡ false → list_all is_ascii_digit ds ≡ true → lacks o ds ≡ true
+digits_lack o [] other all = refl
+digits_lack o (b ∷ bs) other all = split (is_ascii_digit b) refl all (λ h. digits_lack o bs other h)
+  where
+    split : (c : Bool) → is_ascii_digit b ≡ c → (c && list_all is_ascii_digit bs) ≡ true → (list_all is_ascii_digit bs ≡ true → lacks o bs ≡ true) → lacks o (b ∷ bs) ≡ true
+    split true is all more = let no = digit_is_not o b other is in let r = more all in rw (no, r) refl
+    split false is all more = absurd (cc)
+
+pub decimal_lacks : (o n : ℕ) → is_ascii_digit o ≡ false → n < 2 ^ 64 → lacks o (decimal n) ≡ true
+decimal_lacks o n other small = digits_lack o (decimal n) other (decimal_all n small)
+
+-- the first octet of digits is no other octet, whatever stands behind them
+pub first_other : (o : ℕ) (ds rest : List ℕ) → is_ascii_digit o ≡ false → 0 < length ds → list_all is_ascii_digit ds ≡ true → (slice_index (ds ++ rest) 0 == o) ≡ false
+first_other o [] rest other some all = absurd (omega arith)
+first_other o (d ∷ ds) rest other some all = split (is_ascii_digit d) refl all
+  where
+    split : (c : Bool) → is_ascii_digit d ≡ c → (c && list_all is_ascii_digit ds) ≡ true → (d == o) ≡ false
+    split true is all = digit_is_not o d other is
+    split false is all = absurd (cc)
+
+-- ---- what stands before and behind the first such octet
+same_octet : (o : ℕ) → (o == o) ≡ true
+same_octet o = grind (arith, nat_tests)
+
+first_at : (o : ℕ) (w rest : List ℕ) → lacks o w ≡ true → position_or_len (λ b. b == o) (w ++ (o ∷ rest)) ≡ length w
+first_at o [] rest none = rw (same_octet o) refl
+first_at o (b ∷ bs) rest none = split (b == o) refl none (λ h. first_at o bs rest h)
+  where
+    split : (c : Bool) → (b == o) ≡ c → (not c && lacks o bs) ≡ true → (lacks o bs ≡ true → position_or_len (λ d. d == o) (bs ++ (o ∷ rest)) ≡ length bs)
+        → position_or_len (λ d. d == o) ((b ∷ bs) ++ (o ∷ rest)) ≡ length (b ∷ bs)
+    split true is none more = absurd (cc)
+    split false is none more = let r = more none in rw (is, r) (omega arith)
+
+drop_behind : (w : List ℕ) (o : ℕ) (rest : List ℕ) → drop (length w + 1) (w ++ (o ∷ rest)) ≡ rest
+drop_behind [] o rest = refl
+drop_behind (b ∷ bs) o rest = let e : suc (length bs) + 1 ≡ suc (length bs + 1) = omega arith in rw e (drop_behind bs o rest)
+
+pub cut_behind : (o : ℕ) (w rest : List ℕ) → lacks o w ≡ true → cut o (w ++ (o ∷ rest)) ≡ Some (w, rest)
+unfolding cut
+cut_behind o w rest none =
+    let at = first_at o w rest none in
+    let within : nat_lt (length w) (length (w ++ (o ∷ rest))) ≡ true = grind (arith, nat_tests, common_steps) in
+    let front : take (length w) (w ++ (o ∷ rest)) ≡ w = grind (arith, common_steps) in
+    let back : drop (length w + 1) (w ++ (o ∷ rest)) ≡ rest = drop_behind w o rest in
+    rw (at, within, front, back) refl
+
+-- ---- a number, and what is said of it
+pub numbered_read : (n : ℕ) (rest : List ℕ) → HasFewDigits n → track_and_rest (with_number n rest) ≡ Some (n, rest)
+unfolding track_and_rest
+numbered_read n rest short =
+    rw (cut_behind 58 (decimal n) rest (decimal_lacks 58 n refl (short_fits n short)), number_read n short) refl

@@ -1,0 +1,121 @@
+-- Commands of one to three words are read back.
+use Rattle.std.proofs.Common.{◌≡◌, ◌≢◌, ℕ, Bool, true, false, ◌&&◌, nat_lt, nat_le, List, [], ◌∷◌, codes, Some, None, Ok, refl, ap, ◌∙◌, arith}
+use Rattle.std.proofs.lemmas.Bool.Decides.{nat_tests}
+use Rattle.std.proofs.lemmas.Slice.Eq.{bytes_eq-Decides}
+use Rattle.std.specs.Str.{bytes_eq}
+use Rattle.std.specs.Fmt.{decimal}
+use Rattle.word_values.specs.Place.{is_option}
+use Rattle.word_values.specs.Sound.{IsWithin}
+use Rattle.mkv_args.specs.declared.command.Command.TheVariants as commands
+use Rattle.mkv_args.specs.declared.commands.Verb.{Verb}
+use Rattle.mkv_args.specs.declared.commands.Verb.TheVariants as verb
+use Rattle.mkv_args.specs.Entry.{meant}
+use Rattle.mkv_args.specs.Commands.{commands as verbs}
+use Rattle.mkv_args.specs.Merge.{identify, merge}
+use Rattle.mkv_args.specs.Words.{alone, blocks_at, command, command_named, first_command, generate, helped, info, is_short_help, only_file, recover, reindex}
+use Rattle.word_laws.specs.Spelled.{verb_word}
+use Rattle.word_laws.specs.Names.{IsFile, IsInput}
+use Rattle.word_laws.specs.Spellable.{HasHelp}
+use Rattle.word_laws.proofs.NumberLemmas.{number_read}
+
+-- ---- words that are another word
+pub other_word : (a b : List ℕ) → a ≢ b → bytes_eq a b ≡ false
+other_word a b other = split (bytes_eq a b) refl
+  where
+    split : (c : Bool) → bytes_eq a b ≡ c → bytes_eq a b ≡ false
+    split true is = absurd (other ((bytes_eq-Decides a b).0 is))
+    split false is = is
+
+-- a file's name is no option
+pub no_option : (name option : List ℕ) → IsFile name → is_option option ≡ true → bytes_eq name option ≡ false
+no_option name option file is = other_word name option (λ same. let e : is_option name ≡ true = ap is_option same ∙ is in cc)
+
+pub and_false : (a : Bool) → (a && false) ≡ false
+and_false true = refl
+and_false false = refl
+
+-- ---- the command that the first word names
+by_first : (v : Verb) (rest : List (List ℕ)) → meant verbs (verb_word v) ≡ Some v
+unfolding verbs
+by_first verb.Info rest = refl
+by_first verb.Merge rest = refl
+by_first verb.Extract rest = refl
+by_first verb.Propedit rest = refl
+by_first verb.Recover rest = refl
+by_first verb.Reindex rest = refl
+by_first verb.Generate rest = refl
+by_first verb.Help rest = refl
+by_first verb.Version rest = refl
+
+no_short_help : (v : Verb) (rest : List (List ℕ)) → is_short_help (verb_word v ∷ rest) ≡ false
+no_short_help verb.Info rest = refl
+no_short_help verb.Merge rest = refl
+no_short_help verb.Extract rest = refl
+no_short_help verb.Propedit rest = refl
+no_short_help verb.Recover rest = refl
+no_short_help verb.Reindex rest = refl
+no_short_help verb.Generate rest = refl
+no_short_help verb.Help rest = refl
+no_short_help verb.Version rest = refl
+
+pub by_verb : (v : Verb) (rest : List (List ℕ)) → helped (verb_word v ∷ rest) ≡ None → command (verb_word v ∷ rest) ≡ command_named (Some v) (verb_word v ∷ rest)
+unfolding command first_command
+by_verb v rest none = rw (no_short_help v rest) (rw none (rw (by_first v rest) refl))
+
+-- no help is asked for where a file stands, or more than two words
+file_helps_none : (first file : List ℕ) → IsFile file → helped (first ∷ file ∷ []) ≡ None
+file_helps_none first file plain = rw (no_option file (codes "--help") plain refl) refl
+
+pub more_help_none : (first second third : List ℕ) (rest : List (List ℕ)) → helped (first ∷ second ∷ third ∷ rest) ≡ None
+more_help_none first second third rest = rw (and_false (bytes_eq second (codes "--help"))) refl
+
+-- ---- commands of one file
+only_file_read : (first file : List ℕ) → IsFile file → only_file (first ∷ file ∷ []) ≡ Ok file
+unfolding only_file
+only_file_read first file plain = rw plain refl
+
+pub info_read : (file : List ℕ) → IsFile file → command (codes "info" ∷ file ∷ []) ≡ Ok (commands.Info file)
+unfolding command_named info
+info_read file plain = by_verb verb.Info (file ∷ []) (file_helps_none (codes "info") file plain) ∙ rw (only_file_read (codes "info") file plain) refl
+
+pub recover_read : (file : List ℕ) → IsFile file → command (codes "recover" ∷ file ∷ []) ≡ Ok (commands.Recover file)
+unfolding command_named recover
+recover_read file plain = by_verb verb.Recover (file ∷ []) (file_helps_none (codes "recover") file plain) ∙ rw (only_file_read (codes "recover") file plain) refl
+
+pub reindex_read : (file : List ℕ) → IsFile file → command (codes "reindex" ∷ file ∷ []) ≡ Ok (commands.Reindex file)
+unfolding command_named reindex
+reindex_read file plain = by_verb verb.Reindex (file ∷ []) (file_helps_none (codes "reindex") file plain) ∙ rw (only_file_read (codes "reindex") file plain) refl
+
+-- ---- merge -J, generate and help
+pub identify_read : (file : List ℕ) → IsInput file → command (codes "merge" ∷ codes "-J" ∷ file ∷ []) ≡ Ok (commands.Identify file)
+unfolding command_named merge identify
+identify_read file input = by_verb verb.Merge (codes "-J" ∷ file ∷ []) (more_help_none (codes "merge") (codes "-J") file []) ∙ rw (other_word file (codes "+") input.joins) (rw input.file refl)
+
+pub generate_read : (n : ℕ) (prefix : List ℕ) → IsWithin 1 100000 n → command (codes "generate" ∷ decimal n ∷ prefix ∷ []) ≡ Ok (commands.Generate n prefix)
+unfolding command_named generate blocks_at
+generate_read n prefix within =
+    let least = within.least in
+    let most = within.most in
+    let low : nat_le 1 n ≡ true = grind (arith, nat_tests) in
+    let high : nat_lt n 100001 ≡ true = grind (arith, nat_tests) in
+    by_verb verb.Generate (decimal n ∷ prefix ∷ []) (more_help_none (codes "generate") (decimal n) prefix []) ∙ rw (number_read n (omega arith)) (rw low (rw high refl))
+
+pub help_read : (v : Verb) → HasHelp v → command (verb_word v ∷ codes "--help" ∷ []) ≡ Ok (commands.Help (Some v))
+unfolding command verbs
+help_read verb.Info has = refl
+help_read verb.Merge has = refl
+help_read verb.Extract has = refl
+help_read verb.Propedit has = refl
+help_read verb.Recover has = refl
+help_read verb.Reindex has = refl
+help_read verb.Generate has = refl
+help_read verb.Help has = absurd has
+help_read verb.Version has = absurd has
+
+pub all_help_read : command (codes "--help" ∷ []) ≡ Ok (commands.Help None)
+unfolding command first_command command_named verbs alone
+all_help_read = refl
+
+pub version_read : command (codes "--version" ∷ []) ≡ Ok commands.Version
+unfolding command first_command command_named verbs alone
+version_read = refl

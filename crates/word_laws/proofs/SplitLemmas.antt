@@ -1,0 +1,153 @@
+-- Where an output is split, and identifiers of outputs, are read back.
+use Rattle.std.proofs.Common.{◌∙◌, sym, ap, zero, suc, Bool, nat_lt, [], ◌∷◌, ◌++◌, ◌-◌, ◌*◌, ◌/◌, ◌%◌, min, ◌&&◌, ◌||◌, if◌then◌else◌, ◌≡◌, ◌≤◌, ◌<◌, ◌^◌, ℕ, true, false, nat_le, List, length, map, codes, Some, refl, ap, arith, All}
+use Rattle.std.proofs.lemmas.Bool.Decides.{nat_tests}
+use Rattle.std.proofs.lemmas.Fmt.{decimal_nonempty, length-decimal-le}
+use Rattle.std.specs.Prelude.{slice_index, ◌==◌}
+use Rattle.std.specs.Str.{bytes_eq}
+use Rattle.std.specs.Fmt.{decimal}
+use Rattle.word_values.specs.declared.lists.SpanWords.{SpanWords}
+use Rattle.word_values.specs.declared.lists.SplitWords.{SplitWords}
+use Rattle.word_values.specs.declared.lists.SplitWords.TheVariants as split_by
+use Rattle.word_values.specs.declared.values.Value.TheVariants.{Split, Uuids}
+use Rattle.word_values.specs.declared.values.ValueForm.TheVariants as form
+use Rattle.word_values.specs.Numbers.{ends, whole, time, size, amount, uuid}
+use Rattle.word_values.specs.Lists.{times, span, spans, duration, chapters, split_of, split, uuids}
+use Rattle.word_values.specs.Values.{value_of}
+use Rattle.word_values.specs.Sound.{IsSoundSplit, IsSpan, AreUuids}
+use Rattle.word_laws.specs.Values.{is_in, size_word, lacks, with_commas, numbers_word, last_digits, time_word, span_word, split_word}
+use Rattle.word_laws.specs.SpellableMerge.{is_size, AreIds, IsSplit}
+use Rattle.word_laws.proofs.NumberLemmas.{decimal_all, whole_read, cut_behind}
+use Rattle.word_laws.proofs.SimpleLemmas.{and_false, other_word}
+use Rattle.word_laws.proofs.ValueLemmas.{last_is, ends_is, front_is, digits_end, list_read, each_known, numbers_read, numbers_first}
+use Rattle.word_laws.proofs.TimeLemmas.{time_read, time_lacks, span_is_read, span_lacks, uuid_read, uuid_lacks}
+
+duration_read : (by : ℕ) → 1 ≤ by → by < 2 ^ 63 → split (split_word (split_by.Duration by)) ≡ Some (split_by.Duration by)
+unfolding split split_of duration
+duration_read by some small =
+    let low : nat_le 1 by ≡ true = grind (arith, nat_tests) in
+    rw (cut_behind 58 (codes "duration") (time_word by) refl) (rw (time_read by small) (rw low refl))
+
+times_read : (at : List ℕ) → IsSoundSplit (split_by.Times at) → 0 < length at → split (split_word (split_by.Times at)) ≡ Some (split_by.Times at)
+unfolding split split_of times
+times_read at sound some =
+    let each = list_read time time_word at some (each_known (λ t. t < 2 ^ 63) (λ t. lacks 44 (time_word t) ≡ true) at (λ t h. time_lacks 44 t h refl refl refl) sound.below)
+    (each_known (λ t. t < 2 ^ 63) (λ t. time (time_word t) ≡ Some t) at (λ t h. time_read t h) sound.below) in
+    rw (cut_behind 58 (codes "timestamps") (with_commas (map time_word at)) refl) (rw each (rw sound.ascend refl))
+
+spans_read : (list : List SpanWords) → IsSoundSplit (split_by.Parts list) → 0 < length list → split (split_word (split_by.Parts list)) ≡ Some (split_by.Parts list)
+unfolding split split_of spans
+spans_read list sound some =
+    let each = list_read span span_word list some (each_known IsSpan (λ s. lacks 44 (span_word s) ≡ true) list (λ s h. span_lacks s h) sound.each)
+    (each_known IsSpan (λ s. span (span_word s) ≡ Some s) list (λ s h. span_is_read s h) sound.each) in
+    rw (cut_behind 58 (codes "parts") (with_commas (map span_word list)) refl) (rw each (rw sound.follow refl))
+
+no_all : (ns : List ℕ) → AreIds ns → bytes_eq (numbers_word ns) (codes "all") ≡ false
+no_all ns are = other_word (numbers_word ns) (codes "all") (λ same.
+    let first = numbers_first 97 ns refl are.some are.short in
+    let all : (slice_index (numbers_word ns) 0 == 97) ≡ true = ap (λ w. slice_index w 0 == 97) same in
+    cc)
+
+chapters_read : (ns : List ℕ) → AreIds ns → split (split_word (split_by.Chapters ns)) ≡ Some (split_by.Chapters ns)
+unfolding split split_of chapters
+chapters_read ns are = rw (cut_behind 58 (codes "chapters") (numbers_word ns) refl) (rw (no_all ns are) (rw (numbers_read ns are.some are.short) refl))
+
+all_read : split (split_word split_by.AllChapters) ≡ Some split_by.AllChapters
+unfolding split split_of chapters
+all_read = rw (cut_behind 58 (codes "chapters") (codes "all") refl) refl
+
+-- ---- an amount of octets
+amount_read : (n : ℕ) → 1 ≤ n → n < 10 ^ 12 → amount (decimal n) ≡ Some n
+unfolding amount
+amount_read n some small =
+    let fits : n < 2 ^ 64 = omega arith in
+    let short : nat_le (length (decimal n)) 12 ≡ true = (let h = length-decimal-le 12 n (omega arith) small fits in grind (arith, nat_tests)) in
+    let low : nat_le 1 n ≡ true = grind (arith, nat_tests) in
+    rw short (rw (whole_read n fits) (rw low refl))
+
+ends_other : (w : List ℕ) (o p : ℕ) → (o == p) ≡ false → ends (w ++ o ∷ []) p ≡ false
+ends_other w o p other = rw (last_is w o) (rw other (and_false (nat_lt 0 (length (w ++ o ∷ [])))))
+
+-- what stands in a unit
+pub record IsIn (unit limit : ℕ) : Type 0 where
+  some : 1 ≤ limit / unit
+  few : limit / unit < 10 ^ 12
+  same : min (limit / unit * unit) (2 ^ 64 - 1) ≡ limit
+
+in_unit : (unit limit : ℕ) → 1 ≤ limit → limit ≤ 2 ^ 64 - 1 → limit / unit * unit ≡ limit → limit / unit < 10 ^ 12 → IsIn unit limit
+in_unit unit limit some most whole few = record { some = positive (limit / unit) refl; few = few; same = omega arith }
+  where
+    positive : (k : ℕ) → limit / unit ≡ k → 1 ≤ limit / unit
+    positive zero is = let none : limit / unit * unit ≡ 0 = rw is (omega arith) in absurd (omega arith)
+    positive (suc k) is = omega arith
+
+both_of : (a b : Bool) → (a && b) ≡ true → (a ≡ true) × (b ≡ true)
+both_of true b is = (refl, is)
+both_of false b is = absurd (cc)
+
+kibi_read : (limit : ℕ) → IsIn 1024 limit → size (decimal (limit / 1024) ++ codes "k") ≡ Some limit
+unfolding size
+kibi_read limit is =
+    let n = decimal (limit / 1024) in
+    rw (ends_is n 107, front_is n 107) (rw (amount_read (limit / 1024) is.some is.few) (rw is.same refl))
+
+mebi_read : (limit : ℕ) → IsIn 1048576 limit → size (decimal (limit / 1048576) ++ codes "m") ≡ Some limit
+unfolding size
+mebi_read limit is =
+    let n = decimal (limit / 1048576) in
+    rw (ends_other n 109 107 refl) (rw (ends_is n 109, front_is n 109) (rw (amount_read (limit / 1048576) is.some is.few) (rw is.same refl)))
+
+gibi_read : (limit : ℕ) → IsIn 1073741824 limit → size (decimal (limit / 1073741824) ++ codes "g") ≡ Some limit
+unfolding size
+gibi_read limit is =
+    let n = decimal (limit / 1073741824) in
+    rw (ends_other n 103 107 refl) (rw (ends_other n 103 109 refl) (rw (ends_is n 103, front_is n 103) (rw (amount_read (limit / 1073741824) is.some is.few) (rw is.same refl))))
+
+octets_read : (limit : ℕ) → 1 ≤ limit → limit < 10 ^ 12 → size (decimal limit) ≡ Some limit
+unfolding size
+octets_read limit some small =
+    let fits : limit < 2 ^ 64 = omega arith in
+    let filled = decimal_nonempty limit fits in
+    let all = decimal_all limit fits in
+    rw (digits_end 107 (decimal limit) refl filled all) (rw (digits_end 109 (decimal limit) refl filled all) (rw (digits_end 103 (decimal limit) refl filled all) (amount_read limit some small)))
+
+most_read : size (codes "17179869184g") ≡ Some (2 ^ 64 - 1)
+unfolding size amount whole
+most_read = refl
+
+whole_in : (unit limit : ℕ) → is_in unit limit ≡ true → (limit % unit ≡ 0) × (limit / unit < 10 ^ 12)
+whole_in unit limit is = let both = both_of (limit % unit == 0) (nat_lt (limit / unit) (10 ^ 12)) is in let one = both.0 in let two = both.1 in (grind (arith, nat_tests), grind (arith, nat_tests))
+
+octets_of_read : (limit : ℕ) → 1 ≤ limit → limit ≤ 2 ^ 64 - 1 → is_size limit ≡ true → size (size_word limit) ≡ Some limit
+octets_of_read limit some most is = split (nat_lt limit (10 ^ 12)) (is_in 1024 limit) (is_in 1048576 limit) (is_in 1073741824 limit) refl refl refl refl is
+  where
+    split : (a b c d : Bool) → nat_lt limit (10 ^ 12) ≡ a → is_in 1024 limit ≡ b → is_in 1048576 limit ≡ c → is_in 1073741824 limit ≡ d → (a || (b || (c || (d || limit == 2 ^ 64 - 1)))) ≡ true
+        → size (if a then decimal limit else if b then decimal (limit / 1024) ++ codes "k" else if c then decimal (limit / 1048576) ++ codes "m" else if d then decimal (limit / 1073741824) ++ codes "g" else codes "17179869184g") ≡ Some limit
+    split true b c d one k m g is = octets_read limit some (grind (arith, nat_tests))
+    split false true c d one k m g is = let w = whole_in 1024 limit k in kibi_read limit (in_unit 1024 limit some most (let z = w.0 in omega arith) w.1)
+    split false false true d one k m g is = let w = whole_in 1048576 limit m in mebi_read limit (in_unit 1048576 limit some most (let z = w.0 in omega arith) w.1)
+    split false false false true one k m g is = let w = whole_in 1073741824 limit g in gibi_read limit (in_unit 1073741824 limit some most (let z = w.0 in omega arith) w.1)
+    split false false false false one k m g is = let e : limit ≡ 2 ^ 64 - 1 = grind (arith, nat_tests) in most_read ∙ ap Some (sym e)
+
+size_read : (limit : ℕ) → 1 ≤ limit → limit ≤ 2 ^ 64 - 1 → is_size limit ≡ true → split (split_word (split_by.Size limit)) ≡ Some (split_by.Size limit)
+unfolding split split_of
+size_read limit some most is = rw (cut_behind 58 (codes "size") (size_word limit) refl) (rw (octets_of_read limit some most is) refl)
+
+split_read : (s : SplitWords) → IsSoundSplit s → IsSplit s → split (split_word s) ≡ Some s
+split_read (split_by.Duration by) sound is = let least = sound.least in let most = sound.most in duration_read by least (omega arith)
+split_read (split_by.Times at) sound is = times_read at sound is
+split_read (split_by.Parts list) sound is = spans_read list sound is
+split_read split_by.AllChapters sound is = all_read
+split_read (split_by.Chapters ns) sound is = chapters_read ns is
+split_read (split_by.Size limit) sound is = size_read limit sound.least sound.most is
+
+pub split_value_read : (s : SplitWords) → IsSoundSplit s → IsSplit s → value_of form.Split (split_word s) ≡ Some (Split s)
+unfolding value_of
+split_value_read s sound is = rw (split_read s sound is) refl
+
+pub uuids_read : (us : List ℕ) → 0 < length us → AreUuids us → All (λ u. u < 2 ^ 128) us → value_of form.Uuids (with_commas (map (last_digits 16 32) us)) ≡ Some (Uuids us)
+unfolding value_of uuids
+uuids_read us some sound small =
+    let each = list_read uuid (last_digits 16 32) us some (each_known (λ u. u < 2 ^ 128) (λ u. lacks 44 (last_digits 16 32 u) ≡ true) us (λ u h. uuid_lacks u) small)
+    (each_known (λ u. u < 2 ^ 128) (λ u. uuid (last_digits 16 32 u) ≡ Some u) us (λ u h. uuid_read u h) small) in
+    let few : nat_le (length us) 1024 ≡ true = (let h = sound.few in grind (arith, nat_tests)) in
+    rw each (rw few (rw sound.differ refl))

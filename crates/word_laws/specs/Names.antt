@@ -1,0 +1,12 @@
+-- Names of files, as words may have them.
+use Rattle.std.specs.Prelude.{◌≡◌, ◌≢◌, ℕ, false, List, codes}
+use Rattle.word_values.specs.Place.{is_option}
+
+-- the name of a file that is read: it doesn't look like an option
+abbrev pub IsFile : List ℕ → Type 0
+IsFile name = is_option name ≡ false
+
+-- the file of `merge -J`, or one that is merged, which isn't a `+` either
+pub record IsInput (name : List ℕ) : Type 0 where
+  pub file : IsFile name
+  pub joins : name ≢ codes "+"

@@ -1,0 +1,74 @@
+-- Which commands have a spelling: beside their limits, what words can say of names and numbers.
+use Rattle.std.specs.Prelude.{◌≡◌, ◌⊎◌, ⊤, ℕ, true, List, [], All, Some, None}
+use Rattle.word_values.specs.declared.job.Job.{Job}
+use Rattle.word_values.specs.declared.job.Job.TheVariants as jobs
+use Rattle.word_values.specs.declared.job.Target.{Target}
+use Rattle.word_values.specs.declared.edit.Edit.{Edit}
+use Rattle.word_values.specs.declared.edit.Change.{Change}
+use Rattle.word_values.specs.declared.edit.Change.TheVariants as change
+use Rattle.word_values.specs.declared.edit.Selector.{Selector}
+use Rattle.word_values.specs.declared.edit.Selector.TheVariants as selector
+use Rattle.mkv_args.specs.declared.command.Command.{Command}
+use Rattle.mkv_args.specs.declared.command.Command.TheVariants as command
+use Rattle.mkv_args.specs.declared.commands.Verb.{Verb}
+use Rattle.mkv_args.specs.declared.commands.Verb.TheVariants as verb
+use Rattle.word_laws.specs.Values.{HasFewDigits, lacks}
+use Rattle.word_laws.specs.Names.{IsFile, IsInput}
+use Rattle.word_laws.specs.SpellableMerge.{IsSpellableMerge}
+
+-- a command that has help of its own
+abbrev pub HasHelp : Verb → Type 0
+HasHelp verb.Help = ⊥
+HasHelp verb.Version = ⊥
+HasHelp _ = ⊤
+
+-- ---- extract
+
+-- each number has at most 18 digits
+abbrev pub HaveFewDigits : List Target → Type 0
+HaveFewDigits list = All (λ (t : Target). HasFewDigits t.id) list
+
+abbrev pub IsJob : Job → Type 0
+IsJob (jobs.Tracks form list) = HaveFewDigits list
+IsJob (jobs.Cues list) = HaveFewDigits list
+IsJob (jobs.Attachments list) = HaveFewDigits list
+IsJob (jobs.Chapters name) = ⊤
+
+-- ---- propedit
+
+-- video, audio or subtitle
+abbrev pub IsNamedType : ℕ → Type 0
+IsNamedType kind = (kind ≡ 1) ⊎ ((kind ≡ 2) ⊎ (kind ≡ 17))
+
+abbrev pub IsSection : Selector → Type 0
+IsSection selector.Info = ⊤
+IsSection (selector.Nth n) = HasFewDigits n
+IsSection (selector.Typed kind n) = IsNamedType kind × HasFewDigits n
+IsSection (selector.Uid uid) = HasFewDigits uid
+IsSection (selector.Number number) = HasFewDigits number
+
+-- a name ends at the first `=`, and what is deleted has no value
+abbrev pub IsProperty : Change → List ℕ → List ℕ → Type 0
+IsProperty change.Set name value = lacks 61 name ≡ true
+IsProperty change.Add name value = lacks 61 name ≡ true
+IsProperty change.Delete name value = value ≡ []
+
+-- an edit of a property that a section can name
+pub record IsSpellableEdit (e : Edit) : Type 0 where
+  pub place : IsSection e.place
+  pub property : IsProperty e.change e.name e.value
+
+-- ---- all commands
+
+abbrev pub IsSpellable : Command → Type 0
+IsSpellable (command.Help None) = ⊤
+IsSpellable (command.Help (Some verb)) = HasHelp verb
+IsSpellable command.Version = ⊤
+IsSpellable (command.Info file) = IsFile file
+IsSpellable (command.Identify file) = IsInput file
+IsSpellable (command.Recover file) = IsFile file
+IsSpellable (command.Reindex file) = IsFile file
+IsSpellable (command.Generate n prefix) = ⊤
+IsSpellable (command.Extract file job) = IsFile file × IsJob job
+IsSpellable (command.Propedit file edits) = IsFile file × All IsSpellableEdit edits
+IsSpellable (command.Merge words) = IsSpellableMerge words

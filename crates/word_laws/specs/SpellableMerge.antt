@@ -1,0 +1,100 @@
+-- Which merges have a spelling: beside their limits, what words can say of them.
+use Rattle.std.specs.Prelude.{◌≡◌, ◌⊎◌, ◌<◌, IfSome, ⊤, ℕ, ℤ, ◌-◌, ◌%◌, ◌^◌, ◌==◌, ◌||◌, nat_lt, nat_abs, All, length, Bool, true, false, List, [], ◌∷◌, map}
+use Rattle.std.specs.List.{flat_map}
+use Rattle.word_values.specs.declared.lists.Select.{Select}
+use Rattle.word_values.specs.declared.lists.Select.TheVariants as select
+use Rattle.word_values.specs.declared.lists.SplitWords.{SplitWords}
+use Rattle.word_values.specs.declared.lists.SplitWords.TheVariants as split
+use Rattle.word_values.specs.Lists.{differ}
+use Rattle.word_values.specs.Values.{is_language}
+use Rattle.merge_words.specs.declared.files.FileWords.{FileWords}
+use Rattle.merge_words.specs.declared.output.MergeWords.{MergeWords}
+use Rattle.merge_words.specs.Files.{ids_of_select, once}
+use Rattle.word_laws.specs.Names.{IsInput}
+use Rattle.word_laws.specs.Values.{HasFewDigits, lacks, is_in}
+
+-- the tracks of which something is said
+abbrev pub tracks_of : {X : Type 0} → List (ℕ × X) → List ℕ
+tracks_of {X} list = map (λ (p : ℕ × X). p.0) list
+
+-- the tracks that the options for a file name, in the order of the spelling, each once
+abbrev pub named_tracks : FileWords → List ℕ
+named_tracks f = once [] (flat_map (λ ids. ids) (
+    ids_of_select f.video ∷ ids_of_select f.audio ∷ ids_of_select f.subtitles ∷ tracks_of f.syncs ∷ tracks_of f.names ∷ tracks_of f.languages ∷
+    tracks_of f.defaults ∷ tracks_of f.forced ∷ tracks_of f.cues ∷ tracks_of f.times ∷ []))
+
+-- some tracks, of numbers of at most 18 digits
+pub record AreIds (ids : List ℕ) : Type 0 where
+  pub some : 0 < length ids
+  pub short : All HasFewDigits ids
+
+abbrev pub IsSelect : Select → Type 0
+IsSelect select.All = ⊤
+IsSelect (select.These ids) = AreIds ids
+IsSelect (select.AllBut ids) = AreIds ids
+IsSelect select.Off = ⊤
+
+-- what is said of tracks is said once of each
+pub record AreOfTracks {X : Type 0} (Is : X → Type 0) (list : List (ℕ × X)) : Type 0 where
+  pub apart : differ (tracks_of list) ≡ true
+  pub short : All (λ (p : ℕ × X). HasFewDigits p.0) list
+  pub each : All (λ (p : ℕ × X). Is p.1) list
+
+-- whole milliseconds
+abbrev pub IsDelay : ℤ → Type 0
+IsDelay delay = nat_abs delay % 1000000 ≡ 0
+
+-- a text without a zero octet
+abbrev pub IsText : List ℕ → Type 0
+IsText text = lacks 0 text ≡ true
+
+-- three lower-case letters
+abbrev pub IsLanguage : List ℕ → Type 0
+IsLanguage word = is_language word ≡ true
+
+-- what the options for a file can say of it; the tracks that they name stand in the order of the spelling
+pub record IsMergeFile (f : FileWords) : Type 0 where
+  pub name : IsInput f.name
+  pub video : IsSelect f.video
+  pub audio : IsSelect f.audio
+  pub subtitles : IsSelect f.subtitles
+  pub syncs : AreOfTracks IsDelay f.syncs
+  pub names : AreOfTracks IsText f.names
+  pub languages : AreOfTracks IsLanguage f.languages
+  pub defaults : AreOfTracks (λ flag. ⊤) f.defaults
+  pub forced : AreOfTracks (λ flag. ⊤) f.forced
+  pub cues : AreOfTracks (λ cue. ⊤) f.cues
+  pub times : AreOfTracks (λ name. ⊤) f.times
+  pub named : f.named ≡ named_tracks f
+
+-- an amount of octets that is spelled: alone, in a unit, or as the most that there is
+abbrev pub is_size : ℕ → Bool
+is_size limit = nat_lt limit (10 ^ 12) || (is_in 1024 limit || (is_in 1048576 limit || (is_in 1073741824 limit || limit == 2 ^ 64 - 1)))
+
+-- there are times, stretches or chapters where some are due
+abbrev pub IsSplit : SplitWords → Type 0
+IsSplit (split.Duration by) = ⊤
+IsSplit (split.Times at) = 0 < length at
+IsSplit (split.Parts spans) = 0 < length spans
+IsSplit split.AllChapters = ⊤
+IsSplit (split.Chapters numbers) = AreIds numbers
+IsSplit (split.Size limit) = is_size limit ≡ true
+
+-- parts are linked by their identifiers
+abbrev pub IsLinked : Bool → List ℕ → Type 0
+IsLinked true uuids = 0 < length uuids
+IsLinked false uuids = ⊤
+
+-- one of both is as usual, since the option for them stands once
+abbrev pub IsLength : ℕ → ℕ → Type 0
+IsLength blocks span = (blocks ≡ 65535) ⊎ (span ≡ 5000000000)
+
+-- what the options for the output can say of it, and the files
+pub record IsSpellableMerge (words : MergeWords) : Type 0 where
+  pub title : IfSome words.title IsText
+  pub length : IsLength words.blocks words.span
+  pub milliseconds : words.span % 1000000 ≡ 0
+  pub split : IfSome words.split IsSplit
+  pub uuids : All (λ u. u < 2 ^ 128) words.uuids
+  pub link : IsLinked words.link words.uuids
+  pub files : All IsMergeFile words.files

@@ -1,0 +1,98 @@
+-- How a command is spelled, in the plainest form: what it says is said once, and what is usual isn't said.
+use Rattle.std.specs.Prelude.{ℕ, ◌==◌, if◌then◌else◌, List, [], ◌∷◌, ◌++◌, map, codes, Some, None}
+use Rattle.std.specs.List.{flat_map}
+use Rattle.std.specs.Fmt.{decimal}
+use Rattle.word_values.specs.declared.job.Form.{Form}
+use Rattle.word_values.specs.declared.job.Form.TheVariants as form
+use Rattle.word_values.specs.declared.job.Job.{Job}
+use Rattle.word_values.specs.declared.job.Job.TheVariants as jobs
+use Rattle.word_values.specs.declared.job.Target.{Target}
+use Rattle.word_values.specs.declared.edit.Edit.{Edit}
+use Rattle.word_values.specs.declared.edit.Change.{Change}
+use Rattle.word_values.specs.declared.edit.Change.TheVariants as change
+use Rattle.word_values.specs.declared.edit.Selector.{Selector}
+use Rattle.word_values.specs.declared.edit.Selector.TheVariants as selector
+use Rattle.mkv_args.specs.declared.command.Command.{Command}
+use Rattle.mkv_args.specs.declared.command.Command.TheVariants as command
+use Rattle.mkv_args.specs.declared.commands.Verb.{Verb}
+use Rattle.mkv_args.specs.declared.commands.Verb.TheVariants as verb
+use Rattle.word_laws.specs.Values.{with_number}
+use Rattle.word_laws.specs.SpelledMerge.{merge_words}
+
+-- the word that names a command
+abbrev pub verb_word : Verb → List ℕ
+verb_word verb.Info = codes "info"
+verb_word verb.Merge = codes "merge"
+verb_word verb.Extract = codes "extract"
+verb_word verb.Propedit = codes "propedit"
+verb_word verb.Recover = codes "recover"
+verb_word verb.Reindex = codes "reindex"
+verb_word verb.Generate = codes "generate"
+verb_word verb.Help = codes "--help"
+verb_word verb.Version = codes "--version"
+
+-- ---- extract
+
+-- `ID:OUT`
+abbrev pub target_word : Target → List ℕ
+target_word t = with_number t.id t.name
+
+-- how the frames of tracks are written
+abbrev pub form_words : Form → List (List ℕ)
+form_words form.ByCodec = codes "tracks" ∷ []
+form_words form.Raw = codes "tracks" ∷ codes "--raw" ∷ []
+form_words form.Full = codes "tracks" ∷ codes "--fullraw" ∷ []
+form_words form.Times = codes "timestamps_v2" ∷ []
+
+-- the mode, and the words behind it
+abbrev pub job_words : Job → List (List ℕ)
+job_words (jobs.Tracks form list) = form_words form ++ map target_word list
+job_words (jobs.Cues list) = codes "cues" ∷ map target_word list
+job_words (jobs.Attachments list) = codes "attachments" ∷ map target_word list
+job_words (jobs.Chapters name) = codes "chapters" ∷ codes "--simple" ∷ name ∷ []
+
+-- ---- propedit
+
+-- the letter of a type of tracks
+abbrev pub type_letter : ℕ → List ℕ
+type_letter kind = if kind == 1 then codes "v" else if kind == 2 then codes "a" else codes "s"
+
+-- `info`, or a track
+abbrev pub section_word : Selector → List ℕ
+section_word selector.Info = codes "info"
+section_word (selector.Nth n) = codes "track:" ++ decimal n
+section_word (selector.Typed kind n) = codes "track:" ++ (type_letter kind ++ decimal n)
+section_word (selector.Uid uid) = codes "track:=" ++ decimal uid
+section_word (selector.Number number) = codes "track:@" ++ decimal number
+
+-- the option of an edit
+abbrev pub change_word : Change → List ℕ
+change_word change.Set = codes "--set"
+change_word change.Add = codes "--add"
+change_word change.Delete = codes "--delete"
+
+-- `NAME=VALUE`, or the name of what is deleted
+abbrev pub property_word : Change → List ℕ → List ℕ → List ℕ
+property_word change.Set name value = name ++ (codes "=" ++ value)
+property_word change.Add name value = name ++ (codes "=" ++ value)
+property_word change.Delete name value = name
+
+-- an edit, in a section of its own
+abbrev pub edit_words : Edit → List (List ℕ)
+edit_words e = codes "--edit" ∷ section_word e.place ∷ change_word e.change ∷ property_word e.change e.name e.value ∷ []
+
+-- ---- all commands
+
+-- the words that spell a command
+abbrev pub spelled : Command → List (List ℕ)
+spelled (command.Help None) = codes "--help" ∷ []
+spelled (command.Help (Some verb)) = verb_word verb ∷ codes "--help" ∷ []
+spelled command.Version = codes "--version" ∷ []
+spelled (command.Info file) = codes "info" ∷ file ∷ []
+spelled (command.Identify file) = codes "merge" ∷ codes "-J" ∷ file ∷ []
+spelled (command.Recover file) = codes "recover" ∷ file ∷ []
+spelled (command.Reindex file) = codes "reindex" ∷ file ∷ []
+spelled (command.Generate n prefix) = codes "generate" ∷ decimal n ∷ prefix ∷ []
+spelled (command.Extract file job) = codes "extract" ∷ file ∷ job_words job
+spelled (command.Propedit file edits) = codes "propedit" ∷ file ∷ flat_map edit_words edits
+spelled (command.Merge words) = codes "merge" ∷ merge_words words

@@ -1,0 +1,83 @@
+-- How a merge is spelled: the options for the whole output, and then each file behind the options for it.
+use Rattle.std.specs.Prelude.{ℕ, ◌/◌, ◌==◌, Bool, true, false, not, if◌then◌else◌, List, [], ◌∷◌, ◌++◌, codes, Option, Some, None, option_map}
+use Rattle.std.specs.List.{flat_map}
+use Rattle.std.specs.Fmt.{decimal}
+use Rattle.word_values.specs.declared.lists.Select.{Select}
+use Rattle.word_values.specs.declared.lists.Select.TheVariants as select
+use Rattle.merge_words.specs.declared.files.FileWords.{FileWords}
+use Rattle.merge_words.specs.declared.output.MergeWords.{MergeWords}
+use Rattle.word_laws.specs.Values.{with_number, numbers_word, split_word, uuids_word, delay_word, flag_word, cues_word}
+
+-- an option without a value, where it is said
+abbrev pub flag : List ℕ → Bool → List (List ℕ)
+flag option true = option ∷ []
+flag option false = []
+
+-- an option with its value, where it is said
+abbrev pub with_value : List ℕ → Option (List ℕ) → List (List ℕ)
+with_value option None = []
+with_value option (Some value) = option ∷ value ∷ []
+
+-- the number, where it isn't the usual one
+abbrev pub unusual : ℕ → ℕ → Option ℕ
+unusual usual n = if n == usual then None else Some n
+
+-- so many blocks in a Cluster, or so many milliseconds
+abbrev pub length_word : ℕ → ℕ → Option (List ℕ)
+length_word blocks span =
+    if blocks == 65535 then option_map (λ t. decimal (t / 1000000) ++ codes "ms") (unusual 5000000000 span)
+    else Some (decimal blocks)
+
+-- the tracks of one type that are taken
+abbrev pub select_words : List ℕ → List ℕ → Select → List (List ℕ)
+select_words taken none select.All = []
+select_words taken none (select.These ids) = taken ∷ numbers_word ids ∷ []
+select_words taken none (select.AllBut ids) = taken ∷ (codes "!" ++ numbers_word ids) ∷ []
+select_words taken none select.Off = none ∷ []
+
+-- an option for each track
+abbrev pub for_tracks : {X : Type 0} → List ℕ → (X → List ℕ) → List (ℕ × X) → List (List ℕ)
+for_tracks {X} option word list = flat_map (λ (p : ℕ × X). option ∷ with_number p.0 (word p.1) ∷ []) list
+
+-- one behind the other
+abbrev pub joined : List (List (List ℕ)) → List (List ℕ)
+joined parts = flat_map (λ part. part) parts
+
+-- the options for the whole output
+abbrev pub output_options : MergeWords → List (List (List ℕ))
+output_options words =
+    with_value (codes "--output") (Some words.output) ∷
+    flag (codes "--webm") words.webm ∷
+    with_value (codes "--title") words.title ∷
+    with_value (codes "--chapters") words.chapters ∷
+    with_value (codes "--timestamp-scale") (option_map decimal (unusual 1000000 words.scale)) ∷
+    with_value (codes "--cluster-length") (length_word words.blocks words.span) ∷
+    with_value (codes "--split") (option_map split_word words.split) ∷
+    with_value (codes "--segment-uid") (uuids_word words.uuids) ∷
+    flag (codes "--link") words.link ∷ []
+
+-- the options for a file and for its tracks
+abbrev pub file_options : FileWords → List (List (List ℕ))
+file_options file =
+    select_words (codes "--video-tracks") (codes "--no-video") file.video ∷
+    select_words (codes "--audio-tracks") (codes "--no-audio") file.audio ∷
+    select_words (codes "--subtitle-tracks") (codes "--no-subtitles") file.subtitles ∷
+    flag (codes "--no-attachments") (not file.attachments) ∷
+    flag (codes "--no-track-tags") (not file.track_tags) ∷
+    flag (codes "--no-global-tags") (not file.global_tags) ∷
+    flag (codes "--no-chapters") (not file.chapters) ∷
+    for_tracks (codes "--sync") delay_word file.syncs ∷
+    for_tracks (codes "--track-name") (λ name. name) file.names ∷
+    for_tracks (codes "--language") (λ name. name) file.languages ∷
+    for_tracks (codes "--default-track-flag") flag_word file.defaults ∷
+    for_tracks (codes "--forced-display-flag") flag_word file.forced ∷
+    for_tracks (codes "--cues") cues_word file.cues ∷
+    for_tracks (codes "--timestamps") (λ name. name) file.times ∷ []
+
+-- a file, behind a `+` where it is appended, and behind the options for it
+abbrev pub file_words : FileWords → List (List ℕ)
+file_words file = flag (codes "+") file.appended ++ (joined (file_options file) ++ file.name ∷ [])
+
+-- the words behind `merge`
+abbrev pub merge_words : MergeWords → List (List ℕ)
+merge_words words = joined (output_options words) ++ flat_map file_words words.files

@@ -1,0 +1,94 @@
+-- How values are spelled.
+use Rattle.std.specs.Prelude.{ℕ, zero, suc, ◌/◌, ◌%◌, ◌^◌, ◌<◌, ◌==◌, ℤ, nat_abs, pos, Bool, not, ◌&&◌, nat_lt, if◌then◌else◌, List, [], ◌∷◌, ◌++◌, map, codes, Option, Some, None}
+use Rattle.std.specs.List.{list_all}
+use Rattle.std.specs.Char.{digit_char}
+use Rattle.std.specs.Fmt.{decimal}
+use Rattle.word_values.specs.declared.lists.SpanWords.{SpanWords}
+use Rattle.word_values.specs.declared.lists.SplitWords.{SplitWords}
+use Rattle.word_values.specs.declared.lists.SplitWords.TheVariants as split
+use Rattle.word_values.specs.declared.values.CueWord.{CueWord}
+use Rattle.word_values.specs.declared.values.CueWord.TheVariants as cue
+
+-- a number that has at most 18 decimal digits
+abbrev pub HasFewDigits : ℕ → Type 0
+HasFewDigits n = n < 10 ^ 18
+
+-- a number, and what is said of it
+abbrev pub with_number : ℕ → List ℕ → List ℕ
+with_number n rest = decimal n ++ (codes ":" ++ rest)
+
+-- no octet of a word is this one
+abbrev pub lacks : ℕ → List ℕ → Bool
+lacks octet word = list_all (λ b. not (b == octet)) word
+
+-- commas between words
+abbrev pub with_commas : List (List ℕ) → List ℕ
+with_commas [] = []
+with_commas (w ∷ []) = w
+with_commas (w ∷ v ∷ ws) = w ++ (codes "," ++ with_commas (v ∷ ws))
+
+abbrev pub numbers_word : List ℕ → List ℕ
+numbers_word numbers = with_commas (map decimal numbers)
+
+-- the last so many digits of a number in a base
+unfoldable pub last_digits : ℕ → ℕ → ℕ → List ℕ
+last_digits base zero n = []
+last_digits base (suc k) n = last_digits base k (n / base) ++ digit_char (n % base) ∷ []
+
+-- a time as H:MM:SS, and nine digits behind a point
+abbrev pub time_word : ℕ → List ℕ
+time_word t =
+    decimal (t / 3600000000000) ++ (codes ":" ++ (last_digits 10 2 (t / 60000000000 % 60)
+    ++ (codes ":" ++ (last_digits 10 2 (t / 1000000000 % 60) ++ (codes "." ++ last_digits 10 9 (t % 1000000000))))))
+
+-- where a stretch of time ends, if it does
+abbrev pub end_word : Option ℕ → List ℕ
+end_word None = []
+end_word (Some t) = time_word t
+
+abbrev pub span_word : SpanWords → List ℕ
+span_word span = time_word span.start ++ (codes "-" ++ end_word span.end)
+
+-- so many of a unit, in at most 12 digits
+abbrev pub is_in : ℕ → ℕ → Bool
+is_in unit limit = limit % unit == 0 && nat_lt (limit / unit) (10 ^ 12)
+
+-- an amount of octets: alone, in one of the units, or the most that there is
+abbrev pub size_word : ℕ → List ℕ
+size_word limit =
+    if nat_lt limit (10 ^ 12) then decimal limit
+    else if is_in 1024 limit then decimal (limit / 1024) ++ codes "k"
+    else if is_in 1048576 limit then decimal (limit / 1048576) ++ codes "m"
+    else if is_in 1073741824 limit then decimal (limit / 1073741824) ++ codes "g"
+    else codes "17179869184g"
+
+-- where an output is split
+abbrev pub split_word : SplitWords → List ℕ
+split_word (split.Duration by) = codes "duration" ++ (codes ":" ++ time_word by)
+split_word (split.Times at) = codes "timestamps" ++ (codes ":" ++ with_commas (map time_word at))
+split_word (split.Parts spans) = codes "parts" ++ (codes ":" ++ with_commas (map span_word spans))
+split_word split.AllChapters = codes "chapters:all"
+split_word (split.Chapters numbers) = codes "chapters" ++ (codes ":" ++ numbers_word numbers)
+split_word (split.Size limit) = codes "size" ++ (codes ":" ++ size_word limit)
+
+-- identifiers of 32 hexadecimal digits, where there are some
+abbrev pub uuids_word : List ℕ → Option (List ℕ)
+uuids_word [] = None
+uuids_word (u ∷ us) = Some (with_commas (map (last_digits 16 32) (u ∷ us)))
+
+-- what is earlier has a `-`
+abbrev pub sign : ℤ → List ℕ
+sign (pos n) = []
+sign other = codes "-"
+
+-- a delay in milliseconds
+abbrev pub delay_word : ℤ → List ℕ
+delay_word delay = sign delay ++ decimal (nat_abs delay / 1000000)
+
+abbrev pub flag_word : Bool → List ℕ
+flag_word flag = if flag then codes "1" else codes "0"
+
+abbrev pub cues_word : CueWord → List ℕ
+cues_word cue.Never = codes "none"
+cues_word cue.Key = codes "iframes"
+cues_word cue.All = codes "all"
