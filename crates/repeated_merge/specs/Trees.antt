@@ -1,0 +1,18 @@
+-- Trees that are read with a reader's limits: RFC 8794, section 7.7 (Master Element). The limits are this project's.
+use Rattle.std.specs.Prelude.{◌≡◌, ◌≤◌, ℕ, List, Ok}
+use Rattle.tree_format.specs.Node.{Node, count, depth, deepest}
+use Rattle.tree_format.specs.NormalForm.{content}
+use Rattle.tree_format.specs.Reading.{tree_of}
+use Rattle.tree_format.specs.Order.{tree_without_limits}
+use Rattle.tree_format.specs.Standing.{kept}
+use Rattle.output_model.specs.Sound.{IsRecord}
+
+-- A tree that is read without limits, of no more Elements than are allowed, and not too deep, is read with limits as the same.
+abbrev pub SmallTreesAreRead : Type 0
+SmallTreesAreRead =
+    (id offset : ℕ) (body : List ℕ) (base nodes : ℕ) (n : Node) → tree_without_limits id offset body base ≡ Ok n
+    → count n ≤ nodes → depth n ≤ deepest → tree_of id offset body base nodes ≡ Ok n
+
+-- Two records of one ID that are written alike have as many Elements that are written.
+abbrev pub AlikeRecordsCountAlike : Type 0
+AlikeRecordsCountAlike = (own : ℕ) (m n : Node) → IsRecord own m → IsRecord own n → content m ≡ content n → kept m ≡ kept n
