@@ -1,5 +1,5 @@
 """The programs of this checkout: the proved one, which tools/build and `rt ci` leave, and an unproved one for first looks and
-for checks, which is made in some 80 seconds.
+for checks, which is made in a minute or two.
 
 The kit's `rt try` compiles the sources without proving them, with checks at run time, runs the program once and removes it. While
 it runs, the program stands below the TMPDIR that it was given. So it is given a merge of many small blocks to do, and the
@@ -95,7 +95,7 @@ class Progress:
     def __init__(self):
         self.begun, self.terminal = time.monotonic(), sys.stderr.isatty()
         if not self.terminal:
-            say("making an unproved program, which takes some 80 seconds")
+            say("making an unproved program, which takes a minute or two")
 
     def show(self):
         if self.terminal:
