@@ -214,7 +214,7 @@ tags-same before left (i ∷ is) editions chapters attachments =
     (tags-same uids rest is (drop (length (uids_in edition_uids i.chapters)) editions) (drop (length (uids_in chapter_uids i.chapters)) chapters) (drop (length (merged.file_uids i.attachments)) attachments))
     ∙ ap (λ files. tags_with files own (anywhere_at uids rest is) editions chapters attachments) (sym (uids-anywhere i.attachments))
 
-numbers-same : (before left : List ℕ) (inputs : List Input) → numbers_of (records_at before left inputs) ≡ numbers_of (anywhere_at before left inputs)
+pub numbers-same : (before left : List ℕ) (inputs : List Input) → numbers_of (records_at before left inputs) ≡ numbers_of (anywhere_at before left inputs)
 numbers-same before left inputs =
     ap₂ (λ es files. all_uids (renumbered (edition_uids (joined es))) (renumbered (chapter_uids (joined es))) (renumbered files)) (chapters-same before left inputs) (sym (all-uids-anywhere before left inputs))
 

@@ -2,6 +2,7 @@ pub mod Lent
 pub mod Chains
 pub mod Appending
 pub mod Records
+pub mod Identifiers
 pub mod Plan
 pub mod Front
 pub mod Places

@@ -25,6 +25,7 @@ use Rattle.merge_plan.specs.declared.refusal.PlanEnd.{PlanEnd}
 use Rattle.merge_plan.specs.declared.refusal.PlanEnd.TheVariants.{Refused, Memory}
 use Rattle.merge_plan.specs.declared.outputs.OutputRecords.{OutputRecords}
 use Rattle.merge_plan.specs.Records.{chapters_of, tags_of, tracks_of}
+use Rattle.merge_plan.specs.Identifiers.{Have64Bits, identifiers_of}
 use Rattle.merge_plan.specs.Front.{attachments_of, attached_length, front_of}
 use Rattle.merge_plan.specs.Plan.{Source, drives_given, inputs_given, lanes_given, limits_of, rules_given, split_given}
 use Rattle.merge_plan.specs.Refusal.{plan_refusal}
@@ -56,13 +57,14 @@ pub record IsFileOf (inputs : List Input) (a : Attachment) : Type 0 where
   pub same : a.file ≡ input.file
   pub within : a.at + a.len ≤ total_in input.blocks
 
--- They can be written and read again.
+-- They can be written and read again, and their identifiers have 64 bits.
 pub record AreSound (inputs : List Input) (r : OutputRecords) : Type 0 where
   pub tracks : IsRecord TRACKS r.tracks
   pub attachments : All IsAttached r.attachments
   pub files : All (IsFileOf inputs) r.attachments
   pub chapters : IfSome r.chapters (IsRecord CHAPTERS)
   pub tags : IfSome r.tags (IsRecord TAGS)
+  pub numbers : Have64Bits (identifiers_of (map read_in inputs))
 
 -- They are those of the inputs, which nothing refuses; the inputs are refused for what refuses them; or there is no memory.
 abbrev pub GivesRecords : MergeWords → List Input → Result OutputRecords PlanEnd → Type 0
@@ -115,8 +117,8 @@ pub record IsLinked (inputs : List Input) (l : PlannedLane) : Type 0 where
   pub numbered : length l.inputs ≡ length l.spec.links
 
 -- A plan of these inputs can be carried out: its lanes are few, each with links for some of the inputs, of each one at most; the links
--- are small, and tracks of the inputs, so that a test which spares the files of all inputs spares theirs; its records are read again, and its
--- attached files stand in those of the inputs.
+-- are small, and tracks of the inputs, so that a test which spares the files of all inputs spares theirs; its records are read again, its
+-- attached files stand in those of the inputs, and its identifiers have 64 bits.
 pub record CanBeWritten (inputs : List Input) (p : MergePlan) : Type 0 where
   pub few : length p.lanes ≤ MOST_LANES
   pub linked : All (IsLinked inputs) p.lanes
@@ -131,3 +133,4 @@ pub record CanBeWritten (inputs : List Input) (p : MergePlan) : Type 0 where
   pub files : All (IsFileOf inputs) p.front.attachments
   pub chapters : IfSome p.chapters (IsRecord CHAPTERS)
   pub tags : IfSome p.tags (IsRecord TAGS)
+  pub numbers : Have64Bits (identifiers_of (map read_in inputs))

@@ -39,8 +39,9 @@ pub(crate) fn output_of(
     ensures sound { IfOk result (AreSound inputs.now) }
 {
     let uids = uids_of(alloc, taken)?;
-    let tracks = tracks_of(alloc, entries_of(alloc, taken, uids.as_slice())?)?;
-    let kept = records_of(alloc, uids.as_slice(), inputs)?;
+    let numbers = uids.as_slice();
+    let tracks = tracks_of(alloc, entries_of(alloc, taken, numbers)?)?;
+    let kept = records_of(alloc, numbers, inputs)?;
     let MergedRecords {
         attachments,
         chapters,

@@ -1,5 +1,5 @@
 -- The Tags of an output: RFC 9559, section 5.1.8 (Tags Element). Which of them are written is this project's.
-use Rattle.std.specs.Prelude.{◌≡◌, ℕ, ◌==◌, nat_eq, if◌then◌else◌, List, [], ◌∷◌, ◌++◌, length, drop, zip, Option, None}
+use Rattle.std.specs.Prelude.{◌≡◌, ◌<◌, ◌^◌, ℕ, ◌==◌, nat_eq, if◌then◌else◌, List, [], ◌∷◌, ◌++◌, length, drop, zip, All, Option, None}
 use Rattle.std.specs.Map.{lookup}
 use Rattle.std.specs.Option.{option_map}
 use Rattle.mkv_schema.specs.declared.ids.TheConstants.{TAGS, TAG_TRACK_UID, TAG_EDITION_UID, TAG_CHAPTER_UID, TAG_ATTACHMENT_UID}
@@ -62,6 +62,12 @@ tags_from numbers (i ∷ inputs) = tags_in i numbers ++ tags_from (behind (uids_
 -- the numbers that all get
 abbrev pub numbers_of : List InputRecords → Uids
 numbers_of inputs = all_uids (edition_numbers inputs) (chapter_numbers inputs) (file_numbers inputs)
+
+-- They have 64 bits.
+pub record HaveShortNumbers (numbers : Uids) : Type 0 where
+  pub editions : All (λ n. n < 2 ^ 64) numbers.editions
+  pub chapters : All (λ n. n < 2 ^ 64) numbers.chapters
+  pub attachments : All (λ n. n < 2 ^ 64) numbers.attachments
 
 -- The Tags of inputs that are written, in one Tags, where these numbers are theirs.
 abbrev pub joined_tags : Uids → List InputRecords → Node

@@ -7,7 +7,7 @@ ghost use Rattle.output_model.specs.Sound.{IsRecord};
 ghost use Rattle.merged_records.specs.Attachments.{merged_attachments};
 ghost use Rattle.merged_records.specs.Chapters.{joined_chapters, merged_chapters};
 ghost use Rattle.merged_records.specs.Inputs.{IsAttached, IsInput};
-ghost use Rattle.merged_records.specs.Tags.{numbers_of, merged_tags};
+ghost use Rattle.merged_records.specs.Tags.{HaveShortNumbers, numbers_of, merged_tags};
 
 use crate::attachments::{attachments_of, file_numbers};
 use crate::chapters::{chapter_numbers, edition_numbers, joined_chapters};
@@ -61,16 +61,17 @@ pub fn merge_records(alloc: Global, inputs: &[InputRecords]) -> Result<MergedRec
     ensures attached { IfOk result (λ made. All IsAttached made.attachments) }
     ensures chaptered { IfOk result (λ made. IfSome made.chapters (IsRecord CHAPTERS)) }
     ensures tagged { IfOk result (λ made. IfSome made.tags (IsRecord TAGS)) }
+
+    // The identifiers have 64 bits.
+    ensures numbers { IfOk result (λ _. HaveShortNumbers (numbers_of inputs.now)) }
 {
     let joined = joined_chapters(alloc, inputs)?;
     let numbers = numbers_of(alloc, inputs, &joined)?;
-    let attachments = attachments_of(alloc, inputs, numbers.attachments.as_slice())?;
-    let chapters = with_identifiers(
-        alloc,
-        &joined,
-        numbers.editions.as_slice(),
-        numbers.chapters.as_slice(),
-    )?;
+    let edition_uids = numbers.editions.as_slice();
+    let chapter_uids = numbers.chapters.as_slice();
+    let file_uids = numbers.attachments.as_slice();
+    let attachments = attachments_of(alloc, inputs, file_uids)?;
+    let chapters = with_identifiers(alloc, &joined, edition_uids, chapter_uids)?;
     let tags = joined_tags(alloc, inputs, &numbers)?;
     Ok(MergedRecords {
         attachments,

@@ -44,6 +44,7 @@ use Rattle.merge_inputs.specs.declared.taken.TakenTrack.{TakenTrack}
 use Rattle.merge_plan.specs.Plan.{Source, inputs_given, lanes_given, numbers_of}
 use Rattle.merge_plan.specs.Planned.{CanBeWritten, IsFileOf, IsSparedLink, IsPlanOf, IsToldInput, source_in}
 use Rattle.merge_plan.specs.Front.{attached_length, attachments_of, reads_of}
+use Rattle.merge_plan.specs.Identifiers.{Have64Bits, identifiers_of}
 use Rattle.merge_plan.specs.Records.{chapters_of, is_appended, tags_of}
 use Rattle.merge_plan.proofs.ChainLemmas.{numbers-below}
 use Rattle.merge_plan.proofs.FileLemmas.{reads-in}
@@ -260,6 +261,7 @@ records-are f words inputs p sources is written =
           (files-filled f p.front.attachments written.attachments);
       chapters = subst (λ (o : Option Node). IfSome o (IsRecord CHAPTERS)) (is.plan.chapters ∙ ap chapters_of (sym reads)) written.chapters;
       tags = subst (λ (o : Option Node). IfSome o (IsRecord TAGS)) (is.plan.tags ∙ ap tags_of (sym reads)) written.tags;
+      numbers = subst (λ (list : List InputRead). Have64Bits (identifiers_of list)) (sym reads) written.numbers;
     }
 
 -- where sources were found

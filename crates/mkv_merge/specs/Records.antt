@@ -9,6 +9,7 @@ use Rattle.merge_words.specs.declared.output.MergeWords.{MergeWords}
 use Rattle.remux_plan.specs.Parts.{PlannedOutput}
 use Rattle.remuxer.specs.Output.{IsShort}
 use Rattle.merge_plan.specs.Front.{attachments_of, reads_of}
+use Rattle.merge_plan.specs.Identifiers.{Have64Bits, identifiers_of}
 use Rattle.merge_plan.specs.Plan.{Source}
 use Rattle.merge_plan.specs.Records.{chapters_of, tags_of}
 use Rattle.mkv_lines.specs.declared.status.Status.{Status}
@@ -23,11 +24,12 @@ pub record IsFilled (n : Node) : Type 0 where
   pub is : n ≡ with_data octets entry
   pub attachment : IsAttachment entry
 
--- The attached files of sources, and Chapters and Tags where there are any, can be written and read again.
+-- The attached files of sources, and Chapters and Tags where there are any, can be written and read again; the identifiers have 64 bits.
 pub record HaveRecords (sources : List Source) : Type 0 where
   pub attachments : All IsFilled (attachments_of sources)
   pub chapters : IfSome (chapters_of (reads_of sources)) (IsRecord CHAPTERS)
   pub tags : IfSome (tags_of (reads_of sources)) (IsRecord TAGS)
+  pub numbers : Have64Bits (identifiers_of (reads_of sources))
 
 -- None of the outputs of sources is longer than a file may be.
 abbrev pub AreShort : MergeWords → List Source → Type 0

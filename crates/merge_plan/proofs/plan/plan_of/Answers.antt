@@ -72,4 +72,5 @@ returns-clause-written c =
       files = records.files;
       chapters = records.chapters;
       tags = records.tags;
+      numbers = records.numbers;
     }

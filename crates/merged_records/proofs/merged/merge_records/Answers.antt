@@ -11,15 +11,15 @@ use Rattle.merged_records.proofs.merged.merge_records.Goals as goal
 
 pub attachments_of-requires-clause-enough : goal.attachments_of-requires-clause-enough
 attachments_of-requires-clause-enough c =
-    omega (arith, ap length c.as_slice.ensures, ap (λ n. length n.attachments) c.in_ok-numbers.ensures, length-renumbered (file_uids (files_of c.args.inputs.now)), length-file_uids (files_of c.args.inputs.now))
+    omega (arith, ap length c.as_slice-file_uids.ensures, ap (λ n. length n.attachments) c.in_ok-numbers.ensures, length-renumbered (file_uids (files_of c.args.inputs.now)), length-file_uids (files_of c.args.inputs.now))
 
 pub with_identifiers-requires-clause-editions : goal.with_identifiers-requires-clause-editions
 with_identifiers-requires-clause-editions c =
-    omega (arith, ap length c.as_slice-2.ensures, ap (λ n. length n.editions) c.in_ok-numbers.ensures, length-renumbered (edition_uids (joined_chapters c.args.inputs.now)), ap (λ t. length (edition_uids t)) c.in_ok-joined.ensures.exact)
+    omega (arith, ap length c.as_slice-edition_uids.ensures, ap (λ n. length n.editions) c.in_ok-numbers.ensures, length-renumbered (edition_uids (joined_chapters c.args.inputs.now)), ap (λ t. length (edition_uids t)) c.in_ok-joined.ensures.exact)
 
 pub with_identifiers-requires-clause-chapters : goal.with_identifiers-requires-clause-chapters
 with_identifiers-requires-clause-chapters c =
-    omega (arith, ap length c.as_slice-3.ensures, ap (λ n. length n.chapters) c.in_ok-numbers.ensures, length-renumbered (chapter_uids (joined_chapters c.args.inputs.now)), ap (λ t. length (chapter_uids t)) c.in_ok-joined.ensures.exact)
+    omega (arith, ap length c.as_slice-chapter_uids.ensures, ap (λ n. length n.chapters) c.in_ok-numbers.ensures, length-renumbered (chapter_uids (joined_chapters c.args.inputs.now)), ap (λ t. length (chapter_uids t)) c.in_ok-joined.ensures.exact)
 
 pub returns-clause-chaptered : goal.returns-clause-chaptered
 returns-clause-chaptered c =

@@ -1,0 +1,30 @@
+-- The identifiers of an output: RFC 9559, sections 5.1.4.1.2 (TrackUID Element), 5.1.6.1.5 (FileUID Element), 5.1.7.1.1 (EditionUID Element) and 5.1.7.1.4.1 (ChapterUID Element). Which they are is this project's.
+use Rattle.std.specs.Prelude.{◌<◌, ◌^◌, ℕ, List}
+use Rattle.std.specs.List.{All}
+use Rattle.merged_records.specs.Attachments.{file_numbers}
+use Rattle.merged_records.specs.Chapters.{chapter_numbers, edition_numbers}
+use Rattle.merge_inputs.specs.Input.{InputRead}
+use Rattle.merge_plan.specs.Records.{records_of, tracks_taken, uids_of}
+
+-- The identifiers of an output's tracks, editions, chapters and attached files.
+pub record Identifiers : Type 0 where
+  pub tracks : List ℕ
+  pub editions : List ℕ
+  pub chapters : List ℕ
+  pub files : List ℕ
+
+-- those of a merge of inputs
+abbrev pub identifiers_of : List InputRead → Identifiers
+identifiers_of reads = record {
+  tracks = uids_of (tracks_taken reads);
+  editions = edition_numbers (records_of reads);
+  chapters = chapter_numbers (records_of reads);
+  files = file_numbers (records_of reads);
+}
+
+-- Identifiers have 64 bits.
+pub record Have64Bits (ids : Identifiers) : Type 0 where
+  pub tracks : All (λ n. n < 2 ^ 64) ids.tracks
+  pub editions : All (λ n. n < 2 ^ 64) ids.editions
+  pub chapters : All (λ n. n < 2 ^ 64) ids.chapters
+  pub files : All (λ n. n < 2 ^ 64) ids.files
