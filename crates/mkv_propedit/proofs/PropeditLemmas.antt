@@ -74,9 +74,6 @@ module _ (M : List ℕ) (found : List ℕ → Result (List Write) Refusal) where
   abbrev record_from : Result (List Write) Refusal → Result Planned Refusal
   record_from r = and_then r (λ ws. Ok (record_for M ws))
 
-  abbrev file_from : Result (List Write) Refusal → Result (List ℕ) Refusal
-  file_from r = and_then r (λ ws. Ok (applied M ws))
-
   -- the writes that were recorded
   record-writes : (p : Planned) → record_from (found M) ≡ Ok p → (ws : List Write) × (found M ≡ Ok ws) × (record_for M ws ≡ p)
   record-writes p is = of (found M) refl is
@@ -87,17 +84,6 @@ module _ (M : List ℕ) (found : List ℕ → Result (List Write) Refusal) where
 
   record-same : (p : Planned) (is : record_from (found M) ≡ Ok p) → writes_of p ≡ (record-writes p is).0
   record-same p is = let all = record-writes p is in sym (ap writes_of all.2) ∙ writes_of-recorded M all.0
-
-  pub record-edited : (p : Planned) → record_from (found M) ≡ Ok p → file_from (found M) ≡ Ok (applied M (writes_of p))
-  record-edited p is =
-      ap file_from (record-writes p is).1 ∙ ap (λ (vs : List Write). Ok (applied M vs)) (sym (record-same p is))
-
-  pub record-refused : (why : Refusal) → record_from (found M) ≡ Err why → file_from (found M) ≡ Err why
-  record-refused why is = of (found M) is
-    where
-      of : (r : Result (List Write) Refusal) → record_from r ≡ Err why → file_from r ≡ Err why
-      of (Ok ws) is = absurd (cc)
-      of (Err r) is = let its : r ≡ why = cc in ap (λ (w : Refusal). Err w) its
 
   pub record-made : (p : Planned) → record_from (found M) ≡ Ok p → IsMadeFor p.head M
   record-made p is = subst (λ (q : Planned). IsMadeFor q.head M) (record-writes p is).2 (record { len = refl; first = refl })

@@ -5,7 +5,7 @@ use Rattle.mkv_io.specs.Told.{Told}
 use Rattle.mkv_disk.specs.Calls.{OfReads}
 use Rattle.mkv_disk.specs.declared.disk.Disk.{Ghosts}
 use Rattle.mkv_lines.specs.Line.{reindexed_line}
-use Rattle.mkv_lines.specs.Verdict.{Verdict, done, nothing, refused}
+use Rattle.mkv_lines.specs.Verdict.{Verdict, done, nothing}
 use Rattle.sidecar_edit.specs.Gate.{state}
 use Rattle.sidecar_edit.specs.Writes.{Write}
 use Rattle.edit_changes.specs.Change.{and_then}
@@ -13,7 +13,6 @@ use Rattle.edit_changes.specs.Plan.{recorded}
 use Rattle.edit_changes.specs.declared.refusal.Refusal.{Refusal}
 use Rattle.reindex.specs.Plan.{Index, index_of, indexed, indexed_of}
 use Rattle.reindex.specs.declared.indexed.Indexed.{Indexed}
-use Rattle.mkv_propedit.specs.Propedit.{refusal_text}
 use Rattle.mkv_propedit.specs.Recover.{DiskWorld, disk_world}
 use Rattle.mkv_propedit.specs.Reindex.{indexed_told, reindex_on, reindex_verdict, writes_of_index}
 use Rattle.mkv_propedit.proofs.PropeditLemmas.{begun-outputs}
@@ -43,16 +42,6 @@ index-told M name i is = of (index_of M) is
         let same : indexed M y ≡ i = cc in
         ap (λ (j : Indexed). done (reindexed_line name j.cues ∷ [])) same
     of (Err r) is = absurd (cc)
-
--- the line of what refuses it
-pub index-refused : (M name : List ℕ) (why : Refusal) → indexed_of M ≡ Err why → indexed_told name (index_of M) ≡ refused (refusal_text name why)
-index-refused M name why is = of (index_of M) is
-  where
-    of : (x : Result Index Refusal) → record_behind M x ≡ Err why → indexed_told name x ≡ refused (refusal_text name why)
-    of (Ok y) is = absurd (cc)
-    of (Err r) is =
-        let same : r ≡ why = cc in
-        ap (λ (q : Refusal). refused (refusal_text name q)) same
 
 -- ---- over a disk that tells
 

@@ -1,4 +1,5 @@
 pub mod Bound
+pub mod Change
 pub mod Left
 pub mod Propedit
 pub mod Recover

@@ -50,10 +50,13 @@ unless_begun name Quiet v = v
 unless_begun name Live v = refused (pending_edit_line name)
 unless_begun name (Bad offset) v = refused (bad_sidecar_line name offset)
 
--- what `propedit` comes to: by whether there is a medium of the name, and by what it and its sidecar read
+-- what a change of a file in place comes to: by whether there is a medium of the name, by what its sidecar reads, and by what is told of the file
+abbrev pub file_verdict : Bool → List ℕ → List ℕ → Verdict → Verdict
+file_verdict is_there name sidecar v = if is_there then unless_begun name (state sidecar) v else refused (missing_line name)
+
+-- what `propedit` comes to, where a medium and its sidecar read so
 abbrev pub propedit_verdict : Bool → List ℕ → List Edit → List ℕ → List ℕ → Verdict
-propedit_verdict is_there name edits media sidecar =
-    if is_there then unless_begun name (state sidecar) (told name (edited media edits)) else refused (missing_line name)
+propedit_verdict is_there name edits media sidecar = file_verdict is_there name sidecar (told name (edited media edits))
 
 -- what it comes to over a disk that tells all
 abbrev pub propedit_on : DiskWorld → List ℕ → List Edit → Verdict

@@ -1,14 +1,13 @@
 -- What `reindex` comes to: its status and its lines.
-use Rattle.std.specs.Prelude.{ℕ, ◌+◌, ◌*◌, Bool, if◌then◌else◌, List, [], ◌∷◌, length, Result, Ok, Err}
-use Rattle.mkv_lines.specs.Line.{missing_line, reindexed_line}
+use Rattle.std.specs.Prelude.{ℕ, ◌+◌, ◌*◌, Bool, List, [], ◌∷◌, length, Result, Ok, Err}
+use Rattle.mkv_lines.specs.Line.{reindexed_line}
 use Rattle.mkv_lines.specs.Verdict.{Verdict, done, refused}
 use Rattle.sidecar_edit.specs.declared.place.TheConstants.{HEAD, KEPT}
-use Rattle.sidecar_edit.specs.Gate.{state}
 use Rattle.sidecar_edit.specs.Writes.{Write}
 use Rattle.edit_changes.specs.Change.{and_then}
 use Rattle.edit_changes.specs.declared.refusal.Refusal.{Refusal}
 use Rattle.reindex.specs.Plan.{Index, index_of}
-use Rattle.mkv_propedit.specs.Propedit.{refusal_text, unless_begun}
+use Rattle.mkv_propedit.specs.Propedit.{file_verdict, refusal_text}
 use Rattle.mkv_propedit.specs.Recover.{DiskWorld}
 
 -- ---- what it comes to
@@ -22,10 +21,9 @@ abbrev pub indexed_told : List ℕ → Result Index Refusal → Verdict
 indexed_told name (Ok x) = done (reindexed_line name (length x.points) ∷ [])
 indexed_told name (Err why) = refused (refusal_text name why)
 
--- what `reindex` comes to: by whether there is a medium of the name, and by what it and its sidecar read
+-- what `reindex` comes to, where a medium and its sidecar read so
 abbrev pub reindex_verdict : Bool → List ℕ → List ℕ → List ℕ → Verdict
-reindex_verdict is_there name media sidecar =
-    if is_there then unless_begun name (state sidecar) (indexed_told name (index_of media)) else refused (missing_line name)
+reindex_verdict is_there name media sidecar = file_verdict is_there name sidecar (indexed_told name (index_of media))
 
 -- what it comes to over a disk that tells all
 abbrev pub reindex_on : DiskWorld → List ℕ → Verdict

@@ -1,27 +1,21 @@
-//! A file and its sidecar are opened, and properties of the file edited.
+//! Properties of a file are edited in place.
 
-ghost use Rattle.std.specs.Prelude.{◌≡◌, ◌≤◌, ◌+◌, IfOk, length};
-ghost use Rattle.mkv_io.specs.Sources.{file_size};
-ghost use Rattle.mkv_disk.specs.Calls.{AtRest, IsReady, OfReads};
-ghost use Rattle.mkv_disk.specs.declared.disk.TheConstants.{MEDIA};
+ghost use Rattle.std.specs.Prelude.{◌≤◌, ◌+◌, IfOk, length};
+ghost use Rattle.mkv_disk.specs.Calls.{AtRest, OfReads};
 ghost use Rattle.mkv_lines.specs.Code.{status_of};
 ghost use Rattle.mkv_lines.specs.Ordinary.{IsOrdinary};
 ghost use Rattle.mkv_lines.specs.Said.{SaysLast};
 ghost use Rattle.mkv_lines.specs.Verdict.{SaysVerdict};
+ghost use Rattle.mkv_propedit.specs.Bound.{most_to_edit};
+ghost use Rattle.mkv_propedit.specs.Left.{IsEditOf, writes_of_edits};
+ghost use Rattle.mkv_propedit.specs.Propedit.{propedit_verdict};
 ghost use Rattle.mkv_propedit.specs.Recovery.{HasDiskStop};
-ghost use Rattle.sidecar_edit.specs.Gate.{state};
-ghost use Rattle.edit_changes.specs.Plan.{edited};
-ghost use Rattle.mkv_propedit.specs.Bound.{most_to_edit, most_to_plan};
-ghost use Rattle.mkv_propedit.specs.Left.{IsEdit, IsEditOf, StaysOpen, writes_of_edits};
-ghost use Rattle.mkv_propedit.specs.Propedit.{propedit_verdict, told, unless_begun};
 
-use crate::carrying::edit_planned;
-use crate::telling::refusal_line;
-use edit_plan::{PlanEnd, plan};
-use mkv_disk::{Disk, SIDECAR};
-use mkv_io::{Failed, List, OpenFault, Report};
-use mkv_lines::{Line, Status, Stop, refuse};
-use sidecar_edit::{Gate, state};
+use crate::change::FileChange;
+use crate::changing::change_file;
+use mkv_disk::Disk;
+use mkv_io::{List, Report};
+use mkv_lines::{Status, Stop};
 use std::alloc::Global;
 use word_values::Edit;
 
@@ -44,61 +38,5 @@ pub fn propedit_of<D: Disk, R: Report>(
     ensures cause { HasDiskStop D.Reads D.Disk.own disk.old disk.new (R.faults report.old) (R.faults report.new) result }
     ensures last { SaysLast (R.lines report.old) (R.lines report.new) result }
 {
-    match disk.open_pair(name) {
-        Ok(()) => edit_open(alloc, name, edits, disk, report),
-        Err(OpenFault::Missing) => refuse(alloc, &Line::Missing { name }, report),
-        Err(OpenFault::Failed) => Err(Stop::Disk),
-        Err(OpenFault::Memory) => Err(Stop::Memory),
-    }
-}
-
-/// Edits a pair that is open, unless an edit of it is pending, or its sidecar is wrong.
-fn edit_open<D: Disk, R: Report>(
-    alloc: Global,
-    name: &str,
-    edits: &List<Edit>,
-    disk: &mut D,
-    report: &mut R,
-) -> Result<Status, Stop>
-    requires { IsReady D.Reads D.Disk.own disk.old }
-    ensures verdict { OfReads D.Disk.own disk.old (λ M S. SaysVerdict (R.lines report.old) (R.lines report.new) result
-        (unless_begun name.now (state S) (told name.now (edited M edits.now)))) }
-    ensures ordinary { IfOk result IsOrdinary }
-    ensures edit { IsEdit D.Disk.own (writes_of_edits edits.now) disk.old disk.new (status_of result) }
-    ensures stays { StaysOpen D.Reads D.Disk.own disk.old disk.new (most_to_edit (file_size D.Reads disk.old MEDIA)) }
-    ensures cause { HasDiskStop D.Reads D.Disk.own disk.old disk.new (R.faults report.old) (R.faults report.new) result }
-    ensures last { SaysLast (R.lines report.old) (R.lines report.new) result }
-{
-    match state(disk, SIDECAR) {
-        Ok(Gate::Quiet) => edit_quiet(alloc, name, edits, disk, report),
-        Ok(Gate::Live) => refuse(alloc, &Line::PendingEdit { name }, report),
-        Ok(Gate::Bad { offset }) => refuse(alloc, &Line::BadSidecar { name, offset }, report),
-        Err(Failed) => Err(Stop::Disk),
-    }
-}
-
-/// Edits a pair that is open, and of which no edit is pending.
-fn edit_quiet<D: Disk, R: Report>(
-    alloc: Global,
-    name: &str,
-    edits: &List<Edit>,
-    disk: &mut D,
-    report: &mut R,
-) -> Result<Status, Stop>
-    requires ready { IsReady D.Reads D.Disk.own disk.old }
-    requires quiet { OfReads D.Disk.own disk.old (λ M S. state S ≡ Gate.Quiet) }
-    ensures verdict { OfReads D.Disk.own disk.old (λ M S. SaysVerdict (R.lines report.old) (R.lines report.new) result
-        (told name.now (edited M edits.now))) }
-    ensures ordinary { IfOk result IsOrdinary }
-    ensures edit { IsEdit D.Disk.own (writes_of_edits edits.now) disk.old disk.new (status_of result) }
-    ensures stays { StaysOpen D.Reads D.Disk.own disk.old disk.new (most_to_plan (file_size D.Reads disk.old MEDIA)) }
-    ensures cause { HasDiskStop D.Reads D.Disk.own disk.old disk.new (R.faults report.old) (R.faults report.new) result }
-    ensures last { SaysLast (R.lines report.old) (R.lines report.new) result }
-{
-    match plan(alloc, disk, edits) {
-        Ok(plan) => edit_planned(alloc, &Line::Edited { name }, &plan, disk, report),
-        Err(PlanEnd::Refused(why)) => refuse(alloc, &refusal_line(name, why), report),
-        Err(PlanEnd::ReadFault) => Err(Stop::Disk),
-        Err(PlanEnd::Memory) => Err(Stop::Memory),
-    }
+    change_file(alloc, name, &FileChange::Edits(edits), disk, report)
 }

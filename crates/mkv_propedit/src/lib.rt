@@ -4,6 +4,8 @@
 //! command `recover`, which finishes such a change that was stopped.
 
 mod carrying;
+mod change;
+mod changing;
 mod editing;
 mod recover_telling;
 mod recovering;

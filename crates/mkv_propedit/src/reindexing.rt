@@ -1,28 +1,20 @@
-//! A file and its sidecar are opened, and the index of the file is written anew.
+//! The index of a file is written anew in place.
 
-ghost use Rattle.std.specs.Prelude.{◌≡◌, ◌≤◌, ◌+◌, IfOk, length};
-ghost use Rattle.mkv_io.specs.Sources.{file_size};
-ghost use Rattle.mkv_disk.specs.Calls.{AtRest, IsReady, OfReads};
-ghost use Rattle.mkv_disk.specs.declared.disk.TheConstants.{MEDIA};
+ghost use Rattle.std.specs.Prelude.{◌≤◌, ◌+◌, IfOk, length};
+ghost use Rattle.mkv_disk.specs.Calls.{AtRest, OfReads};
 ghost use Rattle.mkv_lines.specs.Code.{status_of};
 ghost use Rattle.mkv_lines.specs.Ordinary.{IsOrdinary};
 ghost use Rattle.mkv_lines.specs.Said.{SaysLast};
 ghost use Rattle.mkv_lines.specs.Verdict.{SaysVerdict};
+ghost use Rattle.mkv_propedit.specs.Left.{IsEditOf};
 ghost use Rattle.mkv_propedit.specs.Recovery.{HasDiskStop};
-ghost use Rattle.sidecar_edit.specs.Gate.{state};
-ghost use Rattle.reindex.specs.Plan.{index_of};
-ghost use Rattle.mkv_propedit.specs.Left.{IsEdit, IsEditOf, StaysOpen};
-ghost use Rattle.mkv_propedit.specs.Propedit.{unless_begun};
-ghost use Rattle.mkv_propedit.specs.Reindex.{indexed_told, most_to_index, most_to_reindex, reindex_verdict, writes_of_index};
+ghost use Rattle.mkv_propedit.specs.Reindex.{most_to_reindex, reindex_verdict, writes_of_index};
 
-use crate::carrying::edit_planned;
-use crate::telling::refusal_line;
-use edit_plan::PlanEnd;
-use mkv_disk::{Disk, SIDECAR};
-use mkv_io::{Failed, OpenFault, Report};
-use mkv_lines::{Line, Status, Stop, refuse};
-use reindex::plan_index;
-use sidecar_edit::{Gate, state};
+use crate::change::FileChange;
+use crate::changing::change_file;
+use mkv_disk::Disk;
+use mkv_io::Report;
+use mkv_lines::{Status, Stop};
 use std::alloc::Global;
 
 /// Writes the index of the file of a name anew, the Cues and the SeekHead, and says what came of it. A stop at any moment
@@ -43,65 +35,5 @@ pub fn reindex_of<D: Disk, R: Report>(
     ensures cause { HasDiskStop D.Reads D.Disk.own disk.old disk.new (R.faults report.old) (R.faults report.new) result }
     ensures last { SaysLast (R.lines report.old) (R.lines report.new) result }
 {
-    match disk.open_pair(name) {
-        Ok(()) => index_open(alloc, name, disk, report),
-        Err(OpenFault::Missing) => refuse(alloc, &Line::Missing { name }, report),
-        Err(OpenFault::Failed) => Err(Stop::Disk),
-        Err(OpenFault::Memory) => Err(Stop::Memory),
-    }
-}
-
-/// Indexes the file of a pair that is open, unless an edit of it is pending, or its sidecar is wrong.
-fn index_open<D: Disk, R: Report>(
-    alloc: Global,
-    name: &str,
-    disk: &mut D,
-    report: &mut R,
-) -> Result<Status, Stop>
-    requires { IsReady D.Reads D.Disk.own disk.old }
-    ensures verdict { OfReads D.Disk.own disk.old (λ M S. SaysVerdict (R.lines report.old) (R.lines report.new) result
-        (unless_begun name.now (state S) (indexed_told name.now (index_of M)))) }
-    ensures ordinary { IfOk result IsOrdinary }
-    ensures edit { IsEdit D.Disk.own writes_of_index disk.old disk.new (status_of result) }
-    ensures stays { StaysOpen D.Reads D.Disk.own disk.old disk.new (most_to_reindex (file_size D.Reads disk.old MEDIA)) }
-    ensures cause { HasDiskStop D.Reads D.Disk.own disk.old disk.new (R.faults report.old) (R.faults report.new) result }
-    ensures last { SaysLast (R.lines report.old) (R.lines report.new) result }
-{
-    match state(disk, SIDECAR) {
-        Ok(Gate::Quiet) => index_quiet(alloc, name, disk, report),
-        Ok(Gate::Live) => refuse(alloc, &Line::PendingEdit { name }, report),
-        Ok(Gate::Bad { offset }) => refuse(alloc, &Line::BadSidecar { name, offset }, report),
-        Err(Failed) => Err(Stop::Disk),
-    }
-}
-
-/// Indexes the file of a pair that is open, and of which no edit is pending.
-fn index_quiet<D: Disk, R: Report>(
-    alloc: Global,
-    name: &str,
-    disk: &mut D,
-    report: &mut R,
-) -> Result<Status, Stop>
-    requires ready { IsReady D.Reads D.Disk.own disk.old }
-    requires quiet { OfReads D.Disk.own disk.old (λ M S. state S ≡ Gate.Quiet) }
-    ensures verdict { OfReads D.Disk.own disk.old (λ M S. SaysVerdict (R.lines report.old) (R.lines report.new) result
-        (indexed_told name.now (index_of M))) }
-    ensures ordinary { IfOk result IsOrdinary }
-    ensures edit { IsEdit D.Disk.own writes_of_index disk.old disk.new (status_of result) }
-    ensures stays { StaysOpen D.Reads D.Disk.own disk.old disk.new (most_to_index (file_size D.Reads disk.old MEDIA)) }
-    ensures cause { HasDiskStop D.Reads D.Disk.own disk.old disk.new (R.faults report.old) (R.faults report.new) result }
-    ensures last { SaysLast (R.lines report.old) (R.lines report.new) result }
-{
-    match plan_index(alloc, disk) {
-        Ok(indexed) => {
-            let line = Line::Reindexed {
-                name,
-                cues: indexed.cues,
-            };
-            edit_planned(alloc, &line, &indexed.plan, disk, report)
-        }
-        Err(PlanEnd::Refused(why)) => refuse(alloc, &refusal_line(name, why), report),
-        Err(PlanEnd::ReadFault) => Err(Stop::Disk),
-        Err(PlanEnd::Memory) => Err(Stop::Memory),
-    }
+    change_file(alloc, name, &FileChange::Index, disk, report)
 }

@@ -1,0 +1,58 @@
+-- A change of a file in place, be it edits that words ask for or a new index: what it writes, and what is told of it.
+use Rattle.std.specs.Prelude.{◌≡◌, ⊤, ℕ, ◌+◌, Bool, List, [], ◌∷◌, Result, Ok, Err}
+use Rattle.mkv_lines.specs.Line.{text_of}
+use Rattle.mkv_lines.specs.Verdict.{Verdict, done, refused}
+use Rattle.sidecar_edit.specs.declared.place.TheConstants.{HEAD}
+use Rattle.sidecar_edit.specs.Fields.{Planned}
+use Rattle.sidecar_edit.specs.Writes.{Write}
+use Rattle.edit_changes.specs.Change.{and_then}
+use Rattle.edit_changes.specs.Plan.{edited, recorded}
+use Rattle.edit_changes.specs.declared.refusal.Refusal.{Refusal}
+use Rattle.edit_plan.specs.declared.plan_end.PlanEnd.{PlanEnd}
+use Rattle.edit_plan.specs.declared.plan_end.PlanEnd.TheVariants as end
+use Rattle.reindex.specs.Plan.{index_of}
+use Rattle.mkv_propedit.specs.Bound.{most_to_plan}
+use Rattle.mkv_propedit.specs.Left.{writes_of_edits}
+use Rattle.mkv_propedit.specs.Propedit.{file_verdict, refusal_text, told}
+use Rattle.mkv_propedit.specs.Reindex.{indexed_told, most_to_index, writes_of_index}
+use Rattle.mkv_propedit.specs.declared.change.FileChange.{FileChange}
+use Rattle.mkv_propedit.specs.declared.change.FileChange.TheVariants.{Edits, Index}
+use Rattle.mkv_propedit.specs.declared.change.ChangePlan.{ChangePlan}
+
+-- what it writes to a file of a content, or what refuses it
+abbrev pub writes_of_change : FileChange → List ℕ → Result (List Write) Refusal
+writes_of_change (Edits edits) = writes_of_edits edits.now
+writes_of_change Index = writes_of_index
+
+-- what is told of a file of a content
+abbrev pub change_told : List ℕ → FileChange → List ℕ → Verdict
+change_told name (Edits edits) M = told name (edited M edits.now)
+change_told name Index M = indexed_told name (index_of M)
+
+-- what it comes to, where a medium and its sidecar read so
+abbrev pub change_verdict : Bool → List ℕ → FileChange → List ℕ → List ℕ → Verdict
+change_verdict is_there name change media sidecar = file_verdict is_there name sidecar (change_told name change media)
+
+-- ---- how much is read
+
+-- what may be read to plan it of a file of so many octets, and to make it in place
+abbrev pub most_to_plan_change : FileChange → ℕ → ℕ
+most_to_plan_change (Edits edits) octets = most_to_plan octets
+most_to_plan_change Index octets = most_to_index octets
+
+abbrev pub most_to_change : FileChange → ℕ → ℕ
+most_to_change change octets = HEAD + most_to_plan_change change octets
+
+-- ---- its plan
+
+-- the record of what it writes to a file of a content
+abbrev pub record_of_change : FileChange → List ℕ → Result Planned Refusal
+record_of_change change M = and_then (writes_of_change change M) (λ ws. Ok (recorded M ws))
+
+-- A plan is the record of what a change writes, with the line that tells of it; or the change is refused, and told so; or the outside failed, or
+-- there is no memory.
+abbrev pub GivesChange : List ℕ → FileChange → List ℕ → Result ChangePlan PlanEnd → Type 0
+GivesChange name change M (Ok made) = (record_of_change change M ≡ Ok made.plan) × (change_told name change M ≡ done (text_of made.line ∷ []))
+GivesChange name change M (Err (end.Refused why)) = change_told name change M ≡ refused (refusal_text name why)
+GivesChange name change M (Err end.ReadFault) = ⊤
+GivesChange name change M (Err end.Memory) = ⊤

@@ -1,0 +1,67 @@
+//! What is to be changed of a file in place, and how it is planned.
+
+ghost use Rattle.std.specs.Prelude.{◌≡◌, ◌≤◌, ◌+◌, length, IfOk};
+ghost use Rattle.mkv_io.specs.Faults.{HasCause};
+ghost use Rattle.mkv_io.specs.Sources.{IsLive, file_size};
+ghost use Rattle.mkv_disk.specs.Calls.{OfReads};
+ghost use Rattle.mkv_disk.specs.declared.disk.TheConstants.{MEDIA};
+ghost use Rattle.sidecar_edit.specs.Fields.{IsPlan};
+ghost use Rattle.edit_plan.specs.Answer.{is_plan_fault};
+ghost use Rattle.mkv_propedit.specs.Change.{GivesChange, most_to_plan_change};
+
+use edit_plan::{PlanEnd, plan};
+use mkv_disk::Disk;
+use mkv_io::List;
+use mkv_lines::Line;
+use reindex::plan_index;
+use sidecar_edit::Plan;
+use std::alloc::Global;
+use word_values::Edit;
+
+/// A change of a file in place: the edits that words ask for, or a new index.
+#[derive(Drop)]
+pub enum FileChange<'a> {
+    Edits(&'a List<Edit>),
+    Index,
+}
+
+/// What a change writes, and the line that tells of it.
+#[derive(Drop)]
+pub struct ChangePlan<'a> {
+    pub plan: Plan,
+    pub line: Line<'a>,
+}
+
+/// Plans a change of a medium, or answers the first thing that refuses it. Nothing is written.
+pub fn plan_change<'a, D: Disk>(
+    alloc: Global,
+    name: &'a str,
+    change: &FileChange,
+    disk: &mut D,
+) -> Result<ChangePlan<'a>, PlanEnd>
+    requires { IsLive D.Reads disk.old MEDIA }
+    ensures exact { OfReads D.Disk.own disk.old (λ M S. GivesChange name.now change.now M result) }
+    ensures sound { IfOk result (λ made. IsPlan made.plan) }
+    ensures some { IfOk result (λ made. 1 ≤ length made.plan.head.places) }
+    ensures standing { D.standing disk.new ≡ D.standing disk.old }
+    ensures cause { HasCause is_plan_fault (D.reading_faults disk.old) (D.reading_faults disk.new) result }
+    ensures octets { D.octets_read disk.new
+        ≤ D.octets_read disk.old + most_to_plan_change change.now (file_size D.Reads disk.old MEDIA) }
+{
+    match change {
+        FileChange::Edits(edits) => Ok(ChangePlan {
+            plan: plan(alloc, disk, edits)?,
+            line: Line::Edited { name },
+        }),
+        FileChange::Index => {
+            let indexed = plan_index(alloc, disk)?;
+            Ok(ChangePlan {
+                line: Line::Reindexed {
+                    name,
+                    cues: indexed.cues,
+                },
+                plan: indexed.plan,
+            })
+        }
+    }
+}

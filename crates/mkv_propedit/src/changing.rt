@@ -1,0 +1,103 @@
+//! A file and its sidecar are opened, and the file changed.
+
+ghost use Rattle.std.specs.Prelude.{◌≡◌, ◌≤◌, ◌+◌, IfOk, length};
+ghost use Rattle.mkv_io.specs.Sources.{file_size};
+ghost use Rattle.mkv_disk.specs.Calls.{AtRest, IsReady, OfReads};
+ghost use Rattle.mkv_disk.specs.declared.disk.TheConstants.{MEDIA};
+ghost use Rattle.mkv_lines.specs.Code.{status_of};
+ghost use Rattle.mkv_lines.specs.Ordinary.{IsOrdinary};
+ghost use Rattle.mkv_lines.specs.Said.{SaysLast};
+ghost use Rattle.mkv_lines.specs.Verdict.{SaysVerdict};
+ghost use Rattle.mkv_propedit.specs.Recovery.{HasDiskStop};
+ghost use Rattle.sidecar_edit.specs.Gate.{state};
+ghost use Rattle.mkv_propedit.specs.Change.{change_told, change_verdict, most_to_change, most_to_plan_change, writes_of_change};
+ghost use Rattle.mkv_propedit.specs.Left.{IsEdit, IsEditOf, StaysOpen};
+ghost use Rattle.mkv_propedit.specs.Propedit.{unless_begun};
+
+use crate::carrying::edit_planned;
+use crate::change::{FileChange, plan_change};
+use crate::telling::refusal_line;
+use edit_plan::PlanEnd;
+use mkv_disk::{Disk, SIDECAR};
+use mkv_io::{Failed, OpenFault, Report};
+use mkv_lines::{Line, Status, Stop, refuse};
+use sidecar_edit::{Gate, state};
+use std::alloc::Global;
+
+/// Changes the file of a name in place, wholly or not at all, and says what came of it. A stop at any moment leaves a file
+/// and a sidecar that can be recovered.
+pub fn change_file<D: Disk, R: Report>(
+    alloc: Global,
+    name: &str,
+    change: &FileChange,
+    disk: &mut D,
+    report: &mut R,
+) -> Result<Status, Stop>
+    requires { AtRest D.Disk.own disk.old }
+    ensures verdict { OfReads D.Disk.own disk.old (λ M S. SaysVerdict (R.lines report.old) (R.lines report.new) result
+        (change_verdict (D.is_there disk.old name.now) name.now change.now M S)) }
+    ensures ordinary { IfOk result IsOrdinary }
+    ensures edit { IsEditOf D.Reads D.Disk.own name.now (writes_of_change change.now) disk.old disk.new (status_of result) }
+    ensures octets { OfReads D.Disk.own disk.old (λ M S.
+        D.octets_read disk.new ≤ D.octets_read disk.old + most_to_change change.now (length M)) }
+    ensures cause { HasDiskStop D.Reads D.Disk.own disk.old disk.new (R.faults report.old) (R.faults report.new) result }
+    ensures last { SaysLast (R.lines report.old) (R.lines report.new) result }
+{
+    match disk.open_pair(name) {
+        Ok(()) => change_open(alloc, name, change, disk, report),
+        Err(OpenFault::Missing) => refuse(alloc, &Line::Missing { name }, report),
+        Err(OpenFault::Failed) => Err(Stop::Disk),
+        Err(OpenFault::Memory) => Err(Stop::Memory),
+    }
+}
+
+/// Changes the file of a pair that is open, unless an edit of it is pending, or its sidecar is wrong.
+fn change_open<D: Disk, R: Report>(
+    alloc: Global,
+    name: &str,
+    change: &FileChange,
+    disk: &mut D,
+    report: &mut R,
+) -> Result<Status, Stop>
+    requires { IsReady D.Reads D.Disk.own disk.old }
+    ensures verdict { OfReads D.Disk.own disk.old (λ M S. SaysVerdict (R.lines report.old) (R.lines report.new) result
+        (unless_begun name.now (state S) (change_told name.now change.now M))) }
+    ensures ordinary { IfOk result IsOrdinary }
+    ensures edit { IsEdit D.Disk.own (writes_of_change change.now) disk.old disk.new (status_of result) }
+    ensures stays { StaysOpen D.Reads D.Disk.own disk.old disk.new (most_to_change change.now (file_size D.Reads disk.old MEDIA)) }
+    ensures cause { HasDiskStop D.Reads D.Disk.own disk.old disk.new (R.faults report.old) (R.faults report.new) result }
+    ensures last { SaysLast (R.lines report.old) (R.lines report.new) result }
+{
+    match state(disk, SIDECAR) {
+        Ok(Gate::Quiet) => change_quiet(alloc, name, change, disk, report),
+        Ok(Gate::Live) => refuse(alloc, &Line::PendingEdit { name }, report),
+        Ok(Gate::Bad { offset }) => refuse(alloc, &Line::BadSidecar { name, offset }, report),
+        Err(Failed) => Err(Stop::Disk),
+    }
+}
+
+/// Changes the file of a pair that is open, and of which no edit is pending.
+fn change_quiet<D: Disk, R: Report>(
+    alloc: Global,
+    name: &str,
+    change: &FileChange,
+    disk: &mut D,
+    report: &mut R,
+) -> Result<Status, Stop>
+    requires ready { IsReady D.Reads D.Disk.own disk.old }
+    requires quiet { OfReads D.Disk.own disk.old (λ M S. state S ≡ Gate.Quiet) }
+    ensures verdict { OfReads D.Disk.own disk.old (λ M S. SaysVerdict (R.lines report.old) (R.lines report.new) result
+        (change_told name.now change.now M)) }
+    ensures ordinary { IfOk result IsOrdinary }
+    ensures edit { IsEdit D.Disk.own (writes_of_change change.now) disk.old disk.new (status_of result) }
+    ensures stays { StaysOpen D.Reads D.Disk.own disk.old disk.new (most_to_plan_change change.now (file_size D.Reads disk.old MEDIA)) }
+    ensures cause { HasDiskStop D.Reads D.Disk.own disk.old disk.new (R.faults report.old) (R.faults report.new) result }
+    ensures last { SaysLast (R.lines report.old) (R.lines report.new) result }
+{
+    match plan_change(alloc, name, change, disk) {
+        Ok(made) => edit_planned(alloc, &made.line, &made.plan, disk, report),
+        Err(PlanEnd::Refused(why)) => refuse(alloc, &refusal_line(name, why), report),
+        Err(PlanEnd::ReadFault) => Err(Stop::Disk),
+        Err(PlanEnd::Memory) => Err(Stop::Memory),
+    }
+}
