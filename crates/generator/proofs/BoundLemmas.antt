@@ -22,23 +22,24 @@ use Rattle.generator.specs.declared.blocks.Medium.TheVariants.{Pictures, Sounds}
 use Rattle.generator.specs.declared.names.Names as own
 use Rattle.generator.specs.Files.{file_of}
 use Rattle.generator.specs.Bound.{ReadsBoth, ReadsParts, layouts, most_behind, most_merged}
-use Rattle.generator.specs.Generate.{MergeMade, both_words, made_file, made_of, merge_of, parts_words, two_files, whole_file}
+use Rattle.generator.specs.Generate.{MergeMade, both_words, made_file, made_of, merge_of, parts_words, two_files}
+use Rattle.mkv_merge.specs.Plain.{plain_file}
 use Rattle.generator.specs.Outcome.{IsOneFile}
 use Rattle.generator.proofs.MakingLemmas.{both-found, both-one, both-there, parts-found, told-then}
 use Rattle.generator.proofs.TurnLemmas.{first-told, last-told, written-behind}
 
 -- the contents of inputs that the names tell have their lengths
-one-length : (world : List ℕ → Option (List ℕ)) (a x : List ℕ) → world a ≡ Some x → contents_length world (whole_file a ∷ []) ≡ sum_by (λ (bytes : List ℕ). length bytes) (x ∷ [])
+one-length : (world : List ℕ → Option (List ℕ)) (a x : List ℕ) → world a ≡ Some x → contents_length world (plain_file a ∷ []) ≡ sum_by (λ (bytes : List ℕ). length bytes) (x ∷ [])
 one-length world a x is =
     let here : length (unwrap_or (world a) []) ≡ length x = ap (λ (o : Option (List ℕ)). length (unwrap_or o [])) is in
-    sum_by-cons (λ (w : FileWords). length (unwrap_or (world w.name) [])) (whole_file a) []
+    sum_by-cons (λ (w : FileWords). length (unwrap_or (world w.name) [])) (plain_file a) []
     ∙ ap (λ (n : ℕ). n + sum_by (λ (w : FileWords). length (unwrap_or (world w.name) [])) []) here
     ∙ sym (sum_by-cons (λ (bytes : List ℕ). length bytes) x [])
 
-two-lengths : (world : List ℕ → Option (List ℕ)) (a b x y : List ℕ) → world a ≡ Some x → world b ≡ Some y → contents_length world (whole_file a ∷ (whole_file b ∷ [])) ≡ sum_by (λ (bytes : List ℕ). length bytes) (x ∷ (y ∷ []))
+two-lengths : (world : List ℕ → Option (List ℕ)) (a b x y : List ℕ) → world a ≡ Some x → world b ≡ Some y → contents_length world (plain_file a ∷ (plain_file b ∷ [])) ≡ sum_by (λ (bytes : List ℕ). length bytes) (x ∷ (y ∷ []))
 two-lengths world a b x y first second =
     let here : length (unwrap_or (world a) []) ≡ length x = ap (λ (o : Option (List ℕ)). length (unwrap_or o [])) first in
-    sum_by-cons (λ (w : FileWords). length (unwrap_or (world w.name) [])) (whole_file a) (whole_file b ∷ [])
+    sum_by-cons (λ (w : FileWords). length (unwrap_or (world w.name) [])) (plain_file a) (plain_file b ∷ [])
     ∙ ap₂ (λ (m n : ℕ). m + n) here (one-length world b y second)
     ∙ sym (sum_by-cons (λ (bytes : List ℕ). length bytes) x (y ∷ []))
 
@@ -89,7 +90,7 @@ parts-alone mid names words old now same reads = λ n before world made told is 
     let files = two_files n names in
     let world' = world_with world (map laid_out (files ++ made.outputs)) in
     let P : MergeWords → Type 0 = λ w. now ≤ old + most_of (sources_alone world' w) (contents_length world' w.files) in
-    let L : List PlannedOutput → Type 0 = λ os. contents_length (world_with world (map laid_out (files ++ os))) (whole_file names.both ∷ []) ≡ sum_by (λ (bytes : List ℕ). length bytes) (layouts os) in
+    let L : List PlannedOutput → Type 0 = λ os. contents_length (world_with world (map laid_out (files ++ os))) (plain_file names.both ∷ []) ≡ sum_by (λ (bytes : List ℕ). length bytes) (layouts os) in
     let alone : L (one.file ∷ []) = one-length (world_with world (map laid_out (files ++ one.file ∷ []))) names.both (layout one.file.document) (both-there world n names one.file one.named) in
     let long : L made.outputs = subst L (sym one.alone) alone in
     let Q : Result (List Source) Refusal → ℕ → Type 0 = λ found size. now ≤ old + most_of found size in

@@ -33,7 +33,8 @@ use Rattle.generator.specs.declared.making.Outcome.TheVariants.{Made, Refused}
 use Rattle.generator.specs.declared.names.Names as own
 use Rattle.generator.specs.declared.blocks.Medium.TheVariants.{Pictures, Sounds}
 use Rattle.generator.specs.Files.{file_of}
-use Rattle.generator.specs.Generate.{MergeMade, both_words, first_written, line_for, made_file, made_of, made_outputs, merge_of, parts_words, two_files, verdict_of, whole_file, with_both, with_parts}
+use Rattle.generator.specs.Generate.{MergeMade, both_words, first_written, line_for, made_file, made_of, made_outputs, merge_of, parts_words, two_files, verdict_of, with_both, with_parts}
+use Rattle.mkv_merge.specs.Plain.{plain_file}
 use Rattle.generator.specs.Outcome.{HasMade, IsOneFile, Makes, MakesBoth, MakesParts}
 use Rattle.remuxer.proofs.OutputsLemmas.{told-with, world_with}
 use Rattle.generator.proofs.TurnLemmas.{drafts-append, first-told, in_turn-more, last-told, stopped-behind, written-behind}
@@ -48,11 +49,11 @@ alone-is world words contents is = by-name (option_map OutputIsInput (name_writt
     by-name None = ap (λ (r : Result (List (List ℕ)) Refusal). and_then r (sources_with words no_texts)) is
     by-name (Some why) = refl
 
-two-contents : (world : List ℕ → Option (List ℕ)) (a b x y : List ℕ) → world a ≡ Some x → world b ≡ Some y → contents_of world (whole_file a ∷ (whole_file b ∷ [])) ≡ Ok (x ∷ (y ∷ []))
+two-contents : (world : List ℕ → Option (List ℕ)) (a b x y : List ℕ) → world a ≡ Some x → world b ≡ Some y → contents_of world (plain_file a ∷ (plain_file b ∷ [])) ≡ Ok (x ∷ (y ∷ []))
 two-contents world a b x y first second =
     ap₂ (λ (p q : Option (List ℕ)). unless_missing (cond (is_none p) (Some 0) (cond (is_none q) (Some 1) None)) (unwrap_or p [] ∷ (unwrap_or q [] ∷ []))) first second
 
-one-content : (world : List ℕ → Option (List ℕ)) (a x : List ℕ) → world a ≡ Some x → contents_of world (whole_file a ∷ []) ≡ Ok (x ∷ [])
+one-content : (world : List ℕ → Option (List ℕ)) (a x : List ℕ) → world a ≡ Some x → contents_of world (plain_file a ∷ []) ≡ Ok (x ∷ [])
 one-content world a x is = ap (λ (p : Option (List ℕ)). unless_missing (cond (is_none p) (Some 0) None) (unwrap_or p [] ∷ [])) is
 
 -- what the names tell once outputs stand

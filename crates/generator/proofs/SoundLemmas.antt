@@ -4,10 +4,11 @@ use Rattle.std.proofs.lemmas.List.Elements.{All-cons, All-nil}
 use Rattle.merge_words.specs.Sound.{IsSoundFile, IsSoundMerge}
 use Rattle.merge_words.specs.declared.output.MergeWords.{MergeWords}
 use Rattle.generator.specs.declared.names.Names as own
-use Rattle.generator.specs.Generate.{both_words, names_of, parts_words, whole_file}
+use Rattle.generator.specs.Generate.{both_words, names_of, parts_words}
+use Rattle.mkv_merge.specs.Plain.{plain_file}
 
 -- a file of which nothing is said
-file-sound : (name : List ℕ) → IsSoundFile (whole_file name)
+file-sound : (name : List ℕ) → IsSoundFile (plain_file name)
 file-sound name = record { delays = λ k d below. absurd (omega arith) }
 
 pub both-sound : (names : own.Names) → IsSoundMerge (both_words names)
@@ -19,7 +20,7 @@ both-sound names = record {
   uuids = record { few = omega arith; differ = refl };
   files = record { least = omega arith; most = omega arith };
   first = refl;
-  each = All-cons IsSoundFile (whole_file names.pictures) (whole_file names.sounds ∷ []) (file-sound names.pictures) (All-cons IsSoundFile (whole_file names.sounds) [] (file-sound names.sounds) (All-nil IsSoundFile));
+  each = All-cons IsSoundFile (plain_file names.pictures) (plain_file names.sounds ∷ []) (file-sound names.pictures) (All-cons IsSoundFile (plain_file names.sounds) [] (file-sound names.sounds) (All-nil IsSoundFile));
 }
 
 pub parts-sound : (names : own.Names) → IsSoundMerge (parts_words names)
@@ -31,7 +32,7 @@ parts-sound names = record {
   uuids = record { few = omega arith; differ = refl };
   files = record { least = omega arith; most = omega arith };
   first = refl;
-  each = All-cons IsSoundFile (whole_file names.both) [] (file-sound names.both) (All-nil IsSoundFile);
+  each = All-cons IsSoundFile (plain_file names.both) [] (file-sound names.both) (All-nil IsSoundFile);
 }
 
 -- the same of words that are these

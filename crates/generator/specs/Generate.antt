@@ -1,11 +1,8 @@
 -- What `generate` comes to: its files, and its line. All of it is this project's.
-use Rattle.std.specs.Prelude.{ℕ, ◌++◌, ◌||◌, Bool, false, true, List, [], ◌∷◌, codes, length, map, flat_map, Option, Some, None, Result, Ok, Err}
+use Rattle.std.specs.Prelude.{ℕ, ◌++◌, ◌||◌, Bool, List, [], ◌∷◌, codes, length, map, flat_map, Some, None, Result, Ok, Err}
 use Rattle.std.specs.List.{enumerate_from}
 use Rattle.output_model.specs.Document.{layout}
-use Rattle.word_values.specs.declared.lists.Select.TheVariants.{All}
-use Rattle.word_values.specs.declared.lists.SplitWords.{SplitWords}
 use Rattle.word_values.specs.declared.lists.SplitWords.TheVariants.{Duration}
-use Rattle.merge_words.specs.declared.files.FileWords.{FileWords}
 use Rattle.merge_words.specs.declared.output.MergeWords.{MergeWords}
 use Rattle.remux_plan.specs.Parts.{PlannedOutput}
 use Rattle.remux_plan.specs.Summary.{written_of}
@@ -14,6 +11,7 @@ use Rattle.remuxer.specs.Output.{drafts_of}
 use Rattle.merge_plan.specs.Plan.{Source}
 use Rattle.mkv_merge.specs.Joined.{sources_apart}
 use Rattle.mkv_merge.specs.Merge.{has_damage, outputs_of, status_of, warnings}
+use Rattle.mkv_merge.specs.Plain.{plain_file, plain_words}
 use Rattle.mkv_merge.specs.Refused.{and_then, line_of}
 use Rattle.mkv_merge.specs.declared.refusal.Refusal.{Refusal}
 use Rattle.mkv_lines.specs.Line.{generated_line}
@@ -46,51 +44,13 @@ two_files n names = made_file Pictures n names.pictures ∷ made_file Sounds n n
 
 -- ---- what is made of them
 
--- a file of a merge, all of which is taken
-abbrev pub whole_file : List ℕ → FileWords
-whole_file name = record {
-  name = name;
-  appended = false;
-  video = All;
-  audio = All;
-  subtitles = All;
-  attachments = true;
-  track_tags = true;
-  global_tags = true;
-  chapters = true;
-  syncs = [];
-  names = [];
-  languages = [];
-  defaults = [];
-  forced = [];
-  cues = [];
-  times = [];
-  named = [];
-}
-
--- what `merge -o OUTPUT --split SPLIT FILE ..` says
-abbrev pub words_of : List ℕ → Option SplitWords → List FileWords → MergeWords
-words_of output split files = record {
-  output = output;
-  webm = false;
-  title = None;
-  chapters = None;
-  scale = 1000000;
-  blocks = 65535;
-  span = 5000000000;
-  split = split;
-  files = files;
-  uuids = [];
-  link = false;
-}
-
 -- both files in one
 abbrev pub both_words : Names → MergeWords
-both_words names = words_of names.both None (whole_file names.pictures ∷ whole_file names.sounds ∷ [])
+both_words names = plain_words names.both None (plain_file names.pictures ∷ plain_file names.sounds ∷ [])
 
 -- that one in parts of ten seconds
 abbrev pub parts_words : Names → MergeWords
-parts_words names = words_of names.parts (Some (Duration 10000000000)) (whole_file names.both ∷ [])
+parts_words names = plain_words names.parts (Some (Duration 10000000000)) (plain_file names.both ∷ [])
 
 -- A merge: its outputs, what is warned of the files that it reads, and whether one of them is damaged.
 pub record MergeMade : Type 0 where

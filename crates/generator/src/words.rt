@@ -1,7 +1,8 @@
 //! The words of the two merges.
 
 ghost use Rattle.std.specs.Prelude.{◌≡◌, IfOk};
-ghost use Rattle.generator.specs.Generate.{both_words, parts_words, whole_file, words_of};
+ghost use Rattle.generator.specs.Generate.{both_words, parts_words};
+ghost use Rattle.mkv_merge.specs.Plain.{plain_file, plain_words};
 
 use crate::front::SCALE;
 use crate::names::Names;
@@ -14,8 +15,8 @@ use word_values::{Select, SplitWords};
 const PART: u64 = 10_000_000_000;
 
 // A file of a merge, all of which is taken.
-fn whole_file(alloc: Global, name: &Text) -> Result<FileWords, AllocError>
-    ensures { IfOk result (λ file. file ≡ whole_file name.now) }
+fn plain_file(alloc: Global, name: &Text) -> Result<FileWords, AllocError>
+    ensures { IfOk result (λ file. file ≡ plain_file name.now) }
 {
     Ok(FileWords {
         name: name.clone()?,
@@ -38,14 +39,14 @@ fn whole_file(alloc: Global, name: &Text) -> Result<FileWords, AllocError>
     })
 }
 
-// What `merge -o OUTPUT --split SPLIT FILE ..` says.
-fn words_of(
+// What `merge -o OUTPUT FILE ..` says, or with a split `merge -o OUTPUT --split SPLIT FILE ..`.
+fn plain_words(
     alloc: Global,
     output: &Text,
     split: Option<SplitWords>,
     files: List<FileWords>,
 ) -> Result<MergeWords, AllocError>
-    ensures { IfOk result (λ words. words ≡ words_of output.now split files) }
+    ensures { IfOk result (λ words. words ≡ plain_words output.now split files) }
 {
     Ok(MergeWords {
         output: output.clone()?,
@@ -67,9 +68,9 @@ pub(crate) fn both_words(alloc: Global, names: &Names) -> Result<MergeWords, All
     ensures { IfOk result (λ words. words ≡ both_words names.now) }
 {
     let mut files = List::new(alloc);
-    files.push(whole_file(alloc, &names.pictures)?)?;
-    files.push(whole_file(alloc, &names.sounds)?)?;
-    words_of(alloc, &names.both, None, files)
+    files.push(plain_file(alloc, &names.pictures)?)?;
+    files.push(plain_file(alloc, &names.sounds)?)?;
+    plain_words(alloc, &names.both, None, files)
 }
 
 /// That one in parts of ten seconds.
@@ -77,7 +78,7 @@ pub(crate) fn parts_words(alloc: Global, names: &Names) -> Result<MergeWords, Al
     ensures { IfOk result (λ words. words ≡ parts_words names.now) }
 {
     let mut files = List::new(alloc);
-    files.push(whole_file(alloc, &names.both)?)?;
+    files.push(plain_file(alloc, &names.both)?)?;
     let split = SplitWords::Duration { by: PART };
-    words_of(alloc, &names.parts, Some(split), files)
+    plain_words(alloc, &names.parts, Some(split), files)
 }

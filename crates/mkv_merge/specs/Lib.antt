@@ -1,5 +1,6 @@
 pub mod Bound
 pub mod Merge
+pub mod Plain
 pub mod Prepared
 pub mod Read
 pub mod Refused

@@ -36,10 +36,10 @@ abbrev pub AreShort : MergeWords → List Source → Type 0
 AreShort words sources = All (λ (o : PlannedOutput). IsShort o.document) (outputs_of words sources)
 
 -- What is written of sources can be read again: the records that they give, and outputs that are as long as files may be.
-pub record CanBeRead (words : MergeWords) (sources : List Source) : Type 0 where
+pub record CanBeReadAgain (words : MergeWords) (sources : List Source) : Type 0 where
   pub records : HaveRecords sources
   pub short : AreShort words sources
 
 -- So can what a merge has written that ended by itself, and that nothing refused.
 abbrev pub EndsReadable : MergeWords → Result (List Source) Refusal → Result Status Stop → Type 0
-EndsReadable words found result = IfOk result (λ _. IfOk found (CanBeRead words))
+EndsReadable words found result = IfOk result (λ _. IfOk found (CanBeReadAgain words))

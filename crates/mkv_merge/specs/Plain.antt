@@ -1,0 +1,44 @@
+-- The words of a merge without options. They are this project's.
+use Rattle.std.specs.Prelude.{ℕ, false, true, List, [], Option, None}
+use Rattle.word_values.specs.declared.lists.Select.TheVariants.{All}
+use Rattle.word_values.specs.declared.lists.SplitWords.{SplitWords}
+use Rattle.merge_words.specs.declared.files.FileWords.{FileWords}
+use Rattle.merge_words.specs.declared.output.MergeWords.{MergeWords}
+
+-- one file by its name, of which all is taken
+abbrev pub plain_file : List ℕ → FileWords
+plain_file name = record {
+  name = name;
+  appended = false;
+  video = All;
+  audio = All;
+  subtitles = All;
+  attachments = true;
+  track_tags = true;
+  global_tags = true;
+  chapters = true;
+  syncs = [];
+  names = [];
+  languages = [];
+  defaults = [];
+  forced = [];
+  cues = [];
+  times = [];
+  named = [];
+}
+
+-- what `merge -o OUTPUT FILE ..` says, or with a split `merge -o OUTPUT --split SPLIT FILE ..`
+abbrev pub plain_words : List ℕ → Option SplitWords → List FileWords → MergeWords
+plain_words output split files = record {
+  output = output;
+  webm = false;
+  title = None;
+  chapters = None;
+  scale = 1000000;
+  blocks = 65535;
+  span = 5000000000;
+  split = split;
+  files = files;
+  uuids = [];
+  link = false;
+}
