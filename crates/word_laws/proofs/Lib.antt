@@ -16,3 +16,4 @@ mod FilesLemmas
 mod MergedLemmas
 mod LawLemmas
 mod StandardFacts
+mod TitleLemmas

@@ -1,6 +1,9 @@
--- What is spelled is read.
-use Rattle.std.specs.Prelude.{◌≡◌, Ok}
+-- What is spelled is read, and a title that is read is a text.
+use Rattle.std.specs.Prelude.{◌≡◌, ℕ, List, Some, IfSome, Ok}
+use Rattle.word_values.specs.Values.{text}
+use Rattle.merge_words.specs.declared.output.MergeWords.{MergeWords}
 use Rattle.mkv_args.specs.declared.command.Command.{Command}
+use Rattle.mkv_args.specs.declared.command.Command.TheVariants.{Merge}
 use Rattle.mkv_args.specs.Sound.{IsSound}
 use Rattle.mkv_args.specs.Words.{command}
 use Rattle.word_laws.specs.Spelled.{spelled}
@@ -9,3 +12,8 @@ use Rattle.word_laws.specs.Spellable.{IsSpellable}
 -- A command that has a spelling is what its spelling means.
 abbrev pub SpelledIsRead : Type 0
 SpelledIsRead = (c : Command) → IsSound c → IsSpellable c → command (spelled c) ≡ Ok c
+
+-- A title that words give to a merge is a text without a zero octet.
+abbrev pub TitlesAreTexts : Type 0
+TitlesAreTexts =
+    (line : List (List ℕ)) (words : MergeWords) → command line ≡ Ok (Merge words) → IfSome words.title (λ (title : List ℕ). text title ≡ Some title)
