@@ -2,7 +2,7 @@
 use Rattle.std.proofs.Common.{◌≡◌, ◌<◌, ◌≤◌, ℕ, ◌^◌, Bool, true, false, if◌then◌else◌, List, [], ◌∷◌, ◌++◌, length, length-append, append_assoc, map, max, Option, Some, None, IfSome, refl, sym, ap, subst, ◌∙◌, arith, unwrap_or}
 use Rattle.std.specs.List.{All}
 use Rattle.std.specs.Str.{IsUtf8}
-use Rattle.std.proofs.lemmas.List.Elements.{All-nil, All-cons, All-head, All-tail, All-append}
+use Rattle.std.proofs.lemmas.List.Elements.{All-nil, All-cons, All-head, All-tail, All-append, All-weaker}
 use Rattle.std.proofs.lemmas.List.Concat.{flat_map-append}
 use Rattle.std.proofs.lemmas.Option.{IfSome_then}
 use Rattle.std.proofs.lemmas.Str.{IsUtf8-nil}
@@ -43,6 +43,7 @@ use Rattle.splitter.specs.Sections.{Part}
 use Rattle.remux_plan.specs.Parts.{stretch_of}
 use Rattle.merge_words.specs.declared.output.MergeWords.{MergeWords}
 use Rattle.merge_words.specs.Sound.{IsSoundMerge}
+use Rattle.merge_inputs.specs.declared.taken.TakenTrack.{TakenTrack}
 use Rattle.merge_plan.specs.Front.{front_of, reads_of}
 use Rattle.merge_plan.specs.Plan.{Source, limits_of, rules_given}
 use Rattle.merge_plan.specs.Records.{chapters_of, first_title, info_of, is_appended, tags_of, title_of, title_or, tracks_begun, tracks_of, tracks_taken}
@@ -241,28 +242,38 @@ own-scale u scale title = ap scale_of (own-info u scale title)
 
 -- ---- what is asked of the title
 
-first-text : (sources : List Source) → All IsReadSource sources → IsUtf8 (first_title (reads_of sources))
-first-text [] each = IsUtf8-nil
-first-text (s ∷ ss) each = of s.1.title (All-head IsReadSource s ss each).title (first-text ss (All-tail IsReadSource s ss each))
+title-first : (P : List ℕ → Type 0) → P [] → (sources : List Source) → All (λ (s : Source). P s.1.title) sources → P (first_title (reads_of sources))
+title-first P none [] each = none
+title-first P none (s ∷ ss) each = of s.1.title (All-head (λ (x : Source). P x.1.title) s ss each) (title-first P none ss (All-tail (λ (x : Source). P x.1.title) s ss each))
   where
-    of : (title : List ℕ) → IsUtf8 title → IsUtf8 (first_title (reads_of ss)) → IsUtf8 (title_or title (first_title (reads_of ss)))
+    of : (title : List ℕ) → P title → P (first_title (reads_of ss)) → P (title_or title (first_title (reads_of ss)))
     of [] own rest = rest
     of (o ∷ octets) own rest = own
 
-title-text : (given : Option (List ℕ)) (other : List ℕ) → IfSome given IsUtf8 → IsUtf8 other → IsUtf8 (unwrap_or given other)
-title-text None other text rest = rest
-title-text (Some title) other text rest = text
+title-given : (P : List ℕ → Type 0) (given : Option (List ℕ)) (other : List ℕ) → IfSome given P → P other → P (unwrap_or given other)
+title-given P None other text rest = rest
+title-given P (Some title) other text rest = text
+
+-- What holds of the title that the words give, and of that of each source, holds of the title of the merge.
+pub title-is : (P : List ℕ → Type 0) → P [] → (words : MergeWords) (sources : List Source) → IfSome words.title P → All (λ (s : Source). P s.1.title) sources → P (title_of words (reads_of sources))
+title-is P none words sources given each = title-given P words.title (first_title (reads_of sources)) given (title-first P none sources each)
 
 -- ---- Tracks
 
-all-tracks : (sources : List Source) → All IsReadSource sources → All IsReadTrack (tracks_taken (reads_of sources))
-all-tracks [] each = All-nil IsReadTrack
-all-tracks (s ∷ ss) each =
-    All-append IsReadTrack (tracks_begun s.1) (tracks_taken (reads_of ss)) (of (is_appended s.1) (All-head IsReadSource s ss each).tracks) (all-tracks ss (All-tail IsReadSource s ss each))
+-- What holds of each track of the sources holds of those that begin lanes.
+pub tracks-are : (P : TakenTrack → Type 0) (sources : List Source) → All (λ (s : Source). All P s.1.taken) sources → All P (tracks_taken (reads_of sources))
+tracks-are P [] each = All-nil P
+tracks-are P (s ∷ ss) each =
+    All-append P (tracks_begun s.1) (tracks_taken (reads_of ss)) (of (is_appended s.1) (All-head (λ (x : Source). All P x.1.taken) s ss each))
+    (tracks-are P ss (All-tail (λ (x : Source). All P x.1.taken) s ss each))
   where
-    of : (b : Bool) → All IsReadTrack s.1.taken → All IsReadTrack (if b then [] else s.1.taken)
-    of true tracks = All-nil IsReadTrack
+    of : (b : Bool) → All P s.1.taken → All P (if b then [] else s.1.taken)
+    of true tracks = All-nil P
     of false tracks = tracks
+
+-- They are such as can be written.
+pub all-tracks : (sources : List Source) → All IsReadSource sources → All IsReadTrack (tracks_taken (reads_of sources))
+all-tracks sources each = tracks-are IsReadTrack sources (All-weaker IsReadSource (λ (s : Source). All IsReadTrack s.1.taken) (λ s is. is.tracks) sources each)
 
 -- ---- the document
 
@@ -308,8 +319,9 @@ module _ (words : MergeWords) (sources : List Source) (sound : IsSoundMerge word
   document-sound number files part have filled blocks short =
       let d : Document = document_with words sources number files part in
       let some = sound.scale.least in
+      let text = title-is IsUtf8 IsUtf8-nil words sources texts.title (All-weaker IsReadSource (λ (s : Source). IsUtf8 s.1.title) (λ s is. is.title) sources are.each) in
       record {
-        info = own-record (uuids_at words.uuids words.link number) words.scale (title_of words (reads_of sources)) scale-small (title-text words.title (first_title (reads_of sources)) texts.title (first-text sources are.each)) (omega (arith, info-short d));
+        info = own-record (uuids_at words.uuids words.link number) words.scale (title_of words (reads_of sources)) scale-small text (omega (arith, info-short d));
         scale = omega (arith, document-scale number);
         tracks = taken-tracks (tracks_taken (reads_of sources)) (all-tracks sources are.each) tracks-few (omega (arith, tracks-short d));
         attachments = files-sound (length (layout d)) files (omega arith) filled (files-short d);

@@ -115,27 +115,29 @@ master-of : (n : Node) → IsSome (first_child TRACK_TYPE n) → IsMaster n
 master-of (leaf id at body) some = absurd (cc)
 master-of (master id at kids) some = refl
 
+-- The entry of a track that was taken is whole.
 pub taken-whole : (t : TakenTrack) → IsTaken t → IsWholeEntry t.track.entry
 taken-whole t is = record { id = is.entry.id; master = master-of t.track.entry is.track.type; sound = is.entry.sound; room = is.room }
 
 module _ (c : TrackChange) where
-  -- the first of an ID that isn't changed
-  first-kept : (id i at : ℕ) (kids : Nodes) → ((ns : List Node) → find (λ n. id_of n == id) (entry_list c ns) ≡ find (λ n. id_of n == id) ns)
+  -- The first of an ID that isn't changed stays.
+  pub first-kept : (id i at : ℕ) (kids : Nodes) → ((ns : List Node) → filter (λ n. id_of n == id) (entry_list c ns) ≡ filter (λ n. id_of n == id) ns)
       → first_child id (written_entry c (master i at kids)) ≡ first_child id (master i at kids)
   first-kept id i at kids keeps =
-      ap (first_child id) (written-master c i at kids) ∙ ap (find (λ n. id_of n == id)) (list-nodes (entry_list c (list_of kids))) ∙ keeps (list_of kids)
+      let old : List Node = list_of kids in
+      let all : List Node = entry_list c old in
+      ap (first_child id) (written-master c i at kids) ∙ ap (find (λ n. id_of n == id)) (list-nodes all)
+      ∙ find-filter (λ n. id_of n == id) all ∙ ap first_in (keeps old) ∙ sym (find-filter (λ n. id_of n == id) old)
 
-  find-kept : (id : ℕ) → ((ns : List Node) → filter (λ n. id_of n == id) (entry_list c ns) ≡ filter (λ n. id_of n == id) ns) → (ns : List Node) → find (λ n. id_of n == id) (entry_list c ns) ≡ find (λ n. id_of n == id) ns
-  find-kept id keeps ns = find-filter (λ n. id_of n == id) (entry_list c ns) ∙ ap first_in (keeps ns) ∙ sym (find-filter (λ n. id_of n == id) ns)
-
-  type-kept : (i at : ℕ) (kids : Nodes) → first_child TRACK_TYPE (written_entry c (master i at kids)) ≡ first_child TRACK_TYPE (master i at kids)
-  type-kept i at kids = first-kept TRACK_TYPE i at kids (find-kept TRACK_TYPE (λ ns. part-others c ns TRACK_TYPE refl refl refl refl refl refl refl refl))
+  -- So does the first TrackType.
+  pub type-kept : (i at : ℕ) (kids : Nodes) → first_child TRACK_TYPE (written_entry c (master i at kids)) ≡ first_child TRACK_TYPE (master i at kids)
+  type-kept i at kids = first-kept TRACK_TYPE i at kids (λ ns. part-others c ns TRACK_TYPE refl refl refl refl refl refl refl refl)
 
   codec-kept : (i at : ℕ) (kids : Nodes) → first_child CODEC_ID (written_entry c (master i at kids)) ≡ first_child CODEC_ID (master i at kids)
-  codec-kept i at kids = first-kept CODEC_ID i at kids (find-kept CODEC_ID (λ ns. part-others c ns CODEC_ID refl refl refl refl refl refl refl refl))
+  codec-kept i at kids = first-kept CODEC_ID i at kids (λ ns. part-others c ns CODEC_ID refl refl refl refl refl refl refl refl)
 
   duration-kept : (i at : ℕ) (kids : Nodes) → first_child DEFAULT_DURATION (written_entry c (master i at kids)) ≡ first_child DEFAULT_DURATION (master i at kids)
-  duration-kept i at kids = first-kept DEFAULT_DURATION i at kids (find-kept DEFAULT_DURATION (λ ns. part-others c ns DEFAULT_DURATION refl refl refl refl refl refl refl refl))
+  duration-kept i at kids = first-kept DEFAULT_DURATION i at kids (λ ns. part-others c ns DEFAULT_DURATION refl refl refl refl refl refl refl refl)
 
   number-set : (i at : ℕ) (kids : Nodes) → CanBeSet c → number_of (written_entry c (master i at kids)) ≡ c.number
   number-set i at kids can =

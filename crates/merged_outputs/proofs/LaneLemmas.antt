@@ -91,13 +91,14 @@ of_lane gs = 0
 abbrev of_link : Given → ℕ
 of_link g = 0
 
-lanes-count : (sources : List Source) → length (lanes_given sources) ≡ length (tracks_taken (reads_of sources))
+-- There is one for each track that begins one.
+pub lanes-count : (sources : List Source) → length (lanes_given sources) ≡ length (tracks_taken (reads_of sources))
 lanes-count sources =
     sym (length-map (lanes_given sources) of_lane)
     ∙ ap length (lanes-first goes_on given_of of_lane of_link (λ g gs. refl) sources)
     ∙ length-map (flat_map (begins goes_on given_of) sources) of_link
     ∙ begun-count sources
 
--- There is one for each track that begins one.
+-- So it is of their blocks.
 pub lanes-length : (scale : ℕ) (sources : List Source) → length (map (lane_blocks scale) (lanes_given sources)) ≡ length (tracks_taken (reads_of sources))
 lanes-length scale sources = length-map (lanes_given sources) (lane_blocks scale) ∙ lanes-count sources

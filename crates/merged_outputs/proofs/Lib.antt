@@ -1,15 +1,15 @@
 mod TreeLemmas
-mod EntryLemmas
-mod TracksLemmas
+pub mod EntryLemmas
+pub mod TracksLemmas
 mod TextLemmas
 mod GivenLemmas
 mod PlaceLemmas
-mod SourceLemmas
-mod LaneLemmas
+pub mod SourceLemmas
+pub mod LaneLemmas
 mod LoadLemmas
 mod ChapterLemmas
 mod PartLemmas
-mod DocumentLemmas
+pub mod DocumentLemmas
 mod OutputLemmas
 mod ExactLemmas
 pub mod MergeLemmas

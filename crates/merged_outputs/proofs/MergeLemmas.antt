@@ -36,7 +36,7 @@ use Rattle.mkv_args.proofs.TextLemmas.{asked-texts}
 use Rattle.merge_plan.specs.Plan.{Source, lanes_given, limits_of}
 use Rattle.mkv_merge.specs.Merge.{merge_verdict, outputs_of, sources_of, verdict_of}
 use Rattle.mkv_merge.specs.Read.{is_split}
-use Rattle.mkv_merge.specs.Records.{CanBeRead, HaveRecords, IsFilled}
+use Rattle.mkv_merge.specs.Records.{CanBeReadAgain, HaveRecords, IsFilled}
 use Rattle.mkv_merge.specs.declared.refusal.Refusal.{Refusal}
 use Rattle.mkv_lines.specs.Seen.{Seen}
 use Rattle.mkv_lines.specs.Verdict.{IsDone}
@@ -112,10 +112,10 @@ module _ (words : MergeWords) (sources : List Source) (sound : IsSoundMerge word
 
 -- A command that has come to what a merge of sound records comes to, and wasn't refused, has written it.
 pub verdict-merged : (world : List ℕ → Option (List ℕ)) (words : MergeWords) (old new : Seen) (s : Status) → old.names ≡ Some world → HoldsOctets world → IsSoundMerge words → AreTexts words
-    → IfOk (sources_of world words) (CanBeRead words) → s ≢ status.Refused → s ≡ (merge_verdict world words).status → IsDone old new (merge_verdict world words) → IsMerged world words new.names
+    → IfOk (sources_of world words) (CanBeReadAgain words) → s ≢ status.Refused → s ≡ (merge_verdict world words).status → IsDone old new (merge_verdict world words) → IsMerged world words new.names
 verdict-merged world words old new s told holds sound texts found other = split (sources_of world words) refl found
   where
-    split : (found : Result (List Source) Refusal) → sources_of world words ≡ found → IfOk found (CanBeRead words) → s ≡ (verdict_of words found).status → IsDone old new (verdict_of words found) → IsMerged world words new.names
+    split : (found : Result (List Source) Refusal) → sources_of world words ≡ found → IfOk found (CanBeReadAgain words) → s ≡ (verdict_of words found).status → IsDone old new (verdict_of words found) → IsMerged world words new.names
     split (Err why) is have same done = absurd (other same)
     split (Ok sources) is can same done =
         let have = can.records in
@@ -135,5 +135,5 @@ verdict-merged world words old new s told holds sound texts found other = split 
 
 -- So has a run whose words ask for it.
 pub run-merged : (old new : Seen) (words : List (List ℕ)) (asked : MergeWords) (world : List ℕ → Option (List ℕ)) (s : Status) → All IsUtf8 words → old.names ≡ Some world → HoldsOctets world → command words ≡ Ok (Merge asked)
-    → IfOk (sources_of world asked) (CanBeRead asked) → s ≢ status.Refused → s ≡ (merge_verdict world asked).status → IsDone old new (merge_verdict world asked) → IsMerged world asked new.names
+    → IfOk (sources_of world asked) (CanBeReadAgain asked) → s ≢ status.Refused → s ≡ (merge_verdict world asked).status → IsDone old new (merge_verdict world asked) → IsMerged world asked new.names
 run-merged old new words asked world s utf8 told holds is = verdict-merged world asked old new s told holds (command-sound words (Merge asked) is) (asked-texts words asked utf8 is)

@@ -79,6 +79,7 @@ begun-read time s fits is = record {
   octets = is.octets;
   entries = is.entries;
   title = is.title;
+  whole = is.whole;
   tracks = is.tracks;
   place = omega (arith, begun-later time s.1.shift);
 }

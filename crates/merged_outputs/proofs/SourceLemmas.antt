@@ -1,10 +1,11 @@
 -- What is read of the inputs of a merge can be written.
-use Rattle.std.proofs.Common.{◌≡◌, ◌<◌, ◌≤◌, ℕ, suc, ◌+◌, ◌^◌, ◌==◌, Bool, true, false, not, if◌then◌else◌, cond, List, [], ◌∷◌, length, find, map, Option, Some, None, IfSome, Result, Ok, Err, inl, inr, ◌⊎◌, eqb-true, refl, sym, ap, subst, ◌∙◌, arith, unwrap_or}
-use Rattle.std.specs.List.{All, zip}
+use Rattle.std.proofs.Common.{◌≡◌, ◌<◌, ◌≤◌, ℕ, suc, ◌+◌, ◌^◌, ◌==◌, Bool, true, false, not, ◌&&◌, ◌||◌, if◌then◌else◌, cond, List, [], ◌∷◌, length, find, map, Option, Some, None, IfSome, Result, Ok, Err, inl, inr, ◌⊎◌, eqb-true, refl, sym, ap, subst, ◌∙◌, arith, unwrap_or}
+use Rattle.std.specs.List.{All, list_all, zip}
 use Rattle.std.specs.Option.{option_map, option_map_or}
 use Rattle.std.specs.Str.{IsUtf8, is_utf8}
 use Rattle.std.proofs.lemmas.List.{length-map}
 use Rattle.std.proofs.lemmas.List.Elements.{All-nil, All-cons, All-head, All-tail, All-append, All-map}
+use Rattle.std.proofs.lemmas.List.Sums.{take_while-cons}
 use Rattle.std.proofs.lemmas.Slice.Zip.{length-zip}
 use Rattle.std.proofs.lemmas.Str.{IsUtf8-nil, IsUtf8-from_is_utf8}
 use Rattle.ebml_numbers.specs.Number.{AreOctets}
@@ -24,6 +25,7 @@ use Rattle.tree_format.specs.Node.{Node, id_of, IsMaster, HasRoom}
 use Rattle.tree_format.specs.Node as tree
 use Rattle.tree_format.specs.Reading.{tree_of}
 use Rattle.tree_format.specs.Standing.{IsSoundOf}
+use Rattle.tree_format.specs.Text.{HasNoZero}
 use Rattle.tree_format.specs.Values.{first_child}
 use Rattle.tree_format.proofs.ChildLemmas.{first_child-value, HasUint-of}
 use Rattle.tree_format.proofs.FoundLemmas.{tree_of-sound, tree_of-root}
@@ -58,10 +60,11 @@ use Rattle.merge_words.specs.declared.output.MergeWords.{MergeWords}
 use Rattle.merge_words.specs.Sound.{IsSoundFile, IsSoundMerge}
 use Rattle.input_files.specs.Inputs.{file_names, first_missing}
 use Rattle.merge_inputs.specs.Input.{InputRead, file_read, found_then, input_of, input_with, refusal_of, text_read, text_then, text_with, unless_refused}
-use Rattle.merge_inputs.specs.Select.{is_taken, kept_one, unmoved}
+use Rattle.merge_inputs.specs.Select.{is_taken, kept_one, takes, unmoved}
 use Rattle.merge_inputs.specs.Taken.{first_unusable, taken_from, taken_one, taken_track, value_for}
 use Rattle.merge_inputs.specs.Title.{title_of_info}
 use Rattle.merge_inputs.specs.declared.taken.TakenTrack.{TakenTrack}
+use Rattle.merge_inputs.specs.declared.track_type.TheConstants.{AUDIO_TRACK, SUBTITLE_TRACK, VIDEO_TRACK}
 use Rattle.merge_inputs.specs.declared.input.InputRefusal.{InputRefusal}
 use Rattle.merge_inputs.specs.declared.input.InputRefusal.TheVariants.{Damaged}
 use Rattle.merge_inputs.proofs.TakenLemmas.{AreTaken-read, taken-tracks}
@@ -80,7 +83,7 @@ use Rattle.mkv_merge.specs.Refused as refused
 use Rattle.mkv_merge.specs.declared.refusal.Refusal.{Refusal}
 use Rattle.mkv_merge.specs.declared.refusal.Refusal.TheVariants.{Differs, OutputIsInput, Plan}
 use Rattle.merge_words.specs.Texts.{HasTexts, AreTexts}
-use Rattle.merged_outputs.specs.Sources.{HoldsOctets, IsReadSource, IsReadTrack, AreSources}
+use Rattle.merged_outputs.specs.Sources.{HoldsOctets, IsReadSource, IsReadTrack, AreSources, is_taken_type}
 use Rattle.merged_outputs.proofs.PlaceLemmas.{placed-read}
 use Rattle.merged_outputs.proofs.TextLemmas.{entries-within, text-read, text-uids, text-usable}
 use Rattle.merged_outputs.proofs.TreeLemmas.{HasChildrenRead, tree_of-children, entries-octets, uid-small, IsOfOctets}
@@ -171,6 +174,23 @@ title-text (Some info) read = split (first_child TITLE info) refl
     split None found = IsUtf8-nil
     split (Some n) found = IsUtf8-from_is_utf8 (text_of (tree.body_of n)) (value n found title-in.kind)
 
+-- it has no zero octet
+text-whole : (body : List ℕ) → HasNoZero (text_of body)
+text-whole [] = refl
+text-whole (o ∷ body) = subst HasNoZero (sym (take_while-cons (λ octet. not (octet == 0)) o body)) (of (not (o == 0)) refl (text-whole body))
+  where
+    of : (keeps : Bool) → not (o == 0) ≡ keeps → HasNoZero (text_of body) → HasNoZero (cond keeps (o ∷ text_of body) [])
+    of true is rest = ap (λ b. b && list_all (λ octet. not (octet == 0)) (text_of body)) is ∙ rest
+    of false is rest = refl
+
+title-whole : (o : Option Node) → HasNoZero (title_of_info o)
+title-whole None = refl
+title-whole (Some info) = of (first_child TITLE info)
+  where
+    of : (o : Option Node) → HasNoZero (option_map_or (λ (n : Node). text_of (tree.body_of n)) o [])
+    of None = refl
+    of (Some n) = text-whole (tree.body_of n)
+
 good-title : (bytes : List ℕ) (segment : Header) (info : Option Node) → AreOctets bytes → and_then (first_tree INFO bytes segment) good_info ≡ Ok info → IsUtf8 (title_of_info info)
 good-title bytes segment info octets is =
     let found = and_then-ok (first_tree INFO bytes segment) good_info info is in
@@ -214,14 +234,31 @@ record HasTextsGiven (t : TakenTrack) : Type 0 where
   name : IfSome t.name IsUtf8
   language : IfSome t.language IsUtf8
 
-taken-texts : (words : FileWords) (id : ℕ) (list : List Track) → HasTexts words → All HasTextsGiven (taken_from words id list)
-taken-texts words id [] has = All-nil HasTextsGiven
-taken-texts words id (t ∷ ts) has =
-    All-append HasTextsGiven (taken_one words id t) (taken_from words (id + 1) ts) (one (is_taken words id t.kind)) (taken-texts words (id + 1) ts has)
+-- What holds of each track that the words take, with what they say of it, holds of those that are taken.
+pub taken-all : (P : TakenTrack → Type 0) (words : FileWords) (id : ℕ) (list : List Track) → ((k : ℕ) (t : Track) → is_taken words k t.kind ≡ true → P (taken_track words k t)) → All P (taken_from words id list)
+taken-all P words id [] each = All-nil P
+taken-all P words id (t ∷ ts) each =
+    All-append P (taken_one words id t) (taken_from words (id + 1) ts) (one (is_taken words id t.kind) refl) (taken-all P words (id + 1) ts each)
   where
-    one : (taken : Bool) → All HasTextsGiven (if taken then taken_track words id t ∷ [] else [])
-    one true = All-cons HasTextsGiven (taken_track words id t) [] (record { name = given-text id words.names has.names; language = given-text id words.languages has.languages }) (All-nil HasTextsGiven)
-    one false = All-nil HasTextsGiven
+    one : (taken : Bool) → is_taken words id t.kind ≡ taken → All P (if taken then taken_track words id t ∷ [] else [])
+    one true is = All-cons P (taken_track words id t) [] (each id t is) (All-nil P)
+    one false is = All-nil P
+
+taken-texts : (words : FileWords) (list : List Track) → HasTexts words → All HasTextsGiven (taken_from words 0 list)
+taken-texts words list has =
+    taken-all HasTextsGiven words 0 list (λ k t is. record { name = given-text k words.names has.names; language = given-text k words.languages has.languages })
+
+type-taken : (words : FileWords) (id type : ℕ) → is_taken words id type ≡ true → is_taken_type type ≡ true
+type-taken words id type = of (type == VIDEO_TRACK) (type == AUDIO_TRACK) (type == SUBTITLE_TRACK)
+  where
+    of : (video audio subtitle : Bool) → (if video then takes words.video id else if audio then takes words.audio id else if subtitle then takes words.subtitles id else false) ≡ true → (video || audio || subtitle) ≡ true
+    of true audio subtitle is = refl
+    of false true subtitle is = refl
+    of false false true is = refl
+    of false false false is = absurd (cc)
+
+taken-types : (words : FileWords) (list : List Track) → All (λ (t : TakenTrack). is_taken_type t.track.kind ≡ true) (taken_from words 0 list)
+taken-types words list = taken-all (λ (t : TakenTrack). is_taken_type t.track.kind ≡ true) words 0 list (λ k t is. type-taken words k t.kind is)
 
 -- ---- an input
 
@@ -251,8 +288,9 @@ taken-read words list sound has tracks usable =
     let taken : List TakenTrack = taken_from words 0 list in
     let good = AreTaken-read words list taken refl tracks.read sound usable in
     let uids = taken-tracks (λ (t : Track). t.uid < 2 ^ 64) words list tracks.uids in
-    let texts = taken-texts words 0 list has in
-    λ k d below. record { taken = good k d below; uid = uids k d below; name = (texts k d below).name; language = (texts k d below).language }
+    let types = taken-types words list in
+    let texts = taken-texts words list has in
+    λ k d below. record { taken = good k d below; kind = types k d below; uid = uids k d below; name = (texts k d below).name; language = (texts k d below).language }
 
 file-read : (words : FileWords) (webm : Bool) (held : ℕ) (bytes : List ℕ) (read : InputRead) → AreOctets bytes → IsSoundFile words → HasTexts words → file_read words webm held bytes ≡ Ok read → IsReadSource (bytes, read)
 file-read words webm held bytes read octets sound has is =
@@ -264,7 +302,7 @@ file-read words webm held bytes read octets sound has is =
     let found = records-read bytes o.segment r octets records.1.0 in
     let usable : first_unusable (taken_from words 0 r.tracks) ≡ None = no-unusable (first_unusable (taken_from words 0 r.tracks)) made.0 in
     subst (λ (i : InputRead). IsReadSource (bytes, i)) made.1
-    (record { octets = octets; entries = tt; title = found.title; tracks = taken-read words r.tracks sound has found.tracks usable; place = unmoved-place words })
+    (record { octets = octets; entries = tt; title = found.title; whole = title-whole r.info; tracks = taken-read words r.tracks sound has found.tracks usable; place = unmoved-place words })
 
 text-ok : (found : Result (List Entry) TextRefusal) (more : List Entry → InputRead) (read : InputRead) → text_then found more ≡ Ok read → (entries : List Entry) × ((found ≡ Ok entries) × (more entries ≡ read))
 text-ok (Ok entries) more read is = (entries, (refl, cc))
@@ -277,6 +315,7 @@ srt-read words bytes read octets sound has is =
       octets = octets;
       entries = entries-within bytes found.0 found.1.0;
       title = IsUtf8-nil;
+      whole = refl;
       tracks = taken-read words (track_of text_entry ∷ []) sound has (record { read = text-read; uids = text-uids }) (text-usable words);
       place = unmoved-place words;
     })
@@ -288,13 +327,26 @@ input-read words webm held bytes read octets sound has = of (is_srt words.name b
     of true is = srt-read words bytes read octets sound has is
     of false is = file-read words webm held bytes read octets sound has is
 
+-- The words take of a file tracks that it has.
+pub input-taken : (words : FileWords) (webm : Bool) (held : ℕ) (bytes : List ℕ) (read : InputRead) → input_of words webm held bytes ≡ Ok read → (list : List Track) × (taken_from words 0 list ≡ read.taken)
+input-taken words webm held bytes read = of (is_srt words.name bytes)
+  where
+    of : (text : Bool) → (if text then text_read words bytes else file_read words webm held bytes) ≡ Ok read → (list : List Track) × (taken_from words 0 list ≡ read.taken)
+    of true is = let found = text-ok (srt_text bytes) (text_with words) read is in (track_of text_entry ∷ [], ap (λ (i : InputRead). i.taken) found.1.1)
+    of false is =
+        let outline = found-ok (outline_of held bytes) _ read is in
+        let records = found-ok (file_records bytes outline.0.segment) _ read outline.1.1 in
+        let r : FileRecords = records.0 in
+        let made = unrefused-ok (refusal_of (taken_from words 0 r.tracks)) (input_with words webm outline.0 r) read records.1.1 in
+        (r.tracks, ap (λ (i : InputRead). i.taken) made.1)
+
 -- ---- all inputs
 
-then-ok : {A B : Type 0} (found : Result A Refusal) (more : A → Result B Refusal) (y : B) → refused.and_then found more ≡ Ok y → (x : A) × ((found ≡ Ok x) × (more x ≡ Ok y))
+pub then-ok : {A B : Type 0} (found : Result A Refusal) (more : A → Result B Refusal) (y : B) → refused.and_then found more ≡ Ok y → (x : A) × ((found ≡ Ok x) × (more x ≡ Ok y))
 then-ok (Ok x) more y is = (x, (refl, is))
 then-ok (Err why) more y is = absurd (cc)
 
-numbered-ok : (k : ℕ) (found : Result InputRead InputRefusal) (read : InputRead) → numbered k found ≡ Ok read → found ≡ Ok read
+pub numbered-ok : (k : ℕ) (found : Result InputRead InputRefusal) (read : InputRead) → numbered k found ≡ Ok read → found ≡ Ok read
 numbered-ok k (Ok one) read is = ap (λ (i : InputRead). Ok i) (cc)
 numbered-ok k (Err why) read is = absurd (cc)
 
@@ -318,7 +370,7 @@ inputs-read webm k held (f ∷ fs) (c ∷ cs) reads same octets sound has is =
 -- ---- the Chapters of a chapter file
 
 chapters-source : (bytes : List ℕ) (read : InputRead) (chapters : Option Node) → IsReadSource (bytes, read) → IsReadSource (bytes, with_chapters chapters read)
-chapters-source bytes read chapters is = record { octets = is.octets; entries = is.entries; title = is.title; tracks = is.tracks; place = is.place }
+chapters-source bytes read chapters is = record { octets = is.octets; entries = is.entries; title = is.title; whole = is.whole; tracks = is.tracks; place = is.place }
 
 others-chaptered : (contents : List (List ℕ)) (reads : List InputRead) → All IsReadSource (zip contents reads) → All IsReadSource (zip contents (map (with_chapters None) reads))
 others-chaptered [] [] each = each
@@ -345,7 +397,7 @@ chaptered-read webm (file.Read chapters) contents reads each = first-chaptered (
 -- ---- inputs with times
 
 times-source : (bytes : List ℕ) (read : InputRead) (times : List (ℕ × Listing)) → IsReadSource (bytes, read) → IsReadSource (bytes, with_listings times read)
-times-source bytes read times is = record { octets = is.octets; entries = is.entries; title = is.title; tracks = is.tracks; place = is.place }
+times-source bytes read times is = record { octets = is.octets; entries = is.entries; title = is.title; whole = is.whole; tracks = is.tracks; place = is.place }
 
 timed-read : (files : List TimesFile) (input : ℕ) (contents : List (List ℕ)) (reads : List InputRead) → All IsReadSource (zip contents reads) → All IsReadSource (zip contents (timed_from files input reads))
 timed-read files input [] [] each = each
@@ -383,9 +435,25 @@ all-alike : (why : Option Refusal) (reads alike : List InputRead) → refused.un
 all-alike None reads alike is = cc
 all-alike (Some why) reads alike is = absurd (cc)
 
-module _ (words : MergeWords) (sources : List Source) (sound : IsSoundMerge words) (texts : AreTexts words) where
-  with-contents : (given : TextFiles) (contents : List (List ℕ)) → length contents ≡ length words.files → All AreOctets contents → sources_with words given contents ≡ Ok sources → AreSources words sources
-  with-contents given contents same octets is =
+-- what the files of a merge hold
+abbrev pub contents_held : (List ℕ → Option (List ℕ)) → MergeWords → List (List ℕ)
+contents_held world words = map (λ (name : List ℕ). unwrap_or (world name) []) (file_names words.files)
+
+-- What the sources of a merge were read of: of each file what it holds; then they got the Chapters and the times of text files, and were put
+-- in place.
+pub record WereRead (world : List ℕ → Option (List ℕ)) (words : MergeWords) (sources : List Source) : Type 0 where
+  pub given : TextFiles
+  pub found : List InputRead
+  pub read : inputs_of words (contents_held world words) ≡ Ok found
+  pub placed : in_place (zip (contents_held world words) (timed_from given.times 0 (chaptered with_chapters words.webm given.chapters found))) ≡ sources
+  pub unrefused : plan_refusal words (reads_of sources) ≡ None
+
+module _ (world : List ℕ → Option (List ℕ)) (words : MergeWords) (sources : List Source) where
+  abbrev contents : List (List ℕ)
+  contents = contents_held world words
+
+  with-contents : (given : TextFiles) → sources_with words given contents ≡ Ok sources → WereRead world words sources
+  with-contents given is =
       let planned = then-ok (sources_read words given contents) (merge.unless_refused words) sources is in
       let good = no-refusal (option_map Plan (plan_refusal words (reads_of planned.0))) planned.0 sources planned.1.1 in
       let inputs = then-ok (inputs_with words given contents) _ planned.0 planned.1.0 in
@@ -396,35 +464,47 @@ module _ (words : MergeWords) (sources : List Source) (sound : IsSoundMerge word
       let whole : chaptered with_chapters words.webm chapters found.0 ≡ headed.0 = all-alike (chapters_refusal chapters) (chaptered with_chapters words.webm chapters found.0) headed.0 headed.1.0 in
       let timed : timed_from given.times 0 headed.0 ≡ reads = all-alike (times_refusal given.times) (timed_from given.times 0 headed.0) reads headed.1.1 in
       let alike = then-ok (refused.unless (option_map Differs (append_refusal reads)) reads) _ planned.0 inputs.1.1 in
-      let read = subst (λ (rs : List InputRead). All IsReadSource (zip contents rs)) timed
-      (timed-read given.times 0 contents headed.0 (subst (λ (rs : List InputRead). All IsReadSource (zip contents rs)) whole
-      (chaptered-read words.webm chapters contents found.0 (inputs-read words.webm 0 0 words.files contents found.0 same octets sound.each texts.files found.1.0)))) in
       let made : in_place (zip contents alike.0) ≡ planned.0 = (let last = alike.1.1 in cc) in
-      let placed : in_place (zip contents reads) ≡ sources = ap (λ (rs : List InputRead). in_place (zip contents rs)) (all-alike (option_map Differs (append_refusal reads)) reads alike.0 alike.1.0) ∙ made ∙ good.1 in
+      let all : timed_from given.times 0 (chaptered with_chapters words.webm chapters found.0) ≡ alike.0 = ap (timed_from given.times 0) whole ∙ timed ∙ all-alike (option_map Differs (append_refusal reads)) reads alike.0 alike.1.0 in
       record {
-        each = subst (All IsReadSource) placed (placed-read (zip contents reads) (omega (arith, length-zip contents reads, same, sound.files.most)) read);
+        given = given;
+        found = found.0;
+        read = found.1.0;
+        placed = ap (λ (rs : List InputRead). in_place (zip contents rs)) all ∙ made ∙ good.1;
         unrefused = ap (λ (each : List Source). plan_refusal words (reads_of each)) (sym good.1) ∙ unplanned (plan_refusal words (reads_of planned.0)) good.0;
       }
 
-  settled-ok : (given : TextFiles) (why : Option Refusal) (contents : List (List ℕ)) → refused.and_then (refused.unless why contents) (sources_with words given) ≡ Ok sources → sources_with words given contents ≡ Ok sources
-  settled-ok given None contents is = is
-  settled-ok given (Some why) contents is = absurd (cc)
+  settled-ok : (given : TextFiles) (why : Option Refusal) → refused.and_then (refused.unless why contents) (sources_with words given) ≡ Ok sources → sources_with words given contents ≡ Ok sources
+  settled-ok given None is = is
+  settled-ok given (Some why) is = absurd (cc)
 
-  -- The sources of a merge can be written.
-  pub sources-read : (world : List ℕ → Option (List ℕ)) → HoldsOctets world → sources_of world words ≡ Ok sources → AreSources words sources
-  sources-read world holds is =
+  -- The sources of a merge were read so.
+  pub were-read : sources_of world words ≡ Ok sources → WereRead world words sources
+  were-read is =
       let begun = then-ok (refused.unless (option_map OutputIsInput (first_written words)) (text_files world words.chapters words.files)) (sources_beside world words) sources is in
       let given : TextFiles = begun.0 in
       let there = then-ok (contents_of world words.files) (sources_settled world words given) sources begun.1.1 in
-      let same = there-ok (first_missing world names) contents there.0 there.1.0 in
-      with-contents given contents many (contents-octets world names holds)
-      (settled-ok given (begun_refusal world words given) contents (ap (sources_settled world words given) same ∙ there.1.1))
-    where
-      names : List (List ℕ)
-      names = file_names words.files
+      let same = there-ok (first_missing world (file_names words.files)) contents there.0 there.1.0 in
+      with-contents given (settled-ok given (begun_refusal world words given) (ap (sources_settled world words given) same ∙ there.1.1))
 
-      contents : List (List ℕ)
-      contents = map (λ (name : List ℕ). unwrap_or (world name) []) names
+-- The sources of a merge can be written.
+pub sources-read : (words : MergeWords) (sources : List Source) → IsSoundMerge words → AreTexts words → (world : List ℕ → Option (List ℕ)) → HoldsOctets world → sources_of world words ≡ Ok sources → AreSources words sources
+sources-read words sources sound texts world holds is =
+    let were = were-read world words sources is in
+    let given : TextFiles = were.given in
+    let found : List InputRead = were.found in
+    let headed : List InputRead = chaptered with_chapters words.webm given.chapters found in
+    let octets = contents-octets world (file_names words.files) holds in
+    let own = inputs-read words.webm 0 0 words.files contents found many octets sound.each texts.files were.read in
+    let timed = timed-read given.times 0 contents headed (chaptered-read words.webm given.chapters contents found own) in
+    record {
+      each = subst (All IsReadSource) were.placed
+          (placed-read (zip contents (timed_from given.times 0 headed)) (omega (arith, length-zip contents (timed_from given.times 0 headed), many, sound.files.most)) timed);
+      unrefused = were.unrefused;
+    }
+  where
+    contents : List (List ℕ)
+    contents = contents_held world words
 
-      many : length contents ≡ length words.files
-      many = length-map names (λ (name : List ℕ). unwrap_or (world name) []) ∙ length-map words.files (λ (w : FileWords). w.name)
+    many : length contents ≡ length words.files
+    many = length-map (file_names words.files) (λ (name : List ℕ). unwrap_or (world name) []) ∙ length-map words.files (λ (w : FileWords). w.name)

@@ -1,5 +1,5 @@
 -- The Tracks of a merge are tracks, numbered from 1 on.
-use Rattle.std.proofs.Common.{◌≡◌, ◌≢◌, ◌<◌, ◌≤◌, ℕ, zero, suc, ◌+◌, ◌^◌, ◌==◌, true, cond, List, [], ◌∷◌, length, map, filter, get_or, eq-eqb, refl, sym, ap, subst, ◌∙◌, arith, None}
+use Rattle.std.proofs.Common.{◌≡◌, ◌≢◌, ◌<◌, ◌≤◌, ℕ, zero, suc, ◌+◌, ◌^◌, ◌==◌, cond, List, [], ◌∷◌, length, map, filter, get_or, refl, sym, ap, subst, ◌∙◌, arith, None}
 use Rattle.std.specs.List.{All, AllPairs}
 use Rattle.std.proofs.lemmas.List.{length-map}
 use Rattle.std.proofs.lemmas.List.Elements.{All-nil, All-cons, All-head, All-tail, All-map, All-weaker}
@@ -66,6 +66,10 @@ entries-length number [] (t ∷ taken) same = absurd (omega arith)
 entries-length number (uid ∷ uids) [] same = absurd (omega arith)
 entries-length number (uid ∷ uids) (t ∷ taken) same = ap suc (entries-length (number + 1) uids taken (omega arith))
 
+-- There are as many as tracks were taken.
+pub entries-count : (taken : List TakenTrack) → length (entries_of taken) ≡ length taken
+entries-count taken = entries-length 1 (uids_of taken) taken (length-uids taken)
+
 -- ---- numbers that count are distinct
 
 counted-at : (n : ℕ) (ns : List ℕ) (k d : ℕ) → CountFrom n ns → k < length ns → get_or ns k d ≡ n + k
@@ -81,36 +85,45 @@ counted-apart n ns count i j d before inside same =
 
 -- ---- the Tracks
 
--- all are entries
-filter-entries : (es : List Node) → All IsWritten es → filter (λ n. id_of n == TRACK_ENTRY) es ≡ es
+-- a TrackEntry
+abbrev IsOne : Node → Type 0
+IsOne n = id_of n ≡ TRACK_ENTRY
+
+filter-entries : (es : List Node) → All IsOne es → filter (λ n. id_of n == TRACK_ENTRY) es ≡ es
 filter-entries [] all = refl
 filter-entries (e ∷ es) all =
-    let own : (id_of e == TRACK_ENTRY) ≡ true = eq-eqb (id_of e) TRACK_ENTRY (All-head IsWritten e es all).whole.id in
-    ap (λ b. cond b (e ∷ filter (λ n. id_of n == TRACK_ENTRY) es) (filter (λ n. id_of n == TRACK_ENTRY) es)) own
-    ∙ ap (λ l. e ∷ l) (filter-entries es (All-tail IsWritten e es all))
+    ap (λ (i : ℕ). cond (i == TRACK_ENTRY) (e ∷ filter (λ n. id_of n == TRACK_ENTRY) es) (filter (λ n. id_of n == TRACK_ENTRY) es)) (All-head IsOne e es all)
+    ∙ ap (λ l. e ∷ l) (filter-entries es (All-tail IsOne e es all))
 
-entries-all : (es : List Node) → All IsWritten es → track.entries_of (output_tracks es) ≡ es
+-- All entries of a Tracks Element that is made of them are found in it.
+pub entries-all : (es : List Node) → All IsOne es → track.entries_of (output_tracks es) ≡ es
 entries-all es all = ap (filter (λ n. id_of n == TRACK_ENTRY)) (list-nodes es) ∙ filter-entries es all
 
-all-stand : (es : List Node) → All IsWritten es → AllStandIn TRACKS (nodes_of es)
-all-stand [] all = tt
-all-stand (e ∷ es) all = (entry-stands e (All-head IsWritten e es all).whole, all-stand es (All-tail IsWritten e es all))
+written-all : (es : List Node) → All IsWritten es → track.entries_of (output_tracks es) ≡ es
+written-all es all = entries-all es (All-weaker IsWritten IsOne (λ e w. w.whole.id) es all)
 
-all-low : (es : List Node) → All IsWritten es → depth_all (nodes_of es) < deepest
+-- Whole entries stand in it,
+pub all-stand : (es : List Node) → All IsWholeEntry es → AllStandIn TRACKS (nodes_of es)
+all-stand [] all = tt
+all-stand (e ∷ es) all = (entry-stands e (All-head IsWholeEntry e es all), all-stand es (All-tail IsWholeEntry e es all))
+
+-- and fit into it.
+pub all-low : (es : List Node) → All IsWholeEntry es → depth_all (nodes_of es) < deepest
 all-low [] all = omega arith
 all-low (e ∷ es) all =
-    let first = (All-head IsWritten e es all).whole.room in
-    let rest = all-low es (All-tail IsWritten e es all) in
+    let first = (All-head IsWholeEntry e es all).room in
+    let rest = all-low es (All-tail IsWholeEntry e es all) in
     omega arith
 
 tracks-record : (es : List Node) → All IsWritten es → length (content (output_tracks es)) ≤ longest → IsRecord TRACKS (output_tracks es)
 tracks-record es all short =
-    let low = all-low es all in
-    record { id = refl; master = refl; sound = all-stand es all; limits = record { long = short; deep = omega arith } }
+    let whole : All IsWholeEntry es = All-weaker IsWritten IsWholeEntry (λ e w. w.whole) es all in
+    let low = all-low es whole in
+    record { id = refl; master = refl; sound = all-stand es whole; limits = record { long = short; deep = omega arith } }
 
 tracks-of : (es : List Node) → All IsWritten es → CountFrom 1 (map number_of es) → length es ≤ MOST_LANES → length (content (output_tracks es)) ≤ longest → output.AreTracks (output_tracks es)
 tracks-of es all count few short =
-    let is = entries-all es all in
+    let is = written-all es all in
     let P : List Node → Type 0 = AreTracks in
     let Q : List Node → Type 0 = λ l. CountFrom 1 (map number_of l) in
     let R : List Node → Type 0 = λ l. length l ≤ MOST_LANES in
@@ -133,24 +146,21 @@ module _ (taken : List TakenTrack) (read : All IsReadTrack taken) (few : length 
       let own : All (λ uid. uid < 2 ^ 64) ids = All-map (λ uid. uid < 2 ^ 64) (λ (t : TakenTrack). t.track.uid) taken (All-weaker IsReadTrack (λ (t : TakenTrack). t.track.uid < 2 ^ 64) (λ t r. r.uid) taken read) in
       numbers-fit ids (2 ^ 64) own (omega arith)
 
-  pub entries-count : length (entries_of taken) ≡ length taken
-  entries-count = entries-length 1 (uids_of taken) taken (length-uids taken)
-
   -- They are tracks.
   pub taken-tracks : length (content (output_tracks (entries_of taken))) ≤ longest → output.AreTracks (output_tracks (entries_of taken))
   taken-tracks short =
       let all = entries-written 1 (uids_of taken) taken (omega arith) (omega arith) uids-small read in
       let count = entries-numbers 1 (uids_of taken) taken (omega arith) (omega arith) uids-small read in
-      tracks-of (entries_of taken) all count (omega (arith, entries-count)) short
+      tracks-of (entries_of taken) all count (omega (arith, entries-count taken)) short
 
   -- Nothing says that their frames were changed.
   pub taken-plain : All IsPlain (track.entries_of (output_tracks (entries_of taken)))
   taken-plain =
       let all = entries-written 1 (uids_of taken) taken (omega arith) (omega arith) uids-small read in
-      subst (All IsPlain) (sym (entries-all (entries_of taken) all)) (All-weaker IsWritten IsPlain (λ e w. w.plain) (entries_of taken) all)
+      subst (All IsPlain) (sym (written-all (entries_of taken) all)) (All-weaker IsWritten IsPlain (λ e w. w.plain) (entries_of taken) all)
 
   -- Each is a lane.
   pub taken-lanes : length (track.entries_of (output_tracks (entries_of taken))) ≡ length taken
   taken-lanes =
       let all = entries-written 1 (uids_of taken) taken (omega arith) (omega arith) uids-small read in
-      ap length (entries-all (entries_of taken) all) ∙ entries-count
+      ap length (written-all (entries_of taken) all) ∙ entries-count taken

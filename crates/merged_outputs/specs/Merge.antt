@@ -97,7 +97,7 @@ abbrev pub laid_out : PlannedOutput → Output
 laid_out o = record { name = o.name; content = layout o.document }
 
 -- A merge was written in a world of names: its outputs are laid out, octet for octet, and every other name has what it had before. What
--- the sources give besides tracks and blocks can be read again. Each output holds what it is to hold, and one that isn't split all
+-- the sources give besides tracks and blocks can be read again, and identifiers have 64 bits. Each output holds what it is to hold, and one that isn't split all
 -- lanes; together they are the parts of the merged list; and parts that end at a load keep its limit.
 pub record IsMerged (world : List ℕ → Option (List ℕ)) (words : MergeWords) (new : Names) : Type 0 where
   pub sources : List Source

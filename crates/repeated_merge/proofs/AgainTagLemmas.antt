@@ -30,11 +30,12 @@ use Rattle.merged_records.specs.Tags.{all_uids, joined_tags, merged_tags, number
 use Rattle.merged_records.specs.Tags.{number_of as number_among, uids_of as uids_given}
 use Rattle.merge_inputs.specs.Input.{InputRead}
 use Rattle.merge_inputs.specs.declared.taken.TakenTrack.{TakenTrack}
+use Rattle.merge_plan.specs.Identifiers.{Have64Bits, Identifiers, identifiers_of}
 use Rattle.merge_plan.specs.Records.{anywhere, records_of, tags_of, tracks_taken, uids_of}
 use Rattle.repeated_merge.specs.Again.{HasIdentifiersOf, TagsAreAlikeAgain}
 use Rattle.repeated_merge.specs.Alike.{MayBeAlike}
 use Rattle.repeated_merge.specs.Joined.{IsWrittenTag}
-use Rattle.repeated_merge.specs.Named.{Have64Bits, Identifiers, NamesOneOf, identifiers_of, tags_joined}
+use Rattle.repeated_merge.specs.Named.{NamesOneOf, tags_joined}
 use Rattle.repeated_merge.specs.Placed.{MayStandAs, StandsAs}
 use Rattle.repeated_merge.proofs.ContentLemmas.{same-body}
 use Rattle.repeated_merge.proofs.JoinedLemmas.{joined-stay}
@@ -65,7 +66,7 @@ module _ (reads : List InputRead) (again : InputRead) (has : HasIdentifiersOf re
   abbrev own : Identifiers
   own = identifiers_of reads
 
-  abbrev one : InputRecords
+  abbrev pub one : InputRecords
   one = record {
     track_uids = map (λ (t : TakenTrack). t.track.uid) again.taken;
     track_numbers = own.tracks;
@@ -93,10 +94,10 @@ module _ (reads : List InputRead) (again : InputRead) (has : HasIdentifiersOf re
   read-files (a ∷ files) = ap (λ (uids : List ℕ). a.uid ∷ uids) (read-files files)
 
   -- it gives its tracks, editions, chapters and files their own
-  own-editions : edition_numbers (one ∷ []) ≡ own.editions
+  pub own-editions : edition_numbers (one ∷ []) ≡ own.editions
   own-editions = ap renumbered (read-editions again.chapters ∙ has.editions) ∙ stays (edition_uids (joined_chapters (records_of reads)))
 
-  own-chapters : chapter_numbers (one ∷ []) ≡ own.chapters
+  pub own-chapters : chapter_numbers (one ∷ []) ≡ own.chapters
   own-chapters = ap renumbered (read-chapters again.chapters ∙ has.chapters) ∙ stays (chapter_uids (joined_chapters (records_of reads)))
 
   own-files : file_numbers (one ∷ []) ≡ own.files
@@ -131,7 +132,7 @@ module _ (reads : List InputRead) (again : InputRead) (has : HasIdentifiersOf re
   pub given-one : records_of (again ∷ []) ≡ one ∷ []
   given-one = ap₂ given_at has.alone has.keep ∙ ap numbered_by own-tracks
 
-  abbrev again_numbers : ℕ → ℕ → Option ℕ
+  abbrev pub again_numbers : ℕ → ℕ → Option ℕ
   again_numbers = numbers_for one (all_uids own.editions own.chapters own.files)
 
   -- so the targets keep theirs
@@ -158,10 +159,10 @@ module _ (reads : List InputRead) (again : InputRead) (has : HasIdentifiersOf re
   -- ---- the Tags
 
   -- what is written of Tags that it may have
-  abbrev written_again : Option Node → List Node
+  abbrev pub written_again : Option Node → List Node
   written_again tags = children_in (option_map (written_tags keep_all again_numbers) tags) ++ []
 
-  tags-made : tags_of (again ∷ []) ≡ with_some (master TAGS 0 (nodes_of (written_again again.tags)))
+  pub tags-made : tags_of (again ∷ []) ≡ with_some (master TAGS 0 (nodes_of (written_again again.tags)))
   tags-made =
       ap merged_tags given-one
       ∙ ap (λ (editions : List ℕ). with_some (joined_tags (all_uids editions (chapter_numbers (one ∷ [])) (file_numbers (one ∷ []))) (one ∷ []))) own-editions

@@ -1,11 +1,11 @@
 -- The tracks of an output are taken and merged again as they were.
-use Rattle.std.proofs.Common.{◌≡◌, ◌<◌, ℕ, ◌+◌, ◌^◌, ◌==◌, Bool, true, false, ◌||◌, if◌then◌else◌, List, [], ◌∷◌, ◌++◌, length, map, All, Option, None, Some, refl, sym, ap, ap₂, subst, ◌∙◌, suc, IsSome}
+use Rattle.std.proofs.Common.{◌≡◌, ◌<◌, ℕ, ◌+◌, ◌^◌, ◌==◌, Bool, true, false, ◌||◌, if◌then◌else◌, List, [], ◌∷◌, ◌++◌, length, map, All, Option, None, Some, refl, sym, ap, ap₂, subst, ◌∙◌, suc}
 use Rattle.std.specs.List.{AllZip}
 use Rattle.std.specs.Option.{option_and_then, option_map, option_map_or}
 use Rattle.std.proofs.lemmas.List.{length-map}
 use Rattle.std.proofs.lemmas.List.Elements.{All-nil, All-cons, All-head, All-tail}
-use Rattle.mkv_schema.specs.declared.ids.TheConstants.{CONTENT_ENCODING, CONTENT_ENCODINGS, TRACK_TYPE, TRACKS}
-use Rattle.tree_format.specs.Node.{Node, leaf, master, nodes_of, IsMaster}
+use Rattle.mkv_schema.specs.declared.ids.TheConstants.{CONTENT_ENCODING, CONTENT_ENCODINGS, TRACKS}
+use Rattle.tree_format.specs.Node.{Node, master, nodes_of}
 use Rattle.tree_format.specs.NormalForm.{octets}
 use Rattle.tree_format.specs.Standing.{placed}
 use Rattle.tree_format.specs.Values.{first_child}
@@ -27,9 +27,11 @@ use Rattle.merge_inputs.specs.declared.track_type.TheConstants.{AUDIO_TRACK, SUB
 use Rattle.merge_plan.specs.Plan.{rule_of, usual_rule}
 use Rattle.merge_plan.specs.Records.{change_of, entries_from, entry_of, uids_of}
 use Rattle.merge_plan.specs.Records.{entries_of as entries_given}
+use Rattle.merged_outputs.specs.Sources.{is_taken_type}
+use Rattle.merged_outputs.proofs.EntryLemmas.{taken-whole}
 use Rattle.repeated_merge.specs.AgainLanes.{IsTakenPlain}
-use Rattle.repeated_merge.specs.AgainTracks.{AreTakenOf, EntriesAreWrittenAgain, TracksAreTakenAgain}
-use Rattle.repeated_merge.specs.Plain.{is_taken_type, plain_file}
+use Rattle.repeated_merge.specs.AgainTracks.{AreTakenOf, ArePlainTracks, EntriesAreWrittenAgain, TracksAreTakenAgain}
+use Rattle.mkv_merge.specs.Plain.{plain_file}
 use Rattle.repeated_merge.specs.Records.{AreTracksOf}
 use Rattle.repeated_merge.specs.Tracks.{IsTrackOf}
 use Rattle.repeated_merge.proofs.OwnTrackLemmas.{own-tracks}
@@ -65,7 +67,8 @@ all-taken name id (t ∷ ts) types =
 abbrev AreTracks : List Node → List Track → Type 0
 AreTracks es ts = AllZip IsTrackOf es ts
 
-abbrev IsBare : Node → Type 0
+-- an entry has no ContentEncodings
+abbrev pub IsBare : Node → Type 0
 IsBare entry = first_child CONTENT_ENCODINGS entry ≡ None
 
 abbrev HasTypeTaken : Node → Type 0
@@ -82,13 +85,17 @@ none-there : {A B : Type 0} (f : A → B) (o : Option A) → option_map f o ≡ 
 none-there f None none = refl
 none-there f (Some x) none = absurd (cc)
 
+-- it has none where it was written
+pub bare-placed : (e : Node) (p : ℕ) → IsBare e → IsBare (placed p e)
+bare-placed e p bare =
+    none-there (λ (n : Node). true) (first_child CONTENT_ENCODINGS (placed p e))
+    (first-placed (λ (n : Node). true) (λ n q. refl) CONTENT_ENCODINGS refl e p ∙ ap (option_map (λ (n : Node). true)) bare)
+
 -- an entry without ContentEncodings takes nothing from the front of frames, also where it is read
 bare-prefix : (e : Node) (t : Track) → IsTrackOf e t → IsBare e → prefix_of t.entry ≡ []
 bare-prefix e t is bare =
-    let none : first_child CONTENT_ENCODINGS (placed is.stands.0 e) ≡ None =
-    none-there (λ (n : Node). true) (first_child CONTENT_ENCODINGS (placed is.stands.0 e))
-    (first-placed (λ (n : Node). true) (λ n p. refl) CONTENT_ENCODINGS refl e is.stands.0 ∙ ap (option_map (λ (n : Node). true)) bare) in
-    ap prefix_of is.stands.1 ∙ ap (λ (o : Option Node). option_map_or settings_of (option_and_then (λ e. first_child CONTENT_ENCODING e) o) []) none
+    ap prefix_of is.stands.1
+    ∙ ap (λ (o : Option Node). option_map_or settings_of (option_and_then (λ e. first_child CONTENT_ENCODING e) o) []) (bare-placed e is.stands.0 bare)
 
 module _ (name : List ℕ) where
   as-many : (id : ℕ) (es : List Node) (ts : List Track) → AreTracks es ts → length (taken_plain name id ts) ≡ length es
@@ -174,17 +181,10 @@ changes-small number (uid ∷ uids) [] small = All-nil IsSmallChange
 changes-small number (uid ∷ uids) (t ∷ taken) small =
     All-cons IsSmallChange (change_of number uid t) (changes_from (number + 1) uids taken) (All-head Small uid uids small) (changes-small (number + 1) uids taken (All-tail Small uid uids small))
 
--- it is a master, since it has children
-pub master-of : (n : Node) → IsSome (first_child TRACK_TYPE n) → IsMaster n
-master-of (leaf id at body) some = absurd (cc)
-master-of (master id at kids) some = refl
-
-taken-whole : (taken : List TakenTrack) → All IsTaken taken → All IsWholeEntry (entries_in taken)
-taken-whole [] are = All-nil IsWholeEntry
-taken-whole (t ∷ taken) are =
-    let is : IsTaken t = All-head IsTaken t taken are in
-    All-cons IsWholeEntry t.track.entry (entries_in taken)
-    (record { id = is.entry.id; master = master-of t.track.entry is.track.type; sound = is.entry.sound; room = is.room }) (taken-whole taken (All-tail IsTaken t taken are))
+all-whole : (taken : List TakenTrack) → All IsTaken taken → All IsWholeEntry (entries_in taken)
+all-whole [] are = All-nil IsWholeEntry
+all-whole (t ∷ taken) are =
+    All-cons IsWholeEntry t.track.entry (entries_in taken) (taken-whole t (All-head IsTaken t taken are)) (all-whole taken (All-tail IsTaken t taken are))
 
 -- a taken track says what its entry says
 said-uids : (taken : List TakenTrack) → All IsTaken taken → map (λ (t : TakenTrack). t.track.uid) taken ≡ map uid_of (entries_in taken)
@@ -201,6 +201,13 @@ plain-entries name id number [] ts = refl
 plain-entries name id number (uid ∷ uids) [] = refl
 plain-entries name id number (uid ∷ uids) (t ∷ ts) =
     ap (λ (ns : List Node). written_entry (plain number uid) t.entry ∷ ns) (plain-entries name (id + 1) (number + 1) uids ts)
+
+pub entries-plain : (name : List ℕ) (tracks : Node) (read : List Track) → ArePlainTracks tracks → AreTracksOf tracks read
+    → entries_given (taken_from (plain_file name) 0 read) ≡ written_entries (plain_changes 1 (uids_of (taken_from (plain_file name) 0 read))) (map (λ (t : Track). t.entry) read)
+entries-plain name tracks read are_plain are =
+    let is : taken_from (plain_file name) 0 read ≡ taken_plain name 0 read = all-taken name 0 read (types-taken (entries_of tracks) read are.say are_plain.types) in
+    ap entries_given is ∙ plain-entries name 0 1 (uids_of (taken_plain name 0 read)) read
+    ∙ ap (λ (ts : List TakenTrack). written_entries (plain_changes 1 (uids_of ts)) (map (λ (t : Track). t.entry) read)) (sym is)
 
 plain-uids : (name : List ℕ) (id : ℕ) (es : List Node) → map (λ (t : TakenTrack). t.track.uid) (taken_plain name id (map track_of es)) ≡ map uid_of (map (λ (t : Track). t.entry) (map track_of es))
 plain-uids name id [] = refl
@@ -226,5 +233,5 @@ entries-again stay name taken read are small plain of_them =
     ap (λ (ts : List TakenTrack). map octets (entries_given ts)) (all-taken name 0 read (types-taken (entries_of tracks) read of_them.say plain.types))
     ∙ ap (map octets) (plain-entries name 0 1 (uids_of again) read)
     ∙ ap (λ (us : List ℕ). map octets (written_entries (plain_changes 1 (renumbered us)) (map (λ (t : Track). t.entry) read))) again_uids
-    ∙ own-tracks stay changes (entries_in taken) read (taken-whole taken are) (changes-small 1 uids taken small) numbered of_written
+    ∙ own-tracks stay changes (entries_in taken) read (all-whole taken are) (changes-small 1 uids taken small) numbered of_written
     ∙ ap (map octets) (sym first)

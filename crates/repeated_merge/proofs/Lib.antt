@@ -26,5 +26,9 @@ pub mod AgainTrackLemmas
 pub mod AgainChapterLemmas
 pub mod AgainInfoLemmas
 pub mod RepeatTrackLemmas
+pub mod AgainPlanLemmas
 pub mod RepeatLemmas
 pub mod RepeatSourceLemmas
+pub mod PlainSourceLemmas
+pub mod AgainSourceLemmas
+pub mod MergedAgainLemmas

@@ -21,9 +21,10 @@ use Rattle.merged_records.specs.Inputs.{children_in}
 use Rattle.merged_records.specs.Tags.{all_uids, behind, numbers_for, numbers_of, tags_from, tags_in}
 use Rattle.merged_records.specs.Tags.{number_of as number_among, uids_of as uids_given}
 use Rattle.merge_inputs.specs.Input.{InputRead}
+use Rattle.merge_plan.specs.Identifiers.{Have64Bits, Identifiers, identifiers_of}
 use Rattle.merge_plan.specs.Records.{Kept, is_appended, kept_anywhere, records_from, records_of, uids_at, uids_behind}
 use Rattle.repeated_merge.specs.Joined.{IsWrittenTag}
-use Rattle.repeated_merge.specs.Named.{Have64Bits, Identifiers, JoinedTagsNameTheOutput, identifiers_of, NamesOneOf, named_by, tags_joined}
+use Rattle.repeated_merge.specs.Named.{JoinedTagsNameTheOutput, NamesOneOf, named_by, tags_joined}
 
 -- ---- what is read of Elements
 
@@ -239,6 +240,13 @@ module _ (ids : Identifiers) where
 -- identifiers of 64 bits are among themselves
 among-itself : (ids : List ℕ) → All (λ v. v < 2 ^ 64) ids → All (λ v. (v < 2 ^ 64) × Contains ids v) ids
 among-itself ids small = λ k d below. (small k d below, All-contains_itself ids k d below)
+
+-- the numbers of an input with these identifiers have 64 bits
+pub own-small : (ids : Identifiers) (i : InputRecords) → Have64Bits ids → i.track_numbers ≡ ids.tracks → AreSmall (numbers_for i (all_uids ids.editions ids.chapters ids.files))
+own-small ids i short own =
+    gives-small ids (numbers_for i (all_uids ids.editions ids.chapters ids.files))
+    (input-gives ids i ids.editions ids.chapters ids.files (subst (All (λ v. (v < 2 ^ 64) × Contains ids.tracks v)) (sym own) (among-itself ids.tracks short.tracks))
+    (record { of_editions = among-itself ids.editions short.editions; of_chapters = among-itself ids.chapters short.chapters; of_files = among-itself ids.files short.files }))
 
 joined-names : (reads : List InputRead) → Have64Bits (identifiers_of reads) → All (IsNamingTag (identifiers_of reads)) (tags_from (numbers_of (records_of reads)) (records_of reads))
 joined-names reads short =

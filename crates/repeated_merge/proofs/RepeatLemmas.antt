@@ -1,13 +1,14 @@
 -- An output that is merged alone is written as it was.
-use Rattle.std.proofs.Common.{◌≡◌, ◌<◌, ℕ, ◌+◌, ◌^◌, true, false, List, [], ◌∷◌, ◌++◌, length, map, flat_map, take, All, None, Ok, refl, sym, ap, ap₂, subst, ◌∙◌, append-nil, arith}
+use Rattle.std.proofs.Common.{◌≡◌, ◌<◌, ℕ, ◌+◌, ◌^◌, true, List, [], ◌∷◌, ◌++◌, length, map, flat_map, take, All, None, Ok, refl, sym, ap, ap₂, subst, ◌∙◌, append-nil, arith}
 use Rattle.std.specs.List.{AllZip}
 use Rattle.std.proofs.lemmas.List.{length-map, map-append}
+use Rattle.mkv_outputs.specs.Outputs.{Output}
 use Rattle.mkv_schema.specs.declared.ids.TheConstants.{CONTENT_ENCODINGS, TRACKS}
 use Rattle.tree_format.specs.Text.{HasNoZero}
 use Rattle.tree_format.specs.Values.{first_child}
 use Rattle.output_model.specs.Sound.{IsSoundDocument}
 use Rattle.output_laws.specs.Lanes.{HasNoLane}
-use Rattle.merge_inputs.specs.Taken.{IsTaken}
+use Rattle.merge_inputs.specs.Taken.{IsTaken, first_unusable}
 use Rattle.mkv_merge.specs.Records.{HaveRecords}
 use Rattle.repeated_merge.specs.Records.{OutputKeepsLimits}
 use Rattle.tree_format.specs.Node.{Node, nodes_of}
@@ -37,36 +38,43 @@ use Rattle.merge_model.specs.Lanes.{lane_blocks}
 use Rattle.merge_model.specs.Merged.{merged}
 use Rattle.merged_records.specs.Attachments.{file_numbers}
 use Rattle.merged_records.specs.Attachments.{file_uids as uids_in_files, files_of}
+use Rattle.merged_records.specs.Tracks.{output_tracks}
 use Rattle.merged_records.proofs.OutputLemmas.{info-scale}
 use Rattle.merge_words.specs.declared.output.MergeWords.{MergeWords}
 use Rattle.merge_inputs.specs.Input.{Clusters, InputRead}
 use Rattle.merge_inputs.specs.declared.taken.TakenTrack.{TakenTrack}
 use Rattle.merge_plan.specs.Front.{attachments_of, file_uids, reads_of}
+use Rattle.merge_plan.specs.Identifiers.{Have64Bits, identifiers_of}
 use Rattle.merge_plan.specs.Plan.{Source, lanes_given, limits_of, rule_of, rules_given, usual_rule}
-use Rattle.merge_plan.specs.Records.{anywhere, info_of, kept_anywhere, records_from, records_of, title_of, tracks_of, tracks_taken, uids_at, uids_behind, uids_of}
+use Rattle.merge_plan.specs.Records.{anywhere, chapters_of, info_of, kept_anywhere, records_from, records_of, tags_of, title_of, tracks_of, tracks_taken, uids_at, uids_behind, uids_of}
 use Rattle.merge_plan.specs.Records.{entries_of as entries_given}
-use Rattle.mkv_merge.specs.Merge.{blocks_of, has_damage}
+use Rattle.merge_plan.specs.Refusal.{plan_refusal}
+use Rattle.mkv_merge.specs.Merge.{blocks_of}
+use Rattle.merged_outputs.specs.Merge.{laid_out}
+use Rattle.merged_outputs.specs.Sources.{is_taken_type}
 use Rattle.repeated_merge.specs.Again.{HasIdentifiersOf}
 use Rattle.repeated_merge.specs.AgainChapters.{HasChaptersOf}
 use Rattle.repeated_merge.specs.AgainFiles.{HaveFiles}
 use Rattle.repeated_merge.specs.AgainLanes.{IsReadOfOutput}
 use Rattle.repeated_merge.specs.AgainTracks.{ArePlainTracks, AreTakenOf}
-use Rattle.repeated_merge.specs.Alike.{AreAlike, AreAlikeDocuments}
-use Rattle.repeated_merge.specs.Named.{Have64Bits, identifiers_of}
-use Rattle.repeated_merge.specs.Plain.{is_taken_type, plain_merge}
+use Rattle.repeated_merge.specs.Alike.{AreAlike, AreAlikeDocuments, MayBeAlike}
+use Rattle.repeated_merge.specs.Plain.{plain_merge}
 use Rattle.repeated_merge.specs.Records.{IsReadWithLimits, RecordsOfOutput}
-use Rattle.repeated_merge.specs.Repeat.{IsUsual, source_again}
+use Rattle.repeated_merge.specs.Repeat.{IsRepeated, IsUsual, source_again}
+use Rattle.repeated_merge.specs.Tracks.{IsTrackOf}
 use Rattle.repeated_merge.specs.Whole.{whole_document}
 use Rattle.repeated_merge.proofs.AgainChapterLemmas.{chapters-again}
 use Rattle.repeated_merge.proofs.AgainFileLemmas.{files-stay}
 use Rattle.repeated_merge.proofs.AgainInfoLemmas.{info-again}
 use Rattle.repeated_merge.proofs.AgainLaneLemmas.{lanes-merged}
+use Rattle.repeated_merge.proofs.AgainPlanLemmas.{IsTree, again-small, plan-again, tracks-tree, usable-again}
 use Rattle.repeated_merge.proofs.AgainTagLemmas.{tags-again}
-use Rattle.repeated_merge.proofs.AgainTrackLemmas.{entries-again, tracks-taken}
+use Rattle.repeated_merge.proofs.AgainTrackLemmas.{IsBare, entries-again, tracks-taken}
 use Rattle.repeated_merge.proofs.AlikeLemmas.{alike-one, fronts-same}
 use Rattle.repeated_merge.proofs.BlockLemmas.{own-scale}
 use Rattle.repeated_merge.proofs.RecordLemmas.{outputs-read}
 use Rattle.repeated_merge.proofs.RepeatTrackLemmas.{entries-are, rules-given, types-from, uids-given}
+use Rattle.repeated_merge.proofs.WholeLemmas.{one-document}
 
 -- ---- what is known
 
@@ -78,6 +86,7 @@ pub record ArePlain (words : MergeWords) (sources : List Source) : Type 0 where
   pub title : HasNoZero (title_of words (reads_of sources))
   pub short : Have64Bits (identifiers_of (reads_of sources))
   pub records : HaveRecords sources
+  pub unrefused : plan_refusal words (reads_of sources) ≡ None
 
 -- and of their document
 pub record HavePlainDocument (words : MergeWords) (sources : List Source) : Type 0 where
@@ -214,6 +223,12 @@ module _ (tracks_stay : TracksStay) (chapters_stay : ChaptersStay) (tags_stay : 
     tracks-alike : AreAlike d.front.tracks (tracks_of (s.1 ∷ []))
     tracks-alike = record { id = refl; some = refl; same = ap (kept_octets TRACKS) (sym (same-joined (entries_given (s.1.taken ++ [])) (entries_given taken) entries-alike)) }
 
+    chapters-alike : MayBeAlike d.chapters (chapters_of (s.1 ∷ []))
+    chapters-alike = (chapters-again chapters_stay).alike reads s.1 chapters-of
+
+    tags-alike : MayBeAlike d.tags (tags_of (s.1 ∷ []))
+    tags-alike = tags-again tags_stay reads s.1 are.short identifiers of_d.tags
+
     files-alike : AllZip AreAlike d.front.attachments (attachments_of (s ∷ []))
     files-alike = files-stay.alike sources s files of_d.attachments
 
@@ -239,12 +254,51 @@ module _ (tracks_stay : TracksStay) (chapters_stay : ChaptersStay) (tags_stay : 
       attachments = files-alike;
       clusters = clusters-same;
       cues = cues-same;
-      chapters = (chapters-again chapters_stay).alike reads s.1 chapters-of;
-      tags = tags-again tags_stay reads s.1 are.short identifiers of_d.tags;
+      chapters = chapters-alike;
+      tags = tags-alike;
     }
 
-  pub repeated : (r : FileRecords) × (file_records (layout d) (header_of_segment d) ≡ Ok r) × (layout (whole_document (plain_merge out name) (source_again name d r ∷ [])) ≡ layout d)
-      × (has_damage (source_again name d r ∷ []) ≡ false)
-  repeated =
-      let r : FileRecords = read.records.0 in
-      (r, read.records.1, sym (alike-one d (e r read.records.2) (documents-alike r read.records.2)), (lanes-merged lanes_stay).undamaged d (source_again name d r).1 (output-read r read.records.2))
+    -- ---- what could refuse it
+
+    usable : first_unusable s.1.taken ≡ None
+    usable =
+        usable-again name taken r.tracks are.taken (subst (All IsBare) same-entries has.plain)
+        (subst (λ (es : List Node). AllZip IsTrackOf es r.tracks) same-entries of_d.tracks.say)
+
+    tracks-stand : IsTree TRACKS (tracks_of (s.1 ∷ []))
+    tracks-stand =
+        let few = has.sound.tracks.few in
+        let many = taken-of.many in
+        subst (λ (ts : List TakenTrack). IsTree TRACKS (output_tracks (entries_given ts))) (sym (append-nil s.1.taken))
+        (tracks-tree name d.front.tracks r.tracks has.sound.tracks.is plain-tracks of_d.tracks (omega arith) (again-small reads s.1 are.short identifiers))
+
+    planned : plan_refusal (plain_merge out name) (s.1 ∷ []) ≡ None
+    planned =
+        plan-again reads s.1 are.short identifiers words out name (record {
+          tracks = has.sound.tracks.is;
+          chapters = are.records.chapters;
+          tags = are.records.tags;
+          tree = tracks-stand;
+          chapters_stand = of_d.chapters;
+          tags_stand = of_d.tags;
+          tracks_alike = tracks-alike;
+          chapters_alike = chapters-alike;
+          tags_alike = tags-alike;
+        }) are.unrefused
+
+    -- ---- together
+
+    is-repeated : file_records (layout d) (header_of_segment d) ≡ Ok r → IsRepeated out name d r
+    is-repeated found = record {
+      outline = read.outline;
+      read = found;
+      usable = usable;
+      planned = planned;
+      outputs =
+          ap (map laid_out) (one-document (plain_merge out name) (s ∷ []) refl refl)
+          ∙ ap (λ (bytes : List ℕ). let o : Output = record { name = out; content = bytes } in o ∷ []) (sym (alike-one d e documents-alike));
+      undamaged = (lanes-merged lanes_stay).undamaged d s.1 output-read;
+    }
+
+  pub repeated : (r : FileRecords) × IsRepeated out name d r
+  repeated = (read.records.0, is-repeated read.records.0 read.records.2 read.records.1)

@@ -1,5 +1,5 @@
 -- What the entries say that a merge writes of the tracks that it took.
-use Rattle.std.proofs.Common.{◌≡◌, ◌<◌, ℕ, ◌+◌, ◌^◌, ◌==◌, true, false, cond, List, [], ◌∷◌, length, map, filter, find, All, Option, None, refl, sym, ap, ap₂, ◌∙◌}
+use Rattle.std.proofs.Common.{◌≡◌, ◌<◌, ℕ, ◌+◌, ◌^◌, ◌==◌, true, false, List, [], ◌∷◌, length, map, find, All, Option, None, refl, sym, ap, ap₂, ◌∙◌}
 use Rattle.std.specs.Prelude.{unwrap_or}
 use Rattle.std.specs.Option.{option_map}
 use Rattle.std.proofs.lemmas.List.Elements.{All-nil, All-cons, All-head, All-tail}
@@ -13,7 +13,7 @@ use Rattle.tree_format.proofs.NodeLemmas.{list-nodes}
 use Rattle.tree_format.proofs.ValueLemmas.{uint_value-octets}
 use Rattle.file_format.specs.Entry.{entries_of, type_of, uid_of}
 use Rattle.output_model.specs.declared.rule.CueRule.{CueRule}
-use Rattle.record_laws.proofs.EntryLemmas.{entry_list, part-others, part-uid, written-master}
+use Rattle.record_laws.proofs.EntryLemmas.{entry_list, part-uid, written-master}
 use Rattle.record_laws.proofs.TrackLemmas.{find-filter, first_in}
 use Rattle.track_records.specs.declared.track.Track.{Track}
 use Rattle.track_records.specs.declared.track_change.TrackChange.{TrackChange}
@@ -25,8 +25,10 @@ use Rattle.merge_plan.specs.Plan.{rule_for, rule_of, usual_rule}
 use Rattle.merge_plan.specs.Records.{change_of, entries_from, entry_of, uids_of}
 use Rattle.merge_plan.specs.Records.{entries_of as entries_given}
 use Rattle.merge_plan.proofs.RecordLemmas.{length-uids}
-use Rattle.repeated_merge.specs.Plain.{is_taken_type}
-use Rattle.repeated_merge.proofs.AgainTrackLemmas.{master-of}
+use Rattle.merged_outputs.specs.Sources.{is_taken_type}
+use Rattle.merged_outputs.proofs.EntryLemmas.{taken-whole}
+use Rattle.merged_outputs.proofs.EntryLemmas.{type-kept as first-type}
+use Rattle.merged_outputs.proofs.TracksLemmas.{entries-all}
 use Rattle.repeated_merge.proofs.OwnTrackLemmas.{written-id}
 
 -- ---- an entry
@@ -37,10 +39,7 @@ first-is c id i at ns = ap (find (λ n. id_of n == id)) (list-nodes (entry_list 
 type-kept : (c : TrackChange) (entry : Node) → IsMaster entry → type_of (written_entry c entry) ≡ type_of entry
 type-kept c (leaf id at body) is = let never : true ≡ false = is in absurd (cc)
 type-kept c (master id at kids) is =
-    let ns : List Node = list_of kids in
-    ap type_of (written-master c id at kids)
-    ∙ ap (λ (o : Option Node). unwrap_or (option_map integer_of o) (unwrap_or (uint_default TRACK_TYPE) 0))
-    (first-is c TRACK_TYPE id at ns ∙ ap first_in (part-others c ns TRACK_TYPE refl refl refl refl refl refl refl refl) ∙ sym (find-filter (λ n. id_of n == TRACK_TYPE) ns))
+    ap (λ (o : Option Node). unwrap_or (option_map integer_of o) (unwrap_or (uint_default TRACK_TYPE) 0)) (first-type c id at kids)
 
 uid-set : (c : TrackChange) (entry : Node) → IsMaster entry → c.uid < 2 ^ 64 → uid_of (written_entry c entry) ≡ c.uid
 uid-set c (leaf id at body) is small = let never : true ≡ false = is in absurd (cc)
@@ -49,19 +48,13 @@ uid-set c (master id at kids) is small =
     ∙ ap (λ (o : Option Node). unwrap_or (option_map integer_of o) (unwrap_or (uint_default TRACK_UID) 0)) (first-is c TRACK_UID id at (list_of kids) ∙ ap first_in (part-uid c (list_of kids)))
     ∙ uint_value-octets TRACK_UID c.uid (uint_octets c.uid) small refl
 
-taken-master : (t : TakenTrack) → IsTaken t → IsMaster t.track.entry
-taken-master t is = master-of t.track.entry is.track.type
+pub taken-master : (t : TakenTrack) → IsTaken t → IsMaster t.track.entry
+taken-master t is = (taken-whole t is).master
 
 -- ---- all entries
 
 abbrev IsOne : Node → Type 0
 IsOne n = id_of n ≡ TRACK_ENTRY
-
-all-ones : (ns : List Node) → All IsOne ns → filter (λ n. id_of n == TRACK_ENTRY) ns ≡ ns
-all-ones [] are = refl
-all-ones (n ∷ ns) are =
-    ap (λ (i : ℕ). cond (i == TRACK_ENTRY) (n ∷ filter (λ k. id_of k == TRACK_ENTRY) ns) (filter (λ k. id_of k == TRACK_ENTRY) ns)) (All-head IsOne n ns are)
-    ∙ ap (λ (l : List Node). n ∷ l) (all-ones ns (All-tail IsOne n ns are))
 
 from-ones : (number : ℕ) (uids : List ℕ) (taken : List TakenTrack) → All IsTaken taken → All IsOne (entries_from number uids taken)
 from-ones number [] taken are = All-nil IsOne
@@ -71,15 +64,15 @@ from-ones number (uid ∷ uids) (t ∷ taken) are =
     (written-id (change_of number uid t) t.track.entry ∙ (All-head IsTaken t taken are).entry.id) (from-ones (number + 1) uids taken (All-tail IsTaken t taken are))
 
 pub entries-are : (taken : List TakenTrack) → All IsTaken taken → entries_of (output_tracks (entries_given taken)) ≡ entries_given taken
-entries-are taken are = ap (filter (λ n. id_of n == TRACK_ENTRY)) (list-nodes (entries_given taken)) ∙ all-ones (entries_given taken) (from-ones 1 (uids_of taken) taken are)
+entries-are taken are = entries-all (entries_given taken) (from-ones 1 (uids_of taken) taken are)
 
 abbrev HasTypeTaken : Node → Type 0
 HasTypeTaken entry = is_taken_type (type_of entry) ≡ true
 
-abbrev IsOfTakenType : TakenTrack → Type 0
+abbrev pub IsOfTakenType : TakenTrack → Type 0
 IsOfTakenType t = is_taken_type t.track.kind ≡ true
 
-abbrev HasUsualCues : TakenTrack → Type 0
+abbrev pub HasUsualCues : TakenTrack → Type 0
 HasUsualCues t = t.cues ≡ None
 
 entry-type : (number uid : ℕ) (t : TakenTrack) → IsTaken t → type_of (entry_of number uid t) ≡ t.track.kind

@@ -72,11 +72,11 @@ one-document words sources whole plain =
 -- ---- its records
 
 -- where of two neither stands, none stands
-first-none : {A : Type 0} → (a b : Option A) → option_or a b ≡ None → a ≡ None
+pub first-none : {A : Type 0} → (a b : Option A) → option_or a b ≡ None → a ≡ None
 first-none None b none = refl
 first-none (Some x) b none = none
 
-second-none : {A : Type 0} → (a b : Option A) → option_or a b ≡ None → b ≡ None
+pub second-none : {A : Type 0} → (a b : Option A) → option_or a b ≡ None → b ≡ None
 second-none None b none = none
 second-none (Some x) b none = absurd (cc)
 

@@ -6,9 +6,9 @@ use Rattle.merged_records.specs.Inputs.{uids_in}
 use Rattle.meta_records.specs.Attached.{AttachedFile}
 use Rattle.merge_inputs.specs.Input.{InputRead}
 use Rattle.merge_inputs.specs.declared.taken.TakenTrack.{TakenTrack}
+use Rattle.merge_plan.specs.Identifiers.{Have64Bits, identifiers_of}
 use Rattle.merge_plan.specs.Records.{tags_of}
 use Rattle.repeated_merge.specs.Alike.{MayBeAlike}
-use Rattle.repeated_merge.specs.Named.{Have64Bits, identifiers_of}
 use Rattle.repeated_merge.specs.Placed.{MayStandAs}
 
 -- An input that isn't appended, of which all Tags are kept, has the identifiers that a merge of inputs gave.

@@ -5,9 +5,9 @@ use Rattle.output_model.specs.Sound.{IsRecord}
 use Rattle.record_changes.specs.Atoms.{chapter_uids, edition_uids}
 use Rattle.merged_records.specs.Inputs.{uids_in}
 use Rattle.merge_inputs.specs.Input.{InputRead}
+use Rattle.merge_plan.specs.Identifiers.{Have64Bits, identifiers_of}
 use Rattle.merge_plan.specs.Records.{chapters_of}
 use Rattle.repeated_merge.specs.Alike.{MayBeAlike}
-use Rattle.repeated_merge.specs.Named.{Have64Bits, identifiers_of}
 use Rattle.repeated_merge.specs.Placed.{MayStandAs}
 
 -- An input that isn't appended has the Chapters of a merge as they stand where they were written, if there are any; they can be read, and the

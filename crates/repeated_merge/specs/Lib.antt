@@ -22,3 +22,6 @@ pub mod AgainTracks
 pub mod AgainChapters
 pub mod AgainInfo
 pub mod Repeat
+pub mod PlainSources
+pub mod AgainSources
+pub mod MergedAgain

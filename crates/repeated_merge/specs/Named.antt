@@ -1,34 +1,17 @@
 -- What the targets of Tags name in an output: RFC 9559, section 5.1.8.1.1 (Targets Element). Which numbers they have is this project's.
-use Rattle.std.specs.Prelude.{◌<◌, ◌^◌, ℕ, ◌==◌, if◌then◌else◌, List, [], All, Contains}
+use Rattle.std.specs.Prelude.{ℕ, ◌==◌, if◌then◌else◌, List, [], All, Contains}
 use Rattle.mkv_schema.specs.declared.ids.TheConstants.{TAG_TRACK_UID, TAG_EDITION_UID, TAG_CHAPTER_UID, TAG_ATTACHMENT_UID}
 use Rattle.tree_format.specs.Node.{Node, id_of}
 use Rattle.tree_format.specs.Standing.{placed}
 use Rattle.tree_format.specs.Values.{integer_of}
 use Rattle.record_laws.specs.Tags.{targets_of}
-use Rattle.merged_records.specs.Attachments.{file_numbers}
-use Rattle.merged_records.specs.Chapters.{chapter_numbers, edition_numbers}
 use Rattle.merged_records.specs.Tags.{joined_tags, numbers_of, tags_from}
 use Rattle.merge_inputs.specs.Input.{InputRead}
-use Rattle.merge_plan.specs.Records.{records_of, tracks_taken, uids_of}
+use Rattle.merge_plan.specs.Identifiers.{Have64Bits, Identifiers, identifiers_of}
+use Rattle.merge_plan.specs.Records.{records_of}
 use Rattle.repeated_merge.specs.Joined.{IsWrittenTag}
 
--- The identifiers of an output's tracks, editions, chapters and attached files.
-pub record Identifiers : Type 0 where
-  pub tracks : List ℕ
-  pub editions : List ℕ
-  pub chapters : List ℕ
-  pub files : List ℕ
-
--- those of a merge of inputs
-abbrev pub identifiers_of : List InputRead → Identifiers
-identifiers_of reads = record {
-  tracks = uids_of (tracks_taken reads);
-  editions = edition_numbers (records_of reads);
-  chapters = chapter_numbers (records_of reads);
-  files = file_numbers (records_of reads);
-}
-
--- those that targets of an ID name
+-- the identifiers of an output that targets of an ID name
 abbrev pub named_by : Identifiers → ℕ → List ℕ
 named_by ids id =
     if id == TAG_TRACK_UID then ids.tracks else
@@ -39,13 +22,6 @@ named_by ids id =
 -- A target names one of these.
 abbrev pub NamesOneOf : Identifiers → Node → Type 0
 NamesOneOf ids target = Contains (named_by ids (id_of target)) (integer_of target)
-
--- Identifiers have 64 bits.
-pub record Have64Bits (ids : Identifiers) : Type 0 where
-  pub tracks : All (λ n. n < 2 ^ 64) ids.tracks
-  pub editions : All (λ n. n < 2 ^ 64) ids.editions
-  pub chapters : All (λ n. n < 2 ^ 64) ids.chapters
-  pub files : All (λ n. n < 2 ^ 64) ids.files
 
 -- The Tags of a merge of inputs, in one Tags Element.
 abbrev pub tags_joined : List InputRead → Node

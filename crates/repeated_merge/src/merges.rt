@@ -5,14 +5,18 @@ ghost use Rattle.repeated_merge.specs.AgainChapters.{ChaptersAreAlikeAgain};
 ghost use Rattle.repeated_merge.specs.AgainFiles.{AttachedFilesStay};
 ghost use Rattle.repeated_merge.specs.AgainInfo.{InfoIsWrittenAgain};
 ghost use Rattle.repeated_merge.specs.AgainLanes.{LanesAreMergedAgain};
+ghost use Rattle.repeated_merge.specs.AgainSources.{MergeIsDone, OutputsAreSources};
 ghost use Rattle.repeated_merge.specs.AgainTracks.{EntriesAreWrittenAgain, TracksAreTakenAgain};
+ghost use Rattle.repeated_merge.specs.MergedAgain.{OutputsAreWrittenAgain};
 ghost use Rattle.repeated_merge.specs.Named.{JoinedTagsNameTheOutput};
+ghost use Rattle.repeated_merge.specs.PlainSources.{SourcesArePlain};
 ghost use Rattle.repeated_merge.specs.Repeat.{OutputsAreRepeated};
 ghost use Rattle.repeated_merge.specs.Whole.{WholeMergesHaveSmallRecords, WholeMergesHaveOneDocument};
 
-use merged_outputs::{layouts_hold_outputs, merged_documents_are_sound};
+use merged_outputs::{layouts_hold_outputs, merged_documents_are_sound, sources_are_read};
 use output_laws::lanes_are_read_again;
 use record_laws::{chapters_stay, tags_stay, tracks_stay};
+use word_laws::titles_are_texts;
 
 /// A merge that isn't split, and whose output gets no identifier, has one document.
 pub fn whole_merges_have_one_document()
@@ -72,7 +76,16 @@ pub fn info_is_written_again()
     ensures { InfoIsWrittenAgain }
 {}
 
-/// Merged alone and without options, an output of plain sources is written as it was, octet for octet.
+/// What a merge of a command line with usual words reads is plain.
+pub fn sources_are_plain()
+    ensures { SourcesArePlain }
+{
+    titles_are_texts();
+    sources_are_read();
+}
+
+/// Nothing refuses what is planned of an output of plain sources that keeps a reader's limits, where it is merged alone and
+/// without options, and it is written as it was, octet for octet.
 pub fn outputs_are_repeated()
     ensures { OutputsAreRepeated }
 {
@@ -82,4 +95,26 @@ pub fn outputs_are_repeated()
     lanes_are_read_again();
     merged_documents_are_sound();
     layouts_hold_outputs();
+}
+
+/// An output that is merged alone and without options is the one source of that merge, where nothing refuses it.
+pub fn outputs_are_sources()
+    ensures { OutputsAreSources }
+{}
+
+/// A merge without options of one source, in which no damage is met, is done without a warning.
+pub fn merge_is_done()
+    ensures { MergeIsDone }
+{}
+
+/// What a merge of a command line with usual words wrote is written again as it was, octet for octet, when it is merged alone
+/// and without options.
+pub fn outputs_are_written_again()
+    ensures { OutputsAreWrittenAgain }
+{
+    sources_are_read();
+    sources_are_plain();
+    outputs_are_repeated();
+    outputs_are_sources();
+    merge_is_done();
 }
