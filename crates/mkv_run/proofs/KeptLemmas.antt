@@ -1,5 +1,5 @@
 -- Edits that were made keep the rest of a file, and so does a new index.
-use Rattle.std.proofs.Common.{◌≡◌, ℕ, List, Result, Ok, Err, refl, sym, subst, ap, ◌∙◌}
+use Rattle.std.proofs.Common.{◌≡◌, ℕ, List, Result, Ok, Err, refl, sym, subst, ap}
 use Rattle.mkv_io.specs.declared.damage.Damage.{Damage}
 use Rattle.mkv_disk.specs.Pair.{Pair}
 use Rattle.mkv_disk.specs.declared.disk.Disk.{Ghosts}

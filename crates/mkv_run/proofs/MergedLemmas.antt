@@ -1,5 +1,5 @@
--- A run that ends well has written the merge that was asked for.
-use Rattle.std.proofs.Common.{◌≡◌, ◌≢◌, ◌<◌, ℕ, get_or, List, IfOk, Option, Some, Result, Ok, ap₂, subst, arith}
+-- A run that ends well has written the merge that was asked for; and what a merge wrote as it was.
+use Rattle.std.proofs.Common.{◌≡◌, ◌≢◌, ◌<◌, ℕ, get_or, List, map, IfOk, Option, Some, Result, Ok, sym, ap, ap₂, subst, ◌∙◌, arith}
 use Rattle.std.specs.List.{All}
 use Rattle.std.specs.Str.{IsUtf8}
 use Rattle.std.specs.String.{string_bytes}
@@ -12,6 +12,8 @@ use Rattle.mkv_io.specs.Told.{Told}
 use Rattle.word_values.specs.Place.{texts}
 use Rattle.word_values.specs.declared.usage.Usage.{Usage}
 use Rattle.merge_words.specs.declared.output.MergeWords.{MergeWords}
+use Rattle.merge_plan.specs.Plan.{Source}
+use Rattle.mkv_outputs.specs.Outputs.{with_outputs}
 use Rattle.mkv_args.specs.Words.{command}
 use Rattle.mkv_args.specs.declared.command.Command.{Command}
 use Rattle.mkv_args.specs.declared.command.Command.TheVariants.{Merge}
@@ -20,12 +22,14 @@ use Rattle.mkv_lines.specs.Seen.{Seen}
 use Rattle.mkv_lines.specs.Verdict.{IsDone}
 use Rattle.mkv_lines.specs.declared.status.Status.{Status}
 use Rattle.mkv_lines.specs.declared.status.Status.TheVariants as status
-use Rattle.mkv_merge.specs.Merge.{merge_verdict, sources_of}
-use Rattle.mkv_merge.specs.Records.{CanBeRead}
-use Rattle.merged_outputs.specs.Merge.{HasMerged, IsMerged, MergesWell}
-use Rattle.merged_outputs.specs.Sources.{HoldsOctets}
+use Rattle.mkv_merge.specs.Merge.{merge_verdict, outputs_of, sources_of}
+use Rattle.mkv_merge.specs.Records.{CanBeReadAgain}
+use Rattle.mkv_merge.specs.declared.refusal.Refusal.{Refusal}
+use Rattle.merged_outputs.specs.Merge.{HasMerged, IsMerged, MergesWell, laid_out}
 use Rattle.merged_outputs.proofs.MergeLemmas.{run-merged}
 use Rattle.mkv_propedit.specs.Recover.{DiskWorld}
+use Rattle.repeated_merge.specs.MergedAgain.{MergesAgain, OutputsAreWrittenAgain, WhereMergedAgain}
+use Rattle.repeated_merge.specs.Plain.{plain_merge}
 use Rattle.mkv_run.specs.Ends.{Ends}
 use Rattle.mkv_run.specs.Run.{MergesReadable, MergesReadableIn, verdict_after, verdict_in}
 use Rattle.mkv_run.specs.RunSeen.{RunSeen}
@@ -41,7 +45,7 @@ has-merged old new disk words s other utf8 readable reached = λ world told hold
     run-merged old new words asked world s utf8 told holds is (have world asked told is) other at.0 at.1
   where
     -- what it has written can be read again
-    have : (world : List ℕ → Option (List ℕ)) (asked : MergeWords) → old.names ≡ Some world → command words ≡ Ok (Merge asked) → IfOk (sources_of world asked) (CanBeRead asked)
+    have : (world : List ℕ → Option (List ℕ)) (asked : MergeWords) → old.names ≡ Some world → command words ≡ Ok (Merge asked) → IfOk (sources_of world asked) (CanBeReadAgain asked)
     have world asked told is =
         let P : Result Command Usage → Type 0 = λ c. IfOk c (λ (each : Command). MergesReadable old.names each (Ok s)) in
         let merges : MergesReadable old.names (Merge asked) (Ok s) = subst P is readable in
@@ -54,6 +58,34 @@ merges-well old new disk words status.Warned readable told = has-merged old.seen
 merges-well old new disk words status.Refused readable told = tt
 merges-well old new disk words status.NoMemory readable told = tt
 merges-well old new disk words status.Outside readable told = tt
+
+-- ---- what a merge wrote
+
+one-source : (found : Result (List Source) Refusal) (sources others : List Source) → found ≡ Ok sources → found ≡ Ok others → sources ≡ others
+one-source found sources others one other =
+    let same : Ok sources ≡ Ok others = sym one ∙ other in
+    cc
+
+module _ (again : OutputsAreWrittenAgain) (old new : RunSeen) (disk : Option DiskWorld) (words : List (String Global)) where
+  -- no status but that of a verdict, and this is Done
+  other-ends : (s : Status) → s ≢ status.Done → Told (verdict_in old.seen.names disk (texts words)) (λ v. (s ≡ v.status) × IsDone old.seen new.seen v)
+      → WhereMergedAgain old.seen.names (texts words) (λ world out bytes. ⊥)
+  other-ends s other reached = λ world told octets out name bytes asked begun output within.
+      let verdict = reached (merge_verdict world (plain_merge out name)) (ap₂ (λ (n : Names) (c : Result Command Usage). verdict_after n disk c) told asked) in
+      other (verdict.0 ∙ (again world out name bytes begun output within).done)
+
+  -- A run that merges it alone, without options, has written it as it was, and ends with nothing to warn of.
+  pub merges-again : (s : Status) → MergesWell old.seen.names (texts words) new.seen.names s → Told (verdict_in old.seen.names disk (texts words)) (Ends old new s)
+      → MergesAgain old.seen.names (texts words) new.seen.names s
+  merges-again status.Done well reached = λ world told octets out name bytes asked begun output within.
+      let written = again world out name bytes begun output within in
+      let merged : IsMerged world (plain_merge out name) new.seen.names = well world told octets (plain_merge out name) asked in
+      let same = one-source (sources_of world (plain_merge out name)) merged.sources written.sources merged.taken written.taken in
+      merged.written ∙ ap (with_outputs (Some world)) (ap (λ (sources : List Source). map laid_out (outputs_of (plain_merge out name) sources)) same ∙ written.outputs)
+  merges-again status.Warned well reached = other-ends status.Warned (λ same. cc) reached
+  merges-again status.Refused well reached = other-ends status.Refused (λ same. cc) reached
+  merges-again status.NoMemory well reached = tt
+  merges-again status.Outside well reached = tt
 
 -- A program whose exit status is 0 or 1 is one that ends well.
 pub code-merged : (old new : Names) (words : List (List ℕ)) (s : Status) (code : ℕ) → code ≡ code_of s → code < 2 → MergesWell old words new s → HasMerged old words new

@@ -26,6 +26,8 @@ use Rattle.generator.specs.Generate.{generate_verdict}
 use Rattle.mkv_merge.specs.Bound.{most_read}
 use Rattle.mkv_merge.specs.Merge.{merge_verdict, sources_of}
 use Rattle.mkv_merge.specs.Records.{EndsReadable}
+use Rattle.merged_outputs.specs.Merge.{MergesWell}
+use Rattle.repeated_merge.specs.MergedAgain.{MergesAgain}
 
 -- the first word that is wrong, and why
 abbrev pub usage_line : Usage → List ℕ
@@ -87,3 +89,9 @@ MergesReadable names _ r = ⊤
 -- the same of the words of a command line
 abbrev pub MergesReadableIn : Names → List (List ℕ) → Result Status Stop → Type 0
 MergesReadableIn names words r = IfOk (command words) (λ (c : Command). MergesReadable names c r)
+
+-- How a run that merges ends, and what it has written: the merge that was asked for, where it ended well; and what a merge wrote, merged alone
+-- and without options, as it was, without a refusal or a warning.
+pub record WritesMerge (old : Names) (words : List (List ℕ)) (new : Names) (s : Status) : Type 0 where
+  pub well : MergesWell old words new s
+  pub again : MergesAgain old words new s

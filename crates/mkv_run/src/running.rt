@@ -14,9 +14,8 @@ ghost use Rattle.mkv_lines.specs.Seen.{seen};
 ghost use Rattle.mkv_lines.specs.Verdict.{Reaches, SaysVerdict, refused};
 ghost use Rattle.mkv_propedit.specs.Recover.{disk_world};
 ghost use Rattle.word_values.specs.Place.{texts};
-ghost use Rattle.merged_outputs.specs.Merge.{MergesWell};
 ghost use Rattle.mkv_run.specs.Ends.{Ends};
-ghost use Rattle.mkv_run.specs.Run.{MergesReadable, MergesReadableIn, ReadsWithin, ReadsWithinIn, verdict_in, verdict_of};
+ghost use Rattle.mkv_run.specs.Run.{MergesReadable, MergesReadableIn, ReadsWithin, ReadsWithinIn, WritesMerge, verdict_in, verdict_of};
 ghost use Rattle.mkv_run.specs.RunSeen.{HasRunStop, HasStatusCause, run_seen};
 ghost use Rattle.mkv_run.specs.Touched.{IsInPlace, LeftOnTheWay, Touches, reach_in, reach_of};
 
@@ -31,6 +30,7 @@ use mkv_io::{Files, Report};
 use mkv_lines::{Line, Status, Stop, say_disk_fault, say_files_fault};
 use mkv_merge::merge_of;
 use mkv_propedit::{propedit_of, recover_of, reindex_of};
+use repeated_merge::outputs_are_written_again;
 use std::alloc::Global;
 
 /// Does what the words of a command line ask for, and says its lines. Where they recover or edit a file in place, nothing
@@ -50,8 +50,10 @@ pub fn run<F: Files, D: Disk, R: Report>(
         (run_seen F.Reads F.Files.own D.Reads D.Disk.own R.Report files.old disk.old report.old)
         (run_seen F.Reads F.Files.own D.Reads D.Disk.own R.Report files.new disk.new report.new) result) }
 
-    // After a merge that ended well its output holds the merge, where the names are told and what they hold is octets.
-    ensures merged { MergesWell (F.names files.old) (texts words.now.items) (F.names files.new) result }
+    // After a merge that ended well its output holds the merge, where the names are told and what they hold is octets. What a
+    // merge with usual words wrote, and what keeps a reader's limits, is written as it was when it is merged alone and
+    // without options.
+    ensures merged { WritesMerge (F.names files.old) (texts words.now.items) (F.names files.new) result }
 
     // Outside is answered only where a count of faults rose, and always where one did. For want of memory an edit in place
     // says nothing.
@@ -75,6 +77,7 @@ pub fn run<F: Files, D: Disk, R: Report>(
     ensures any_moment { AtRest D.Disk.own disk.old
         → AnyMoment D.Disk.own disk.old disk.new (LeftOnTheWay (reach_in (command (texts words.now.items)))) }
 {
+    outputs_are_written_again();
     match carry_out(alloc, words, files, disk, report) {
         Ok(status) => status,
         Err(Stop::Memory) => Status::NoMemory,

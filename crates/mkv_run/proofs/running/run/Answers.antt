@@ -1,5 +1,6 @@
 use Rattle.std.proofs.Common.{inl, inr, ap, subst}
 use Rattle.mkv_io.specs.Faults.{HasRisen}
+use Rattle.mkv_io.specs.Told.{Told}
 use Rattle.mkv_lines.specs.Code.{status_of}
 use Rattle.mkv_lines.specs.Faults.{Counts}
 use Rattle.mkv_lines.specs.Line.{disk_fault_line, files_fault_line}
@@ -7,10 +8,11 @@ use Rattle.mkv_lines.specs.Said.{SaysPart}
 use Rattle.mkv_args.specs.Words.{command}
 use Rattle.mkv_propedit.specs.Recover.{disk_world}
 use Rattle.word_values.specs.Place.{texts}
-use Rattle.mkv_run.specs.Ends.{EndsOutside}
+use Rattle.mkv_run.specs.Ends.{Ends, EndsOutside}
+use Rattle.mkv_run.specs.Run.{verdict_in}
 use Rattle.mkv_run.specs.RunSeen.{RunSeen, run_seen}
 use Rattle.mkv_run.specs.Touched.{reach_in}
-use Rattle.mkv_run.proofs.MergedLemmas.{merges-well}
+use Rattle.mkv_run.proofs.MergedLemmas.{merges-again, merges-well}
 use Rattle.mkv_run.proofs.RunLemmas.{ends-done, fault-alone, fault-told, stops-saying, touches-moment}
 use Rattle.mkv_run.proofs.running.run.Goals as goal
 
@@ -64,13 +66,17 @@ returns-in-Err-Report-clause-verdict g c = λ verdict told.
     (λ all part. inr (inr (cause.0, part)))
     stopped
 
--- a command that ended well has written the merge that was asked for
+-- a command that ended well has written the merge that was asked for; and what a merge wrote as it was
 pub returns-in-Ok-clause-merged : goal.returns-in-Ok-clause-merged
 returns-in-Ok-clause-merged g c =
     let before : RunSeen = run_seen g.F.Reads g.F.Files g.D.Reads g.D.Disk g.R.Report c.args.files.now c.args.disk.now c.args.report.now in
     let now : RunSeen = run_seen g.F.Reads g.F.Files g.D.Reads g.D.Disk g.R.Report c.carry_out.new.files c.carry_out.new.disk c.carry_out.new.report in
-    merges-well before now (disk_world g.D.Disk c.args.disk.now) c.args.words.now.items c.in-Ok.status c.in-Ok.ensures.readable
-    (λ verdict told. ends-done before now c.in-Ok.status verdict c.in-Ok.ensures.ordinary (c.in-Ok.ensures.verdict verdict told))
+    let words = c.args.words.now.items in
+    let disk = disk_world g.D.Disk c.args.disk.now in
+    let status = c.in-Ok.status in
+    let ended : Told (verdict_in before.seen.names disk (texts words)) (Ends before now status) = λ verdict told. ends-done before now status verdict c.in-Ok.ensures.ordinary (c.in-Ok.ensures.verdict verdict told) in
+    let well = merges-well before now disk words status c.in-Ok.ensures.readable ended in
+    record { well = well; again = merges-again c.outputs_are_written_again.ensures before now disk words status well ended }
 
 -- ---- what a crash leaves
 
