@@ -178,7 +178,7 @@ next_size-found before o size len is = go (size_at o) refl is
 
 -- ---- one size of any kind, whose frame fits
 
-any_size-again : (kind : Lace) (before : Option ℕ) (size : ℕ) (one rest : List ℕ) → IsSpelling kind before size one → any_size kind before (one ++ rest) ≡ Some (size, length one)
+pub any_size-again : (kind : Lace) (before : Option ℕ) (size : ℕ) (one rest : List ℕ) → IsSpelling kind before size one → any_size kind before (one ++ rest) ≡ Some (size, length one)
 any_size-again lace.None before size one rest is = absurd is
 any_size-again lace.Xiph before size one rest is =
     let P : List ℕ → Type 0 = λ o. xiph_size (o ++ rest) ≡ Some (size, length o) in
@@ -187,7 +187,7 @@ any_size-again lace.Fixed before size one rest is = absurd is
 any_size-again lace.Ebml None size one rest is = first_size-again size one rest is
 any_size-again lace.Ebml (Some before) size one rest is = next_size-again before size one rest is
 
-any_size-found : (kind : Lace) (before : Option ℕ) (o : List ℕ) (size len : ℕ) → AreOctets o → any_size kind before o ≡ Some (size, len) → (len ≤ length o) × IsSpelling kind before size (take len o)
+pub any_size-found : (kind : Lace) (before : Option ℕ) (o : List ℕ) (size len : ℕ) → AreOctets o → any_size kind before o ≡ Some (size, len) → (len ≤ length o) × IsSpelling kind before size (take len o)
 any_size-found lace.None before o size len octets is = absurd (cc)
 any_size-found lace.Xiph before o size len octets is = xiph_size-found o size len octets is
 any_size-found lace.Fixed before o size len octets is = absurd (cc)
@@ -201,7 +201,7 @@ size_in-again kind before size one rest is fits =
     ap (fitting (length (one ++ rest))) (any_size-again kind before size one rest is)
     ∙ cond-true (nat_le (size + length one) (length (one ++ rest))) _ _ (le-leb _ _ (omega arith))
 
-fitting-found : (total : ℕ) (o : Option (ℕ × ℕ)) (size len : ℕ) → fitting total o ≡ Some (size, len) → (o ≡ Some (size, len)) × (size + len ≤ total)
+pub fitting-found : (total : ℕ) (o : Option (ℕ × ℕ)) (size len : ℕ) → fitting total o ≡ Some (size, len) → (o ≡ Some (size, len)) × (size + len ≤ total)
 fitting-found total None size len is = absurd (cc)
 fitting-found total (Some (s, l)) size len is =
     let some = if_some (nat_le (s + l) total) s size l len is in

@@ -1,3 +1,4 @@
 pub mod LaceLemmas
+pub mod SettledLemmas
 pub mod StandardFacts
 pub mod WritingLemmas

@@ -1,9 +1,10 @@
 -- Laces that the rules of RFC 9559, section 10.3 (Block Lacing), settle, computed, so that a wrong definition does not check. The sizes 800, 500 and 1000 are the standard's own.
-use Rattle.std.proofs.Common.{◌≡◌, ℕ, List, [], ◌∷◌, replicate, None, Some, refl}
+use Rattle.std.proofs.Common.{◌≡◌, ℕ, true, false, List, [], ◌∷◌, replicate, None, Some, refl}
 use Rattle.std.specs.Int.Count.{count_leading_zeros}
 use Rattle.ebml_numbers.specs.Number.{size_at, least_size_width}
 use Rattle.lacing.specs.declared.kind.Lace.TheVariants as lace
 use Rattle.lacing.specs.Reading.{next_size, size_in, sizes_in, lace_in}
+use Rattle.lacing.specs.Settled.{is_settled}
 use Rattle.lacing.specs.Writing.{difference_width, octets_of_sizes, lace_head}
 
 abbrev example : List ℕ
@@ -58,4 +59,31 @@ read = record {
   unknown_first_size = refl;
   difference_of_all_ones = refl;
   negative = refl;
+}
+
+pub record AreSettled : Type 0 where
+  pub ebml : is_settled lace.Ebml 3 (0x83 ∷ 0xBD ∷ []) 8 ≡ true
+  pub ebml_head_cut : is_settled lace.Ebml 3 (0x83 ∷ []) 8 ≡ false
+  pub xiph : is_settled lace.Xiph 3 (3 ∷ 1 ∷ []) 8 ≡ true
+  pub xiph_head_cut : is_settled lace.Xiph 3 (3 ∷ []) 8 ≡ false
+  pub frame_too_large : is_settled lace.Xiph 2 (3 ∷ []) 3 ≡ false
+  pub empty_last_frame : is_settled lace.Xiph 2 (2 ∷ []) 3 ≡ true
+  pub fixed : is_settled lace.Fixed 3 [] 9 ≡ true
+  pub fixed_with_rest : is_settled lace.Fixed 3 [] 10 ≡ false
+  pub one_frame : is_settled lace.None 1 [] 4 ≡ true
+  pub two_frames_without_lace : is_settled lace.None 2 [] 4 ≡ false
+
+pub settled : AreSettled
+unfolding lace_in sizes_in size_in size_at count_leading_zeros
+settled = record {
+  ebml = refl;
+  ebml_head_cut = refl;
+  xiph = refl;
+  xiph_head_cut = refl;
+  frame_too_large = refl;
+  empty_last_frame = refl;
+  fixed = refl;
+  fixed_with_rest = refl;
+  one_frame = refl;
+  two_frames_without_lace = refl;
 }

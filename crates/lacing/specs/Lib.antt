@@ -1,3 +1,4 @@
 pub mod Lace
 pub mod Reading
+pub mod Settled
 pub mod Writing

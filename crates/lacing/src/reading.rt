@@ -2,7 +2,7 @@
 ghost use Rattle.std.specs.Prelude.{◌≡◌, ◌+◌, ◌-◌, ◌*◌, ◌^◌, ◌≤◌, ◌<◌, [], Err, None, length, drop, sum, position, not, ◌==◌, ◌≢◌, IfOk, IfSome, OnOk, OnErr};
 ghost use Rattle.smallvec.specs.SmallVec.{HasRoomFor};
 ghost use Rattle.lacing.specs.Lace.{FindsLace, HasNoLace};
-ghost use Rattle.lacing.specs.Reading.{xiph_size, data_of, ebml_size, any_size, size_in, sizes_in, with_last, frames_in, is_frame_count, lace_in, Gives, Splits};
+ghost use Rattle.lacing.specs.Reading.{xiph_size, data_of, ebml_size, any_size, fitting, size_in, sizes_in, with_last, frames_in, is_frame_count, lace_in, Gives, Splits};
 
 use crate::difference::bias;
 use crate::kind::{Lace, LaceEnd};
@@ -48,7 +48,7 @@ pub fn split(
     }
 }
 
-fn is_frame_count(count: u16) -> bool
+pub(crate) fn is_frame_count(count: u16) -> bool
     ensures { result ≡ is_frame_count count }
 {
     (1..=256).contains(&count)
@@ -165,12 +165,27 @@ fn size_in(kind: Lace, before: Option<u32>, bytes: &[u8], at: usize) -> Option<(
     ensures inside { IfSome result (λ front. at + front.0 + front.1 ≤ length bytes.now) }
 {
     let rest = &bytes[at..];
+    fitting_size(kind, before, rest, rest.len())
+}
+
+/// The size at the front of octets, whose frame has room where so many octets are left, and how many octets spell it.
+pub(crate) fn fitting_size(
+    kind: Lace,
+    before: Option<u32>,
+    rest: &[u8],
+    room: usize,
+) -> Option<(u32, usize)>
+    requires inside { length rest.now ≤ room }
+    requires short { room ≤ 2 ^ 25 }
+    ensures read { result ≡ fitting room (any_size kind before rest.now) }
+    ensures inside { IfSome result (λ front. front.0 + front.1 ≤ room) }
+{
     let (size, len) = match kind {
         Lace::Xiph => xiph_size(rest)?,
         Lace::Ebml => ebml_size(before, rest)?,
         Lace::None | Lace::Fixed => return None,
     };
-    if size + len as u64 <= rest.len() as u64 {
+    if size + len as u64 <= room as u64 {
         Some((size as u32, len))
     } else {
         None

@@ -1,0 +1,34 @@
+-- What octets at the front settle of a lace: RFC 9559, section 10.3 (Block Lacing).
+use Rattle.std.specs.Prelude.{◌≡◌, ℕ, ◌-◌, ◌≤◌, nat_le, Bool, true, false, List, ◌++◌, length, take, replicate, Option, Some, None}
+use Rattle.ebml_numbers.specs.Number.{AreOctets}
+use Rattle.lacing.specs.declared.kind.Lace.{Lace}
+use Rattle.lacing.specs.Lace.{FindsLace}
+use Rattle.lacing.specs.Reading.{lace_in}
+
+-- a front of so many octets, with zeros in place of the others
+abbrev pub with_zeros : List ℕ → ℕ → List ℕ
+with_zeros front len = front ++ replicate (len - length front) 0
+
+-- there is a lace, and its head lies within the front
+abbrev pub has_head_within : List ℕ → Option (List ℕ × ℕ) → Bool
+has_head_within front None = false
+has_head_within front (Some (sizes, head)) = nat_le head (length front)
+
+-- The front of so many octets settles that they are a lace of so many frames: with zeros in place of the others they are
+-- one, and its head lies within the front.
+abbrev pub is_settled : Lace → ℕ → List ℕ → ℕ → Bool
+is_settled kind count front len = has_head_within front (lace_in kind count (with_zeros front len))
+
+-- The octets are a lace of so many frames, whose head lies within this front of them.
+pub record HasLace (kind : Lace) (frames : ℕ) (front octets : List ℕ) : Type 0 where
+  pub sizes : List ℕ
+  pub head : ℕ
+  pub inside : head ≤ length front
+  pub finds : FindsLace kind frames octets sizes head
+  pub read : lace_in kind frames octets ≡ Some (sizes, head)
+
+-- Octets whose front settles that they are a lace are one, whatever stands behind it.
+abbrev pub FrontSettlesLace : Type 0
+FrontSettlesLace =
+    (kind : Lace) (count : ℕ) (front octets : List ℕ) → AreOctets front → front ≡ take (length front) octets
+    → is_settled kind count front (length octets) ≡ true → HasLace kind count front octets

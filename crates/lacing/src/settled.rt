@@ -1,0 +1,48 @@
+//! What octets at the front settle of a lace: RFC 9559, section 10.3 (Block Lacing).
+ghost use Rattle.std.specs.Prelude.{◌≡◌, ◌-◌, ◌^◌, ◌≤◌, None, length};
+ghost use Rattle.lacing.specs.Reading.{sizes_in, with_last};
+ghost use Rattle.lacing.specs.Settled.{has_head_within, is_settled, with_zeros};
+
+use crate::kind::Lace;
+use crate::reading::{fitting_size, is_frame_count};
+
+/// Whether octets in the front of `len` octets settle that those are a lace of `count` frames: its head lies among them.
+/// It takes no memory.
+pub fn is_settled(kind: Lace, count: u16, front: &[u8], len: usize) -> bool
+    requires inside { length front.now ≤ len }
+    requires short { len ≤ 2 ^ 25 }
+    ensures { result ≡ is_settled kind count front.now len }
+{
+    if !is_frame_count(count) {
+        return false;
+    }
+    match kind {
+        Lace::None => count == 1,
+        Lace::Fixed => len % usize::from(count) == 0,
+        Lace::Xiph | Lace::Ebml => settles_sizes(kind, usize::from(count), front, len),
+    }
+}
+
+// Whether the front settles all sizes but the last, and these leave it a size of 0 or more.
+fn settles_sizes(kind: Lace, count: usize, front: &[u8], len: usize) -> bool
+    requires inside { length front.now ≤ len }
+    requires short { len ≤ 2 ^ 25 }
+    requires some { 1 ≤ count }
+    requires most { count ≤ 256 }
+    ensures { result ≡ has_head_within front.now (with_last len (sizes_in kind (count - 1) None (with_zeros front.now len))) }
+{
+    let mut head = 0;
+    let mut before = None;
+    let mut total = 0;
+    let mut left = count - 1;
+    while left > 0 {
+        let Some((size, octets)) = fitting_size(kind, before, &front[head..], len - head) else {
+            return false;
+        };
+        head += octets;
+        before = Some(size);
+        total += u64::from(size);
+        left -= 1;
+    }
+    head as u64 + total <= len as u64
+}
