@@ -66,7 +66,7 @@ impl Outline {
         ensures total { IfOk result (λ outline. outline.total ≡ file_size R.Reads src.old file) }
         ensures same { OnlyReads R.Reads src.old src.new }
         ensures cause { HasCause is_outline_fault (R.reading_faults src.old) (R.reading_faults src.new) result }
-        ensures octets { R.octets_read src.new ≤ R.octets_read src.old + 4 * file_size R.Reads src.old file }
+        ensures octets { R.octets_read src.new ≤ R.octets_read src.old + 2 * file_size R.Reads src.old file }
     {
         Outline::read_after(alloc, src, file, 0)
     }
@@ -84,7 +84,7 @@ impl Outline {
         ensures total { IfOk result (λ outline. outline.total ≡ file_size R.Reads src.old file) }
         ensures same { OnlyReads R.Reads src.old src.new }
         ensures cause { HasCause is_outline_fault (R.reading_faults src.old) (R.reading_faults src.new) result }
-        ensures octets { R.octets_read src.new ≤ R.octets_read src.old + 4 * file_size R.Reads src.old file }
+        ensures octets { R.octets_read src.new ≤ R.octets_read src.old + 2 * file_size R.Reads src.old file }
     {
         let total = src.size(file);
         let mut window = Window::new(alloc)?;

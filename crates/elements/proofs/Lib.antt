@@ -1,5 +1,6 @@
 pub mod BodyLemmas
 pub mod TextLemmas
+pub mod HeldLemmas
 pub mod WindowLemmas
 pub mod LevelOneLemmas
 pub mod MoveLemmas

@@ -1,5 +1,5 @@
 -- What a window holds of a file.
-use Rattle.std.specs.Prelude.{◌≡◌, ℕ, ◌+◌, ◌*◌, ◌-◌, ◌≤◌, ◌==◌, min, max, nat_lt, List, [], length, if◌then◌else◌}
+use Rattle.std.specs.Prelude.{◌≡◌, ℕ, ◌+◌, ◌*◌, ◌-◌, ◌≤◌, min, max, nat_lt, ◌||◌, List, [], length, drop, if◌then◌else◌}
 use Rattle.mkv_io.specs.Contents.{octets_from}
 use Rattle.mkv_schema.specs.declared.limits.TheConstants.{LONGEST_HEADER}
 use Rattle.elements.specs.declared.TheConstants.{LITTLE}
@@ -36,34 +36,38 @@ pub record HasRange (w : ReadAhead) (at len : ℕ) : Type 0 where
 abbrev pub header_room : ℕ → ℕ → ℕ
 header_room at end = min (end - at) LONGEST_HEADER
 
--- How many octets a window of so much room is to read from a place on: few where it jumps over more than it held, as over
--- the body of a block or of a Cluster, behind which one header may be all that is looked at; else twice as many as it held.
-abbrev pub wanted_at : ℕ → ReadAhead → ℕ → ℕ
-wanted_at room w at = min room (if nat_lt (end_ahead w + length w.octets) at then LITTLE else max LITTLE (2 * length w.octets))
+-- How many octets a window of so much room is to hold from a place on, of which so many are asked for: 1,024 behind these where it
+-- jumps over more than it held, as over the body of a block or of a Cluster, behind which one header may be all that is looked at; else
+-- twice as many as it held, where that is more.
+abbrev pub wanted_at : ℕ → ReadAhead → ℕ → ℕ → ℕ
+wanted_at room w at len = min room (if nat_lt (end_ahead w + length w.octets) at then len + LITTLE else max (len + LITTLE) (2 * length w.octets))
 
--- how many octets are read at once from a place of a file of `size` octets, where so many are wanted
-abbrev pub read_from : ℕ → ℕ → ℕ → ℕ
-read_from wanted size at = min wanted (size - at)
+-- how many octets are held from a place of a file of `size` octets on, where so many are wanted
+abbrev pub held_from : ℕ → ℕ → ℕ → ℕ
+held_from wanted size at = min wanted (size - at)
+
+-- what a window holds from a place on
+abbrev pub front_from : ReadAhead → ℕ → List ℕ
+front_from w at = if nat_lt at w.at then [] else drop (at - w.at) w.octets
+
+-- What a window keeps that goes on to a place of a file of `size` octets: what it holds from there on.
+abbrev pub kept_from : ReadAhead → ℕ → ℕ → List ℕ
+kept_from w size at = if nat_lt at w.at || nat_lt size (end_ahead w) then [] else drop (at - w.at) w.octets
 
 -- The window begins at this place or before it, and ends with a file of `size` octets or before.
 pub record HasNotPassed (w : ReadAhead) (at size : ℕ) : Type 0 where
   pub from : w.at ≤ at
   pub within : end_ahead w ≤ size
 
--- What a window has cost that was moved forwards through a file of `size` octets: at most two octets
--- for each that it has passed, and three where it has come to the end.
-abbrev pub cost_of : ℕ → ReadAhead → ℕ
-cost_of size w = if end_ahead w == size then 3 * size else 2 * end_ahead w
+-- What was read since is paid by the way that the window has gone: no octet was read twice.
+abbrev pub Pays : ReadAhead → ReadAhead → ℕ → ℕ → Type 0
+Pays old new before now = now + end_ahead old ≤ before + end_ahead new
 
--- What was read since is paid by the way that the window has gone.
-abbrev pub Pays : ℕ → ReadAhead → ReadAhead → ℕ → ℕ → Type 0
-Pays size old new before now = now + cost_of size old ≤ before + cost_of size new
-
--- What was read since is paid by three octets for each of the file.
+-- What was read since is paid by the way to the end of a file of `size` octets.
 abbrev pub Spends : ℕ → ReadAhead → ℕ → ℕ → Type 0
-Spends size old before now = now + cost_of size old ≤ before + 3 * size
+Spends size old before now = now + end_ahead old ≤ before + size
 
 -- A window that was before a place is so still, and has paid for what was read.
 pub record MovesTo (size at : ℕ) (old new : ReadAhead) (before now : ℕ) : Type 0 where
   pub place : HasNotPassed new at size
-  pub pays : Pays size old new before now
+  pub pays : Pays old new before now

@@ -1,13 +1,13 @@
 //! The part of a file that a buffer holds.
 
-ghost use Rattle.std.specs.Prelude.{◌≡◌, ◌+◌, ◌-◌, ◌*◌, ◌≤◌, length, take, IfOk, OnOk, IsTrue, ◌↔◌};
+ghost use Rattle.std.specs.Prelude.{◌≡◌, ◌+◌, ◌-◌, ◌≤◌, ◌⊎◌, length, take, IfOk, OnOk, OnErr, IsTrue, ◌↔◌};
 ghost use Rattle.mkv_io.specs.Contents.{octets_from};
 ghost use Rattle.mkv_io.specs.Faults.{HasCause, is_failure};
 ghost use Rattle.mkv_io.specs.Sources.{IfTold, IsLive, OnlyReads, file_size};
 ghost use Rattle.mkv_schema.specs.Element.{element_at};
 ghost use Rattle.elements.specs.Parent.{setting_of};
 ghost use Rattle.elements.specs.Looks.{IsFound};
-ghost use Rattle.elements.specs.Window.{HasRange, header_room, read_from, wanted_at};
+ghost use Rattle.elements.specs.Window.{HasRange, front_from, header_room, held_from, kept_from, wanted_at};
 
 use crate::LITTLE;
 use crate::header::read_header;
@@ -48,16 +48,110 @@ impl Held {
         &buffer[start..start + len]
     }
 
-    // How many octets are to be read from a place on, where there is room for so many.
-    fn wanted_at(self, room: usize, at: u64, buffer: &[u8]) -> usize
+    /// The octets that a buffer holds from `at` octets behind the file's start on, but not more than so many.
+    pub fn front_at(self, at: u64, most: usize, buffer: &[u8]) -> &[u8]
         requires { self.len ≤ length buffer.now }
-        ensures { result ≡ wanted_at room (held_in self buffer.now) at }
+        ensures exact { result.now ≡ take most (front_from (held_in self buffer.now) at) }
+    {
+        if at < self.at {
+            return &buffer[..0];
+        }
+        let start = (at - self.at).min(self.len as u64) as usize;
+        let count = most.min(self.len - start);
+        &buffer[start..start + count]
+    }
+
+    // How many octets are to be held from a place on, of which `len` are asked for, where there is room for so many.
+    fn wanted_at(self, room: usize, at: u64, len: usize, buffer: &[u8]) -> usize
+        requires { self.len ≤ length buffer.now }
+        ensures exact { result ≡ wanted_at room (held_in self buffer.now) at len }
+        ensures least { len ≤ room → len ≤ result }
+        ensures most { result ≤ room }
     {
         let jump = at.saturating_sub(self.at).saturating_sub(self.len as u64);
+        let least = len.saturating_add(LITTLE);
         if jump > self.len as u64 {
-            room.min(LITTLE)
+            room.min(least)
         } else {
-            room.min(LITTLE.max(self.len.saturating_mul(2)))
+            room.min(least.max(self.len.saturating_mul(2)))
+        }
+    }
+
+    /// How many octets from a place of a file of `total` octets on are held.
+    pub fn kept_at(self, at: u64, total: u64, buffer: &[u8]) -> usize
+        requires fits { self.len ≤ length buffer.now }
+        requires inside { at ≤ total }
+        ensures exact { result ≡ length (kept_from (held_in self buffer.now) total at) }
+        ensures held { (result ≡ 0) ⊎ HasRange (held_in self buffer.now) at result }
+        ensures within { result ≤ total - at }
+    {
+        if at < self.at {
+            return 0;
+        }
+        let kept = (self.len as u64).saturating_sub(at - self.at);
+        if kept > total - at { 0 } else { kept as usize }
+    }
+
+    // Stands at a place, and keeps in the front of the buffer what is held from there on.
+    fn move_to(&mut self, at: u64, total: u64, buffer: &mut [u8])
+        requires fits { self.old.len ≤ length buffer.old }
+        requires inside { at ≤ total }
+        ensures keeps { held_in self.new buffer.new ≡ record { at = at; octets = kept_from (held_in self.old buffer.old) total at } }
+        ensures place { self.new.at ≡ at }
+        ensures count { self.new.len ≡ length (kept_from (held_in self.old buffer.old) total at) }
+        ensures held { (self.new.len ≡ 0) ⊎ HasRange (held_in self.old buffer.old) at self.new.len }
+        ensures within { self.new.len ≤ total - at }
+        ensures fits { self.new.len ≤ length buffer.new }
+        ensures room { length buffer.new ≡ length buffer.old }
+    {
+        let kept = self.kept_at(at, total, buffer);
+        let end = self.len;
+        buffer.copy_within(end - kept..end, 0);
+        *self = Held { at, len: kept };
+    }
+
+    // Reads on behind what is held, up to so many octets in all, or to the file's end.
+    fn read_on<R: Reads>(
+        &mut self,
+        buffer: &mut [u8],
+        src: &mut R,
+        file: FileId,
+        wanted: usize,
+    ) -> Result<(), Failed>
+        requires live { IsLive R.Reads src.old file }
+        requires inside { self.old.at + self.old.len ≤ file_size R.Reads src.old file }
+        requires more { self.old.len ≤ wanted }
+        requires room { wanted ≤ length buffer.old }
+        requires holds { HoldsIn R.Reads file src.old self.old buffer.old }
+        ensures ok { OnOk result ((self.new.at ≡ self.old.at) × (self.new.len ≡ held_from wanted (file_size R.Reads src.old file) self.old.at)) }
+        ensures err { OnErr result (self.new ≡ record { at = self.old.at; len = 0 }) }
+        ensures holds { HoldsIn R.Reads file src.old self.new buffer.new }
+        ensures room { length buffer.new ≡ length buffer.old }
+        ensures same { OnlyReads R.Reads src.old src.new }
+        ensures cause { HasCause is_failure (R.reading_faults src.old) (R.reading_faults src.new) result }
+        ensures octets { R.octets_read src.new + self.old.len ≤ R.octets_read src.old + held_from wanted (file_size R.Reads src.old file) self.old.at }
+    {
+        let Held { at, len } = *self;
+        *self = Held { at, len: 0 };
+        let count = read_ahead(src, file, at + len as u64, &mut buffer[len..wanted])?;
+        *self = Held {
+            at,
+            len: len + count,
+        };
+        Ok(())
+    }
+
+    /// Puts octets into the front of a buffer, of which the first stands `at` octets behind the file's start.
+    pub fn put(at: u64, octets: &[u8], buffer: &mut [u8]) -> Held
+        requires { length octets.now ≤ length buffer.old }
+        ensures exact { held_in result buffer.new ≡ record { at = at; octets = octets.now } }
+        ensures fits { result.len ≤ length buffer.new }
+        ensures room { length buffer.new ≡ length buffer.old }
+    {
+        buffer[..octets.len()].copy_from_slice(octets);
+        Held {
+            at,
+            len: octets.len(),
         }
     }
 
@@ -71,8 +165,7 @@ impl Held {
         len: usize,
     ) -> Result<(), Failed>
         requires live { IsLive R.Reads src.old file }
-        requires few { 2 * len ≤ length buffer.old }
-        requires little { 2 * len ≤ LITTLE }
+        requires few { len ≤ length buffer.old }
         requires range { at + len ≤ file_size R.Reads src.old file }
         requires holds { HoldsIn R.Reads file src.old self.old buffer.old }
         ensures looks { LooksIn R.Reads file at len self.old buffer.old self.new buffer.new src.old src.new result }
@@ -84,10 +177,9 @@ impl Held {
         if self.has(at, len, buffer) {
             return Ok(());
         }
-        let wanted = self.wanted_at(buffer.len(), at, buffer);
-        *self = Held { at, len: 0 };
-        self.len = read_ahead(src, file, at, &mut buffer[..wanted])?;
-        Ok(())
+        let wanted = self.wanted_at(buffer.len(), at, len, buffer);
+        self.move_to(at, src.size(file), buffer);
+        self.read_on(buffer, src, file, wanted)
     }
 
     /// The Element at a place of a file, under a parent that ends at `end`, or what is wrong there.
@@ -101,7 +193,7 @@ impl Held {
         end: u64,
     ) -> Result<Result<Header, Damage>, Failed>
         requires live { IsLive R.Reads src.old file }
-        requires few { 2 * LONGEST_HEADER ≤ length buffer.old }
+        requires few { LONGEST_HEADER ≤ length buffer.old }
         requires place { at ≤ end }
         requires within { end ≤ file_size R.Reads src.old file }
         requires holds { HoldsIn R.Reads file src.old self.old buffer.old }
@@ -140,11 +232,11 @@ fn read_ahead<R: Reads>(
 ) -> Result<usize, Failed>
     requires live { IsLive R.Reads src.old file }
     requires inside { at ≤ file_size R.Reads src.old file }
-    ensures count { IfOk result (λ count. count ≡ read_from (length buffer.old) (file_size R.Reads src.old file) at) }
+    ensures count { IfOk result (λ count. count ≡ held_from (length buffer.old) (file_size R.Reads src.old file) at) }
     ensures ok { IfOk result (λ count. IfTold R.Reads src.old file (λ bytes. take count buffer.new ≡ octets_from bytes at count)) }
     ensures same { OnlyReads R.Reads src.old src.new }
     ensures cause { HasCause is_failure (R.reading_faults src.old) (R.reading_faults src.new) result }
-    ensures octets { R.octets_read src.new ≤ R.octets_read src.old + read_from (length buffer.old) (file_size R.Reads src.old file) at }
+    ensures octets { R.octets_read src.new ≤ R.octets_read src.old + held_from (length buffer.old) (file_size R.Reads src.old file) at }
 {
     let left = src.size(file) - at;
     let count = left.min(buffer.len() as u64) as usize;

@@ -28,4 +28,4 @@ pub use walk::{behind, cluster_end, end_in, ends_cluster, id_of};
 pub use window::Window;
 
 /// How many octets are read at once where a few headers are looked at.
-pub(crate) const LITTLE: usize = 1024;
+pub const LITTLE: usize = 1024;

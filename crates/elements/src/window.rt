@@ -1,12 +1,13 @@
 //! The window.
 
-ghost use Rattle.std.specs.Prelude.{◌≡◌, ◌+◌, ◌-◌, ◌≤◌, length, OnOk, IsTrue, IsOk, IfOk, ◌↔◌};
+ghost use Rattle.std.specs.Prelude.{◌≡◌, ℕ, List, ◌+◌, ◌-◌, ◌≤◌, ◌⊎◌, length, take, OnOk, IsTrue, IsOk, IfOk, ◌↔◌};
 ghost use Rattle.mkv_io.specs.Contents.{octets_from};
 ghost use Rattle.mkv_io.specs.Faults.{HasCause, is_failure};
 ghost use Rattle.mkv_io.specs.Sources.{IfTold, IsLive, OnlyReads, file_size};
 ghost use Rattle.elements.specs.Looks.{Goes, Looks};
-ghost use Rattle.elements.specs.Window.{HasRange, Holds, nothing_at};
+ghost use Rattle.elements.specs.Window.{HasRange, Holds, front_from, kept_from, nothing_at};
 
+use crate::LITTLE;
 use crate::held::Held;
 use crate::lookahead::Lookahead;
 use crate::parent::Parent;
@@ -17,6 +18,9 @@ use std::marker::Model;
 
 /// How many octets are read at once.
 const WINDOW: usize = 65536;
+
+/// The most octets of a body that is looked at through a window.
+const SHORT_BODY: usize = 4096;
 
 /// Octets of one file, read at once from a place on.
 #[derive(Drop)]
@@ -64,10 +68,10 @@ impl Window {
         self.held.octets_at(at, len, &self.buffer)
     }
 
-    /// Makes the window hold so many octets from `at` octets behind the file's start on. It reads
-    /// nothing where it holds them, else twice as many octets as it held, 1,024 at least and 65,536 at most; or 1,024 where
-    /// it jumps over more than it held; or those up to the file's end. After a failed read it stands at that place and
-    /// holds nothing.
+    /// Makes the window hold so many octets from `at` octets behind the file's start on. It reads nothing where it holds them. Else
+    /// it keeps what it holds from there on, and reads on behind that, until it holds twice as many octets as before, 1,024 more than
+    /// were asked for at least, and 65,536 at most; 1,024 more where it jumps over more than it held; or up to the file's end. After
+    /// a failed read it stands at that place and holds nothing.
     pub fn hold<R: Reads>(
         &mut self,
         src: &mut R,
@@ -111,6 +115,121 @@ impl Window {
             return Ok(());
         }
         src.read_at(file, at, into)
+    }
+
+    /// Reads a body of so many octets into the front of a buffer that has room for 1,024 more. What the window holds of it isn't read
+    /// again. A short body is looked at through the window; the rest of a long one is read at once, with up to 1,024 octets behind it,
+    /// which the window then holds, since the next header stands there.
+    pub fn read_body<R: Reads>(
+        &mut self,
+        src: &mut R,
+        file: FileId,
+        at: u64,
+        len: usize,
+        into: &mut [u8],
+    ) -> Result<(), Failed>
+        requires live { IsLive R.Reads src.old file }
+        requires range { at + len ≤ file_size R.Reads src.old file }
+        requires room { len + LITTLE ≤ length into.old }
+        requires holds { IfTold R.Reads src.old file (λ bytes. Holds bytes self.old) }
+        ensures ok { OnOk result (IfTold R.Reads src.old file (λ bytes. take len into.new ≡ octets_from bytes at len)) }
+        ensures room { length into.new ≡ length into.old }
+        ensures holds { IfTold R.Reads src.old file (λ bytes. Holds bytes self.new) }
+        ensures same { OnlyReads R.Reads src.old src.new }
+        ensures cause { HasCause is_failure (R.reading_faults src.old) (R.reading_faults src.new) result }
+        ensures goes { Goes R.Reads file at (λ _. at + len) self.old self.new src.old src.new result }
+    {
+        if len <= SHORT_BODY {
+            self.held.hold(&mut self.buffer, src, file, at, len)?;
+            self.copy(at, len, into);
+            return Ok(());
+        }
+        if self.has(at, len) {
+            self.copy(at, len, into);
+            return Ok(());
+        }
+        self.read_through(src, file, at, len, into)
+    }
+
+    // Copies so many octets that are held from a place on.
+    fn copy(&self, at: u64, len: usize, into: &mut [u8])
+        requires range { HasRange self.now at len }
+        requires room { len ≤ length into.old }
+        ensures copies { (bytes : List ℕ) → Holds bytes self.now → take len into.new ≡ octets_from bytes at len }
+        ensures room { length into.new ≡ length into.old }
+    {
+        into[..len].copy_from_slice(self.octets_at(at, len));
+    }
+
+    /// Forgets what the window holds.
+    pub fn forget(&mut self)
+        ensures { self.new ≡ nothing_at 0 }
+    {
+        self.held = Held { at: 0, len: 0 };
+    }
+
+    /// The octets that the window holds from `at` octets behind the file's start on, but not more than so many.
+    pub fn front_at(&self, at: u64, most: usize) -> &[u8]
+        ensures exact { result.now ≡ take most (front_from self.now at) }
+        ensures held { (bytes : List ℕ) → Holds bytes self.now → result.now ≡ octets_from bytes at (length result.now) }
+        ensures few { length result.now ≤ most }
+    {
+        self.held.front_at(at, most, &self.buffer)
+    }
+
+    // Copies what is held from a place of a file of `total` octets on, and answers how many octets that are.
+    fn copy_held(&self, at: u64, total: u64, into: &mut [u8]) -> usize
+        requires inside { at ≤ total }
+        requires room { length (kept_from self.now total at) ≤ length into.old }
+        ensures count { result ≡ length (kept_from self.now total at) }
+        ensures copies { take result into.new ≡ kept_from self.now total at }
+        ensures held { (result ≡ 0) ⊎ HasRange self.now at result }
+        ensures within { result ≤ total - at }
+        ensures inside { result ≤ length into.new }
+        ensures room { length into.new ≡ length into.old }
+    {
+        let end = self.held.len;
+        let kept = self.held.kept_at(at, total, &self.buffer);
+        into[..kept].copy_from_slice(&self.buffer[end - kept..end]);
+        kept
+    }
+
+    // Holds these octets, of which the first stands `at` octets behind the file's start.
+    fn set(&mut self, at: u64, octets: &[u8])
+        requires { length octets.now ≤ WINDOW }
+        ensures { self.new ≡ record { at = at; octets = octets.now } }
+    {
+        self.held = Held::put(at, octets, &mut self.buffer);
+    }
+
+    // Reads what isn't held of a body, and up to 1,024 octets behind it, at once.
+    fn read_through<R: Reads>(
+        &mut self,
+        src: &mut R,
+        file: FileId,
+        at: u64,
+        len: usize,
+        into: &mut [u8],
+    ) -> Result<(), Failed>
+        requires live { IsLive R.Reads src.old file }
+        requires range { at + len ≤ file_size R.Reads src.old file }
+        requires room { len + LITTLE ≤ length into.old }
+        requires less { HasRange self.old at len → ⊥ }
+        requires holds { IfTold R.Reads src.old file (λ bytes. Holds bytes self.old) }
+        ensures ok { OnOk result (IfTold R.Reads src.old file (λ bytes. take len into.new ≡ octets_from bytes at len)) }
+        ensures room { length into.new ≡ length into.old }
+        ensures holds { IfTold R.Reads src.old file (λ bytes. Holds bytes self.new) }
+        ensures same { OnlyReads R.Reads src.old src.new }
+        ensures cause { HasCause is_failure (R.reading_faults src.old) (R.reading_faults src.new) result }
+        ensures goes { Goes R.Reads file at (λ _. at + len) self.old self.new src.old src.new result }
+    {
+        let total = src.size(file);
+        let end = (total - at).min((len + LITTLE) as u64) as usize;
+        let kept = self.copy_held(at, total, into);
+        self.held = Held { at, len: 0 };
+        src.read_at(file, at + kept as u64, &mut into[kept..end])?;
+        self.set(at + len as u64, &into[len..end]);
+        Ok(())
     }
 }
 

@@ -1,22 +1,13 @@
 -- What a walk over the Elements of level 1 reads.
-use Rattle.std.proofs.Common.{◌≡◌, ℕ, ◌+◌, ◌*◌, ◌≤◌, ◌==◌, Bool, true, false, if◌then◌else◌, Result, Ok, Err, refl, subst, arith}
+use Rattle.std.proofs.Common.{◌≡◌, ℕ, ◌+◌, ◌≤◌, Result, Ok, Err, refl, subst, arith}
 use Rattle.std.specs.Result.{result_unwrap_or}
 use Rattle.mkv_io.specs.declared.damage.Damage.{Damage}
 use Rattle.elements.specs.Walk.{place_or}
-use Rattle.elements.specs.Window.{HasNotPassed, MovesTo, ReadAhead, cost_of, end_ahead}
+use Rattle.elements.specs.Window.{HasNotPassed, MovesTo, ReadAhead, end_ahead}
 
--- by whether the window has come to the end
-cost_by : (b : Bool) (size passed : ℕ) → passed ≤ size → (if b then 3 * size else 2 * passed) ≤ 3 * size
-cost_by true size passed within = omega arith
-cost_by false size passed within = omega (arith, within)
-
--- a walk costs at most three octets for each of the file
-pub cost_of-most : (size at : ℕ) (w : ReadAhead) → HasNotPassed w at size → cost_of size w ≤ 3 * size
-cost_of-most size at w place = cost_by (end_ahead w == size) size (end_ahead w) place.within
-
--- so at any place has been read no more
-pub walked-most : (size at first now : ℕ) (w : ReadAhead) → HasNotPassed w at size → now ≤ first + cost_of size w → now ≤ first + 3 * size
-walked-most size at first now w place pays = let most = cost_of-most size at w place in omega (arith, pays, most)
+-- where a walk stands has been read no more than the file has
+pub walked-most : (size at first now : ℕ) (w : ReadAhead) → HasNotPassed w at size → now ≤ first + end_ahead w → now ≤ first + size
+walked-most size at first now w place pays = omega (arith, pays, place.within)
 
 -- the place behind an Element, or the end where a damage breaks the walk
 place_unwrapped : (end : ℕ) (next : Result ℕ Damage) → place_or end next ≡ result_unwrap_or next end

@@ -5,14 +5,14 @@ use Rattle.sidecar_edit.specs.declared.place.TheConstants.{HEAD}
 use Rattle.mkv_info.specs.declared.info.Form.{Form}
 use Rattle.mkv_info.specs.declared.info.Form.TheVariants.{Lines, Json}
 
--- what may be read of a file of so many octets to list it: its outline four times, Tracks once, and level 1 three times
+-- what may be read of a file of so many octets to list it: its outline twice, Tracks once, and level 1 once more
 abbrev pub most_to_list : ℕ → ℕ
-most_to_list octets = 8 * octets
+most_to_list octets = 4 * octets
 
--- what may be read of it to identify it: its outline four times, Info, Tracks, Chapters and Tags once each, and what names its
+-- what may be read of it to identify it: its outline twice, Info, Tracks, Chapters and Tags once each, and what names its
 -- attached files, but none of their data
 abbrev pub most_to_identify : ℕ → ℕ
-most_to_identify octets = 8 * octets + min (16 * octets) (2 * MOST_OF_ATTACHMENTS)
+most_to_identify octets = 6 * octets + min (16 * octets) (2 * MOST_OF_ATTACHMENTS)
 
 abbrev pub most_of_form : Form → ℕ → ℕ
 most_of_form Lines octets = most_to_list octets

@@ -62,7 +62,7 @@ fn list_outline<R: Reads, P: Report>(
     ensures ordinary { IfOk result IsOrdinary }
     ensures standing { R.standing src.new ≡ R.standing src.old }
     ensures cause { HasReadStop (R.reading_faults src.old) (R.reading_faults src.new) (P.faults report.old) (P.faults report.new) result }
-    ensures octets { R.octets_read src.new ≤ R.octets_read src.old + 4 * file_size R.Reads src.old file }
+    ensures octets { R.octets_read src.new ≤ R.octets_read src.old + 2 * file_size R.Reads src.old file }
 {
     match tracks_of(alloc, outline, src, file)? {
         Ok(tracks) => {
@@ -87,7 +87,7 @@ fn say_elements<R: Reads, P: Report>(
     ensures said { IfTold R.Reads src.old file (λ bytes. Says (P.lines report.old) (P.lines report.new) (shown_lines bytes outline.now) result) }
     ensures standing { R.standing src.new ≡ R.standing src.old }
     ensures cause { HasReadStop (R.reading_faults src.old) (R.reading_faults src.new) (P.faults report.old) (P.faults report.new) result }
-    ensures octets { R.octets_read src.new ≤ R.octets_read src.old + 3 * file_size R.Reads src.old file }
+    ensures octets { R.octets_read src.new ≤ R.octets_read src.old + file_size R.Reads src.old file }
 {
     let Ok(mut window) = Window::new(alloc) else {
         return Err(Stop::Memory);
@@ -113,7 +113,7 @@ fn say_level_1<R: Reads, P: Report>(
         Says (P.lines report.old) (P.lines report.new) (map level_1_line (segment_run bytes outline.now.segment).list) result) }
     ensures standing { R.standing src.new ≡ R.standing src.old }
     ensures cause { HasReadStop (R.reading_faults src.old) (R.reading_faults src.new) (P.faults report.old) (P.faults report.new) result }
-    ensures octets { R.octets_read src.new ≤ R.octets_read src.old + 3 * file_size R.Reads src.old file }
+    ensures octets { R.octets_read src.new ≤ R.octets_read src.old + file_size R.Reads src.old file }
 {
     let segment = outline.segment();
     let end = segment_bound(&segment, outline.total());

@@ -1,0 +1,137 @@
+-- What a window keeps of what it holds, and what it reads on behind that.
+use Rattle.std.proofs.Common.{◌≡◌, ◌⊎◌, inl, inr, nat_le, ℕ, zero, suc, ◌+◌, ◌-◌, ◌≤◌, Bool, true, false, nat_lt, min, ◌||◌, if◌then◌else◌, List, [], ◌++◌, length, take, drop, refl, sym, ap, ◌∙◌, arith}
+use Rattle.std.proofs.lemmas.List.{drop-take, drop-drop, drop_all, take-append-le, take_at, drop_at, take_all, take_min, length-take, length-take-le, length-drop, take-take}
+use Rattle.std.proofs.lemmas.Bool.Decides.{nat_tests}
+use lib.Seq.{take-add}
+use borrow.Rule.Slice.PartMut.{put_mid, post_of}
+use Rattle.mkv_io.specs.Contents.{octets_from}
+use Rattle.std.specs.Prelude.{Result, Ok, Err, OnOk}
+use Rattle.mkv_io.specs.declared.outside.FileId.{FileId}
+use Rattle.mkv_io.specs.Sources.{file_size}
+use Rattle.mkv_io.specs.declared.reads.Reads.{Ghosts}
+use Rattle.elements.specs.Looks.{Goes}
+use Rattle.elements.specs.Window.{ReadAhead, Holds, HasNotPassed, HasRange, end_ahead, front_from, held_from, kept_from, nothing_at}
+
+-- of the octets in the front of a buffer the last k, which stand behind d others
+pub last-held : (buf rest : List ℕ) (end k d : ℕ) → end ≤ length buf → k ≡ end - d → take k (take (end - (end - k)) (drop (end - k) buf) ++ rest) ≡ drop d (take end buf)
+last-held buf rest end zero d within is = sym (drop_all d (take end buf) (omega (arith, length-take-le end buf within)))
+last-held buf rest end (suc k) d within is =
+    let count : end - (end - suc k) ≡ suc k = omega arith in
+    let place : end - suc k ≡ d = omega arith in
+    let whole : end ≡ d + suc k = omega arith in
+    let here : length (take (suc k) (drop d buf)) ≡ suc k = length-take-le (suc k) (drop d buf) (omega (arith, length-drop d buf)) in
+    ap (λ n. take (suc k) (take n (drop (end - suc k) buf) ++ rest)) count
+    ∙ ap (λ n. take (suc k) (take (suc k) (drop n buf) ++ rest)) place
+    ∙ take_at (take (suc k) (drop d buf)) rest (suc k) here
+    ∙ sym (ap (λ n. drop d (take n buf)) whole ∙ drop-take d (suc k) buf)
+
+-- the same of what is kept, or nothing
+pub last-kept : (none : Bool) (buf rest : List ℕ) (end k d : ℕ) → end ≤ length buf → k ≡ length (if none then [] else drop d (take end buf))
+    → take k (take (end - (end - k)) (drop (end - k) buf) ++ rest) ≡ (if none then [] else drop d (take end buf))
+last-kept true buf rest end k d within is = ap (λ n. take n (take (end - (end - k)) (drop (end - k) buf) ++ rest)) is
+last-kept false buf rest end k d within is =
+    last-held buf rest end k d within (is ∙ length-drop d (take end buf) ∙ ap (λ n. n - d) (length-take-le end buf within))
+
+-- the octets from a place on that a window holds are the file's
+rest-held : (bytes : List ℕ) (w : ReadAhead) (at n : ℕ) → w.at ≤ at → n ≡ length w.octets - (at - w.at) → Holds bytes w → drop (at - w.at) w.octets ≡ octets_from bytes at n
+rest-held bytes w at zero from none holds = drop_all (at - w.at) w.octets (omega (arith, none))
+rest-held bytes w at (suc n) from some holds =
+    let whole : length w.octets ≡ (at - w.at) + suc n = omega (arith, some) in
+    let place : w.at + (at - w.at) ≡ at = omega (arith, from) in
+    ap (drop (at - w.at)) (holds ∙ ap (λ m. octets_from bytes w.at m) whole)
+    ∙ drop-take (at - w.at) (suc n) (drop w.at bytes)
+    ∙ ap (take (suc n)) (drop-drop (at - w.at) w.at bytes ∙ ap (λ m. drop m bytes) place)
+
+-- what is kept is the file's
+kept-octets : (before past : Bool) (bytes : List ℕ) (w : ReadAhead) (at : ℕ) → nat_lt at w.at ≡ before → Holds bytes w
+    → (if before || past then [] else drop (at - w.at) w.octets) ≡ octets_from bytes at (length (if before || past then [] else drop (at - w.at) w.octets))
+kept-octets true past bytes w at is holds = refl
+kept-octets false true bytes w at is holds = refl
+kept-octets false false bytes w at is holds =
+    let from : w.at ≤ at = grind (arith, nat_tests) in
+    let long = length-drop (at - w.at) w.octets in
+    rest-held bytes w at (length w.octets - (at - w.at)) from refl holds ∙ ap (octets_from bytes at) (sym long)
+
+pub kept-held : (bytes : List ℕ) (w : ReadAhead) (size at : ℕ) → Holds bytes w → kept_from w size at ≡ octets_from bytes at (length (kept_from w size at))
+kept-held bytes w size at holds = kept-octets (nat_lt at w.at) (nat_lt size (end_ahead w)) bytes w at refl holds
+
+-- a window that hasn't passed a place keeps all that it holds from there on
+counted : (before past : Bool) (w : ReadAhead) (size at : ℕ) → nat_lt at w.at ≡ before → nat_lt size (end_ahead w) ≡ past → HasNotPassed w at size
+    → length (if before || past then [] else drop (at - w.at) w.octets) ≡ end_ahead w - at
+counted true past w size at here there place = let from = place.from in grind (arith, nat_tests)
+counted false true w size at here there place = let within = place.within in grind (arith, nat_tests)
+counted false false w size at here there place = let long = length-drop (at - w.at) w.octets in omega (arith, long, place.from)
+
+pub kept-count : (w : ReadAhead) (size at : ℕ) → HasNotPassed w at size → length (kept_from w size at) ≡ end_ahead w - at
+kept-count w size at place = counted (nat_lt at w.at) (nat_lt size (end_ahead w)) w size at refl refl place
+
+-- octets that are read behind others of the file
+pub read-behind : (bytes buf sub : List ℕ) (at len k count : ℕ) → len ≤ length buf → count ≤ length sub → take len buf ≡ octets_from bytes at len → take count sub ≡ octets_from bytes (at + len) count
+    → take (len + count) (put_mid len k buf sub) ≡ octets_from bytes at (len + count)
+read-behind bytes buf sub at len k count within few front next =
+    let long = length-take-le len buf within in
+    take-add len count (put_mid len k buf sub)
+    ∙ (rw (take_at (take len buf) (sub ++ post_of len k buf) len long, drop_at (take len buf) (sub ++ post_of len k buf) len long, take-append-le count sub (post_of len k buf) few, front, next) refl)
+    ∙ ap (λ (o : List ℕ). octets_from bytes at len ++ take count o) (sym (drop-drop len at bytes))
+    ∙ sym (take-add len count (drop at bytes))
+
+-- what was read of the file up to an end is so up to each place before, and behind it
+pub front-read : (bytes xs : List ℕ) (at len end : ℕ) → len ≤ end → take end xs ≡ octets_from bytes at end → take len xs ≡ octets_from bytes at len
+front-read bytes xs at len end within read = sym (take-take len end xs within) ∙ ap (take len) read ∙ take-take len end (drop at bytes) within
+
+pub rest-read : (bytes xs : List ℕ) (at len end : ℕ) → len ≤ end → take end xs ≡ octets_from bytes at end → take (end - len) (drop len xs) ≡ octets_from bytes (at + len) (end - len)
+rest-read bytes xs at len end within read =
+    let whole : end ≡ len + (end - len) = omega (arith, within) in
+    sym (ap (λ n. drop len (take n xs)) whole ∙ drop-take len (end - len) xs)
+    ∙ ap (drop len) read
+    ∙ (ap (λ n. drop len (take n (drop at bytes))) whole ∙ drop-take len (end - len) (drop at bytes))
+    ∙ ap (take (end - len)) (drop-drop len at bytes)
+
+-- octets that a place begins are held there
+pub holds-there : (bytes octets : List ℕ) (at n : ℕ) → octets ≡ octets_from bytes at n → length octets ≡ n → Holds bytes (record { at = at; octets = octets })
+holds-there bytes octets at n is long = is ∙ ap (octets_from bytes at) (sym long)
+
+-- of a body that isn't held whole fewer octets are
+held-less : (short : Bool) (w : ReadAhead) (at len kept : ℕ) → nat_le kept len ≡ short → (HasRange w at len → ⊥) → HasRange w at kept → kept ≤ len
+held-less true w at len kept is less range = grind (arith, nat_tests)
+held-less false w at len kept is less range =
+    let longer : len ≤ kept = grind (arith, nat_tests) in
+    absurd (less (record { from = range.from; to = omega (arith, range.to, longer) }))
+
+pub kept-less : (w : ReadAhead) (at len kept : ℕ) → (HasRange w at len → ⊥) → (kept ≡ 0) ⊎ HasRange w at kept → kept ≤ len
+kept-less w at len kept less (inl none) = omega (arith, none)
+kept-less w at len kept less (inr range) = held-less (nat_le kept len) w at len kept refl less range
+
+-- a window that has read on from a place has paid for what it read
+pub read_on-goes : {S T E : Type 0} (g : Ghosts S) (file : FileId) (at len wanted : ℕ) (old new : ReadAhead) (a b : S) (result : Result T E) → at + len ≤ file_size g a file
+    → OnOk result ((new.at ≡ at) × (length new.octets ≡ held_from wanted (file_size g a file) at))
+    → g.octets_read b + length (kept_from old (file_size g a file) at) ≤ g.octets_read a + held_from wanted (file_size g a file) at
+    → Goes g file at (λ _. at) old new a b result
+read_on-goes g file at len wanted old new a b (Ok x) inside read cost = λ place.
+    let kept = kept-count old (file_size g a file) at place in
+    record {
+      place = record { from = omega (arith, read.0); within = omega (arith, read.0, read.1, inside) };
+      pays = omega (arith, read.0, read.1, inside, cost, kept, place.within);
+    }
+read_on-goes g file at len wanted old new a b (Err e) inside read cost = λ place.
+    let kept = kept-count old (file_size g a file) at place in
+    omega (arith, inside, cost, kept, place.within)
+
+-- the front of what is held from a place on is the file's
+front-octets : (before : Bool) (bytes : List ℕ) (w : ReadAhead) (at : ℕ) → nat_lt at w.at ≡ before → Holds bytes w
+    → (if before then [] else drop (at - w.at) w.octets) ≡ octets_from bytes at (length (if before then [] else drop (at - w.at) w.octets))
+front-octets true bytes w at is holds = refl
+front-octets false bytes w at is holds = kept-octets false false bytes w at is holds
+
+-- so many octets, or all, of what stands in a content
+take-front : (bytes xs : List ℕ) (at most : ℕ) → xs ≡ octets_from bytes at (length xs) → take most xs ≡ octets_from bytes at (length (take most xs))
+take-front bytes xs at most is =
+    let count : length (take most xs) ≡ min most (length xs) = length-take most xs in
+    sym (take_min most xs)
+    ∙ ap (take (min most (length xs))) is
+    ∙ take-take (min most (length xs)) (length xs) (drop at bytes) (omega arith)
+    ∙ ap (octets_from bytes at) (sym count)
+
+pub front-held : (bytes : List ℕ) (w : ReadAhead) (at most : ℕ) (front : List ℕ) → front ≡ take most (front_from w at) → Holds bytes w → front ≡ octets_from bytes at (length front)
+front-held bytes w at most front is holds =
+    is ∙ take-front bytes (front_from w at) at most (front-octets (nat_lt at w.at) bytes w at refl holds) ∙ ap (λ (o : List ℕ). octets_from bytes at (length o)) (sym is)

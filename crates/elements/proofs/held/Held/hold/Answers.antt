@@ -1,0 +1,33 @@
+use Rattle.std.proofs.Common.{◌+◌, ◌≤◌, length, sym, subst, arith, rules}
+use Rattle.elements.specs.Held.{held_in}
+use Rattle.mkv_io.specs.Sources.{file_size}
+use Rattle.elements.specs.Window.{ReadAhead, Holds, held_from, kept_from}
+use Rattle.elements.proofs.HeldLemmas.{kept-held, kept-less, read_on-goes}
+use Rattle.elements.proofs.held.Held.hold.Goals as goal
+
+-- what is kept stands in the file, and is less than was asked for
+pub read_on-requires-clause-inside : goal.read_on-requires-clause-inside
+read_on-requires-clause-inside g c = omega (arith, c.move_to.ensures.place, c.move_to.ensures.within, c.size.ensures.exact, c.requires.range)
+
+pub read_on-requires-clause-more : goal.read_on-requires-clause-more
+read_on-requires-clause-more g c =
+    let less = kept-less (held_in c.args.self.now c.args.buffer.now) c.args.at c.args.len c.move_to.new.self.len (λ range. cc (c.has.ensures.1 range, c.if-has.false)) c.move_to.ensures.held in
+    let enough = c.wanted_at-wanted.ensures.least c.requires.few in
+    omega (arith, less, enough)
+
+pub read_on-requires-clause-holds : goal.read_on-requires-clause-holds
+read_on-requires-clause-holds g c = record {
+  fits = c.move_to.ensures.fits;
+  told = λ bytes told.
+      subst (λ (w : ReadAhead). Holds bytes w) (sym c.move_to.ensures.keeps) (kept-held bytes (held_in c.args.self.now c.args.buffer.now) c.size.result c.args.at (c.requires.holds.told bytes told));
+}
+
+-- what was read is paid by the way
+pub returns-clause-goes : goal.returns-clause-goes
+returns-clause-goes g c =
+    let kept = c.move_to.ensures.count in
+    let cost : g.R.Reads.octets_read c.read_on.new.src + length (kept_from (held_in c.args.self.now c.args.buffer.now) (file_size g.R.Reads c.args.src.now c.args.file) c.args.at)
+    ≤ g.R.Reads.octets_read c.args.src.now + held_from c.wanted_at-wanted.result (file_size g.R.Reads c.args.src.now c.args.file) c.args.at =
+    search rules in
+    read_on-goes g.R.Reads c.args.file c.args.at c.args.len c.wanted_at-wanted.result (held_in c.args.self.now c.args.buffer.now) (held_in c.read_on.new.self c.read_on.new.buffer) c.args.src.now c.read_on.new.src c.read_on.result
+    c.requires.range (search rules) cost
