@@ -14,7 +14,6 @@ use Rattle.ebml_numbers.proofs.NumberLemmas.{size_at-more, size_at-zero, size_at
 use Rattle.mkv_io.specs.declared.damage.Kind.{Kind}
 use Rattle.mkv_io.specs.declared.damage.Kind.TheVariants.{ShortBlock}
 use Rattle.lacing.specs.declared.kind.Lace.{Lace}
-use Rattle.lacing.specs.declared.kind.Lace.TheVariants as lace
 use Rattle.lacing.specs.Reading.{data_of}
 use Rattle.lacing.proofs.LaceLemmas.{data_of-size}
 use Rattle.block_format.specs.Content.{has_no_header, header_len, lace_of, frames_in, frames_cut, content_with, content_in}
@@ -199,10 +198,10 @@ header_of-front front octets is found = (same, whole)
         let inside : header_len octets ≤ length octets = omega (arith, long, within, announces) in
         grind (arith, nat_tests, first, inside, some)
 
--- A header without lace at a front is that of a block of one frame.
-pub content_in-alone : (front octets : List ℕ) (h : BlockHeader) → IsFront front octets → Some h ≡ header_in front → lace_of h.flags ≡ lace.None
-    → content_in octets ≡ Ok (record { track = h.track; relative = h.relative; flags = h.flags; frames = drop h.len octets ∷ [] })
-content_in-alone front octets h is found none =
+-- A header at a front is that of a block with the frames behind it.
+pub content_in-front : (front octets : List ℕ) (h : BlockHeader) (frames : List (List ℕ)) → IsFront front octets → Some h ≡ header_in front → frames_in (lace_of h.flags) (drop h.len octets) ≡ Ok frames
+    → content_in octets ≡ Ok (record { track = h.track; relative = h.relative; flags = h.flags; frames = frames })
+content_in-front front octets h frames is found frames_are =
     let had = HasHeader-from front h found in
     let front_is = header_of-front front octets is had.found in
     let has : HasHeader octets h = record {
@@ -211,5 +210,9 @@ content_in-alone front octets h is found none =
       inside = let whole = has_header octets front_is.1 in let len : header_len octets ≡ h.len = ap (λ (x : BlockHeader). x.len) (sym front_is.0 ∙ had.is) in omega arith;
     } in
     content_in-frames octets h has
-    ∙ ap (λ (l : Lace). content_with octets (frames_in l (drop h.len octets))) none
-    ∙ ap (λ (x : BlockHeader). Ok (record { track = x.track; relative = x.relative; flags = x.flags; frames = drop h.len octets ∷ [] })) has.is
+    ∙ ap (content_with octets) frames_are
+    ∙ ap (λ (x : BlockHeader). Ok (record { track = x.track; relative = x.relative; flags = x.flags; frames = frames })) has.is
+
+-- the header at a front, and where it ends
+pub header_in-front : (front : List ℕ) (h : BlockHeader) → Some h ≡ header_in front → (has_no_header front ≡ false) × (header_of front ≡ h) × (h.len ≤ length front)
+header_in-front front h found = let has = HasHeader-from front h found in (has.found, has.is, has.inside)

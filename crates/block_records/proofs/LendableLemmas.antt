@@ -78,8 +78,8 @@ frames-rest o start end is =
     take_all (end - start) (drop start o) (omega arith)
 
 -- the frames of what was spelled, behind `base` octets, are a block's
-pub IsBlock-made : (o part : List ℕ) (base start flags : ℕ) (p : Parts) → length o ≤ MOST_OF_BLOCK → p.start ≡ base + start → p.end ≡ base + length part → p.end ≤ length o → AreFrames (lace_of flags) part p.sizes.items start → CanLead flags p.gathered.references.items p.head → length p.gathered.kept.items ≤ MOST_OF_BLOCK → IsBlock o p
-IsBlock-made o part base start flags p short start_is end_is inside frames leads kept =
+pub IsBlock-made : (o part : List ℕ) (base start flags : ℕ) (p : Parts) → length o ≤ MOST_OF_BLOCK → p.start ≡ base + start → p.end ≡ base + length part → p.end ≤ length o → p.frames ≡ length p.sizes.items → AreFrames (lace_of flags) part p.sizes.items start → CanLead flags p.gathered.references.items p.head → length p.gathered.kept.items ≤ MOST_OF_BLOCK → IsBlock o p
+IsBlock-made o part base start flags p short start_is end_is inside count_is frames leads kept =
     let within = frames.inside in
     let whole = frames.whole in
     let order : p.start ≤ p.end = omega arith in
@@ -91,6 +91,7 @@ IsBlock-made o part base start flags p short start_is end_is inside frames leads
       lendable = record {
         few = record {
           times = leads.times;
+          frames = omega (arith, frames.most);
           cut = omega arith;
           body = omega arith;
           sizes = frames.most;
@@ -99,6 +100,7 @@ IsBlock-made o part base start flags p short start_is end_is inside frames leads
           kept = kept;
         };
         some = frames.some;
+        count = count_is;
         fits = subst (λ (l : Lace). FitsKind l p.sizes.items) (sym leads.lace) frames.fits;
       };
     }
@@ -115,10 +117,11 @@ LendsNothing-empty o p empty = record {
 }
 
 -- what is lent is small
-pub LendsFew-of : (b : Buffered) → HasSmallTimes b.head → Lends b → LendsFew b
-LendsFew-of b times (inr block) = block.few
-LendsFew-of b times (inl nothing) = record {
+pub LendsFew-of : (b : Buffered) → HasSmallTimes b.head → b.frames ≤ 256 → Lends b → LendsFew b
+LendsFew-of b times frames (inr block) = block.few
+LendsFew-of b times frames (inl nothing) = record {
   times = times;
+  frames = frames;
   cut = ap sum nothing.sizes ∙ sym (ap length nothing.body);
   body = omega (arith, ap length nothing.body);
   sizes = omega (arith, ap length nothing.sizes);

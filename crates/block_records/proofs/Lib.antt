@@ -1,8 +1,9 @@
 pub mod BufferLemmas
 pub mod ContentLemmas
+pub mod FrontLemmas
 pub mod GroupLemmas
 pub mod LendableLemmas
 pub mod MadeLemmas
-pub mod PassedLemmas
 pub mod RunLemmas
+pub mod StandardFacts
 pub mod TimeLemmas

@@ -5,11 +5,12 @@ use Rattle.block_format.specs.Content.{frames_cut}
 use Rattle.block_format.specs.Block.{Block}
 use Rattle.block_records.specs.declared.head.BlockHead.{BlockHead}
 
--- The octets of the Element's body as they were read; what the block says of itself; the octets of its frames
--- and their sizes; its references; and what is kept of its group.
+-- The octets of the Element's body as they were read; what the block says of itself, and how many frames it has; the octets
+-- of its frames and their sizes, which aren't there of a block that was passed; its references; and what is kept of its group.
 pub record Buffered : Type 0 where
   pub octets : List ℕ
   pub head : BlockHead
+  pub frames : ℕ
   pub body : List ℕ
   pub sizes : List ℕ
   pub references : List ℤ

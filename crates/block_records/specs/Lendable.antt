@@ -1,7 +1,8 @@
 -- What is lent of a block, and that it can be written.
-use Rattle.std.specs.Prelude.{◌≡◌, ◌≤◌, ◌<◌, ◌⊎◌, ℕ, ◌-◌, ℤ, List, [], length, take, drop, sum}
+use Rattle.std.specs.Prelude.{◌≡◌, ◌≤◌, ◌<◌, ◌⊎◌, ℕ, ◌+◌, ◌-◌, ℤ, List, [], length, take, drop, sum}
 use Rattle.std.specs.List.{All}
 use Rattle.std.specs.Option.{IfSome}
+use Rattle.elements.specs.declared.TheConstants.{LITTLE}
 use Rattle.lacing.specs.Writing.{FitsKind}
 use Rattle.block_format.specs.declared.limits.TheConstants.{MOST_OF_BLOCK, MOST_REFERENCES, TOO_LARGE_TIME}
 use Rattle.block_format.specs.Content.{lace_of}
@@ -22,10 +23,11 @@ pub record LendsNothing (b : Buffered) : Type 0 where
   pub references : b.references ≡ []
   pub kept : b.kept ≡ []
 
--- What is lent is small, whether it is a block or nothing: what a block says of itself, the octets of its frames,
--- their sizes, its references, and what else is kept of its group.
+-- What is lent is small, whether it is a block or nothing: what a block says of itself, how many frames it has, their
+-- octets and sizes, its references, and what else is kept of its group.
 pub record LendsFew (b : Buffered) : Type 0 where
   pub times : HasSmallTimes b.head
+  pub frames : b.frames ≤ 256
   pub cut : sum b.sizes ≡ length b.body
   pub body : length b.body ≤ MOST_OF_BLOCK
   pub sizes : length b.sizes ≤ 256
@@ -33,10 +35,11 @@ pub record LendsFew (b : Buffered) : Type 0 where
   pub most_references : length b.references ≤ MOST_REFERENCES
   pub kept : length b.kept ≤ MOST_OF_BLOCK
 
--- A block is lent that can be written: it is small, and has one frame or more that its kind of lace can have.
+-- A block is lent that can be written: it is small, and has one frame or more, all lent, that its kind of lace can have.
 pub record IsLendable (b : Buffered) : Type 0 where
   pub few : LendsFew b
   pub some : 1 ≤ length b.sizes
+  pub count : b.frames ≡ length b.sizes
   pub fits : FitsKind b.head.lace b.sizes
 
 -- Nothing is lent, or a block that can be written.
@@ -50,6 +53,7 @@ abbrev pub lent : List ℕ → Parts → Buffered
 lent octets p = record {
   octets = octets;
   head = p.head;
+  frames = p.frames;
   body = take (p.end - p.start) (drop p.start octets);
   sizes = p.sizes.items;
   references = p.gathered.references.items;
@@ -74,16 +78,18 @@ pub record IsBlock (octets : List ℕ) (p : Parts) : Type 0 where
   pub within : IsWithin octets p
   pub lendable : IsLendable (lent octets p)
 
--- No block, or one that can be written. The times of the block that was lent last are small.
+-- No block, or one that can be written. The times of the block that was lent last are small, and its frames few.
 pub record AreParts (octets : List ℕ) (p : Parts) : Type 0 where
   pub within : IsWithin octets p
   pub times : HasSmallTimes p.head
+  pub frames : p.frames ≤ 256
   pub lends : Lends (lent octets p)
 
--- The body that was read last stands at the front of the octets, which are 32 MiB at most, and the parts are its own.
+-- The body that was read last stands at the front of the octets, which are 1,024 more than 32 MiB at most, and the parts are its own.
 pub record IsBuffer (len : ℕ) (octets : List ℕ) (p : Parts) : Type 0 where
   pub within : len ≤ length octets
-  pub most : length octets ≤ MOST_OF_BLOCK
+  pub few : len ≤ MOST_OF_BLOCK
+  pub most : length octets ≤ MOST_OF_BLOCK + LITTLE
   pub parts : AreParts (take len octets) p
 
 -- What a head and its references say can be written, and the lace is the one that the flags name.

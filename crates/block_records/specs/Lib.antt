@@ -1,4 +1,5 @@
 pub mod Buffered
+pub mod Front
 pub mod Group
 pub mod Lendable
 pub mod Made

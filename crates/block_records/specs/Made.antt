@@ -32,12 +32,6 @@ abbrev pub MakesHead : List (List ℕ) → List ℤ → List ℕ → Result Bloc
 MakesHead frames references kept found (Ok head) = found ≡ Ok (block_with head frames references kept)
 MakesHead frames references kept found (Err d) = found ≡ Err d
 
--- A block was found, of the track that this says.
-pub record IsOfTrack (h : BlockHead) (found : Result Block Damage) : Type 0 where
-  pub given : Block
-  pub is : found ≡ Ok given
-  pub track : given.track ≡ h.track
-
 -- of the ticks of a group's times one is too large
 abbrev pub has_too_large_ticks : ℕ → ℤ → Option ℕ → List ℤ → Bool
 has_too_large_ticks scale ticks duration references =

@@ -1,26 +1,22 @@
 //! A SimpleBlock or a BlockGroup of what was read of it: RFC 9559, sections 10 (Cluster Blocks) and 11
 //! (Timestamps).
 
-ghost use Rattle.std.specs.Prelude.{◌≡◌, ◌≢◌, ◌≤◌, pos, ◌+ℤ◌, ◌*◌, true, ℕ, ℤ, List, [], Some, IfOk, IfSome, MatchOption};
+ghost use Rattle.std.specs.Prelude.{◌≡◌, pos, ◌+ℤ◌, ◌*◌, true, ℕ, ℤ, List, [], IfOk, MatchOption};
 ghost use Rattle.mkv_schema.specs.declared.ids.TheConstants.{BLOCK as BLOCK_ID};
 ghost use Rattle.mkv_schema.specs.declared.element.Header.{Header as HeaderRecord};
-ghost use Rattle.mkv_schema.specs.Element.{known};
 ghost use Rattle.mkv_schema.specs.Outline.{and_then, unless};
-ghost use Rattle.mkv_schema.specs.Value.{body_of};
 ghost use Rattle.block_format.specs.Block.{simple_block_with};
-ghost use Rattle.block_format.specs.declared.limits.TheConstants.{MOST_OF_BLOCK};
-ghost use Rattle.block_format.specs.Elements.{group_with, in_time, simple_block, with_limits, too_many_references};
-ghost use Rattle.block_records.specs.Spelled.{IsFront, content_of};
+ghost use Rattle.block_format.specs.Elements.{group_with, in_time, with_limits, too_many_references};
+ghost use Rattle.block_records.specs.Spelled.{content_of};
 ghost use Rattle.block_records.specs.Group.{Gathers};
-ghost use Rattle.block_records.specs.Lendable.{CanLead, HasSmallTimes};
-ghost use Rattle.block_records.specs.Made.{has_too_large_ticks, HasTimes, IsOfTrack, MakesHead};
+ghost use Rattle.block_records.specs.Lendable.{CanLead};
+ghost use Rattle.block_records.specs.Made.{has_too_large_ticks, HasTimes, MakesHead};
 
-use crate::content::{Spelled, has_flag, header_in, lace_of};
+use crate::content::{Spelled, has_flag, lace_of};
 use crate::gathered::Gathered;
 use crate::head::BlockHead;
 use crate::time::{block_time, scale_all, scaled_duration};
 use elements::damage;
-use lacing::Lace;
 use mkv_io::{Damage, Kind};
 use mkv_schema::Header;
 use mkv_schema::ids::BLOCK;
@@ -63,39 +59,6 @@ pub fn simple_head(
         duration: None,
         offset: header.offset,
     })
-}
-
-/// What a SimpleBlock without lace says of itself that isn't of this track, by octets in its front; nothing where these don't
-/// settle that it is one.
-pub fn passed_head(
-    scale: u64,
-    timestamp: u64,
-    header: &Header,
-    front: &[u8],
-    track: u64,
-) -> Option<BlockHead>
-    ensures other { IfSome result (λ head. head.track ≢ track) }
-    ensures exact { IfSome result (λ head. (bytes : List ℕ) → known header.now.size ≤ MOST_OF_BLOCK → IsFront front.now (body_of bytes header.now)
-        → IsOfTrack head (simple_block (with_limits scale) bytes (Some timestamp) header.now)) }
-    ensures small { IfSome result HasSmallTimes }
-{
-    let found = header_in(front)?;
-    if found.track == track {
-        return None;
-    }
-    let Lace::None = lace_of(found.flags) else {
-        return None;
-    };
-    let spelled = Spelled {
-        track: found.track,
-        relative: found.relative,
-        flags: found.flags,
-        start: found.len,
-    };
-    match simple_head(scale, timestamp, header, &spelled) {
-        Ok(head) => Some(head),
-        Err(_) => None,
-    }
 }
 
 // The times of a group, unless one is too large. The references stand in nanoseconds then.

@@ -1,28 +1,26 @@
 //! The buffer of a block.
 
-ghost use Rattle.std.specs.Prelude.{◌≡◌, ◌≢◌, ◌+◌, ◌≤◌, ◌⊎◌, [], ℕ, List, length, sum, false, Some, OnOk, OnErr, IfOk, IsTrue, IsErrOf, MatchResult};
+ghost use Rattle.std.specs.Prelude.{◌≡◌, ◌+◌, ◌≤◌, ◌⊎◌, [], ℕ, List, length, sum, false, Some, OnOk, OnErr, IfOk, IsErrOf, MatchResult};
 ghost use Rattle.std.specs.List.{All};
 ghost use Rattle.mkv_io.specs.Faults.{HasCause, is_read_fault};
 ghost use Rattle.mkv_io.specs.Sources.{IfTold, IsLive, file_size};
 ghost use Rattle.mkv_schema.specs.Element.{is_unknown, known, stated_end};
 ghost use Rattle.mkv_schema.specs.Value.{body_of};
+ghost use Rattle.elements.specs.Looks.{Goes};
 ghost use Rattle.elements.specs.Window.{Holds};
 ghost use Rattle.lacing.specs.Writing.{FitsKind};
 ghost use Rattle.block_format.specs.Elements.{with_limits, simple_block, block_group};
 ghost use Rattle.block_records.specs.Buffered.{Makes};
 ghost use Rattle.block_records.specs.Lendable.{HasSmallTimes, IsLendable, LendsNothing};
-ghost use Rattle.block_records.specs.Made.{IsOfTrack};
-ghost use Rattle.block_records.specs.Spelled.{IsFront};
 ghost use Rattle.block_records.specs.Time.{IsSmallTime};
 ghost use Rattle.mkv_io.specs.declared.outside.TheConstants.{LONGEST_FILE};
 ghost use Rattle.block_format.specs.declared.limits.TheConstants.{MOST_REFERENCES};
 
-use crate::block::passed_head;
-use crate::body::read_body;
+use crate::front::FrontHead;
 use crate::head::BlockHead;
 use crate::parts::{Found, Parts};
 use block_format::MOST_OF_BLOCK;
-use elements::{Window, known};
+use elements::{LITTLE, Window, known};
 use mkv_io::{FileId, ReadEnd, Reads};
 use mkv_schema::Header;
 use std::alloc::Global;
@@ -63,11 +61,10 @@ impl BlockBuffer {
         }
     }
 
-    /// Reads the body of a SimpleBlock or a BlockGroup, from what a window holds or from the file. What
-    /// the block before spelled isn't lent any more.
+    /// Reads the body of a SimpleBlock or a BlockGroup through a window. What the block before spelled isn't lent any more.
     pub fn read<R: Reads>(
         &mut self,
-        window: &Window,
+        window: &mut Window,
         src: &mut R,
         file: FileId,
         header: &Header,
@@ -76,47 +73,37 @@ impl BlockBuffer {
         requires whole { is_unknown header.now.size ≡ false }
         requires few { known header.now.size ≤ MOST_OF_BLOCK }
         requires inside { stated_end header.now ≤ file_size R.Reads src.old file }
-        requires holds { IfTold R.Reads src.old file (λ bytes. Holds bytes window.now) }
+        requires holds { IfTold R.Reads src.old file (λ bytes. Holds bytes window.old) }
         ensures ok { OnOk result (IfTold R.Reads src.old file (λ bytes. self.new.octets ≡ body_of bytes header.now)) }
         ensures length { MatchResult result (λ _. length self.new.octets ≡ known header.now.size) (λ _. self.new.octets ≡ []) }
         ensures nothing { LendsNothing self.new }
         ensures standing { R.standing src.new ≡ R.standing src.old }
         ensures cause { HasCause is_read_fault (R.reading_faults src.old) (R.reading_faults src.new) result }
-        ensures octets { R.octets_read src.new ≤ R.octets_read src.old + known header.now.size }
-        ensures memory { IsErrOf result ReadEnd.Memory → R.octets_read src.new ≡ R.octets_read src.old }
+        ensures holds { IfTold R.Reads src.old file (λ bytes. Holds bytes window.new) }
+        ensures goes { Goes R.Reads file header.now.body (λ _. stated_end header.now) window.old window.new src.old src.new result }
     {
         self.parts.forget();
         self.len = 0;
         let len = known(header.size) as usize;
-        if self.octets.len() < len {
-            self.octets.resize(len, 0)?;
+        if self.octets.len() < len + LITTLE {
+            self.octets.resize(len + LITTLE, 0)?;
         }
-        read_body(window, src, file, header, &mut self.octets)?;
+        window.read_body(src, file, header.body, len, &mut self.octets)?;
         self.len = len;
         Ok(())
     }
 
-    /// Passes a SimpleBlock with this header without its frames, where octets in its front settle that it is one, without lace
-    /// and of another track than this. Answers whether they do: then what it says of itself is known, and nothing else is lent.
-    pub fn pass(
-        &mut self,
-        front: &[u8],
-        track: u64,
-        scale: u64,
-        timestamp: u64,
-        header: &Header,
-    ) -> bool
-        requires few { known header.now.size ≤ MOST_OF_BLOCK }
-        ensures other { IsTrue result → self.new.head.track ≢ track }
-        ensures exact { IsTrue result → (bytes : List ℕ) → IsFront front.now (body_of bytes header.now)
-            → IsOfTrack self.new.head (simple_block (with_limits scale) bytes (Some timestamp) header.now) }
+    /// Passes a SimpleBlock without its frames: what its front settles is known of it, and nothing else is lent.
+    pub fn pass(&mut self, front: FrontHead)
+        requires small { HasSmallTimes front.head }
+        requires few { front.frames ≤ 256 }
+        ensures head { self.new.head ≡ front.head }
+        ensures frames { self.new.frames ≡ front.frames }
+        ensures octets { self.new.octets ≡ [] }
+        ensures nothing { LendsNothing self.new }
     {
-        let Some(head) = passed_head(scale, timestamp, header, front, track) else {
-            return false;
-        };
         self.len = 0;
-        self.parts.pass(head);
-        true
+        self.parts.pass(front);
     }
 
     /// What the octets spell of a SimpleBlock with this header, in a Cluster whose Timestamp is so many
@@ -159,6 +146,14 @@ impl BlockBuffer {
         ensures small { HasSmallTimes result.now }
     {
         &self.parts.head
+    }
+
+    /// How many frames the block has, of which none is lent where it was passed.
+    pub fn frames(&self) -> u16
+        ensures exact { result ≡ self.now.frames }
+        ensures most { result ≤ 256 }
+    {
+        self.parts.frames
     }
 
     /// The octets of its frames, one behind the other.

@@ -4,9 +4,9 @@
 //! again, and what they spell (RFC 9559, section 10, Cluster Blocks).
 
 mod block;
-mod body;
 mod buffer;
 mod content;
+mod front;
 mod gathered;
 mod head;
 mod parts;
@@ -14,5 +14,6 @@ mod time;
 
 pub use block_format::MOST_OF_BLOCK;
 pub use buffer::BlockBuffer;
+pub use front::{FrontHead, front_head};
 pub use head::BlockHead;
 pub use lacing::Lace;

@@ -11,6 +11,7 @@ ghost use Rattle.mkv_io.specs.declared.outside.TheConstants.{LONGEST_FILE};
 
 use crate::block::{group_head, simple_head};
 use crate::content::spell;
+use crate::front::FrontHead;
 use crate::gathered::Gathered;
 use crate::head::BlockHead;
 use block_format::MOST_OF_BLOCK;
@@ -29,6 +30,8 @@ pub type Found = Result<Result<(), Damage>, AllocError>;
 #[derive(Drop)]
 pub struct Parts {
     pub head: BlockHead,
+    /// How many frames it has.
+    pub frames: u16,
     /// Where the frames begin.
     pub start: usize,
     /// Where they end.
@@ -44,6 +47,7 @@ impl Parts {
     pub fn new(alloc: Global) -> Parts
         ensures empty { IsEmpty result }
         ensures times { HasSmallTimes result.head }
+        ensures frames { result.frames ≤ 256 }
     {
         Parts {
             head: BlockHead {
@@ -57,6 +61,7 @@ impl Parts {
                 duration: None,
                 offset: 0,
             },
+            frames: 0,
             start: 0,
             end: 0,
             sizes: SmallVec::new(alloc),
@@ -68,6 +73,7 @@ impl Parts {
     pub fn forget(&mut self)
         ensures empty { IsEmpty self.new }
         ensures head { self.new.head ≡ self.old.head }
+        ensures frames { self.new.frames ≡ self.old.frames }
     {
         self.start = 0;
         self.end = 0;
@@ -75,13 +81,15 @@ impl Parts {
         self.gathered.clear();
     }
 
-    /// Forgets the block, and keeps of another one what it says of itself.
-    pub fn pass(&mut self, head: BlockHead)
+    /// Forgets the block, and keeps of another one what its front settles.
+    pub fn pass(&mut self, front: FrontHead)
         ensures empty { IsEmpty self.new }
-        ensures head { self.new.head ≡ head }
+        ensures head { self.new.head ≡ front.head }
+        ensures frames { self.new.frames ≡ front.frames }
     {
         self.forget();
-        self.head = head;
+        self.head = front.head;
+        self.frames = front.frames;
     }
 
     /// What the octets spell of a SimpleBlock with this header, in a Cluster whose Timestamp is so many
@@ -93,6 +101,7 @@ impl Parts {
             → Makes found (lent octets.now self.new) (simple_block (with_limits scale) bytes (Some timestamp) header.now)) }
         ensures lent { IfOk result (λ found. OnOk found (IsBlock octets.now self.new)) }
         ensures head { MatchResult result (λ found. OnErr found (self.new.head ≡ self.old.head)) (λ _. self.new.head ≡ self.old.head) }
+        ensures frames { MatchResult result (λ found. OnErr found (self.new.frames ≡ self.old.frames)) (λ _. self.new.frames ≡ self.old.frames) }
     {
         self.forget();
         let spelled = match spell(octets, &mut self.sizes)? {
@@ -104,6 +113,7 @@ impl Parts {
         match simple_head(scale, timestamp, header, &spelled) {
             Ok(head) => {
                 self.head = head;
+                self.frames = self.sizes.len() as u16;
                 Ok(Ok(()))
             }
             Err(damage) => Ok(Err(damage)),
@@ -128,6 +138,7 @@ impl Parts {
             → Makes found (lent octets.now self.new) (block_group (with_limits scale) bytes (Some timestamp) header.now)) }
         ensures lent { IfOk result (λ found. OnOk found (IsBlock octets.now self.new)) }
         ensures head { MatchResult result (λ found. OnErr found (self.new.head ≡ self.old.head)) (λ _. self.new.head ≡ self.old.head) }
+        ensures frames { MatchResult result (λ found. OnErr found (self.new.frames ≡ self.old.frames)) (λ _. self.new.frames ≡ self.old.frames) }
     {
         self.forget();
         if let Err(damage) = self.gathered.gather(octets, header.body, total)? {
@@ -153,6 +164,7 @@ impl Parts {
         ) {
             Ok(head) => {
                 self.head = head;
+                self.frames = self.sizes.len() as u16;
                 Ok(Ok(()))
             }
             Err(damage) => Ok(Err(damage)),
@@ -165,6 +177,7 @@ impl Parts {
         ensures found { IfOk found (λ found. OnOk found (self.new ≡ self.old)) }
         ensures empty { MatchResult found (λ found. OnErr found (IsEmpty self.new)) (λ _. IsEmpty self.new) }
         ensures head { self.new.head ≡ self.old.head }
+        ensures frames { self.new.frames ≡ self.old.frames }
     {
         match found {
             Ok(Ok(())) => Ok(Ok(())),

@@ -96,5 +96,5 @@ returns-in-Ok-group_head-clause-lent c =
     let part = take (base + c.known.result - base) (drop base o) in
     let place = block_place (goal.at.returns-in-Ok-group_head-clause-lent c).After-spell in
     let spells = rw c.in-Ok.is at c.in_ok-spelled.ensures.exact in
-    IsBlock-made o part base c.in-Ok.spelled.start c.in-Ok.spelled.flags _ (omega (arith, c.requires.few, c.requires.length)) refl (omega (arith, place.0)) place.1 spells.1
+    IsBlock-made o part base c.in-Ok.spelled.start c.in-Ok.spelled.flags _ (omega (arith, c.requires.few, c.requires.length)) refl (omega (arith, place.0)) place.1 c.len.ensures.value spells.1
     c.in-Ok-group_head.ensures.small (omega (arith, c.in_ok-damage.ensures.kept, ap (λ v. length v.items) c.in-Ok-group_head.ensures.kept))

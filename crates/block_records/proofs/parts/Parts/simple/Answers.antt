@@ -35,5 +35,5 @@ pub returns-in-Ok-simple_head-clause-lent : goal.returns-in-Ok-simple_head-claus
 returns-in-Ok-simple_head-clause-lent c =
     let spells = rw c.in-Ok.is at c.in_ok-spelled.ensures.exact in
     let none = c.forget.ensures.empty in
-    IsBlock-made c.args.octets.now c.args.octets.now 0 c.in-Ok.spelled.start c.in-Ok.spelled.flags _ (omega (arith, c.requires.few, c.requires.length)) (omega arith) (omega arith) (omega arith) spells.1
+    IsBlock-made c.args.octets.now c.args.octets.now 0 c.in-Ok.spelled.start c.in-Ok.spelled.flags _ (omega (arith, c.requires.few, c.requires.length)) (omega arith) (omega arith) (omega arith) c.len.ensures.value spells.1
     (rw none.references (c.in-Ok-simple_head.ensures.small)) (omega (arith, ap length none.kept))

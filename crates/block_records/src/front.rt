@@ -1,0 +1,84 @@
+//! What octets in the front of a SimpleBlock's body settle: RFC 9559, sections 10.2 (SimpleBlock Structure) and 10.3
+//! (Block Lacing).
+
+ghost use Rattle.std.specs.Prelude.{◌≡◌, ◌≤◌, ℕ, List, length, Some, IfSome};
+ghost use Rattle.mkv_schema.specs.Element.{known};
+ghost use Rattle.mkv_schema.specs.Value.{body_of};
+ghost use Rattle.block_format.specs.Elements.{simple_block, with_limits};
+ghost use Rattle.block_format.specs.declared.limits.TheConstants.{MOST_OF_BLOCK};
+ghost use Rattle.block_records.specs.Front.{HasHead, frame_count, front_head, laced_count};
+ghost use Rattle.block_records.specs.Lendable.{HasSmallTimes};
+ghost use Rattle.block_records.specs.Spelled.{IsFront};
+
+use crate::block::simple_head;
+use crate::content::{Spelled, header_in, lace_of};
+use crate::head::BlockHead;
+use block_format::MOST_OF_BLOCK;
+use elements::known;
+use lacing::{Lace, is_settled};
+use mkv_schema::Header;
+
+/// What the front of a SimpleBlock settles.
+#[derive(Clone, Copy, Debug, PartialEq, Eq)]
+pub struct FrontHead {
+    /// What the block says of itself.
+    pub head: BlockHead,
+    /// How many frames it has.
+    pub frames: u16,
+}
+
+// How many frames are laced in so many octets, where these in their front settle it.
+fn laced_count(kind: Lace, front: &[u8], len: usize) -> Option<u16>
+    requires inside { length front.now ≤ len }
+    requires short { len ≤ MOST_OF_BLOCK }
+    ensures exact { result ≡ laced_count kind front.now len }
+    ensures few { IfSome result (λ count. count ≤ 256) }
+{
+    let (&less_one, lace) = front.split_first()?;
+    let count = u16::from(less_one) + 1;
+    if is_settled(kind, count, lace, len - 1) {
+        Some(count)
+    } else {
+        None
+    }
+}
+
+// How many frames stand in so many octets behind a header, where these in their front settle it.
+fn frame_count(kind: Lace, front: &[u8], len: usize) -> Option<u16>
+    requires inside { length front.now ≤ len }
+    requires short { len ≤ MOST_OF_BLOCK }
+    ensures exact { result ≡ frame_count kind front.now len }
+    ensures few { IfSome result (λ count. count ≤ 256) }
+{
+    match kind {
+        Lace::None => Some(1),
+        Lace::Xiph | Lace::Fixed | Lace::Ebml => laced_count(kind, front, len),
+    }
+}
+
+/// What a SimpleBlock with this header says of itself, and how many frames it has, by octets in the front of its body, in a
+/// Cluster whose Timestamp is so many ticks, of `scale` nanoseconds each; nothing where these don't settle that it is one.
+pub fn front_head(scale: u64, timestamp: u64, header: &Header, front: &[u8]) -> Option<FrontHead>
+    requires few { known header.now.size ≤ MOST_OF_BLOCK }
+    requires front { length front.now ≤ known header.now.size }
+    ensures exact { result ≡ front_head scale timestamp header.now front.now }
+    ensures settles { IfSome result (λ found. (bytes : List ℕ) → IsFront front.now (body_of bytes header.now)
+        → length (body_of bytes header.now) ≡ known header.now.size
+        → HasHead found (simple_block (with_limits scale) bytes (Some timestamp) header.now)) }
+    ensures small { IfSome result (λ found. HasSmallTimes found.head) }
+    ensures few { IfSome result (λ found. found.frames ≤ 256) }
+{
+    let found = header_in(front)?;
+    let rest = known(header.size) as usize - found.len;
+    let frames = frame_count(lace_of(found.flags), &front[found.len..], rest)?;
+    let spelled = Spelled {
+        track: found.track,
+        relative: found.relative,
+        flags: found.flags,
+        start: found.len,
+    };
+    match simple_head(scale, timestamp, header, &spelled) {
+        Ok(head) => Some(FrontHead { head, frames }),
+        Err(_) => None,
+    }
+}
