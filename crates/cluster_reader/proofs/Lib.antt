@@ -2,5 +2,5 @@ pub mod ChildLemmas
 pub mod LeftLemmas
 pub mod ToldDamagesLemmas
 pub mod TurnLemmas
-pub mod WantedLemmas
+pub mod TakesLemmas
 pub mod ReadingLemmas

@@ -4,7 +4,7 @@ use Rattle.mkv_io.specs.LiveFiles.{LiveFiles, IsSameFile}
 use Rattle.mkv_io.specs.Told.{Told}
 use Rattle.elements.specs.Window.{Holds, HasNotPassed}
 use Rattle.block_format.specs.Elements.{with_limits}
-use Rattle.cluster_reader.specs.Reading.{Reading, CanRead, IsAtEnd, IsFull, left_of}
+use Rattle.cluster_reader.specs.Reading.{Reading, CanRead, IsAtEnd, left_of}
 use Rattle.cluster_reader.proofs.LeftLemmas.{left-end}
 
 -- at the end nothing is left
@@ -20,5 +20,4 @@ CanRead-kept old new c same can =
       inside = subst (λ (n : ℕ). c.place.end ≤ n) size can.inside;
       holds = subst (λ (o : Option (List ℕ)). Told o (λ bytes. Holds bytes c.ahead)) (sym (same.content can.live)) can.holds;
       before = subst (λ (n : ℕ). HasNotPassed c.ahead c.place.at n) size can.before;
-      full = subst (λ (n : ℕ). IsFull n c.ahead) size can.full;
     }

@@ -4,4 +4,4 @@ pub mod Places
 pub mod Reading
 pub mod ToldDamages
 pub mod Walks
-pub mod Wanted
+pub mod Takes

@@ -1,5 +1,5 @@
 -- A file's blocks as they are read, one after the other.
-use Rattle.std.specs.Prelude.{◌≡◌, ◌<◌, ◌≤◌, ◌⊎◌, ⊤, ℕ, ◌+◌, ◌*◌, true, false, Bool, List, [], ◌∷◌, length, Option, Some, None, Result, Ok, Err, IfOk}
+use Rattle.std.specs.Prelude.{◌≡◌, ◌<◌, ◌≤◌, ⊤, ℕ, ◌+◌, true, false, Bool, List, [], ◌∷◌, None, Result, Ok, Err, IfOk}
 use Rattle.mkv_io.specs.declared.outside.FileId.{FileId}
 use Rattle.mkv_io.specs.declared.outside.ReadEnd.{ReadEnd}
 use Rattle.mkv_io.specs.declared.damage.Damage.{Damage}
@@ -7,7 +7,7 @@ use Rattle.mkv_io.specs.Faults.{counted}
 use Rattle.mkv_io.specs.LiveFiles.{LiveFiles}
 use Rattle.mkv_io.specs.Told.{Told}
 use Rattle.mkv_schema.specs.declared.element.Header.{Header}
-use Rattle.elements.specs.Window.{ReadAhead, Holds, HasNotPassed, cost_of, end_ahead}
+use Rattle.elements.specs.Window.{ReadAhead, Holds, HasNotPassed, end_ahead}
 use Rattle.block_format.specs.Block.{Block as AnyBlock}
 use Rattle.block_format.specs.Elements.{with_limits}
 use Rattle.block_format.specs.Events.{Event, block, damaged, stopped}
@@ -15,9 +15,11 @@ use Rattle.block_records.specs.Buffered.{Buffered, block_of}
 use Rattle.block_records.specs.Lendable.{IsLendable, LendsNothing}
 use Rattle.cluster_reader.specs.Left.{left}
 use Rattle.cluster_reader.specs.Places.{first_place}
-use Rattle.cluster_reader.specs.Wanted.{IsKnown}
+use Rattle.cluster_reader.specs.Takes.{IsKnown}
 use Rattle.cluster_reader.specs.declared.place.Place.{Place}
 use Rattle.cluster_reader.specs.declared.step.Step.{Step}
+use Rattle.cluster_reader.specs.declared.takes.Takes.{Takes}
+use Rattle.cluster_reader.specs.declared.takes.Takes.TheVariants.{All, Track, Heads}
 use Rattle.cluster_reader.specs.declared.step.Step.TheVariants.{Block, Damaged, End}
 
 -- The file and its scale; the place of what is looked at next; what is held of the file; the block that was
@@ -53,17 +55,17 @@ Gives bytes old new (Ok End) = (left_of bytes old ≡ []) × (left_of bytes new 
 Gives bytes old new (Err end) = left_of bytes new ≡ left_of bytes old
 
 -- The first of what was left is a block, of which is known what is wanted.
-pub record GivesBlock (wanted : Option ℕ) (bytes : List ℕ) (old new : Reading) : Type 0 where
+pub record GivesBlock (takes : Takes) (bytes : List ℕ) (old new : Reading) : Type 0 where
   pub given : AnyBlock
   pub left : left_of bytes old ≡ block given ∷ left_of bytes new
-  pub known : IsKnown wanted given new.block
+  pub known : IsKnown takes given new.block
 
--- The same is given where the blocks of one track are wanted; what other blocks hold isn't known.
-abbrev pub GivesWanted : Option ℕ → List ℕ → Reading → Reading → Result Step ReadEnd → Type 0
-GivesWanted wanted bytes old new (Ok Block) = GivesBlock wanted bytes old new
-GivesWanted wanted bytes old new (Ok (Damaged d)) = Gives bytes old new (Ok (Damaged d))
-GivesWanted wanted bytes old new (Ok End) = Gives bytes old new (Ok End)
-GivesWanted wanted bytes old new (Err end) = Gives bytes old new (Err end)
+-- The same is given whichever blocks are wanted; what others hold isn't known.
+abbrev pub GivesWanted : Takes → List ℕ → Reading → Reading → Result Step ReadEnd → Type 0
+GivesWanted takes bytes old new (Ok Block) = GivesBlock takes bytes old new
+GivesWanted takes bytes old new (Ok (Damaged d)) = Gives bytes old new (Ok (Damaged d))
+GivesWanted takes bytes old new (Ok End) = Gives bytes old new (Ok End)
+GivesWanted takes bytes old new (Err end) = Gives bytes old new (Err end)
 
 -- The place goes on past what is given.
 abbrev pub GoesOn : Step → ℕ → ℕ → Type 0
@@ -89,10 +91,11 @@ LendsFor Block b = IsLendable b
 LendsFor (Damaged d) b = ⊤
 LendsFor End b = ⊤
 
--- One of a track that is wanted can be.
-abbrev pub LendsWanted : Option ℕ → Step → Buffered → Type 0
-LendsWanted None step b = LendsFor step b
-LendsWanted (Some track) step b = b.head.track ≡ track → LendsFor step b
+-- One that is wanted can be.
+abbrev pub LendsWanted : Takes → Step → Buffered → Type 0
+LendsWanted All step b = LendsFor step b
+LendsWanted (Track track) step b = b.head.track ≡ track → LendsFor step b
+LendsWanted Heads step b = ⊤
 
 -- how many blocks an answer gives
 abbrev pub blocks_given : Result Step ReadEnd → ℕ
@@ -128,27 +131,22 @@ pub record IsSameSegment (old new : Reading) : Type 0 where
   pub forwards : old.place.at ≤ new.place.at
 
 -- A call goes on in the same Segment, and not past its end. A wanted block that it gives can be written.
-pub record MovesWanted (wanted : Option ℕ) (old new : Reading) (result : Result Step ReadEnd) : Type 0 where
+pub record MovesWanted (takes : Takes) (old new : Reading) (result : Result Step ReadEnd) : Type 0 where
   pub same : IsSameSegment old new
   pub on : IfOk result (λ step. GoesOn step old.place.at new.place.at)
   pub inside : new.place.at ≤ new.place.end
-  pub lends : IfOk result (λ step. LendsWanted wanted step new.block)
+  pub lends : IfOk result (λ step. LendsWanted takes step new.block)
 
 -- where all are wanted, each can be
 abbrev pub Moves : Reading → Reading → Result Step ReadEnd → Type 0
-Moves old new result = MovesWanted None old new result
+Moves old new result = MovesWanted All old new result
 
--- What is held has been read as far as one read goes: nothing, or up to the file's end, or 1,024 octets at least.
-abbrev pub IsFull : ℕ → ReadAhead → Type 0
-IsFull size w = (w.octets ≡ []) ⊎ (end_ahead w ≡ size) ⊎ (1024 ≤ length w.octets)
-
--- The place is in a live file; what is held is this file's, not behind the place, and as much as one read takes.
+-- The place is in a live file; what is held is this file's, and not behind the place.
 pub record CanRead (files : LiveFiles) (c : Reading) : Type 0 where
   pub live : files.live c.file.n ≡ true
   pub inside : c.place.end ≤ files.size c.file.n
   pub holds : Told (files.content c.file.n) (λ bytes. Holds bytes c.ahead)
   pub before : HasNotPassed c.ahead c.place.at (files.size c.file.n)
-  pub full : IsFull (files.size c.file.n) c.ahead
 
 -- Nothing was given yet, nothing is held, and nothing is lent.
 pub record Begins (opened : FileId) (tick : ℕ) (segment : Header) (total : ℕ) (c : Reading) : Type 0 where
@@ -163,18 +161,17 @@ pub record Begins (opened : FileId) (tick : ℕ) (segment : Header) (total : ℕ
 
 -- ---- how much is read
 
--- What the way to a place has paid for: at most three octets for each of the file for what was held, and
--- one for each that was passed for the blocks.
-abbrev pub paid : ℕ → Reading → ℕ
-paid size c = cost_of size c.ahead + c.place.at
+-- up to where the file was read
+abbrev pub read_to : Reading → ℕ
+read_to c = end_ahead c.ahead
 
--- What a call reads is paid by the way that it goes. One that a failed read or want of memory ends may
--- read two octets besides for each of the file.
+-- What a call reads lies behind what was read before: no octet is read twice. One that a failed read or want of memory ends may
+-- read up to the end of a file of `size` octets, and what it read is read again.
 abbrev pub Pays : {T : Type 0} → ℕ → Reading → Reading → ℕ → ℕ → Result T ReadEnd → Type 0
-Pays size old new before now (Ok answer) = now + paid size old ≤ before + paid size new
-Pays size old new before now (Err end) = now + paid size old ≤ before + paid size new + 2 * size
+Pays size old new before now (Ok answer) = now + read_to old ≤ before + read_to new
+Pays size old new before now (Err end) = now + read_to old ≤ before + read_to new + size
 
--- What is read is paid by the way, and the whole way pays at most four octets for each of the file.
+-- What is read is paid by the way, and no way is longer than the file.
 pub record Spends {T : Type 0} (size : ℕ) (old new : Reading) (before now : ℕ) (result : Result T ReadEnd) : Type 0 where
   pub pays : Pays size old new before now result
-  pub most : paid size new ≤ 4 * size
+  pub most : read_to new ≤ size

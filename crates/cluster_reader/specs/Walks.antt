@@ -1,18 +1,18 @@
 -- A walk over the Elements of a file, one turn after the other.
-use Rattle.std.specs.Prelude.{◌≡◌, ◌≤◌, ◌<◌, ⊤, ℕ, ◌==◌, Bool, ◌||◌, ◌&&◌, is_none, if◌then◌else◌, List, [], ◌∷◌, Option, Result, Ok, Err, IfOk}
+use Rattle.std.specs.Prelude.{◌≡◌, ◌≤◌, ◌<◌, ⊤, ℕ, ◌==◌, if◌then◌else◌, List, [], ◌∷◌, Option, Result, Ok, Err, IfOk}
 use Rattle.mkv_io.specs.declared.outside.ReadEnd.{ReadEnd}
-use Rattle.mkv_schema.specs.declared.ids.TheConstants.{SIMPLE_BLOCK, BLOCK_GROUP, TIMESTAMP}
+use Rattle.mkv_schema.specs.declared.ids.TheConstants.{SIMPLE_BLOCK}
 use Rattle.mkv_io.specs.LiveFiles.{LiveFiles}
 use Rattle.mkv_schema.specs.declared.element.Header.{Header}
-use Rattle.mkv_schema.specs.Element.{known}
 use Rattle.block_format.specs.Elements.{Rules, with_limits, simple_block, block_group}
 use Rattle.block_format.specs.Events.{Found, found_at, timestamp_behind}
 use Rattle.block_records.specs.Buffered.{Buffered}
 use Rattle.cluster_reader.specs.Places.{IsPlace, turns_left}
 use Rattle.cluster_reader.specs.Reading.{Reading, GivesWanted, GoesOn, LendsWanted, Notes, CanRead, IsSameSegment, Pays, left_of}
-use Rattle.cluster_reader.specs.Wanted.{FindsBlock}
+use Rattle.cluster_reader.specs.Takes.{FindsBlock}
 use Rattle.cluster_reader.specs.declared.place.Place.{Place}
 use Rattle.cluster_reader.specs.declared.step.Step.{Step}
+use Rattle.cluster_reader.specs.declared.takes.Takes.{Takes}
 use Rattle.cluster_reader.specs.declared.step.Step.TheVariants.{Block}
 use Rattle.cluster_reader.specs.declared.turn.Turn.{Turn}
 use Rattle.cluster_reader.specs.declared.turn.Turn.TheVariants as turn
@@ -42,42 +42,34 @@ block_found r bytes timestamp h =
 
 -- It gives what is answered: nothing, and the Timestamp that stands behind it; a block, of which is known what is wanted; or
 -- a damage.
-abbrev pub Finds : Option ℕ → List ℕ → ℕ → Option ℕ → Header → Buffered → Child → Type 0
-Finds wanted bytes scale timestamp h b (child.Passed behind) =
+abbrev pub Finds : Takes → List ℕ → ℕ → Option ℕ → Header → Buffered → Child → Type 0
+Finds takes bytes scale timestamp h b (child.Passed behind) =
     (found_at (with_limits scale) bytes timestamp h ≡ []) × (behind ≡ timestamp_behind bytes timestamp h)
-Finds wanted bytes scale timestamp h b child.Block = FindsBlock wanted b (found_at (with_limits scale) bytes timestamp h)
-Finds wanted bytes scale timestamp h b (child.Damaged d) = found_at (with_limits scale) bytes timestamp h ≡ Err d ∷ []
+Finds takes bytes scale timestamp h b child.Block = FindsBlock takes b (found_at (with_limits scale) bytes timestamp h)
+Finds takes bytes scale timestamp h b (child.Damaged d) = found_at (with_limits scale) bytes timestamp h ≡ Err d ∷ []
 
 -- A wanted block that is given can be written.
-abbrev pub LendsForChild : Option ℕ → Child → Buffered → Type 0
-LendsForChild wanted (child.Passed behind) b = ⊤
-LendsForChild wanted child.Block b = LendsWanted wanted Block b
-LendsForChild wanted (child.Damaged d) b = ⊤
-
--- A SimpleBlock or a BlockGroup is read, and the first Timestamp of a Cluster.
-abbrev pub is_read : Option ℕ → Header → Bool
-is_read timestamp h = h.id == SIMPLE_BLOCK || h.id == BLOCK_GROUP || (h.id == TIMESTAMP && is_none timestamp)
-
--- how many octets of a child's body are read: of what isn't read none
-abbrev pub octets_read_of : Option ℕ → Header → ℕ
-octets_read_of timestamp h = if is_read timestamp h then known h.size else 0
+abbrev pub LendsForChild : Takes → Child → Buffered → Type 0
+LendsForChild takes (child.Passed behind) b = ⊤
+LendsForChild takes child.Block b = LendsWanted takes Block b
+LendsForChild takes (child.Damaged d) b = ⊤
 
 -- ---- what a turn gives
 
 -- It gives what is answered, as a cursor does; where an Element is passed the same is left.
-abbrev pub Turns : Option ℕ → List ℕ → Walk → Walk → Result Turn ReadEnd → Type 0
-Turns wanted bytes old new (Ok turn.Passed) = left_of bytes (shown new) ≡ left_of bytes (shown old)
-Turns wanted bytes old new (Ok (turn.Gives step)) = GivesWanted wanted bytes (shown old) (shown new) (Ok step)
-Turns wanted bytes old new (Err end) = left_of bytes (shown new) ≡ left_of bytes (shown old)
+abbrev pub Turns : Takes → List ℕ → Walk → Walk → Result Turn ReadEnd → Type 0
+Turns takes bytes old new (Ok turn.Passed) = left_of bytes (shown new) ≡ left_of bytes (shown old)
+Turns takes bytes old new (Ok (turn.Gives step)) = GivesWanted takes bytes (shown old) (shown new) (Ok step)
+Turns takes bytes old new (Err end) = left_of bytes (shown new) ≡ left_of bytes (shown old)
 
 -- The place goes on; where an Element is passed, fewer turns are left.
 abbrev pub TurnsOn : Place → Place → Turn → Type 0
 TurnsOn old new turn.Passed = (turns_left new < turns_left old) × (old.at ≤ new.at)
 TurnsOn old new (turn.Gives step) = GoesOn step old.at new.at
 
-abbrev pub LendsForTurn : Option ℕ → Turn → Buffered → Type 0
-LendsForTurn wanted turn.Passed b = ⊤
-LendsForTurn wanted (turn.Gives step) b = LendsWanted wanted step b
+abbrev pub LendsForTurn : Takes → Turn → Buffered → Type 0
+LendsForTurn takes turn.Passed b = ⊤
+LendsForTurn takes (turn.Gives step) b = LendsWanted takes step b
 
 -- A turn notes what a call does; one that gives nothing notes nothing.
 abbrev pub TurnNotes : Walk → Walk → Result Turn ReadEnd → Type 0
@@ -98,18 +90,18 @@ abbrev pub IsSameWalk : Walk → Walk → Type 0
 IsSameWalk old new = IsSameSegment (shown old) (shown new)
 
 -- A turn goes on in the same Segment, and notes a damage that ends what is read.
-pub record TakesTurn (wanted : Option ℕ) (old new : Walk) (result : Result Turn ReadEnd) : Type 0 where
+pub record TakesTurn (takes : Takes) (old new : Walk) (result : Result Turn ReadEnd) : Type 0 where
   pub same : IsSameWalk old new
   pub on : IfOk result (TurnsOn old.place new.place)
   pub notes : TurnNotes old new result
-  pub lends : IfOk result (λ turn. LendsForTurn wanted turn new.block)
+  pub lends : IfOk result (λ turn. LendsForTurn takes turn new.block)
 
 -- So does a step.
-pub record TakesStep (wanted : Option ℕ) (old new : Walk) (result : Result Step ReadEnd) : Type 0 where
+pub record TakesStep (takes : Takes) (old new : Walk) (result : Result Step ReadEnd) : Type 0 where
   pub same : IsSameWalk old new
   pub on : IfOk result (λ step. GoesOn step old.place.at new.place.at)
   pub notes : Notes (shown old) (shown new) result
-  pub lends : IfOk result (λ step. LendsWanted wanted step new.block)
+  pub lends : IfOk result (λ step. LendsWanted takes step new.block)
 
 -- What is read is paid by the way, as a cursor's.
 abbrev pub PaysFor : {T : Type 0} → ℕ → Walk → Walk → ℕ → ℕ → Result T ReadEnd → Type 0

@@ -1,9 +1,10 @@
 //! The Elements of level 1: RFC 9559, section 5.1 (Segment Element).
 
-ghost use Rattle.std.specs.Prelude.{◌≡◌, ℕ, Option as AnOption, None, IfOk};
+ghost use Rattle.std.specs.Prelude.{◌≡◌, None, IfOk};
 ghost use Rattle.mkv_io.specs.Faults.{HasCause, is_read_fault};
 ghost use Rattle.mkv_io.specs.Sources.{IfTold, file_size, live_files};
 ghost use Rattle.cluster_reader.specs.Walks.{IsReady, PaysFor, TakesTurn, Turns};
+ghost use Rattle.cluster_reader.specs.declared.takes.Takes.{Takes};
 
 use crate::step::Step;
 use crate::turn::Turn;
@@ -16,8 +17,8 @@ use mkv_schema::ids::CLUSTER;
 pub fn turn_at_level_1<R: Reads>(walk: &mut Walk, src: &mut R) -> Result<Turn, ReadEnd>
     requires ready { IsReady (live_files R.Reads src.old) walk.old }
     requires outside { walk.old.place.cluster ≡ None }
-    ensures gives { IfTold R.Reads src.old walk.old.file (λ bytes. (wanted : AnOption ℕ) → Turns wanted bytes walk.old walk.new result) }
-    ensures takes { (wanted : AnOption ℕ) → TakesTurn wanted walk.old walk.new result }
+    ensures gives { IfTold R.Reads src.old walk.old.file (λ bytes. (takes : Takes) → Turns takes bytes walk.old walk.new result) }
+    ensures takes { (takes : Takes) → TakesTurn takes walk.old walk.new result }
     ensures ready { IsReady (live_files R.Reads src.new) walk.new }
     ensures standing { R.standing src.new ≡ R.standing src.old }
     ensures cause { HasCause is_read_fault (R.reading_faults src.old) (R.reading_faults src.new) result }

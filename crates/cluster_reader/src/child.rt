@@ -1,48 +1,57 @@
 //! What the children of a Cluster give: RFC 9559, section 5.1.3 (Cluster Element).
 
-ghost use Rattle.std.specs.Prelude.{◌≡◌, ◌≤◌, ◌+◌, ℕ, List, length, false, Option as AnOption, Some, IfOk, OnOk, IsTrue};
+ghost use Rattle.std.specs.Prelude.{◌≡◌, ◌≤◌, ℕ, List, length, false, Some, IfOk, IfSome, OnOk, IsTrue};
 ghost use Rattle.mkv_io.specs.Faults.{HasCause, is_read_fault};
 ghost use Rattle.mkv_io.specs.Sources.{IfTold, live_files};
 ghost use Rattle.mkv_schema.specs.Element.{is_unknown, known, stated_end};
+ghost use Rattle.mkv_schema.specs.Value.{body_of};
+ghost use Rattle.elements.specs.Looks.{Goes};
 ghost use Rattle.elements.specs.Window.{Holds};
 ghost use Rattle.block_format.specs.Elements.{simple_block, timestamp_for, with_limits};
+ghost use Rattle.block_records.specs.Front.{HasHead};
+ghost use Rattle.block_records.specs.Lendable.{HasSmallTimes};
 ghost use Rattle.cluster_reader.specs.Reading.{LendsWanted};
-ghost use Rattle.cluster_reader.specs.Walks.{Finds, IsReady, LendsForChild, block_found, octets_read_of};
-ghost use Rattle.cluster_reader.specs.Wanted.{MakesBlock, MakesWanted};
+ghost use Rattle.cluster_reader.specs.Takes.{MakesBlock, MakesWanted, wants};
+ghost use Rattle.cluster_reader.specs.Walks.{Finds, IsReady, LendsForChild, block_found};
 ghost use Rattle.cluster_reader.specs.declared.step.Step.TheVariants as StepOf;
+ghost use Rattle.cluster_reader.specs.declared.takes.Takes.{Takes};
 
+use crate::takes::Takes;
 use crate::timestamp::read_timestamp;
 use crate::turn::Child;
 use crate::walk::Walk;
 use block_format::{MOST_OF_BLOCK, MOST_TIMESTAMP};
-use block_records::BlockBuffer;
+use block_records::{FrontHead, front_head};
 use elements::{Window, damage_at, known};
 use mkv_io::{Damage, Kind, ReadEnd, Reads};
 use mkv_schema::Header;
 use mkv_schema::ids::{BLOCK_GROUP, SIMPLE_BLOCK, TIMESTAMP};
 
-/// The most octets of a SimpleBlock that stand before its frames, where it has no lace: eight of its track's number, two of
-/// its time, and its flags.
-const LONGEST_FRONT: u64 = 11;
+/// How many octets of the body of a SimpleBlock are looked at before it is read: as many as its header has, and the octet with
+/// the number of its frames.
+const LEAST_OF_FRONT: u64 = 12;
 
-/// What a child of a Cluster gives, before which this Timestamp stands, where the blocks of one track are wanted or of all.
-/// The walk stays where it is.
+/// The most of them, where more are held: those of the head of a lace.
+const MOST_OF_FRONT: u64 = 1024;
+
+/// What a child of a Cluster gives, before which this Timestamp stands, by which blocks are wanted. The walk stays where it is.
 pub fn read_child<R: Reads>(
     walk: &mut Walk,
     src: &mut R,
     timestamp: Option<u64>,
     header: &Header,
-    wanted: Option<u64>,
+    takes: Takes,
 ) -> Result<Child, ReadEnd>
     requires ready { IsReady (live_files R.Reads src.old) walk.old }
     requires whole { is_unknown header.now.size ≡ false }
     requires inside { stated_end header.now ≤ walk.old.place.end }
-    ensures ok { IfOk result (λ child. IfTold R.Reads src.old walk.old.file (λ bytes. Finds wanted bytes walk.old.scale timestamp header.now walk.new.block child)) }
-    ensures only { walk.new ≡ record walk.old { block = walk.new.block } }
+    ensures ok { IfOk result (λ child. IfTold R.Reads src.old walk.old.file (λ bytes. Finds takes bytes walk.old.scale timestamp header.now walk.new.block child)) }
+    ensures lends { IfOk result (λ child. LendsForChild takes child walk.new.block) }
+    ensures only { walk.new ≡ record walk.old { block = walk.new.block; window = walk.new.window } }
+    ensures holds { IfTold R.Reads src.old walk.old.file (λ bytes. Holds bytes walk.new.window) }
     ensures standing { R.standing src.new ≡ R.standing src.old }
     ensures cause { HasCause is_read_fault (R.reading_faults src.old) (R.reading_faults src.new) result }
-    ensures lends { IfOk result (λ child. LendsForChild wanted child walk.new.block) }
-    ensures octets { R.octets_read src.new ≤ R.octets_read src.old + octets_read_of timestamp header.now }
+    ensures goes { Goes R.Reads walk.old.file header.now.body (λ _. stated_end header.now) walk.old.window walk.new.window src.old src.new result }
 {
     if header.id == TIMESTAMP {
         return timestamp_child(walk, src, timestamp, header);
@@ -50,7 +59,7 @@ pub fn read_child<R: Reads>(
     if header.id != SIMPLE_BLOCK && header.id != BLOCK_GROUP {
         return Ok(Child::Passed(timestamp));
     }
-    match read_block(walk, src, timestamp, header, wanted)? {
+    match read_block(walk, src, timestamp, header, takes)? {
         Ok(()) => Ok(Child::Block),
         Err(damage) => Ok(Child::Damaged(damage)),
     }
@@ -58,19 +67,22 @@ pub fn read_child<R: Reads>(
 
 // What a Timestamp gives. The first of a Cluster alone is read.
 fn timestamp_child<R: Reads>(
-    walk: &Walk,
+    walk: &mut Walk,
     src: &mut R,
     timestamp: Option<u64>,
     header: &Header,
 ) -> Result<Child, ReadEnd>
-    requires ready { IsReady (live_files R.Reads src.old) walk.now }
-    requires inside { stated_end header.now ≤ walk.now.place.end }
+    requires ready { IsReady (live_files R.Reads src.old) walk.old }
+    requires whole { is_unknown header.now.size ≡ false }
+    requires inside { stated_end header.now ≤ walk.old.place.end }
     requires id { header.now.id ≡ TIMESTAMP }
-    ensures ok { IfOk result (λ child. IfTold R.Reads src.old walk.now.file (λ bytes. (wanted : AnOption ℕ) → Finds wanted bytes walk.now.scale timestamp header.now walk.now.block child)) }
-    ensures lends { IfOk result (λ child. (wanted : AnOption ℕ) → LendsForChild wanted child walk.now.block) }
+    ensures ok { IfOk result (λ child. IfTold R.Reads src.old walk.old.file (λ bytes. (takes : Takes) → Finds takes bytes walk.old.scale timestamp header.now walk.new.block child)) }
+    ensures lends { IfOk result (λ child. (takes : Takes) → LendsForChild takes child walk.new.block) }
+    ensures only { walk.new ≡ record walk.old { window = walk.new.window } }
+    ensures holds { IfTold R.Reads src.old walk.old.file (λ bytes. Holds bytes walk.new.window) }
     ensures standing { R.standing src.new ≡ R.standing src.old }
     ensures cause { HasCause is_read_fault (R.reading_faults src.old) (R.reading_faults src.new) result }
-    ensures octets { R.octets_read src.new ≤ R.octets_read src.old + octets_read_of timestamp header.now }
+    ensures goes { Goes R.Reads walk.old.file header.now.body (λ _. stated_end header.now) walk.old.window walk.new.window src.old src.new result }
 {
     if known(header.size) > MOST_TIMESTAMP {
         return Ok(Child::Damaged(damage_at(Kind::BadValue, header)));
@@ -78,7 +90,7 @@ fn timestamp_child<R: Reads>(
     match timestamp {
         Some(ticks) => Ok(Child::Passed(Some(ticks))),
         None => {
-            let ticks = read_timestamp(&walk.window, src, walk.file, header)?;
+            let ticks = read_timestamp(&mut walk.window, src, walk.file, header)?;
             Ok(Child::Passed(Some(ticks)))
         }
     }
@@ -98,61 +110,106 @@ fn timestamp_for(timestamp: Option<u64>, header: &Header) -> Result<u64, Damage>
     }
 }
 
-// Passes a SimpleBlock of another track than the one that is wanted, where what is held of the file settles that it is one.
-// Answers whether it does.
-fn passes(
+// Whether the frames of a block of this track are wanted.
+fn wants(takes: Takes, track: u64) -> bool
+    ensures { result ≡ wants takes track }
+{
+    match takes {
+        Takes::All => true,
+        Takes::Track(wanted) => track == wanted,
+        Takes::Heads => false,
+    }
+}
+
+// What the front of a SimpleBlock settles that isn't wanted, as far as it is held: what it says of itself, and how many frames it
+// has.
+fn settled(
     window: &Window,
-    block: &mut BlockBuffer,
     scale: u64,
     ticks: u64,
     header: &Header,
-    wanted: Option<u64>,
-) -> bool
+    takes: Takes,
+) -> Option<FrontHead>
     requires few { known header.now.size ≤ MOST_OF_BLOCK }
-    ensures simple { IsTrue result → header.now.id ≡ SIMPLE_BLOCK }
-    ensures found { IsTrue result → (bytes : List ℕ) → Holds bytes window.now
-        → MakesBlock wanted block.new (simple_block (with_limits scale) bytes (Some ticks) header.now) }
-    ensures lends { IsTrue result → LendsWanted wanted StepOf.Block block.new }
+    ensures found { IfSome result (λ front. (bytes : List ℕ) → length (body_of bytes header.now) ≡ known header.now.size → Holds bytes window.now
+        → HasHead front (simple_block (with_limits scale) bytes (Some ticks) header.now)) }
+    ensures other { IfSome result (λ front. wants takes front.head.track ≡ false) }
+    ensures small { IfSome result (λ front. HasSmallTimes front.head) }
+    ensures few { IfSome result (λ front. front.frames ≤ 256) }
 {
-    let Some(track) = wanted else {
-        return false;
-    };
-    let len = known(header.size).min(LONGEST_FRONT) as usize;
-    if header.id != SIMPLE_BLOCK || !window.has(header.body, len) {
-        return false;
+    let most = known(header.size).min(MOST_OF_FRONT) as usize;
+    let found = front_head(scale, ticks, header, window.front_at(header.body, most))?;
+    if wants(takes, found.head.track) {
+        None
+    } else {
+        Some(found)
     }
-    let front = window.octets_at(header.body, len);
-    block.pass(front, track, scale, ticks, header)
 }
 
-// Reads a SimpleBlock or a BlockGroup into the walk's buffer, or answers the first thing that is wrong. One of a track that
-// isn't wanted may be passed.
+// Passes a SimpleBlock that isn't wanted, where its front settles that it is one. Answers whether it does.
+fn passes<R: Reads>(
+    walk: &mut Walk,
+    src: &mut R,
+    ticks: u64,
+    header: &Header,
+    takes: Takes,
+) -> Result<bool, ReadEnd>
+    requires ready { IsReady (live_files R.Reads src.old) walk.old }
+    requires few { known header.now.size ≤ MOST_OF_BLOCK }
+    requires whole { is_unknown header.now.size ≡ false }
+    requires inside { stated_end header.now ≤ walk.old.place.end }
+    ensures simple { IfOk result (λ passed. IsTrue passed → header.now.id ≡ SIMPLE_BLOCK) }
+    ensures found { IfOk result (λ passed. IsTrue passed → IfTold R.Reads src.old walk.old.file (λ bytes.
+        MakesBlock takes walk.new.block (simple_block (with_limits walk.old.scale) bytes (Some ticks) header.now))) }
+    ensures lends { IfOk result (λ passed. IsTrue passed → LendsWanted takes StepOf.Block walk.new.block) }
+    ensures only { walk.new ≡ record walk.old { block = walk.new.block; window = walk.new.window } }
+    ensures holds { IfTold R.Reads src.old walk.old.file (λ bytes. Holds bytes walk.new.window) }
+    ensures standing { R.standing src.new ≡ R.standing src.old }
+    ensures cause { HasCause is_read_fault (R.reading_faults src.old) (R.reading_faults src.new) result }
+    ensures goes { Goes R.Reads walk.old.file header.now.body (λ _. header.now.body) walk.old.window walk.new.window src.old src.new result }
+{
+    if header.id != SIMPLE_BLOCK || takes == Takes::All {
+        return Ok(false);
+    }
+    let least = known(header.size).min(LEAST_OF_FRONT) as u16;
+    walk.window.hold(src, walk.file, header.body, least)?;
+    match settled(&walk.window, walk.scale, ticks, header, takes) {
+        Some(front) => {
+            walk.block.pass(front);
+            Ok(true)
+        }
+        None => Ok(false),
+    }
+}
+
+// Reads a SimpleBlock or a BlockGroup into the walk's buffer, or answers the first thing that is wrong. One that isn't wanted may
+// be passed.
 fn read_block<R: Reads>(
     walk: &mut Walk,
     src: &mut R,
     timestamp: Option<u64>,
     header: &Header,
-    wanted: Option<u64>,
+    takes: Takes,
 ) -> Result<Result<(), Damage>, ReadEnd>
     requires ready { IsReady (live_files R.Reads src.old) walk.old }
     requires whole { is_unknown header.now.size ≡ false }
     requires inside { stated_end header.now ≤ walk.old.place.end }
-    ensures ok { IfOk result (λ found. IfTold R.Reads src.old walk.old.file (λ bytes. MakesWanted wanted found walk.new.block (block_found (with_limits walk.old.scale) bytes timestamp header.now))) }
-    ensures lends { IfOk result (λ found. OnOk found (LendsWanted wanted StepOf.Block walk.new.block)) }
-    ensures only { walk.new ≡ record walk.old { block = walk.new.block } }
+    ensures ok { IfOk result (λ found. IfTold R.Reads src.old walk.old.file (λ bytes. MakesWanted takes found walk.new.block (block_found (with_limits walk.old.scale) bytes timestamp header.now))) }
+    ensures lends { IfOk result (λ found. OnOk found (LendsWanted takes StepOf.Block walk.new.block)) }
+    ensures only { walk.new ≡ record walk.old { block = walk.new.block; window = walk.new.window } }
+    ensures holds { IfTold R.Reads src.old walk.old.file (λ bytes. Holds bytes walk.new.window) }
     ensures standing { R.standing src.new ≡ R.standing src.old }
     ensures cause { HasCause is_read_fault (R.reading_faults src.old) (R.reading_faults src.new) result }
-    ensures octets { R.octets_read src.new ≤ R.octets_read src.old + known header.now.size }
+    ensures goes { Goes R.Reads walk.old.file header.now.body (λ _. stated_end header.now) walk.old.window walk.new.window src.old src.new result }
 {
     let ticks = match timestamp_for(timestamp, header) {
         Ok(ticks) => ticks,
         Err(damage) => return Ok(Err(damage)),
     };
-    let block = &mut walk.block;
-    if passes(&walk.window, block, walk.scale, ticks, header, wanted) {
+    if passes(walk, src, ticks, header, takes)? {
         return Ok(Ok(()));
     }
-    walk.block.read(&walk.window, src, walk.file, header)?;
+    walk.block.read(&mut walk.window, src, walk.file, header)?;
     let total = src.size(walk.file);
     let found = if header.id == SIMPLE_BLOCK {
         walk.block.spell_simple(walk.scale, ticks, header)?

@@ -16,6 +16,7 @@ ghost use Rattle.block_format.specs.declared.limits.TheConstants.{MOST_REFERENCE
 use crate::next_step::next_step;
 use crate::place::Place;
 use crate::step::Step;
+use crate::takes::Takes;
 use crate::walk::Walk;
 use block_records::{BlockBuffer, BlockHead, MOST_OF_BLOCK};
 use elements::{HasSegment, Window};
@@ -97,27 +98,26 @@ impl Cursor {
         ensures standing { R.standing src.new ≡ R.standing src.old }
         ensures cause { HasCause is_read_fault (R.reading_faults src.old) (R.reading_faults src.new) result }
 
-        // What is read adds up to at most four octets for each of the file, and two for each call that fails.
+        // No octet is read twice, but what a call that fails has read.
         ensures spends { Spends (file_size R.Reads src.old self.old.file) self.old self.new (R.octets_read src.old) (R.octets_read src.new) result }
     {
-        let step = next_step(&mut self.walk, src, None)?;
+        let step = next_step(&mut self.walk, src, Takes::All)?;
         self.count(step);
         Ok(step)
     }
 
-    /// The same where the blocks of one track are wanted: of a block of another one no more is known than its track, and its
-    /// frames needn't be read.
-    pub fn advance_for<R: Reads>(&mut self, src: &mut R, track: u64) -> Result<Step, ReadEnd>
+    /// The same where not all blocks are wanted. The frames of those that aren't needn't be read.
+    pub fn advance_for<R: Reads>(&mut self, src: &mut R, takes: Takes) -> Result<Step, ReadEnd>
         requires { CanRead (live_files R.Reads src.old) self.old }
-        ensures gives { IfTold R.Reads src.old self.old.file (λ bytes. GivesWanted (Some track) bytes self.old self.new result) }
+        ensures gives { IfTold R.Reads src.old self.old.file (λ bytes. GivesWanted takes bytes self.old self.new result) }
         ensures counts { Counts self.old self.new result }
-        ensures moves { MovesWanted (Some track) self.old self.new result }
+        ensures moves { MovesWanted takes self.old self.new result }
         ensures stands { CanRead (live_files R.Reads src.new) self.new }
         ensures standing { R.standing src.new ≡ R.standing src.old }
         ensures cause { HasCause is_read_fault (R.reading_faults src.old) (R.reading_faults src.new) result }
         ensures spends { Spends (file_size R.Reads src.old self.old.file) self.old self.new (R.octets_read src.old) (R.octets_read src.new) result }
     {
-        let step = next_step(&mut self.walk, src, Some(track))?;
+        let step = next_step(&mut self.walk, src, takes)?;
         self.count(step);
         Ok(step)
     }
@@ -139,6 +139,14 @@ impl Cursor {
         ensures small { HasSmallTimes result.now }
     {
         self.walk.block.head()
+    }
+
+    /// How many frames it has, also where none is lent.
+    pub fn frames(&self) -> u16
+        ensures exact { result ≡ self.now.block.frames }
+        ensures most { result ≤ 256 }
+    {
+        self.walk.block.frames()
     }
 
     /// The octets of its frames, one behind the other.

@@ -10,6 +10,7 @@ ghost use Rattle.cluster_reader.specs.Walks.{IsReady, PaysFor, TakesTurn, Turns}
 use crate::child::read_child;
 use crate::place::Inside;
 use crate::step::Step;
+use crate::takes::Takes;
 use crate::turn::{Child, Turn};
 use crate::walk::Walk;
 use elements::{Parent, ends_cluster, id_of};
@@ -23,17 +24,17 @@ fn ends_children(unknown: bool, id: u32) -> bool
     unknown && ends_cluster(id)
 }
 
-/// What the child of a Cluster at the place makes of a walk, where the blocks of one track are wanted or of all.
+/// What the child of a Cluster at the place makes of a walk, by which blocks are wanted.
 pub fn turn_in_cluster<R: Reads>(
     walk: &mut Walk,
     src: &mut R,
     cluster: Inside,
-    wanted: Option<u64>,
+    takes: Takes,
 ) -> Result<Turn, ReadEnd>
     requires ready { IsReady (live_files R.Reads src.old) walk.old }
     requires inside { walk.old.place.cluster ≡ Some cluster }
-    ensures gives { IfTold R.Reads src.old walk.old.file (λ bytes. Turns wanted bytes walk.old walk.new result) }
-    ensures takes { TakesTurn wanted walk.old walk.new result }
+    ensures gives { IfTold R.Reads src.old walk.old.file (λ bytes. Turns takes bytes walk.old walk.new result) }
+    ensures takes { TakesTurn takes walk.old walk.new result }
     ensures ready { IsReady (live_files R.Reads src.new) walk.new }
     ensures standing { R.standing src.new ≡ R.standing src.old }
     ensures cause { HasCause is_read_fault (R.reading_faults src.old) (R.reading_faults src.new) result }
@@ -50,7 +51,7 @@ pub fn turn_in_cluster<R: Reads>(
         return Ok(Turn::Passed);
     }
     match found {
-        Ok(header) => turn_child(walk, src, cluster, &header, wanted),
+        Ok(header) => turn_child(walk, src, cluster, &header, takes),
         Err(damage) => {
             walk.break_off(&cluster);
             Ok(Turn::Gives(Step::Damaged(damage)))
@@ -64,7 +65,7 @@ fn turn_child<R: Reads>(
     src: &mut R,
     cluster: Inside,
     header: &Header,
-    wanted: Option<u64>,
+    takes: Takes,
 ) -> Result<Turn, ReadEnd>
     requires ready { IsReady (live_files R.Reads src.old) walk.old }
     requires inside { walk.old.place.cluster ≡ Some cluster }
@@ -73,14 +74,21 @@ fn turn_child<R: Reads>(
     requires within { stated_end header.now ≤ cluster.end }
     requires found { IfTold R.Reads src.old walk.old.file (λ bytes. Ok header.now ≡ element_at in_master bytes walk.old.place.at cluster.end) }
     requires goes { ends_children cluster.unknown header.now.id ≡ false }
-    ensures gives { IfTold R.Reads src.old walk.old.file (λ bytes. Turns wanted bytes walk.old walk.new result) }
-    ensures takes { TakesTurn wanted walk.old walk.new result }
+    ensures gives { IfTold R.Reads src.old walk.old.file (λ bytes. Turns takes bytes walk.old walk.new result) }
+    ensures takes { TakesTurn takes walk.old walk.new result }
     ensures ready { IsReady (live_files R.Reads src.new) walk.new }
     ensures standing { R.standing src.new ≡ R.standing src.old }
     ensures cause { HasCause is_read_fault (R.reading_faults src.old) (R.reading_faults src.new) result }
     ensures pays { PaysFor (file_size R.Reads src.old walk.old.file) walk.old walk.new (R.octets_read src.old) (R.octets_read src.new) result }
 {
-    match read_child(walk, src, cluster.timestamp, header, wanted)? {
+    let child = match read_child(walk, src, cluster.timestamp, header, takes) {
+        Ok(child) => child,
+        Err(end) => {
+            walk.window.forget();
+            return Err(end);
+        }
+    };
+    match child {
         Child::Passed(timestamp) => {
             walk.place = walk.place.passed(cluster, header, timestamp);
             Ok(Turn::Passed)

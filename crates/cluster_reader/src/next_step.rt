@@ -9,26 +9,23 @@ ghost use Rattle.cluster_reader.specs.Walks.{IsReady, PaysFor, TakesStep, TakesT
 use crate::at_level_1::turn_at_level_1;
 use crate::in_cluster::turn_in_cluster;
 use crate::step::Step;
+use crate::takes::Takes;
 use crate::turn::Turn;
 use crate::walk::Walk;
 use mkv_io::{ReadEnd, Reads};
 
-/// The next block or damage, up to which a walk goes on, where the blocks of one track are wanted or of all.
-pub fn next_step<R: Reads>(
-    walk: &mut Walk,
-    src: &mut R,
-    wanted: Option<u64>,
-) -> Result<Step, ReadEnd>
+/// The next block or damage, up to which a walk goes on, by which blocks are wanted.
+pub fn next_step<R: Reads>(walk: &mut Walk, src: &mut R, takes: Takes) -> Result<Step, ReadEnd>
     requires { IsReady (live_files R.Reads src.old) walk.old }
-    ensures gives { IfTold R.Reads src.old walk.old.file (λ bytes. GivesWanted wanted bytes (shown walk.old) (shown walk.new) result) }
-    ensures takes { TakesStep wanted walk.old walk.new result }
+    ensures gives { IfTold R.Reads src.old walk.old.file (λ bytes. GivesWanted takes bytes (shown walk.old) (shown walk.new) result) }
+    ensures takes { TakesStep takes walk.old walk.new result }
     ensures ready { IsReady (live_files R.Reads src.new) walk.new }
     ensures standing { R.standing src.new ≡ R.standing src.old }
     ensures cause { HasCause is_read_fault (R.reading_faults src.old) (R.reading_faults src.new) result }
     ensures pays { PaysFor (file_size R.Reads src.old walk.old.file) walk.old walk.new (R.octets_read src.old) (R.octets_read src.new) result }
 {
     loop {
-        match turn(walk, src, wanted)? {
+        match turn(walk, src, takes)? {
             Turn::Passed => {}
             Turn::Gives(step) => return Ok(step),
         }
@@ -36,10 +33,10 @@ pub fn next_step<R: Reads>(
 }
 
 // What the Element at the place makes of a walk.
-fn turn<R: Reads>(walk: &mut Walk, src: &mut R, wanted: Option<u64>) -> Result<Turn, ReadEnd>
+fn turn<R: Reads>(walk: &mut Walk, src: &mut R, takes: Takes) -> Result<Turn, ReadEnd>
     requires { IsReady (live_files R.Reads src.old) walk.old }
-    ensures gives { IfTold R.Reads src.old walk.old.file (λ bytes. Turns wanted bytes walk.old walk.new result) }
-    ensures takes { TakesTurn wanted walk.old walk.new result }
+    ensures gives { IfTold R.Reads src.old walk.old.file (λ bytes. Turns takes bytes walk.old walk.new result) }
+    ensures takes { TakesTurn takes walk.old walk.new result }
     ensures ready { IsReady (live_files R.Reads src.new) walk.new }
     ensures standing { R.standing src.new ≡ R.standing src.old }
     ensures cause { HasCause is_read_fault (R.reading_faults src.old) (R.reading_faults src.new) result }
@@ -47,6 +44,6 @@ fn turn<R: Reads>(walk: &mut Walk, src: &mut R, wanted: Option<u64>) -> Result<T
 {
     match walk.place.cluster {
         None => turn_at_level_1(walk, src),
-        Some(cluster) => turn_in_cluster(walk, src, cluster, wanted),
+        Some(cluster) => turn_in_cluster(walk, src, cluster, takes),
     }
 }

@@ -1,11 +1,12 @@
 //! The Timestamp of a Cluster: RFC 9559, section 5.1.3 (Cluster Element).
 
-ghost use Rattle.std.specs.Prelude.{◌≡◌, ◌≤◌, ◌+◌, false, IfOk, IsTrue};
+ghost use Rattle.std.specs.Prelude.{◌≡◌, ◌≤◌, IfOk};
 ghost use Rattle.mkv_io.specs.Faults.{HasCause, is_failure};
 ghost use Rattle.mkv_io.specs.Sources.{IfTold, IsLive, file_size};
 ghost use Rattle.ebml_numbers.specs.Number.{uint_of};
 ghost use Rattle.mkv_schema.specs.Element.{known, stated_end};
 ghost use Rattle.mkv_schema.specs.Value.{body_of};
+ghost use Rattle.elements.specs.Looks.{Goes};
 ghost use Rattle.elements.specs.Window.{Holds};
 
 use block_format::MOST_TIMESTAMP;
@@ -14,9 +15,9 @@ use elements::{Window, known};
 use mkv_io::{Failed, FileId, Reads};
 use mkv_schema::Header;
 
-/// The ticks of a Timestamp, from what a window holds or from the file.
+/// The ticks of a Timestamp, through a window.
 pub fn read_timestamp<R: Reads>(
-    window: &Window,
+    window: &mut Window,
     src: &mut R,
     file: FileId,
     header: &Header,
@@ -24,14 +25,14 @@ pub fn read_timestamp<R: Reads>(
     requires live { IsLive R.Reads src.old file }
     requires few { known header.now.size ≤ MOST_TIMESTAMP }
     requires inside { stated_end header.now ≤ file_size R.Reads src.old file }
-    requires holds { IfTold R.Reads src.old file (λ bytes. Holds bytes window.now) }
+    requires holds { IfTold R.Reads src.old file (λ bytes. Holds bytes window.old) }
     ensures ok { IfOk result (λ ticks. IfTold R.Reads src.old file (λ bytes. ticks ≡ uint_of (body_of bytes header.now))) }
+    ensures holds { IfTold R.Reads src.old file (λ bytes. Holds bytes window.new) }
     ensures standing { R.standing src.new ≡ R.standing src.old }
     ensures cause { HasCause is_failure (R.reading_faults src.old) (R.reading_faults src.new) result }
-    ensures octets { R.octets_read src.new ≤ R.octets_read src.old + known header.now.size }
+    ensures goes { Goes R.Reads file header.now.body (λ _. stated_end header.now) window.old window.new src.old src.new result }
 {
-    let mut buffer = [0; 8];
-    let octets = &mut buffer[..known(header.size) as usize];
-    window.fill(src, file, header.body, octets)?;
-    Ok(read_uint(octets))
+    let len = known(header.size) as u16;
+    window.hold(src, file, header.body, len)?;
+    Ok(read_uint(window.octets_at(header.body, usize::from(len))))
 }

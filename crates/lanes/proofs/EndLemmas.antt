@@ -2,15 +2,21 @@
 use Rattle.std.proofs.Common.{◌≡◌, ◌≤◌, ℕ, zero, suc, ◌+◌, max, Bool, true, false, if◌then◌else◌, List, [], ◌∷◌, ◌++◌, ◌<◌, length, take, drop, get_or, filter, replicate, Option, Some, None, refl, sym, ◌∙◌, ap, ap₂, add-zero, append-nil, eq-eqb, ne_eqb, arith}
 use Rattle.std.specs.List.{All}
 use Rattle.std.proofs.Math.ListN.{set}
-use Rattle.std.proofs.lemmas.List.{take_all}
+use Rattle.std.proofs.lemmas.List.{length-replicate, take_all}
 use Rattle.std.proofs.lemmas.List.Elements.{All-cons, All-head, All-nil, All-tail}
 use Rattle.std.specs.Prelude.{◌==◌, is_some, ◌||◌}
 use Rattle.mkv_io.specs.declared.damage.Damage.{Damage}
 use Rattle.block_format.specs.Block.{Block}
-use Rattle.block_format.specs.Content.{frames_cut}
 use Rattle.block_format.specs.Events.{Event, block, blocks_of, last_of}
+use Rattle.block_format.specs.Content.{frames_cut}
 use Rattle.block_records.specs.Buffered.{Buffered, block_of}
+use Rattle.block_records.specs.Lendable.{IsLendable}
+use Rattle.block_records.specs.Front.{head_of}
+use Rattle.block_records.specs.Made.{block_with}
+use Rattle.block_records.specs.declared.head.BlockHead.{BlockHead}
 use Rattle.cluster_reader.specs.Reading.{damage_event}
+use Rattle.cluster_reader.specs.Takes.{IsKnown}
+use Rattle.cluster_reader.specs.declared.takes.Takes.TheVariants as takes
 use Rattle.ext_times.specs.Listing.{Listing}
 use Rattle.merge_model.specs.Links.{Placing, delayed}
 use Rattle.merge_model.specs.Ends.{block_end, end_at, last_end}
@@ -19,9 +25,9 @@ use Rattle.merge_model.specs.Timed.{time_for, timed}
 use Rattle.merge_model.specs.declared.link.Link.{Link}
 use Rattle.merge_model.specs.declared.link.Link.TheVariants.{Track, Entries}
 use Rattle.merge_model.specs.declared.link.TrackLink.{TrackLink}
-use Rattle.lanes.specs.Frames.{counted_for, frames_of, link_frames}
+use Rattle.lanes.specs.Frames.{by_head, counted_for, frames_of, link_frames}
 use Rattle.lanes.specs.Placed.{at_time}
-use Rattle.lanes.specs.Ends.{end_of, ends_of, lasting_for, text_end, texts_end, track_end}
+use Rattle.lanes.specs.Ends.{end_of, ends_of, lasting_for, link_end, text_end, texts_end, track_end}
 
 -- ---- one link
 
@@ -131,27 +137,17 @@ none-counted (suc count) most = All-cons (λ n. n ≤ most) 0 (replicate count 0
 pub more-counted : (counts : List ℕ) (most more : ℕ) → most ≤ more → All (λ n. n ≤ most) counts → All (λ n. n ≤ more) counts
 more-counted counts most more room all = λ k d lt. let small = all k d lt in omega arith
 
--- there are as many as before, and none has grown by more than a block has frames
+-- there are as many as before
 pub counted-length : (b : Block) (counts : List ℕ) (links : List Link) → length (counted_for b counts links) ≡ length counts
 counted-length b [] links = refl
 counted-length b (n ∷ counts) [] = refl
 counted-length b (n ∷ counts) (link ∷ links) = ap suc (counted-length b counts links)
 
-link_frames-few : (b : Block) (link : Link) → length b.frames ≤ 256 → link_frames b link ≤ 256
-link_frames-few b (Entries e) few = omega arith
-link_frames-few b (Track t) few = split (b.track == t.number)
-  where
-    split : (is : Bool) → (if is then length b.frames else 0) ≤ 256
-    split true = few
-    split false = omega arith
-
-pub counted-few : (b : Block) (counts : List ℕ) (links : List Link) (most more : ℕ) → length b.frames ≤ 256 → most + 256 ≤ more → All (λ n. n ≤ most) counts → All (λ n. n ≤ more) (counted_for b counts links)
-counted-few b [] links most more few room all = All-nil (λ n. n ≤ more)
-counted-few b (n ∷ counts) [] most more few room all = λ k d lt. let small = all k d lt in omega arith
-counted-few b (n ∷ counts) (link ∷ links) most more few room all =
-    All-cons (λ n. n ≤ more) (n + link_frames b link) (counted_for b counts links)
-    (let small = All-head (λ n. n ≤ most) n counts all in omega (arith, link_frames-few b link few))
-    (counted-few b counts links most more few room (All-tail (λ n. n ≤ most) n counts all))
+-- one that has grown by so little, where none was more
+pub set-few : (counts : List ℕ) (k v most : ℕ) → All (λ n. n ≤ most) counts → v ≤ most → All (λ n. n ≤ most) (set counts k v)
+set-few [] k v most all few = all
+set-few (n ∷ counts) zero v most all few = All-cons (λ m. m ≤ most) v counts few (All-tail (λ m. m ≤ most) n counts all)
+set-few (n ∷ counts) (suc k) v most all few = All-cons (λ m. m ≤ most) n (set counts k v) (All-head (λ m. m ≤ most) n counts all) (set-few counts k v most (All-tail (λ m. m ≤ most) n counts all) few)
 
 -- one count after the other
 pub count-one : (b : Block) (counts : List ℕ) (links : List Link) (k : ℕ) (link : Link) (v : ℕ) → k < length counts → k < length links → link ≡ get_or links k link → v ≡ get_or counts k 0 + link_frames b link
@@ -183,37 +179,96 @@ pub count-all : (b : Block) (counts : List ℕ) (links : List Link) (k : ℕ) �
 count-all b counts links k most =
     ap₂ (λ (front left : List ℕ). front ++ counted_for b left (drop k links)) (take_all k counts most) (none-behind counts k most) ∙ append-nil counts
 
--- ---- a block of the code
+-- ---- a block of the code, by its head
 
+pub by_head-count : (b : Buffered) → length (by_head b).frames ≡ b.frames
+by_head-count b = length-replicate b.frames []
+
+here : (t : TrackLink) (k : ℕ) (b : Buffered) → b.head.track ≡ t.number → track_end t k (by_head b) ≡ block_end (placing_of t) (at_time t k (by_head b))
+here t k b is = ap (λ (x : Bool). if x then block_end (placing_of t) (at_time t k (by_head b)) else 0) (eq-eqb b.head.track t.number is)
+
+pub end-other : (t : TrackLink) (k : ℕ) (b : Buffered) → (b.head.track ≡ t.number → ⊥) → track_end t k (by_head b) ≡ 0
+end-other t k b is = ap (λ (x : Bool). if x then block_end (placing_of t) (at_time t k (by_head b)) else 0) (ne_eqb b.head.track t.number is)
+
+pub end-dropped : (t : TrackLink) (k : ℕ) (b : Buffered) → b.head.track ≡ t.number → delayed (placing_of t) (at_time t k (by_head b)) ≡ None → track_end t k (by_head b) ≡ 0
+end-dropped t k b is none = here t k b is ∙ ap (end_at (placing_of t) (at_time t k (by_head b))) none
+
+pub end-taken : (t : TrackLink) (k : ℕ) (b : Buffered) (time n frames : ℕ) → b.head.track ≡ t.number → delayed (placing_of t) (at_time t k (by_head b)) ≡ Some time → n ≡ lasting_for b.head.duration t.default_duration frames → frames ≡ b.frames → track_end t k (by_head b) ≡ time + n
+end-taken t k b time n frames is at lasts long =
+    here t k b is
+    ∙ ap (end_at (placing_of t) (at_time t k (by_head b))) at
+    ∙ ap (λ (m : ℕ). time + lasting_for b.head.duration t.default_duration m) (by_head-count b ∙ sym long)
+    ∙ ap (λ (m : ℕ). time + m) (sym lasts)
+
+-- how many frames a block of the code has of a track
+pub frames-here : (t : TrackLink) (b : Buffered) → b.head.track ≡ t.number → frames_of t (by_head b) ≡ b.frames
+frames-here t b is = ap (λ (x : Bool). if x then length (by_head b).frames else 0) (eq-eqb b.head.track t.number is) ∙ by_head-count b
+
+pub frames-other : (t : TrackLink) (b : Buffered) → (b.head.track ≡ t.number → ⊥) → frames_of t (by_head b) ≡ 0
+frames-other t b is = ap (λ (x : Bool). if x then length (by_head b).frames else 0) (ne_eqb b.head.track t.number is)
+
+-- ---- a block of a file, and what the code knows of it by its head
+
+-- blocks of one head and of as many frames end at one place, and have as many frames of a track
+frames-alike : (t : TrackLink) (a b : Block) → a.track ≡ b.track → length a.frames ≡ length b.frames → frames_of t a ≡ frames_of t b
+frames-alike t a b track count =
+    ap (λ (n : ℕ). if n == t.number then length a.frames else 0) track
+    ∙ ap (λ (n : ℕ). if b.track == t.number then n else 0) count
+
+-- a block that is lent whole has as many frames as sizes
 frames-long : (sizes body : List ℕ) → length (frames_cut sizes body) ≡ length sizes
 frames-long [] body = refl
 frames-long (s ∷ sizes) body = ap suc (frames-long sizes (drop s body))
 
-pub buffered-few : (b : Buffered) → length b.sizes ≤ 256 → length (block_of b).frames ≤ 256
-buffered-few b few = let same : length (block_of b).frames ≡ length b.sizes = frames-long b.sizes b.body in omega arith
+pub frames-lent : (t : TrackLink) (b : Buffered) → IsLendable b → frames_of t (block_of b) ≡ frames_of t (by_head b)
+frames-lent t b lends = frames-alike t (block_of b) (by_head b) refl
+    (frames-long b.sizes b.body ∙ sym lends.count ∙ sym (by_head-count b))
 
-here : (t : TrackLink) (k : ℕ) (b : Buffered) → b.head.track ≡ t.number → track_end t k (block_of b) ≡ block_end (placing_of t) (at_time t k (block_of b))
-here t k b is = ap (λ (x : Bool). if x then block_end (placing_of t) (at_time t k (block_of b)) else 0) (eq-eqb b.head.track t.number is)
+-- where its frames are of one number
+end-count : (t : TrackLink) (k : ℕ) (b : Block) (fs : List (List ℕ)) → length fs ≡ length b.frames → track_end t k (block_with (head_of b) fs [] []) ≡ track_end t k b
+end-count t k b fs count = split (b.track == t.number)
+  where
+    at : (o : Option ℕ) → end_at (placing_of t) (at_time t k (block_with (head_of b) fs [] [])) o ≡ end_at (placing_of t) (at_time t k b) o
+    at None = refl
+    at (Some time) = ap (λ (n : ℕ). time + lasting_for b.duration t.default_duration n) count
 
-pub end-other : (t : TrackLink) (k : ℕ) (b : Buffered) → (b.head.track ≡ t.number → ⊥) → track_end t k (block_of b) ≡ 0
-end-other t k b is = ap (λ (x : Bool). if x then block_end (placing_of t) (at_time t k (block_of b)) else 0) (ne_eqb b.head.track t.number is)
+    split : (is : Bool) → (if is then block_end (placing_of t) (at_time t k (block_with (head_of b) fs [] [])) else 0) ≡ (if is then block_end (placing_of t) (at_time t k b) else 0)
+    split true = at (delayed (placing_of t) (at_time t k b))
+    split false = refl
 
-pub end-dropped : (t : TrackLink) (k : ℕ) (b : Buffered) → b.head.track ≡ t.number → delayed (placing_of t) (at_time t k (block_of b)) ≡ None → track_end t k (block_of b) ≡ 0
-end-dropped t k b is none = here t k b is ∙ ap (end_at (placing_of t) (at_time t k (block_of b))) none
+-- What is known of a block by its head.
+pub record IsByHead (b : Block) (lent : Buffered) : Type 0 where
+  pub ends : (t : TrackLink) (k : ℕ) → track_end t k (by_head lent) ≡ track_end t k b
+  pub frames : (t : TrackLink) → frames_of t (by_head lent) ≡ frames_of t b
 
-pub end-taken : (t : TrackLink) (k : ℕ) (b : Buffered) (time n frames : ℕ) → b.head.track ≡ t.number → delayed (placing_of t) (at_time t k (block_of b)) ≡ Some time → n ≡ lasting_for b.head.duration t.default_duration frames → frames ≡ length b.sizes → track_end t k (block_of b) ≡ time + n
-end-taken t k b time n frames is at lasts long =
-    here t k b is
-    ∙ ap (end_at (placing_of t) (at_time t k (block_of b))) at
-    ∙ ap (λ (m : ℕ). time + lasting_for b.head.duration t.default_duration m) (frames-long b.sizes b.body ∙ sym long)
-    ∙ ap (λ (m : ℕ). time + m) (sym lasts)
+pub known-head : (b : Block) (lent : Buffered) → IsKnown takes.Heads b lent → IsByHead b lent
+known-head b lent known =
+    let count : length (by_head lent).frames ≡ length b.frames = by_head-count lent ∙ sym known.frames in
+    record {
+      ends = λ t k.
+          ap (λ (h : BlockHead). track_end t k (block_with h (by_head lent).frames [] [])) (sym known.head)
+          ∙ end-count t k b (by_head lent).frames count;
+      frames = λ t. frames-alike t (by_head lent) b (sym (ap (λ (h : BlockHead). h.track) known.head)) count;
+    }
 
--- how many frames a block of the code has of a track
-pub frames-here : (t : TrackLink) (b : Buffered) → b.head.track ≡ t.number → frames_of t (block_of b) ≡ length b.sizes
-frames-here t b is = ap (λ (x : Bool). if x then length (block_of b).frames else 0) (eq-eqb b.head.track t.number is) ∙ frames-long b.sizes b.body
+-- so are the ends and the counts of all links
+link-ends : (b : Block) (lent : Buffered) → IsByHead b lent → (k : ℕ) (link : Link) → link_end (by_head lent) k link ≡ link_end b k link
+link-ends b lent is k (Track t) = is.ends t k
+link-ends b lent is k (Entries e) = refl
 
-pub frames-other : (t : TrackLink) (b : Buffered) → (b.head.track ≡ t.number → ⊥) → frames_of t (block_of b) ≡ 0
-frames-other t b is = ap (λ (x : Bool). if x then length (block_of b).frames else 0) (ne_eqb b.head.track t.number is)
+link-frames : (b : Block) (lent : Buffered) → IsByHead b lent → (link : Link) → link_frames (by_head lent) link ≡ link_frames b link
+link-frames b lent is (Track t) = is.frames t
+link-frames b lent is (Entries e) = refl
+
+pub ends-by_head : (b : Block) (lent : Buffered) → IsByHead b lent → (counts : List ℕ) (links : List Link) → ends_of (by_head lent) counts links ≡ ends_of b counts links
+ends-by_head b lent is [] links = refl
+ends-by_head b lent is (k ∷ counts) [] = refl
+ends-by_head b lent is (k ∷ counts) (link ∷ links) = ap₂ (λ (m n : ℕ). max m n) (link-ends b lent is k link) (ends-by_head b lent is counts links)
+
+pub counted-by_head : (b : Block) (lent : Buffered) → IsByHead b lent → (counts : List ℕ) (links : List Link) → counted_for (by_head lent) counts links ≡ counted_for b counts links
+counted-by_head b lent is [] links = refl
+counted-by_head b lent is (n ∷ counts) [] = refl
+counted-by_head b lent is (n ∷ counts) (link ∷ links) = ap₂ (λ (m : ℕ) (ms : List ℕ). m ∷ ms) (ap (λ (m : ℕ). n + m) (link-frames b lent is link)) (counted-by_head b lent is counts links)
 
 -- ---- a step of the walk
 
@@ -227,6 +282,13 @@ pub end-block : (end now : ℕ) (b : Block) (old new start : List Event) (counts
 end-block end now b old new start counts links sofar gives is =
     let whole : ends_from old counts links ≡ max (ends_of b counts links) (ends_from new (counted_for b counts links) links) = ap (λ (es : List Event). ends_from es counts links) gives ∙ ends-block b new counts links in
     (let same : max now (ends_from new (counted_for b counts links) links) ≡ max end (ends_from old counts links) = omega arith in same) ∙ sofar
+
+-- of which its head alone is known
+pub end-step : (end now : ℕ) (b : Block) (lent : Buffered) (old new start : List Event) (counts after : List ℕ) (links : List Link) → IsByHead b lent → max end (ends_from old counts links) ≡ end_of start links → old ≡ block b ∷ new
+    → now ≡ max end (ends_of (by_head lent) counts links) → after ≡ counted_for (by_head lent) counts links → max now (ends_from new after links) ≡ end_of start links
+end-step end now b lent old new start counts after links known sofar gives is counted =
+    ap (λ (ns : List ℕ). max now (ends_from new ns links)) (counted ∙ counted-by_head b lent known counts links)
+    ∙ end-block end now b old new start counts links sofar gives (is ∙ ap (λ (n : ℕ). max end n) (ends-by_head b lent known counts links))
 
 pub end-damage : (end : ℕ) (last : Bool) (d : Damage) (old new start : List Event) (counts : List ℕ) (links : List Link) → max end (ends_from old counts links) ≡ end_of start links → old ≡ damage_event last d ∷ new → max end (ends_from new counts links) ≡ end_of start links
 end-damage end last d old new start counts links sofar gives =

@@ -1,12 +1,12 @@
 -- A lane stands as before where its links' files are the same, whatever was written elsewhere.
-use Rattle.std.proofs.Common.{◌≡◌, ℕ, ◌+◌, ◌-◌, ◌*◌, true, List, [], ◌∷◌, ◌++◌, map, take, drop, Option, Some, None, refl, sym, ◌∙◌, ap, ap₂, subst}
+use Rattle.std.proofs.Common.{◌≡◌, ℕ, ◌+◌, ◌-◌, true, List, [], ◌∷◌, ◌++◌, map, take, drop, Option, Some, None, refl, sym, ◌∙◌, ap, ap₂, subst}
 use Rattle.std.specs.List.{All, slice_get}
 use Rattle.std.specs.Option.{unwrap_or}
 use Rattle.std.proofs.lemmas.List.Elements.{All-head, All-tail, All-drop}
 use Rattle.mkv_io.specs.LiveFiles.{LiveFiles, IsSameFile}
 use Rattle.block_format.specs.Elements.{with_limits}
 use Rattle.block_format.specs.Events.{events_of}
-use Rattle.cluster_reader.specs.Reading.{Reading, left_of, paid}
+use Rattle.cluster_reader.specs.Reading.{Reading, left_of, read_to}
 use Rattle.cluster_reader.proofs.ReadingLemmas.{CanRead-kept}
 use Rattle.merge_model.specs.Lanes.{lane_blocks, lane_damages}
 use Rattle.merge_model.specs.Merged.{ordered_from}
@@ -63,8 +63,8 @@ due-kept f h w (Entries e) same is = refl
 due-kept f h w (Track t) same is = step w.cursor
   where
     step : (c : Option Reading) → track_due h t c ≡ track_due f t c
-    step None = ap (λ (n : ℕ). 4 * n) (same.size is.live)
-    step (Some c) = ap (λ (n : ℕ). 4 * n - paid n c) (same.size is.live)
+    step None = same.size is.live
+    step (Some c) = ap (λ (n : ℕ). n - read_to c) (same.size is.live)
 
 -- ---- all links
 
@@ -89,7 +89,7 @@ lengths-kept f h (l ∷ ls) keeps files =
 due_from-kept : (f h : LiveFiles) (w : Walk) (ls : List Link) → All (KeepsLink f h) ls → All (IsOpenLink f) ls → due_from h w ls ≡ due_from f w ls
 due_from-kept f h w [] keeps files = refl
 due_from-kept f h w (l ∷ ls) keeps files =
-    ap₂ (λ (m n : ℕ). m + 4 * n) (due-kept f h w l (All-head (KeepsLink f h) l ls keeps) (All-head (IsOpenLink f) l ls files))
+    ap₂ (λ (m n : ℕ). m + n) (due-kept f h w l (All-head (KeepsLink f h) l ls keeps) (All-head (IsOpenLink f) l ls files))
     (lengths-kept f h ls (All-tail (KeepsLink f h) l ls keeps) (All-tail (IsOpenLink f) l ls files))
 
 all-told : (f h : LiveFiles) (ls : List Link) → All (KeepsLink f h) ls → All (IsOpenLink f) ls → All (IsToldLink f) ls → All (IsToldLink h) ls

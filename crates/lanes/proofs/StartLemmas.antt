@@ -1,5 +1,5 @@
 -- A lane that has given nothing.
-use Rattle.std.proofs.Common.{◌≡◌, ℕ, suc, ◌*◌, Bool, true, false, if◌then◌else◌, List, [], ◌∷◌, ◌++◌, length, map, take, drop, replicate, Option, None, refl, sym, ◌∙◌, ap, subst, append-nil, append_assoc}
+use Rattle.std.proofs.Common.{◌≡◌, ℕ, suc, Bool, true, false, if◌then◌else◌, List, [], ◌∷◌, ◌++◌, length, map, take, drop, replicate, Option, None, refl, sym, ◌∙◌, ap, subst, append-nil, append_assoc}
 use Rattle.std.specs.List.{All, slice_get}
 use Rattle.std.proofs.lemmas.List.{length-map, length-replicate}
 use Rattle.cluster_reader.specs.Reading.{Reading}
@@ -66,8 +66,8 @@ module _ (f : LiveFiles) (scale : ℕ) (links : List Link) (w : Walk) (begins : 
       none : (o : Option Reading) → o ≡ None → IsAt f o (slice_get links w.at)
       none o is = subst (λ each. IsAt f each (slice_get links w.at)) (sym is) tt
 
-  pub due-start : due f links w ≡ 4 * files_length f links
-  due-start = due-fresh f links w begins.cursor ∙ ap (λ (k : ℕ). 4 * files_length f (drop k links)) begins.at
+  pub due-start : due f links w ≡ files_length f links
+  due-start = due-fresh f links w begins.cursor ∙ ap (λ (k : ℕ). files_length f (drop k links)) begins.at
 
 pub starts : (f : LiveFiles) (l : LaneSeen) → Begins (length l.links) l.walk → Starts f l.scale l.links l
 starts f l begins = record {

@@ -14,13 +14,15 @@ use Rattle.mkv_io.specs.LiveFiles.{LiveFiles}
 use Rattle.mkv_io.specs.Told.{Told}
 use Rattle.block_format.specs.Block.{Block}
 use Rattle.block_records.specs.Buffered.{Buffered, block_of}
+use Rattle.block_records.specs.Lendable.{IsLendable}
 use Rattle.block_format.specs.Events.{Event, block, events_of}
 use Rattle.block_format.specs.Elements.{with_limits}
 use Rattle.mkv_schema.specs.declared.element.Header.{Header}
-use Rattle.cluster_reader.specs.Reading.{CanRead, GivesWanted, Reading, damage_event, left_of, paid}
-use Rattle.cluster_reader.specs.Wanted.{IsKnown}
+use Rattle.cluster_reader.specs.Reading.{CanRead, GivesWanted, Reading, damage_event, left_of, read_to}
+use Rattle.cluster_reader.specs.Takes.{IsKnown}
 use Rattle.cluster_reader.specs.ToldDamages.{ToldDamages, with_damage}
 use Rattle.cluster_reader.specs.declared.step.Step.{Step}
+use Rattle.cluster_reader.specs.declared.takes.Takes.TheVariants as takes
 use Rattle.output_model.specs.OutputBlock.{IsLent, Lent}
 use Rattle.merge_model.specs.Links.{given_blocks}
 use Rattle.mkv_io.specs.declared.entry.Entry.{Entry}
@@ -32,11 +34,12 @@ use Rattle.merge_model.specs.declared.link.Link.TheVariants.{Track, Entries}
 use Rattle.merge_model.specs.declared.link.TextLink.{TextLink}
 use Rattle.merge_model.specs.declared.link.TrackLink.{TrackLink}
 use Rattle.lanes.specs.Turns.{GivesFirst, LendsBlock, Pays, Turns}
-use Rattle.lanes.specs.Frames.{frames_of}
+use Rattle.lanes.specs.Frames.{by_head, frames_of}
 use Rattle.lanes.specs.Walks.{HasCounted, IsAt, IsReady, due, files_length, left, lent_by, lent_by_track, lent_in, links_left, text_of, told_in_all, track_behind, track_due, track_left, track_way, way}
 use Rattle.lanes.specs.declared.turn.Turn.{Turn}
 use Rattle.lanes.specs.declared.turn.Turn.TheVariants.{Passed, Gives as GivesBlock}
 use Rattle.lanes.specs.declared.walk.Walk.{Walk}
+use Rattle.lanes.proofs.EndLemmas.{frames-lent}
 use Rattle.lanes.proofs.LinkLemmas.{damage-blocks, damage-stops, damage-told, end-blocks, end-stops, track-block}
 use Rattle.lanes.proofs.ListLemmas.{drop-at, drop-past}
 use Rattle.lanes.proofs.ToldLemmas.{told-damage, told-leaves, told-passes}
@@ -72,7 +75,7 @@ at-text f links w e ready is = step w.cursor (subst (IsAt f w.cursor) is ready.h
     step (Some c) here = absurd here
 
 -- what the cursor gives, of the octets that are told
-pub cursor-gives : (f : LiveFiles) (links : List Link) (k : ℕ) (t : TrackLink) (c d : Reading) (result : Result Step ReadEnd) → All (IsToldLink f) links → slice_get links k ≡ Some (Track t) → c.file ≡ t.file → Told (f.content c.file.n) (λ bytes. GivesWanted (Some t.number) bytes c d result) → GivesWanted (Some t.number) (octets_in f t.file.n) c d result
+pub cursor-gives : (f : LiveFiles) (links : List Link) (k : ℕ) (t : TrackLink) (c d : Reading) (result : Result Step ReadEnd) → All (IsToldLink f) links → slice_get links k ≡ Some (Track t) → c.file ≡ t.file → Told (f.content c.file.n) (λ bytes. GivesWanted (takes.Track t.number) bytes c d result) → GivesWanted (takes.Track t.number) (octets_in f t.file.n) c d result
 cursor-gives f links k t c d result all is file gives =
     gives (octets_in f t.file.n) (ap (λ each. f.content each.n) file ∙ all-at (IsToldLink f) links k (Track t) all is)
 
@@ -96,18 +99,18 @@ pub few-counted : (f : LiveFiles) (links : List Link) (w : Walk) (c : Reading) �
 few-counted f links w c ready is = subst (HasCounted w.frames) is ready.frames
 
 -- A track makes the same of a block as of what is lent of it, where what its lane wants is known.
-pub record IsSame (t : TrackLink) (b lent : Block) : Type 0 where
-  pub placed : (scale k : ℕ) → track_placed scale t k b ≡ track_placed scale t k lent
-  pub frames : frames_of t b ≡ frames_of t lent
+pub record IsSame (t : TrackLink) (b : Block) (lent : Buffered) : Type 0 where
+  pub placed : (scale k : ℕ) → track_placed scale t k b ≡ track_placed scale t k (block_of lent)
+  pub frames : frames_of t b ≡ frames_of t (by_head lent)
 
-pub known-same : (t : TrackLink) (b : Block) (lent : Buffered) → IsKnown (Some t.number) b lent → IsSame t b (block_of lent)
-known-same t b lent known = split (lent.head.track == t.number) refl
+pub known-same : (t : TrackLink) (b : Block) (lent : Buffered) → IsKnown (takes.Track t.number) b lent → (lent.head.track ≡ t.number → IsLendable lent) → IsSame t b lent
+known-same t b lent known lends = split (lent.head.track == t.number) refl
   where
-    split : (is : Bool) → (lent.head.track == t.number) ≡ is → IsSame t b (block_of lent)
+    split : (is : Bool) → (lent.head.track == t.number) ≡ is → IsSame t b lent
     split true is =
         let own : lent.head.track ≡ t.number = grind (arith, nat_tests, is) in
         let whole = known.whole own in
-        record { placed = λ scale k. ap (track_placed scale t k) whole; frames = ap (frames_of t) whole }
+        record { placed = λ scale k. ap (track_placed scale t k) whole; frames = ap (frames_of t) whole ∙ frames-lent t lent (lends own) }
     split false is =
         let other : (b.track == t.number) ≡ false = ap (λ (n : ℕ). n == t.number) known.track ∙ is in
         record {
@@ -237,26 +240,24 @@ module _ (f : LiveFiles) (scale : ℕ) (links : List Link) (t : TrackLink) (old 
 
   -- ---- how far it goes, and what it reads
 
-  due-both : (track_due f t old.cursor ≡ 4 * f.size t.file.n - paid (f.size t.file.n) c) × (track_due f t new.cursor ≡ 4 * f.size t.file.n - paid (f.size t.file.n) d)
+  due-both : (track_due f t old.cursor ≡ f.size t.file.n - read_to c) × (track_due f t new.cursor ≡ f.size t.file.n - read_to d)
   due-both = (ap (track_due f t) is.before, ap (track_due f t) is.now)
 
-  pub reads-pays : c.file ≡ t.file → (before now : ℕ) → now + paid (f.size c.file.n) c ≤ before + paid (f.size c.file.n) d → paid (f.size c.file.n) d ≤ 4 * f.size c.file.n → now + due f links new ≤ before + due f links old
+  pub reads-pays : c.file ≡ t.file → (before now : ℕ) → now + read_to c ≤ before + read_to d → read_to d ≤ f.size c.file.n → now + due f links new ≤ before + due f links old
   reads-pays file before now pays most =
       let both = due-both in
       let size : f.size c.file.n ≡ f.size t.file.n = ap (λ each. f.size each.n) file in
-      let pays_here : now + paid (f.size t.file.n) c ≤ before + paid (f.size t.file.n) d = subst (λ (n : ℕ). now + paid n c ≤ before + paid n d) size pays in
-      let most_here : paid (f.size t.file.n) d ≤ 4 * f.size t.file.n = subst (λ (n : ℕ). paid n d ≤ 4 * n) size most in
-      let less : now + (4 * f.size t.file.n - paid (f.size t.file.n) d) ≤ before + (4 * f.size t.file.n - paid (f.size t.file.n) c) =
-      sums before now (4 * f.size t.file.n) (paid (f.size t.file.n) c) (paid (f.size t.file.n) d) pays_here most_here in
+      let most_here : read_to d ≤ f.size t.file.n = subst (λ (n : ℕ). read_to d ≤ n) size most in
+      let less : now + (f.size t.file.n - read_to d) ≤ before + (f.size t.file.n - read_to c) = sums before now (f.size t.file.n) (read_to c) (read_to d) pays most_here in
       due-stays f links (Track t) old new before now is.at is.same (omega (arith, less, both.0, both.1))
 
   -- one that is refused
-  pub refused-pays : c.file ≡ t.file → (before now : ℕ) (result : Result Turn ReadEnd) → IsErr result → now + paid (f.size c.file.n) c ≤ before + paid (f.size c.file.n) d + 2 * f.size c.file.n → paid (f.size c.file.n) d ≤ 4 * f.size c.file.n → Pays f links old new before now result
+  pub refused-pays : c.file ≡ t.file → (before now : ℕ) (result : Result Turn ReadEnd) → IsErr result → now + read_to c ≤ before + read_to d + f.size c.file.n → read_to d ≤ f.size c.file.n → Pays f links old new before now result
   refused-pays file before now (Ok turn) err pays most = absurd (cc)
   refused-pays file before now (Err end) err pays most =
       let size : f.size c.file.n ≡ f.size t.file.n = ap (λ each. f.size each.n) file in
       let small : f.size t.file.n ≤ files_length f links = length-at f links old.at (Track t) is.at in
-      let less : now + due f links new ≤ before + 2 * f.size c.file.n + due f links old = reads-pays file (before + 2 * f.size c.file.n) now (omega arith) most in
+      let less : now + due f links new ≤ before + f.size c.file.n + due f links old = reads-pays file (before + f.size c.file.n) now (omega arith) most in
       omega arith
 
 -- ---- the end of its file
@@ -279,13 +280,11 @@ module _ (f : LiveFiles) (scale : ℕ) (links : List Link) (t : TrackLink) (old 
   pub ends-on : way links new < way links old
   ends-on = way-leaves links (Track t) old new at has (let was : track_way t old.cursor ≡ track_way t (Some c) = ap (track_way t) cursor in omega arith)
 
-  pub ends-pays : (d : Reading) → c.file ≡ t.file → (before now : ℕ) → now + paid (f.size c.file.n) c ≤ before + paid (f.size c.file.n) d → paid (f.size c.file.n) d ≤ 4 * f.size c.file.n → now + due f links new ≤ before + due f links old
+  pub ends-pays : (d : Reading) → c.file ≡ t.file → (before now : ℕ) → now + read_to c ≤ before + read_to d → read_to d ≤ f.size c.file.n → now + due f links new ≤ before + due f links old
   ends-pays d file before now pays most =
-      let was : track_due f t old.cursor ≡ 4 * f.size t.file.n - paid (f.size t.file.n) c = ap (track_due f t) cursor in
+      let was : track_due f t old.cursor ≡ f.size t.file.n - read_to c = ap (track_due f t) cursor in
       let size : f.size c.file.n ≡ f.size t.file.n = ap (λ each. f.size each.n) file in
-      let pays_here : now + paid (f.size t.file.n) c ≤ before + paid (f.size t.file.n) d = subst (λ (n : ℕ). now + paid n c ≤ before + paid n d) size pays in
-      let most_here : paid (f.size t.file.n) d ≤ 4 * f.size t.file.n = subst (λ (n : ℕ). paid n d ≤ 4 * n) size most in
-      due-leaves f links (Track t) old new before now at has (omega (arith, pays_here, most_here, was))
+      due-leaves f links (Track t) old new before now at has (omega (arith, pays, most, size, was))
 
 -- ---- the beginning of its file
 
@@ -328,8 +327,8 @@ module _ (f : LiveFiles) (scale : ℕ) (links : List Link) (t : TrackLink) (old 
 
   pub opened-pays : (read : ℕ) → read + due f links new ≤ read + due f links old
   opened-pays read = due-stays f links (Track t) old new read read at opened_same
-      (let was : track_due f t old.cursor ≡ 4 * f.size t.file.n = ap (track_due f t) before in
-      let will : track_due f t new.cursor ≡ 4 * f.size t.file.n - paid (f.size t.file.n) d = ap (track_due f t) opened_now in
+      (let was : track_due f t old.cursor ≡ f.size t.file.n = ap (track_due f t) before in
+      let will : track_due f t new.cursor ≡ f.size t.file.n - read_to d = ap (track_due f t) opened_now in
       omega arith)
 
   pub ready-opened : IsReady f links old → CanRead f d → d.file ≡ t.file → IsReady f links new

@@ -1,5 +1,5 @@
 -- How far a walk can go on, and how much it may still read.
-use Rattle.std.proofs.Common.{◌≡◌, ℕ, suc, zero, ◌+◌, ◌-◌, ◌*◌, ◌<◌, ◌≤◌, Bool, true, false, List, [], ◌∷◌, length, drop, Some, None, refl, ◌∙◌, ap, add-one, arith}
+use Rattle.std.proofs.Common.{◌≡◌, ℕ, suc, zero, ◌+◌, ◌-◌, ◌<◌, ◌≤◌, Bool, true, false, List, [], ◌∷◌, length, drop, Some, None, refl, ◌∙◌, ap, add-one, arith}
 use Rattle.std.proofs.Math.Seq.{drop-length}
 use Rattle.std.specs.List.{slice_get}
 use Rattle.mkv_io.specs.LiveFiles.{LiveFiles}
@@ -49,31 +49,31 @@ way-leaves links link old new is has some =
 
 -- ---- what may still be read
 
-due-at : (f : LiveFiles) (links : List Link) (w : Walk) (link : Link) → slice_get links w.at ≡ Some link → due f links w ≡ here_due f w link + 4 * files_length f (drop (suc w.at) links)
+due-at : (f : LiveFiles) (links : List Link) (w : Walk) (link : Link) → slice_get links w.at ≡ Some link → due f links w ≡ here_due f w link + files_length f (drop (suc w.at) links)
 due-at f links w link is = ap (due_from f w) (drop-at links w.at link is)
 
-pub due-fresh : (f : LiveFiles) (links : List Link) (w : Walk) → w.cursor ≡ None → due f links w ≡ 4 * files_length f (drop w.at links)
+pub due-fresh : (f : LiveFiles) (links : List Link) (w : Walk) → w.cursor ≡ None → due f links w ≡ files_length f (drop w.at links)
 due-fresh f links w cursor = step (drop w.at links)
   where
-    here : (link : Link) → here_due f w link ≡ 4 * file_length f link
+    here : (link : Link) → here_due f w link ≡ file_length f link
     here (Track t) = ap (track_due f t) cursor
     here (Entries e) = refl
 
-    step : (ls : List Link) → due_from f w ls ≡ 4 * files_length f ls
+    step : (ls : List Link) → due_from f w ls ≡ files_length f ls
     step [] = refl
-    step (link ∷ ls) = let h : here_due f w link ≡ 4 * file_length f link = here link in omega arith
+    step (link ∷ ls) = let h : here_due f w link ≡ file_length f link = here link in omega arith
 
 pub due-stays : (f : LiveFiles) (links : List Link) (link : Link) (old new : Walk) (before now : ℕ) → slice_get links old.at ≡ Some link → new.at ≡ old.at → now + here_due f new link ≤ before + here_due f old link → now + due f links new ≤ before + due f links old
 due-stays f links link old new before now is at less =
-    let was : due f links old ≡ here_due f old link + 4 * files_length f (drop (suc old.at) links) = due-at f links old link is in
-    let will : due f links new ≡ here_due f new link + 4 * files_length f (drop (suc new.at) links) = due-at f links new link (ap (slice_get links) at ∙ is) in
+    let was : due f links old ≡ here_due f old link + files_length f (drop (suc old.at) links) = due-at f links old link is in
+    let will : due f links new ≡ here_due f new link + files_length f (drop (suc new.at) links) = due-at f links new link (ap (slice_get links) at ∙ is) in
     let rest : files_length f (drop (suc new.at) links) ≡ files_length f (drop (suc old.at) links) = ap (λ (k : ℕ). files_length f (drop (suc k) links)) at in
     omega arith
 
 pub due-leaves : (f : LiveFiles) (links : List Link) (link : Link) (old new : Walk) (before now : ℕ) → slice_get links old.at ≡ Some link → HasLeft (length links) old new → now ≤ before + here_due f old link → now + due f links new ≤ before + due f links old
 due-leaves f links link old new before now is has less =
-    let was : due f links old ≡ here_due f old link + 4 * files_length f (drop (suc old.at) links) = due-at f links old link is in
-    let fresh : due f links new ≡ 4 * files_length f (drop new.at links) = due-fresh f links new has.cursor in
+    let was : due f links old ≡ here_due f old link + files_length f (drop (suc old.at) links) = due-at f links old link is in
+    let fresh : due f links new ≡ files_length f (drop new.at links) = due-fresh f links new has.cursor in
     let at : files_length f (drop new.at links) ≡ files_length f (drop (behind old.stopped (length links) old.at) links) = ap (λ (k : ℕ). files_length f (drop k links)) has.at in
     let most : files_length f (drop (behind old.stopped (length links) old.at) links) ≤ files_length f (drop (suc old.at) links) = step old.stopped in
     omega arith

@@ -1,9 +1,15 @@
 -- The frames of a track, which count from 0.
-use Rattle.std.specs.Prelude.{ℕ, ◌+◌, ◌==◌, if◌then◌else◌, List, [], ◌∷◌, length}
+use Rattle.std.specs.Prelude.{ℕ, ◌+◌, ◌==◌, if◌then◌else◌, List, [], ◌∷◌, length, replicate}
 use Rattle.block_format.specs.Block.{Block}
+use Rattle.block_records.specs.Buffered.{Buffered}
+use Rattle.block_records.specs.Made.{block_with}
 use Rattle.merge_model.specs.declared.link.Link.{Link}
 use Rattle.merge_model.specs.declared.link.Link.TheVariants.{Track, Entries}
 use Rattle.merge_model.specs.declared.link.TrackLink.{TrackLink}
+
+-- A block of which is known what it says of itself, and how many frames it has; what they hold isn't known.
+abbrev pub by_head : Buffered → Block
+by_head b = block_with b.head (replicate b.frames []) [] []
 
 -- how many frames of a track a block has
 abbrev pub frames_of : TrackLink → Block → ℕ

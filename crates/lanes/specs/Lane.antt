@@ -1,5 +1,5 @@
 -- A lane: its links, and the walk over them.
-use Rattle.std.specs.Prelude.{◌≡◌, ℕ, ◌+◌, ◌*◌, ◌<◌, ◌≤◌, ⊤, List, [], ◌∷◌, map, Result, Ok, Err}
+use Rattle.std.specs.Prelude.{◌≡◌, ℕ, ◌+◌, ◌<◌, ◌≤◌, ⊤, List, [], ◌∷◌, map, Result, Ok, Err}
 use Rattle.std.specs.List.{All}
 use Rattle.mkv_io.specs.declared.outside.ReadEnd.{ReadEnd}
 use Rattle.mkv_io.specs.Faults.{counted}
@@ -57,7 +57,7 @@ pub record Starts (f : LiveFiles) (scale : ℕ) (links : List Link) (l : LaneSee
   pub left : left f l ≡ ordered (lane_blocks scale (map (given_in f) links))
   pub told : told_in_all f l ≡ map told_damages (lane_damages (map (given_in f) links))
   pub ready : All (IsOpenLink f) links → IsReady f l
-  pub due : walks.due f l.links l.walk ≡ 4 * walks.files_length f links
+  pub due : walks.due f l.links l.walk ≡ walks.files_length f links
 
 pub record Begins (ticks : ℕ) (chain : List Link) (l : LaneSeen) : Type 0 where
   pub links : l.links ≡ chain
@@ -122,7 +122,7 @@ abbrev pub files_length : LiveFiles → LaneSeen → ℕ
 files_length f l = walks.files_length f l.links
 
 -- What a call reads is taken from what may still be read. One that a failed read or want of memory ends may read
--- two octets besides for each of the files.
+-- as much besides as the files have octets.
 abbrev pub Pays : {T : Type 0} → LiveFiles → LaneSeen → LaneSeen → ℕ → ℕ → Result T ReadEnd → Type 0
 Pays f old new before now (Ok answer) = now + due f new ≤ before + due f old
-Pays f old new before now (Err end) = now + due f new ≤ before + due f old + 2 * files_length f old
+Pays f old new before now (Err end) = now + due f new ≤ before + due f old + files_length f old

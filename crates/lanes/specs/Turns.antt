@@ -1,5 +1,5 @@
 -- What a turn makes of a walk.
-use Rattle.std.specs.Prelude.{◌≡◌, ℕ, ◌+◌, ◌*◌, ◌<◌, ◌≤◌, ⊤, List, [], ◌∷◌, Result, Ok, Err}
+use Rattle.std.specs.Prelude.{◌≡◌, ℕ, ◌+◌, ◌<◌, ◌≤◌, ⊤, List, [], ◌∷◌, Result, Ok, Err}
 use Rattle.mkv_io.specs.declared.outside.ReadEnd.{ReadEnd}
 use Rattle.mkv_io.specs.LiveFiles.{LiveFiles}
 use Rattle.output_model.specs.OutputBlock.{IsLent, Lent}
@@ -51,7 +51,7 @@ pub record Moves (scale : ℕ) (links : List Link) (old new : Walk) (turn : Turn
   pub lends : LendsFor scale links new turn
 
 -- What a call reads is taken from what may still be read. One that a failed read or want of memory ends may read
--- two octets besides for each of the files.
+-- as much besides as the files have octets.
 abbrev pub Pays : {T : Type 0} → LiveFiles → List Link → Walk → Walk → ℕ → ℕ → Result T ReadEnd → Type 0
 Pays f links old new before now (Ok answer) = now + due f links new ≤ before + due f links old
-Pays f links old new before now (Err end) = now + due f links new ≤ before + due f links old + 2 * files_length f links
+Pays f links old new before now (Err end) = now + due f links new ≤ before + due f links old + files_length f links

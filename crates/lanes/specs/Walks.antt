@@ -3,7 +3,7 @@ use Rattle.std.specs.Prelude.{◌≡◌, ℕ, ◌+◌, ◌-◌, ◌*◌, ◌≤�
 use Rattle.std.specs.List.{All, slice_get}
 use Rattle.mkv_io.specs.LiveFiles.{LiveFiles}
 use Rattle.block_format.specs.Events.{Event, last_of}
-use Rattle.cluster_reader.specs.Reading.{Reading, CanRead, left_of, paid}
+use Rattle.cluster_reader.specs.Reading.{Reading, CanRead, left_of, read_to}
 use Rattle.cluster_reader.specs.ToldDamages.{ToldDamages}
 use Rattle.output_model.specs.OutputBlock.{Lent}
 use Rattle.merge_model.specs.Links.{Given, track_given}
@@ -135,10 +135,10 @@ abbrev pub files_length : LiveFiles → List Link → ℕ
 files_length f [] = 0
 files_length f (link ∷ links) = file_length f link + files_length f links
 
--- what may still be read: four octets for each of a file, less what the way of its cursor has paid for
+-- what may still be read of a file: all of it, or what stands behind the place up to which its cursor has read it
 abbrev pub track_due : LiveFiles → TrackLink → Option Reading → ℕ
-track_due f t None = 4 * f.size t.file.n
-track_due f t (Some c) = 4 * f.size t.file.n - paid (f.size t.file.n) c
+track_due f t None = f.size t.file.n
+track_due f t (Some c) = f.size t.file.n - read_to c
 
 abbrev pub here_due : LiveFiles → Walk → Link → ℕ
 here_due f w (Track t) = track_due f t w.cursor
@@ -146,7 +146,7 @@ here_due f w (Entries e) = 0
 
 abbrev pub due_from : LiveFiles → Walk → List Link → ℕ
 due_from f w [] = 0
-due_from f w (link ∷ links) = here_due f w link + 4 * files_length f links
+due_from f w (link ∷ links) = here_due f w link + files_length f links
 
 abbrev pub due : LiveFiles → List Link → Walk → ℕ
 due f links w = due_from f w (drop w.at links)

@@ -1,14 +1,13 @@
 //! Where a block ends, and an entry of a text.
 
-ghost use Rattle.std.specs.Prelude.{◌≡◌, ◌<◌, ◌≤◌, ◌^◌, [], length, max, IfSome};
+ghost use Rattle.std.specs.Prelude.{◌≡◌, ◌<◌, ◌≤◌, ◌^◌, ◌+◌, ℕ, [], length, max, IfSome};
 ghost use Rattle.std.specs.List.{All};
 ghost use Rattle.block_format.specs.declared.limits.TheConstants.{TOO_LARGE_TIME};
-ghost use Rattle.block_records.specs.Buffered.{block_of};
 ghost use Rattle.merge_model.specs.Links.{entry_block};
 ghost use Rattle.merge_model.specs.Ends.{block_end};
 ghost use Rattle.merge_model.specs.FileLinks.{CanMove, IsSmallEntry, text_with};
 ghost use Rattle.lanes.specs.Ends.{IsTimed, IsTimedTrack, ends_of, lasting_for, link_end, text_end, texts_end, track_end};
-ghost use Rattle.lanes.specs.Frames.{counted_for, link_frames};
+ghost use Rattle.lanes.specs.Frames.{by_head, counted_for, link_frames};
 ghost use Rattle.lanes.specs.declared.found.TheConstants.{MOST_END};
 
 use crate::frames::{frames_of, time_of};
@@ -18,7 +17,7 @@ use merge_model::{Link, TextLink, TrackLink};
 use mkv_io::Entry;
 
 /// How many nanoseconds a block lasts: its duration, else that of its frames, else nothing.
-fn lasting(duration: Option<u64>, default_duration: Option<u64>, frames: usize) -> u64
+fn lasting(duration: Option<u64>, default_duration: Option<u64>, frames: u16) -> u64
     requires duration { IfSome duration (λ d. d < TOO_LARGE_TIME) }
     requires default { IfSome default_duration (λ d. d < 2 ^ 48) }
     requires frames { frames ≤ 256 }
@@ -29,7 +28,7 @@ fn lasting(duration: Option<u64>, default_duration: Option<u64>, frames: usize) 
         return duration;
     }
     match default_duration {
-        Some(each) => frames as u64 * each,
+        Some(each) => u64::from(frames) * each,
         None => 0,
     }
 }
@@ -38,7 +37,7 @@ fn lasting(duration: Option<u64>, default_duration: Option<u64>, frames: usize) 
 /// where it isn't the track's or is dropped.
 fn track_end(track: &TrackLink, before: u64, cursor: &Cursor) -> u64
     requires { IsTimedTrack track.now }
-    ensures exact { result ≡ track_end track.now before (block_of cursor.now.block) }
+    ensures exact { result ≡ track_end track.now before (by_head cursor.now.block) }
     ensures small { result ≤ MOST_END }
 {
     let block = cursor.head();
@@ -49,13 +48,13 @@ fn track_end(track: &TrackLink, before: u64, cursor: &Cursor) -> u64
     let Some(t) = delayed(time, track.delay) else {
         return 0;
     };
-    t + lasting(block.duration, track.default_duration, cursor.sizes().len())
+    t + lasting(block.duration, track.default_duration, cursor.frames())
 }
 
 /// The same of a link; a text has no block of a file.
 fn link_end(link: &Link, before: u64, cursor: &Cursor) -> u64
     requires { IsTimed link.now }
-    ensures exact { result ≡ link_end (block_of cursor.now.block) before link.now }
+    ensures exact { result ≡ link_end (by_head cursor.now.block) before link.now }
     ensures small { result ≤ MOST_END }
 {
     match link {
@@ -66,7 +65,7 @@ fn link_end(link: &Link, before: u64, cursor: &Cursor) -> u64
 
 /// How many frames the block that a cursor gave has of a link's track; of a text none.
 fn link_frames(link: &Link, cursor: &Cursor) -> u64
-    ensures exact { result ≡ link_frames (block_of cursor.now.block) link.now }
+    ensures exact { result ≡ link_frames (by_head cursor.now.block) link.now }
     ensures few { result ≤ 256 }
 {
     match link {
@@ -80,7 +79,7 @@ pub fn greatest_end(links: &[Link], before: &[u64], cursor: &Cursor, end: u64) -
     requires links { All IsTimed links.now }
     requires each { length before.now ≡ length links.now }
     requires end { end ≤ MOST_END }
-    ensures exact { result ≡ max end (ends_of (block_of cursor.now.block) before.now links.now) }
+    ensures exact { result ≡ max end (ends_of (by_head cursor.now.block) before.now links.now) }
     ensures small { result ≤ MOST_END }
 {
     let mut end = end;
@@ -94,7 +93,8 @@ pub fn greatest_end(links: &[Link], before: &[u64], cursor: &Cursor, end: u64) -
 pub fn count_frames(links: &[Link], cursor: &Cursor, counts: &mut [u64])
     requires each { length counts.old ≡ length links.now }
     requires room { All (λ n. n < 2 ^ 63) counts.old }
-    ensures exact { counts.new ≡ counted_for (block_of cursor.now.block) counts.old links.now }
+    ensures exact { counts.new ≡ counted_for (by_head cursor.now.block) counts.old links.now }
+    ensures few { (most : ℕ) → All (λ n. n ≤ most) counts.old → All (λ n. n ≤ most + 256) counts.new }
 {
     for (k, link) in links.iter().enumerate() {
         counts[k] += link_frames(link, cursor);

@@ -1,22 +1,21 @@
 //! The frames of a track, which count from 0, and the times that they have.
 
 ghost use Rattle.std.specs.Prelude.{◌≡◌, ◌≤◌};
-ghost use Rattle.block_records.specs.Buffered.{block_of};
 ghost use Rattle.block_records.specs.Time.{IsSmallTime};
 ghost use Rattle.merge_model.specs.FileLinks.{listing_of};
 ghost use Rattle.merge_model.specs.Timed.{time_for};
-ghost use Rattle.lanes.specs.Frames.{frames_of};
+ghost use Rattle.lanes.specs.Frames.{by_head, frames_of};
 
 use cluster_reader::Cursor;
 use merge_model::TrackLink;
 
 /// How many frames of a track the block has that a cursor gave: none where it is another track's.
 pub fn frames_of(track: &TrackLink, cursor: &Cursor) -> u64
-    ensures exact { result ≡ frames_of track.now (block_of cursor.now.block) }
+    ensures exact { result ≡ frames_of track.now (by_head cursor.now.block) }
     ensures few { result ≤ 256 }
 {
     if cursor.head().track == track.number {
-        cursor.sizes().len() as u64
+        u64::from(cursor.frames())
     } else {
         0
     }

@@ -98,7 +98,7 @@ impl Lane {
         ensures standing { R.standing src.new ≡ R.standing src.old }
         ensures cause { HasCause is_read_fault (R.reading_faults src.old) (R.reading_faults src.new) result }
 
-        // What is read adds up to at most four octets for each of the files, and two for each call that fails.
+        // What is read adds up to at most the lengths of the files, and to these once more for each call that fails.
         ensures pays { Pays (live_files R.Reads src.old) self.old self.new (R.octets_read src.old) (R.octets_read src.new) result }
     {
         'turns: loop {

@@ -13,7 +13,7 @@ ghost use Rattle.lanes.specs.Turns.{Moves, Pays, Turns};
 use crate::frames::frames_of;
 use crate::place::{place_block, place_entry};
 use crate::walk::Walk;
-use cluster_reader::{Cursor, Step};
+use cluster_reader::{Cursor, Step, Takes};
 use merge_model::{Link, TextLink, TrackLink};
 use mkv_io::{ReadEnd, Reads};
 use std::alloc::Global;
@@ -54,7 +54,7 @@ fn turn_track<R: Reads>(
         walk.cursor = Some(cursor);
         return Ok(Turn::Passed);
     };
-    match cursor.advance_for(src, track.number)? {
+    match cursor.advance_for(src, Takes::Track(track.number))? {
         Step::Block => {
             let before = walk.frames;
             walk.frames += frames_of(track, cursor);

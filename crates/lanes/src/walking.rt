@@ -14,12 +14,12 @@ ghost use Rattle.lanes.specs.declared.found.TheConstants.{MOST_END};
 
 use crate::ends::{count_frames, greatest_end, texts_end};
 use crate::found::Survey;
-use cluster_reader::{Cursor, Step};
+use cluster_reader::{Cursor, Step, Takes};
 use merge_model::{Link, TrackLink};
 use mkv_io::{List, ReadEnd, Reads};
 use std::alloc::Global;
 
-/// Goes over all that a cursor has left, and counts the frames of each link's track.
+/// Goes over all that a cursor has left, and counts the frames of each link's track. What stands in them isn't asked for.
 fn walk<R: Reads>(
     cursor: &mut Cursor,
     links: &[Link],
@@ -33,14 +33,14 @@ fn walk<R: Reads>(
     ensures small { IfOk result (λ survey. survey.end ≤ MOST_END) }
     ensures standing { R.standing src.new ≡ R.standing src.old }
     ensures cause { HasCause is_read_fault (R.reading_faults src.old) (R.reading_faults src.new) result }
-    ensures octets { R.octets_read src.new ≤ R.octets_read src.old + 6 * file_size R.Reads src.old cursor.old.file }
+    ensures octets { R.octets_read src.new ≤ R.octets_read src.old + 2 * file_size R.Reads src.old cursor.old.file }
 {
     let mut survey = Survey {
         end: texts_end(links),
         stopped: false,
     };
     'steps: loop {
-        match cursor.advance(src)? {
+        match cursor.advance_for(src, Takes::Heads)? {
             Step::Block => {
                 survey.end = greatest_end(links, counts, cursor, survey.end);
                 count_frames(links, cursor, counts);
@@ -64,7 +64,7 @@ fn first_track(links: &[Link]) -> Option<&TrackLink>
 }
 
 /// The end of a file over all links that take blocks of it, and whether it can be read to its end. A walk over the
-/// file reads its blocks.
+/// file reads what its blocks say of themselves.
 pub fn survey<R: Reads>(alloc: Global, src: &mut R, links: &List<Link>) -> Result<Survey, ReadEnd>
     requires open { All (IsOpenLink (live_files R.Reads src.old)) links.now }
     requires timed { All IsTimed links.now }
@@ -74,8 +74,8 @@ pub fn survey<R: Reads>(alloc: Global, src: &mut R, links: &List<Link>) -> Resul
     ensures standing { R.standing src.new ≡ R.standing src.old }
     ensures cause { HasCause is_read_fault (R.reading_faults src.old) (R.reading_faults src.new) result }
 
-    // Four octets for each of the file, and two more where a read fails.
-    ensures octets { R.octets_read src.new ≤ R.octets_read src.old + 6 * surveyed_length (live_files R.Reads src.old) links.now }
+    // One octet for each of the file, and one more where a read fails.
+    ensures octets { R.octets_read src.new ≤ R.octets_read src.old + 2 * surveyed_length (live_files R.Reads src.old) links.now }
 {
     let links = links.as_slice();
     let Some(track) = first_track(links) else {

@@ -33,7 +33,7 @@ reindex_on world name = reindex_verdict (world.is_there name) name world.media w
 
 -- what may be read to plan a new index of a file of so many octets, and to write it in place
 abbrev pub most_to_index : ℕ → ℕ
-most_to_index octets = 34 * octets + KEPT
+most_to_index octets = 26 * octets + KEPT
 
 abbrev pub most_to_reindex : ℕ → ℕ
 most_to_reindex octets = HEAD + most_to_index octets

@@ -16,10 +16,14 @@ use Rattle.tree_format.specs.Node.{Node}
 use Rattle.file_format.specs.FileBlocks.{file_events}
 use Rattle.file_format.specs.Info.{file_scale}
 use Rattle.block_format.specs.Block.{Block}
+use Rattle.block_records.specs.Buffered.{Buffered, block_of}
+use Rattle.block_records.specs.Front.{head_of}
+use Rattle.block_records.specs.Made.{block_with}
+use Rattle.block_records.specs.declared.head.BlockHead.{BlockHead}
 use Rattle.block_format.specs.Elements.{with_limits}
 use Rattle.block_format.specs.Events.{Event, block, blocks_of, damages_of, events_of}
-use Rattle.elements.specs.Window.{ReadAhead, HasNotPassed, MovesTo, cost_of}
-use Rattle.cluster_reader.specs.Reading.{Reading, damage_event, paid}
+use Rattle.elements.specs.Window.{ReadAhead, HasNotPassed, MovesTo, end_ahead}
+use Rattle.cluster_reader.specs.Reading.{Reading, damage_event, read_to}
 use Rattle.output_model.specs.declared.TheConstants.{MOST_CUES}
 use Rattle.output_model.specs.declared.places.CuePoint.{CuePoint}
 use Rattle.reindex.specs.Clusters.{HasComeTo}
@@ -195,6 +199,41 @@ unfolding HaveCome
 HaveCome-whole i list bytes old new all rest points passed so passes none come ascend =
     points-whole i list all rest passed passes none ∙ ap (λ ps. Ok ps) (sym (so come ascend).points)
 
+-- ---- a block that is known by its head
+
+-- a point hangs on what a block says of itself alone
+points-by_head : (i : Indexing) (list : List Header) (b : Block) (lent : Buffered) → head_of b ≡ lent.head → points_for i list b ≡ points_for i list (block_of lent)
+points-by_head i list b lent says = ap (λ (h : BlockHead). points_for i list (block_with h [] [] [])) says
+
+-- The blocks up to a place were passed, and the points are theirs.
+pub record HaveRead (i : Indexing) (bytes : List ℕ) (old new : Clusters) (all rest : List Event) (points : List Point) : Type 0 where
+  pub passed : List Block
+  pub met : HavePassed all rest passed
+  pub come : (list : List Header) → HaveCome i list bytes old new all rest points passed
+
+pub HaveRead-begins : (i : Indexing) (bytes : List ℕ) (c : Clusters) (all : List Event) (points : List Point) → points ≡ [] → HaveRead i bytes c c all all points
+HaveRead-begins i bytes c all points none = record {
+  passed = [];
+  met = HavePassed-none all;
+  come = λ list. HaveCome-begins i list bytes c all points none;
+}
+
+-- a block was passed, of which its head is known
+pub HaveRead-more : (i : Indexing) (bytes : List ℕ) (old mid new : Clusters) (all rest next : List Event) (points more : List Point) (b : Block) (lent : Buffered)
+    → HaveRead i bytes old mid all rest points → rest ≡ block b ∷ next → head_of b ≡ lent.head → new.reached ≤ max mid.reached lent.head.offset
+    → ((list : List Header) → HasComeTo bytes list mid → mid.reached ≤ lent.head.offset → AddsPoint i list bytes (block_of lent) points more new)
+    → HaveRead i bytes old new all next more
+HaveRead-more i bytes old mid new all rest next points more b lent so is says reached adds = record {
+  passed = so.passed ++ b ∷ [];
+  met = HavePassed-more all rest next so.passed b so.met is;
+  come = λ list. HaveCome-more i list bytes old mid new all rest next points more so.passed b (so.come list) is (omega (arith, reached, place)) (λ there before.
+      let add = adds list there (omega (arith, before, place)) in
+      record { come = add.come; points = add.points ∙ ap (λ ps. take MOST_CUES (cues_of points ++ ps)) (sym (points-by_head i list b lent says)) });
+}
+  where
+    place : b.offset ≡ lent.head.offset
+    place = ap (λ (h : BlockHead). h.offset) says
+
 -- ---- the points of a file
 
 pub outline-total : (held : ℕ) (bytes : List ℕ) (o : FileOutline) → outline_in held bytes ≡ Ok o → o.total ≡ length bytes
@@ -218,20 +257,18 @@ points_in-file i bytes segment tracks events numbers scale base all =
 -- Both ways have paid for what was read.
 pub record HavePaid (size : ℕ) (first cursor : Reading) (list ahead : ReadAhead) (at before now : ℕ) : Type 0 where
   pub place : HasNotPassed ahead at size
-  pub pays : now + paid size first + cost_of size list ≤ before + paid size cursor + cost_of size ahead
+  pub pays : now + read_to first + end_ahead list ≤ before + read_to cursor + end_ahead ahead
 
 -- a block more was read, and then the Clusters up to it
-pub pays-both : (size here there before mid between now : ℕ) (first old new : Reading) (list mid_ahead ahead : ReadAhead) (p q : ℕ) → here ≡ size → there ≡ size
-    → mid + paid size first + cost_of size list ≤ before + paid size old + cost_of size mid_ahead
-    → between + paid here old ≤ mid + paid here new
+pub pays-both : (size there before mid between now : ℕ) (first old new : Reading) (list mid_ahead ahead : ReadAhead) (p q : ℕ) → there ≡ size
+    → mid + read_to first + end_ahead list ≤ before + read_to old + end_ahead mid_ahead
+    → between + read_to old ≤ mid + read_to new
     → HasNotPassed mid_ahead p size → (HasNotPassed mid_ahead p there → MovesTo there q mid_ahead ahead between now)
     → HavePaid size first new list ahead q before now
-pays-both size here there before mid between now first old new list mid_ahead ahead p q same list_same so step place goes =
-    let P : ℕ → Type 0 = λ n. between + paid n old ≤ mid + paid n new in
-    let read = subst P same step in
+pays-both size there before mid between now first old new list mid_ahead ahead p q list_same so read place goes =
     let Q : ℕ → Type 0 = λ n. HasNotPassed mid_ahead p n → MovesTo n q mid_ahead ahead between now in
     let moves = subst Q list_same goes place in
-    record { place = moves.place; pays = sums (paid size first) (cost_of size list) (paid size old) (cost_of size mid_ahead) (paid size new) (cost_of size ahead) so read moves.pays }
+    record { place = moves.place; pays = sums (read_to first) (end_ahead list) (read_to old) (end_ahead mid_ahead) (read_to new) (end_ahead ahead) so read moves.pays }
   where
     sums : (a b c d e f : ℕ) → mid + a + b ≤ before + c + d → between + c ≤ mid + e → now + d ≤ between + f → now + a + b ≤ before + e + f
     sums a b c d e f so read moves = omega arith

@@ -49,7 +49,7 @@ fn find<R: Reads>(alloc: Global, src: &mut R, file: FileId) -> Result<Found, Out
     ensures total { IfOk result (λ found. found.outline.total ≡ file_size R.Reads src.old file) }
     ensures standing { R.standing src.new ≡ R.standing src.old }
     ensures cause { HasCause is_outline_fault (R.reading_faults src.old) (R.reading_faults src.new) result }
-    ensures octets { R.octets_read src.new ≤ R.octets_read src.old + 33 * file_size R.Reads src.old file }
+    ensures octets { R.octets_read src.new ≤ R.octets_read src.old + 25 * file_size R.Reads src.old file }
 {
     let outline = Outline::read(alloc, src, file)?;
     let trees = read_trees(alloc, &outline, src, file)?;
@@ -113,7 +113,7 @@ pub fn plan_index<D: Disk>(alloc: Global, disk: &mut D) -> Result<Indexed, PlanE
     ensures standing { D.standing disk.new ≡ D.standing disk.old }
     ensures cause { HasCause is_plan_fault (D.reading_faults disk.old) (D.reading_faults disk.new) result }
     ensures octets { D.octets_read disk.new
-        ≤ D.octets_read disk.old + (34 * file_size D.Reads disk.old MEDIA + KEPT_OCTETS) }
+        ≤ D.octets_read disk.old + (26 * file_size D.Reads disk.old MEDIA + KEPT_OCTETS) }
 {
     let found = match find(alloc, disk, MEDIA) {
         Ok(found) => found,

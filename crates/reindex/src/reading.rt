@@ -9,7 +9,7 @@ ghost use Rattle.elements.specs.Window.{HasNotPassed};
 ghost use Rattle.element_reader.specs.Outline.{is_outline_fault, outline_in};
 ghost use Rattle.block_format.specs.Events.{blocks_of};
 ghost use Rattle.block_records.specs.Buffered.{block_of};
-ghost use Rattle.cluster_reader.specs.Reading.{CanRead, left_of, paid};
+ghost use Rattle.cluster_reader.specs.Reading.{CanRead, left_of};
 ghost use Rattle.edit_changes.specs.Records.{trees_of};
 ghost use Rattle.edit_changes.specs.Trees.{AreSound};
 ghost use Rattle.reindex.specs.Clusters.{HasComeTo, IsReady, StaysReady};
@@ -21,7 +21,7 @@ use crate::indexing::Indexing;
 use crate::point::Point;
 use crate::scale::scale_of;
 use crate::tracks::indexed_tracks;
-use cluster_reader::{Cursor, Step};
+use cluster_reader::{Cursor, Step, Takes};
 use edit_changes::Trees;
 use element_reader::{Outline, OutlineEnd};
 use mkv_io::{FileId, List, ReadEnd, Reads};
@@ -80,11 +80,11 @@ fn collect<R: Reads>(
     ensures few { IfOk result (λ points. length points ≤ MOST_CUES) }
     ensures standing { R.standing src.new ≡ R.standing src.old }
     ensures cause { HasCause is_outline_fault (R.reading_faults src.old) (R.reading_faults src.new) result }
-    ensures octets { R.octets_read src.new ≤ R.octets_read src.old + 9 * file_size R.Reads src.old cursor.old.file }
+    ensures octets { R.octets_read src.new ≤ R.octets_read src.old + 3 * file_size R.Reads src.old cursor.old.file }
 {
     let mut points = List::new(alloc);
     'steps: loop {
-        match cursor.advance(src)? {
+        match cursor.advance_for(src, Takes::Heads)? {
             Step::Block => add_point(&mut points, by, clusters, src, cursor)?,
             Step::Damaged(damage) => return Err(OutlineEnd::Refused(damage)),
             Step::End => return Ok(points),
@@ -110,7 +110,7 @@ pub fn read_points<R: Reads>(
     ensures few { IfOk result (λ points. length points ≤ MOST_CUES) }
     ensures standing { R.standing src.new ≡ R.standing src.old }
     ensures cause { HasCause is_outline_fault (R.reading_faults src.old) (R.reading_faults src.new) result }
-    ensures octets { R.octets_read src.new ≤ R.octets_read src.old + 9 * file_size R.Reads src.old file }
+    ensures octets { R.octets_read src.new ≤ R.octets_read src.old + 3 * file_size R.Reads src.old file }
 {
     let by = Indexing {
         tracks: indexed_tracks(alloc, trees.tracks.as_slice())?,

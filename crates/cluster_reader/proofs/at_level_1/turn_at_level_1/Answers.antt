@@ -14,13 +14,13 @@ use Rattle.cluster_reader.proofs.at_level_1.turn_at_level_1.Goals as goal
 
 -- the Segment's bound is reached
 pub returns-then-walk-clause-gives : goal.returns-then-walk-clause-gives
-returns-then-walk-clause-gives g c = λ bytes told wanted.
+returns-then-walk-clause-gives g c = λ bytes told takes.
     let none = left-end (with_limits c.args.walk.now.scale) bytes c.args.walk.now.place c.requires.outside c.if-walk.true in
     (none, none)
 
 -- an ID of level 0 ends the Segment
 pub returns-then-ends_segment-clause-gives : goal.returns-then-ends_segment-clause-gives
-returns-then-ends_segment-clause-gives g c = λ bytes told wanted.
+returns-then-ends_segment-clause-gives g c = λ bytes told takes.
     let p = c.args.walk.now.place in
     let kept = ap (λ (w : Walk). w.place) c.element.ensures.only in
     let stops : ends_segment p.size (id_of c.in_ok-found.found) ≡ true = cc (c.ends_segment.ensures, c.id_of.ensures, c.if-ends_segment.true, kept) in
@@ -32,7 +32,7 @@ returns-then-ends_segment-clause-gives g c = λ bytes told wanted.
 
 -- a Cluster is entered
 pub returns-then-header-eq-CLUSTER-clause-gives : goal.returns-then-header-eq-CLUSTER-clause-gives
-returns-then-header-eq-CLUSTER-clause-gives g c = λ bytes told wanted.
+returns-then-header-eq-CLUSTER-clause-gives g c = λ bytes told takes.
     let p = c.args.walk.now.place in
     let h = c.in-Ok.header in
     let kept = ap (λ (w : Walk). w.place) c.element.ensures.only in
@@ -48,7 +48,7 @@ returns-then-header-eq-CLUSTER-clause-gives g c = λ bytes told wanted.
 
 -- another Element is skipped
 pub returns-else-header-eq-CLUSTER-clause-gives : goal.returns-else-header-eq-CLUSTER-clause-gives
-returns-else-header-eq-CLUSTER-clause-gives g c = λ bytes told wanted.
+returns-else-header-eq-CLUSTER-clause-gives g c = λ bytes told takes.
     let p = c.args.walk.now.place in
     let h = c.in-Ok.header in
     let kept = ap (λ (w : Walk). w.place) c.element.ensures.only in
@@ -62,7 +62,7 @@ returns-else-header-eq-CLUSTER-clause-gives g c = λ bytes told wanted.
 
 -- a damage ends what is read
 pub returns-in-Err-clause-gives : goal.returns-in-Err-clause-gives
-returns-in-Err-clause-gives g c = λ bytes told wanted.
+returns-in-Err-clause-gives g c = λ bytes told takes.
     let p = c.args.walk.now.place in
     let d = c.in-Err.damage in
     let kept = ap (λ (w : Walk). w.place) c.element.ensures.only in

@@ -20,7 +20,7 @@ returns-in-Passed-clause-gives g c = λ bytes content.
     let cluster = c.args.cluster in
     let h = c.args.header.now in
     let before : p.at < cluster.end = omega (arith, c.requires.later, c.requires.within) in
-    let finds = rw c.in-Passed.is at (c.in_ok-timestamp.ensures.ok bytes content) in
+    let finds = rw c.in-Passed.is at (c.in-Ok.ensures.ok bytes content) in
     let moved = c.passed-walk.ensures
     ∙ ap (λ (w : Walk). record w.place { at = end_in cluster.end h; cluster = Some (record cluster { timestamp = c.in-Passed.timestamp }) }) c.read_child.ensures.only
     ∙ ap (λ t. record p { at = end_in cluster.end h; cluster = Some (record cluster { timestamp = t }) }) finds.1 in
@@ -35,7 +35,7 @@ returns-in-Block-clause-gives g c = λ bytes content.
     let cluster = c.args.cluster in
     let h = c.args.header.now in
     let before : p.at < cluster.end = omega (arith, c.requires.later, c.requires.within) in
-    let finds = rw c.in-Block.is at (c.in_ok-timestamp.ensures.ok bytes content) in
+    let finds = rw c.in-Block.is at (c.in-Ok.ensures.ok bytes content) in
     let b = finds.given in
     let other = block-no_timestamp r bytes cluster.timestamp h b finds.is in
     let moved = c.passed-walk-in-Block.ensures
@@ -59,7 +59,7 @@ returns-in-Damaged-clause-gives g c = λ bytes content.
     let d = c.in-Damaged.damage in
     let place : IsInCluster p.at p.end cluster = rw c.requires.inside at c.requires.ready.place.cluster in
     let before : p.at < cluster.end = omega (arith, c.requires.later, c.requires.within) in
-    let gives = rw c.in-Damaged.is at (c.in_ok-timestamp.ensures.ok bytes content) in
+    let gives = rw c.in-Damaged.is at (c.in-Ok.ensures.ok bytes content) in
     left-bad_child r bytes p cluster h d c.requires.inside place before (c.requires.found bytes content) c.requires.goes gives
     ∙ sym (ap (λ (w : Walk). damage_event w.stopped d ∷ left_of bytes (shown w)) c.break_off.ensures
     ∙ ap (λ (w : Walk). damage_event (not cluster.closed) d ∷ left (with_limits w.scale) bytes (behind_damage w.place cluster)) c.read_child.ensures.only)

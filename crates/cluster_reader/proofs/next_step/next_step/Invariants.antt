@@ -1,7 +1,7 @@
 use Rattle.std.proofs.Common.{◌≡◌, ◌+◌, ◌≤◌}
 use Rattle.mkv_io.specs.Told.{Told}
 use Rattle.cluster_reader.specs.Places.{turns_left}
-use Rattle.cluster_reader.specs.Reading.{left_of, paid}
+use Rattle.cluster_reader.specs.Reading.{left_of, read_to}
 use Rattle.cluster_reader.specs.Walks.{IsReady, IsSameWalk, shown}
 use Rattle.cluster_reader.proofs.next_step.next_step.Given as goal
 
@@ -14,7 +14,7 @@ invariant-loop-step g l = record {
   left : Told ((g.R.Reads.files (g.R.Reads.standing l.initial.src)).content l.fn.walk.file.n) (λ bytes. left_of bytes (shown l.walk) ≡ left_of bytes (shown l.fn.walk));
   notes : l.walk.stopped ≡ l.fn.walk.stopped;
   on : l.fn.walk.place.at ≤ l.walk.place.at;
-  pays : g.R.Reads.octets_read l.src + paid ((g.R.Reads.files (g.R.Reads.standing l.initial.src)).size l.fn.walk.file.n) (shown l.fn.walk) ≤ g.R.Reads.octets_read l.initial.src + paid ((g.R.Reads.files (g.R.Reads.standing l.initial.src)).size l.fn.walk.file.n) (shown l.walk);
+  pays : g.R.Reads.octets_read l.src + read_to (shown l.fn.walk) ≤ g.R.Reads.octets_read l.initial.src + read_to (shown l.walk);
 }
 
 abbrev pub decreases-loop-step : goal.decreases-loop-step

@@ -1,8 +1,7 @@
-use Rattle.std.proofs.Common.{◌≡◌, ◌<◌, ◌+◌, ℕ, List, ◌++◌, length, take, drop, get_or, sym, ◌∙◌, ap, add-one, arith}
+use Rattle.std.proofs.Common.{◌≡◌, ◌<◌, ◌+◌, ℕ, ◌++◌, length, take, drop, get_or, sym, ◌∙◌, ap, add-one, arith}
 use Rattle.std.proofs.Math.ListN.{set}
-use Rattle.block_records.specs.Buffered.{block_of}
-use Rattle.lanes.specs.Frames.{counted_for}
-use Rattle.lanes.proofs.EndLemmas.{count-all, count-one, left-one, value-left}
+use Rattle.lanes.specs.Frames.{by_head, counted_for}
+use Rattle.lanes.proofs.EndLemmas.{count-all, count-one, left-one, set-few, value-left}
 use Rattle.lanes.proofs.ends.count_frames.Goals as goal
 
 -- a count is still as it was
@@ -18,7 +17,7 @@ overflow_add-counts c =
 -- one more is counted
 pub loop-k-preserved : goal.loop-k-preserved
 loop-k-preserved c =
-    let b = block_of c.args.cursor.now.block in
+    let b = by_head c.args.cursor.now.block in
     let k = c.loop-k.k in
     let counts = c.loop-k.counts in
     let links = c.args.links.now in
@@ -32,8 +31,14 @@ loop-k-preserved c =
           ap (λ (n : ℕ). drop n (set counts k v)) (add-one k)
           ∙ left-one counts c.args.counts.now k v (omega arith) (omega arith) c.loop-k.invariant.left
           ∙ ap (λ (n : ℕ). drop n c.args.counts.now) (sym (add-one k));
+      few = λ most all.
+          let inside : k < length counts = omega arith in
+          let there : k < length c.args.counts.now = omega arith in
+          let same : get_or counts k 0 ≡ get_or c.args.counts.now k 0 = value-left counts c.args.counts.now k inside there c.loop-k.invariant.left in
+          let old = all k 0 there in
+          set-few counts k v (most + 256) (c.loop-k.invariant.few most all) (omega (arith, same, old, c.link_frames.ensures.few));
     }
 
 -- all are
 pub returns : goal.returns
-returns c = record { exact = sym (count-all (block_of c.args.cursor.now.block) c.loop-k.counts c.args.links.now c.loop-k.k (omega arith)) ∙ c.loop-k.invariant.exact }
+returns c = record { exact = sym (count-all (by_head c.args.cursor.now.block) c.loop-k.counts c.args.links.now c.loop-k.k (omega arith)) ∙ c.loop-k.invariant.exact; few = c.loop-k.invariant.few }

@@ -1,4 +1,4 @@
-use Rattle.std.proofs.Common.{◌≡◌, length, sym, ◌∙◌, ap, arith, rules, to_z, of_z, w64}
+use Rattle.std.proofs.Common.{◌≡◌, sym, ◌∙◌, ap, arith, rules, to_z, of_z, w64}
 use Rattle.std.proofs.lemmas.Int.{ints}
 use Rattle.std.specs.Prelude.{◌+ℤ◌, ℤ}
 use Rattle.merge_model.specs.FileLinks.{listing_of}
@@ -16,8 +16,8 @@ returns-clause-exact c =
     let time = c.time_of-time.result in
     let sum : to_z w64 (of_z w64 time) +ℤ to_z w64 (of_z w64 t.delay) ≡ time +ℤ t.delay = omega (arith, ints, c.time_of-time.ensures.small, c.requires.moves.near) in
     let own : to_z w64 (of_z w64 c.head-block.result.now.time) ≡ c.head-block.result.now.time = omega (arith, ints, c.head-block.ensures.small.time) in
-    sym (end-taken t c.args.before b c.in-Some.t c.lasting.result (length c.sizes.result.now) (search rules)
+    sym (end-taken t c.args.before b c.in-Some.t c.lasting.result c.frames.result (search rules)
     (sym (c.in-Some.ensures.exact ∙ ap since_start sum ∙ ap (λ (z : ℤ). since_start (z +ℤ t.delay))
     (c.time_of-time.ensures.exact ∙ ap (time_for (listing_of t) c.args.before) own ∙ ap (λ (h : BlockHead). time_for (listing_of t) c.args.before h.time) c.head-block.ensures.exact)))
-    (c.lasting.ensures.exact ∙ ap (λ (h : BlockHead). lasting_for h.duration t.default_duration (length c.sizes.result.now)) c.head-block.ensures.exact)
-    (ap length c.sizes.ensures.exact))
+    (c.lasting.ensures.exact ∙ ap (λ (h : BlockHead). lasting_for h.duration t.default_duration c.frames.result) c.head-block.ensures.exact)
+    c.frames.ensures.exact)

@@ -1,4 +1,4 @@
-use Rattle.std.proofs.Common.{◌≡◌, ℕ, ◌+◌, ◌*◌, ◌≤◌, ◌^◌, List, length, Some, None, Ok, Err, Bool, ◌<◌, refl, sym, ◌∙◌, ap, subst, arith}
+use Rattle.std.proofs.Common.{◌≡◌, ℕ, ◌+◌, ◌*◌, ◌≤◌, List, length, Some, None, Ok, Err, Bool, ◌<◌, refl, sym, ◌∙◌, ap, subst, arith}
 use Rattle.std.specs.Prelude.{◌||◌}
 use Rattle.std.proofs.Math.ListN.{length-set}
 use Rattle.std.proofs.lemmas.Option.{slice_get_within, slice_get_read}
@@ -113,7 +113,7 @@ returns-else-place_block-clause-gives g c = λ told.
     let reads : turns.Reads c.args.links.now t w new old d = record { at = c.requires.here; same = refl; before = sym c.in-Some.ensures.value; now = refl } in
     let gives = turns.cursor-gives f c.args.links.now w.at t old d (Ok c.in_ok-advance_for.field-0) told c.requires.here at.1 c.in_ok-advance_for.ensures.gives in
     let given = rw c.in-Block.is at gives in
-    let same = turns.known-same t given.given d.block given.known in
+    let same = turns.known-same t given.given d.block given.known (rw c.in-Block.is at c.in_ok-advance_for.ensures.moves.lends) in
     turns.turns-other f c.args.scale c.args.links.now t w new old d reads given.given (ap (λ (n : ℕ). w.frames + n) (c.frames_of.ensures.exact ∙ sym same.frames)) refl refl given.left refl
     (same.placed c.args.scale w.frames ∙ (rw c.if-place_block.false at c.place_block.ensures.becomes))
 
@@ -156,7 +156,7 @@ returns-then-place_block-clause-gives g c = λ told.
     let reads : turns.Reads c.args.links.now t w new old d = record { at = c.requires.here; same = refl; before = sym c.in-Some.ensures.value; now = refl } in
     let gives = turns.cursor-gives f c.args.links.now w.at t old d (Ok c.in_ok-advance_for.field-0) told c.requires.here at.1 c.in_ok-advance_for.ensures.gives in
     let given = rw c.in-Block.is at gives in
-    let same = turns.known-same t given.given d.block given.known in
+    let same = turns.known-same t given.given d.block given.known (rw c.in-Block.is at c.in_ok-advance_for.ensures.moves.lends) in
     let lent = track_lent t d.block c.place_block.new.placed in
     let becomes : IsPlaced (track_placed c.args.scale t w.frames (block_of d.block)) w.greatest lent = rw c.if-place_block.true at c.place_block.ensures.becomes in
     turns.turns-gives f c.args.scale c.args.links.now t w new old d reads given.given (ap (λ (n : ℕ). w.frames + n) (c.frames_of.ensures.exact ∙ sym same.frames)) refl refl given.left

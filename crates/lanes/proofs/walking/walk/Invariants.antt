@@ -1,9 +1,9 @@
 use Rattle.std.proofs.Common.{◌≡◌, ◌≤◌, ◌+◌, ◌-◌, ◌*◌, length, max}
 use Rattle.std.specs.List.{All}
 use Rattle.std.specs.Prelude.{◌||◌, is_some}
-use Rattle.mkv_io.specs.Sources.{IfTold, file_size, live_files}
+use Rattle.mkv_io.specs.Sources.{IfTold, live_files}
 use Rattle.block_format.specs.Events.{last_of}
-use Rattle.cluster_reader.specs.Reading.{CanRead, left_of, paid}
+use Rattle.cluster_reader.specs.Reading.{CanRead, left_of, read_to}
 use Rattle.lanes.specs.Ends.{end_of, texts_end}
 use Rattle.lanes.specs.declared.found.TheConstants.{MOST_END}
 use Rattle.lanes.proofs.EndLemmas.{ends_from}
@@ -15,7 +15,7 @@ invariant-steps g l = record {
   faults : g.R.Reads.reading_faults l.src ≡ g.R.Reads.reading_faults l.initial.src;
   ready : CanRead (live_files g.R.Reads l.src) l.cursor;
   file : l.cursor.file ≡ l.initial.cursor.file;
-  pays : g.R.Reads.octets_read l.src + paid (file_size g.R.Reads l.initial.src l.initial.cursor.file) l.initial.cursor ≤ g.R.Reads.octets_read l.initial.src + paid (file_size g.R.Reads l.initial.src l.initial.cursor.file) l.cursor;
+  pays : g.R.Reads.octets_read l.src + read_to l.initial.cursor ≤ g.R.Reads.octets_read l.initial.src + read_to l.cursor;
   each : length l.counts ≡ length l.links;
   few : All (λ n. n ≤ 256 * l.cursor.place.at) l.counts;
   texts : texts_end l.links ≤ l.survey.end;
