@@ -1,16 +1,21 @@
 -- The frames that aren't written, told one after the other.
-use Rattle.std.proofs.Common.{◌≡◌, ℕ, suc, ◌+◌, ◌<◌, ◌≤◌, Bool, true, false, if◌then◌else◌, List, [], ◌∷◌, ◌++◌, length, take, drop, get_or, map, Some, Result, Ok, Err, OnOk, refl, sym, ◌∙◌, ap, subst, arith, append_assoc, append-nil}
+use Rattle.std.proofs.Common.{◌≡◌, ◌==◌, ℕ, suc, ◌+◌, ◌<◌, ◌≤◌, is_none, Bool, true, false, if◌then◌else◌, List, [], ◌∷◌, ◌++◌, length, take, drop, get_or, map, Some, None, Result, Ok, Err, OnOk, refl, sym, ◌∙◌, ap, subst, arith, append_assoc, append-nil}
 use Rattle.std.specs.List.{All, filter, find}
 use Rattle.std.proofs.Math.Seq.{drop-cons}
+use Rattle.std.proofs.lemmas.Bool.{eqb-true}
 use Rattle.std.proofs.lemmas.List.{drop-drop, drop_all}
 use Rattle.mkv_io.specs.declared.damage.Damage.{Damage}
+use Rattle.block_format.specs.Block.{Block}
 use Rattle.block_format.specs.Content.{frames_cut}
 use Rattle.block_format.specs.Events.{Event, blocks_of, damages_of}
 use Rattle.cluster_reader.specs.ToldDamages.{ToldDamages, told_damages, with_damage}
 use Rattle.cluster_reader.proofs.ToldDamagesLemmas.{with_damage-told}
 use Rattle.block_records.specs.Buffered.{Buffered, block_of}
-use Rattle.extractors.specs.BadFrames.{TellsMore, bad_for, bad_frame, bad_frames, is_bad, told_of}
-use Rattle.extractors.specs.Walks.{IsReady}
+use Rattle.extractors.specs.BadFrames.{TellsMore, bad_for, bad_frame, bad_frames, bad_in, is_bad, told_of, untimed}
+use Rattle.extractors.specs.Content.{written_of}
+use Rattle.extractors.specs.Takes.{IsEnough, IsEnoughFor, IsEnoughForAll}
+use Rattle.extractors.specs.declared.frame_form.FrameForm.{FrameForm}
+use Rattle.extractors.specs.declared.frame_form.FrameForm.TheVariants as form
 use Rattle.extractors.specs.declared.extracted.Extracted.{Extracted}
 use Rattle.extractors.specs.declared.track_output.TrackOutput.{TrackOutput}
 
@@ -23,14 +28,58 @@ OnOk-holds (Err end) holds = tt
 pub told_of-is : (list : List TrackOutput) (events : List Event) (told : Extracted) → told.damages ≡ told_damages (damages_of events) → told.bad_frames ≡ told_damages (bad_frames list (blocks_of events)) → told ≡ told_of list events
 told_of-is list events told damages bad = λ i. record { damages = damages i; bad_frames = bad i }
 
+-- what follows of what is so after a call is so as well
+pub OnOk-then : {T E X Y : Type 0} (result : Result T E) → (X → Y) → OnOk result X → OnOk result Y
+OnOk-then (Ok done) follows holds = follows holds
+OnOk-then (Err end) follows holds = tt
+
 -- an output that is found is one of them
-pub found-ready : (list : List TrackOutput) (test : TrackOutput → Bool) (o : TrackOutput) → find test list ≡ Some o → All IsReady list → IsReady o
-found-ready [] test o found each = absurd (cc)
-found-ready (x ∷ xs) test o found each = split (test x) (λ is. found-ready xs test o is (λ k d below. each (suc k) d (omega arith))) found
+pub found-holds : (P : TrackOutput → Type 0) (list : List TrackOutput) (test : TrackOutput → Bool) (o : TrackOutput) → find test list ≡ Some o → All P list → P o
+found-holds P [] test o found each = absurd (cc)
+found-holds P (x ∷ xs) test o found each = split (test x) (λ is. found-holds P xs test o is (λ k d below. each (suc k) d (omega arith))) found
   where
-    split : (b : Bool) → (find test xs ≡ Some o → IsReady o) → (if b then Some x else find test xs) ≡ Some o → IsReady o
-    split true behind is = let same : x ≡ o = cc in subst IsReady same (each 0 x (omega arith))
+    split : (b : Bool) → (find test xs ≡ Some o → P o) → (if b then Some x else find test xs) ≡ Some o → P o
+    split true behind is = let same : x ≡ o = cc in subst P same (each 0 x (omega arith))
     split false behind is = behind is
+
+-- and passes the test
+pub found-passes : (list : List TrackOutput) (test : TrackOutput → Bool) (o : TrackOutput) → find test list ≡ Some o → test o ≡ true
+found-passes [] test o found = absurd (cc)
+found-passes (x ∷ xs) test o found = split (test x) refl (found-passes xs test o) found
+  where
+    split : (b : Bool) → test x ≡ b → (find test xs ≡ Some o → test o ≡ true) → (if b then Some x else find test xs) ≡ Some o → test o ≡ true
+    split true passes behind is = let same : x ≡ o = cc in ap test (sym same) ∙ passes
+    split false passes behind is = behind is
+
+-- ---- what is known of a block
+
+-- the bad frames of a block in a form, where so much was taken from their front
+abbrev bad_as : FrameForm → List ℕ → Block → List Damage
+bad_as kind prefix b = map (λ (octets : List ℕ). bad_frame b) (filter (λ (octets : List ℕ). is_none (written_of kind 1 (untimed octets) (prefix ++ octets))) b.frames)
+
+-- where times are written none is bad
+none-bad : (d : Damage) (prefix : List ℕ) (frames : List (List ℕ)) → map (λ (octets : List ℕ). d) (filter (λ (octets : List ℕ). is_none (written_of form.Time 1 (untimed octets) (prefix ++ octets))) frames) ≡ []
+none-bad d prefix [] = refl
+none-bad d prefix (f ∷ fs) = none-bad d prefix fs
+
+bad-same : (kind : FrameForm) (prefix : List ℕ) (b : Block) (lent : Buffered) → IsEnough kind b lent → bad_as kind prefix (block_of lent) ≡ bad_as kind prefix b
+bad-same form.Plain prefix b lent is = ap (bad_as form.Plain prefix) (sym is)
+bad-same form.SubRip prefix b lent is = ap (bad_as form.SubRip prefix) (sym is)
+bad-same (form.AnnexB w) prefix b lent is = ap (bad_as (form.AnnexB w) prefix) (sym is)
+bad-same (form.Adts aac) prefix b lent is = ap (bad_as (form.Adts aac) prefix) (sym is)
+bad-same form.Time prefix b lent known = none-bad (bad_frame (block_of lent)) prefix (block_of lent).frames ∙ sym (none-bad (bad_frame b) prefix b.frames)
+
+-- the bad frames of the block are those of what is lent, for the output that takes it
+pub bad_in-lent : (list : List TrackOutput) (o : TrackOutput) (b : Block) (lent : Buffered) → find (λ (x : TrackOutput). x.track == lent.head.track) list ≡ Some o → IsEnoughForAll list b lent → bad_for (block_of lent) (Some o) ≡ bad_in list b
+bad_in-lent list o b lent found enough =
+    let is : lent.head.track ≡ o.track = sym (eqb-true _ _ (found-passes list (λ (x : TrackOutput). x.track == lent.head.track) o found)) in
+    let own = (found-holds (λ (x : TrackOutput). IsEnoughFor x b lent) list (λ (x : TrackOutput). x.track == lent.head.track) o found enough.each).own is in
+    bad-same o.form o.prefix b lent own
+    ∙ ap (bad_for b) (sym (ap (λ (track : ℕ). find (λ (x : TrackOutput). x.track == track) list) enough.track ∙ found))
+
+-- there are none where no output takes it
+pub bad_in-none : (list : List TrackOutput) (b : Block) (lent : Buffered) → find (λ (x : TrackOutput). x.track == lent.head.track) list ≡ None → IsEnoughForAll list b lent → [] ≡ bad_in list b
+bad_in-none list b lent found enough = ap (bad_for b) (sym (ap (λ (track : ℕ). find (λ (x : TrackOutput). x.track == track) list) enough.track ∙ found))
 
 -- ---- one after the other
 

@@ -1,10 +1,11 @@
 -- Octets that are given to one output, one after the other.
-use Rattle.std.proofs.Common.{◌≡◌, ℕ, suc, ◌+◌, ◌<◌, ◌≤◌, ◌*◌, ℤ, pos, ◌+ℤ◌, List, [], ◌∷◌, ◌++◌, length, take, drop, get_or, sum, unwrap_or, Result, Ok, Err, IsErr, refl, sym, ◌∙◌, ap, subst, arith, append_assoc, append-nil}
+use Rattle.std.proofs.Common.{◌≡◌, ℕ, zero, suc, ◌+◌, ◌-◌, ◌<◌, ◌≤◌, ◌*◌, ℤ, pos, ◌+ℤ◌, List, [], ◌∷◌, ◌++◌, length, take, drop, get_or, sum, unwrap_or, Result, Ok, Err, IsErr, refl, sym, ◌∙◌, ap, subst, arith, append_assoc, append-nil}
 use Rattle.std.proofs.Math.Seq.{drop-cons}
 use Rattle.std.proofs.lemmas.List.{drop-drop, drop_all}
 use Rattle.std.proofs.lemmas.List.Sums.{sum_by-cons}
 use Rattle.mkv_io.specs.Names.{Names}
 use Rattle.mkv_io.specs.declared.files.Files.{Ghosts}
+use Rattle.block_format.specs.Block.{Block}
 use Rattle.block_format.specs.Content.{frames_cut}
 use Rattle.mkv_outputs.specs.Outputs.{Output, with_more}
 use Rattle.mkv_outputs.specs.Sinks.{Gives, HaveBeenGiven}
@@ -13,10 +14,15 @@ use Rattle.mkv_outputs.specs.declared.sink.Sink.{Sink}
 use Rattle.mkv_outputs.proofs.GivenLemmas.{HaveBeenGiven-part}
 use Rattle.mkv_outputs.proofs.OutputsLemmas.{with_more-none, with_more-twice}
 use Rattle.mkv_outputs.proofs.StartsLemmas.{StandsInPart-more}
-use Rattle.extractors.specs.Content.{counted, entries_from, entry_of}
+use Rattle.cluster_reader.specs.Takes.{IsKnownByHead}
+use Rattle.extractors.specs.Content.{counted, entries_from, entry_of, whole, written_of}
 use Rattle.block_records.specs.Buffered.{Buffered, block_of}
 use Rattle.block_records.specs.declared.head.BlockHead.{BlockHead}
+use Rattle.block_records.proofs.FrontLemmas.{length-frames_cut}
 use Rattle.extractors.specs.Frames.{Frame, frames_from, frames_in}
+use Rattle.extractors.specs.Times.{time_line}
+use Rattle.extractors.specs.declared.frame_form.FrameForm.{FrameForm}
+use Rattle.extractors.specs.declared.frame_form.FrameForm.TheVariants as form
 use Rattle.extractors.specs.declared.track_output.TrackOutput.{TrackOutput}
 use Rattle.extractors.proofs.ContentLemmas.{entry_of-counted}
 
@@ -138,12 +144,13 @@ unfolding entries_left
 entries_left-none o number step time duration sizes body i at all = ap (λ (ss : List ℕ). entries_from o (number + i) (frames_from step time duration i (frames_cut ss (drop at body)))) (drop_all i sizes all)
 
 -- a block has as many frames as sizes
-length-frames_from : (step : ℕ) (time : ℤ) (duration i : ℕ) (sizes body : List ℕ) → length (frames_from step time duration i (frames_cut sizes body)) ≡ length sizes
-length-frames_from step time duration i [] body = refl
-length-frames_from step time duration i (s ∷ ss) body = ap suc (length-frames_from step time duration (i + 1) ss (drop s body))
+length-frames_from : (step : ℕ) (time : ℤ) (duration i : ℕ) (frames : List (List ℕ)) → length (frames_from step time duration i frames) ≡ length frames
+length-frames_from step time duration i [] = refl
+length-frames_from step time duration i (octets ∷ rest) = ap suc (length-frames_from step time duration (i + 1) rest)
 
 pub length-frames_in : (step : ℕ) (b : Buffered) (sizes : List ℕ) → sizes ≡ b.sizes → length (frames_in step (block_of b)) ≡ length sizes
-length-frames_in step b sizes same = length-frames_from step b.head.time (unwrap_or b.head.duration 0) 0 b.sizes b.body ∙ ap length (sym same)
+length-frames_in step b sizes same =
+    length-frames_from step b.head.time (unwrap_or b.head.duration 0) 0 (frames_cut b.sizes b.body) ∙ length-frames_cut b.sizes b.body ∙ ap length (sym same)
 
 -- the sizes that are left add up to the octets that are left
 pub rest-next : (sizes : List ℕ) (i at size total : ℕ) → i < length sizes → size ≡ get_or sizes i 0 → at + sum (drop i sizes) ≡ total → (at + size) + sum (drop (i + 1) sizes) ≡ total
@@ -154,3 +161,52 @@ rest-next sizes i at size total below is whole =
   where
     one_more : (n : ℕ) → n + 1 ≡ suc n
     one_more n = omega arith
+
+-- ---- the times of the frames of a block
+
+-- the lines of so many frames from the i-th on
+pub times_left : ℕ → ℤ → ℕ → ℕ → List ℕ
+times_left step time i zero = []
+times_left step time i (suc n) = time_line (time +ℤ pos (i * step)) ++ times_left step time (i + 1) n
+
+-- the next line is the first of them
+pub times_left-next : (step : ℕ) (time : ℤ) (i n : ℕ) → i < n → times_left step time i (n - i) ≡ time_line (time +ℤ pos (i * step)) ++ times_left step time (i + 1) (n - (i + 1))
+unfolding times_left
+times_left-next step time i n below = ap (times_left step time i) (one n i below)
+  where
+    one : (n i : ℕ) → i < n → n - i ≡ suc (n - (i + 1))
+    one n i below = omega (arith, below)
+
+-- and at last there is none
+pub times_left-none : (step : ℕ) (time : ℤ) (i n : ℕ) → n ≤ i → times_left step time i (n - i) ≡ []
+unfolding times_left
+times_left-none step time i n all = ap (times_left step time i) (none n i all)
+  where
+    none : (n i : ℕ) → n ≤ i → n - i ≡ 0
+    none n i all = omega (arith, all)
+
+-- a time is all that is written of a frame
+entry-time : (o : TrackOutput) (n : ℕ) (f : Frame) → o.form ≡ form.Time → entry_of o n f ≡ time_line f.time
+entry-time o n f is = ap (λ (kind : FrameForm). unwrap_or (written_of kind n f (whole o.prefix f)) []) is
+
+-- what is written of frames hangs on how many there are
+times-from : (o : TrackOutput) (number step : ℕ) (time : ℤ) (duration i : ℕ) (frames : List (List ℕ)) → o.form ≡ form.Time → times_left step time i (length frames) ≡ entries_from o number (frames_from step time duration i frames)
+unfolding times_left
+times-from o number step time duration i [] is = refl
+times-from o number step time duration i (octets ∷ rest) is =
+    ap (λ (lines : List ℕ). time_line (time +ℤ pos (i * step)) ++ lines) (times-from o (number + 1) step time duration (i + 1) rest is)
+    ∙ ap (λ (line : List ℕ). line ++ entries_from o (number + 1) (frames_from step time duration (i + 1) rest)) (sym (entry-time o number (framed octets (time +ℤ pos (i * step)) duration) is))
+
+-- of a block of which this is known
+pub times-block : (o : TrackOutput) (number : ℕ) (head : BlockHead) (n : ℕ) (b : Block) (lent : Buffered) → o.form ≡ form.Time → head ≡ lent.head → n ≡ lent.frames → IsKnownByHead b lent → times_left o.step head.time 0 (n - 0) ≡ entries_from o number (frames_in o.step b)
+times-block o number head n b lent is heads count known =
+    ap (λ (h : BlockHead). times_left o.step h.time 0 (n - 0)) (heads ∙ sym known.head)
+    ∙ ap (times_left o.step b.time 0) (less_none n ∙ count ∙ sym known.frames)
+    ∙ times-from o number o.step b.time (unwrap_or b.duration 0) 0 b.frames is
+  where
+    less_none : (n : ℕ) → n - 0 ≡ n
+    less_none n = omega arith
+
+-- as many as it has
+pub length-times : (step n : ℕ) (b : Block) (lent : Buffered) → n ≡ lent.frames → IsKnownByHead b lent → length (frames_in step b) ≡ n
+length-times step n b lent count known = length-frames_from step b.time (unwrap_or b.duration 0) 0 b.frames ∙ known.frames ∙ sym count

@@ -7,6 +7,7 @@ pub mod FramesLemmas
 pub mod JobLemmas
 pub mod MakeLemmas
 pub mod TargetLemmas
+pub mod TakesLemmas
 pub mod UnitsLemmas
 pub mod WalkLemmas
 pub mod ContentLemmas

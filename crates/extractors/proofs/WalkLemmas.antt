@@ -1,5 +1,5 @@
 -- A walk over the blocks of a file that is open while outputs are written.
-use Rattle.std.proofs.Common.{◌≡◌, ℕ, ◌+◌, ◌≤◌, List, [], ◌∷◌, ◌++◌, length, Bool, true, false, refl, sym, ◌∙◌, ap, subst, append_assoc, append-nil, arith}
+use Rattle.std.proofs.Common.{◌≡◌, ℕ, ◌+◌, ◌*◌, ◌≤◌, List, [], ◌∷◌, ◌++◌, length, Bool, true, false, Result, Ok, Err, IsErr, refl, sym, ◌∙◌, ap, subst, append_assoc, append-nil, arith}
 use Rattle.std.proofs.Math.ListN.{replicate}
 use Rattle.mkv_io.specs.declared.damage.Damage.{Damage}
 use Rattle.mkv_io.specs.Names.{AreOthers, Names}
@@ -10,7 +10,7 @@ use Rattle.mkv_io.specs.declared.files.Files as writing
 use Rattle.mkv_io.proofs.WritingLemmas.{KeepsOthers-none, KeepsOthers-then}
 use Rattle.block_format.specs.Block.{Block}
 use Rattle.block_format.specs.Events.{Event, block, blocks_of, damages_of}
-use Rattle.cluster_reader.specs.Reading.{Reading, damage_event, paid}
+use Rattle.cluster_reader.specs.Reading.{damage_event}
 use Rattle.cluster_reader.specs.ToldDamages.{ToldDamages, told_damages, with_damage}
 use Rattle.cluster_reader.proofs.ToldDamagesLemmas.{with_damage-told}
 use Rattle.mkv_outputs.specs.Outputs.{Output}
@@ -20,10 +20,14 @@ use Rattle.mkv_outputs.specs.declared.sink.Sink.{Sink}
 use Rattle.mkv_outputs.proofs.FilesLemmas.{AreOpen-kept}
 use Rattle.mkv_outputs.proofs.GivenLemmas.{HaveBeenGiven-part, holders_of-kept}
 use Rattle.mkv_outputs.proofs.StartsLemmas.{StandsInPart-then}
+use Rattle.extractors.specs.BadFrames.{TellsMore, bad_frames, bad_in, told_of}
 use Rattle.extractors.specs.Content.{outputs_of}
+use Rattle.extractors.specs.declared.extracted.Extracted.{Extracted}
 use Rattle.extractors.specs.declared.track_output.TrackOutput.{TrackOutput}
+use Rattle.extractors.proofs.BadFramesLemmas.{told_of-is}
+use Rattle.extractors.proofs.CodecLemmas.{bad_frames-more}
 use Rattle.extractors.proofs.ContentLemmas.{outputs_of-begun}
-use Rattle.extractors.specs.Walks.{HaveBlocks, WritesAndReads, numbers_after}
+use Rattle.extractors.specs.Walks.{HaveBlocks, ReadsFew, WritesAndReads, numbers_after}
 
 -- ---- the events of a file
 
@@ -125,6 +129,64 @@ pub Given-ends : {S : Type 0} (f : writing.Ghosts S) (list : List TrackOutput) (
 Given-ends f list a b sinks now numbers passed all gave same since has =
     subst (λ (bs : List Block). HaveBeenGiven since (f.names b) (f.holder b) now (outputs_of list bs)) same (gave since has).given
 
+-- ---- what was met, given and told
+
+-- What was met of a file was given to outputs, and its damages and bad frames were told; this is left.
+pub record MetSoFar {S : Type 0} (f : writing.Ghosts S) (list : List TrackOutput) (old new : S) (sinks later : List Sink) (numbers : List ℕ) (all left : List Event) (damages bad : ToldDamages) : Type 0 where
+  pub passed : List Block
+  pub has : Given f list old new sinks later numbers passed
+  pub met : MetUpTo all left passed damages
+  pub told : bad ≡ told_damages (bad_frames list passed)
+
+pub MetSoFar-begins : {S : Type 0} (f : writing.Ghosts S) (list : List TrackOutput) (files : S) (sinks : List Sink) (numbers : List ℕ) (all : List Event) (damages bad : ToldDamages) → numbers ≡ replicate (length list) 1 → damages ≡ told_damages [] → bad ≡ told_damages [] → MetSoFar f list files files sinks sinks numbers all all damages bad
+MetSoFar-begins f list files sinks numbers all damages bad ones none good =
+    record { passed = []; has = Given-none f list files sinks numbers ones; met = MetUpTo-begins all damages none; told = good }
+
+-- the cursor went on
+pub MetSoFar-read : {S : Type 0} (f : writing.Ghosts S) (list : List TrackOutput) (a b c : S) (sinks now : List Sink) (numbers : List ℕ) (all left : List Event) (damages bad : ToldDamages) → MetSoFar f list a b sinks now numbers all left damages bad → f.names c ≡ f.names b → ((file : ℕ) → f.holder c file ≡ f.holder b file) → MetSoFar f list a c sinks now numbers all left damages bad
+MetSoFar-read f list a b c sinks now numbers all left damages bad so names holders = record {
+  passed = so.passed;
+  has = Given-read f list a b c sinks now numbers so.passed so.has names holders;
+  met = so.met;
+  told = so.told;
+}
+
+-- it gave a block, which the outputs were given
+pub MetSoFar-block : {S : Type 0} (f : writing.Ghosts S) (list : List TrackOutput) (a b c : S) (sinks now later : List Sink) (numbers next : List ℕ) (all left behind : List Event) (damages bad more : ToldDamages) (given : Block) → MetSoFar f list a b sinks now numbers all left damages bad → left ≡ block given ∷ behind → ((since : Names) (blocks : List Block) → HaveBlocks f since list b now numbers blocks → HaveBlocks f since list c later next (blocks ++ given ∷ [])) → TellsMore bad more (bad_in list given) → MetSoFar f list a c sinks later next all behind damages more
+MetSoFar-block f list a b c sinks now later numbers next all left behind damages bad more given so is gives tells = record {
+  passed = so.passed ++ given ∷ [];
+  has = Given-more f list a b c sinks now later numbers next so.passed given so.has gives;
+  met = MetUpTo-block all left behind so.passed damages given so.met is;
+  told = tells (bad_frames list so.passed) so.told ∙ ap told_damages (sym (bad_frames-more list so.passed given));
+}
+
+-- or a damage
+pub MetSoFar-damage : {S : Type 0} (f : writing.Ghosts S) (list : List TrackOutput) (a b : S) (sinks now : List Sink) (numbers : List ℕ) (all left behind : List Event) (damages bad more : ToldDamages) (last : Bool) (d : Damage) → MetSoFar f list a b sinks now numbers all left damages bad → left ≡ damage_event last d ∷ behind → more ≡ with_damage damages d → MetSoFar f list a b sinks now numbers all behind more bad
+MetSoFar-damage f list a b sinks now numbers all left behind damages bad more last d so is adds =
+    record { passed = so.passed; has = so.has; met = MetUpTo-damage all left behind so.passed damages more last d so.met is adds; told = so.told }
+
+-- what was given so far stands in part of all
+pub MetSoFar-begun : {S : Type 0} (f : writing.Ghosts S) (list : List TrackOutput) (a b : S) (sinks now : List Sink) (numbers : List ℕ) (all left : List Event) (damages bad : ToldDamages) → MetSoFar f list a b sinks now numbers all left damages bad → (since : Names) → HaveBeenGiven since (f.names a) (f.holder a) sinks (outputs_of list []) → StandsInPart since (f.names b) (outputs_of list (blocks_of all))
+MetSoFar-begun f list a b sinks now numbers all left damages bad so =
+    Given-begun f list a b sinks now numbers so.passed (blocks_of all) so.has (MetUpTo-begun list all left so.passed damages so.met)
+
+-- and so does a block that was refused
+pub MetSoFar-part : {S : Type 0} (f : writing.Ghosts S) (list : List TrackOutput) (a b c : S) (sinks now : List Sink) (numbers : List ℕ) (all left behind : List Event) (damages bad : ToldDamages) (given : Block) → MetSoFar f list a b sinks now numbers all left damages bad → left ≡ block given ∷ behind → ((since : Names) (blocks : List Block) → HaveBlocks f since list b now numbers blocks → StandsInPart since (f.names c) (outputs_of list (blocks ++ given ∷ []))) → (since : Names) → HaveBeenGiven since (f.names a) (f.holder a) sinks (outputs_of list []) → StandsInPart since (f.names c) (outputs_of list (blocks_of all))
+MetSoFar-part f list a b c sinks now numbers all left behind damages bad given so is part =
+    Given-part f list a b c sinks now numbers so.passed given (blocks_of all) so.has part
+    (MetUpTo-begun list all behind (so.passed ++ given ∷ []) damages (MetUpTo-block all left behind so.passed damages given so.met is))
+
+-- at the end all was given
+pub MetSoFar-ends : {S : Type 0} (f : writing.Ghosts S) (list : List TrackOutput) (a b : S) (sinks now : List Sink) (numbers : List ℕ) (all left : List Event) (damages bad : ToldDamages) → MetSoFar f list a b sinks now numbers all left damages bad → left ≡ [] → (since : Names) → HaveBeenGiven since (f.names a) (f.holder a) sinks (outputs_of list []) → HaveBeenGiven since (f.names b) (f.holder b) now (outputs_of list (blocks_of all))
+MetSoFar-ends f list a b sinks now numbers all left damages bad so none =
+    Given-ends f list a b sinks now numbers so.passed (blocks_of all) so.has (MetUpTo-blocks all left so.passed damages so.met none)
+
+-- and told
+pub MetSoFar-told : {S : Type 0} (f : writing.Ghosts S) (list : List TrackOutput) (a b : S) (sinks now : List Sink) (numbers : List ℕ) (all left : List Event) (told : Extracted) → MetSoFar f list a b sinks now numbers all left told.damages told.bad_frames → left ≡ [] → told ≡ told_of list all
+MetSoFar-told f list a b sinks now numbers all left told so none =
+    told_of-is list all told (MetUpTo-damages all left so.passed told.damages so.met none)
+    (so.told ∙ ap (λ (blocks : List Block). told_damages (bad_frames list blocks)) (MetUpTo-blocks all left so.passed told.damages so.met none))
+
 -- ---- the files
 
 -- nothing was done yet
@@ -175,11 +237,11 @@ WritesAndReads-write r f a b c sinks now later open_before walks wrote = record 
 
 -- ---- how much is read
 
--- the way that a call went pays for what it read
-pub pays-next : (before mid now first old new : ℕ) → mid + first ≤ before + old → now + old ≤ mid + new → now + first ≤ before + new
-pays-next before mid now first old new so more = omega arith
+-- the file's length pays for all that was read, and once more for a call that failed
+pub ReadsFew-all : {T E : Type 0} (size before now : ℕ) (result : Result T E) → now ≤ before + size → ReadsFew size before now result
+ReadsFew-all size before now (Ok done) few = few
+ReadsFew-all size before now (Err end) few = omega (arith, few)
 
--- the same, by the size of the file as it is
-pub pays-step : (size here before mid now first : ℕ) (old new : Reading) → here ≡ size → mid + first ≤ before + paid size old → now + paid here old ≤ mid + paid here new → now + first ≤ before + paid size new
-pays-step size here before mid now first old new is so more =
-    pays-next before mid now first (paid size old) (paid size new) so (subst (λ (n : ℕ). now + paid n old ≤ mid + paid n new) is more)
+pub ReadsFew-err : {T E : Type 0} (size before now : ℕ) (result : Result T E) → IsErr result → now ≤ before + 2 * size → ReadsFew size before now result
+ReadsFew-err size before now (Ok done) is few = absurd (cc)
+ReadsFew-err size before now (Err end) is few = few

@@ -1,6 +1,7 @@
 pub mod Attached
 pub mod Cues
 pub mod Source
+pub mod Takes
 pub mod Walks
 pub mod Chapters
 pub mod BadFrames

@@ -81,7 +81,7 @@ pub record WritesAndReads {S : Type 0} (r : Ghosts S) (f : writing.Ghosts S) (ol
   pub outputs : AreOpen r new later
   pub kept : KeepsOthers r f (names_under f old sinks) old new
 
--- At most four octets are read for each of a file, and two more for each where the call fails.
+-- No octet of a file is read twice, but those that a call which fails has read.
 abbrev pub ReadsFew : {T E : Type 0} → ℕ → ℕ → ℕ → Result T E → Type 0
-ReadsFew size before now (Ok _) = now ≤ before + 4 * size
-ReadsFew size before now (Err _) = now ≤ before + 6 * size
+ReadsFew size before now (Ok _) = now ≤ before + size
+ReadsFew size before now (Err _) = now ≤ before + 2 * size

@@ -6,18 +6,21 @@ ghost use Rattle.mkv_io.specs.Faults.{HasCause, is_make_failure};
 ghost use Rattle.mkv_io.specs.Names.{AreOthers};
 ghost use Rattle.mkv_io.specs.Sources.{IfTold, file_size, live_files};
 ghost use Rattle.mkv_io.specs.Ends.{HasRemuxCause};
+ghost use Rattle.block_format.specs.Block.{Block};
 ghost use Rattle.block_format.specs.Events.{blocks_of};
-ghost use Rattle.block_records.specs.Buffered.{block_of};
 ghost use Rattle.cluster_reader.specs.Reading.{CanRead, left_of};
 ghost use Rattle.extractors.specs.BadFrames.{TellsMore, bad_in, told_of};
 ghost use Rattle.extractors.specs.Content.{counted};
+ghost use Rattle.extractors.specs.Takes.{IsEnoughFor, IsEnoughForAll};
 ghost use Rattle.mkv_outputs.specs.Outputs.{with_more};
 ghost use Rattle.mkv_outputs.specs.Sinks.{AreOpen, Gives, WritesOutputs, names_under};
 ghost use Rattle.extractors.specs.Walks.{GivesBlock, GivesBlocks, IsReady, ReadsFew, WritesAndReads, count_in, piece};
 
 use crate::bad_frames::add_bad_frames;
 use crate::extracted::Extracted;
-use crate::frames::{Scratch, give_frames};
+use crate::frame_form::FrameForm;
+use crate::frames::{Scratch, give_frames, give_times};
+use crate::takes::takes_of;
 use crate::track_output::TrackOutput;
 use cluster_reader::{Cursor, Damages, Step};
 use mkv_io::{Files, MakeFault, RemuxEnd};
@@ -25,7 +28,8 @@ use mkv_outputs::Outputs;
 use std::alloc::Global;
 
 /// Gives a block to the k-th output, whose next frame has this number, and answers the number of the one behind. It takes
-/// the frames of its track.
+/// the frames of its track, or their times. Of a block of another track, and of one whose times are taken, the frames needn't
+/// be there.
 fn give_to<F: Files>(
     outputs: &mut Outputs,
     files: &mut F,
@@ -38,16 +42,20 @@ fn give_to<F: Files>(
     requires below { k < length outputs.old }
     requires open { AreOpen F.Reads files.old outputs.old }
     requires ready { IsReady output.now }
-    ensures gives { Gives F.Files.own files.old files.new outputs.old outputs.new
-        (with_more k (piece output.now number (block_of cursor.now.block))) result }
-    ensures number { IfOk result (λ next. next ≡ counted (number + count_in output.now (block_of cursor.now.block))) }
+    ensures gives { (b : Block) → IsEnoughFor output.now b cursor.now.block
+        → Gives F.Files.own files.old files.new outputs.old outputs.new (with_more k (piece output.now number b)) result }
+    ensures number { (b : Block) → IsEnoughFor output.now b cursor.now.block
+        → IfOk result (λ next. next ≡ counted (number + count_in output.now b)) }
     ensures only { WritesOutputs F.Reads F.Files.own files.old files.new outputs.old outputs.new }
     ensures cause { HasCause is_make_failure (F.writing_faults files.old) (F.writing_faults files.new) result }
 {
     if cursor.head().track != output.track {
         return Ok(number);
     }
-    give_frames(outputs, files, k, output, number, cursor, scratch)
+    match output.form {
+        FrameForm::Time => give_times(outputs, files, k, output, number, cursor, scratch),
+        _ => give_frames(outputs, files, k, output, number, cursor, scratch),
+    }
 }
 
 /// Gives a block to the outputs of its track. The numbers are those of their next frames.
@@ -63,8 +71,8 @@ fn give_block<F: Files>(
     requires numbers { length list.now ≡ length numbers.old.items }
     requires open { AreOpen F.Reads files.old outputs.old }
     requires steps { All IsReady list.now }
-    ensures gives { GivesBlock F.Files.own list.now files.old files.new outputs.old outputs.new
-        numbers.old.items numbers.new.items (block_of cursor.now.block) result }
+    ensures gives { (b : Block) → IsEnoughForAll list.now b cursor.now.block → GivesBlock F.Files.own list.now
+        files.old files.new outputs.old outputs.new numbers.old.items numbers.new.items b result }
     ensures count { length numbers.new.items ≡ length numbers.old.items }
     ensures only { WritesOutputs F.Reads F.Files.own files.old files.new outputs.old outputs.new }
     ensures cause { HasCause is_make_failure (F.writing_faults files.old) (F.writing_faults files.new) result }
@@ -89,10 +97,10 @@ fn take_block<F: Files>(
     requires numbers { length list.now ≡ length numbers.old.items }
     requires open { AreOpen F.Reads files.old outputs.old }
     requires ready { All IsReady list.now }
-    ensures gives { GivesBlock F.Files.own list.now files.old files.new outputs.old outputs.new
-        numbers.old.items numbers.new.items (block_of cursor.now.block) result }
+    ensures gives { (b : Block) → IsEnoughForAll list.now b cursor.now.block → GivesBlock F.Files.own list.now
+        files.old files.new outputs.old outputs.new numbers.old.items numbers.new.items b result }
     ensures count { length numbers.new.items ≡ length numbers.old.items }
-    ensures tells { OnOk result (TellsMore bad.old bad.new (bad_in list.now (block_of cursor.now.block))) }
+    ensures tells { OnOk result ((b : Block) → IsEnoughForAll list.now b cursor.now.block → TellsMore bad.old bad.new (bad_in list.now b)) }
     ensures only { WritesOutputs F.Reads F.Files.own files.old files.new outputs.old outputs.new }
     ensures cause { HasCause is_make_failure (F.writing_faults files.old) (F.writing_faults files.new) result }
 {
@@ -101,7 +109,7 @@ fn take_block<F: Files>(
 }
 
 /// Gives all blocks that a cursor has left to the outputs of their tracks, which have none yet, and answers what is wrong
-/// with the file.
+/// with the file. The frames of blocks that no output takes needn't be read.
 pub fn write_blocks<F: Files>(
     alloc: Global,
     list: &[TrackOutput],
@@ -122,11 +130,12 @@ pub fn write_blocks<F: Files>(
     ensures cause { HasRemuxCause F.Reads F.Files.own files.old files.new result }
     ensures octets { ReadsFew (file_size F.Reads files.old cursor.old.file) (F.octets_read files.old) (F.octets_read files.new) result }
 {
+    let takes = takes_of(list);
     let mut scratch = Scratch::new(alloc);
     let mut numbers = vec![in alloc; 1; list.len()]?;
     let mut told = Extracted::new(alloc)?;
     'steps: loop {
-        match cursor.advance(files)? {
+        match cursor.advance_for(files, takes)? {
             Step::Block => {
                 let bad = &mut told.bad_frames;
                 take_block(

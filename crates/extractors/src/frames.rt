@@ -1,8 +1,10 @@
 //! The frames of one block are written into one output.
 
-ghost use Rattle.std.specs.Prelude.{◌≡◌, ◌<◌, ◌+◌, [], ◌++◌, ◌^◌, length, IfOk, OnOk, unwrap_or};
+ghost use Rattle.std.specs.Prelude.{◌≡◌, ◌≢◌, ◌<◌, ◌+◌, [], ◌++◌, ◌^◌, length, IfOk, OnOk, unwrap_or};
 ghost use Rattle.mkv_io.specs.Faults.{HasCause, is_make_failure};
+ghost use Rattle.block_format.specs.Block.{Block};
 ghost use Rattle.block_records.specs.Buffered.{block_of};
+ghost use Rattle.cluster_reader.specs.Takes.{IsKnownByHead};
 ghost use Rattle.mkv_outputs.specs.Outputs.{with_more};
 ghost use Rattle.mkv_outputs.specs.Sinks.{AreOpen, Gives, WritesOutputs};
 ghost use Rattle.elementary.specs.Aac.{IsAac, adts};
@@ -12,6 +14,7 @@ ghost use Rattle.extractors.specs.Content.{counted, entries_from, entry_of};
 ghost use Rattle.extractors.specs.Frames.{frames_in};
 ghost use Rattle.extractors.specs.Times.{time_line};
 ghost use Rattle.extractors.specs.Walks.{frame_of, text_entry};
+ghost use Rattle.extractors.specs.declared.frame_form.FrameForm.TheVariants as form;
 
 use crate::frame_form::FrameForm;
 use crate::times::{frame_time, push_time};
@@ -70,7 +73,7 @@ pub(crate) fn whole<'a>(
 }
 
 /// Gives the frames of a block to the k-th output, of which the first has this number among those of its track, and
-/// answers the number of the next. The scratch is of no use before and afterwards.
+/// answers the number of the next. The output has their octets. The scratch is of no use before and afterwards.
 pub fn give_frames<F: Files>(
     outputs: &mut Outputs,
     files: &mut F,
@@ -84,6 +87,7 @@ pub fn give_frames<F: Files>(
     requires open { AreOpen F.Reads files.old outputs.old }
     requires step { output.now.step < 2 ^ 48 }
     requires can { CanWrite output.now.form }
+    requires octets { output.now.form ≢ form.Time }
     ensures gives { Gives F.Files.own files.old files.new outputs.old outputs.new
         (with_more k (entries_from output.now number (frames_in output.now.step (block_of cursor.now.block)))) result }
     ensures number { IfOk result (λ next. next ≡ counted (number + length (frames_in output.now.step (block_of cursor.now.block)))) }
@@ -107,7 +111,37 @@ pub fn give_frames<F: Files>(
     Ok(number.saturating_add(sizes.len() as u64))
 }
 
-/// Gives a frame to the k-th output; nothing of a bad one.
+/// Gives the times of the frames of a block to the k-th output, which has nothing else of them, and of which the first has this
+/// number, and answers the number of the next. The frames needn't be there.
+pub fn give_times<F: Files>(
+    outputs: &mut Outputs,
+    files: &mut F,
+    k: usize,
+    output: &TrackOutput,
+    number: u64,
+    cursor: &Cursor,
+    scratch: &mut Scratch,
+) -> Result<u64, MakeFault>
+    requires below { k < length outputs.old }
+    requires open { AreOpen F.Reads files.old outputs.old }
+    requires step { output.now.step < 2 ^ 48 }
+    requires times { output.now.form ≡ form.Time }
+    ensures gives { (b : Block) → IsKnownByHead b cursor.now.block → Gives F.Files.own files.old files.new outputs.old outputs.new
+        (with_more k (entries_from output.now number (frames_in output.now.step b))) result }
+    ensures number { (b : Block) → IsKnownByHead b cursor.now.block
+        → IfOk result (λ next. next ≡ counted (number + length (frames_in output.now.step b))) }
+    ensures only { WritesOutputs F.Reads F.Files.own files.old files.new outputs.old outputs.new }
+    ensures cause { HasCause is_make_failure (F.writing_faults files.old) (F.writing_faults files.new) result }
+{
+    let (head, frames) = (cursor.head(), cursor.frames());
+    for i in 0..frames {
+        let time = frame_time(head, i as usize, output.step);
+        give_time(outputs, files, k, time, &mut scratch.line)?;
+    }
+    Ok(number.saturating_add(frames as u64))
+}
+
+/// Gives a frame to the k-th output, which has its octets; nothing of a bad one.
 fn give_frame<F: Files>(
     outputs: &mut Outputs,
     files: &mut F,
@@ -119,6 +153,7 @@ fn give_frame<F: Files>(
     requires below { k < length outputs.old }
     requires open { AreOpen F.Reads files.old outputs.old }
     requires can { CanWrite output.now.form }
+    requires octets { output.now.form ≢ form.Time }
     ensures gives { Gives F.Files.own files.old files.new outputs.old outputs.new
         (with_more k (entry_of output.now frame.entry.number (frame_of frame.entry))) result }
     ensures only { WritesOutputs F.Reads F.Files.own files.old files.new outputs.old outputs.new }
@@ -140,7 +175,7 @@ fn give_frame<F: Files>(
             )
         }
         FrameForm::Adts { aac } => give_headed(outputs, files, k, prefix, frame.octets, &aac),
-        FrameForm::Time => give_time(outputs, files, k, frame.time, &mut scratch.line),
+        FrameForm::Time => unreachable!(),
     }
 }
 

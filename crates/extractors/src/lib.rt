@@ -19,6 +19,7 @@ mod limits;
 mod lines;
 mod reading;
 mod source;
+mod takes;
 mod times;
 mod track_output;
 mod whole;

@@ -11,15 +11,15 @@ abbrev pub most_of_cues : Job → ℕ → ℕ
 most_of_cues (jobs.Cues list) octets = octets
 most_of_cues job octets = 0
 
--- what may be read of it before its blocks: besides, its outline four times, Info, Tracks, Chapters and Tags once each, and
+-- what may be read of it before its blocks: besides, its outline twice, Info, Tracks, Chapters and Tags once each, and
 -- what names its attached files, but none of their data
 abbrev pub most_before : Job → ℕ → ℕ
-most_before job octets = 8 * octets + min (16 * octets) (2 * MOST_OF_ATTACHMENTS) + most_of_cues job octets
+most_before job octets = 6 * octets + min (16 * octets) (2 * MOST_OF_ATTACHMENTS) + most_of_cues job octets
 
--- what may be read of its blocks and of the data of its attached files: six times the file for tracks, however many, and the
--- file for each attached file that is taken
+-- what may be read of its blocks and of the data of its attached files: twice the file for tracks, however many, and the file
+-- for each attached file that is taken
 abbrev pub most_of_content : Job → ℕ → ℕ
-most_of_content (jobs.Tracks form list) octets = 6 * octets
+most_of_content (jobs.Tracks form list) octets = 2 * octets
 most_of_content (jobs.Attachments list) octets = length list * octets
 most_of_content job octets = 0
 

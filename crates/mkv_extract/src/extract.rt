@@ -202,7 +202,7 @@ fn extract_fit<F: Files, P: Report>(
     ensures cause { HasStopCause
         (seen F.Reads F.writing_faults F.names P.Report files.old report.old).counts
         (seen F.Reads F.writing_faults F.names P.Report files.new report.new).counts result }
-    ensures octets { F.octets_read files.new ≤ F.octets_read files.old + 6 * file_size F.Reads files.old source.now.file }
+    ensures octets { F.octets_read files.new ≤ F.octets_read files.old + 2 * file_size F.Reads files.old source.now.file }
 {
     match job_refusal(alloc, job, source.tracks.as_slice()) {
         Ok(None) => extract_source(alloc, name, job, source, files, report),
@@ -246,7 +246,7 @@ fn extract_source<F: Files, P: Report>(
     ensures cause { HasStopCause
         (seen F.Reads F.writing_faults F.names P.Report files.old report.old).counts
         (seen F.Reads F.writing_faults F.names P.Report files.new report.new).counts result }
-    ensures octets { F.octets_read files.new ≤ F.octets_read files.old + 6 * file_size F.Reads files.old source.now.file }
+    ensures octets { F.octets_read files.new ≤ F.octets_read files.old + 2 * file_size F.Reads files.old source.now.file }
 {
     let targets = targets_of(job);
     let count = source.tracks.len() as u64;

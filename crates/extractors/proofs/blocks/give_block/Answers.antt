@@ -1,20 +1,20 @@
 use Rattle.std.proofs.Common.{◌<◌, ℕ, List, length, subst, sym, ap, refl, ◌∙◌, arith}
 use Rattle.std.proofs.Math.ListN.{set}
 use Rattle.std.proofs.lemmas.List.{length-set}
-use Rattle.block_records.specs.Buffered.{block_of}
 use Rattle.mkv_outputs.specs.Sinks.{HaveBeenGiven}
 use Rattle.mkv_outputs.specs.Starts.{StandsInPart}
 use Rattle.mkv_outputs.proofs.FilesLemmas.{WritesOutputs-none, WritesOutputs-then}
 use Rattle.mkv_outputs.proofs.GivenLemmas.{length-same}
 use Rattle.mkv_outputs.proofs.StartsLemmas.{StandsInPart-then}
 use Rattle.extractors.proofs.BlocksLemmas.{GivesBlock-err, given_upto, given_upto-all, given_upto-begun, given_upto-more, given_upto-none, numbers_upto-all, numbers_upto-more, numbers_upto-none, numbers-at}
+use Rattle.extractors.proofs.TakesLemmas.{enough-at}
 use Rattle.extractors.proofs.blocks.give_block.Goals as goal
 
 -- no output was given it yet
 pub loop-k-init : goal.loop-k-init
 loop-k-init g c = record {
-  has = λ since blocks has. subst (HaveBeenGiven since (g.F.Files.names c.args.files.now) (g.F.Files.holder c.args.files.now) c.args.outputs.now) (sym (given_upto-none c.args.list.now blocks (block_of c.args.cursor.now.block))) has.given;
-  numbers = λ blocks is. is ∙ sym (numbers_upto-none c.args.list.now blocks (block_of c.args.cursor.now.block));
+  has = λ b enough since blocks has. subst (HaveBeenGiven since (g.F.Files.names c.args.files.now) (g.F.Files.holder c.args.files.now) c.args.outputs.now) (sym (given_upto-none c.args.list.now blocks b)) has.given;
+  numbers = λ b enough blocks is. is ∙ sym (numbers_upto-none c.args.list.now blocks b);
   kept = refl;
   count = refl;
   wrote = WritesOutputs-none g.F.Reads g.F.Files c.args.files.now c.args.outputs.now c.requires.open;
@@ -24,22 +24,22 @@ loop-k-init g c = record {
 -- one more was
 pub loop-k-preserved : goal.loop-k-preserved
 loop-k-preserved g c =
-    let b = block_of c.args.cursor.now.block in
     let k = c.loop-k.k in
     let list = c.args.list.now in
     let o = c.index-list-k.result in
     let n : ℕ = c.index.result.now in
     let below : k < length list = omega (arith, c.loop-k-test.true) in
     record {
-      has = λ since blocks had.
-          let named = numbers-at c.loop-k.numbers.items k n list o blocks b (c.loop-k.invariant.numbers blocks had.next) below c.index-list-k.is c.index.ensures in
+      has = λ b enough since blocks had.
+          let named = numbers-at c.loop-k.numbers.items k n list o blocks b (c.loop-k.invariant.numbers b enough blocks had.next) below c.index-list-k.is c.index.ensures in
           subst (HaveBeenGiven since (g.F.Files.names c.give_to.new.files) (g.F.Files.holder c.give_to.new.files) c.give_to.new.outputs)
           (given_upto-more k list o n blocks b below c.index-list-k.is named)
-          (c.in_ok-numbers.ensures.gives since (given_upto k list blocks b) (c.loop-k.invariant.has since blocks had));
-      numbers = λ blocks is.
-          let here = c.loop-k.invariant.numbers blocks is in
+          (c.in_ok-numbers.ensures.gives b (enough-at list k o b c.args.cursor.now.block below c.index-list-k.is enough.each) since (given_upto k list blocks b) (c.loop-k.invariant.has b enough since blocks had));
+      numbers = λ b enough blocks is.
+          let here = c.loop-k.invariant.numbers b enough blocks is in
           ap (λ (ns : List ℕ). set ns k c.in_ok-numbers.field-0) here
-          ∙ numbers_upto-more k list o n c.in_ok-numbers.field-0 blocks b below c.index-list-k.is (numbers-at c.loop-k.numbers.items k n list o blocks b here below c.index-list-k.is c.index.ensures) c.in_ok-numbers.ensures.number;
+          ∙ numbers_upto-more k list o n c.in_ok-numbers.field-0 blocks b below c.index-list-k.is (numbers-at c.loop-k.numbers.items k n list o blocks b here below c.index-list-k.is c.index.ensures)
+          (c.in_ok-numbers.ensures.number b (enough-at list k o b c.args.cursor.now.block below c.index-list-k.is enough.each));
       kept = length-set c.loop-k.numbers.items k c.in_ok-numbers.field-0 ∙ c.loop-k.invariant.kept;
       count = length-same c.loop-k.outputs c.give_to.new.outputs c.give_to.ensures.only.same ∙ c.loop-k.invariant.count;
       wrote = WritesOutputs-then g.F.Reads g.F.Files c.args.files.now c.loop-k.files c.give_to.new.files c.args.outputs.now c.loop-k.outputs c.give_to.new.outputs c.requires.open c.loop-k.invariant.wrote c.give_to.ensures.only;
@@ -49,18 +49,17 @@ loop-k-preserved g c =
 -- one was given it in part
 pub returns-in_err-numbers-clause-gives : goal.returns-in_err-numbers-clause-gives
 returns-in_err-numbers-clause-gives g c =
-    let b = block_of c.args.cursor.now.block in
     let k = c.loop-k.k in
     let list = c.args.list.now in
     let o = c.index-list-k.result in
     let n : ℕ = c.index.result.now in
     let below : k < length list = omega (arith, c.loop-k-test.true) in
-    GivesBlock-err g.F.Files list _ _ _ _ _ _ _ c.from_residual.result c.from_residual.ensures.0
+    λ b enough. GivesBlock-err g.F.Files list _ _ _ _ _ _ b c.from_residual.result c.from_residual.ensures.0
     (λ since blocks had.
-    let named = numbers-at c.loop-k.numbers.items k n list o blocks b (c.loop-k.invariant.numbers blocks had.next) below c.index-list-k.is c.index.ensures in
+    let named = numbers-at c.loop-k.numbers.items k n list o blocks b (c.loop-k.invariant.numbers b enough blocks had.next) below c.index-list-k.is c.index.ensures in
     StandsInPart-then since _ _ _
     (subst (StandsInPart since (g.F.Files.names c.give_to.new.files)) (given_upto-more k list o n blocks b below c.index-list-k.is named)
-    (c.in_err-numbers.ensures.gives since (given_upto k list blocks b) (c.loop-k.invariant.has since blocks had)))
+    (c.in_err-numbers.ensures.gives b (enough-at list k o b c.args.cursor.now.block below c.index-list-k.is enough.each) since (given_upto k list blocks b) (c.loop-k.invariant.has b enough since blocks had)))
     (given_upto-begun _ list blocks b))
 
 -- what was written until one was refused
@@ -70,11 +69,10 @@ returns-in_err-numbers-clause-only g c =
 
 -- all were given it
 pub returns-clause-gives : goal.returns-clause-gives
-returns-clause-gives g c = λ since blocks had.
-    let b = block_of c.args.cursor.now.block in
+returns-clause-gives g c = λ b enough since blocks had.
     record {
       given = subst (HaveBeenGiven since (g.F.Files.names c.loop-k.files) (g.F.Files.holder c.loop-k.files) c.loop-k.outputs)
           (given_upto-all c.loop-k.k c.args.list.now blocks b (omega (arith, c.loop-k-test.false)))
-          (c.loop-k.invariant.has since blocks had);
-      next = c.loop-k.invariant.numbers blocks had.next ∙ numbers_upto-all c.loop-k.k c.args.list.now blocks b (omega (arith, c.loop-k-test.false));
+          (c.loop-k.invariant.has b enough since blocks had);
+      next = c.loop-k.invariant.numbers b enough blocks had.next ∙ numbers_upto-all c.loop-k.k c.args.list.now blocks b (omega (arith, c.loop-k-test.false));
     }

@@ -1,5 +1,4 @@
 use Rattle.std.proofs.Common.{[], ◌∷◌, ◌++◌}
-use Rattle.block_records.specs.Buffered.{block_of}
 use Rattle.mkv_outputs.proofs.GivenLemmas.{HaveBeenGiven-part}
 use Rattle.mkv_outputs.proofs.StartsLemmas.{StandsInPart-then}
 use Rattle.extractors.specs.Content.{outputs_of}
@@ -11,8 +10,7 @@ use Rattle.extractors.proofs.blocks.take_block.Goals as goal
 -- there is no memory to put a frame together, and nothing was written
 pub returns-in_err-add_bad_frames-clause-gives : goal.returns-in_err-add_bad_frames-clause-gives
 returns-in_err-add_bad_frames-clause-gives g c =
-    let b = block_of c.args.cursor.now.block in
-    GivesBlock-err g.F.Files c.args.list.now _ _ _ _ _ _ _ c.from_residual.result c.from_residual.ensures.0
+    λ b enough. GivesBlock-err g.F.Files c.args.list.now _ _ _ _ _ _ b c.from_residual.result c.from_residual.ensures.0
     (λ since blocks had.
     StandsInPart-then since (g.F.Files.names c.args.files.now) (outputs_of c.args.list.now blocks) (outputs_of c.args.list.now (blocks ++ b ∷ []))
     (HaveBeenGiven-part since (g.F.Files.names c.args.files.now) (g.F.Files.holder c.args.files.now) c.args.outputs.now (outputs_of c.args.list.now blocks) had.given)

@@ -1,0 +1,60 @@
+//! Which blocks of a file outputs take.
+
+ghost use Rattle.std.specs.Prelude.{◌≡◌, ◌==◌};
+ghost use Rattle.std.specs.List.{list_all};
+ghost use Rattle.extractors.specs.Takes.{is_of_times, of_one_track, takes_of};
+ghost use Rattle.extractors.specs.declared.track_output.TrackOutput.{TrackOutput as OutputSeen};
+
+use crate::frame_form::FrameForm;
+use crate::track_output::TrackOutput;
+use cluster_reader::Takes;
+
+/// Whether times alone are written of frames, and not their octets.
+fn is_of_times(form: &FrameForm) -> bool
+    ensures { result ≡ is_of_times form.now }
+{
+    match form {
+        FrameForm::Time => true,
+        FrameForm::Plain | FrameForm::SubRip | FrameForm::AnnexB { .. } | FrameForm::Adts { .. } =>
+            false,
+    }
+}
+
+/// Whether times alone are written into each output.
+fn are_of_times(list: &[TrackOutput]) -> bool
+    ensures { result ≡ list_all (λ (o : OutputSeen). is_of_times o.form) list.now }
+{
+    list.iter().all(|output| is_of_times(&output.form))
+}
+
+/// Whether all outputs are of this track.
+fn are_of_track(list: &[TrackOutput], track: u64) -> bool
+    ensures { result ≡ list_all (λ (o : OutputSeen). o.track == track) list.now }
+{
+    list.iter().all(|output| output.track == track)
+}
+
+/// The blocks of the track that all outputs take; where they take more than one, all blocks.
+fn of_one_track(list: &[TrackOutput]) -> Takes
+    ensures { result ≡ of_one_track list.now }
+{
+    let Some((first, others)) = list.split_first() else {
+        return Takes::All;
+    };
+    if are_of_track(others, first.track) {
+        Takes::Track(first.track)
+    } else {
+        Takes::All
+    }
+}
+
+/// The blocks that outputs take: no frames, where each output has times alone.
+pub fn takes_of(list: &[TrackOutput]) -> Takes
+    ensures { result ≡ takes_of list.now }
+{
+    if are_of_times(list) {
+        Takes::Heads
+    } else {
+        of_one_track(list)
+    }
+}
