@@ -1,15 +1,17 @@
 -- The octets of a block, part by part.
-use Rattle.std.proofs.Common.{◌≡◌, ◌≤◌, ◌<◌, ℕ, ℤ, pos, ◌+◌, List, [], ◌++◌, length, map, drop, sum, get_or, sym, ap, append_assoc, ◌∙◌, arith}
+use Rattle.std.proofs.Common.{◌≡◌, ◌≤◌, ◌<◌, ℕ, ℤ, pos, ◌+◌, Bool, true, false, if◌then◌else◌, List, [], ◌++◌, length, map, drop, get_or, sym, ap, append_assoc, ◌∙◌, arith}
 use Rattle.std.specs.List.{concat}
 use Rattle.std.proofs.lemmas.List.{length-append, at_drop_more, at_drop_all}
 use Rattle.block_format.specs.Content.{frames_cut}
 use Rattle.output_model.specs.Element.{Element, joined, octets_of}
-use Rattle.output_model.specs.OutputBlock.{prefixed}
+use Rattle.output_model.specs.OutputBlock.{IsLent, prefixed}
 use Rattle.output_model.specs.Block.{block_header, block_octets, lace_octets, reference_element}
+use Rattle.mkv_schema.specs.declared.ids.TheConstants.{SIMPLE_BLOCK, BLOCK_GROUP}
 use Rattle.cluster_writer.specs.declared.lent.LentBlock.{LentBlock}
-use Rattle.cluster_writer.specs.Lent.{CanStand, lent_of, block_of}
-use Rattle.cluster_writer.specs.Lengths.{block_len, references_len}
-use Rattle.cluster_writer.proofs.LengthLemmas.{length-header, sizes-lent, length-frames}
+use Rattle.cluster_writer.specs.declared.lent.BlockLengths.{BlockLengths}
+use Rattle.cluster_writer.specs.Lent.{AreLengths, lent_of, block_of, sizes_put}
+use Rattle.cluster_writer.specs.Lengths.{block_len, group_len, references_len, whole_len}
+use Rattle.cluster_writer.proofs.LengthLemmas.{length-header, length-lent, sizes-lent, length-frames}
 
 -- ---- Elements, one behind the other
 
@@ -23,25 +25,43 @@ joined-end f xs i end = at_drop_all (λ ys. joined (map f ys)) xs i end
 -- ---- a block
 
 -- the header, what stands in front of the frames, and the frames
-pub block-parts : (timestamp : ℕ) (b : LentBlock) (sizes : List ℕ) → CanStand timestamp b sizes
+pub block-parts : (timestamp : ℕ) (b : LentBlock) → IsLent (lent_of b)
     → block_octets timestamp (block_of b)
-    ≡ block_header timestamp (block_of b) ++ (lace_octets b.head.now.lace sizes ++ concat (prefixed b.prefix.now (frames_cut b.sizes.now b.body.now)))
-block-parts timestamp b sizes is =
-    ap (λ ss. block_header timestamp (block_of b) ++ (lace_octets b.head.now.lace ss ++ concat (prefixed b.prefix.now (frames_cut b.sizes.now b.body.now)))) (sizes-lent (lent_of b) is.put.lent ∙ sym is.sizes)
+    ≡ block_header timestamp (block_of b) ++ (lace_octets b.head.now.lace (sizes_put b) ++ concat (prefixed b.prefix.now (frames_cut b.sizes.now b.body.now)))
+block-parts timestamp b is =
+    ap (λ ss. block_header timestamp (block_of b) ++ (lace_octets b.head.now.lace ss ++ concat (prefixed b.prefix.now (frames_cut b.sizes.now b.body.now)))) (sizes-lent (lent_of b) is)
 
-pub length-put : (timestamp : ℕ) (b : LentBlock) (sizes : List ℕ) → CanStand timestamp b sizes → length (block_octets timestamp (block_of b)) ≡ block_len b.head.now.lace sizes
-length-put timestamp b sizes is =
+pub length-put : (timestamp : ℕ) (b : LentBlock) → IsLent (lent_of b) → length (block_octets timestamp (block_of b)) ≡ block_len b.head.now.lace (sizes_put b)
+length-put timestamp b is =
     let frames : List ℕ = concat (prefixed b.prefix.now (frames_cut b.sizes.now b.body.now)) in
-    let front : List ℕ = lace_octets b.head.now.lace sizes in
+    let front : List ℕ = lace_octets b.head.now.lace (sizes_put b) in
     omega (
       arith,
-      ap length (block-parts timestamp b sizes is),
+      ap length (block-parts timestamp b is),
       length-append (block_header timestamp (block_of b)) (front ++ frames),
       length-append front frames,
       length-header timestamp (block_of b),
-      length-frames (lent_of b) is.put.lent,
-      ap sum is.sizes,
+      length-frames (lent_of b) is,
     )
+
+-- ---- its lengths
+
+-- a group is its header and what stands behind it
+pub whole-grouped : (b : LentBlock) (l : BlockLengths) → IsLent (lent_of b) → AreLengths b l → b.head.now.group ≡ true → l.whole ≡ whole_len BLOCK_GROUP l.body
+whole-grouped b l is lengths group =
+    let block : ℕ = block_len b.head.now.lace (sizes_put b) in
+    let within : ℕ → ℕ = λ n. group_len b.head.now n b.references.now (length b.kept.now) in
+    let counted : Bool → ℕ = λ g. if g then whole_len BLOCK_GROUP (within block) else whole_len SIMPLE_BLOCK block in
+    let body : l.body ≡ within block = lengths.body ∙ ap (λ g. if g then within l.block else l.block) group ∙ ap within lengths.block in
+    lengths.whole ∙ length-lent b.tick b.lane b.tick (lent_of b) is ∙ ap counted group ∙ ap (whole_len BLOCK_GROUP) (sym body)
+
+-- and a SimpleBlock its header and the Block
+pub whole-alone : (b : LentBlock) (l : BlockLengths) → IsLent (lent_of b) → AreLengths b l → b.head.now.group ≡ false → l.whole ≡ whole_len SIMPLE_BLOCK l.block
+whole-alone b l is lengths alone =
+    let block : ℕ = block_len b.head.now.lace (sizes_put b) in
+    let within : ℕ → ℕ = λ n. group_len b.head.now n b.references.now (length b.kept.now) in
+    let counted : Bool → ℕ = λ g. if g then whole_len BLOCK_GROUP (within block) else whole_len SIMPLE_BLOCK block in
+    lengths.whole ∙ length-lent b.tick b.lane b.tick (lent_of b) is ∙ ap counted alone ∙ ap (whole_len SIMPLE_BLOCK) (sym lengths.block)
 
 -- ---- the references of a group
 

@@ -1,18 +1,20 @@
 -- The octets of a Cluster's buffer, and the blocks that it holds.
-use Rattle.std.proofs.Common.{◌≡◌, ◌≤◌, ℕ, ◌+◌, ◌^◌, List, [], ◌∷◌, ◌++◌, length, take, drop, refl, sym, ap, append-nil, ◌∙◌, arith, true, Option, Some, None, unwrap_or}
-use Rattle.std.proofs.lemmas.List.{length-append, length-take-le, drop_all, map-append, length_push}
+use Rattle.std.proofs.Common.{◌≡◌, ◌≤◌, ℕ, ◌+◌, ◌^◌, List, [], ◌∷◌, ◌++◌, length, take, drop, refl, sym, ap, append-nil, ◌∙◌, arith, true, Option, Some, None, unwrap_or, inl, inr}
+use Rattle.std.proofs.lemmas.List.{length-append, length-take-le, drop-append-le, drop_all, map-append, length_push}
 use Rattle.std.proofs.lemmas.List.Concat.{flat_map-append}
 use Rattle.std.proofs.lemmas.Bool.Decides.{nat_tests}
 use Rattle.output_model.specs.Element.{Element, octets_of, joined}
+use Rattle.mkv_schema.specs.declared.ids.TheConstants.{CLUSTER}
+use Rattle.output_model.specs.declared.TheConstants.{MOST_OF_CLUSTER}
 use Rattle.output_model.specs.declared.heads.ClusterLimits.{ClusterLimits}
 use Rattle.output_model.specs.OutputBlock.{OutputBlock}
 use Rattle.output_model.specs.Block.{block_element}
 use Rattle.output_model.specs.Cluster.{OutputCluster, block_elements, timestamp_element, cluster_body, with_block, begun, may_have}
 use Rattle.cluster_writer.specs.declared.front.TheConstants.{FRONT}
 use Rattle.cluster_writer.specs.Lengths.{octets_taken}
-use Rattle.cluster_writer.specs.Buffer.{IsEmptyAt}
-use Rattle.cluster_writer.specs.Gathered.{Gathered, Holds, AddsBlock, empty_with, gathered_with, with_next, joins_next, joins_at, has_place, size_with, timestamp_for}
-use Rattle.cluster_writer.proofs.LengthLemmas.{length-same}
+use Rattle.cluster_writer.specs.Buffer.{IsEmptyAt, IsTimestampLen}
+use Rattle.cluster_writer.specs.Gathered.{Gathered, Holds, AddsBlock, AreFew, IsSmall, cluster_with, empty_with, gathered_with, with_next, joins_next, joins_at, has_place, size_with, timestamp_for}
+use Rattle.cluster_writer.proofs.LengthLemmas.{length-element, length-same, whole-most}
 
 -- ---- without blocks
 
@@ -27,6 +29,14 @@ pub empty-is : (limits : ClusterLimits) (spare : ℕ) (elements : List ℕ) → 
 empty-is limits spare elements none = λ i. record { limits = limits; timestamp = None; count = 0; elements = none i; spare = spare }
 
 -- ---- one block more
+
+pub added-length : (old now : List ℕ) (timestamp : ℕ) (b : OutputBlock) → now ≡ old ++ octets_of (block_element timestamp b) → length now ≡ length old + octets_taken b
+added-length old now timestamp b added =
+    omega (arith, ap length added, length-append old (octets_of (block_element timestamp b)), length-same timestamp b.tick b)
+
+pub added-drop : (old now : List ℕ) (timestamp : ℕ) (b : OutputBlock) → FRONT ≤ length old → now ≡ old ++ octets_of (block_element timestamp b)
+    → drop FRONT now ≡ drop FRONT old ++ octets_of (block_element timestamp b)
+added-drop old now timestamp b front added = ap (drop FRONT) added ∙ drop-append-le FRONT old (octets_of (block_element timestamp b)) front
 
 joined-push : (es : List Element) (e : Element) → joined (es ++ e ∷ []) ≡ joined es ++ octets_of e
 joined-push es e = flat_map-append octets_of es (e ∷ []) ∙ ap (λ w. joined es ++ w) (append-nil (octets_of e))
@@ -96,3 +106,29 @@ pub joins-most : (limits : ClusterLimits) (timestamp : Option ℕ) (elements : L
     → joins_at limits timestamp count elements tick len ≡ true → len ≤ 2 ^ 27 → length elements + len ≤ 2 ^ 27
 joins-most limits None elements count tick len empty fits few = omega (arith, ap length empty.1, few)
 joins-most limits (Some t) elements count tick len empty fits few = grind (arith, nat_tests, fits)
+
+-- with a block that joins, a Cluster is small
+pub joins-small : (limits : ClusterLimits) (timestamp : Option ℕ) (elements now : List ℕ) (count tick len first : ℕ) → IsEmptyAt timestamp count elements
+    → joins_at limits timestamp count elements tick len ≡ true → len ≤ 2 ^ 27 → length now ≡ length elements + len → first ≡ unwrap_or timestamp tick
+    → IsSmall (Some first) (count + 1) now
+joins-small limits None elements now count tick len first empty fits few added is = inl (omega (arith, empty.0), omega (arith, ap length empty.1, few, added))
+joins-small limits (Some t) elements now count tick len first empty fits few added is =
+    let within : size_with t elements + len ≤ MOST_OF_CLUSTER = grind (arith, nat_tests, fits) in
+    inr (omega (arith, within, added, ap (λ n. length (octets_of (timestamp_element n))) is))
+
+-- and so are its octets
+pub small-few : (timestamp : Option ℕ) (elements : List ℕ) (count len : ℕ) → IsTimestampLen timestamp len → IsSmall timestamp count elements → AreFew count (cluster_with timestamp elements)
+small-few None elements count len counted small = inr (omega arith)
+small-few (Some t) elements count len counted small = few small
+  where
+    body : List ℕ
+    body = octets_of (timestamp_element t) ++ elements
+
+    front : length (cluster_with (Some t) elements) ≤ size_with t elements + 16
+    front =
+        let size : length body ≡ size_with t elements = length-append (octets_of (timestamp_element t)) elements in
+        omega (arith, length-element CLUSTER body (size_with t elements) size, whole-most CLUSTER (size_with t elements))
+
+    few : IsSmall (Some t) count elements → AreFew count (cluster_with (Some t) elements)
+    few (inl one) = inl (one.0, omega (arith, one.1, front, counted.0, counted.1))
+    few (inr all) = inr (omega (arith, all, front))

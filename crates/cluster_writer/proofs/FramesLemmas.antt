@@ -1,9 +1,10 @@
 -- Frames, one after the other.
-use Rattle.std.proofs.Common.{◌≡◌, ◌≤◌, ◌<◌, ℕ, ◌+◌, List, [], ◌∷◌, ◌++◌, length, map, take, drop, sum, slice_index, refl, sym, ap, ap₂, ◌*◌, append_assoc, append-nil, ◌∙◌, arith}
+use Rattle.std.proofs.Common.{◌≡◌, ◌≤◌, ◌<◌, ℕ, ◌+◌, List, [], ◌∷◌, ◌++◌, length, map, take, drop, sum, slice_index, refl, sym, ap, ap₂, ◌*◌, append_assoc, append-nil, ◌∙◌, nat_eq, true, arith}
 use Rattle.std.specs.List.{concat}
-use Rattle.std.proofs.lemmas.List.{length-append, length-take-le, length-drop, length-map, at_drop_more, at_drop_all}
+use Rattle.std.proofs.lemmas.List.{length-append, length-take-le, length-drop, length-map, nil_from_length, take-append-drop, at_drop_more, at_drop_all}
 use Rattle.std.proofs.lemmas.List.Sums.{sum_by-drop_more, get_or-le-sum_by, sum_by-cons}
 use Rattle.std.proofs.lemmas.List.Elements.{All-map}
+use Rattle.std.proofs.lemmas.Bool.Decides.{nat_tests}
 use Rattle.std.proofs.Math.Nat.{mul-le-mul}
 use Rattle.lacing.specs.declared.kind.Lace.{Lace}
 use Rattle.lacing.specs.declared.kind.Lace.TheVariants as lace
@@ -70,6 +71,17 @@ pub Goes-end : (prefix body sizes rest written before : List ℕ) (i : ℕ) → 
 Goes-end prefix body sizes rest written before i goes end =
     sym (append-nil written) ∙ ap (λ w. written ++ w) (sym (frames-end prefix sizes rest i end)) ∙ goes.same
 
+-- without a prefix frames are the octets that they are cut from
+frames-whole : (sizes body : List ℕ) → length body ≡ sum sizes → concat (prefixed_frames [] sizes body) ≡ body
+frames-whole [] body whole = sym (nil_from_length body whole)
+frames-whole (s ∷ ss) body whole =
+    let rest = frames-whole ss (drop s body) (omega (arith, whole, length-drop s body, sum_by-cons (λ x. x) s ss)) in
+    ap (λ w. take s body ++ w) rest ∙ take-append-drop s body
+
+pub frames-alone : (prefix sizes body : List ℕ) → nat_eq (length prefix) 0 ≡ true → length body ≡ sum sizes → concat (prefixed_frames prefix sizes body) ≡ body
+frames-alone [] sizes body none whole = frames-whole sizes body whole
+frames-alone (x ∷ prefix) sizes body none whole = absurd (grind (arith, nat_tests, none))
+
 -- ---- the sizes of frames with a prefix
 
 -- frames that are cut from octets that are enough have the sizes that they are cut to
@@ -85,6 +97,13 @@ sizes-prefixed prefix (s ∷ ss) body enough =
 pub sum-prefixed : (p : ℕ) (sizes : List ℕ) → sum (prefixed_sizes p sizes) ≡ p * length sizes + sum sizes
 sum-prefixed p [] = omega arith
 sum-prefixed p (s ∷ ss) = omega (arith, sum-prefixed p ss, sum_by-cons (λ x. x) s ss, sum_by-cons (λ x. x) (p + s) (prefixed_sizes p ss))
+
+-- a size with its prefix is at most all of them
+pub prefixed-within : (p : ℕ) (sizes : List ℕ) (i size : ℕ) → i < length sizes → size ≡ slice_index sizes i → p + size ≤ sum (prefixed_sizes p sizes)
+prefixed-within p sizes i size within is =
+    let some : 1 ≤ length sizes = omega arith in
+    let same : p ≤ p = omega arith in
+    omega (arith, sum-prefixed p sizes, within-sum sizes i size within is, mul-le-mul same some)
 
 -- frames joined are as long as their sizes together
 pub length-concat : (frames : List (List ℕ)) → length (concat frames) ≡ sum (map length frames)
@@ -102,9 +121,12 @@ fits-prefixed lace.Fixed p sizes fits = equal-prefixed p sizes fits
 fits-prefixed lace.Ebml p sizes fits = fits
 
 -- without a prefix frames keep their sizes
-pub prefixed-none : (sizes : List ℕ) → prefixed_sizes 0 sizes ≡ sizes
+prefixed-none : (sizes : List ℕ) → prefixed_sizes 0 sizes ≡ sizes
 prefixed-none [] = refl
 prefixed-none (size ∷ sizes) = ap₂ (λ x (xs : List ℕ). x ∷ xs) (omega arith) (prefixed-none sizes)
+
+pub prefixed-empty : (p : ℕ) (sizes : List ℕ) → p ≡ 0 → prefixed_sizes p sizes ≡ sizes
+prefixed-empty p sizes none = ap (λ n. prefixed_sizes n sizes) none ∙ prefixed-none sizes
 
 -- what a lane lends can be laced with its prefix
 pub can-prefixed : (kind : Lace) (p : ℕ) (sizes : List ℕ) (references kept : ℕ) → CanBeLent kind p sizes references kept → CanLace kind (prefixed_sizes p sizes)

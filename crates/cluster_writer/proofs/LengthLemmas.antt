@@ -144,7 +144,7 @@ size_width-most : (v : ℕ) → least_size_width v ≤ 8
 unfolding least_size_width
 size_width-most v = least_width-most (λ w. nat_lt v (all_ones w))
 
-whole-most : (id n : ℕ) → whole_len id n ≤ n + 16
+pub whole-most : (id n : ℕ) → whole_len id n ≤ n + 16
 whole-most id n = omega (arith, length-header_octets id n, uint_width-most id, size_width-most n)
 
 duration-most : (duration : Option ℕ) → duration_len duration ≤ 24

@@ -3,3 +3,4 @@ pub mod LengthLemmas
 pub mod BlockLemmas
 pub mod BufferLemmas
 pub mod RoomLemmas
+pub mod HeaderLemmas

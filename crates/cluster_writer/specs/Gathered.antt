@@ -1,7 +1,8 @@
 -- What a Cluster's buffer holds.
-use Rattle.std.specs.Prelude.{◌≡◌, ◌≤◌, ◌<◌, ℕ, ◌+◌, Bool, true, List, [], ◌++◌, length, Option, Some, None, unwrap_or}
+use Rattle.std.specs.Prelude.{◌≡◌, ◌≤◌, ◌<◌, ◌⊎◌, ⊤, ℕ, ◌+◌, ◌^◌, Bool, true, List, [], ◌++◌, length, Option, Some, None, is_none, unwrap_or}
 use Rattle.mkv_schema.specs.declared.ids.TheConstants.{CLUSTER}
 use Rattle.output_model.specs.Element.{element, octets_of, joined}
+use Rattle.output_model.specs.declared.TheConstants.{MOST_OF_CLUSTER}
 use Rattle.output_model.specs.declared.heads.ClusterLimits.{ClusterLimits}
 use Rattle.output_model.specs.OutputBlock.{OutputBlock, Lent, IsLent}
 use Rattle.output_model.specs.Block.{block_element}
@@ -50,9 +51,29 @@ abbrev pub cluster_with : Option ℕ → List ℕ → List ℕ
 cluster_with None elements = []
 cluster_with (Some timestamp) elements = octets_of (element CLUSTER (octets_of (timestamp_element timestamp) ++ elements))
 
+-- there is no block
+abbrev pub is_empty : Gathered → Bool
+is_empty g = is_none g.timestamp
+
 -- how many octets the body of a Cluster of this Timestamp has
 abbrev pub size_with : ℕ → List ℕ → ℕ
 size_with timestamp elements = length (octets_of (timestamp_element timestamp)) + length elements
+
+-- ---- how many octets are held
+
+-- A Cluster of so many blocks has one, whose Element has 128 MiB at most, or a body of 1 MiB at most.
+abbrev pub IsSmall : Option ℕ → ℕ → List ℕ → Type 0
+IsSmall None count elements = ⊤
+IsSmall (Some timestamp) count elements = ((count ≡ 1) × (length elements ≤ 2 ^ 27)) ⊎ (size_with timestamp elements ≤ MOST_OF_CLUSTER)
+
+abbrev pub HoldsSmall : Gathered → Type 0
+HoldsSmall g = IsSmall g.timestamp g.count g.elements
+
+-- the same of the octets of a Cluster of so many blocks, with what stands in front of them
+abbrev pub AreFew : ℕ → List ℕ → Type 0
+AreFew count octets = ((count ≡ 1) × (length octets ≤ 2 ^ 27 + 40)) ⊎ (length octets ≤ MOST_OF_CLUSTER + 16)
+
+-- ---- whether a block joins
 
 -- a block at this tick, whose Element has so many octets, joins
 abbrev pub joins_at : ClusterLimits → Option ℕ → ℕ → List ℕ → ℕ → ℕ → Bool

@@ -39,6 +39,10 @@ behind_len duration references kept = duration_len duration + references_len ref
 abbrev pub group_len : OutHead → ℕ → List ℤ → ℕ → ℕ
 group_len head block references kept = whole_len BLOCK block + behind_len head.duration references kept
 
+-- behind the header of the Element of a block whose Block has so many octets
+abbrev pub body_len : OutHead → ℕ → List ℤ → ℕ → ℕ
+body_len head block references kept = if head.group then group_len head block references kept else block
+
 -- what stands behind the Block of a group
 abbrev pub behind_octets : OutputBlock → List ℕ
 behind_octets b = joined (duration_elements b.duration ++ map reference_element b.references) ++ b.kept

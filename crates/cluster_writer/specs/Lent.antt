@@ -1,11 +1,11 @@
 -- A block that is put into a Cluster, and what it is in the output.
-use Rattle.std.specs.Prelude.{◌≡◌, ◌<◌, ℕ, ℤ, true, List, length}
+use Rattle.std.specs.Prelude.{◌≡◌, ◌<◌, ◌≤◌, ◌^◌, ℕ, ℤ, true, List, length}
 use Rattle.output_model.specs.declared.heads.OutHead.{OutHead}
 use Rattle.output_model.specs.OutputBlock.{OutputBlock, Lent, IsLent, lent_block, in_output}
-use Rattle.mkv_schema.specs.declared.ids.TheConstants.{BLOCK_GROUP}
 use Rattle.output_model.specs.Cluster.{is_near}
-use Rattle.cluster_writer.specs.Lengths.{prefixed_sizes, block_len, group_len, whole_len}
+use Rattle.cluster_writer.specs.Lengths.{prefixed_sizes, block_len, body_len, octets_taken}
 use Rattle.cluster_writer.specs.declared.lent.LentBlock.{LentBlock}
+use Rattle.cluster_writer.specs.declared.lent.BlockLengths.{BlockLengths}
 
 -- what a lane hands out, of these parts
 abbrev pub lent : OutHead → List ℕ → List ℕ → List ℕ → List ℤ → List ℕ → Lent
@@ -36,17 +36,21 @@ pub record Measures (own : OutHead) (front : ℕ) (parts : List ℕ) (others : L
   pub references : l.references ≡ others
   pub kept : length l.kept ≡ extra
 
+-- the sizes of its frames with their prefix
+abbrev pub sizes_put : LentBlock → List ℕ
+sizes_put b = prefixed_sizes (length b.prefix.now) b.sizes.now
+
+-- These are the lengths of a block as it is written: of its Block, of what stands behind the header of its Element, and of
+-- the Element, which has 128 MiB at most.
+pub record AreLengths (b : LentBlock) (lengths : BlockLengths) : Type 0 where
+  pub block : lengths.block ≡ block_len b.head.now.lace (sizes_put b)
+  pub body : lengths.body ≡ body_len b.head.now lengths.block b.references.now (length b.kept.now)
+  pub whole : lengths.whole ≡ octets_taken (block_of b)
+  pub most : lengths.whole ≤ 2 ^ 27
+
 -- ---- while it is written
 
--- It can be put, a Cluster of this Timestamp can tell its time, and its frames have these sizes with their prefix.
-pub record CanStand (timestamp : ℕ) (b : LentBlock) (all : List ℕ) : Type 0 where
+-- It can be put, and a Cluster of this Timestamp can tell its time.
+pub record CanStand (timestamp : ℕ) (b : LentBlock) : Type 0 where
   pub put : CanBePut b
   pub near : is_near timestamp b.tick ≡ true
-  pub sizes : all ≡ prefixed_sizes (length b.prefix.now) b.sizes.now
-
--- how many octets it takes as an Element of this ID, and as a group
-abbrev pub alone_len : ℕ → LentBlock → List ℕ → ℕ
-alone_len id b sizes = whole_len id (block_len b.head.now.lace sizes)
-
-abbrev pub grouped_len : LentBlock → List ℕ → ℕ
-grouped_len b sizes = whole_len BLOCK_GROUP (group_len b.head.now (block_len b.head.now.lace sizes) b.references.now (length b.kept.now))

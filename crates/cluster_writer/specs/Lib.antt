@@ -3,3 +3,4 @@ pub mod Lengths
 pub mod Gathered
 pub mod Buffer
 pub mod Room
+pub mod Staying

@@ -9,24 +9,32 @@ ghost use Rattle.output_model.specs.Element.{element, octets_of};
 ghost use Rattle.cluster_writer.specs.Room.{Adds, HasRoom};
 ghost use Rattle.output_model.specs.Block.{flag, lace_bits, block_flags, simple_block_flags, flags_of, block_header, block_octets, group_octets, block_element};
 ghost use Rattle.output_model.specs.Cluster.{is_near};
-ghost use Rattle.cluster_writer.specs.Lent.{CanBePut, CanStand, block_of, alone_len, grouped_len};
-ghost use Rattle.cluster_writer.specs.Lengths.{octets_taken, block_len};
+ghost use Rattle.cluster_writer.specs.Lent.{AreLengths, CanBePut, CanStand, block_of, sizes_put};
+ghost use Rattle.cluster_writer.specs.Lengths.{block_len, group_len, prefixed_sizes, whole_len};
 
-use crate::element::{add, add_header};
-use crate::group::{add_behind, group_len};
+use crate::element::{add, add_header, is_short};
+use crate::group::add_behind;
 use crate::lace::{add_frames, add_lace, lace_octets_len};
-use crate::lent::{LentBlock, prefixed_sizes};
+use crate::lent::{BlockLengths, LentBlock};
 use lacing::Lace;
 use mkv_schema::ids::{BLOCK, BLOCK_GROUP, SIMPLE_BLOCK};
 use output_model::OutHead;
 
-/// How many octets a Block with frames of these sizes has.
-pub(crate) fn block_len(kind: Lace, sizes: &[u32]) -> u64
-    requires { CanLace kind sizes.now }
-    ensures exact { result ≡ block_len kind sizes.now }
+/// How many octets a Block has with frames of these sizes, and a prefix of so many octets in front of each.
+pub(crate) fn block_len(kind: Lace, prefix: u32, sizes: &[u32]) -> u64
+    requires { CanLace kind (prefixed_sizes prefix sizes.now) }
+    ensures exact { result ≡ block_len kind (prefixed_sizes prefix sizes.now) }
     ensures most { result ≤ 2 ^ 26 + 2 ^ 21 }
 {
-    4 + lace_octets_len(kind, sizes) + total(sizes)
+    4 + lace_octets_len(kind, prefix, sizes) + prefixed_total(prefix, sizes)
+}
+
+// How many octets frames of these sizes have together, with a prefix of so many in front of each.
+fn prefixed_total(prefix: u32, sizes: &[u32]) -> u64
+    requires { sum (prefixed_sizes prefix sizes.now) ≤ 2 ^ 26 }
+    ensures { result ≡ sum (prefixed_sizes prefix sizes.now) }
+{
+    u64::from(prefix) * sizes.len() as u64 + total(sizes)
 }
 
 fn total(sizes: &[u32]) -> u64
@@ -85,88 +93,74 @@ fn relative(timestamp: u64, tick: u64) -> u16
     }
 }
 
-// Adds the header of a Block.
-fn add_block_header(out: &mut Vec<u8>, timestamp: u64, block: &LentBlock<'_>)
+// ---- the Element
+
+// Adds the header of an Element of a Block of so many octets, and the header of the Block.
+fn add_headers(out: &mut Vec<u8>, id: u32, timestamp: u64, block: &LentBlock<'_>, len: u64)
+    requires id { IsTrue (is_id id) }
     requires near { is_near timestamp block.now.tick ≡ true }
     requires lane { block.now.lane < 128 }
-    requires room { HasRoom out.old 4 }
-    ensures { Adds out.old out.new (block_header timestamp (block_of block.now)) }
+    requires most { len ≤ 2 ^ 27 }
+    requires room { HasRoom out.old (length (header_octets id len) + 4) }
+    ensures { Adds out.old out.new (header_octets id len ++ block_header timestamp (block_of block.now)) }
 {
+    let track = 0x80 + block.lane;
     let [high, low] = relative(timestamp, block.tick).to_be_bytes();
-    add(out, &[0x80 + block.lane, high, low, flags_of(block)]);
+    let flags = flags_of(block);
+    if is_short(id, len) {
+        add(out, &[id as u8, 0x80 + len as u8, track, high, low, flags]);
+    } else {
+        add_header(out, id, len);
+        add(out, &[track, high, low, flags]);
+    }
 }
 
-// Adds a Block, whose frames have these sizes with their prefix.
-fn add_block(out: &mut Vec<u8>, timestamp: u64, block: &LentBlock<'_>, sizes: &[u32])
-    requires block { CanStand timestamp block.now sizes.now }
-    requires room { HasRoom out.old (block_len block.now.head.now.lace sizes.now) }
-    ensures { Adds out.old out.new (block_octets timestamp (block_of block.now)) }
+// Adds a Block of so many octets as an Element of its own: a SimpleBlock, or the Block of a group.
+fn add_block_element(out: &mut Vec<u8>, id: u32, timestamp: u64, block: &LentBlock<'_>, len: u64)
+    requires id { IsTrue (is_id id) }
+    requires block { CanStand timestamp block.now }
+    requires len { len ≡ block_len block.now.head.now.lace (sizes_put block.now) }
+    requires most { len ≤ 2 ^ 27 }
+    requires room { HasRoom out.old (whole_len id len) }
+    ensures { Adds out.old out.new (octets_of (element id (block_octets timestamp (block_of block.now)))) }
 {
-    add_block_header(out, timestamp, block);
-    add_lace(out, block.head.lace, sizes);
+    add_headers(out, id, timestamp, block, len);
+    add_lace(out, block.head.lace, block.prefix.len() as u32, block.sizes);
     add_frames(out, block.prefix, block.body, block.sizes);
 }
 
-// ---- the Element
-
-// Adds a Block as an Element of its own: a SimpleBlock, or the Block of a group.
-fn add_block_element(
-    out: &mut Vec<u8>,
-    id: u32,
-    timestamp: u64,
-    block: &LentBlock<'_>,
-    sizes: &[u32],
-)
-    requires id { IsTrue (is_id id) }
-    requires block { CanStand timestamp block.now sizes.now }
-    requires room { HasRoom out.old (alone_len id block.now sizes.now) }
-    ensures { Adds out.old out.new (octets_of (element id (block_octets timestamp (block_of block.now)))) }
-{
-    add_header(out, id, block_len(block.head.lace, sizes));
-    add_block(out, timestamp, block, sizes);
-}
-
+// Adds a group whose Block, and what stands behind its header, have so many octets.
 #[tactic(auto, unfolding(ebml_numbers::specs::Number::is_id))]
-fn add_group(out: &mut Vec<u8>, timestamp: u64, block: &LentBlock<'_>, sizes: &[u32])
-    requires block { CanStand timestamp block.now sizes.now }
-    requires room { HasRoom out.old (grouped_len block.now sizes.now) }
+fn add_group(out: &mut Vec<u8>, timestamp: u64, block: &LentBlock<'_>, len: u64, body: u64)
+    requires block { CanStand timestamp block.now }
+    requires len { len ≡ block_len block.now.head.now.lace (sizes_put block.now) }
+    requires body { body ≡ group_len block.now.head.now len block.now.references.now (length block.now.kept.now) }
+    requires most { body ≤ 2 ^ 27 }
+    requires room { HasRoom out.old (whole_len BLOCK_GROUP body) }
     ensures { Adds out.old out.new (octets_of (element BLOCK_GROUP (group_octets timestamp (block_of block.now)))) }
 {
-    let len = block_len(block.head.lace, sizes);
-    add_header(
-        out,
-        BLOCK_GROUP,
-        group_len(block.head, len, block.references, block.kept.len() as u64),
-    );
-    add_block_element(out, BLOCK, timestamp, block, sizes);
+    add_header(out, BLOCK_GROUP, body);
+    add_block_element(out, BLOCK, timestamp, block, len);
     add_behind(out, block);
 }
 
-/// Adds a block's Element. It takes no memory.
+/// Adds the Element of a block that has these lengths. It takes no memory.
 #[tactic(auto, unfolding(ebml_numbers::specs::Number::is_id))]
-pub(crate) fn add_element(out: &mut Vec<u8>, timestamp: u64, block: &LentBlock<'_>)
+pub(crate) fn add_element(
+    out: &mut Vec<u8>,
+    timestamp: u64,
+    block: &LentBlock<'_>,
+    lengths: BlockLengths,
+)
     requires block { CanBePut block.now }
     requires near { is_near timestamp block.now.tick ≡ true }
-    requires room { HasRoom out.old (octets_taken (block_of block.now)) }
-    ensures { Adds out.old out.new (octets_of (block_element timestamp (block_of block.now))) }
-{
-    if block.prefix.is_empty() {
-        return add_sized(out, timestamp, block, block.sizes);
-    }
-    let sizes = prefixed_sizes(block.prefix.len() as u32, block.sizes);
-    add_sized(out, timestamp, block, &sizes);
-}
-
-// Adds the Element of a block whose frames have these sizes with their prefix.
-#[tactic(auto, unfolding(ebml_numbers::specs::Number::is_id))]
-fn add_sized(out: &mut Vec<u8>, timestamp: u64, block: &LentBlock<'_>, sizes: &[u32])
-    requires block { CanStand timestamp block.now sizes.now }
-    requires room { HasRoom out.old (octets_taken (block_of block.now)) }
+    requires lengths { AreLengths block.now lengths }
+    requires room { HasRoom out.old lengths.whole }
     ensures { Adds out.old out.new (octets_of (block_element timestamp (block_of block.now))) }
 {
     if block.head.group {
-        add_group(out, timestamp, block, sizes);
+        add_group(out, timestamp, block, lengths.block, lengths.body);
     } else {
-        add_block_element(out, SIMPLE_BLOCK, timestamp, block, sizes);
+        add_block_element(out, SIMPLE_BLOCK, timestamp, block, lengths.block);
     }
 }

@@ -1,15 +1,17 @@
 //! The buffer of a Cluster.
 
-ghost use Rattle.std.specs.Prelude.{◌≡◌, ◌^◌, ◌≤◌, Some, None, OnOk, IfOk};
+ghost use Rattle.std.specs.Prelude.{◌≡◌, ◌^◌, ◌≤◌, Some, None, OnOk, IfOk, length};
+ghost use Rattle.std.specs.Borrow.{sem};
 ghost use Rattle.output_model.specs.Element.{octets_of};
-ghost use Rattle.output_model.specs.Cluster.{OutputCluster, cluster_element};
-ghost use Rattle.cluster_writer.specs.Lent.{block_of, block_put, lent, lent_of};
-ghost use Rattle.cluster_writer.specs.Gathered.{AddsBlock, CanPut, Holds, HoldsNext, HoldsSame, TellsJoining, cluster_with, has_place, place_in, size_with};
+ghost use Rattle.output_model.specs.Cluster.{OutputCluster, cluster_element, timestamp_element};
+ghost use Rattle.cluster_writer.specs.Lent.{AreLengths, block_of, block_put, lent, lent_of};
+ghost use Rattle.cluster_writer.specs.Gathered.{AddsBlock, AreFew, CanPut, Holds, HoldsNext, HoldsSame, HoldsSmall, TellsJoining, cluster_with, has_place, is_empty, place_in, timestamp_for};
+ghost use Rattle.cluster_writer.specs.Staying.{StaysAsItIs};
 
-use crate::adding::add_to;
-use crate::front::{FRONT, timestamp_len};
+use crate::block::add_element;
+use crate::front::{FRONT, put_front, timestamp_len};
 use crate::joining::may_have;
-use crate::lent::LentBlock;
+use crate::lent::{BlockLengths, LentBlock};
 use output_model::{ClusterLimits, OutHead};
 use std::alloc::{AllocError, Global};
 use std::marker::Model;
@@ -19,9 +21,10 @@ use std::marker::Model;
 pub struct ClusterBuf {
     limits: ClusterLimits,
     timestamp: Option<u64>,
+    // how many octets the Timestamp has, where there is one
+    timestamp_len: u64,
     count: u32,
-    // where the Cluster begins among the octets; its blocks begin behind the room in front
-    start: usize,
+    // the room for what stands in front of the blocks, and then the blocks
     octets: Vec<u8>,
 }
 
@@ -57,8 +60,8 @@ impl ClusterBuf {
         Ok(ClusterBuf {
             limits,
             timestamp: None,
+            timestamp_len: 0,
             count: 0,
-            start: FRONT,
             octets,
         })
     }
@@ -76,7 +79,7 @@ impl ClusterBuf {
                 timestamp,
                 self.count,
                 tick,
-                self.size(timestamp),
+                self.place(tick),
                 len,
             ),
         }
@@ -108,6 +111,7 @@ impl ClusterBuf {
         ensures added { AddsBlock (block_put lane tick (lent head.now prefix.now body.now sizes.now refs.now extra.now)) self.old self.new }
         ensures holds { HoldsNext (block_put lane tick (lent head.now prefix.now body.now sizes.now refs.now extra.now)) self.old self.new }
         ensures place { result ≡ place_in self.old tick }
+        ensures most { HoldsSmall self.new }
     {
         self.put_block(&LentBlock {
             lane,
@@ -127,10 +131,24 @@ impl ClusterBuf {
         ensures added { AddsBlock (block_of block.now) self.old self.new }
         ensures holds { HoldsNext (block_of block.now) self.old self.new }
         ensures place { result ≡ place_in self.old block.now.tick }
+        ensures most { HoldsSmall self.new }
+    {
+        self.put_measured(block, block.lengths())
+    }
+
+    /// The same of a block whose lengths are known.
+    pub fn put_measured(&mut self, block: &LentBlock<'_>, lengths: BlockLengths) -> u64
+        requires can { CanPut self.old block.now.lane block.now.tick (lent_of block.now) }
+        requires lengths { AreLengths block.now lengths }
+        ensures added { AddsBlock (block_of block.now) self.old self.new }
+        ensures holds { HoldsNext (block_of block.now) self.old self.new }
+        ensures place { result ≡ place_in self.old block.now.tick }
+        ensures most { HoldsSmall self.new }
     {
         let timestamp = self.timestamp.unwrap_or(block.tick);
-        let place = self.size(timestamp);
-        self.start = add_to(&mut self.octets, timestamp, block);
+        let place = self.place(block.tick);
+        self.timestamp_len = self.timestamp_len_at(block.tick);
+        add_element(&mut self.octets, timestamp, block, lengths);
         self.timestamp = Some(timestamp);
         self.count += 1;
         place
@@ -143,24 +161,44 @@ impl ClusterBuf {
         ensures spare { self.old.spare ≤ self.new.spare }
     {
         self.octets.truncate(FRONT);
-        self.start = FRONT;
         self.timestamp = None;
         self.count = 0;
     }
 
-    /// The octets of the Cluster; without a block there are none.
-    pub fn octets(&self) -> &[u8]
-        ensures exact { result.now ≡ cluster_with self.now.timestamp self.now.elements }
-        ensures cluster { (c : OutputCluster) → Holds (Some c) self.now → result.now ≡ octets_of (cluster_element c) }
+    /// Whether there is no block.
+    pub fn is_empty(&self) -> bool
+        ensures { result ≡ is_empty self.now }
     {
-        &self.octets[self.start..]
+        self.timestamp.is_none()
     }
 
-    // How many octets the body has, with this Timestamp.
-    fn size(&self, timestamp: u64) -> u64
-        ensures exact { result ≡ size_with timestamp self.now.elements }
+    /// The octets of the Cluster; without a block there are none. What stands in front of the blocks is written now.
+    pub fn octets(&mut self) -> &[u8]
+        ensures* stays { sem 𝓛 (StaysAsItIs self.entry) }
+        ensures exact { result.now ≡ cluster_with self.old.timestamp self.old.elements }
+        ensures cluster { (c : OutputCluster) → Holds (Some c) self.old → result.now ≡ octets_of (cluster_element c) }
+        ensures most { AreFew self.old.count result.now }
+    {
+        let start = put_front(&mut self.octets, self.timestamp);
+        &self.octets[start..]
+    }
+
+    // How many octets the Timestamp has of the Cluster that a block at this tick is put into.
+    fn timestamp_len_at(&self, tick: u64) -> u64
+        ensures exact { result ≡ length (octets_of (timestamp_element (timestamp_for self.now tick))) }
+        ensures most { result ≤ 24 }
+    {
+        match self.timestamp {
+            Some(_) => self.timestamp_len,
+            None => timestamp_len(tick),
+        }
+    }
+
+    // How many octets the body has that a block at this tick is put into.
+    fn place(&self, tick: u64) -> u64
+        ensures exact { result ≡ place_in self.now tick }
         ensures most { result ≤ 2 ^ 40 }
     {
-        timestamp_len(timestamp) + (self.octets.len() - FRONT) as u64
+        self.timestamp_len_at(tick) + (self.octets.len() - FRONT) as u64
     }
 }

@@ -1,6 +1,6 @@
 //! The header of an Element, and Elements that are written whole.
 
-ghost use Rattle.std.specs.Prelude.{◌≡◌, ◌+◌, ◌<◌, ◌≤◌, ◌++◌, length, vec_len, IsTrue};
+ghost use Rattle.std.specs.Prelude.{◌≡◌, ◌+◌, ◌<◌, ◌≤◌, ◌++◌, ◌&&◌, nat_lt, length, vec_len, IsTrue};
 ghost use Rattle.std.specs.Vec.{vec_capacity};
 ghost use Rattle.ebml_numbers.specs.Number.{all_ones, is_id};
 ghost use Rattle.tree_format.specs.NormalForm.{header_octets};
@@ -17,6 +17,13 @@ pub fn add(out: &mut Vec<u8>, octets: &[u8])
     let _ = out.extend_from_slice(octets);
 }
 
+/// Whether a header has two octets, as most have within a Cluster: one for the ID, and one for the size.
+pub(crate) fn is_short(id: u32, len: u64) -> bool
+    ensures { result ≡ nat_lt id 256 && nat_lt len 127 }
+{
+    id < 256 && len < 127
+}
+
 /// How many octets an Element has with so many behind its header, which is as short as can be.
 pub fn element_len(id: u32, len: u64) -> u64
     requires id { IsTrue (is_id id) }
@@ -24,6 +31,9 @@ pub fn element_len(id: u32, len: u64) -> u64
     ensures exact { result ≡ length (header_octets id len) + len }
     ensures most { result ≤ len + 16 }
 {
+    if is_short(id, len) {
+        return 2 + len;
+    }
     u64::from(put_id(id).len) + u64::from(size_width(len)) + len
 }
 
@@ -34,8 +44,18 @@ pub fn add_header(out: &mut Vec<u8>, id: u32, len: u64)
     requires room { HasRoom out.old (length (header_octets id len)) }
     ensures { Adds out.old out.new (header_octets id len) }
 {
+    if is_short(id, len) {
+        return add(out, &[id as u8, 0x80 + len as u8]);
+    }
     add(out, put_id(id).as_slice());
     add(out, put_size(len, size_width(len)).as_slice());
+}
+
+// Whether the Element of an unsigned integer has three octets: one for each of its ID, its size and its value.
+fn is_small(id: u32, value: u64) -> bool
+    ensures { result ≡ nat_lt id 256 && nat_lt value 256 }
+{
+    id < 256 && value < 256
 }
 
 /// How many octets the Element of an unsigned integer has.
@@ -44,6 +64,9 @@ pub fn uint_len(id: u32, value: u64) -> u64
     ensures exact { result ≡ length (octets_of (uint_element id value)) }
     ensures most { result ≤ 24 }
 {
+    if is_small(id, value) {
+        return 3;
+    }
     element_len(id, u64::from(put_uint(value).len))
 }
 
@@ -53,6 +76,9 @@ pub fn add_uint(out: &mut Vec<u8>, id: u32, value: u64)
     requires room { HasRoom out.old (length (octets_of (uint_element id value))) }
     ensures { Adds out.old out.new (octets_of (uint_element id value)) }
 {
+    if is_small(id, value) {
+        return add(out, &[id as u8, 0x81, value as u8]);
+    }
     let octets = put_uint(value);
     add_header(out, id, u64::from(octets.len));
     add(out, octets.as_slice());

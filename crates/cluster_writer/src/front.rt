@@ -1,6 +1,6 @@
 //! What stands in front of a Cluster's blocks: its header, which is known last, and the Timestamp.
 
-ghost use Rattle.std.specs.Prelude.{◌≡◌, ◌+◌, ◌^◌, ◌≤◌, ◌++◌, ℕ, length, drop, Some};
+ghost use Rattle.std.specs.Prelude.{◌≡◌, ◌+◌, ◌^◌, ◌≤◌, ◌++◌, ℕ, [], length, drop, None, Some};
 ghost use Rattle.output_model.specs.Element.{octets_of};
 ghost use Rattle.output_model.specs.Cluster.{timestamp_element};
 ghost use Rattle.cluster_writer.specs.Gathered.{cluster_with};
@@ -50,9 +50,9 @@ fn put_timestamp(octets: &mut [u8], timestamp: u64) -> usize
     put_before(octets, at, put_id(TIMESTAMP).as_slice())
 }
 
-/// Writes the header of a Cluster and its Timestamp in front of its blocks, and answers where it begins.
+// Writes the header of a Cluster and its Timestamp in front of its blocks, and answers where it begins.
 #[tactic(auto, unfolding(ebml_numbers::specs::Number::is_id))]
-pub(crate) fn put_front(octets: &mut [u8], timestamp: u64) -> usize
+fn put_header(octets: &mut [u8], timestamp: u64) -> usize
     requires front { FRONT ≤ length octets.old }
     requires most { length octets.old ≤ 2 ^ 29 }
     ensures inside { result ≤ FRONT }
@@ -63,4 +63,20 @@ pub(crate) fn put_front(octets: &mut [u8], timestamp: u64) -> usize
     let len = (octets.len() - at) as u64;
     let at = put_before(octets, at, put_size(len, size_width(len)).as_slice());
     put_before(octets, at, put_id(CLUSTER).as_slice())
+}
+
+/// Writes what stands in front of the blocks of a Cluster of this Timestamp, and answers where it begins. Without a
+/// Timestamp there are no blocks, and nothing is in front of them.
+pub(crate) fn put_front(octets: &mut [u8], timestamp: Option<u64>) -> usize
+    requires front { FRONT ≤ length octets.old }
+    requires most { length octets.old ≤ 2 ^ 29 }
+    requires empty { timestamp ≡ None → drop FRONT octets.old ≡ [] }
+    ensures inside { result ≤ FRONT }
+    ensures written { drop result octets.new ≡ cluster_with timestamp (drop FRONT octets.old) }
+    ensures same { drop FRONT octets.new ≡ drop FRONT octets.old }
+{
+    match timestamp {
+        Some(timestamp) => put_header(octets, timestamp),
+        None => FRONT,
+    }
 }

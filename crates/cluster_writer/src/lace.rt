@@ -7,32 +7,86 @@ ghost use Rattle.block_format.specs.Content.{frames_cut};
 ghost use Rattle.cluster_writer.specs.Room.{Adds, HasRoom};
 ghost use Rattle.output_model.specs.OutputBlock.{prefixed};
 ghost use Rattle.output_model.specs.Block.{lace_octets, count_and_head};
+ghost use Rattle.cluster_writer.specs.Lengths.{prefixed_sizes};
 
 use crate::element::add;
+use arrayvec::ArrayVec;
 use lacing::{Lace, lace_len, put_lace};
 
-/// How many octets stand in front of frames of these sizes.
-pub(crate) fn lace_octets_len(kind: Lace, sizes: &[u32]) -> u64
-    requires { CanLace kind sizes.now }
-    ensures exact { result ≡ length (lace_octets kind sizes.now) }
+// The sizes of frames with a prefix of so many octets in front of each.
+fn prefixed_sizes(prefix: u32, sizes: &[u32]) -> ArrayVec<u32, 256>
+    requires few { length sizes.now ≤ 256 }
+    requires total { sum (prefixed_sizes prefix sizes.now) ≤ 2 ^ 26 }
+    ensures exact { result.items ≡ prefixed_sizes prefix sizes.now }
+{
+    let mut all = ArrayVec::new();
+    for size in sizes {
+        all.push(prefix + *size);
+    }
+    all
+}
+
+/// How many octets stand in front of frames of these sizes, with a prefix of so many octets in front of each.
+pub(crate) fn lace_octets_len(kind: Lace, prefix: u32, sizes: &[u32]) -> u64
+    requires { CanLace kind (prefixed_sizes prefix sizes.now) }
+    ensures exact { result ≡ length (lace_octets kind (prefixed_sizes prefix sizes.now)) }
     ensures most { result ≤ 2 ^ 20 }
 {
     match kind {
         Lace::None => 0,
-        Lace::Xiph | Lace::Fixed | Lace::Ebml => 1 + u64::from(lace_len(kind, sizes)),
+        Lace::Xiph | Lace::Fixed | Lace::Ebml => 1 + u64::from(head_len(kind, prefix, sizes)),
     }
 }
 
-/// Adds what stands in front of frames of these sizes.
-pub(crate) fn add_lace(out: &mut Vec<u8>, kind: Lace, sizes: &[u32])
-    requires can { CanLace kind sizes.now }
-    requires room { HasRoom out.old (length (lace_octets kind sizes.now)) }
-    ensures { Adds out.old out.new (lace_octets kind sizes.now) }
+fn head_len(kind: Lace, prefix: u32, sizes: &[u32]) -> u32
+    requires { CanLace kind (prefixed_sizes prefix sizes.now) }
+    ensures exact { result ≡ length (lace_head kind (prefixed_sizes prefix sizes.now)) }
+    ensures most { result ≤ 2 ^ 19 }
+{
+    if prefix == 0 {
+        return lace_len(kind, sizes);
+    }
+    prefixed_head_len(kind, prefix, sizes)
+}
+
+// The room for 256 sizes is taken where there is a prefix alone.
+fn prefixed_head_len(kind: Lace, prefix: u32, sizes: &[u32]) -> u32
+    requires { CanLace kind (prefixed_sizes prefix sizes.now) }
+    ensures exact { result ≡ length (lace_head kind (prefixed_sizes prefix sizes.now)) }
+    ensures most { result ≤ 2 ^ 19 }
+{
+    lace_len(kind, &prefixed_sizes(prefix, sizes))
+}
+
+/// Adds what stands in front of frames of these sizes, with a prefix of so many octets in front of each.
+pub(crate) fn add_lace(out: &mut Vec<u8>, kind: Lace, prefix: u32, sizes: &[u32])
+    requires can { CanLace kind (prefixed_sizes prefix sizes.now) }
+    requires room { HasRoom out.old (length (lace_octets kind (prefixed_sizes prefix sizes.now))) }
+    ensures { Adds out.old out.new (lace_octets kind (prefixed_sizes prefix sizes.now)) }
 {
     match kind {
         Lace::None => {}
-        Lace::Xiph | Lace::Fixed | Lace::Ebml => add_count_and_head(out, kind, sizes),
+        Lace::Xiph | Lace::Fixed | Lace::Ebml => add_laced(out, kind, prefix, sizes),
     }
+}
+
+fn add_laced(out: &mut Vec<u8>, kind: Lace, prefix: u32, sizes: &[u32])
+    requires can { CanLace kind (prefixed_sizes prefix sizes.now) }
+    requires room { HasRoom out.old (length (count_and_head kind (prefixed_sizes prefix sizes.now))) }
+    ensures { Adds out.old out.new (count_and_head kind (prefixed_sizes prefix sizes.now)) }
+{
+    if prefix == 0 {
+        return add_count_and_head(out, kind, sizes);
+    }
+    add_prefixed(out, kind, prefix, sizes);
+}
+
+fn add_prefixed(out: &mut Vec<u8>, kind: Lace, prefix: u32, sizes: &[u32])
+    requires can { CanLace kind (prefixed_sizes prefix sizes.now) }
+    requires room { HasRoom out.old (length (count_and_head kind (prefixed_sizes prefix sizes.now))) }
+    ensures { Adds out.old out.new (count_and_head kind (prefixed_sizes prefix sizes.now)) }
+{
+    add_count_and_head(out, kind, &prefixed_sizes(prefix, sizes));
 }
 
 // Adds the number of frames, less one, and the head of their lace.
@@ -65,6 +119,19 @@ fn fill_head(out: &mut [u8], at: usize, kind: Lace, sizes: &[u32])
 
 /// Adds frames of these sizes, each with the prefix in front.
 pub(crate) fn add_frames(out: &mut Vec<u8>, prefix: &[u8], body: &[u8], sizes: &[u32])
+    requires whole { length body.now ≡ sum sizes.now }
+    requires room { HasRoom out.old (length (concat (prefixed prefix.now (frames_cut sizes.now body.now)))) }
+    ensures { Adds out.old out.new (concat (prefixed prefix.now (frames_cut sizes.now body.now))) }
+{
+    if prefix.is_empty() {
+        add(out, body);
+    } else {
+        add_each(out, prefix, body, sizes);
+    }
+}
+
+// The same, frame by frame.
+fn add_each(out: &mut Vec<u8>, prefix: &[u8], body: &[u8], sizes: &[u32])
     requires whole { length body.now ≡ sum sizes.now }
     requires room { HasRoom out.old (length (concat (prefixed prefix.now (frames_cut sizes.now body.now)))) }
     ensures { Adds out.old out.new (concat (prefixed prefix.now (frames_cut sizes.now body.now))) }

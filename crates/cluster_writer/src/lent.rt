@@ -1,16 +1,13 @@
 //! A block that is put into a Cluster, and how long its Element is.
 
-ghost use Rattle.std.specs.Prelude.{◌≡◌, ◌≤◌, ◌^◌, ℕ, List, length, map, sum};
-ghost use Rattle.lacing.specs.Writing.{CanLace};
+ghost use Rattle.std.specs.Prelude.{◌≡◌, ◌≤◌, ◌^◌, ℕ, length};
 ghost use Rattle.output_model.specs.OutputBlock.{CanBeLent, IsLent, Lent, lent_block};
-ghost use Rattle.block_format.specs.declared.limits.TheConstants.{MOST_OF_BLOCK, MOST_REFERENCES};
-ghost use Rattle.cluster_writer.specs.Lent.{Measures, block_of, lent_of};
-ghost use Rattle.cluster_writer.specs.Lengths.{octets_taken, sized_len, taken_len, prefixed_sizes};
+ghost use Rattle.cluster_writer.specs.Lent.{AreLengths, Measures, block_of, lent_of};
+ghost use Rattle.cluster_writer.specs.Lengths.{block_len, body_len, octets_taken, prefixed_sizes, taken_len};
 
 use crate::block::block_len;
 use crate::element::element_len as whole_len;
 use crate::group::group_len;
-use arrayvec::ArrayVec;
 use mkv_schema::ids::{BLOCK_GROUP, SIMPLE_BLOCK};
 use output_model::OutHead;
 
@@ -29,20 +26,37 @@ pub struct LentBlock<'a> {
     pub kept: &'a [u8],
 }
 
+/// How many octets a block has as it is written: its Block; what stands behind the header of its Element, which is a
+/// SimpleBlock or a group; and the Element.
+#[derive(Clone, Copy)]
+pub struct BlockLengths {
+    pub block: u64,
+    pub body: u64,
+    pub whole: u64,
+}
+
 impl LentBlock<'_> {
-    /// How many octets its Element has, the same in every Cluster.
-    pub fn element_len(&self) -> u64
+    /// How many octets its Element and the parts of it have, the same in every Cluster.
+    pub fn lengths(&self) -> BlockLengths
         requires { IsLent (lent_of self.now) }
-        ensures exact { result ≡ octets_taken (block_of self.now) }
-        ensures most { result ≤ 2 ^ 27 }
+        ensures { AreLengths self.now result }
     {
-        taken_len(
+        lengths_of(
             self.head,
             self.prefix.len(),
             self.sizes,
             self.references,
             self.kept.len(),
         )
+    }
+
+    /// How many octets its Element has, the same in every Cluster.
+    pub fn element_len(&self) -> u64
+        requires { IsLent (lent_of self.now) }
+        ensures exact { result ≡ octets_taken (block_of self.now) }
+        ensures most { result ≤ 2 ^ 27 }
+    {
+        self.lengths().whole
     }
 }
 
@@ -54,49 +68,34 @@ pub fn element_len(head: &OutHead, prefix: usize, sizes: &[u32], refs: &[i64], e
         → result ≡ octets_taken (lent_block l) }
     ensures most { result ≤ 2 ^ 27 }
 {
-    taken_len(head, prefix, sizes, refs, extra)
+    lengths_of(head, prefix, sizes, refs, extra).whole
 }
 
 #[tactic(auto, unfolding(ebml_numbers::specs::Number::is_id))]
-fn taken_len(head: &OutHead, prefix: usize, sizes: &[u32], references: &[i64], kept: usize) -> u64
+fn lengths_of(
+    head: &OutHead,
+    prefix: usize,
+    sizes: &[u32],
+    references: &[i64],
+    kept: usize,
+) -> BlockLengths
     requires { CanBeLent head.now.lace prefix sizes.now (length references.now) kept }
-    ensures exact { result ≡ taken_len head.now prefix sizes.now references.now kept }
-    ensures most { result ≤ 2 ^ 27 }
+    ensures block { result.block ≡ block_len head.now.lace (prefixed_sizes prefix sizes.now) }
+    ensures body { result.body ≡ body_len head.now result.block references.now kept }
+    ensures whole { result.whole ≡ taken_len head.now prefix sizes.now references.now kept }
+    ensures most { result.whole ≤ 2 ^ 27 }
 {
-    if prefix == 0 {
-        return sized_len(head, sizes, references, kept);
-    }
-    let all = prefixed_sizes(prefix as u32, sizes);
-    sized_len(head, &all, references, kept)
-}
-
-// How many octets the Element of a block has whose frames have these sizes with their prefix.
-#[tactic(auto, unfolding(ebml_numbers::specs::Number::is_id))]
-fn sized_len(head: &OutHead, sizes: &[u32], references: &[i64], kept: usize) -> u64
-    requires lace { CanLace head.now.lace sizes.now }
-    requires references { length references.now ≤ MOST_REFERENCES }
-    requires kept { kept ≤ MOST_OF_BLOCK }
-    ensures exact { result ≡ sized_len head.now sizes.now references.now kept }
-    ensures most { result ≤ 2 ^ 27 }
-{
-    let block = block_len(head.lace, sizes);
+    let block = block_len(head.lace, prefix as u32, sizes);
     if head.group {
-        whole_len(BLOCK_GROUP, group_len(head, block, references, kept as u64))
+        let body = group_len(head, block, references, kept as u64);
+        let whole = whole_len(BLOCK_GROUP, body);
+        BlockLengths { block, body, whole }
     } else {
-        whole_len(SIMPLE_BLOCK, block)
+        let whole = whole_len(SIMPLE_BLOCK, block);
+        BlockLengths {
+            block,
+            body: block,
+            whole,
+        }
     }
-}
-
-/// The sizes of frames with a prefix of so many octets in front of each.
-pub(crate) fn prefixed_sizes(prefix: u32, sizes: &[u32]) -> ArrayVec<u32, 256>
-    requires few { length sizes.now ≤ 256 }
-    requires total { sum sizes.now ≤ 2 ^ 25 }
-    requires short { prefix ≤ 4096 }
-    ensures exact { result.items ≡ prefixed_sizes prefix sizes.now }
-{
-    let mut all = ArrayVec::new();
-    for size in sizes {
-        all.push(prefix + *size);
-    }
-    all
 }

@@ -2,7 +2,6 @@
 
 //! Clusters, written block by block into a buffer that is used again: RFC 9559, section 5.1.3 (Cluster Element).
 
-mod adding;
 mod block;
 mod buffer;
 mod element;
@@ -13,5 +12,5 @@ mod lace;
 mod lent;
 
 pub use buffer::ClusterBuf;
-pub use lent::{LentBlock, element_len};
+pub use lent::{BlockLengths, LentBlock, element_len};
 pub use output_model::{ClusterLimits, Lace, OutHead};

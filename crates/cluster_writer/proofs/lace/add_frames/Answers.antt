@@ -1,13 +1,13 @@
-use Rattle.std.proofs.Common.{arith, refl, slice_index}
-use Rattle.cluster_writer.proofs.FramesLemmas.{Goes-room}
+use Rattle.std.proofs.Common.{List, ℕ, length, ap, arith, subst, sym, ◌∙◌}
+use Rattle.cluster_writer.specs.Room.{Adds}
+use Rattle.cluster_writer.proofs.FramesLemmas.{frames-alone}
 use Rattle.cluster_writer.proofs.lace.add_frames.Goals as goal
 
 pub add-requires : goal.add-requires
 add-requires c =
-    let room = Goes-room c.args.prefix.now c.args.body.now c.args.sizes.now c.loop-size.rest.now c.loop-size.out.items c.args.out.now.items c.loop-size.size-index (slice_index c.args.sizes.now c.loop-size.size-index) c.loop-size.invariant.goes c.loop-size-test.true refl in
-    omega (arith, c.requires.room, room)
+    omega (arith, c.requires.room, ap length (frames-alone c.args.prefix.now c.args.sizes.now c.args.body.now (sym c.is_empty.ensures ∙ c.if-is_empty.true) c.requires.whole))
 
-pub add-requires-in-loop-size : goal.add-requires-in-loop-size
-add-requires-in-loop-size c =
-    let room = Goes-room c.args.prefix.now c.args.body.now c.args.sizes.now c.loop-size.rest.now c.loop-size.out.items c.args.out.now.items c.loop-size.size-index (slice_index c.args.sizes.now c.loop-size.size-index) c.loop-size.invariant.goes c.loop-size-test.true refl in
-    omega (arith, c.requires.room, room, c.split_at.ensures.front_len, c.add.ensures.len)
+pub returns-then-is_empty : goal.returns-then-is_empty
+returns-then-is_empty c =
+    let P : List ℕ → Type 0 = λ octets. Adds c.args.out.now c.add.new.out octets in
+    subst P (sym (frames-alone c.args.prefix.now c.args.sizes.now c.args.body.now (sym c.is_empty.ensures ∙ c.if-is_empty.true) c.requires.whole)) c.add.ensures

@@ -5,6 +5,6 @@ use Rattle.cluster_writer.proofs.lent.element_len.Goals as goal
 
 pub returns-clause-exact : goal.returns-clause-exact
 returns-clause-exact c = λ l lent is.
-    c.taken_len.ensures.exact
+    c.lengths_of.ensures.whole
     ∙ (λ i. taken_len (sym is.head i) (sym is.prefix i) (sym is.sizes i) (sym is.references i) (sym is.kept i))
     ∙ sym (length-lent l.head.tick 0 l.head.tick l lent)

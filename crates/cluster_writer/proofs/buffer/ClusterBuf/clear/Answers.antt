@@ -7,7 +7,7 @@ invariant_of-self c =
     let octets = c.self.inside.octets.items in
     let len = cleared-length octets c.truncate.new.self.items c.self.invariant.front c.truncate.ensures.items in
     let none = cleared-drop octets c.truncate.new.self.items c.self.invariant.front c.truncate.ensures.items in
-    record { front = omega (arith, len); start = omega arith; whole = none; empty = (refl, none); most = omega (arith, len) }
+    record { front = omega (arith, len); timestamp = tt; empty = (refl, none); small = tt; most = omega (arith, len) }
 
 pub returns-clause-empty : goal.returns-clause-empty
 returns-clause-empty c =

@@ -1,7 +1,7 @@
 use Rattle.std.proofs.Common.{◌≤◌}
 use Rattle.std.specs.Vec.{vec_capacity}
 use Rattle.cluster_writer.proofs.FramesLemmas.{Goes}
-use Rattle.cluster_writer.proofs.lace.add_frames.Given as goal
+use Rattle.cluster_writer.proofs.lace.add_each.Given as goal
 
 abbrev pub invariant-loop-size : goal.invariant-loop-size
 invariant-loop-size l = record {

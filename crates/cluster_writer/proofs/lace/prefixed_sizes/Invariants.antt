@@ -1,7 +1,7 @@
 use Rattle.std.proofs.Common.{◌≡◌, take}
 use Rattle.arrayvec.specs.ArrayVec.{array_vec_len}
 use Rattle.cluster_writer.specs.Lengths.{prefixed_sizes}
-use Rattle.cluster_writer.proofs.lent.prefixed_sizes.Given as goal
+use Rattle.cluster_writer.proofs.lace.prefixed_sizes.Given as goal
 
 abbrev pub invariant-loop-size : goal.invariant-loop-size
 invariant-loop-size l = record {

@@ -1,6 +1,6 @@
 use Rattle.std.proofs.Common.{◌∙◌, arith}
 use Rattle.cluster_writer.specs.declared.front.TheConstants.{FRONT}
-use Rattle.cluster_writer.proofs.front.put_front.Goals as goal
+use Rattle.cluster_writer.proofs.front.put_header.Goals as goal
 
 pub returns-clause-same : goal.returns-clause-same
 returns-clause-same c =
