@@ -1,3 +1,5 @@
 pub mod KeptLemmas
-pub mod LeastLemmas
+pub mod LineLemmas
 pub mod QueueLemmas
+pub mod StandLemmas
+pub mod TakenLemmas

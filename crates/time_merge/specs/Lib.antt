@@ -1,4 +1,4 @@
 pub mod Laws
-pub mod Least
+pub mod Line
 pub mod Merge
 pub mod Queues

@@ -3,9 +3,10 @@
 //! The blocks of all lanes in the order in which they are written, one after the other.
 
 mod laws;
-mod least;
+mod line;
 mod merge;
 mod queue;
+mod queues;
 
 pub use laws::{merges_stand_over_writes, started_lanes_are_merged};
 pub use merge::Merge;

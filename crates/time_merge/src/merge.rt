@@ -1,57 +1,35 @@
 //! The merge.
 
-ghost use Rattle.std.specs.Prelude.{◌≡◌, ◌<◌, ◌≤◌, length, Some, IfOk, OnOk, option_map};
-ghost use Rattle.std.specs.List.{All, slice_get};
+ghost use Rattle.std.specs.Prelude.{◌≡◌, ◌<◌, ◌≤◌, length, Some, IfOk, option_map};
+ghost use Rattle.std.specs.List.{slice_get};
 ghost use Rattle.mkv_io.specs.Faults.{HasCause, is_read_fault};
 ghost use Rattle.mkv_io.specs.LiveFiles.{LiveFiles};
 ghost use Rattle.mkv_io.specs.Sources.{live_files};
 ghost use Rattle.output_model.specs.declared.TheConstants.{MOST_LANES};
-ghost use Rattle.time_merge.specs.Merge.{AreFilled, AreReady, Begins, Gives, IsReady, IsTold, KeepsLeft, Moves, Pays, PaysOf, Starts, StayQueues};
-ghost use Rattle.time_merge.specs.Queues.{IsQueue};
+ghost use Rattle.time_merge.specs.Merge.{Begins, Gives, IsReady, IsTold, Moves, Pays, Starts};
 
-use crate::least::first_least;
-use crate::queue::{Head, Queue};
+use crate::queues::Queues;
 use lanes::Lane;
 use mkv_io::{List, ReadEnd, Reads};
 use std::alloc::Global;
 use std::marker::Model;
 
-/// Looks for the next block of each lane that is due.
-fn fill<R: Reads>(queues: &mut Vec<Queue>, src: &mut R) -> Result<(), ReadEnd>
-    requires ready { AreReady (live_files R.Reads src.old) queues.old.items }
-    requires queues { All IsQueue queues.old.items }
-    ensures left { KeepsLeft (live_files R.Reads src.old) queues.old.items queues.new.items }
-    ensures filled { OnOk result (AreFilled queues.old.items queues.new.items) }
-    ensures stay { StayQueues queues.old.items queues.new.items }
-    ensures ready { AreReady (live_files R.Reads src.new) queues.new.items }
-    ensures standing { R.standing src.new ≡ R.standing src.old }
-    ensures cause { HasCause is_read_fault (R.reading_faults src.old) (R.reading_faults src.new) result }
-    ensures pays { PaysOf (live_files R.Reads src.old) queues.old.items queues.new.items (R.octets_read src.old) (R.octets_read src.new) result }
-{
-    let count = queues.len();
-    for k in 0..count {
-        queues[k].fill(src)?;
-    }
-    Ok(())
-}
-
 /// The blocks of all lanes by their order numbers, then lanes, then places in the lane.
 #[derive(Drop)]
 pub struct Merge {
-    queues: Vec<Queue>,
+    queues: Queues,
     given: u64,
 }
 
 impl Model for Merge {
-    ghost use Rattle.std.specs.List.{All};
+    ghost use Rattle.std.specs.Prelude.{◌<◌, ◌^◌};
     ghost use Rattle.time_merge.specs.Merge.{MergeSeen};
-    ghost use Rattle.time_merge.specs.Queues.{IsQueue};
 
     ghost Value = { MergeSeen };
 
-    ghost view = { λ m. record { queues = m.queues.items; given = m.given } };
+    ghost view = { λ m. record { queues = m.queues; given = m.given } };
 
-    ghost invariant = { λ m. All IsQueue m.queues.items };
+    ghost invariant = { λ m. m.given < 2 ^ 64 };
 }
 
 impl Merge {
@@ -64,13 +42,7 @@ impl Merge {
         ensures idle { _src.new ≡ _src.old }
         ensures cause { HasCause is_read_fault (R.reading_faults _src.old) (R.reading_faults _src.new) result }
     {
-        let mut queues = Vec::with_capacity(alloc, lanes.len())?;
-        for lane in lanes.into_vec() {
-            queues.push(Queue {
-                lane,
-                head: Head::Due,
-            })?;
-        }
+        let queues = Queues::start(alloc, lanes)?;
         Ok(Merge { queues, given: 0 })
     }
 
@@ -84,16 +56,15 @@ impl Merge {
         ensures standing { R.standing src.new ≡ R.standing src.old }
         ensures cause { HasCause is_read_fault (R.reading_faults src.old) (R.reading_faults src.new) result }
 
-        // What is read adds up to at most four octets for each of the files, and two for each call that fails.
+        // Each of the files is read once at most, and once more where a call fails.
         ensures pays { Pays (live_files R.Reads src.old) self.old self.new (R.octets_read src.old) (R.octets_read src.new) result }
     {
-        fill(&mut self.queues, src)?;
-        let Some(least) = first_least(self.queues.as_slice()) else {
+        self.queues.fill(src)?;
+        let Some(k) = self.queues.take() else {
             return Ok(None);
         };
-        self.queues[least.at].head = Head::Due;
         self.given = self.given.saturating_add(1);
-        Ok(Some(least.at))
+        Ok(Some(k))
     }
 
     /// The lane of this number, from 0.
@@ -101,7 +72,7 @@ impl Merge {
         requires { k < length self.now.queues }
         ensures { option_map (λ q. q.lane) (slice_get self.now.queues k) ≡ Some result.now }
     {
-        &self.queues[k].lane
+        self.queues.lane(k)
     }
 
     /// How many blocks were given.

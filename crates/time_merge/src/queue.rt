@@ -1,10 +1,10 @@
 //! A lane that waits for its turn.
 
-ghost use Rattle.std.specs.Prelude.{◌≡◌, OnOk};
+ghost use Rattle.std.specs.Prelude.{◌≡◌, true};
 ghost use Rattle.mkv_io.specs.Faults.{HasCause, is_read_fault};
 ghost use Rattle.mkv_io.specs.Sources.{live_files};
 ghost use Rattle.lanes.specs.Lane.{IsReady};
-ghost use Rattle.time_merge.specs.Queues.{IsFilled, IsQueue, KeepsWaiting, Pays, StaysQueue};
+ghost use Rattle.time_merge.specs.Queues.{Fills, KeepsWaiting, Pays, StaysQueue, is_due};
 
 use lanes::{Lane, LaneStep};
 use mkv_io::{ReadEnd, Reads};
@@ -28,24 +28,28 @@ pub struct Queue {
 }
 
 impl Queue {
-    /// Looks for the next block, if it is due.
-    pub fn fill<R: Reads>(&mut self, src: &mut R) -> Result<(), ReadEnd>
+    /// Looks for the next block, and gives its order number, where one is left.
+    pub fn fill<R: Reads>(&mut self, src: &mut R) -> Result<Option<u64>, ReadEnd>
         requires ready { IsReady (live_files R.Reads src.old) self.old.lane }
-        requires queue { IsQueue self.old }
+        requires due { is_due self.old ≡ true }
         ensures waiting { KeepsWaiting (live_files R.Reads src.old) self.old self.new }
-        ensures filled { OnOk result (IsFilled self.old self.new) }
+        ensures fills { Fills self.old self.new result }
         ensures stays { StaysQueue self.old self.new }
         ensures ready { IsReady (live_files R.Reads src.new) self.new.lane }
         ensures standing { R.standing src.new ≡ R.standing src.old }
         ensures cause { HasCause is_read_fault (R.reading_faults src.old) (R.reading_faults src.new) result }
         ensures pays { Pays (live_files R.Reads src.old) self.old self.new (R.octets_read src.old) (R.octets_read src.new) result }
     {
-        if let Head::Due = self.head {
-            match self.lane.advance(src)? {
-                LaneStep::Block => self.head = Head::Waits(self.lane.head().order),
-                LaneStep::End => self.head = Head::Ended,
+        match self.lane.advance(src)? {
+            LaneStep::Block => {
+                let order = self.lane.head().order;
+                self.head = Head::Waits(order);
+                Ok(Some(order))
+            }
+            LaneStep::End => {
+                self.head = Head::Ended;
+                Ok(None)
             }
         }
-        Ok(())
     }
 }
