@@ -98,7 +98,7 @@ module _ (f : LiveFiles) (inputs placed new left rest : List Input) (i : Input) 
       place = omega (arith, near, goes.near, goes.many, ap length next)
 
   -- what is walked over for it is a part of what is walked over for all that were left
-  pub goes-paid : (most mid now : ℕ) → mid + 6 * walked_behind f (size_behind f placed) left ≤ most → now ≤ mid + 6 * walked_for i.shift (size_behind f placed) → now + 6 * walked_behind f (size_behind f new) rest ≤ most
+  pub goes-paid : (most mid now : ℕ) → mid + 2 * walked_behind f (size_behind f placed) left ≤ most → now ≤ mid + 2 * walked_for i.shift (size_behind f placed) → now + 2 * walked_behind f (size_behind f new) rest ≤ most
   goes-paid most mid now before more =
       let last : size_behind f new ≡ walked_of f i = ap (size_behind f) put ∙ behind-push (walked_of f) placed (moved shift i) in
       omega (arith, ap (walked_behind f (size_behind f placed)) next, ap (λ (n : ℕ). walked_behind f n rest) last)

@@ -27,7 +27,7 @@ fn end_of<R: Reads>(alloc: Global, input: &Input, src: &mut R) -> Result<u64, Re
     ensures near { IfOk result (λ end. end ≤ later_by (read_in input.now) + MOST_END) }
     ensures standing { R.standing src.new ≡ R.standing src.old }
     ensures cause { HasCause is_read_fault (R.reading_faults src.old) (R.reading_faults src.new) result }
-    ensures octets { R.octets_read src.new ≤ R.octets_read src.old + 6 * walked_of (live_files R.Reads src.old) input.now }
+    ensures octets { R.octets_read src.new ≤ R.octets_read src.old + 2 * walked_of (live_files R.Reads src.old) input.now }
 {
     let links = links_of(alloc, input)?;
     let found = survey(alloc, src, &links)?;
@@ -47,7 +47,7 @@ fn shift_behind<R: Reads>(
     ensures near { IfOk result (λ later. unwrap_or later 0 ≤ most_behind before.now) }
     ensures standing { R.standing src.new ≡ R.standing src.old }
     ensures cause { HasCause is_read_fault (R.reading_faults src.old) (R.reading_faults src.new) result }
-    ensures octets { R.octets_read src.new ≤ R.octets_read src.old + 6 * walked_for shift (size_behind (live_files R.Reads src.old) before.now) }
+    ensures octets { R.octets_read src.new ≤ R.octets_read src.old + 2 * walked_for shift (size_behind (live_files R.Reads src.old) before.now) }
 {
     if shift.is_none() {
         return Ok(None);
@@ -71,7 +71,7 @@ pub fn set_in_place<R: Reads>(
     ensures placed { IfOk result (ArePlaced (live_files R.Reads src.new) inputs) }
     ensures standing { R.standing src.new ≡ R.standing src.old }
     ensures cause { HasCause is_read_fault (R.reading_faults src.old) (R.reading_faults src.new) result }
-    ensures octets { R.octets_read src.new ≤ R.octets_read src.old + 6 * walked_length (live_files R.Reads src.old) inputs }
+    ensures octets { R.octets_read src.new ≤ R.octets_read src.old + 2 * walked_length (live_files R.Reads src.old) inputs }
 {
     let mut placed = List::new(alloc);
     for input in inputs.into_vec() {

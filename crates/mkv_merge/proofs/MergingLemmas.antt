@@ -74,13 +74,13 @@ size-told f sized world (w ∷ files) (id ∷ ids) told =
     omega (arith, one, rest, left, right)
 
 -- what is read before the blocks, what each lane reads and what is copied are no more than what may be read
-pub reads-both : (found : Result (List Source) Refusal) (sources : List Source) (lanes old mid new size now copied : ℕ) → found ≡ Ok sources → lanes ≡ length (lanes_given sources) → now ≡ size → copied ≡ attached_length (reads_of sources) → mid ≤ old + 31 * size → new ≤ mid + (6 * (lanes * now) + copied) → new ≤ old + most_of found size
+pub reads-both : (found : Result (List Source) Refusal) (sources : List Source) (lanes old mid new size now copied : ℕ) → found ≡ Ok sources → lanes ≡ length (lanes_given sources) → now ≡ size → copied ≡ attached_length (reads_of sources) → mid ≤ old + 27 * size → new ≤ mid + (2 * (lanes * now) + copied) → new ≤ old + most_of found size
 reads-both found sources lanes old mid new size now copied is count same copied_is first second =
     subst (λ (r : Result (List Source) Refusal). new ≤ old + most_of r size) (sym is)
     (fits (length (lanes_given sources)) (attached_length (reads_of sources))
-    (subst (λ (d : ℕ). new ≤ mid + (6 * (length (lanes_given sources) * size) + d)) copied_is (subst (λ (n : ℕ). new ≤ mid + (6 * (n * size) + copied)) count (subst (λ (s : ℕ). new ≤ mid + (6 * (lanes * s) + copied)) same second))))
+    (subst (λ (d : ℕ). new ≤ mid + (2 * (length (lanes_given sources) * size) + d)) copied_is (subst (λ (n : ℕ). new ≤ mid + (2 * (n * size) + copied)) count (subst (λ (s : ℕ). new ≤ mid + (2 * (lanes * s) + copied)) same second))))
   where
-    fits : (n d : ℕ) → new ≤ mid + (6 * (n * size) + d) → new ≤ old + (31 * size + (6 * (n * size) + d))
+    fits : (n d : ℕ) → new ≤ mid + (2 * (n * size) + d) → new ≤ old + (27 * size + (2 * (n * size) + d))
     fits n d more = omega arith
 
 -- where nothing refuses them before, sidecars and then inputs are read

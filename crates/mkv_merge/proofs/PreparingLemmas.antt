@@ -223,7 +223,7 @@ reads-planned f words texts ids contents inputs o of told read is =
 -- ---- how much is read before the blocks
 
 -- inputs are read, and then walked over
-pub pays-both : (f : LiveFiles) (ids : List FileId) (inputs : List Input) (start mid now : ℕ) → map (λ (i : Input). i.file) inputs ≡ ids → mid ≤ start + 25 * files_size f ids → now ≤ mid + 6 * walked_length f inputs → now ≤ start + 31 * files_size f ids
+pub pays-both : (f : LiveFiles) (ids : List FileId) (inputs : List Input) (start mid now : ℕ) → map (λ (i : Input). i.file) inputs ≡ ids → mid ≤ start + 25 * files_size f ids → now ≤ mid + 2 * walked_length f inputs → now ≤ start + 27 * files_size f ids
 pays-both f ids inputs start mid now of read walked =
     let long : sum_by (λ (i : Input). f.size i.file.n) inputs ≡ files_size f ids = inputs-size f inputs ∙ ap (files_size f) of in
     omega (arith, long, walked-within f 0 inputs)

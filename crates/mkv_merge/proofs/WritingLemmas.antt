@@ -290,11 +290,11 @@ lengths-within f words ids p prepared =
     (subst (λ (n : ℕ). All (λ (l : PlannedLane). walks.files_length f l.spec.links ≤ n) p.plan.lanes) size (prepared.written.once f))
 
 -- what a merge of this plan may read
-pub plan-reads : (f : LiveFiles) (words : MergeWords) (ids : List FileId) (p : Prepared) (old new : ℕ) → IsPrepared f words ids p → new ≤ old + 6 * inputs_length f p.plan + data_length p.plan → new ≤ old + (6 * (length p.plan.lanes * files_size f ids) + data_length p.plan)
+pub plan-reads : (f : LiveFiles) (words : MergeWords) (ids : List FileId) (p : Prepared) (old new : ℕ) → IsPrepared f words ids p → new ≤ old + 2 * inputs_length f p.plan + data_length p.plan → new ≤ old + (2 * (length p.plan.lanes * files_size f ids) + data_length p.plan)
 plan-reads f words ids p old new prepared paid =
     within (inputs_length f p.plan) (length p.plan.lanes * files_size f ids) (data_length p.plan) (lengths-within f words ids p prepared) paid
   where
-    within : (read most data_read : ℕ) → read ≤ most → new ≤ old + 6 * read + data_read → new ≤ old + (6 * most + data_read)
+    within : (read most data_read : ℕ) → read ≤ most → new ≤ old + 2 * read + data_read → new ≤ old + (2 * most + data_read)
     within read most data_read fits paid = omega arith
 
 -- its attached files are those of the sources

@@ -29,10 +29,10 @@ abbrev pub data_count : Result (List Source) Refusal → ℕ
 data_count (Ok sources) = attached_length (reads_of sources)
 data_count (Err why) = 0
 
--- what may be read of inputs of so many octets: all 25 times before the blocks, and six times to see where they end; six times for
--- each lane, and the data of their attached files
+-- what may be read of inputs of so many octets: all 25 times before the blocks, and twice to see where they end; twice for each
+-- lane, and the data of their attached files
 abbrev pub most_of : Result (List Source) Refusal → ℕ → ℕ
-most_of sources octets = 31 * octets + (6 * (lane_count sources * octets) + data_count sources)
+most_of sources octets = 27 * octets + (2 * (lane_count sources * octets) + data_count sources)
 
 -- whose sidecars are looked into to see whether an edit is pending: those of the inputs, and of the output where it isn't split
 abbrev pub looked_into : MergeWords → ℕ

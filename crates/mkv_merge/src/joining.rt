@@ -49,7 +49,7 @@ fn merge_prepared<F: Files>(
     ensures live { (file : ℕ) → (live_files F.Reads files.new).live file ≡ (live_files F.Reads files.old).live file }
     ensures cause { HasStopCause (files_counts F.Reads F.Files.own files.old) (files_counts F.Reads F.Files.own files.new) result }
     ensures octets { F.octets_read files.new ≤ F.octets_read files.old
-        + (6 * (length prepared.plan.lanes * files_size (live_files F.Reads files.old) ids.now) + data_length prepared.plan) }
+        + (2 * (length prepared.plan.lanes * files_size (live_files F.Reads files.old) ids.now) + data_length prepared.plan) }
 {
     let (_words, _ids) = (words, ids);
     match remux(alloc, prepared.plan, files) {

@@ -140,7 +140,7 @@ fn inputs_in_place<R: Reads>(
     ensures inputs { IfOk result (AreInputsOf (live_files R.Reads src.new) files.now) }
     ensures standing { R.standing src.new ≡ R.standing src.old }
     ensures cause { HasCause is_files_fault (R.reading_faults src.old) (R.reading_faults src.new) result }
-    ensures octets { R.octets_read src.new ≤ R.octets_read src.old + 31 * files_size (live_files R.Reads src.old) files.now }
+    ensures octets { R.octets_read src.new ≤ R.octets_read src.old + 27 * files_size (live_files R.Reads src.old) files.now }
 {
     let inputs = read_all(alloc, words, texts, src, files)?;
     if let Some(differs) = append_refusal(inputs.as_slice()) {
@@ -165,7 +165,7 @@ pub fn prepare<R: Reads>(
     ensures prepared { IfOk result (IsPrepared (live_files R.Reads src.new) words.now files.now) }
     ensures standing { R.standing src.new ≡ R.standing src.old }
     ensures cause { HasCause is_files_fault (R.reading_faults src.old) (R.reading_faults src.new) result }
-    ensures octets { R.octets_read src.new ≤ R.octets_read src.old + 31 * files_size (live_files R.Reads src.old) files.now }
+    ensures octets { R.octets_read src.new ≤ R.octets_read src.old + 27 * files_size (live_files R.Reads src.old) files.now }
 {
     let inputs = inputs_in_place(alloc, words, texts, src, files)?;
     match plan_of(alloc, words, inputs.as_slice()) {

@@ -117,9 +117,9 @@ pub fn write<F: Files, P: Report>(
     ensures short { Told (F.names files.old) (λ world. (contents : List (List ℕ)) → AreTold (live_files F.Reads files.old) ids.now contents
         → IfOk result (λ _. AreShort words.now (zip contents (reads_in prepared.inputs)))) }
 
-    // Each lane reads at most six times the file of its input, and attached files are copied.
+    // Each lane reads at most twice the file of its input, and attached files are copied.
     ensures octets { F.octets_read files.new ≤ F.octets_read files.old
-        + (6 * (length prepared.plan.lanes * files_size (live_files F.Reads files.old) ids.now) + data_length prepared.plan) }
+        + (2 * (length prepared.plan.lanes * files_size (live_files F.Reads files.old) ids.now) + data_length prepared.plan) }
 {
     let Prepared { inputs, plan } = prepared;
     let _ids = ids;

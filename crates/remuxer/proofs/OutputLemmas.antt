@@ -285,6 +285,6 @@ goes-whole r more a b c e p p' first next last = goes-more r more a c e p p' p' 
 
 -- or for blocks that were refused; nothing is read behind them
 pub goes-refused : {S T E : Type 0} (r : Ghosts S) (more : ℕ) (a b c e : S) (p p' : PlacedBlocks) (result : Result T E) → GoesOn r more a b p p → Goes r 0 b c p p' result → r.octets_read e ≤ r.octets_read c
-    → r.octets_read e ≤ r.octets_read a + due (live_files r a) p.merge + 2 * files_length (live_files r a) p.merge + more
+    → r.octets_read e ≤ r.octets_read a + due (live_files r a) p.merge + files_length (live_files r a) p.merge + more
 goes-refused r more a b c e p p' (Ok done) first next same = let one = first.paid in let other = next.paid in omega (arith, one, other, same)
 goes-refused r more a b c e p p' (Err end) first next same = let one = first.paid in let long = first.length in omega (arith, one, long, next, same)

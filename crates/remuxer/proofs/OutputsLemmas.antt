@@ -247,7 +247,7 @@ module _ {S : Type 0} (r : Ghosts S) (f : writing.Ghosts S) (o : OutputSpec) (a 
     way-keeps c kept = keeps-then r f o.split o.name a b c way.kept (subst (λ (each : OutputSpec). KeepsUnwritten r f each.split each.name b c) way.spec kept)
 
     -- no more octets are read than may be
-    pub way-refused : (c : S) → r.octets_read c ≤ r.octets_read b + due (live_files r b) p'.merge + 2 * files_length (live_files r b) p'.merge + data_of o' → ReadsParts r a c o p
+    pub way-refused : (c : S) → r.octets_read c ≤ r.octets_read b + due (live_files r b) p'.merge + files_length (live_files r b) p'.merge + data_of o' → ReadsParts r a c o p
     way-refused c reads =
         let paid = way.goes.paid in
         let long = way.goes.length in

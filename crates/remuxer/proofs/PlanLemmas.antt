@@ -100,7 +100,7 @@ module _ {S : Type 0} (r : Ghosts S) (f : writing.Ghosts S) (a : S) (p : MergePl
     plan-left : left (live_files r a) m ≡ blocks_of (live_files r a) p
     plan-left = starts.left ∙ started-merged (live_files r a) p.limits.scale (links_of p.lanes) s.lanes (are-started (live_files r a) p.limits.scale p.lanes s.lanes started.lanes)
 
-    pub plan-due : due (live_files r a) m ≡ 4 * inputs_length (live_files r a) p
+    pub plan-due : due (live_files r a) m ≡ inputs_length (live_files r a) p
     plan-due = starts.due ∙ all-due (live_files r a) p.limits.scale p.lanes s.lanes started.lanes
 
     pub plan-length : files_length (live_files r a) m ≡ inputs_length (live_files r a) p

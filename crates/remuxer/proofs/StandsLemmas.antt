@@ -12,10 +12,8 @@ use Rattle.mkv_io.specs.declared.reads.Reads.{Ghosts}
 use Rattle.mkv_io.specs.declared.files.Files as writing
 use Rattle.mkv_outputs.specs.Written.{PassesSome}
 use Rattle.ebml_numbers.specs.Number.{is_id}
-use Rattle.ebml_numbers.proofs.NumberLemmas.{is_id-bounds}
 use Rattle.mkv_schema.specs.declared.ids.TheConstants.{CLUSTER}
 use Rattle.output_model.specs.Element.{joined, octets_of}
-use Rattle.output_model.proofs.ReadLemmas.{length-header_of, length-octets_of}
 use Rattle.output_model.specs.declared.TheConstants.{MOST_CUES}
 use Rattle.output_model.specs.declared.heads.ClusterLimits.{ClusterLimits}
 use Rattle.output_model.specs.declared.places.CuePoint.{CuePoint}
@@ -23,7 +21,7 @@ use Rattle.output_model.specs.OutputBlock.{OutputBlock}
 use Rattle.output_model.specs.Cluster.{OutputCluster, begun, cluster_element, cut_from, joins, with_block}
 use Rattle.output_model.specs.Cues.{point_of, points_from, points_where}
 use Rattle.output_model.specs.Document.{Document, back_elements, clusters_at, clusters_elements, cues_for, opened, opened_with}
-use Rattle.cluster_writer.specs.Gathered.{Gathered, Holds, cluster_with, gathered_with, joins_next, place_in, with_next}
+use Rattle.cluster_writer.specs.Gathered.{Gathered, Holds, cluster_with, gathered_with, is_empty, joins_next, place_in, with_next}
 use Rattle.cues_seekhead.specs.Draft.{StandsDrafted, draft_of}
 use Rattle.cues_seekhead.specs.OpenOutput.{OpenOutput, IsOpen, StandsOpen, grown, with_cue}
 use Rattle.cues_seekhead.proofs.AppendingLemmas.{PassesSome-more, PassesSome-none}
@@ -55,25 +53,13 @@ cluster-id : is_id CLUSTER ≡ true
 unfolding is_id
 cluster-id = refl
 
--- a Cluster has octets
-cluster-some : (c : OutputCluster) → nat_eq (length (octets_of (cluster_element c))) 0 ≡ false
-cluster-some c =
-    let wide = (is_id-bounds CLUSTER cluster-id).0 in
-    let head = length-header_of (cluster_element c) in
-    let all = length-octets_of (cluster_element c) in
-    let some : 1 ≤ length (octets_of (cluster_element c)) = omega (arith, wide, head, all) in
-    by-length (length (octets_of (cluster_element c))) some
-  where
-    by-length : (n : ℕ) → 1 ≤ n → nat_eq n 0 ≡ false
-    by-length n some = grind (arith, nat_tests)
-
--- nothing is held where the buffer has no octets
-none-held : (g : Gathered) (cl : Option OutputCluster) → Holds cl g → nat_eq (length (cluster_with g.timestamp g.elements)) 0 ≡ is_none cl
-none-held g None holds = ap (λ (x : Gathered). nat_eq (length (cluster_with x.timestamp x.elements)) 0) holds
-none-held g (Some c) holds = ap (λ (x : Gathered). nat_eq (length (cluster_with x.timestamp x.elements)) 0) holds ∙ cluster-some c
+-- nothing is held where the buffer has no block
+none-held : (g : Gathered) (cl : Option OutputCluster) → Holds cl g → is_empty g ≡ is_none cl
+none-held g None holds = ap (λ (x : Gathered). is_empty x) holds
+none-held g (Some c) holds = ap (λ (x : Gathered). is_empty x) holds
 
 -- a block begins a Cluster where none is held
-count-begun : (n : ℕ) (g : Gathered) (done : List OutputCluster) (cl : Option OutputCluster) (b : OutputBlock) (begins : Bool) → Holds cl g → begins ≡ nat_eq (length (cluster_with g.timestamp g.elements)) 0
+count-begun : (n : ℕ) (g : Gathered) (done : List OutputCluster) (cl : Option OutputCluster) (b : OutputBlock) (begins : Bool) → Holds cl g → begins ≡ is_empty g
     → n ≡ counted 0 (length (done ++ held cl)) → (if begins then counted n 1 else n) ≡ counted 0 (length (done ++ held (Some (with_next cl b))))
 count-begun n g done cl b begins holds empties count = ap (λ (t : Bool). if t then counted n 1 else n) (empties ∙ none-held g cl holds) ∙ by-cluster cl count
   where
@@ -181,7 +167,7 @@ module _ {S : Type 0} (r : Ghosts S) (f : writing.Ghosts S) (before : Names) (na
     cut-held stands fits limits =
         ap (λ l. stands.done ++ cut_on l (Some (with_next stands.cluster b)) left) limits ∙ ap (λ cs. stands.done ++ cs) (cut-joins old.limits stands.cluster left b fits) ∙ stands.cut
 
-    pub stands-kept : (begins : Bool) (stands : Stands r f before name rules d files o old n (b ∷ left)) → begins ≡ nat_eq (length (cluster_with old.timestamp old.elements)) 0 → joins_next old.limits stands.cluster b ≡ true → ((c : Option OutputCluster) → Holds c old → Holds (Some (with_next c b)) new) → new.limits ≡ old.limits → is_cue rules b ≡ false
+    pub stands-kept : (begins : Bool) (stands : Stands r f before name rules d files o old n (b ∷ left)) → begins ≡ is_empty old → joins_next old.limits stands.cluster b ≡ true → ((c : Option OutputCluster) → Holds c old → Holds (Some (with_next c b)) new) → new.limits ≡ old.limits → is_cue rules b ≡ false
         → Stands r f before name rules d files o new (counted_with begins false n) left
     stands-kept begins stands empties fits puts limits plain =
         let cued = is_cue rules in
@@ -199,7 +185,7 @@ module _ {S : Type 0} (r : Ghosts S) (f : writing.Ghosts S) (before : Names) (na
         }
 
     -- with its point
-    pub stands-cued : (begins : Bool) (o' : OpenOutput) (relative : ℕ) (stands : Stands r f before name rules d files o old n (b ∷ left)) → begins ≡ nat_eq (length (cluster_with old.timestamp old.elements)) 0 → joins_next old.limits stands.cluster b ≡ true → ((c : Option OutputCluster) → Holds c old → Holds (Some (with_next c b)) new) → new.limits ≡ old.limits → is_cue rules b ≡ true
+    pub stands-cued : (begins : Bool) (o' : OpenOutput) (relative : ℕ) (stands : Stands r f before name rules d files o old n (b ∷ left)) → begins ≡ is_empty old → joins_next old.limits stands.cluster b ≡ true → ((c : Option OutputCluster) → Holds c old → Holds (Some (with_next c b)) new) → new.limits ≡ old.limits → is_cue rules b ≡ true
         → relative ≡ place_in old b.tick → (length o.cues < MOST_CUES → o' ≡ with_cue o (record { tick = b.tick; lane = b.lane; cluster = o.len; relative = relative })) → (MOST_CUES ≤ length o.cues → o' ≡ o)
         → Stands r f before name rules d files o' new (counted_with begins true n) left
     stands-cued begins o' relative stands empties fits puts limits cue is added full =

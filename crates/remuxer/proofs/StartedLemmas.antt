@@ -62,13 +62,13 @@ module _ (f : LiveFiles) (scale : ℕ) where
       (all-ready ps ls are.1 (All-tail (λ (each : PlannedLane). All (IsOpenLink f) each.spec.links) p ps open_links))
 
   -- what may be read
-  pub all-due : (planned : List PlannedLane) (ls : List LaneSeen) → AllZip (IsStarted scale) planned ls → sum_by (lanes.due f) ls ≡ 4 * sum_by (λ (p : PlannedLane). files_length f p.spec.links) planned
+  pub all-due : (planned : List PlannedLane) (ls : List LaneSeen) → AllZip (IsStarted scale) planned ls → sum_by (lanes.due f) ls ≡ sum_by (λ (p : PlannedLane). files_length f p.spec.links) planned
   all-due [] [] are = refl
   all-due [] (l ∷ ls) are = absurd are
   all-due (p ∷ ps) [] are = absurd are
   all-due (p ∷ ps) (l ∷ ls) are =
       let rest = all-due ps ls are.1 in
-      let here : lanes.due f l ≡ 4 * files_length f p.spec.links = (are.0.starts f).due in
+      let here : lanes.due f l ≡ files_length f p.spec.links = (are.0.starts f).due in
       omega (arith, rest, here, sum_by-cons (lanes.due f) l ls, sum_by-cons (λ (each : PlannedLane). files_length f each.spec.links) p ps)
 
   pub all-lengths : (planned : List PlannedLane) (ls : List LaneSeen) → AllZip (IsStarted scale) planned ls → sum_by (lanes.files_length f) ls ≡ sum_by (λ (p : PlannedLane). files_length f p.spec.links) planned

@@ -272,9 +272,9 @@ WritesParts r f old new o b result = IsTold (live_files r old) b.merge → Write
 abbrev pub SaysWritten : {S : Type 0} → Ghosts S → S → OutputSpec → PlacedBlocks → Result (List Written) RemuxEnd → Type 0
 SaysWritten r old o b result = IsTold (live_files r old) b.merge → IfOk result (λ written. written ≡ map written_of (outputs_left (live_files r old) o b))
 
--- Of each of the links' files what is due and two octets more may be read, and the data of the attachments.
+-- Of the links' files may be read what is due, and each once more, and the data of the attachments.
 abbrev pub ReadsParts : {S : Type 0} → Ghosts S → S → S → OutputSpec → PlacedBlocks → Type 0
-ReadsParts r old new o b = r.octets_read new ≤ r.octets_read old + due (live_files r old) b.merge + 2 * files_length (live_files r old) b.merge + data_of o
+ReadsParts r old new o b = r.octets_read new ≤ r.octets_read old + due (live_files r old) b.merge + files_length (live_files r old) b.merge + data_of o
 
 -- No file stays open, and the files of all names stay but of those that may be written.
 pub record KeepsUnwritten {S : Type 0} (r : Ghosts S) (f : writing.Ghosts S) (split : Bool) (output : List ℕ) (old new : S) : Type 0 where

@@ -55,9 +55,9 @@ data_length p = sum_by (λ (a : Attachment). a.len) p.front.attachments
 
 -- ---- what becomes of it
 
--- At most six octets are read for each of the links' files, and the data of the attachments.
+-- Each of the links' files is read once, and once more at most where a read fails, and the data of the attachments.
 abbrev pub ReadsFew : {S : Type 0} → Ghosts S → S → S → MergePlan → Type 0
-ReadsFew r old new p = r.octets_read new ≤ r.octets_read old + 6 * inputs_length (live_files r old) p + data_length p
+ReadsFew r old new p = r.octets_read new ≤ r.octets_read old + 2 * inputs_length (live_files r old) p + data_length p
 
 -- Where the links' files are told, the outputs are those of the plan.
 abbrev pub WritesPlan : {S T : Type 0} → Ghosts S → writing.Ghosts S → S → S → MergePlan → Result T RemuxEnd → Type 0

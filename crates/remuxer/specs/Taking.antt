@@ -125,10 +125,10 @@ pub record GoesOn {S : Type 0} (r : Ghosts S) (more : ℕ) (old new : S) (b b' :
   pub paid : r.octets_read new + due (live_files r new) b'.merge ≤ r.octets_read old + due (live_files r old) b.merge + more
   pub told : IsTold (live_files r old) b.merge → GoesOnTold (live_files r old) (live_files r new) b.merge b'.merge
 
--- A call that is refused may read two octets besides for each of the links' files.
+-- A call that is refused may read each of the links' files once more.
 abbrev pub Goes : {S T E : Type 0} → Ghosts S → ℕ → S → S → PlacedBlocks → PlacedBlocks → Result T E → Type 0
 Goes r more old new b b' (Ok _) = GoesOn r more old new b b'
-Goes r more old new b b' (Err _) = r.octets_read new ≤ r.octets_read old + due (live_files r old) b.merge + 2 * files_length (live_files r old) b.merge + more
+Goes r more old new b b' (Err _) = r.octets_read new ≤ r.octets_read old + due (live_files r old) b.merge + files_length (live_files r old) b.merge + more
 
 -- Behind the part a block is ahead, and fewer turns are left; none more where all lanes have ended.
 pub record IsOver (b b' : PlacedBlocks) (ahead : Option Ahead) : Type 0 where

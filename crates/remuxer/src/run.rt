@@ -3,7 +3,7 @@
 ghost use Rattle.std.specs.Prelude.{◌≡◌, ◌≤◌, [], ◌∷◌, true, OnOk};
 ghost use Rattle.mkv_io.specs.Writing.{WritesOnly};
 ghost use Rattle.mkv_io.specs.Ends.{HasRemuxCause};
-ghost use Rattle.cluster_writer.specs.Gathered.{has_place};
+ghost use Rattle.cluster_writer.specs.Gathered.{HoldsSmall, has_place};
 ghost use Rattle.cluster_writer.specs.Lengths.{octets_taken};
 ghost use Rattle.cluster_writer.specs.Lent.{CanBePut, block_of};
 ghost use Rattle.cues_seekhead.specs.OpenOutput.{IsOpen};
@@ -53,16 +53,17 @@ pub fn add_block<F: Files>(
     requires open { IsOpen F.Reads files.old out.old }
     ensures adds { Adds F.Reads F.Files.own (block_of block.now) cued files.old files.new out.old out.new buffer.old buffer.new result }
     ensures limits { buffer.new.limits ≡ buffer.old.limits }
+    ensures most { OnOk result (HoldsSmall buffer.new) }
     ensures file { out.new.file ≡ out.old.file }
     ensures open { OnOk result (IsOpen F.Reads files.new out.new) }
     ensures only { WritesOnly F.Reads F.Files.own (F.holder files.old out.old.file.n ∷ []) files.old files.new }
     ensures cause { HasRemuxCause F.Reads F.Files.own files.old files.new result }
 {
-    let len = block.element_len();
-    buffer.reserve(len)?;
-    make_room(files, out, buffer, block, len)?;
-    let begins = buffer.octets().is_empty();
-    let relative = buffer.put_block(block);
+    let lengths = block.lengths();
+    buffer.reserve(lengths.whole)?;
+    make_room(files, out, buffer, block, lengths.whole)?;
+    let begins = buffer.is_empty();
+    let relative = buffer.put_measured(block, lengths);
     if cued {
         out.cue(block.tick, block.lane, relative)?;
     }

@@ -25,13 +25,13 @@ loop-input-preserved g c =
     let near : unwrap_or shift 0 ≤ most_behind placed = subst (λ (ps : List Input). unwrap_or shift 0 ≤ most_behind ps) c.as_slice.ensures c.in_ok-shift.ensures.near in
     let behind : IsBehind f placed input.shift shift =
     subst (λ (files : LiveFiles). IsBehind files placed input.shift shift) here (subst (λ (ps : List Input). IsBehind now ps input.shift shift) c.as_slice.ensures c.in_ok-shift.ensures.exact) in
-    let paid : g.R.Reads.octets_read c.shift_behind.new.src ≤ g.R.Reads.octets_read c.loop-input.src + 6 * walked_for input.shift (size_behind f placed) =
-    subst (λ (files : LiveFiles). g.R.Reads.octets_read c.shift_behind.new.src ≤ g.R.Reads.octets_read c.loop-input.src + 6 * walked_for input.shift (size_behind files placed)) here
-    (subst (λ (ps : List Input). g.R.Reads.octets_read c.shift_behind.new.src ≤ g.R.Reads.octets_read c.loop-input.src + 6 * walked_for input.shift (size_behind now ps)) c.as_slice.ensures c.shift_behind.ensures.octets) in
+    let paid : g.R.Reads.octets_read c.shift_behind.new.src ≤ g.R.Reads.octets_read c.loop-input.src + 2 * walked_for input.shift (size_behind f placed) =
+    subst (λ (files : LiveFiles). g.R.Reads.octets_read c.shift_behind.new.src ≤ g.R.Reads.octets_read c.loop-input.src + 2 * walked_for input.shift (size_behind files placed)) here
+    (subst (λ (ps : List Input). g.R.Reads.octets_read c.shift_behind.new.src ≤ g.R.Reads.octets_read c.loop-input.src + 2 * walked_for input.shift (size_behind now ps)) c.as_slice.ensures c.shift_behind.ensures.octets) in
     let whole : all ≡ c.args.inputs = c.into_iter-input-iterator.ensures.into_iter_gives.0 ∙ c.into_vec-input-items.ensures in
     record {
       goes = goes-more f all placed new left rest input shift inv.goes c.in-Some.ensures.steps.0 near behind c.in_ok-push.ensures.ok (omega (arith, ap (λ (l : List Input). length l) whole, c.requires.few));
       standing = c.in_ok-shift.ensures.standing ∙ inv.standing;
       faults = c.in_ok-shift.ensures.cause ∙ inv.faults;
-      octets = goes-paid f all placed new left rest input shift inv.goes c.in-Some.ensures.steps.0 near behind c.in_ok-push.ensures.ok (g.R.Reads.octets_read c.args.src.now + 6 * walked_length f all) (g.R.Reads.octets_read c.loop-input.src) (g.R.Reads.octets_read c.shift_behind.new.src) inv.octets paid;
+      octets = goes-paid f all placed new left rest input shift inv.goes c.in-Some.ensures.steps.0 near behind c.in_ok-push.ensures.ok (g.R.Reads.octets_read c.args.src.now + 2 * walked_length f all) (g.R.Reads.octets_read c.loop-input.src) (g.R.Reads.octets_read c.shift_behind.new.src) inv.octets paid;
     }

@@ -1,4 +1,4 @@
-use Rattle.std.proofs.Common.{ℕ, Bool, List, length, nat_eq, ◌∷◌, refl, sym, ap, subst, ◌∙◌}
+use Rattle.std.proofs.Common.{Bool, ◌∷◌, refl, sym, ap, subst, ◌∙◌}
 use Rattle.std.proofs.lemmas.Result.{err_from_is_err_and}
 use Rattle.cluster_writer.specs.Gathered.{Gathered}
 use Rattle.cluster_writer.specs.Lent.{block_of}
@@ -37,12 +37,12 @@ returns-in_ok-cue-clause-adds g c = λ before name rules d n left cued stands.
     let buffer = c.make_room.new.buffer in
     let roomy = c.in_ok-make_room.ensures.makes before name rules d n left
     (stands-room g.F.Reads g.F.Files before name rules d c.args.files.now c.args.out.now c.args.buffer.now c.reserve.new.self n (b ∷ left) c.reserve.ensures.holds (ap (λ (x : Gathered). x.limits) c.reserve.ensures.same) stands) in
-    let fits = sym (joins-held buffer roomy.cluster b c.args.block.now.tick c.element_len-len.result roomy.holds refl (sym c.element_len-len.ensures.exact)) ∙ c.in_ok-make_room.ensures.joins in
-    let empties = c.is_empty-begins.ensures ∙ ap (λ (bytes : List ℕ). nat_eq (length bytes) 0) c.octets.ensures.exact in
-    let P : Bool → Type 0 = λ t. Stands g.F.Reads g.F.Files before name rules d c.make_room.new.files c.cue.new.self c.put_block-relative.new.self (counted_with c.is_empty-begins.result t n) left in
+    let fits = sym (joins-held buffer roomy.cluster b c.args.block.now.tick c.lengths-lengths.result.whole roomy.holds refl (sym c.lengths-lengths.ensures.whole)) ∙ c.in_ok-make_room.ensures.joins in
+    let empties = c.is_empty-begins.ensures in
+    let P : Bool → Type 0 = λ t. Stands g.F.Reads g.F.Files before name rules d c.make_room.new.files c.cue.new.self c.put_measured-relative.new.self (counted_with c.is_empty-begins.result t n) left in
     subst P (sym c.if-cued.true)
-    (stands-cued g.F.Reads g.F.Files before name rules d c.make_room.new.files c.make_room.new.out buffer c.put_block-relative.new.self b n left c.is_empty-begins.result c.cue.new.self c.put_block-relative.result roomy empties fits
-    c.put_block-relative.ensures.holds c.put_block-relative.ensures.added.limits (sym cued ∙ c.if-cued.true) c.put_block-relative.ensures.place
+    (stands-cued g.F.Reads g.F.Files before name rules d c.make_room.new.files c.make_room.new.out buffer c.put_measured-relative.new.self b n left c.is_empty-begins.result c.cue.new.self c.put_measured-relative.result roomy empties fits
+    c.put_measured-relative.ensures.holds c.put_measured-relative.ensures.added.limits (sym cued ∙ c.if-cued.true) c.put_measured-relative.ensures.place
     c.in_ok-cue.ensures.ok (λ most. (c.in_ok-cue.ensures.full most).1))
 
 -- the block is held
@@ -52,9 +52,9 @@ returns-else-cued-clause-adds g c = λ before name rules d n left cued stands.
     let buffer = c.make_room.new.buffer in
     let roomy = c.in_ok-make_room.ensures.makes before name rules d n left
     (stands-room g.F.Reads g.F.Files before name rules d c.args.files.now c.args.out.now c.args.buffer.now c.reserve.new.self n (b ∷ left) c.reserve.ensures.holds (ap (λ (x : Gathered). x.limits) c.reserve.ensures.same) stands) in
-    let fits = sym (joins-held buffer roomy.cluster b c.args.block.now.tick c.element_len-len.result roomy.holds refl (sym c.element_len-len.ensures.exact)) ∙ c.in_ok-make_room.ensures.joins in
-    let empties = c.is_empty-begins.ensures ∙ ap (λ (bytes : List ℕ). nat_eq (length bytes) 0) c.octets.ensures.exact in
-    let P : Bool → Type 0 = λ t. Stands g.F.Reads g.F.Files before name rules d c.make_room.new.files c.make_room.new.out c.put_block-relative.new.self (counted_with c.is_empty-begins.result t n) left in
+    let fits = sym (joins-held buffer roomy.cluster b c.args.block.now.tick c.lengths-lengths.result.whole roomy.holds refl (sym c.lengths-lengths.ensures.whole)) ∙ c.in_ok-make_room.ensures.joins in
+    let empties = c.is_empty-begins.ensures in
+    let P : Bool → Type 0 = λ t. Stands g.F.Reads g.F.Files before name rules d c.make_room.new.files c.make_room.new.out c.put_measured-relative.new.self (counted_with c.is_empty-begins.result t n) left in
     subst P (sym c.if-cued.false)
-    (stands-kept g.F.Reads g.F.Files before name rules d c.make_room.new.files c.make_room.new.out buffer c.put_block-relative.new.self b n left c.is_empty-begins.result roomy empties fits
-    c.put_block-relative.ensures.holds c.put_block-relative.ensures.added.limits (sym cued ∙ c.if-cued.false))
+    (stands-kept g.F.Reads g.F.Files before name rules d c.make_room.new.files c.make_room.new.out buffer c.put_measured-relative.new.self b n left c.is_empty-begins.result roomy empties fits
+    c.put_measured-relative.ensures.holds c.put_measured-relative.ensures.added.limits (sym cued ∙ c.if-cued.false))

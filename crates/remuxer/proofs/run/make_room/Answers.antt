@@ -1,6 +1,7 @@
-use Rattle.std.proofs.Common.{◌∷◌, refl, sym, subst, ◌∙◌}
+use Rattle.std.proofs.Common.{◌∷◌, refl, sym, ap, subst, ◌∙◌}
 use Rattle.std.proofs.lemmas.Result.{err_from_is_err_and}
 use Rattle.cues_seekhead.specs.OpenOutput.{OpenOutput, IsOpen}
+use Rattle.cluster_writer.specs.Gathered.{Gathered}
 use Rattle.cluster_writer.specs.Lent.{block_of}
 use Rattle.remuxer.specs.Stands.{Stands}
 use Rattle.remuxer.proofs.StandsLemmas.{broken-drafted, stands-broken}
@@ -26,4 +27,5 @@ returns-in_ok-cluster-clause-makes g c = λ before name rules d n left stands.
     subst P (sym is)
     (stands-broken g.F.Reads g.F.Files before name rules d c.args.files.now c.cluster.new.files c.args.out.now c.args.buffer.now c.clear.new.self bytes b n left stands
     (λ cl holds. sym (c.fits.ensures.joins cl b holds refl (sym c.requires.len)) ∙ c.if-not-fits.true) c.octets.ensures.cluster c.in_ok-cluster.ensures.appended
-    (c.cluster.ensures.only.kept.holders c.args.out.now.file.n c.requires.open.live) (subst Q is c.in_ok-cluster.ensures.open) c.clear.ensures.empty c.clear.ensures.limits)
+    (c.cluster.ensures.only.kept.holders c.args.out.now.file.n c.requires.open.live) (subst Q is c.in_ok-cluster.ensures.open) c.clear.ensures.empty
+    (c.clear.ensures.limits ∙ ap (λ (g : Gathered). g.limits) c.octets.follows.holds-at-none))
