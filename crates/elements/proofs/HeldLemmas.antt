@@ -1,6 +1,6 @@
 -- What a window keeps of what it holds, and what it reads on behind that.
 use Rattle.std.proofs.Common.{◌≡◌, ◌⊎◌, inl, inr, nat_le, ℕ, zero, suc, ◌+◌, ◌-◌, ◌≤◌, Bool, true, false, nat_lt, min, ◌||◌, if◌then◌else◌, List, [], ◌++◌, length, take, drop, refl, sym, ap, ◌∙◌, arith}
-use Rattle.std.proofs.lemmas.List.{drop-take, drop-drop, drop_all, take-append-le, take_at, drop_at, take_all, take_min, length-take, length-take-le, length-drop, take-take}
+use Rattle.std.proofs.lemmas.List.{drop-take, drop-drop, drop_all, take-append-le, take_at, drop_at, take_all, take_min, length-append, length-take, length-take-le, length-drop, take-take}
 use Rattle.std.proofs.lemmas.Bool.Decides.{nat_tests}
 use lib.Seq.{take-add}
 use borrow.Rule.Slice.PartMut.{put_mid, post_of}
@@ -10,7 +10,7 @@ use Rattle.mkv_io.specs.declared.outside.FileId.{FileId}
 use Rattle.mkv_io.specs.Sources.{file_size}
 use Rattle.mkv_io.specs.declared.reads.Reads.{Ghosts}
 use Rattle.elements.specs.Looks.{Goes}
-use Rattle.elements.specs.Window.{ReadAhead, Holds, HasNotPassed, HasRange, end_ahead, front_from, held_from, kept_from, nothing_at}
+use Rattle.elements.specs.Window.{ReadAhead, Holds, HasNotPassed, HasRange, end_ahead, front_from, held_from, kept_from}
 
 -- of the octets in the front of a buffer the last k, which stand behind d others
 pub last-held : (buf rest : List ℕ) (end k d : ℕ) → end ≤ length buf → k ≡ end - d → take k (take (end - (end - k)) (drop (end - k) buf) ++ rest) ≡ drop d (take end buf)
@@ -75,21 +75,61 @@ read-behind bytes buf sub at len k count within few front next =
     ∙ ap (λ (o : List ℕ). octets_from bytes at len ++ take count o) (sym (drop-drop len at bytes))
     ∙ sym (take-add len count (drop at bytes))
 
--- what was read of the file up to an end is so up to each place before, and behind it
+-- a buffer has room for what was read into it behind its front
+pub put-length : (buf sub : List ℕ) (len k count : ℕ) → len ≤ length buf → count ≤ length sub → len + count ≤ length (put_mid len k buf sub)
+put-length buf sub len k count within few =
+    let front = length-take-le len buf within in
+    let whole = length-append (take len buf) (sub ++ post_of len k buf) in
+    let rest = length-append sub (post_of len k buf) in
+    omega (arith, few, front, whole, rest)
+
+-- a buffer that holds octets of the file, behind which further ones were read, holds both
+pub held-behind : (bytes buf sub : List ℕ) (at len k count : ℕ) → len ≤ length buf → count ≤ length sub → Holds bytes (record { at = at; octets = take len buf })
+    → take count sub ≡ octets_from bytes (at + len) count → Holds bytes (record { at = at; octets = take (len + count) (put_mid len k buf sub) })
+held-behind bytes buf sub at len k count within few front next =
+    let held : take len buf ≡ octets_from bytes at len = front ∙ ap (octets_from bytes at) (length-take-le len buf within) in
+    read-behind bytes buf sub at len k count within few held next
+    ∙ ap (octets_from bytes at) (sym (length-take-le (len + count) (put_mid len k buf sub) (put-length buf sub len k count within few)))
+
+-- what was kept of what a window held and what was read behind it, up to an end, is the file's
+pub read-whole : (bytes into sub : List ℕ) (w : ReadAhead) (size at kept end : ℕ) → Holds bytes w → kept ≡ length (kept_from w size at) → take kept into ≡ kept_from w size at
+    → kept ≤ end → end ≤ length into → length sub ≡ length (take (end - kept) (drop kept into)) → sub ≡ octets_from bytes (at + kept) (length (take (end - kept) (drop kept into)))
+    → take end (put_mid kept (end - kept) into sub) ≡ octets_from bytes at end
+read-whole bytes into sub w size at kept end holds is copied within inside long read =
+    let rest = length-drop kept into in
+    let few : length (take (end - kept) (drop kept into)) ≡ end - kept = length-take-le (end - kept) (drop kept into) (omega (arith, rest, inside)) in
+    let held : take kept into ≡ octets_from bytes at kept = copied ∙ kept-held bytes w size at holds ∙ ap (octets_from bytes at) (sym is) in
+    let next : take (end - kept) sub ≡ octets_from bytes (at + kept) (end - kept) =
+    take_all (end - kept) sub (omega (arith, long, few)) ∙ read ∙ ap (octets_from bytes (at + kept)) few in
+    let whole : kept + (end - kept) ≡ end = omega (arith, within) in
+    ap (λ n. take n (put_mid kept (end - kept) into sub)) (sym whole)
+    ∙ read-behind bytes into sub at kept (end - kept) (end - kept) (omega (arith, within, inside)) (omega (arith, long, few)) held next
+    ∙ ap (octets_from bytes at) whole
+
+-- a buffer into which octets up to an end were read has room up to there
+pub read-room : (into sub : List ℕ) (kept end : ℕ) → kept ≤ end → end ≤ length into → length sub ≡ length (take (end - kept) (drop kept into))
+    → end ≤ length (put_mid kept (end - kept) into sub)
+read-room into sub kept end within inside long =
+    let rest = length-drop kept into in
+    let few = length-take-le (end - kept) (drop kept into) (omega (arith, rest, inside)) in
+    let room = put-length into sub kept (end - kept) (end - kept) (omega (arith, within, inside)) (omega (arith, long, few)) in
+    omega (arith, room, within)
+
+-- the octets of a file up to an end are so up to each place before
 pub front-read : (bytes xs : List ℕ) (at len end : ℕ) → len ≤ end → take end xs ≡ octets_from bytes at end → take len xs ≡ octets_from bytes at len
 front-read bytes xs at len end within read = sym (take-take len end xs within) ∙ ap (take len) read ∙ take-take len end (drop at bytes) within
 
-pub rest-read : (bytes xs : List ℕ) (at len end : ℕ) → len ≤ end → take end xs ≡ octets_from bytes at end → take (end - len) (drop len xs) ≡ octets_from bytes (at + len) (end - len)
-rest-read bytes xs at len end within read =
+-- those behind such a place are the file's that stand there
+pub rest-read : (bytes xs : List ℕ) (at len end : ℕ) → len ≤ end → end ≤ length xs → take end xs ≡ octets_from bytes at end
+    → Holds bytes (record { at = at + len; octets = take (end - len) (drop len xs) })
+rest-read bytes xs at len end within inside read =
     let whole : end ≡ len + (end - len) = omega (arith, within) in
+    let behind = length-drop len xs in
     sym (ap (λ n. drop len (take n xs)) whole ∙ drop-take len (end - len) xs)
     ∙ ap (drop len) read
     ∙ (ap (λ n. drop len (take n (drop at bytes))) whole ∙ drop-take len (end - len) (drop at bytes))
     ∙ ap (take (end - len)) (drop-drop len at bytes)
-
--- octets that a place begins are held there
-pub holds-there : (bytes octets : List ℕ) (at n : ℕ) → octets ≡ octets_from bytes at n → length octets ≡ n → Holds bytes (record { at = at; octets = octets })
-holds-there bytes octets at n is long = is ∙ ap (octets_from bytes at) (sym long)
+    ∙ ap (octets_from bytes (at + len)) (sym (length-take-le (end - len) (drop len xs) (omega (arith, behind, inside))))
 
 -- of a body that isn't held whole fewer octets are
 held-less : (short : Bool) (w : ReadAhead) (at len kept : ℕ) → nat_le kept len ≡ short → (HasRange w at len → ⊥) → HasRange w at kept → kept ≤ len
@@ -102,20 +142,21 @@ pub kept-less : (w : ReadAhead) (at len kept : ℕ) → (HasRange w at len → �
 kept-less w at len kept less (inl none) = omega (arith, none)
 kept-less w at len kept less (inr range) = held-less (nat_le kept len) w at len kept refl less range
 
--- a window that has read on from a place has paid for what it read
-pub read_on-goes : {S T E : Type 0} (g : Ghosts S) (file : FileId) (at len wanted : ℕ) (old new : ReadAhead) (a b : S) (result : Result T E) → at + len ≤ file_size g a file
-    → OnOk result ((new.at ≡ at) × (length new.octets ≡ held_from wanted (file_size g a file) at))
-    → g.octets_read b + length (kept_from old (file_size g a file) at) ≤ g.octets_read a + held_from wanted (file_size g a file) at
+-- a window that has read on from a place, where it kept what it held, has paid for what it read
+pub read_on-goes : {S T E : Type 0} (g : Ghosts S) (file : FileId) (at len wanted size start kept count : ℕ) (old new : ReadAhead) (a b : S) (result : Result T E)
+    → at + len ≤ file_size g a file → size ≡ file_size g a file → start ≡ at → kept ≡ length (kept_from old size at) → length new.octets ≡ count
+    → OnOk result ((new.at ≡ start) × (count ≡ held_from wanted (file_size g a file) start))
+    → g.octets_read b + kept ≤ g.octets_read a + held_from wanted (file_size g a file) start
     → Goes g file at (λ _. at) old new a b result
-read_on-goes g file at len wanted old new a b (Ok x) inside read cost = λ place.
-    let kept = kept-count old (file_size g a file) at place in
+read_on-goes g file at len wanted size start kept count old new a b (Ok x) inside whole from held long read cost = λ place.
+    let rest : kept ≡ end_ahead old - at = held ∙ ap (λ n. length (kept_from old n at)) whole ∙ kept-count old (file_size g a file) at place in
     record {
-      place = record { from = omega (arith, read.0); within = omega (arith, read.0, read.1, inside) };
-      pays = omega (arith, read.0, read.1, inside, cost, kept, place.within);
+      place = record { from = omega (arith, from, read.0); within = omega (arith, from, long, read.0, read.1, inside) };
+      pays = omega (arith, from, long, read.0, read.1, inside, cost, rest, place.within);
     }
-read_on-goes g file at len wanted old new a b (Err e) inside read cost = λ place.
-    let kept = kept-count old (file_size g a file) at place in
-    omega (arith, inside, cost, kept, place.within)
+read_on-goes g file at len wanted size start kept count old new a b (Err e) inside whole from held long read cost = λ place.
+    let rest : kept ≡ end_ahead old - at = held ∙ ap (λ n. length (kept_from old n at)) whole ∙ kept-count old (file_size g a file) at place in
+    omega (arith, from, inside, cost, rest, place.within)
 
 -- the front of what is held from a place on is the file's
 front-octets : (before : Bool) (bytes : List ℕ) (w : ReadAhead) (at : ℕ) → nat_lt at w.at ≡ before → Holds bytes w

@@ -1,11 +1,10 @@
 //! The header of the Element at a place.
 
-ghost use Rattle.std.specs.Prelude.{◌≡◌, ◌≤◌, ◌+◌, ◌^◌, length, drop, nat_lt, IfOk};
+ghost use Rattle.std.specs.Prelude.{◌≡◌, ◌<◌, ◌≤◌, ◌+◌, ◌^◌, length, drop, nat_lt, IfOk};
 ghost use Rattle.mkv_schema.specs.Element.{body_damage, cut_header, element_in, id_in, stated_end, with_size};
 ghost use Rattle.mkv_schema.specs.Placed.{StandsAt, IsWhole};
 ghost use Rattle.ebml_numbers.specs.Number.{size_at};
 ghost use Rattle.elements.specs.Parent.{setting_of};
-ghost use Rattle.mkv_io.specs.declared.outside.TheConstants.{LONGEST_FILE};
 
 use crate::parent::Parent;
 use ebml_numbers::{IdRead, NumFault, Size, read_id, read_size};
@@ -24,7 +23,7 @@ pub fn read_header(
     at: u64,
     end: u64,
 ) -> Result<Header, Damage>
-    requires { at ≤ LONGEST_FILE }
+    requires { at ≤ 2 ^ 63 }
     ensures exact { result ≡ element_in (setting_of parent) octets.now total at end }
     ensures placed { at + length octets.now ≤ end → IfOk result (StandsAt at end) }
     ensures whole { IfOk result (IsWhole (setting_of parent) end) }
@@ -40,7 +39,7 @@ fn first_header(
     at: u64,
     end: u64,
 ) -> Result<Header, Damage>
-    requires { at ≤ LONGEST_FILE }
+    requires { at ≤ 2 ^ 63 }
     ensures { result ≡ element_in (setting_of parent) octets.now total at end }
 {
     let id = match id_at(octets, parent) {
@@ -111,7 +110,7 @@ fn cut_header(parent: Parent, total: u64, id: u32, at: u64, end: u64) -> Damage
 
 // What is wrong with a body.
 fn body_damage(header: &Header, parent: Parent, total: u64, end: u64) -> Option<Kind>
-    requires { stated_end header.now ≤ 2 ^ 63 }
+    requires { stated_end header.now < 2 ^ 64 }
     ensures { result ≡ body_damage (setting_of parent) total end header.now }
 {
     let may_open = parent.may_open(header.id);

@@ -1,6 +1,6 @@
 //! A master's octets, read as trees.
 
-ghost use Rattle.std.specs.Prelude.{◌≡◌, ◌≤◌, ◌<◌, ◌+◌, ◌==◌, not, ℕ, length, Ok, Err, IfOk, IfErr, IsTrue};
+ghost use Rattle.std.specs.Prelude.{◌≡◌, ◌≤◌, ◌<◌, ◌+◌, ◌^◌, ◌==◌, not, ℕ, length, Ok, Err, IfOk, IfErr, IsTrue};
 ghost use Rattle.ebml_numbers.specs.Number.{is_written_id};
 ghost use Rattle.mkv_schema.specs.Schema.{is_master};
 ghost use Rattle.mkv_schema.specs.Element.{known};
@@ -9,7 +9,6 @@ ghost use Rattle.tree_format.specs.Node.{leaf, master, nodes_of, depth, depth_al
 ghost use Rattle.tree_format.specs.Reading.{header_at, inside, behind, is_master_in, grown, grove};
 ghost use Rattle.tree_format.specs.Fits.{Fits};
 ghost use Rattle.ebml_tree.specs.Outcome.{Refuses};
-ghost use Rattle.mkv_io.specs.declared.outside.TheConstants.{LONGEST_FILE};
 
 use crate::end::TreeEnd;
 use crate::tree::content::{Content, depth_around, written_within};
@@ -29,10 +28,9 @@ impl Tree {
 
     /// The tree of a master, read from its body (RFC 8794, section 7.7, Master Element).
     ///
-    /// The header stands at `offset`, the body at `base`, in octets from the start of the file; as in
-    /// every file, the body ends within 2^48 octets of it. The master and what is inside, Void and CRC-32
-    /// too, may be `nodes` Elements, and 32 masters may stand inside one another. A damage is the first
-    /// in the order in which the Elements stand.
+    /// The header stands at `offset`, the body at `base`, in octets from the start of the file. The master
+    /// and what is inside, Void and CRC-32 too, may be `nodes` Elements, and 32 masters may stand inside one
+    /// another. A damage is the first in the order in which the Elements stand.
     pub fn parse(
         alloc: Global,
         id: u32,
@@ -42,7 +40,7 @@ impl Tree {
         nodes: u32,
     ) -> Result<Tree, TreeEnd>
         requires master { IsTrue (is_master id) }
-        requires places { base + length body.now ≤ LONGEST_FILE }
+        requires places { base + length body.now ≤ 2 ^ 63 }
         ensures exact { ReadsTree result (tree_of id offset body.now base nodes) }
 
         // It is a master of this ID; what was read stands where the table allows it, and has no more
@@ -68,7 +66,7 @@ impl Tree {
         nodes: u32,
     ) -> Result<Tree, TreeEnd>
         requires master { IsTrue (is_master id) }
-        requires places { base + length body.now ≤ LONGEST_FILE }
+        requires places { base + length body.now ≤ 2 ^ 63 }
         ensures exact { ReadsTree result (tree_of id offset body.now base nodes) }
         ensures limits { IfOk result KeepsLimits }
     {
@@ -151,7 +149,7 @@ fn tree_in(
     body: &[u8],
 ) -> Result<Tree, TreeEnd>
     requires id { IsTrue (is_written_id header.now.id) }
-    requires places { header.now.body + length body.now ≤ LONGEST_FILE }
+    requires places { header.now.body + length body.now ≤ 2 ^ 63 }
     requires room { room < deepest }
     ensures ok { IfOk result (λ tree. grown grove room left.old parent header.now body.now ≡ Ok (record { tree = tree; left = left.new })) }
     ensures err { IfErr result (λ end. Refuses end (grown grove room left.old parent header.now body.now)) }
@@ -188,7 +186,7 @@ fn trees_in(
     place: u64,
     body: &[u8],
 ) -> Result<Vec<Tree>, TreeEnd>
-    requires places { place + length body.now ≤ LONGEST_FILE }
+    requires places { place + length body.now ≤ 2 ^ 63 }
     requires room { room < deepest }
     ensures ok { IfOk result (λ trees. grove room left.old parent place body.now ≡ Ok (record { trees = trees.items; left = left.new })) }
     ensures err { IfErr result (λ end. Refuses end (grove room left.old parent place body.now)) }
@@ -210,7 +208,7 @@ fn trees_in(
 
 // The header of the Element that the octets begin, which are all that is left of a master.
 fn front_header(parent: u32, at: u64, rest: &[u8]) -> Result<Header, Damage>
-    requires { at + length rest.now ≤ LONGEST_FILE }
+    requires { at + length rest.now ≤ 2 ^ 63 }
     ensures { result ≡ header_at parent at rest.now }
 {
     let end = at + rest.len() as u64;
@@ -219,7 +217,7 @@ fn front_header(parent: u32, at: u64, rest: &[u8]) -> Result<Header, Damage>
 
 // The same, with the length of its body.
 fn header_in(parent: u32, at: u64, rest: &[u8]) -> Result<(Header, u64), Damage>
-    requires { at + length rest.now ≤ LONGEST_FILE }
+    requires { at + length rest.now ≤ 2 ^ 63 }
     ensures ok { IfOk result (λ found. header_at parent at rest.now ≡ Ok found.0) }
     ensures err { IfErr result (λ damage. header_at parent at rest.now ≡ Err damage) }
     ensures size { IfOk result (λ found. found.1 ≡ known found.0.size) }

@@ -1,7 +1,7 @@
-use Rattle.std.proofs.Common.{◌+◌, ◌≤◌, length, sym, subst, arith, rules}
+use Rattle.std.proofs.Common.{sym, subst, arith}
+use Rattle.std.proofs.lemmas.List.{length-take-le}
 use Rattle.elements.specs.Held.{held_in}
-use Rattle.mkv_io.specs.Sources.{file_size}
-use Rattle.elements.specs.Window.{ReadAhead, Holds, held_from, kept_from}
+use Rattle.elements.specs.Window.{ReadAhead, Holds}
 use Rattle.elements.proofs.HeldLemmas.{kept-held, kept-less, read_on-goes}
 use Rattle.elements.proofs.held.Held.hold.Goals as goal
 
@@ -25,9 +25,8 @@ read_on-requires-clause-holds g c = record {
 -- what was read is paid by the way
 pub returns-clause-goes : goal.returns-clause-goes
 returns-clause-goes g c =
-    let kept = c.move_to.ensures.count in
-    let cost : g.R.Reads.octets_read c.read_on.new.src + length (kept_from (held_in c.args.self.now c.args.buffer.now) (file_size g.R.Reads c.args.src.now c.args.file) c.args.at)
-    ≤ g.R.Reads.octets_read c.args.src.now + held_from c.wanted_at-wanted.result (file_size g.R.Reads c.args.src.now c.args.file) c.args.at =
-    search rules in
-    read_on-goes g.R.Reads c.args.file c.args.at c.args.len c.wanted_at-wanted.result (held_in c.args.self.now c.args.buffer.now) (held_in c.read_on.new.self c.read_on.new.buffer) c.args.src.now c.read_on.new.src c.read_on.result
-    c.requires.range (search rules) cost
+    let held = c.read_on.new.self in
+    read_on-goes g.R.Reads c.args.file c.args.at c.args.len c.wanted_at-wanted.result c.size.result c.move_to.new.self.at c.move_to.new.self.len held.len
+    (held_in c.args.self.now c.args.buffer.now) (held_in held c.read_on.new.buffer) c.args.src.now c.read_on.new.src c.read_on.result
+    c.requires.range c.size.ensures.exact c.move_to.ensures.place c.move_to.ensures.count (length-take-le held.len c.read_on.new.buffer c.read_on.ensures.holds.fits)
+    c.read_on.ensures.ok c.read_on.ensures.octets
