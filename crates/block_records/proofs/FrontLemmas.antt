@@ -1,5 +1,6 @@
 -- A SimpleBlock as its front settles it.
 use Rattle.std.proofs.Common.{◌≡◌, ◌≤◌, ◌+◌, ◌-◌, ℕ, suc, ℤ, Bool, true, false, if◌then◌else◌, List, [], ◌∷◌, length, take, drop, Option, Some, None, Result, Ok, Err, refl, sym, ◌∙◌, ap, subst, arith}
+use Rattle.std.specs.Option.{option_map, option_map_or}
 use Rattle.std.proofs.lemmas.Bool.{cond-true, cond-false}
 use Rattle.std.proofs.lemmas.List.{length-drop, drop-take}
 use Rattle.ebml_numbers.specs.Number.{AreOctets}
@@ -17,11 +18,12 @@ use Rattle.mkv_schema.specs.Outline.{unless, where_it}
 use Rattle.mkv_schema.specs.Value.{body_of}
 use Rattle.block_format.specs.declared.limits.TheConstants.{MOST_OF_BLOCK}
 use Rattle.block_format.specs.Block.{Block, has_too_large_time, simple_block_with}
-use Rattle.block_format.specs.Content.{Content, frames_behind, frames_cut, frames_in, has_no_header, laced_frames, lace_of}
+use Rattle.block_format.specs.Content.{Content, data_in, flags_in, frames_behind, frames_cut, frames_in, has_no_header, header_len, laced_frames, lace_of}
 use Rattle.block_format.specs.Elements.{in_time, simple_block, with_limits}
 use Rattle.block_records.specs.declared.content.BlockHeader.{BlockHeader}
+use Rattle.block_records.specs.declared.front.FrontHead.{FrontHead}
 use Rattle.block_records.specs.declared.head.BlockHead.{BlockHead}
-use Rattle.block_records.specs.Front.{HasHead, frame_count, front_head, head_of, head_with, laced_count}
+use Rattle.block_records.specs.Front.{HasHead, block_in_front, frame_count, front_head, front_track, head_of, head_with, laced_count}
 use Rattle.block_records.specs.Made.{MakesHead, block_with}
 use Rattle.block_records.specs.Spelled.{IsFront, header_in, header_of}
 use Rattle.block_records.proofs.BufferLemmas.{simple_block-spelled}
@@ -130,6 +132,38 @@ head_with-some scale timestamp n h b z head makes =
     let same = in_time-same scale h.id made (block_with head [] [] []) (makes []) in
     cond-false (has_too_large_time made) None _ same.0
     ∙ ap (λ (x : BlockHead). Some (record { head = x; frames = n })) (ap head_of same.1)
+
+-- ---- the track
+
+-- a head is of its block's track
+head_with-track : (b : Block) (frames : Option ℕ) (found : FrontHead) → head_with b frames ≡ Some found → b.track ≡ found.head.track
+head_with-track b None found is = absurd (cc)
+head_with-track b (Some n) found is = timed (has_too_large_time b) is
+  where
+    timed : (large : Bool) → (if large then None else Some (record { head = head_of b; frames = n })) ≡ Some found → b.track ≡ found.head.track
+    timed true e = absurd (cc)
+    timed false e = ap (λ (o : Option FrontHead). option_map_or (λ (f : FrontHead). f.head.track) o 0) e
+
+-- where it settles no track, it settles nothing
+pub front_track-cut : (scale timestamp : ℕ) (h : Header) (front : List ℕ) → front_track front ≡ None → front_head scale timestamp h front ≡ None
+front_track-cut scale timestamp h front none = cut (has_no_header front) refl none
+  where
+    cut : (test : Bool) → has_no_header front ≡ test → option_map (λ (x : BlockHeader). x.track) (if test then None else Some (header_of front)) ≡ None
+        → front_head scale timestamp h front ≡ None
+    cut true test e = cond-true (has_no_header front) None _ test
+    cut false test e = absurd (cc)
+
+-- where a front settles the whole, its head is of the track that it settles
+pub front_track-head : (scale timestamp : ℕ) (h : Header) (front : List ℕ) (found : FrontHead) → front_head scale timestamp h front ≡ Some found → front_track front ≡ Some found.head.track
+front_track-head scale timestamp h front found is = cut (has_no_header front) is
+  where
+    count : Option ℕ
+    count = frame_count (lace_of (flags_in front)) (data_in front) (known h.size - header_len front)
+
+    cut : (none : Bool) → (if none then None else head_with (block_in_front scale timestamp h.offset front) count) ≡ Some found
+        → option_map (λ (x : BlockHeader). x.track) (if none then None else Some (header_of front)) ≡ Some found.head.track
+    cut true e = absurd (cc)
+    cut false e = ap (λ (n : ℕ). Some n) (head_with-track (block_in_front scale timestamp h.offset front) count found e)
 
 -- ---- the whole
 

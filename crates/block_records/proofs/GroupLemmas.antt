@@ -20,21 +20,35 @@ use Rattle.block_format.specs.Elements.{references_among, is_kept, kept_of, elem
 use Rattle.block_records.specs.declared.gathered.Gathered.{Gathered}
 use Rattle.block_records.specs.Group.{Gathers}
 
--- ---- integers have at most eight octets
+-- ---- the values of children, by the table
+
+-- any octets are a Block's
+pub block-value : (body : List ℕ) → is_known_value BLOCK_GROUP BLOCK body ≡ true
+unfolding entry_of table
+block-value body = refl
+
+-- at most eight are a number's
+pub duration-value : (body : List ℕ) → is_known_value BLOCK_GROUP BLOCK_DURATION body ≡ nat_le (length body) 8
+unfolding entry_of table
+duration-value body = refl
+
+pub reference-value : (body : List ℕ) → is_known_value BLOCK_GROUP REFERENCE_BLOCK body ≡ nat_le (length body) 8
+unfolding entry_of table
+reference-value body = refl
+
+-- the same of both
+pub integer-value : (id : ℕ) (body : List ℕ) → (id ≡ BLOCK_DURATION) ⊎ (id ≡ REFERENCE_BLOCK) → is_known_value BLOCK_GROUP id body ≡ nat_le (length body) 8
+integer-value id body (inl is) = ap (λ i. is_known_value BLOCK_GROUP i body) is ∙ duration-value body
+integer-value id body (inr is) = ap (λ i. is_known_value BLOCK_GROUP i body) is ∙ reference-value body
+
+short : (n : ℕ) → nat_le n 8 ≡ true → n ≤ 8
+short n test = grind (arith, nat_tests)
 
 pub duration-short : (body : List ℕ) → is_known_value BLOCK_GROUP BLOCK_DURATION body ≡ true → length body ≤ 8
-unfolding entry_of table
-duration-short body known = short (length body) known
-  where
-    short : (n : ℕ) → nat_le n 8 ≡ true → n ≤ 8
-    short n test = grind (arith, nat_tests)
+duration-short body known = short (length body) (sym (duration-value body) ∙ known)
 
 pub reference-short : (body : List ℕ) → is_known_value BLOCK_GROUP REFERENCE_BLOCK body ≡ true → length body ≤ 8
-unfolding entry_of table
-reference-short body known = short (length body) known
-  where
-    short : (n : ℕ) → nat_le n 8 ≡ true → n ≤ 8
-    short n test = grind (arith, nat_tests)
+reference-short body known = short (length body) (sym (reference-value body) ∙ known)
 
 -- ---- one more child
 

@@ -1,5 +1,6 @@
 -- What octets in the front of a SimpleBlock's body settle: RFC 9559, sections 10.2 (SimpleBlock Structure) and 10.3 (Block Lacing).
 use Rattle.std.specs.Prelude.{◌≡◌, ℕ, ◌+◌, ◌-◌, if◌then◌else◌, List, [], ◌∷◌, length, Option, Some, None, Result, Ok}
+use Rattle.std.specs.Option.{option_map}
 use Rattle.lacing.specs.declared.kind.Lace.{Lace}
 use Rattle.lacing.specs.declared.kind.Lace.TheVariants as lace
 use Rattle.lacing.specs.Settled.{is_settled}
@@ -8,9 +9,11 @@ use Rattle.mkv_schema.specs.declared.element.Header.{Header}
 use Rattle.mkv_schema.specs.Element.{known}
 use Rattle.block_format.specs.Content.{data_in, flags_in, has_no_header, header_len, lace_of, relative_in, track_in}
 use Rattle.block_format.specs.Block.{Block, has_too_large_time, simple_block_with}
+use Rattle.block_records.specs.declared.content.BlockHeader.{BlockHeader}
 use Rattle.block_records.specs.declared.front.FrontHead.{FrontHead}
 use Rattle.block_records.specs.declared.head.BlockHead.{BlockHead}
 use Rattle.block_records.specs.Made.{block_with}
+use Rattle.block_records.specs.Spelled.{header_in}
 
 -- ---- the number of the frames
 
@@ -26,6 +29,12 @@ frame_count lace.None front len = Some 1
 frame_count lace.Xiph front len = laced_count lace.Xiph front len
 frame_count lace.Fixed front len = laced_count lace.Fixed front len
 frame_count lace.Ebml front len = laced_count lace.Ebml front len
+
+-- ---- the track
+
+-- the TrackNumber, where the header stands in the front
+abbrev pub front_track : List ℕ → Option ℕ
+front_track front = option_map (λ (h : BlockHeader). h.track) (header_in front)
 
 -- ---- the whole
 

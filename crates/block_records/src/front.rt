@@ -6,7 +6,7 @@ ghost use Rattle.mkv_schema.specs.Element.{known};
 ghost use Rattle.mkv_schema.specs.Value.{body_of};
 ghost use Rattle.block_format.specs.Elements.{simple_block, with_limits};
 ghost use Rattle.block_format.specs.declared.limits.TheConstants.{MOST_OF_BLOCK};
-ghost use Rattle.block_records.specs.Front.{HasHead, frame_count, front_head, laced_count};
+ghost use Rattle.block_records.specs.Front.{HasHead, frame_count, front_head, front_track, laced_count};
 ghost use Rattle.block_records.specs.Lendable.{HasSmallTimes};
 ghost use Rattle.block_records.specs.Spelled.{IsFront};
 
@@ -54,6 +54,14 @@ fn frame_count(kind: Lace, front: &[u8], len: usize) -> Option<u16>
         Lace::None => Some(1),
         Lace::Xiph | Lace::Fixed | Lace::Ebml => laced_count(kind, front, len),
     }
+}
+
+/// The TrackNumber that octets in the front of a SimpleBlock's body settle.
+pub fn front_track(front: &[u8]) -> Option<u64>
+    ensures { result ≡ front_track front.now }
+{
+    let header = header_in(front)?;
+    Some(header.track)
 }
 
 /// What a SimpleBlock with this header says of itself, and how many frames it has, by octets in the front of its body, in a

@@ -49,6 +49,18 @@ fn element_of<'a>(body: &'a [u8], base: u64, child: &Header) -> &'a [u8]
     &body[(child.offset - base) as usize..(end - base) as usize]
 }
 
+// Whether octets are a value of a child of a BlockGroup of this ID: a Block may be any, a BlockDuration and a ReferenceBlock have
+// at most eight.
+fn is_child_value(id: u32, value: &[u8]) -> bool
+    ensures { result ≡ is_known_value GROUP_ID id value.now }
+{
+    match id {
+        BLOCK => true,
+        BLOCK_DURATION | REFERENCE_BLOCK => value.len() <= 8,
+        _ => is_known_value(BLOCK_GROUP, id, value),
+    }
+}
+
 // What a child of a group is to its block.
 #[derive(Clone, Copy)]
 enum Part {
@@ -127,7 +139,7 @@ impl Gathered {
                 Err(damage) => return Ok(Err(damage)),
             };
             let value = body_in(body, base, &child);
-            if !is_known_value(BLOCK_GROUP, child.id, value) {
+            if !is_child_value(child.id, value) {
                 return Ok(Err(damage(Kind::BadValue, child.id, child.offset)));
             }
             self.add(&child, value, element_of(body, base, &child))?;

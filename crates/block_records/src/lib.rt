@@ -14,6 +14,6 @@ mod time;
 
 pub use block_format::MOST_OF_BLOCK;
 pub use buffer::BlockBuffer;
-pub use front::{FrontHead, front_head};
+pub use front::{FrontHead, front_head, front_track};
 pub use head::BlockHead;
 pub use lacing::Lace;

@@ -1,14 +1,14 @@
 -- What a child of a Cluster gives, by its ID and what stands before it.
-use Rattle.std.proofs.Common.{◌≡◌, ℕ, ◌==◌, nat_lt, Bool, true, false, if◌then◌else◌, List, [], ◌∷◌, Option, Some, None, Result, Ok, Err, refl, sym, ◌∙◌, ap, arith}
+use Rattle.std.proofs.Common.{◌≡◌, ℕ, ◌==◌, ◌≤◌, length, take, nat_lt, Bool, true, false, if◌then◌else◌, List, [], ◌∷◌, Option, Some, None, Result, Ok, Err, refl, sym, ◌∙◌, ap, arith}
 use Rattle.std.proofs.lemmas.Bool.{cond-true, cond-false}
 use Rattle.std.proofs.lemmas.Bool.Decides.{nat_tests}
-use Rattle.std.proofs.lemmas.List.{drop-take}
+use Rattle.std.proofs.lemmas.List.{drop-take, length-drop, length-take}
 use Rattle.mkv_schema.specs.declared.ids.TheConstants.{TIMESTAMP, SIMPLE_BLOCK, BLOCK_GROUP}
 use Rattle.mkv_io.specs.declared.damage.Damage.{Damage}
 use Rattle.mkv_io.specs.declared.damage.Kind.TheVariants.{BadValue}
 use Rattle.mkv_io.specs.Contents.{octets_from}
 use Rattle.mkv_schema.specs.declared.element.Header.{Header}
-use Rattle.mkv_schema.specs.Element.{known, damage}
+use Rattle.mkv_schema.specs.Element.{known, damage, stated_end}
 use Rattle.mkv_schema.specs.Value.{body_of}
 use Rattle.mkv_schema.specs.Outline.{unless, and_then}
 use Rattle.block_format.specs.declared.limits.TheConstants.{MOST_TIMESTAMP}
@@ -91,6 +91,13 @@ block-no_timestamp r bytes timestamp h b gives is =
     split false gives = cc
 
 -- ---- bodies
+
+-- one that ends inside a file has all its octets
+pub body_of-whole : (bytes : List ℕ) (h : Header) → stated_end h ≤ length bytes → length (body_of bytes h) ≡ known h.size
+body_of-whole bytes h inside =
+    let cut = length-drop h.body (take (stated_end h) bytes) in
+    let taken = length-take (stated_end h) bytes in
+    omega arith
 
 -- the octets of a body, as they are read
 pub body_of-read : (bytes : List ℕ) (h : Header) → octets_from bytes h.body (known h.size) ≡ body_of bytes h

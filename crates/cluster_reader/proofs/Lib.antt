@@ -1,4 +1,5 @@
 pub mod ChildLemmas
+pub mod PassedLemmas
 pub mod LeftLemmas
 pub mod ToldDamagesLemmas
 pub mod TurnLemmas

@@ -1,10 +1,16 @@
 -- What is known of a block that a cursor gives, by which blocks are wanted.
-use Rattle.std.specs.Prelude.{◌≡◌, ℕ, ◌==◌, Bool, true, false, List, [], ◌∷◌, length, Result, Ok, Err}
+use Rattle.std.specs.Prelude.{◌≡◌, ℕ, ◌==◌, min, Bool, true, false, if◌then◌else◌, List, [], ◌∷◌, length, take, Option, Some, None, Result, Ok, Err}
 use Rattle.mkv_io.specs.declared.damage.Damage.{Damage}
+use Rattle.mkv_schema.specs.declared.ids.TheConstants.{SIMPLE_BLOCK}
+use Rattle.mkv_schema.specs.declared.element.Header.{Header}
+use Rattle.mkv_schema.specs.Element.{known}
+use Rattle.elements.specs.Window.{ReadAhead, front_from}
 use Rattle.block_format.specs.Block.{Block}
 use Rattle.block_format.specs.Events.{Found}
 use Rattle.block_records.specs.Buffered.{Buffered, block_of}
-use Rattle.block_records.specs.Front.{head_of}
+use Rattle.block_records.specs.Front.{front_head, head_of}
+use Rattle.block_records.specs.declared.front.FrontHead.{FrontHead}
+use Rattle.cluster_reader.specs.declared.child.TheConstants.{MOST_OF_FRONT}
 use Rattle.cluster_reader.specs.declared.takes.Takes.{Takes}
 use Rattle.cluster_reader.specs.declared.takes.Takes.TheVariants.{All, Track, Heads}
 
@@ -46,3 +52,33 @@ pub record FindsBlock (takes : Takes) (lent : Buffered) (found : List Found) : T
   pub given : Block
   pub is : found ≡ Ok given ∷ []
   pub known : IsKnown takes given lent
+
+-- ---- a SimpleBlock that is passed
+
+-- what is settled, unless the block is wanted
+abbrev pub unless_wanted : Takes → Option FrontHead → Option FrontHead
+unless_wanted takes None = None
+unless_wanted takes (Some front) = if wants takes front.head.track then None else Some front
+
+-- what octets in the front of a SimpleBlock's body settle of one that isn't wanted
+abbrev pub settled_by : Takes → ℕ → ℕ → Header → List ℕ → Option FrontHead
+settled_by takes scale ticks h front = unless_wanted takes (front_head scale ticks h front)
+
+-- what is looked at of a body: what a window holds of its first octets, MOST_OF_FRONT at most
+abbrev pub held_front : ReadAhead → Header → List ℕ
+held_front w h = take (min (known h.size) MOST_OF_FRONT) (front_from w h.body)
+
+-- what a window's octets settle of a child of a Cluster that is a SimpleBlock and isn't wanted
+abbrev pub settled_in : Takes → ℕ → ℕ → Header → ReadAhead → Option FrontHead
+settled_in takes scale ticks h w = if h.id == SIMPLE_BLOCK then settled_by takes scale ticks h (held_front w h) else None
+
+-- A block was passed, and this is what is lent of it.
+pub record IsPassed (front : FrontHead) (lent : Buffered) (answer : Bool) : Type 0 where
+  pub passed : answer ≡ true
+  pub head : lent.head ≡ front.head
+  pub frames : lent.frames ≡ front.frames
+
+-- A block was passed exactly where this is settled of it, and this is lent of it then.
+abbrev pub IsPassedWhere : Option FrontHead → Buffered → Bool → Type 0
+IsPassedWhere None lent passed = passed ≡ false
+IsPassedWhere (Some front) lent passed = IsPassed front lent passed

@@ -1,7 +1,7 @@
 -- A walk over the Elements of a file, one turn after the other.
-use Rattle.std.specs.Prelude.{◌≡◌, ◌≤◌, ◌<◌, ⊤, ℕ, ◌==◌, if◌then◌else◌, List, [], ◌∷◌, Option, Result, Ok, Err, IfOk}
+use Rattle.std.specs.Prelude.{◌≡◌, ◌≤◌, ◌<◌, ⊤, ℕ, ◌==◌, ◌||◌, Bool, false, if◌then◌else◌, List, [], ◌∷◌, Option, Result, Ok, Err, IfOk}
 use Rattle.mkv_io.specs.declared.outside.ReadEnd.{ReadEnd}
-use Rattle.mkv_schema.specs.declared.ids.TheConstants.{SIMPLE_BLOCK}
+use Rattle.mkv_schema.specs.declared.ids.TheConstants.{BLOCK_GROUP, SIMPLE_BLOCK, TIMESTAMP}
 use Rattle.mkv_io.specs.LiveFiles.{LiveFiles}
 use Rattle.mkv_schema.specs.declared.element.Header.{Header}
 use Rattle.block_format.specs.Elements.{Rules, with_limits, simple_block, block_group}
@@ -53,6 +53,15 @@ abbrev pub LendsForChild : Takes → Child → Buffered → Type 0
 LendsForChild takes (child.Passed behind) b = ⊤
 LendsForChild takes child.Block b = LendsWanted takes Block b
 LendsForChild takes (child.Damaged d) b = ⊤
+
+-- the children that are looked at: a Timestamp, a SimpleBlock and a BlockGroup
+abbrev pub is_looked_at : ℕ → Bool
+is_looked_at id = id == TIMESTAMP || (id == SIMPLE_BLOCK || id == BLOCK_GROUP)
+
+-- A child of this ID leaves the walk where it is; one that isn't looked at leaves the block and the window as they were, too.
+pub record KeepsWalk (id : ℕ) (old new : Walk) : Type 0 where
+  pub only : new ≡ record old { block = new.block; window = new.window }
+  pub other : is_looked_at id ≡ false → new ≡ old
 
 -- ---- what a turn gives
 

@@ -11,8 +11,8 @@ ghost use Rattle.block_format.specs.Elements.{simple_block, timestamp_for, with_
 ghost use Rattle.block_records.specs.Front.{HasHead};
 ghost use Rattle.block_records.specs.Lendable.{HasSmallTimes};
 ghost use Rattle.cluster_reader.specs.Reading.{LendsWanted};
-ghost use Rattle.cluster_reader.specs.Takes.{MakesBlock, MakesWanted, wants};
-ghost use Rattle.cluster_reader.specs.Walks.{Finds, IsReady, LendsForChild, block_found};
+ghost use Rattle.cluster_reader.specs.Takes.{MakesBlock, MakesWanted, IsPassedWhere, held_front, settled_by, settled_in, wants};
+ghost use Rattle.cluster_reader.specs.Walks.{Finds, IsReady, KeepsWalk, LendsForChild, block_found};
 ghost use Rattle.cluster_reader.specs.declared.step.Step.TheVariants as StepOf;
 ghost use Rattle.cluster_reader.specs.declared.takes.Takes.{Takes};
 
@@ -21,7 +21,7 @@ use crate::timestamp::read_timestamp;
 use crate::turn::Child;
 use crate::walk::Walk;
 use block_format::{MOST_OF_BLOCK, MOST_TIMESTAMP};
-use block_records::{FrontHead, front_head};
+use block_records::{FrontHead, front_head, front_track};
 use elements::{Window, damage_at, known};
 use mkv_io::{Damage, Kind, ReadEnd, Reads};
 use mkv_schema::Header;
@@ -47,7 +47,7 @@ pub fn read_child<R: Reads>(
     requires inside { stated_end header.now ≤ walk.old.place.end }
     ensures ok { IfOk result (λ child. IfTold R.Reads src.old walk.old.file (λ bytes. Finds takes bytes walk.old.scale timestamp header.now walk.new.block child)) }
     ensures lends { IfOk result (λ child. LendsForChild takes child walk.new.block) }
-    ensures only { walk.new ≡ record walk.old { block = walk.new.block; window = walk.new.window } }
+    ensures only { KeepsWalk header.now.id walk.old walk.new }
     ensures holds { IfTold R.Reads src.old walk.old.file (λ bytes. Holds bytes walk.new.window) }
     ensures standing { R.standing src.new ≡ R.standing src.old }
     ensures cause { HasCause is_read_fault (R.reading_faults src.old) (R.reading_faults src.new) result }
@@ -133,20 +133,21 @@ fn settled(
     requires few { known header.now.size ≤ MOST_OF_BLOCK }
     ensures found { IfSome result (λ front. (bytes : List ℕ) → length (body_of bytes header.now) ≡ known header.now.size → Holds bytes window.now
         → HasHead front (simple_block (with_limits scale) bytes (Some ticks) header.now)) }
-    ensures other { IfSome result (λ front. wants takes front.head.track ≡ false) }
+    ensures exact { result ≡ settled_by takes scale ticks header.now (held_front window.now header.now) }
     ensures small { IfSome result (λ front. HasSmallTimes front.head) }
     ensures few { IfSome result (λ front. front.frames ≤ 256) }
 {
     let most = known(header.size).min(MOST_OF_FRONT) as usize;
-    let found = front_head(scale, ticks, header, window.front_at(header.body, most))?;
-    if wants(takes, found.head.track) {
+    let front = window.front_at(header.body, most);
+    let track = front_track(front)?;
+    if wants(takes, track) {
         None
     } else {
-        Some(found)
+        front_head(scale, ticks, header, front)
     }
 }
 
-// Passes a SimpleBlock that isn't wanted, where its front settles that it is one. Answers whether it does.
+// IsPassedWhere a SimpleBlock that isn't wanted, where its front settles that it is one. Answers whether it does.
 fn passes<R: Reads>(
     walk: &mut Walk,
     src: &mut R,
@@ -158,10 +159,9 @@ fn passes<R: Reads>(
     requires few { known header.now.size ≤ MOST_OF_BLOCK }
     requires whole { is_unknown header.now.size ≡ false }
     requires inside { stated_end header.now ≤ walk.old.place.end }
-    ensures simple { IfOk result (λ passed. IsTrue passed → header.now.id ≡ SIMPLE_BLOCK) }
+    ensures exact { IfOk result (IsPassedWhere (settled_in takes walk.old.scale ticks header.now walk.new.window) walk.new.block) }
     ensures found { IfOk result (λ passed. IsTrue passed → IfTold R.Reads src.old walk.old.file (λ bytes.
         MakesBlock takes walk.new.block (simple_block (with_limits walk.old.scale) bytes (Some ticks) header.now))) }
-    ensures lends { IfOk result (λ passed. IsTrue passed → LendsWanted takes StepOf.Block walk.new.block) }
     ensures only { walk.new ≡ record walk.old { block = walk.new.block; window = walk.new.window } }
     ensures holds { IfTold R.Reads src.old walk.old.file (λ bytes. Holds bytes walk.new.window) }
     ensures standing { R.standing src.new ≡ R.standing src.old }

@@ -3,6 +3,7 @@ use Rattle.block_format.specs.Elements.{with_limits, simple_block, block_group}
 use Rattle.cluster_reader.specs.Takes.{MakesBlock, MakesWanted}
 use Rattle.cluster_reader.specs.declared.walk.Walk.{Walk}
 use Rattle.cluster_reader.proofs.ChildLemmas.{block_found-refused, block_found-simple, block_found-group, timestamp_for-is}
+use Rattle.cluster_reader.proofs.PassedLemmas.{passed-lends, passed-simple}
 use Rattle.cluster_reader.proofs.TakesLemmas.{makes-wanted}
 use Rattle.cluster_reader.proofs.child.read_block.Goals as goal
 
@@ -17,8 +18,15 @@ returns-then-branch-clause-ok g c = λ bytes told.
     let r = with_limits c.args.walk.now.scale in
     let h = c.args.header.now in
     let before = timestamp_for-is r c.args.timestamp h c.in-Ok.ticks (sym (c.in-Ok.ensures.exact c.args.walk.now.scale)) in
-    let is = block_found-simple r bytes c.args.timestamp h (c.in_ok-passes.ensures.simple c.if-branch.true) ∙ ap (λ t. simple_block r bytes t h) before in
+    let w = c.passes.new.walk in
+    let simple = passed-simple c.args.takes c.args.walk.now.scale c.in-Ok.ticks h w.window w.block c.in_ok-passes.field-0 c.in_ok-passes.ensures.exact c.if-branch.true in
+    let is = block_found-simple r bytes c.args.timestamp h simple ∙ ap (λ t. simple_block r bytes t h) before in
     subst (MakesBlock c.args.takes c.passes.new.walk.block) (sym is) (c.in_ok-passes.ensures.found c.if-branch.true bytes told)
+
+pub returns-then-branch-clause-lends : goal.returns-then-branch-clause-lends
+returns-then-branch-clause-lends g c =
+    let w = c.passes.new.walk in
+    passed-lends c.args.takes c.args.walk.now.scale c.in-Ok.ticks c.args.header.now w.window w.block c.in_ok-passes.field-0 c.in_ok-passes.ensures.exact c.if-branch.true
 
 -- a SimpleBlock
 pub returns-in_ok-found-clause-ok : goal.returns-in_ok-found-clause-ok

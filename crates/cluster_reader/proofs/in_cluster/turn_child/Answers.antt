@@ -22,9 +22,9 @@ returns-in-Passed-clause-gives g c = λ bytes content.
     let before : p.at < cluster.end = omega (arith, c.requires.later, c.requires.within) in
     let finds = rw c.in-Passed.is at (c.in-Ok.ensures.ok bytes content) in
     let moved = c.passed-walk.ensures
-    ∙ ap (λ (w : Walk). record w.place { at = end_in cluster.end h; cluster = Some (record cluster { timestamp = c.in-Passed.timestamp }) }) c.read_child.ensures.only
+    ∙ ap (λ (w : Walk). record w.place { at = end_in cluster.end h; cluster = Some (record cluster { timestamp = c.in-Passed.timestamp }) }) c.read_child.ensures.only.only
     ∙ ap (λ t. record p { at = end_in cluster.end h; cluster = Some (record cluster { timestamp = t }) }) finds.1 in
-    ap (λ (w : Walk). left (with_limits w.scale) bytes c.passed-walk.result) c.read_child.ensures.only
+    ap (λ (w : Walk). left (with_limits w.scale) bytes c.passed-walk.result) c.read_child.ensures.only.only
     ∙ sym (left-passes r bytes p c.passed-walk.result cluster h c.requires.inside before (c.requires.found bytes content) c.requires.goes finds.0 moved)
 
 -- a block is given
@@ -39,13 +39,13 @@ returns-in-Block-clause-gives g c = λ bytes content.
     let b = finds.given in
     let other = block-no_timestamp r bytes cluster.timestamp h b finds.is in
     let moved = c.passed-walk-in-Block.ensures
-    ∙ ap (λ (w : Walk). record w.place { at = end_in cluster.end h; cluster = Some cluster }) c.read_child.ensures.only
+    ∙ ap (λ (w : Walk). record w.place { at = end_in cluster.end h; cluster = Some cluster }) c.read_child.ensures.only.only
     ∙ ap (λ o. record p { at = end_in cluster.end h; cluster = o }) (sym c.requires.inside) in
     record {
       given = b;
       left =
           left-block r bytes p c.passed-walk-in-Block.result cluster h b c.requires.inside before (c.requires.found bytes content) c.requires.goes other finds.is moved
-          ∙ sym (ap (λ (w : Walk). block b ∷ left (with_limits w.scale) bytes c.passed-walk-in-Block.result) c.read_child.ensures.only);
+          ∙ sym (ap (λ (w : Walk). block b ∷ left (with_limits w.scale) bytes c.passed-walk-in-Block.result) c.read_child.ensures.only.only);
       known = finds.known;
     }
 
@@ -62,4 +62,4 @@ returns-in-Damaged-clause-gives g c = λ bytes content.
     let gives = rw c.in-Damaged.is at (c.in-Ok.ensures.ok bytes content) in
     left-bad_child r bytes p cluster h d c.requires.inside place before (c.requires.found bytes content) c.requires.goes gives
     ∙ sym (ap (λ (w : Walk). damage_event w.stopped d ∷ left_of bytes (shown w)) c.break_off.ensures
-    ∙ ap (λ (w : Walk). damage_event (not cluster.closed) d ∷ left (with_limits w.scale) bytes (behind_damage w.place cluster)) c.read_child.ensures.only)
+    ∙ ap (λ (w : Walk). damage_event (not cluster.closed) d ∷ left (with_limits w.scale) bytes (behind_damage w.place cluster)) c.read_child.ensures.only.only)

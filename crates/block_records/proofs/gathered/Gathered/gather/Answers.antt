@@ -26,12 +26,12 @@ returns-in-Err-clause-exact c = λ bytes is.
     IsOnWay-breaks bytes (children_in in_master bytes c.args.base e) c.loop-at.self c.loop-at.at e c.in-Err.damage (c.loop-at.invariant.way bytes is) c.loop-at-test.true (c.in-Err.ensures.exact bytes is)
 
 -- a child isn't a value of its kind
-pub returns-then-not-is_known_value-clause-exact :
-    goal.returns-then-not-is_known_value-clause-exact
-returns-then-not-is_known_value-clause-exact c = λ bytes is.
+pub returns-then-not-is_child_value-clause-exact :
+    goal.returns-then-not-is_child_value-clause-exact
+returns-then-not-is_child_value-clause-exact c = λ bytes is.
     let e = c.args.base + length c.args.body.now in
     let h = c.in-Ok.child in
-    let bad = sym (c.is_known_value.ensures ∙ ap (is_known_value BLOCK_GROUP h.id) (c.body_in-value.ensures bytes c.args.total is)) ∙ c.if-not-is_known_value.true in
+    let bad = sym (c.is_child_value.ensures ∙ ap (is_known_value BLOCK_GROUP h.id) (c.body_in-value.ensures bytes c.args.total is)) ∙ c.if-not-is_child_value.true in
     IsOnWay-bad bytes (children_in in_master bytes c.args.base e) c.loop-at.self c.loop-at.at e h (c.loop-at.invariant.way bytes is) c.loop-at-test.true (c.in-Ok.ensures.exact bytes is) bad ∙ ap Some (sym c.damage.ensures)
 
 -- another child is passed
@@ -51,7 +51,7 @@ loop-at-preserved c =
       block = block-inside c.args.base e c.loop-at.self.block c.add.new.self.block h c.in_ok-add.ensures.block c.loop-at.invariant.block (omega arith) within;
       kept = omega (arith, c.in_ok-add.ensures.kept, c.element_of.ensures.length);
       way = λ bytes is.
-          let good = sym (c.is_known_value.ensures ∙ ap (is_known_value BLOCK_GROUP h.id) (c.body_in-value.ensures bytes c.args.total is)) ∙ c.if-not-is_known_value.false in
+          let good = sym (c.is_child_value.ensures ∙ ap (is_known_value BLOCK_GROUP h.id) (c.body_in-value.ensures bytes c.args.total is)) ∙ c.if-not-is_child_value.false in
           IsOnWay-more bytes (children_in in_master bytes c.args.base e) c.loop-at.self c.add.new.self c.loop-at.at (h.body + c.known.result) e h (c.loop-at.invariant.way bytes is) c.loop-at-test.true (c.in-Ok.ensures.exact bytes is) good (omega arith)
           (λ given gathers. c.in_ok-add.ensures.exact bytes given (c.body_in-value.ensures bytes c.args.total is) (c.element_of.ensures.exact bytes c.args.total is) gathers);
     }
