@@ -21,5 +21,5 @@ pub use uuids::{PartUuids, uuids_at};
 /// The most inputs of a merge.
 pub const MOST_INPUTS: usize = 64;
 
-/// The most nanoseconds of a tick.
-pub const MOST_SCALE: u64 = 1 << 32;
+/// The most nanoseconds of a tick: so that the time of each block's tick fits 64 bits.
+pub const MOST_SCALE: u64 = 1 << 63;
