@@ -1,5 +1,5 @@
 -- An Info with identifiers, child by child.
-use Rattle.std.proofs.Common.{◌≡◌, ◌<◌, ◌≤◌, ℕ, ◌+◌, List, [], ◌∷◌, ◌++◌, length, take, get_or, drop, Option, Some, None, Result, Ok, Err, OnOk, refl, sym, ◌∙◌, ap, subst, append_assoc, append-nil, add-one, true, arith}
+use Rattle.std.proofs.Common.{◌≡◌, ◌<◌, ℕ, ◌+◌, List, [], ◌∷◌, ◌++◌, length, take, get_or, Result, Ok, Err, OnOk, refl, sym, ◌∙◌, ap, subst, append_assoc, append-nil, add-one, true, arith}
 use Rattle.tree_format.specs.Node.{HasRoom, IsMaster, Node, children, deepest, depth_all, id_of, leaf, list_of, master, nodes_of, offset_of, with_children}
 use Rattle.tree_format.proofs.NodeLemmas.{list-nodes, nodes-list}
 use Rattle.ebml_tree.specs.Building.{IsBuilt}

@@ -1,5 +1,5 @@
 -- Outputs that are written one after the other.
-use Rattle.std.proofs.Common.{◌≡◌, ◌≤◌, ◌<◌, ℕ, suc, ◌+◌, ◌*◌, ◌^◌, Bool, true, false, List, [], ◌∷◌, ◌++◌, All, length, map, Option, Some, None, ◌⊎◌, inl, inr, refl, sym, ◌∙◌, ap, ap₂, subst, append_assoc, append-nil, arith}
+use Rattle.std.proofs.Common.{◌≡◌, ◌≤◌, ◌<◌, ℕ, suc, ◌+◌, ◌^◌, Bool, true, false, List, [], ◌∷◌, ◌++◌, All, length, map, Option, Some, None, ◌⊎◌, inl, inr, refl, sym, ◌∙◌, ap, ap₂, subst, append_assoc, append-nil, arith}
 use Rattle.std.specs.Prelude.{◌==◌, if◌then◌else◌, slice_index_or}
 use Rattle.std.proofs.lemmas.List.{length-map, map-append}
 use Rattle.std.proofs.lemmas.List.Elements.{All-append, All-cons, All-nil}
@@ -18,9 +18,7 @@ use Rattle.mkv_outputs.specs.Outputs.{Output, with_outputs}
 use Rattle.mkv_outputs.proofs.DraftsLemmas.{StandsInTurn-next, StandsInTurn-whole}
 use Rattle.mkv_outputs.proofs.OutputsLemmas.{with_outputs-added}
 use Rattle.output_model.specs.declared.attachment.Attachment.{Attachment}
-use Rattle.tree_format.specs.Node.{id_of}
 use Rattle.output_model.specs.Document.{Document, layout}
-use Rattle.output_model.specs.declared.front.Front.{Front}
 use Rattle.output_model.specs.Front.{front_with}
 use Rattle.output_model.specs.Document as model
 use Rattle.output_model.specs.Cued.{document_of}

@@ -1,5 +1,5 @@
 -- Blocks up to the next cut, and the parts that begin with them.
-use Rattle.std.proofs.Common.{◌≡◌, ◌≤◌, ◌<◌, ℕ, ◌+◌, ◌*◌, ◌^◌, max, nat_le, Bool, true, false, List, [], ◌∷◌, ◌++◌, map, Option, Some, None, IfSome, refl, sym, ◌∙◌, ap, ap₂, zero-add, arith}
+use Rattle.std.proofs.Common.{◌≡◌, ◌≤◌, ◌<◌, ℕ, ◌+◌, ◌*◌, ◌^◌, max, nat_le, Bool, true, false, List, [], ◌∷◌, map, Option, Some, None, IfSome, refl, sym, ◌∙◌, ap, ap₂, zero-add, arith}
 use Rattle.std.specs.Prelude.{if◌then◌else◌}
 use Rattle.std.specs.Option.{option_map}
 use Rattle.output_model.specs.OutputBlock.{OutputBlock}
@@ -7,7 +7,7 @@ use Rattle.cluster_writer.specs.Lengths.{octets_taken}
 use Rattle.splitter.specs.declared.spec.SplitSpec.{SplitSpec}
 use Rattle.splitter.specs.declared.spec.SplitSpec.TheVariants.{Whole}
 use Rattle.splitter.specs.Split.{keeps}
-use Rattle.splitter.specs.Sections.{Part, Section, Split, begun, beyond, cut_from, cuts_at, in_part, next_start, part_of, parts_in, sections_at, within}
+use Rattle.splitter.specs.Sections.{Part, Section, Split, begun, beyond, cuts_at, in_part, next_start, part_of, parts_in, sections_at, within}
 use Rattle.splitter.specs.Steps.{counted}
 use Rattle.splitter.proofs.SectionLemmas.{beyond-counted, beyond-like, goes-on, within-counted}
 use Rattle.remuxer.specs.Places.{IsEnd, IsLimit, first_tick, part_from, parts_behind, parts_from}

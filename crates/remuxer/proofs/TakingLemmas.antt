@@ -20,7 +20,7 @@ use Rattle.output_model.specs.Document.{Document, cues_for}
 use Rattle.cues_seekhead.specs.OpenOutput.{IsOpen, OpenOutput}
 use Rattle.cues_seekhead.specs.Draft.{StandsDrafted, draft_of}
 use Rattle.cues_seekhead.proofs.OpenLemmas.{StandsOpen-read}
-use Rattle.cluster_writer.specs.Gathered.{Gathered}
+use Rattle.cluster_writer.specs.Gathered.{Gathered, HoldsSmall}
 use Rattle.output_model.specs.Cued.{is_cue}
 use Rattle.remuxer.specs.Stands.{Adds, HasAll, Stands, counted_with}
 use Rattle.remuxer.specs.Stands as runs
@@ -33,7 +33,7 @@ use Rattle.lanes.specs.Told.{with_all}
 use Rattle.merge_model.specs.Lanes.{lane_damages}
 use Rattle.lanes.specs.Walks.{links_left}
 use Rattle.time_merge.specs.Laws.{IsApart, StandsAmong}
-use Rattle.time_merge.specs.Merge.{IsEnded, IsTold, MergeSeen, damages, damages_of, due, files_length, left}
+use Rattle.time_merge.specs.Merge.{IsEnded, IsTold, damages, damages_of, due, files_length, left}
 use Rattle.time_merge.specs.Queues.{KeepsQueues}
 use Rattle.time_merge.specs.declared.queue.Queue.{Queue}
 use Rattle.time_merge.proofs.KeptLemmas.{apart-kept, keeps-merge, stands-kept}
@@ -48,7 +48,7 @@ use Rattle.remuxer.specs.Places.{CanGive, first_tick, in_part_from, lane_of, len
 use Rattle.remux_plan.specs.declared.output.OutputSpec.{OutputSpec}
 use Rattle.remuxer.specs.Output.{Ends, FillsPart, chapters_cut}
 use Rattle.remuxer.specs.declared.placed.PartStart.{PartStart}
-use Rattle.remuxer.specs.Taking.{CanTake, Goes, GoesOn, GoesOnTold, StaysDraft, StaysOnTheWay, TakesAll, TakesNext, TakesRest, TakesSome, WritesInto, rest_of_part}
+use Rattle.remuxer.specs.Taking.{CanTake, Goes, GoesOn, GoesOnTold, StaysDraft, StaysOnTheWay, StaysSmall, TakesAll, TakesNext, TakesRest, TakesSome, WritesInto, rest_of_part}
 use Rattle.remuxer.specs.declared.placed.PlacedBlocks.{PlacedBlocks}
 use Rattle.remuxer.specs.declared.writer.BlockWriter.{BlockWriter}
 use Rattle.remuxer.proofs.PartLemmas.{behind-cut, beyond-cut, beyond-next, within-cut, within-next}
@@ -436,6 +436,11 @@ writes-then r f a b c w v u done result is_open first next =
       is_open = next.is_open;
       kept = KeepsOthers-then r f (f.holder a w.out.file.n ∷ []) a b c first.kept (subst P named next.kept);
     }
+
+-- two calls, of which the second may be refused
+pub small-then : {U : Type 0} (w v u : BlockWriter) (result : Result U RemuxEnd) → (HoldsSmall w.buffer → HoldsSmall v.buffer) → StaysSmall v u result → StaysSmall w u result
+small-then w v u (Ok done) first next = λ small. next (first small)
+small-then w v u (Err end) first next = tt
 
 -- the last Cluster is written
 pub fills-part : {S : Type 0} (r : Ghosts S) (f : writing.Ghosts S) (o : OutputSpec) (rules : List CueRule) (part : PartStart) (a b c : S) (w v u : BlockWriter) (p p' : PlacedBlocks) (ahead : Option Ahead) (chapters : Option Node) (end : Option ℕ) → rules ≡ o.rules

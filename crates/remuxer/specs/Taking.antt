@@ -1,5 +1,5 @@
 -- An output that takes the blocks of a merge, and what a call makes of both.
-use Rattle.std.specs.Prelude.{◌≡◌, ◌<◌, ◌≤◌, ⊤, ℕ, ◌+◌, ◌*◌, List, [], ◌∷◌, length, map, Result, Ok, Err, OnOk, Option}
+use Rattle.std.specs.Prelude.{◌≡◌, ◌<◌, ◌≤◌, ⊤, ℕ, ◌+◌, List, [], ◌∷◌, length, map, Result, Ok, Err, OnOk, Option}
 use Rattle.mkv_io.specs.Faults.{counted, last_count}
 use Rattle.mkv_io.specs.LiveFiles.{LiveFiles}
 use Rattle.mkv_io.specs.Names.{Names}
@@ -10,6 +10,7 @@ use Rattle.mkv_io.specs.declared.files.Files as writing
 use Rattle.mkv_io.specs.declared.remux_end.RemuxEnd.{RemuxEnd}
 use Rattle.output_model.specs.OutputBlock.{OutputBlock}
 use Rattle.output_model.specs.Document.{Document, cues_for}
+use Rattle.cluster_writer.specs.Gathered.{HoldsSmall}
 use Rattle.cues_seekhead.specs.OpenOutput.{IsOpen}
 use Rattle.cues_seekhead.specs.Draft.{StandsDrafted, draft_of}
 use Rattle.output_model.specs.Cued.{is_cue}
@@ -42,6 +43,13 @@ pub record WritesInto {S T : Type 0} (r : Ghosts S) (f : writing.Ghosts S) (old 
   pub file : w'.out.file ≡ w.out.file
   pub is_open : OnOk result (IsOpen r new w'.out)
   pub kept : KeepsOthers r f (f.holder old w.out.file.n ∷ []) old new
+
+-- ---- what it holds
+
+-- No more than one small Cluster is held, but for a single block that is larger: where that is so before a call, it is so
+-- behind it, too, if the call isn't refused.
+abbrev pub StaysSmall : {T : Type 0} → BlockWriter → BlockWriter → Result T RemuxEnd → Type 0
+StaysSmall w w' result = OnOk result (HoldsSmall w.buffer → HoldsSmall w'.buffer)
 
 -- ---- its blocks
 

@@ -75,7 +75,7 @@ pub(crate) struct BlockWriter {
 impl BlockWriter {
     ghost use Rattle.cues_seekhead.specs.OpenOutput.{IsOpen};
     ghost use Rattle.remuxer.specs.Places.{BeginsWith, IsIn, lent_in};
-    ghost use Rattle.remuxer.specs.Taking.{CanTake, Finds, Goes, IsOver, TakesFrom, TakesLeft, TakesMore, TakesNext, TakesPart, WritesInto};
+    ghost use Rattle.remuxer.specs.Taking.{CanTake, Finds, Goes, IsOver, StaysSmall, TakesFrom, TakesLeft, TakesMore, TakesNext, TakesPart, WritesInto};
 
     // Adds the block that the k-th lane lends, from 0, to a part that starts at this tick.
     fn add_lent<F: Files>(
@@ -92,6 +92,7 @@ impl BlockWriter {
         ensures takes { TakesNext F.Reads F.Files.own rules.now (lent_in start k lane.now) files.old files.new self.old self.new result }
         ensures count { TakesMore 1 self.old self.new result }
         ensures writes { WritesInto F.Reads F.Files.own files.old files.new self.old self.new result }
+        ensures held { StaysSmall self.old self.new result }
         ensures octets { F.octets_read files.new ≡ F.octets_read files.old }
         ensures cause { HasRemuxCause F.Reads F.Files.own files.old files.new result }
     {
@@ -115,6 +116,7 @@ impl BlockWriter {
         requires within { IsIn start blocks.old }
         ensures takes { TakesFrom F.Reads F.Files.own rules.now start files.old files.new self.old self.new blocks.old blocks.new result }
         ensures writes { WritesInto F.Reads F.Files.own files.old files.new self.old self.new result }
+        ensures held { StaysSmall self.old self.new result }
         ensures goes { Goes F.Reads 0 files.old files.new blocks.old blocks.new result }
         ensures finds { Finds start blocks.old blocks.new result }
         ensures cause { HasRemuxCause F.Reads F.Files.own files.old files.new result }
@@ -148,6 +150,7 @@ impl BlockWriter {
         requires within { IsIn start blocks.old }
         ensures takes { TakesLeft F.Reads F.Files.own rules.now start files.old files.new self.old self.new blocks.old blocks.new result }
         ensures writes { WritesInto F.Reads F.Files.own files.old files.new self.old self.new result }
+        ensures held { StaysSmall self.old self.new result }
         ensures goes { Goes F.Reads 0 files.old files.new blocks.old blocks.new result }
         ensures finds { IfOk result (IsOver blocks.old blocks.new) }
         ensures cause { HasRemuxCause F.Reads F.Files.own files.old files.new result }
@@ -172,6 +175,7 @@ impl BlockWriter {
         requires begins { BeginsWith blocks.old part.start part.lane }
         ensures takes { TakesPart F.Reads F.Files.own rules.now part files.old files.new self.old self.new blocks.old blocks.new result }
         ensures writes { WritesInto F.Reads F.Files.own files.old files.new self.old self.new result }
+        ensures held { StaysSmall self.old self.new result }
         ensures goes { Goes F.Reads 0 files.old files.new blocks.old blocks.new result }
         ensures finds { IfOk result (IsOver blocks.old blocks.new) }
         ensures cause { HasRemuxCause F.Reads F.Files.own files.old files.new result }

@@ -1,7 +1,6 @@
 use Rattle.std.proofs.Common.{◌≡◌, ℕ, List, Ok, Err, sym, ◌∙◌, ap, subst}
 use Rattle.std.proofs.lemmas.Result.{err_from_is_err_and}
 use Rattle.tree_format.specs.Node.{IsMaster, Node, id_of}
-use Rattle.mkv_schema.specs.declared.ids.TheConstants.{INFO}
 use Rattle.remux_plan.specs.Uuids.{uuids_at, with_uuids}
 use Rattle.remux_plan.specs.declared.output.OutputSpec.{OutputSpec}
 use Rattle.remux_plan.specs.declared.uuids.PartUuids.{PartUuids}

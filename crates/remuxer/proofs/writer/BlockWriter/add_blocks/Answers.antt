@@ -38,6 +38,9 @@ pub returns-in-Over-clause-goes : goal.returns-in-Over-clause-goes
 returns-in-Over-clause-goes g c =
     goes-then g.F.Reads 0 0 c.args.files.now c.steps.files c.add_next.new.files c.args.blocks.now c.steps.blocks c.add_next.new.blocks c.steps.invariant.goes c.in_ok-add_next.ensures.goes
 
+pub returns-in-Over-clause-held : goal.returns-in-Over-clause-held
+returns-in-Over-clause-held g c = λ small. c.in_ok-add_next.ensures.held (c.steps.invariant.held small)
+
 -- a block was added
 pub steps-preserved : goal.steps-preserved
 steps-preserved g c =
@@ -58,6 +61,7 @@ steps-preserved g c =
       file = both.file;
       is_open = both.is_open;
       kept = both.kept;
+      held = λ small. c.in_ok-add_next.ensures.held (inv.held small);
       goes = goes-then g.F.Reads 0 0 a b e c.args.blocks.now c.steps.blocks c.add_next.new.blocks inv.goes c.in_ok-add_next.ensures.goes;
       within = found.0;
       on = omega (arith, less, so_far);

@@ -1,6 +1,7 @@
 use Rattle.std.proofs.Common.{◌≡◌, ◌≤◌, ◌∷◌, []}
 use Rattle.mkv_io.specs.Sources.{live_files}
 use Rattle.mkv_io.specs.Writing.{KeepsOthers}
+use Rattle.cluster_writer.specs.Gathered.{HoldsSmall}
 use Rattle.cues_seekhead.specs.OpenOutput.{IsOpen}
 use Rattle.time_merge.specs.Merge.{IsTold, way}
 use Rattle.remuxer.specs.Places.{IsIn, split_in}
@@ -12,6 +13,7 @@ invariant-steps g l = record {
   file : l.self.out.file ≡ l.initial.self.out.file;
   is_open : IsOpen g.F.Reads l.files l.self.out;
   kept : KeepsOthers g.F.Reads g.F.Files (g.F.Files.holder l.initial.files l.initial.self.out.file.n ∷ []) l.initial.files l.files;
+  held : HoldsSmall l.initial.self.buffer → HoldsSmall l.self.buffer;
   goes : GoesOn g.F.Reads 0 l.initial.files l.files l.initial.blocks l.blocks;
   within : IsIn l.start l.blocks;
   on : way l.blocks.merge ≤ way l.initial.blocks.merge;

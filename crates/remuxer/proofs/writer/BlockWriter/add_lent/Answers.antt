@@ -1,4 +1,4 @@
-use Rattle.std.proofs.Common.{◌≡◌, ℕ, ◌+◌, ◌-◌, Bool, Ok, Err, ap, ap₂, ◌∙◌, arith}
+use Rattle.std.proofs.Common.{◌≡◌, ℕ, ◌+◌, ◌-◌, Bool, ap, ap₂, ◌∙◌, arith}
 use Rattle.std.proofs.lemmas.Result.{err_from_is_err_and}
 use Rattle.std.specs.List.{slice_get}
 use Rattle.std.specs.Option.{unwrap_or}
@@ -26,3 +26,6 @@ returns-clause-takes g c =
     let cued = c.is_cued-cued.ensures ∙ ap₂ (λ (n : ℕ) (key : Bool). is_cue_by (unwrap_or (slice_get c.args.rules.now n) cue_rule.Never) key) place (ap (λ (b : OutputBlock). b.key) block) in
     let w' : BlockWriter = record { out = c.add_block.new.out; buffer = c.add_block.new.buffer; blocks = c.args.self.now.blocks; counts = c.add.new.self } in
     takes-lent {T = Unit {0}} g.F.Reads g.F.Files c.args.rules.now (block_of c.lent_by-block.result) (in_part c.args.start (block_lent c.args.k c.args.lane.now)) c.is_cued-cued.result c.in_ok-begins.begins c.args.files.now c.add_block.new.files c.args.self.now w' tt block cued c.add.ensures c.in_ok-begins.ensures.adds
+
+pub returns-clause-held : goal.returns-clause-held
+returns-clause-held g c = λ small. c.in_ok-begins.ensures.most

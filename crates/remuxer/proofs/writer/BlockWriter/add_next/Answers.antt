@@ -1,7 +1,8 @@
-use Rattle.std.proofs.Common.{◌<◌, ◌∷◌, [], Some, length, refl, sym, ◌∙◌, ap, subst, arith}
+use Rattle.std.proofs.Common.{◌<◌, ◌∷◌, [], Some, Err, length, refl, sym, ◌∙◌, ap, subst, arith}
 use Rattle.std.proofs.lemmas.Option.{slice_get_within}
 use Rattle.std.proofs.lemmas.Result.{err_from_is_err_and}
 use Rattle.mkv_io.specs.Sources.{live_files}
+use Rattle.mkv_io.proofs.EndsLemmas.{HasRemuxCause-then}
 use Rattle.mkv_io.proofs.WritingLemmas.{KeepsOthers-none}
 use Rattle.lanes.specs.Lane.{LaneSeen}
 use Rattle.splitter.specs.Sections.{in_part}
@@ -9,6 +10,7 @@ use Rattle.time_merge.specs.Merge.{left}
 use Rattle.time_merge.proofs.QueueLemmas.{count-kept, steps-lane, told-kept}
 use Rattle.remuxer.specs.Placed.{PlacesOne}
 use Rattle.remuxer.specs.Places.{block_lent, in_part_from, split_in}
+use Rattle.remuxer.specs.declared.writer.Turn.{Turn}
 use Rattle.remuxer.proofs.NextLemmas.{paid-of, read-goes}
 use Rattle.remuxer.proofs.PartLemmas.{fits-of}
 use Rattle.remuxer.proofs.StepLemmas.{gives-same, is-same, lane-is, not-same, on_to, other-start, over-found, same-in, same-load, split-same, step-gives, step-left, step-one, step-other, step-same, step-split}
@@ -175,6 +177,16 @@ returns-in_err-add_lent-clause-writes g c =
       kept = turn-keeps g.F.Reads g.F.Files c.args.rules.now a b e c.args.self.now c.add_lent.new.self p (on_to p m' c') read c.requires.can.apart moves.keeps can c.in_err-add_lent.ensures.writes.kept;
     })
 
+pub returns-in_err-add_lent-clause-cause : goal.returns-in_err-add_lent-clause-cause
+returns-in_err-add_lent-clause-cause g c =
+    let q = err_from_is_err_and c.from_residual-in_err-add_lent.result c.from_residual-in_err-add_lent.ensures.1 in
+    let a = c.args.files.now in
+    let b = c.place_next.new.src in
+    let cause = c.in_err-add_lent.ensures.cause in
+    rw (q.1, q.2)
+    (HasRemuxCause-then {T = Turn} g.F.Reads g.F.Files a b c.add_lent.new.files (Err c.in_err-add_lent.field-0.0) c.in_ok-next.ensures.cause (g.met.F.Files.writing_stands b a c.in_ok-next.ensures.standing)
+    (record { reading = cause.reading; writing = cause.writing }))
+
 -- it was written
 pub returns-clause-takes : goal.returns-clause-takes
 returns-clause-takes g c = λ told.
@@ -266,3 +278,6 @@ returns-clause-finds g c =
     let can = step-gives f p m' c' next c.requires.can.gives moves.keeps moves.steps its (live_files g.F.Reads b) c.in_ok-next.ensures.ready in
     let same = is-same next.place (sym c.if-not-is_same.ensures) in
     (same-in f p m' c' next c.requires.can.gives moves.keeps moves.steps its c.args.start c.requires.within.started same c.requires.within.kept, moves.steps.on)
+
+pub returns-clause-held : goal.returns-clause-held
+returns-clause-held g c = c.in_ok-add_lent.ensures.held

@@ -7,7 +7,7 @@ use Rattle.output_model.specs.OutputBlock.{IsLent}
 use Rattle.time_merge.specs.Merge.{left}
 use Rattle.remuxer.specs.Places.{block_lent, lent_at, split_in}
 use Rattle.remuxer.proofs.StepLemmas.{lane-is, lent-one}
-use Rattle.remuxer.proofs.TakingLemmas.{can-again, first-drafted, goes-none, goes-result, part-none, part-then, rest-goes, rest-left, writes-then}
+use Rattle.remuxer.proofs.TakingLemmas.{can-again, first-drafted, goes-none, goes-result, part-none, part-then, rest-goes, rest-left, small-then, writes-then}
 use Rattle.remuxer.proofs.writer.BlockWriter.add_part.Goals as goal
 
 -- the part has no block
@@ -81,3 +81,6 @@ returns-clause-goes g c =
 pub returns-clause-writes : goal.returns-clause-writes
 returns-clause-writes g c =
     writes-then g.F.Reads g.F.Files c.args.files.now c.add_lent.new.files c.add_blocks.new.files c.args.self.now c.add_lent.new.self c.add_blocks.new.self tt c.add_blocks.result c.requires.can.is_open c.in_ok-add_lent.ensures.writes c.add_blocks.ensures.writes
+
+pub returns-clause-held : goal.returns-clause-held
+returns-clause-held g c = small-then c.args.self.now c.add_lent.new.self c.add_blocks.new.self c.add_blocks.result c.in_ok-add_lent.ensures.held c.add_blocks.ensures.held
