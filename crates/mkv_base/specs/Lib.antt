@@ -7,6 +7,7 @@ pub use Rattle.mkv_io.specs.Names
 pub use Rattle.mkv_io.specs.Sources
 pub use Rattle.mkv_io.specs.Told
 pub use Rattle.mkv_io.specs.Writing
+pub use Rattle.mkv_io.specs.Asked
 pub use Rattle.mkv_disk.specs.Calls
 pub use Rattle.mkv_disk.specs.Image
 pub use Rattle.mkv_disk.specs.Moments

@@ -5,7 +5,7 @@
 
 pub use mkv_disk::{Disk, MEDIA, SIDECAR};
 pub use mkv_io::{
-    Bytes, Damage, Failed, FileId, Files, Kind, LONGEST_FILE, List, MakeFault, OpenFault, ReadEnd,
-    Reads, Report, Text,
+    Asked, Bytes, Damage, Failed, FileId, Files, Kind, LONGEST_FILE, List, MakeFault, OpenFault,
+    ReadEnd, Reads, Report, Text,
 };
 pub use mkv_memory::{MemDisk, MemFiles, MemReport};

@@ -1,5 +1,5 @@
 -- What is known of the files of the system that are open.
-use Rattle.std.specs.Prelude.{◌≡◌, ℕ, ◌≤◌, ◌<◌, zero, suc, List, [], ◌∷◌, length, Bool, true, false, ◌&&◌, ◌==◌, Option, Some, None, is_some, get_or}
+use Rattle.std.specs.Prelude.{◌≡◌, ℕ, ◌≤◌, ◌<◌, zero, suc, List, [], ◌∷◌, length, Bool, true, ◌&&◌, ◌==◌, Option, Some, None, is_some, get_or}
 use Rattle.std.proofs.Common.{arith}
 use Rattle.mkv_io.specs.LiveFiles.{LiveFiles}
 use Rattle.mkv_host.specs.declared.opened.Opened.{Opened}

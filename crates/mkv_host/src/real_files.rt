@@ -10,7 +10,9 @@ use crate::opened::Opened;
 use crate::outputs::{Output, emptied, open_or_make, replaced};
 use crate::system::{Node, is_missing, node_of, open_to_read};
 use crate::writer::write_from;
-use mkv_io::{Failed, FileId, Files, LONGEST_FILE, MakeFault, OpenFault, Reads};
+use mkv_io::{
+    Asked, Failed, FileId, Files, LONGEST_FILE, MakeFault, OpenFault, Reads, room_for_name,
+};
 use std::alloc::Global;
 use std::fs::File;
 use std::io::ErrorKind;
@@ -18,13 +20,15 @@ use std::os::unix::fs::{FileExt, MetadataExt};
 use std::{fs, io};
 
 /// The files of the system. A file that is opened is only read; one that is created is written too. Which files a run has
-/// opened or made stays known when they are closed.
+/// opened or made stays known when they are closed, and so do their names.
 #[derive(Drop)]
 pub struct RealFiles<'a, R: fs::Files<File = File>> {
     alloc: Global,
     system: &'a R,
     opened: Vec<Option<Opened>>,
     seen: Vec<Node>,
+    // the names that contracts speak of: no code reads them
+    asked: Vec<Asked>,
     reading_faults: u64,
     writing_faults: u64,
     octets_read: u64,
@@ -33,15 +37,17 @@ pub struct RealFiles<'a, R: fs::Files<File = File>> {
 }
 
 impl<'a, R: fs::Files<File = File>> RealFiles<'a, R> {
-    /// The files of the system, none of them open.
+    /// The files of the system, none of them opened or made.
     pub fn new(alloc: Global, system: &'a R) -> RealFiles<'a, R>
-        ensures { result.opened.items ≡ [] }
+        ensures none_open { result.opened.items ≡ [] }
+        ensures none_asked { result.asked.items ≡ [] }
     {
         RealFiles {
             alloc,
             system,
             opened: Vec::new(alloc),
             seen: Vec::new(alloc),
+            asked: Vec::new(alloc),
             reading_faults: 0,
             writing_faults: 0,
             octets_read: 0,
@@ -91,10 +97,11 @@ impl<'a, R: fs::Files<File = File>> Reads for RealFiles<'a, R> {
     ghost use Rattle.std.specs.Prelude.{List, Option, ℕ};
     ghost use Rattle.mkv_host.specs.Opened.{live_in, opened_at, short-of_size};
     ghost use Rattle.mkv_host.specs.declared.opened.Opened.{Opened};
+    ghost use Rattle.mkv_io.specs.declared.asked.Asked.{Asked};
 
-    ghost Standing = { List (Option Opened) × ℕ };
+    ghost Standing = { List (Option Opened) × ℕ × List Asked };
 
-    ghost standing = { λ files. (files.opened.items, files.writing_faults) };
+    ghost standing = { λ files. (files.opened.items, files.writing_faults, files.asked.items) };
 
     ghost files = { λ s. live_in s.0 };
 
@@ -130,6 +137,7 @@ impl<'a, R: fs::Files<File = File>> Files for RealFiles<'a, R> {
     ghost use Rattle.std.proofs.Common.{ap};
     ghost use Rattle.mkv_host.specs.Opened.{holder_in, live_in, opened_at, numbered-live};
     ghost use Rattle.mkv_host.specs.declared.opened.Opened.{Opened};
+    ghost use Rattle.mkv_io.specs.declared.asked.Asked.{Asked};
 
     ghost names = { λ _. None };
 
@@ -138,6 +146,8 @@ impl<'a, R: fs::Files<File = File>> Files for RealFiles<'a, R> {
     ghost given = { λ files. length files.opened.items };
 
     ghost writing_faults = { λ files. files.writing_faults };
+
+    ghost asked = { λ files. files.asked.items };
 
     ghost named = { λ files file live world told. cc };
 
@@ -149,29 +159,32 @@ impl<'a, R: fs::Files<File = File>> Files for RealFiles<'a, R> {
 
     ghost names_stand = { λ a b same. cc };
 
-    ghost holders_stand = { λ a b same file. ap (λ (s : List (Option Opened) × ℕ). holder_in s.0 file) same };
+    ghost holders_stand = { λ a b same file. ap (λ (s : List (Option Opened) × ℕ × List Asked). holder_in s.0 file) same };
 
-    ghost given_stands = { λ a b same. ap (λ (s : List (Option Opened) × ℕ). length s.0) same };
+    ghost given_stands = { λ a b same. ap (λ (s : List (Option Opened) × ℕ × List Asked). length s.0) same };
 
-    ghost writing_stands = { λ a b same. ap (λ (s : List (Option Opened) × ℕ). s.1) same };
+    ghost writing_stands = { λ a b same. ap (λ (s : List (Option Opened) × ℕ × List Asked). s.1) same };
+
+    ghost asked_stands = { λ a b same. ap (λ (s : List (Option Opened) × ℕ × List Asked). s.2) same };
 
     fn open_file(&mut self, name: &str) -> Result<FileId, OpenFault> {
         if self.is_full() {
             note_failure(&mut self.reading_faults);
             return Err(OpenFault::Failed);
         }
+        let asked = room_for_name(&mut self.asked, self.alloc, name)?;
         let holder = prepare(&mut self.opened, &mut self.seen, self.alloc, name)?;
         match open_to_read(self.system, name) {
-            Ok((file, size, node)) => Ok(add(
-                &mut self.opened,
-                &mut self.seen,
-                Opened {
+            Ok((file, size, node)) => {
+                self.asked.push(Asked::Opened(asked)).unwrap();
+                let one = Opened {
                     file,
                     node,
                     name: holder,
                     size,
-                },
-            )),
+                };
+                Ok(add(&mut self.opened, &mut self.seen, one))
+            }
             Err(error) if is_missing(&error) => Err(OpenFault::Missing),
             Err(_) => {
                 note_failure(&mut self.reading_faults);
@@ -185,20 +198,23 @@ impl<'a, R: fs::Files<File = File>> Files for RealFiles<'a, R> {
             note_failure(&mut self.writing_faults);
             return Err(MakeFault::Failed);
         }
+        let asked = room_for_name(&mut self.asked, self.alloc, name)?;
         let holder = prepare(&mut self.opened, &mut self.seen, self.alloc, name)?;
         match self.make(name) {
-            Ok(made) => Ok(add(
-                &mut self.opened,
-                &mut self.seen,
-                Opened {
+            Ok(made) => {
+                self.asked.push(Asked::Made(asked)).unwrap();
+                let one = Opened {
                     file: made.file,
                     node: made.node,
                     name: holder,
                     size: 0,
-                },
-            )),
+                };
+                Ok(add(&mut self.opened, &mut self.seen, one))
+            }
             Err(error) if error.kind() == ErrorKind::OutOfMemory => Err(MakeFault::Memory),
+            // The file may have been made or emptied before.
             Err(_) => {
+                self.asked.push(Asked::Made(asked)).unwrap();
                 note_failure(&mut self.writing_faults);
                 Err(MakeFault::Failed)
             }

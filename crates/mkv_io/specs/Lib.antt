@@ -9,3 +9,4 @@ pub mod Writing
 pub mod Kind
 pub mod RemuxEnd
 pub mod Ends
+pub mod Asked

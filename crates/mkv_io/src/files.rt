@@ -1,6 +1,9 @@
 //! Files that are opened by name, made, and written.
 
 ghost use Rattle.std.specs.Prelude.{◌≡◌, ◌≢◌, ◌⊎◌, ◌↔◌, ℕ, ◌+◌, ◌<◌, ◌≤◌, Bool, true, false, List, [], length, Option, Some, None, is_some, OnOk, OnErr, IfOk, IsErrOf, IsTrue};
+ghost use Rattle.mkv_io.specs.Asked.{AsksFor};
+ghost use Rattle.mkv_io.specs.declared.asked.Asked.{Asked};
+ghost use Rattle.mkv_io.specs.declared.asked.Asked.TheVariants.{Opened, Made};
 ghost use Rattle.mkv_io.specs.Faults.{HasCause, is_failure, is_make_failure, is_open_failure, last_count};
 ghost use Rattle.mkv_io.specs.LiveFiles.{Appends, AppendsPart, KeepsFiles, KeepsHolders, Overwrites, OverwritesWithin};
 ghost use Rattle.mkv_io.specs.Names.{Names, with_change, with_content};
@@ -25,6 +28,9 @@ pub trait Files: Reads {
     /// How often making or writing failed.
     ghost writing_faults: { Self → ℕ };
 
+    /// The names under which files were opened or made, in order; that of a `create` that failed may be among them.
+    ghost asked: { Self → List Asked };
+
     /// Opens the file of a name.
     fn open_file(&mut self, name: &str) -> Result<FileId, OpenFault>
         ensures missing { Told (names self.old) (λ world. IsErrOf result OpenFault.Missing ↔ (world name.now ≡ None)) }
@@ -44,6 +50,7 @@ pub trait Files: Reads {
         ensures holders { KeepsHolders (Self.files (Self.standing self.old)).live (holder self.old) (holder self.new) }
 
         ensures cause { HasCause is_open_failure (Self.reading_faults self.old) (Self.reading_faults self.new) result }
+        ensures asks { AsksFor (Opened name.now) (asked self.old) (asked self.new) result }
         ensures writing { writing_faults self.new ≡ writing_faults self.old }
         ensures octets { Self.octets_read self.new ≡ Self.octets_read self.old };
 
@@ -69,6 +76,7 @@ pub trait Files: Reads {
         ensures others { KeepsFiles (Self.files (Self.standing self.old)) (Self.files (Self.standing self.new)) (λ file. (file < given self.old) × (holder self.old file ≢ name.now)) }
         ensures holders { KeepsHolders (Self.files (Self.standing self.old)).live (holder self.old) (holder self.new) }
 
+        ensures asks { AsksFor (Made name.now) (asked self.old) (asked self.new) result }
         ensures cause { HasCause is_make_failure (writing_faults self.old) (writing_faults self.new) result }
         ensures reading { Self.reading_faults self.new ≡ Self.reading_faults self.old }
         ensures octets { Self.octets_read self.new ≡ Self.octets_read self.old };
@@ -89,6 +97,7 @@ pub trait Files: Reads {
         ensures others { KeepsFiles (Self.files (Self.standing self.old)) (Self.files (Self.standing self.new)) (λ other. holder self.old other ≢ holder self.old file.n) }
         ensures holders { KeepsHolders (Self.files (Self.standing self.old)).live (holder self.old) (holder self.new) }
 
+        ensures asks { asked self.new ≡ asked self.old }
         ensures cause { HasCause is_make_failure (writing_faults self.old) (writing_faults self.new) result }
         ensures reading { Self.reading_faults self.new ≡ Self.reading_faults self.old }
         ensures octets { Self.octets_read self.new ≡ Self.octets_read self.old };
@@ -107,6 +116,7 @@ pub trait Files: Reads {
         ensures others { KeepsFiles (Self.files (Self.standing self.old)) (Self.files (Self.standing self.new)) (λ other. holder self.old other ≢ holder self.old file.n) }
         ensures holders { KeepsHolders (Self.files (Self.standing self.old)).live (holder self.old) (holder self.new) }
 
+        ensures asks { asked self.new ≡ asked self.old }
         ensures cause { HasCause is_failure (writing_faults self.old) (writing_faults self.new) result }
         ensures reading { Self.reading_faults self.new ≡ Self.reading_faults self.old }
         ensures octets { Self.octets_read self.new ≡ Self.octets_read self.old };
@@ -120,6 +130,7 @@ pub trait Files: Reads {
         ensures others { KeepsFiles (Self.files (Self.standing self.old)) (Self.files (Self.standing self.new)) (λ other. other ≢ file.n) }
         ensures holders { KeepsHolders (Self.files (Self.standing self.new)).live (holder self.old) (holder self.new) }
 
+        ensures asks { asked self.new ≡ asked self.old }
         ensures writing { writing_faults self.new ≡ writing_faults self.old }
         ensures reading { Self.reading_faults self.new ≡ Self.reading_faults self.old }
         ensures octets { Self.octets_read self.new ≡ Self.octets_read self.old };
@@ -136,7 +147,7 @@ pub trait Files: Reads {
     /// At the last number no file is opened or made any more.
     ghost last: { (x : Self) → given x ≤ last_count };
 
-    // Names, holders, numbers and writing faults are functions of what reading leaves.
+    // Names, holders, numbers, writing faults and what was asked for are functions of what reading leaves.
     ghost names_stand: { (a b : Self) → Self.Reads.standing a ≡ Self.Reads.standing b → names a ≡ names b };
 
     ghost holders_stand: { (a b : Self) → Self.Reads.standing a ≡ Self.Reads.standing b → (file : ℕ) → holder a file ≡ holder b file };
@@ -144,4 +155,6 @@ pub trait Files: Reads {
     ghost given_stands: { (a b : Self) → Self.Reads.standing a ≡ Self.Reads.standing b → given a ≡ given b };
 
     ghost writing_stands: { (a b : Self) → Self.Reads.standing a ≡ Self.Reads.standing b → writing_faults a ≡ writing_faults b };
+
+    ghost asked_stands: { (a b : Self) → Self.Reads.standing a ≡ Self.Reads.standing b → asked a ≡ asked b };
 }

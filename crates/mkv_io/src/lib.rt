@@ -4,6 +4,7 @@
 //! values that it speaks of. Each of the three is a trait whose ghost members say what it holds, how often it failed, and
 //! how much of it was read. Code above is generic over these traits and is proved from their clauses alone.
 
+mod asked;
 mod damage;
 mod entry;
 mod files;
@@ -14,6 +15,7 @@ mod reads;
 mod remux_end;
 mod report;
 
+pub use asked::{Asked, room_for_name};
 pub use damage::{Damage, Kind};
 pub use entry::Entry;
 pub use files::Files;

@@ -13,4 +13,5 @@ seen files = record {
   reading_faults = files.reading_faults;
   writing_faults = files.writing_faults;
   octets_read = files.octets_read;
+  asked = files.asked.items;
 }

@@ -1,5 +1,7 @@
 -- What can be seen of files in memory, and what each call makes of it.
-use Rattle.std.specs.Prelude.{◌≡◌, ℕ, ◌+◌, ◌-◌, min, Bool, true, false, ◌||◌, ◌==◌, nat_lt, if◌then◌else◌, List, [], length, take, Option, Some, None, is_some, unwrap_or, Result, Ok, Err}
+use Rattle.std.specs.Prelude.{◌≡◌, ℕ, ◌+◌, ◌-◌, min, Bool, true, false, ◌||◌, ◌==◌, nat_lt, if◌then◌else◌, List, [], ◌∷◌, ◌++◌, length, take, Option, Some, None, is_some, unwrap_or, Result, Ok, Err}
+use Rattle.mkv_io.specs.declared.asked.Asked.{Asked}
+use Rattle.mkv_io.specs.declared.asked.Asked.TheVariants.{Opened, Made}
 use Rattle.mkv_io.specs.declared.outside.FileId.{FileId}
 use Rattle.mkv_io.specs.declared.outside.Failed.{Failed}
 use Rattle.mkv_io.specs.declared.outside.OpenFault.{OpenFault}
@@ -11,8 +13,8 @@ use Rattle.mkv_io.specs.Faults.{counted, last_count}
 use Rattle.mkv_memory.specs.Stored.{Stored, closed, file_octets, opened_under, with_changed_file, with_content_at}
 use Rattle.mkv_io.specs.declared.outside.TheConstants.{LONGEST_FILE}
 
--- What is stored, which calls are to fail, and the counts. A call is told by its number, from
--- 0 on; one that is to fail has a number of octets, which it keeps if it is an append.
+-- What is stored, which calls are to fail, the counts, and the names that were opened or made, in order. A call is told by
+-- its number, from 0 on; one that is to fail has a number of octets, which it keeps if it is an append.
 pub record SeenFiles : Type 0 where
   pub stored : Stored
   pub to_fail : ℕ → Option ℕ
@@ -20,6 +22,7 @@ pub record SeenFiles : Type 0 where
   pub reading_faults : ℕ
   pub writing_faults : ℕ
   pub octets_read : ℕ
+  pub asked : List Asked
 
 -- no names, and no call that is to fail
 abbrev pub no_files : SeenFiles
@@ -30,6 +33,7 @@ no_files = record {
   reading_faults = 0;
   writing_faults = 0;
   octets_read = 0;
+  asked = [];
 }
 
 -- one more call is to fail, and keeps so many octets
@@ -39,6 +43,10 @@ with_failure old call kept = record old { to_fail = λ other. if other == call t
 -- other names, contents and files are stored
 abbrev pub with_stored : SeenFiles → Stored → SeenFiles
 with_stored old stored = record old { stored = stored }
+
+-- one more name was opened or made
+abbrev pub with_asked : SeenFiles → Asked → SeenFiles
+with_asked old name = record old { asked = old.asked ++ name ∷ [] }
 
 -- ---- what counted calls have in common
 
@@ -73,23 +81,23 @@ ReadsAt old file at was into (Ok _) new =
 ReadsAt old file at was into (Err _) new = (is_to_fail old ≡ true) × (into ≡ was) × (new ≡ failed_to_read old)
 
 -- A name that isn't there is missing, and no fault. Else opening fails exactly where no file can
--- be opened, and otherwise the next number is that of a file under the name.
+-- be opened, and otherwise the next number is that of a file under the name, which was asked for.
 abbrev pub OpensName : SeenFiles → List ℕ → Result FileId OpenFault → SeenFiles → Type 0
 OpensName old name (Ok file) new =
     (is_some (old.stored.world name) ≡ true) × (cannot_open old ≡ false) × (file.n ≡ length old.stored.opened)
-    × (new ≡ with_stored (called old) (opened_under old.stored name))
+    × (new ≡ with_asked (with_stored (called old) (opened_under old.stored name)) (Opened name))
 OpensName old name (Err open_fault.Missing) new = (old.stored.world name ≡ None) × (new ≡ called old)
 OpensName old name (Err open_fault.Failed) new =
     (is_some (old.stored.world name) ≡ true) × (cannot_open old ≡ true) × (new ≡ failed_to_read old)
 OpensName old name (Err open_fault.Memory) new =
     (is_some (old.stored.world name) ≡ true) × (cannot_open old ≡ false) × (new ≡ called old)
 
--- Making a file fails exactly where none can be opened. Else the name's content is empty, and the
--- next number is that of a file under it.
+-- Making a file fails exactly where none can be opened. Else the name's content is empty, the
+-- next number is that of a file under it, and it was asked for.
 abbrev pub CreatesName : SeenFiles → List ℕ → Result FileId MakeFault → SeenFiles → Type 0
 CreatesName old name (Ok file) new =
     (cannot_open old ≡ false) × (file.n ≡ length old.stored.opened)
-    × (new ≡ with_stored (called old) (opened_under (with_content_at old.stored name []) name))
+    × (new ≡ with_asked (with_stored (called old) (opened_under (with_content_at old.stored name []) name)) (Made name))
 CreatesName old name (Err make_fault.Failed) new = (cannot_open old ≡ true) × (new ≡ failed_to_write old)
 CreatesName old name (Err make_fault.Memory) new = (cannot_open old ≡ false) × (new ≡ called old)
 

@@ -7,12 +7,15 @@ ghost use Rattle.mkv_io.specs.Faults.{HasCause, is_failure, is_make_failure, is_
 ghost use Rattle.mkv_io.specs.declared.outside.TheConstants.{LONGEST_FILE};
 
 use crate::store::Store;
-use mkv_io::{Bytes, Failed, FileId, Files, LONGEST_FILE, MakeFault, OpenFault, Reads};
+use mkv_io::{
+    Asked, Bytes, Failed, FileId, Files, LONGEST_FILE, MakeFault, OpenFault, Reads, room_for_name,
+};
 use std::alloc::{AllocError, Global};
 use std::cmp::min;
 use std::collections::BTreeMap;
 
-/// Files in memory, which tell names and contents, and fail at the calls that they are told to.
+/// Files in memory, which tell names and contents, and fail at the calls that they are told to. The names that were opened
+/// or made stay known, in order.
 ///
 /// Calls of `open_file`, `create`, `read_at`, `append` and `overwrite` are counted from 0, from the
 /// making on.
@@ -25,6 +28,8 @@ pub struct MemFiles {
     reading_faults: u64,
     writing_faults: u64,
     octets_read: u64,
+    // the names that contracts speak of: no code reads them
+    asked: Vec<Asked>,
 }
 
 impl MemFiles {
@@ -45,6 +50,7 @@ impl MemFiles {
             reading_faults: 0,
             writing_faults: 0,
             octets_read: 0,
+            asked: Vec::new(alloc),
         })
     }
 
@@ -95,16 +101,17 @@ fn kept_of(len: usize, kept: u64) -> usize
 }
 
 impl Reads for MemFiles {
-    ghost use Rattle.std.specs.Prelude.{ℕ};
+    ghost use Rattle.std.specs.Prelude.{List, ℕ};
+    ghost use Rattle.mkv_io.specs.declared.asked.Asked.{Asked};
     ghost use Rattle.mkv_io.specs.Faults.{HasCause, is_failure, is_make_failure, is_open_failure};
     ghost use Rattle.mkv_memory.specs.SeenFiles.{ReadsAt};
     ghost use Rattle.mkv_memory.specs.FilesIn.{seen};
     ghost use Rattle.mkv_memory.specs.Stored.{Stored, files_of, content_of_file, name_of_file, size-of_told, short-of_names};
     ghost use Rattle.mkv_memory.specs.StoreIn.{stored_in};
 
-    ghost Standing = { Stored × ℕ };
+    ghost Standing = { Stored × ℕ × List Asked };
 
-    ghost standing = { λ m. (stored_in m.store, m.writing_faults) };
+    ghost standing = { λ m. (stored_in m.store, m.writing_faults, m.asked.items) };
 
     ghost files = { λ s. files_of s.0 };
 
@@ -139,7 +146,8 @@ impl Reads for MemFiles {
 }
 
 impl Files for MemFiles {
-    ghost use Rattle.std.specs.Prelude.{Some, length, ℕ};
+    ghost use Rattle.std.specs.Prelude.{List, Some, length, ℕ};
+    ghost use Rattle.mkv_io.specs.declared.asked.Asked.{Asked};
     ghost use Rattle.std.proofs.Common.{ap};
     ghost use Rattle.mkv_io.specs.Faults.{HasCause, is_failure, is_make_failure, is_open_failure};
     ghost use Rattle.mkv_memory.specs.SeenFiles.{AppendsTo, ClosesFile, CreatesName, OpensName, OverwritesIn};
@@ -155,6 +163,8 @@ impl Files for MemFiles {
 
     ghost writing_faults = { λ m. m.writing_faults };
 
+    ghost asked = { λ m. m.asked.items };
+
     ghost named = { λ m file live world told. content-told (stored_in m.store).world world (name_of_file (stored_in m.store).opened file) live told };
 
     ghost there = { λ m file live world told. there-told (stored_in m.store).world world (name_of_file (stored_in m.store).opened file) live (m.store.there file) told };
@@ -163,13 +173,15 @@ impl Files for MemFiles {
 
     ghost last = { λ m. m.store.few };
 
-    ghost names_stand = { λ a b same. ap (λ (s : Stored × ℕ). Some s.0.world) same };
+    ghost names_stand = { λ a b same. ap (λ (s : Stored × ℕ × List Asked). Some s.0.world) same };
 
-    ghost holders_stand = { λ a b same file. ap (λ (s : Stored × ℕ). holder_of s.0 file) same };
+    ghost holders_stand = { λ a b same file. ap (λ (s : Stored × ℕ × List Asked). holder_of s.0 file) same };
 
-    ghost given_stands = { λ a b same. ap (λ (s : Stored × ℕ). length s.0.opened) same };
+    ghost given_stands = { λ a b same. ap (λ (s : Stored × ℕ × List Asked). length s.0.opened) same };
 
-    ghost writing_stands = { λ a b same. ap (λ (s : Stored × ℕ). s.1) same };
+    ghost writing_stands = { λ a b same. ap (λ (s : Stored × ℕ × List Asked). s.1) same };
+
+    ghost asked_stands = { λ a b same. ap (λ (s : Stored × ℕ × List Asked). s.2) same };
 
     fn open_file(&mut self, name: &str) -> Result<FileId, OpenFault>
         ensures exact { OpensName (seen self.old) name.now result (seen self.new) }
@@ -183,7 +195,10 @@ impl Files for MemFiles {
             self.reading_faults = self.reading_faults.saturating_add(1);
             return Err(OpenFault::Failed);
         }
-        Ok(self.store.open(name)?)
+        let asked = Asked::Opened(room_for_name(&mut self.asked, self.alloc, name)?);
+        let file = self.store.open(name)?;
+        self.asked.push(asked).unwrap();
+        Ok(file)
     }
 
     fn create(&mut self, name: &str) -> Result<FileId, MakeFault>
@@ -195,7 +210,10 @@ impl Files for MemFiles {
             self.writing_faults = self.writing_faults.saturating_add(1);
             return Err(MakeFault::Failed);
         }
-        Ok(self.store.create(name)?)
+        let asked = Asked::Made(room_for_name(&mut self.asked, self.alloc, name)?);
+        let file = self.store.create(name)?;
+        self.asked.push(asked).unwrap();
+        Ok(file)
     }
 
     fn append(&mut self, file: FileId, bytes: &[u8]) -> Result<(), MakeFault>

@@ -1,0 +1,25 @@
+//! Which files were asked for.
+
+ghost use Rattle.std.specs.Prelude.{◌≡◌, ◌<◌, length, vec_capacity, IfOk, OnOk};
+
+use crate::octets::Text;
+use std::alloc::{AllocError, Global};
+
+/// A name under which a file was opened, or was to be made.
+#[derive(Debug, Drop)]
+pub enum Asked {
+    Opened(Text),
+    Made(Text),
+}
+
+/// A name that is to be asked for, and room for it behind those of before.
+pub fn room_for_name(asked: &mut Vec<Asked>, alloc: Global, name: &str) -> Result<Text, AllocError>
+    ensures same { asked.new.items ≡ asked.old.items }
+    ensures room { OnOk result (length asked.new.items < vec_capacity asked.new) }
+    ensures name { IfOk result (λ text. text ≡ name.now) }
+{
+    let mut text = Text::new(alloc);
+    text.append(name)?;
+    asked.reserve(1)?;
+    Ok(text)
+}
