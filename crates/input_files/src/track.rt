@@ -11,11 +11,9 @@ use mkv_io::List;
 use mkv_schema::ids::{
     CODEC_ID, FLAG_LACING, LANGUAGE, TRACK_ENTRY, TRACK_NUMBER, TRACK_TYPE, TRACK_UID, TRACKS,
 };
+use mkv_schema::track_type::SUBTITLE_TRACK;
 use std::alloc::{AllocError, Global};
 use track_records::{Track, read_tracks};
-
-/// The TrackType of subtitles.
-const SUBTITLES: u64 = 17;
 
 /// The TrackEntry of a text.
 fn text_entry(alloc: Global) -> Result<Tree, AllocError>
@@ -25,7 +23,7 @@ fn text_entry(alloc: Global) -> Result<Tree, AllocError>
     let mut entry = empty(alloc, TRACK_ENTRY, 0)?;
     entry.push(uint_leaf(alloc, TRACK_NUMBER, 1)?)?;
     entry.push(uint_leaf(alloc, TRACK_UID, 0)?)?;
-    entry.push(uint_leaf(alloc, TRACK_TYPE, SUBTITLES)?)?;
+    entry.push(uint_leaf(alloc, TRACK_TYPE, SUBTITLE_TRACK)?)?;
     entry.push(uint_leaf(alloc, FLAG_LACING, 0)?)?;
     entry.push(text_leaf(alloc, LANGUAGE, "und")?)?;
     entry.push(text_leaf(alloc, CODEC_ID, "S_TEXT/UTF8")?)?;

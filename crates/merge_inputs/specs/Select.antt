@@ -5,7 +5,7 @@ use Rattle.record_changes.specs.declared.uid_map.TagKeep.{TagKeep}
 use Rattle.word_values.specs.declared.lists.Select.{Select}
 use Rattle.word_values.specs.declared.lists.Select.TheVariants.{All, These, AllBut, Off}
 use Rattle.merge_words.specs.declared.files.FileWords.{FileWords}
-use Rattle.merge_inputs.specs.declared.track_type.TheConstants.{VIDEO_TRACK, AUDIO_TRACK, SUBTITLE_TRACK}
+use Rattle.mkv_schema.specs.declared.track_type.TheConstants.{VIDEO_TRACK, AUDIO_TRACK, SUBTITLE_TRACK}
 
 -- ---- tracks
 

@@ -10,7 +10,6 @@ mod reading;
 mod select;
 mod taken;
 mod title;
-pub mod track_type;
 
 pub use input::{Blocks, Input, InputEnd, InputRefusal, TrackTimes};
 pub use reading::read_input;

@@ -3,8 +3,8 @@
 ghost use Rattle.std.specs.Prelude.{◌≡◌};
 ghost use Rattle.merge_inputs.specs.Select.{is_taken, keep_of, keeps_attachments, keeps_chapters, keeps_tags, takes, unmoved};
 
-use crate::track_type::{AUDIO_TRACK, SUBTITLE_TRACK, VIDEO_TRACK};
 use merge_words::FileWords;
+use mkv_schema::track_type::{AUDIO_TRACK, SUBTITLE_TRACK, VIDEO_TRACK};
 use record_changes::TagKeep;
 use word_values::Select;
 

@@ -1,4 +1,4 @@
--- What the lanes of a merge are made of.
+-- What the lanes of a merge are made of: RFC 9559, section 5.1.4 (Tracks Element). Which tracks make one lane is this project's.
 use Rattle.std.specs.Prelude.{ℕ, ◌==◌, Bool, ◌||◌, if◌then◌else◌, List, [], length, map, Option, Some, None, unwrap_or}
 use Rattle.std.specs.List.{enumerate_from, range_with_len}
 use Rattle.std.specs.Option.{option_map_or}
@@ -18,7 +18,7 @@ use Rattle.splitter.specs.declared.spec.SplitSpec.{SplitSpec}
 use Rattle.word_values.specs.declared.values.CueWord.{CueWord}
 use Rattle.word_values.specs.declared.values.CueWord.TheVariants.{Never, Key, All}
 use Rattle.merge_words.specs.declared.output.MergeWords.{MergeWords}
-use Rattle.merge_inputs.specs.declared.track_type.TheConstants.{VIDEO_TRACK, SUBTITLE_TRACK}
+use Rattle.mkv_schema.specs.declared.track_type.TheConstants.{VIDEO_TRACK, SUBTITLE_TRACK}
 use Rattle.merge_inputs.specs.Input.{BlocksRead, Clusters, Entries, InputRead, events_by}
 use Rattle.merge_inputs.specs.Taken.{value_for}
 use Rattle.merge_inputs.specs.declared.taken.TakenTrack.{TakenTrack}

@@ -12,10 +12,10 @@ ghost use Rattle.merge_plan.specs.Spots.{AreDriven, AreLanesOf, AreLinksOf, Goes
 use crate::entries::tracks_begun;
 use element_reader::Outline;
 use ext_times::Times;
-use merge_inputs::track_type::{SUBTITLE_TRACK, VIDEO_TRACK};
 use merge_inputs::{Blocks, Input, TakenTrack};
 use merge_model::{LaneSpec, Link, TextLink, TrackLink};
 use mkv_io::{Bytes, Entry, List};
+use mkv_schema::track_type::{SUBTITLE_TRACK, VIDEO_TRACK};
 use output_model::CueRule;
 use remux_plan::PlannedLane;
 use splitter::is_driver;

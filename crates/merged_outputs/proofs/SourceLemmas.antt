@@ -64,7 +64,7 @@ use Rattle.merge_inputs.specs.Select.{is_taken, kept_one, takes, unmoved}
 use Rattle.merge_inputs.specs.Taken.{first_unusable, taken_from, taken_one, taken_track, value_for}
 use Rattle.merge_inputs.specs.Title.{title_of_info}
 use Rattle.merge_inputs.specs.declared.taken.TakenTrack.{TakenTrack}
-use Rattle.merge_inputs.specs.declared.track_type.TheConstants.{AUDIO_TRACK, SUBTITLE_TRACK, VIDEO_TRACK}
+use Rattle.mkv_schema.specs.declared.track_type.TheConstants.{AUDIO_TRACK, SUBTITLE_TRACK, VIDEO_TRACK}
 use Rattle.merge_inputs.specs.declared.input.InputRefusal.{InputRefusal}
 use Rattle.merge_inputs.specs.declared.input.InputRefusal.TheVariants.{Damaged}
 use Rattle.merge_inputs.proofs.TakenLemmas.{AreTaken-read, taken-tracks}

@@ -13,6 +13,7 @@ pub mod limits;
 mod parents;
 mod schema;
 mod table;
+pub mod track_type;
 
 pub use element::Header;
 pub use kind::{ElementKind, Row};

@@ -14,7 +14,7 @@ use Rattle.block_format.specs.Events.{blocks_of}
 use Rattle.merge_model.specs.Ticks.{since_start}
 use Rattle.output_model.specs.declared.TheConstants.{MOST_CUES}
 use Rattle.output_model.specs.declared.places.CuePoint.{CuePoint}
-use Rattle.reindex.specs.declared.tracks.TheConstants.{VIDEO_TRACK, SUBTITLE_TRACK}
+use Rattle.mkv_schema.specs.declared.track_type.TheConstants.{VIDEO_TRACK, SUBTITLE_TRACK}
 
 -- ---- which blocks get a point
 

@@ -12,13 +12,8 @@ ghost use Rattle.reindex.specs.Reading.{indexed_number};
 use ebml_tree::{Tree, uint_in};
 use mkv_io::List;
 use mkv_schema::ids::{TRACK_ENTRY, TRACK_NUMBER, TRACK_TYPE};
+use mkv_schema::track_type::{SUBTITLE_TRACK, VIDEO_TRACK};
 use std::alloc::{AllocError, Global};
-
-/// A video track, by its TrackType: RFC 9559, section 5.1.4 (Tracks Element).
-pub const VIDEO_TRACK: u64 = 1;
-
-/// A track of subtitles.
-pub const SUBTITLE_TRACK: u64 = 17;
 
 #[tactic(auto, using(track_records::proofs::EntryLemmas::known))]
 fn type_of(track: &Tree) -> u64

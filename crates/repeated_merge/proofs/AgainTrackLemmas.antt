@@ -23,7 +23,7 @@ use Rattle.track_records.specs.Track.{track_of}
 use Rattle.merge_inputs.specs.Select.{is_taken}
 use Rattle.merge_inputs.specs.Taken.{IsTaken, taken_from, taken_track}
 use Rattle.merge_inputs.specs.declared.taken.TakenTrack.{TakenTrack}
-use Rattle.merge_inputs.specs.declared.track_type.TheConstants.{AUDIO_TRACK, SUBTITLE_TRACK, VIDEO_TRACK}
+use Rattle.mkv_schema.specs.declared.track_type.TheConstants.{AUDIO_TRACK, SUBTITLE_TRACK, VIDEO_TRACK}
 use Rattle.merge_plan.specs.Plan.{rule_of, usual_rule}
 use Rattle.merge_plan.specs.Records.{change_of, entries_from, entry_of, uids_of}
 use Rattle.merge_plan.specs.Records.{entries_of as entries_given}

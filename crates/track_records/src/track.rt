@@ -4,6 +4,7 @@ ghost use Rattle.std.specs.Prelude.{◌≡◌};
 
 use ebml_tree::Tree;
 use mkv_io::Text;
+use mkv_schema::track_type::{AUDIO_TRACK, SUBTITLE_TRACK, VIDEO_TRACK};
 
 /// A track, as its TrackEntry says (RFC 9559, section 5.1.4, Tracks Element).
 #[derive(Drop)]
@@ -12,7 +13,7 @@ pub struct Track {
     pub number: u64,
     /// The TrackUID, 0 where there is none.
     pub uid: u64,
-    /// The TrackType: 1 is video, 2 audio, 17 subtitles.
+    /// The TrackType (`mkv_schema::track_type`).
     pub kind: u64,
     /// The CodecID.
     pub codec: Text,
@@ -35,9 +36,9 @@ impl Track {
         ensures { result.now ≡ type_name self.now.kind }
     {
         match self.kind {
-            1 => "video",
-            2 => "audio",
-            17 => "subtitles",
+            VIDEO_TRACK => "video",
+            AUDIO_TRACK => "audio",
+            SUBTITLE_TRACK => "subtitles",
             _ => "other",
         }
     }
