@@ -16,7 +16,8 @@ use Rattle.mkv_schema.specs.Value.{text_of}
 use Rattle.tree_format.specs.Reading.{is_master_in}
 use Rattle.tree_format.specs.Standing.{IsLeafIn, StandsIn, IsSound, IsSoundOf}
 use Rattle.srt_texts.specs.declared.chapter_reading.Chapter.{Chapter}
-use Rattle.srt_chapters.specs.Chapters.{uint, display, atom, edition, chapters_of}
+use Rattle.tree_format.specs.Children.{uint_leaf}
+use Rattle.srt_chapters.specs.Chapters.{display, atom, edition, chapters_of}
 use Rattle.srt_chapters.proofs.ChaptersLemmas.{id_edition_uid, id_uid, id_start, id_string, id_language}
 
 -- ---- a name up to its first zero octet
@@ -88,7 +89,7 @@ atom_stands c small utf8 = (refl, (chapter_uid, (chapter_start c.start small, (d
 -- atoms that stand there, with one more
 pub ruleset stands = (atom_stands)
 
-pub uid_stands : StandsIn EDITION_ENTRY (uint EDITION_UID 0)
+pub uid_stands : StandsIn EDITION_ENTRY (uint_leaf EDITION_UID 0)
 uid_stands = edition_uid
 
 pub in_chapters : is_master_in CHAPTERS EDITION_ENTRY ≡ true

@@ -1,14 +1,10 @@
 -- Simple chapters as a Chapters Element: RFC 9559, section 5.1.7 (Chapters Element).
 use Rattle.std.specs.Prelude.{ℕ, List, [], ◌∷◌, map, codes, Result, Ok, Err}
-use Rattle.ebml_numbers.specs.Number.{uint_octets}
 use Rattle.mkv_schema.specs.declared.ids.TheConstants.{CHAPTERS, EDITION_ENTRY, EDITION_UID, CHAPTER_ATOM, CHAPTER_UID, CHAPTER_TIME_START, CHAPTER_DISPLAY, CHAP_STRING, CHAP_LANGUAGE}
 use Rattle.tree_format.specs.Node.{Node, leaf, master, nodes_of}
+use Rattle.tree_format.specs.Children.{uint_leaf}
 use Rattle.srt_texts.specs.declared.chapter_reading.Chapter.{Chapter}
 use Rattle.srt_texts.specs.Pairs.{simple}
-
--- an unsigned integer in its fewest octets
-abbrev pub uint : ℕ → ℕ → Node
-uint id value = leaf id 0 (uint_octets value)
 
 -- a ChapterDisplay: the name, in a language that isn't known
 abbrev pub display : List ℕ → Node
@@ -16,11 +12,11 @@ display name = master CHAPTER_DISPLAY 0 (nodes_of (leaf CHAP_STRING 0 name ∷ l
 
 -- a ChapterAtom: an identifier, which is still to be given, the start in nanoseconds, and the name
 abbrev pub atom : Chapter → Node
-atom c = master CHAPTER_ATOM 0 (nodes_of (uint CHAPTER_UID 0 ∷ uint CHAPTER_TIME_START c.start ∷ display c.name ∷ []))
+atom c = master CHAPTER_ATOM 0 (nodes_of (uint_leaf CHAPTER_UID 0 ∷ uint_leaf CHAPTER_TIME_START c.start ∷ display c.name ∷ []))
 
 -- an EditionEntry: an identifier, which is still to be given, and an atom for each chapter
 abbrev pub edition : List Chapter → Node
-edition cs = master EDITION_ENTRY 0 (nodes_of (uint EDITION_UID 0 ∷ map atom cs))
+edition cs = master EDITION_ENTRY 0 (nodes_of (uint_leaf EDITION_UID 0 ∷ map atom cs))
 
 -- a Chapters Element with one edition
 abbrev pub chapters_of : List Chapter → Node

@@ -2,15 +2,13 @@
 
 ghost use Rattle.std.specs.Prelude.{◌≡◌, IfOk, IsTrue};
 ghost use Rattle.mkv_schema.specs.Schema.{is_master};
-ghost use Rattle.ebml_numbers.specs.Number.{is_id};
 ghost use Rattle.srt_texts.specs.Ends.{Reads};
 ghost use Rattle.tree_format.specs.Node.{master, none};
 ghost use Rattle.tree_format.specs.Standing.{IsSound, IsSoundOf, StandsIn};
 ghost use Rattle.mkv_schema.specs.declared.ids.TheConstants.{CHAPTERS as CHAPTERS_ID, EDITION_ENTRY as EDITION_ID};
 ghost use Rattle.srt_chapters.specs.Chapters as spec;
 
-use ebml_numbers::put_uint;
-use ebml_tree::Tree;
+use ebml_tree::{Tree, uint_leaf};
 use mkv_schema::ids::{
     CHAP_LANGUAGE, CHAP_STRING, CHAPTER_ATOM, CHAPTER_DISPLAY, CHAPTER_TIME_START, CHAPTER_UID,
     CHAPTERS, EDITION_ENTRY, EDITION_UID,
@@ -30,14 +28,6 @@ fn empty_master(alloc: Global, id: u32) -> Result<Tree, AllocError>
     }
 }
 
-// An unsigned integer in its fewest octets.
-fn uint(alloc: Global, id: u32, value: u64) -> Result<Tree, AllocError>
-    requires { IsTrue (is_id id) }
-    ensures { IfOk result (λ tree. tree ≡ spec.uint id value) }
-{
-    Tree::leaf(alloc, id, put_uint(value).as_slice())
-}
-
 #[tactic(auto, using(crate::proofs::ChaptersLemmas::known))]
 fn display(alloc: Global, name: &str) -> Result<Tree, AllocError>
     ensures { IfOk result (λ tree. tree ≡ spec.display name.now) }
@@ -54,8 +44,8 @@ fn atom(alloc: Global, chapter: &Chapter) -> Result<Tree, AllocError>
     ensures stands { IfOk result (StandsIn EDITION_ID) }
 {
     let mut atom = empty_master(alloc, CHAPTER_ATOM)?;
-    atom.push(uint(alloc, CHAPTER_UID, 0)?)?;
-    atom.push(uint(alloc, CHAPTER_TIME_START, chapter.start)?)?;
+    atom.push(uint_leaf(alloc, CHAPTER_UID, 0)?)?;
+    atom.push(uint_leaf(alloc, CHAPTER_TIME_START, chapter.start)?)?;
     atom.push(display(alloc, chapter.name.as_str())?)?;
     Ok(atom)
 }
@@ -66,7 +56,7 @@ fn edition(alloc: Global, chapters: &[Chapter]) -> Result<Tree, AllocError>
     ensures sound { IfOk result IsSound }
 {
     let mut edition = empty_master(alloc, EDITION_ENTRY)?;
-    edition.push(uint(alloc, EDITION_UID, 0)?)?;
+    edition.push(uint_leaf(alloc, EDITION_UID, 0)?)?;
     for chapter in chapters {
         edition.push(atom(alloc, chapter)?)?;
     }
