@@ -193,7 +193,7 @@ chapters-anywhere before left inputs =
 -- the identifiers that the targets of Tags have, where those of the attached files are these
 abbrev numbers_with : List ℕ → InputRecords → List ℕ → List ℕ → List ℕ → ℕ → ℕ → Option ℕ
 numbers_with files i editions chapters attachments id uid =
-    if id == TAG_TRACK_UID then number_of i.track_uids i.track_numbers uid else
+    if id == TAG_TRACK_UID then number_of i.track_uids i.output_uids uid else
     (if id == TAG_EDITION_UID then number_of (uids_in edition_uids i.chapters) editions uid else
     (if id == TAG_CHAPTER_UID then number_of (uids_in chapter_uids i.chapters) chapters uid else
     (if id == TAG_ATTACHMENT_UID then number_of files attachments uid else None)))

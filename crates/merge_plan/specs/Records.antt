@@ -89,7 +89,7 @@ Kept = List Attachment × InputRead
 abbrev pub records_in : List ℕ → Kept → InputRecords
 records_in numbers k = record {
   track_uids = map (λ (t : TakenTrack). t.track.uid) k.1.taken;
-  track_numbers = numbers;
+  output_uids = numbers;
   attachments = k.0;
   chapters = k.1.chapters;
   shift = k.1.shift;

@@ -55,7 +55,7 @@ fn records_in(alloc: Global, numbers: &[u64], input: &Input) -> Result<InputReco
         .collect(alloc)?;
     Ok(InputRecords {
         track_uids: List::from_vec(track_uids),
-        track_numbers: List::from_vec(numbers.to_vec(alloc)?),
+        output_uids: List::from_vec(numbers.to_vec(alloc)?),
         attachments: copies(alloc, input.attachments.as_slice())?,
         chapters: copy_of(alloc, &input.chapters)?,
         shift: input.shift,

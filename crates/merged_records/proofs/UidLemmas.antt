@@ -45,15 +45,15 @@ latest-in look (Err e) ps qs same is = tt
 choose : ℕ → Option ℕ → Option ℕ → Option ℕ → Option ℕ → Option ℕ
 choose id t e c a = if id == TAG_TRACK_UID then t else (if id == TAG_EDITION_UID then e else (if id == TAG_CHAPTER_UID then c else (if id == TAG_ATTACHMENT_UID then a else None)))
 
-module _ (i : InputRecords) (numbers : Uids) (map : UidMap) (t : (uid : ℕ) → get nat_eq map.tracks uid ≡ number_of i.track_uids i.track_numbers uid) (e : (uid : ℕ) → get nat_eq map.editions uid ≡ number_of (uids_of i).editions numbers.editions uid)
+module _ (i : InputRecords) (numbers : Uids) (map : UidMap) (t : (uid : ℕ) → get nat_eq map.tracks uid ≡ number_of i.track_uids i.output_uids uid) (e : (uid : ℕ) → get nat_eq map.editions uid ≡ number_of (uids_of i).editions numbers.editions uid)
     (c : (uid : ℕ) → get nat_eq map.chapters uid ≡ number_of (uids_of i).chapters numbers.chapters uid) (a : (uid : ℕ) → get nat_eq map.attachments uid ≡ number_of (uids_of i).attachments numbers.attachments uid) where
   each : (id uid : ℕ) → numbers_in map id uid ≡ numbers_for i numbers id uid
   unfolding choose
   each id uid =
       ap (λ v. choose id v (get nat_eq map.editions uid) (get nat_eq map.chapters uid) (get nat_eq map.attachments uid)) (t uid)
-      ∙ ap (λ v. choose id (number_of i.track_uids i.track_numbers uid) v (get nat_eq map.chapters uid) (get nat_eq map.attachments uid)) (e uid)
-      ∙ ap (λ v. choose id (number_of i.track_uids i.track_numbers uid) (number_of (uids_of i).editions numbers.editions uid) v (get nat_eq map.attachments uid)) (c uid)
-      ∙ ap (choose id (number_of i.track_uids i.track_numbers uid) (number_of (uids_of i).editions numbers.editions uid) (number_of (uids_of i).chapters numbers.chapters uid)) (a uid)
+      ∙ ap (λ v. choose id (number_of i.track_uids i.output_uids uid) v (get nat_eq map.chapters uid) (get nat_eq map.attachments uid)) (e uid)
+      ∙ ap (λ v. choose id (number_of i.track_uids i.output_uids uid) (number_of (uids_of i).editions numbers.editions uid) v (get nat_eq map.attachments uid)) (c uid)
+      ∙ ap (choose id (number_of i.track_uids i.output_uids uid) (number_of (uids_of i).editions numbers.editions uid) (number_of (uids_of i).chapters numbers.chapters uid)) (a uid)
 
   pub map-for : IsMapFor i numbers map
   map-for = fun_ext (λ id. fun_ext (λ uid. each id uid))

@@ -34,7 +34,7 @@ uids_of i = record {
 -- editions, chapters and attached files, and of what comes behind them.
 abbrev pub numbers_for : InputRecords → Uids → ℕ → ℕ → Option ℕ
 numbers_for i numbers id uid =
-    if id == TAG_TRACK_UID then number_of i.track_uids i.track_numbers uid else
+    if id == TAG_TRACK_UID then number_of i.track_uids i.output_uids uid else
     (if id == TAG_EDITION_UID then number_of (uids_of i).editions numbers.editions uid else
     (if id == TAG_CHAPTER_UID then number_of (uids_of i).chapters numbers.chapters uid else
     (if id == TAG_ATTACHMENT_UID then number_of (uids_of i).attachments numbers.attachments uid else None)))

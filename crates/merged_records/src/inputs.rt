@@ -11,7 +11,7 @@ pub struct InputRecords {
     /// The TrackUIDs of the tracks that are taken, as the input has them.
     pub track_uids: List<u64>,
     /// The TrackUIDs that these have in the output; those of an appended input are its lanes'.
-    pub track_numbers: List<u64>,
+    pub output_uids: List<u64>,
     /// The attached files that are taken.
     pub attachments: List<Attachment>,
     /// The Chapters, where they are taken.

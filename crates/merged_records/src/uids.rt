@@ -92,7 +92,7 @@ pub(crate) fn map_of(
         tracks: number_map(
             alloc,
             input.track_uids.as_slice(),
-            input.track_numbers.as_slice(),
+            input.output_uids.as_slice(),
         )?,
         editions: number_map(alloc, uids.editions.as_slice(), editions)?,
         chapters: number_map(alloc, uids.chapters.as_slice(), chapters)?,

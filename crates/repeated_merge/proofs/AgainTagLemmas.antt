@@ -69,7 +69,7 @@ module _ (reads : List InputRead) (again : InputRead) (has : HasIdentifiersOf re
   abbrev pub one : InputRecords
   one = record {
     track_uids = map (λ (t : TakenTrack). t.track.uid) again.taken;
-    track_numbers = own.tracks;
+    output_uids = own.tracks;
     attachments = map anywhere again.attachments;
     chapters = again.chapters;
     shift = None;
@@ -118,7 +118,7 @@ module _ (reads : List InputRead) (again : InputRead) (has : HasIdentifiersOf re
       let numbers : List ℕ = if is_some shift then [] else take (length again.taken) (uids_of ((if is_some shift then [] else again.taken) ++ [])) in
       record {
         track_uids = map (λ (t : TakenTrack). t.track.uid) again.taken;
-        track_numbers = numbers;
+        output_uids = numbers;
         attachments = map anywhere again.attachments;
         chapters = again.chapters;
         shift = shift;
@@ -127,7 +127,7 @@ module _ (reads : List InputRead) (again : InputRead) (has : HasIdentifiersOf re
       } ∷ []
 
   abbrev numbered_by : List ℕ → List InputRecords
-  numbered_by numbers = record one { track_numbers = numbers } ∷ []
+  numbered_by numbers = record one { output_uids = numbers } ∷ []
 
   pub given-one : records_of (again ∷ []) ≡ one ∷ []
   given-one = ap₂ given_at has.alone has.keep ∙ ap numbered_by own-tracks

@@ -190,21 +190,21 @@ module _ (ids : Identifiers) where
       split true rest = All-head P n numbers all
       split false rest = rest
 
-  input-gives : (i : InputRecords) (editions chapters files : List ℕ) → AreAmong ids.tracks i.track_numbers → AreNumbers editions chapters files → GivesAll (numbers_for i (all_uids editions chapters files))
+  input-gives : (i : InputRecords) (editions chapters files : List ℕ) → AreAmong ids.tracks i.output_uids → AreNumbers editions chapters files → GivesAll (numbers_for i (all_uids editions chapters files))
   input-gives i editions chapters files own are id uid = split (id == TAG_TRACK_UID) (id == TAG_EDITION_UID) (id == TAG_CHAPTER_UID) (id == TAG_ATTACHMENT_UID)
     where
       split : (a b c d : Bool)
-          → IfSome (if a then number_among i.track_uids i.track_numbers uid else (if b then number_among (uids_given i).editions editions uid else
+          → IfSome (if a then number_among i.track_uids i.output_uids uid else (if b then number_among (uids_given i).editions editions uid else
           (if c then number_among (uids_given i).chapters chapters uid else (if d then number_among (uids_given i).attachments files uid else None))))
           (λ v. (v < 2 ^ 64) × Contains (if a then ids.tracks else (if b then ids.editions else (if c then ids.chapters else (if d then ids.files else [])))) v)
-      split true b c d = looked-up (λ v. (v < 2 ^ 64) × Contains ids.tracks v) (λ k. uid == k) i.track_uids i.track_numbers own
+      split true b c d = looked-up (λ v. (v < 2 ^ 64) × Contains ids.tracks v) (λ k. uid == k) i.track_uids i.output_uids own
       split false true c d = looked-up (λ v. (v < 2 ^ 64) × Contains ids.editions v) (λ k. uid == k) (uids_given i).editions editions are.of_editions
       split false false true d = looked-up (λ v. (v < 2 ^ 64) × Contains ids.chapters v) (λ k. uid == k) (uids_given i).chapters chapters are.of_chapters
       split false false false true = looked-up (λ v. (v < 2 ^ 64) × Contains ids.files v) (λ k. uid == k) (uids_given i).attachments files are.of_files
       split false false false false = tt
 
   abbrev HasAmong : InputRecords → Type 0
-  HasAmong i = AreAmong ids.tracks i.track_numbers
+  HasAmong i = AreAmong ids.tracks i.output_uids
 
   from-names : (editions chapters files : List ℕ) (inputs : List InputRecords) → AreNumbers editions chapters files → All HasAmong inputs → All IsNamingTag (tags_from (all_uids editions chapters files) inputs)
   from-names editions chapters files [] are all = All-nil IsNamingTag
@@ -242,7 +242,7 @@ among-itself : (ids : List ℕ) → All (λ v. v < 2 ^ 64) ids → All (λ v. (v
 among-itself ids small = λ k d below. (small k d below, All-contains_itself ids k d below)
 
 -- the numbers of an input with these identifiers have 64 bits
-pub own-small : (ids : Identifiers) (i : InputRecords) → Have64Bits ids → i.track_numbers ≡ ids.tracks → AreSmall (numbers_for i (all_uids ids.editions ids.chapters ids.files))
+pub own-small : (ids : Identifiers) (i : InputRecords) → Have64Bits ids → i.output_uids ≡ ids.tracks → AreSmall (numbers_for i (all_uids ids.editions ids.chapters ids.files))
 own-small ids i short own =
     gives-small ids (numbers_for i (all_uids ids.editions ids.chapters ids.files))
     (input-gives ids i ids.editions ids.chapters ids.files (subst (All (λ v. (v < 2 ^ 64) × Contains ids.tracks v)) (sym own) (among-itself ids.tracks short.tracks))
