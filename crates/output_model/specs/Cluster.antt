@@ -41,15 +41,26 @@ begun b = record { timestamp = b.tick; blocks = b ∷ [] }
 abbrev pub with_block : OutputCluster → OutputBlock → OutputCluster
 with_block c b = record { timestamp = c.timestamp; blocks = c.blocks ++ b ∷ [] }
 
+-- a Cluster may have so many blocks
+abbrev pub has_room_for : ClusterLimits → ℕ → Bool
+has_room_for limits blocks = nat_le blocks limits.blocks
+
 -- sixteen bits with a sign tell the ticks from a Timestamp to a block's tick
 abbrev pub is_near : ℕ → ℕ → Bool
 is_near timestamp tick = nat_le timestamp (tick + 32768) && nat_le tick (timestamp + 32767)
 
--- A Cluster of this Timestamp may have so many blocks, the last of them at this tick, and a body of so many
--- octets. A block before the Timestamp is within every span.
+-- A block at this tick is within the longest time from the Timestamp; one before the Timestamp always is.
+abbrev pub keeps_span : ClusterLimits → ℕ → ℕ → Bool
+keeps_span limits timestamp tick = nat_le ((tick - timestamp) * limits.scale) limits.span
+
+-- the body of a Cluster may have so many octets
+abbrev pub keeps_size : ℕ → Bool
+keeps_size octets = nat_le octets MOST_OF_CLUSTER
+
+-- A Cluster of this Timestamp may have so many blocks, the last of them at this tick, and a body of so many octets.
 abbrev pub may_have : ClusterLimits → ℕ → ℕ → ℕ → ℕ → Bool
 may_have limits timestamp blocks tick octets =
-    nat_le blocks limits.blocks && is_near timestamp tick && nat_le ((tick - timestamp) * limits.scale) limits.span && nat_le octets MOST_OF_CLUSTER
+    has_room_for limits blocks && is_near timestamp tick && keeps_span limits timestamp tick && keeps_size octets
 
 -- a block joins a Cluster that may have it too
 abbrev pub joins : ClusterLimits → OutputCluster → OutputBlock → Bool

@@ -1,4 +1,4 @@
--- Cue points: RFC 9559, sections 5.1.5 (Cues Element), 16 (Segment Position) and 21 (Cues).
+-- Cue points: RFC 9559, sections 5.1.5 (Cues Element) and 16 (Segment Position), and its chapter on Cues.
 use Rattle.std.specs.Prelude.{ℕ, ◌+◌, Bool, if◌then◌else◌, List, [], ◌∷◌, ◌++◌, length, map}
 use Rattle.mkv_schema.specs.declared.ids.TheConstants.{CUES, CUE_POINT, CUE_TIME, CUE_TRACK_POSITIONS, CUE_TRACK, CUE_CLUSTER_POSITION, CUE_RELATIVE_POSITION}
 use Rattle.output_model.specs.Element.{Element, uint_element, master_element, octets_of}
