@@ -21,6 +21,8 @@ mod RecordLemmas
 pub mod LayoutLemmas
 mod MergedLemmas
 pub mod MergedClusterLemmas
+mod RisingLemmas
+mod CutLemmas
 mod TickLemmas
 pub mod AgainLemmas
 pub mod OrderLemmas

@@ -57,7 +57,7 @@ begun-sound lanes b is = record {
   blocks = All-cons (IsSoundIn lanes b.tick) b [] (stands-in lanes b.tick b is (near-itself b.tick)) (All-nil (IsSoundIn lanes b.tick));
 }
 
-begins-more : (timestamp : ℕ) (bs : List OutputBlock) (b : OutputBlock) → BeginsAt timestamp bs → BeginsAt timestamp (bs ++ b ∷ [])
+pub begins-more : (timestamp : ℕ) (bs : List OutputBlock) (b : OutputBlock) → BeginsAt timestamp bs → BeginsAt timestamp (bs ++ b ∷ [])
 begins-more timestamp [] b begins = absurd begins
 begins-more timestamp (first ∷ bs) b begins = begins
 

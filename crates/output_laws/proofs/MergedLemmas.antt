@@ -11,15 +11,15 @@ use Rattle.output_laws.specs.Lanes.{lane_of, lanes_from, in_lanes}
 -- ---- lists whose order numbers rise
 
 -- no order number is below m
-abbrev AtLeast : ℕ → List Ordered → Type 0
+abbrev pub AtLeast : ℕ → List Ordered → Type 0
 AtLeast m [] = ⊤
 AtLeast m (x ∷ xs) = (m ≤ x.order) × AtLeast m xs
 
-abbrev Rises : List Ordered → Type 0
+abbrev pub Rises : List Ordered → Type 0
 Rises [] = ⊤
 Rises (x ∷ xs) = AtLeast x.order xs × Rises xs
 
-at_least-less : (m n : ℕ) (xs : List Ordered) → m ≤ n → AtLeast n xs → AtLeast m xs
+pub at_least-less : (m n : ℕ) (xs : List Ordered) → m ≤ n → AtLeast n xs → AtLeast m xs
 at_least-less m n [] less above = tt
 at_least-less m n (x ∷ xs) less above = let here = above.0 in (omega arith, at_least-less m n xs less above.1)
 
@@ -48,12 +48,12 @@ put_in-rises x (y ∷ ys) rises = split (put_in-rises x ys rises.1) (nat_lt y.or
         let more : x.order ≤ y.order = grind (arith, nat_tests) in
         ((more, at_least-less x.order y.order ys more rises.0), rises)
 
-sorted-rises : (xs : List Ordered) → Rises (sorted xs)
+pub sorted-rises : (xs : List Ordered) → Rises (sorted xs)
 sorted-rises [] = tt
 sorted-rises (x ∷ xs) = put_in-rises x (sorted xs) (sorted-rises xs)
 
 -- what rises is sorted
-sorted-same : (xs : List Ordered) → Rises xs → sorted xs ≡ xs
+pub sorted-same : (xs : List Ordered) → Rises xs → sorted xs ≡ xs
 sorted-same [] rises = refl
 sorted-same (x ∷ xs) rises = ap (put_in x) (sorted-same xs rises.1) ∙ put_in-front x xs rises.0
 
@@ -90,7 +90,7 @@ filter-put_in p x (y ∷ ys) rises = split (filter-put_in p x ys rises.1) (nat_l
         in_front (p x) (more, at_least-less x.order y.order ys more rises.0)
 
 -- A part of a sorted list is the part, sorted.
-filter-sorted : (p : Ordered → Bool) (xs : List Ordered) → filter p (sorted xs) ≡ sorted (filter p xs)
+pub filter-sorted : (p : Ordered → Bool) (xs : List Ordered) → filter p (sorted xs) ≡ sorted (filter p xs)
 filter-sorted p [] = refl
 filter-sorted p (x ∷ xs) =
     filter-put_in p x (sorted xs) (sorted-rises xs) ∙ ap (λ (fs : List Ordered). cond (p x) (put_in x fs) fs) (filter-sorted p xs) ∙ split (p x)
@@ -99,7 +99,7 @@ filter-sorted p (x ∷ xs) =
     split true = refl
     split false = refl
 
-filter-blocks : (p : OutputBlock → Bool) (xs : List Ordered) → filter p (blocks_in xs) ≡ blocks_in (filter (λ (x : Ordered). p x.block) xs)
+pub filter-blocks : (p : OutputBlock → Bool) (xs : List Ordered) → filter p (blocks_in xs) ≡ blocks_in (filter (λ (x : Ordered). p x.block) xs)
 filter-blocks p [] = refl
 filter-blocks p (x ∷ xs) = ap (λ (bs : List OutputBlock). cond (p x.block) (x.block ∷ bs) bs) (filter-blocks p xs) ∙ split (p x.block)
   where
@@ -108,13 +108,13 @@ filter-blocks p (x ∷ xs) = ap (λ (bs : List OutputBlock). cond (p x.block) (x
     split true = refl
     split false = refl
 
-filter-all : (p : Ordered → Bool) (xs : List Ordered) → All (λ (x : Ordered). p x ≡ true) xs → filter p xs ≡ xs
+pub filter-all : (p : Ordered → Bool) (xs : List Ordered) → All (λ (x : Ordered). p x ≡ true) xs → filter p xs ≡ xs
 filter-all p [] pass = refl
 filter-all p (x ∷ xs) pass =
     ap (λ (b : Bool). cond b (x ∷ filter p xs) (filter p xs)) (All-head (λ (y : Ordered). p y ≡ true) x xs pass)
     ∙ ap (λ ys. x ∷ ys) (filter-all p xs (All-tail (λ (y : Ordered). p y ≡ true) x xs pass))
 
-filter-none : (p : Ordered → Bool) (xs : List Ordered) → All (λ (x : Ordered). p x ≡ false) xs → filter p xs ≡ []
+pub filter-none : (p : Ordered → Bool) (xs : List Ordered) → All (λ (x : Ordered). p x ≡ false) xs → filter p xs ≡ []
 filter-none p [] pass = refl
 filter-none p (x ∷ xs) pass =
     ap (λ (b : Bool). cond b (x ∷ filter p xs) (filter p xs)) (All-head (λ (y : Ordered). p y ≡ false) x xs pass)
@@ -123,14 +123,14 @@ filter-none p (x ∷ xs) pass =
 -- ---- one lane
 
 -- a lane with its order numbers and its number
-abbrev in_order : ℕ → List OutputBlock → List Ordered
+abbrev pub in_order : ℕ → List OutputBlock → List Ordered
 in_order n bs = map (ordered_in n) (ordered bs)
 
 in_order-at_least : (n k m : ℕ) (bs : List OutputBlock) → k ≤ m → AtLeast k (map (ordered_in n) (ordered_from m bs))
 in_order-at_least n k m [] less = tt
 in_order-at_least n k m (b ∷ bs) less = (omega arith, in_order-at_least n k (max m b.tick) bs (omega arith))
 
-in_order-rises : (n m : ℕ) (bs : List OutputBlock) → Rises (map (ordered_in n) (ordered_from m bs))
+pub in_order-rises : (n m : ℕ) (bs : List OutputBlock) → Rises (map (ordered_in n) (ordered_from m bs))
 in_order-rises n m [] = tt
 in_order-rises n m (b ∷ bs) = (in_order-at_least n (max m b.tick) (max m b.tick) bs (omega arith), in_order-rises n (max m b.tick) bs)
 
@@ -138,17 +138,17 @@ in_order-blocks : (n m : ℕ) (bs : List OutputBlock) → blocks_in (map (ordere
 in_order-blocks n m [] = refl
 in_order-blocks n m (b ∷ bs) = ap (λ xs. in_lane n b ∷ xs) (in_order-blocks n (max m b.tick) bs)
 
-in_order-lane : (n : ℕ) (xs : List Ordered) → All (λ (x : Ordered). x.block.lane ≡ n) (map (ordered_in n) xs)
+pub in_order-lane : (n : ℕ) (xs : List Ordered) → All (λ (x : Ordered). x.block.lane ≡ n) (map (ordered_in n) xs)
 in_order-lane n [] = All-nil (λ (x : Ordered). x.block.lane ≡ n)
 in_order-lane n (x ∷ xs) = All-cons (λ (y : Ordered). y.block.lane ≡ n) (ordered_in n x) (map (ordered_in n) xs) refl (in_order-lane n xs)
 
 -- ---- all lanes
 
 -- all lanes, one behind the other, from this number on
-abbrev all_in_order : ℕ → List (List OutputBlock) → List Ordered
+abbrev pub all_in_order : ℕ → List (List OutputBlock) → List Ordered
 all_in_order n lanes = joined (numbered n (map ordered lanes))
 
-all-above : (n : ℕ) (lanes : List (List OutputBlock)) → All (λ (x : Ordered). n ≤ x.block.lane) (all_in_order n lanes)
+pub all-above : (n : ℕ) (lanes : List (List OutputBlock)) → All (λ (x : Ordered). n ≤ x.block.lane) (all_in_order n lanes)
 all-above n [] = All-nil (λ (x : Ordered). n ≤ x.block.lane)
 all-above n (lane ∷ lanes) =
     All-append (λ (x : Ordered). n ≤ x.block.lane) (in_order n lane) (all_in_order (suc n) lanes)
@@ -188,7 +188,7 @@ lanes-kept lanes = lanes-kept_behind 1 lanes [] (All-nil (λ (x : Ordered). x.bl
 
 -- ---- what holds of each block of each lane holds of each of the merged list
 
-put_in-all : (P : Ordered → Type 0) (x : Ordered) (xs : List Ordered) → P x → All P xs → All P (put_in x xs)
+pub put_in-all : (P : Ordered → Type 0) (x : Ordered) (xs : List Ordered) → P x → All P xs → All P (put_in x xs)
 put_in-all P x [] own are = All-cons P x [] own (All-nil P)
 put_in-all P x (y ∷ ys) own are = split (nat_lt y.order x.order) (put_in-all P x ys own (All-tail P y ys are))
   where
@@ -196,7 +196,7 @@ put_in-all P x (y ∷ ys) own are = split (nat_lt y.order x.order) (put_in-all P
     split true rest = All-cons P y (put_in x ys) (All-head P y ys are) rest
     split false rest = All-cons P x (y ∷ ys) own are
 
-sorted-all : (P : Ordered → Type 0) (xs : List Ordered) → All P xs → All P (sorted xs)
+pub sorted-all : (P : Ordered → Type 0) (xs : List Ordered) → All P xs → All P (sorted xs)
 sorted-all P [] are = All-nil P
 sorted-all P (x ∷ xs) are = put_in-all P x (sorted xs) (All-head P x xs are) (sorted-all P xs (All-tail P x xs are))
 

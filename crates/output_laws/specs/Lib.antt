@@ -5,5 +5,6 @@ pub mod Blocks
 pub mod Reading
 pub mod Layouts
 pub mod Lanes
+pub mod WholeLists
 pub mod Read
 pub mod Merges

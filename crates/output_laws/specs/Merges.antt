@@ -18,15 +18,25 @@ use Rattle.output_laws.specs.Reading.{header_of_segment}
 use Rattle.merge_model.specs.Links.{Placing, placed}
 use Rattle.merge_model.specs.Merged.{in_lane, merged}
 use Rattle.output_laws.specs.Lanes.{lanes_from, in_lanes, as_it_stands, lanes_read, blocks_read, HasNoLane}
+use Rattle.output_laws.specs.WholeLists.{AreCutWhole, IsInOrder}
 use Rattle.output_laws.specs.Read.{IsOfItsKind, IsReadBlock, IsPlacing, LEAST_SCALE}
 
 -- The lanes of a merged list are those that were merged, each block with its lane's number.
 abbrev pub LanesAreKept : Type 0
 LanesAreKept = (lanes : List (List OutputBlock)) → lanes_from 1 (length lanes) (merged lanes) ≡ in_lanes 1 lanes
 
+-- A merged list is in order: of two blocks of different lanes the one with the lower order number is first, where that is
+-- the same the one of the lower lane. That a lane keeps its order is LanesAreKept.
+abbrev pub MergedIsInOrder : Type 0
+MergedIsInOrder = (lanes : List (List OutputBlock)) → IsInOrder (merged lanes)
+
 -- The Clusters hold the blocks that are cut, in their order.
 abbrev pub ClustersHoldAll : Type 0
 ClustersHoldAll = (limits : ClusterLimits) (bs : List OutputBlock) → flat_map (λ (c : OutputCluster). c.blocks) (clusters limits bs) ≡ bs
+
+-- A Cluster ends where the next block doesn't join it, and nowhere else.
+abbrev pub ClustersAreCut : Type 0
+ClustersAreCut = (limits : ClusterLimits) (bs : List OutputBlock) → AreCutWhole limits (clusters limits bs)
 
 -- A block that is found in a file says what its kind can say, and what is kept of it can be written.
 abbrev pub FoundBlocksAreOfTheirKind : Type 0

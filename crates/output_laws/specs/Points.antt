@@ -1,4 +1,4 @@
--- What a cue point points at: RFC 9559, sections 5.1.5 (Cues Element) and 22 (Cueing).
+-- What a cue point points at: RFC 9559, section 5.1.5 (Cues Element), and its chapter on Cues.
 use Rattle.std.specs.Prelude.{◌≡◌, ℕ, ◌+◌, pos, List, Contains, Ok}
 use Rattle.mkv_schema.specs.declared.ids.TheConstants.{CLUSTER}
 use Rattle.mkv_schema.specs.declared.element.Header.{Header}

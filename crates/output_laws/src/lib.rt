@@ -15,9 +15,9 @@ pub use blocks::{
 };
 pub use layouts::{layouts_are_read, opened_is_overwritten};
 pub use merges::{
-    blocks_are_read_in_order, clusters_are_cut_again, clusters_hold_all, file_blocks_are_read,
-    found_blocks_are_of_their_kind, lanes_are_kept, lanes_are_read_again,
-    merged_clusters_are_sound, placed_blocks_are_sound, ticks_are_kept,
+    blocks_are_read_in_order, clusters_are_cut, clusters_are_cut_again, clusters_hold_all,
+    file_blocks_are_read, found_blocks_are_of_their_kind, lanes_are_kept, lanes_are_read_again,
+    merged_clusters_are_sound, merged_is_in_order, placed_blocks_are_sound, ticks_are_kept,
 };
 pub use outputs::{
     blocks_are_read, clusters_are_read, frames_can_be_written, kept_can_be_written,

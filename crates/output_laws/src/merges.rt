@@ -1,16 +1,26 @@
 //! What a merge keeps of its lanes, and that what it writes can be read: RFC 9559, sections 10 (Cluster Blocks) and 11
 //! (Timestamps). Laws alone: no code that reads or writes stands on this crate.
 
-ghost use Rattle.output_laws.specs.Merges.{BlocksAreReadInOrder, ClustersAreCutAgain, ClustersHoldAll, FileBlocksAreRead, FoundBlocksAreOfTheirKind, LanesAreKept, LanesAreReadAgain, MergedClustersAreSound, PlacedBlocksAreSound, TicksAreKept};
+ghost use Rattle.output_laws.specs.Merges.{BlocksAreReadInOrder, ClustersAreCut, ClustersAreCutAgain, ClustersHoldAll, FileBlocksAreRead, FoundBlocksAreOfTheirKind, LanesAreKept, LanesAreReadAgain, MergedClustersAreSound, MergedIsInOrder, PlacedBlocksAreSound, TicksAreKept};
 
 /// The blocks of each lane stand in the merged list, each once and in their order.
 pub fn lanes_are_kept()
     ensures { LanesAreKept }
 {}
 
+/// The merged list is in order: by order number, then lane.
+pub fn merged_is_in_order()
+    ensures { MergedIsInOrder }
+{}
+
 /// Clusters hold the blocks that they are cut from, in their order.
 pub fn clusters_hold_all()
     ensures { ClustersHoldAll }
+{}
+
+/// A Cluster ends where the next block doesn't join it, and nowhere else.
+pub fn clusters_are_cut()
+    ensures { ClustersAreCut }
 {}
 
 /// A block that is found in a file says what its kind can say, and what is kept of it can be written.
