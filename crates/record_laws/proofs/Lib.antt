@@ -16,3 +16,11 @@ pub mod ChaptersLemmas
 pub mod PartsLemmas
 pub mod ArrowLemmas
 pub mod SubRipLemmas
+mod ChapterExamples
+mod ShiftExamples
+mod IdentifierExamples
+mod ChapterIdentifierExamples
+mod TagExamples
+mod SubRipExamples
+mod SimpleChapterExamples
+mod TextExamples

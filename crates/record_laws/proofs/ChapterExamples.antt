@@ -1,0 +1,150 @@
+-- What of small Chapters Elements goes into a stretch of time, computed, so that a wrong definition does not check.
+use Rattle.std.proofs.Common.{◌≡◌, ℕ, ◌+◌, List, [], ◌∷◌, ◌++◌, length, codes, option_map, Option, Some, None, Result, Ok, refl}
+use Rattle.std.specs.Int.Count.{count_leading_zeros}
+use Rattle.std.specs.Str.{is_utf8, chars}
+use lib.Utf8.{encode}
+use Rattle.ebml_numbers.specs.Number.{id_at, size_at, uint_width, least_size_width}
+use Rattle.mkv_schema.specs.Table.{table}
+use Rattle.mkv_schema.specs.Schema.{entry_of}
+use Rattle.mkv_schema.specs.Element.{element_in}
+use Rattle.mkv_schema.specs.Outline.{and_then}
+use Rattle.mkv_io.specs.declared.damage.Damage.{Damage}
+use Rattle.tree_format.specs.NormalForm.{content}
+use Rattle.tree_format.specs.Reading.{tree_of, grove, grove_within}
+use Rattle.record_changes.specs.declared.stretch.Stretch.{Stretch}
+use Rattle.record_changes.specs.Cut.{cut}
+
+-- ---- Elements, each of fewer than 127 octets
+
+abbrev pub edition : List ℕ → List ℕ
+edition body = 0x45 ∷ 0xB9 ∷ (0x80 + length body) ∷ body
+
+abbrev pub atom : List ℕ → List ℕ
+atom body = 0xB6 ∷ (0x80 + length body) ∷ body
+
+abbrev pub edition_uid : ℕ → List ℕ
+edition_uid n = 0x45 ∷ 0xBC ∷ 0x81 ∷ n ∷ []
+
+-- a ChapterTimeStart, and a ChapterTimeEnd
+abbrev pub start : List ℕ → List ℕ
+start octets = 0x91 ∷ (0x80 + length octets) ∷ octets
+
+abbrev pub end : List ℕ → List ℕ
+end octets = 0x92 ∷ (0x80 + length octets) ∷ octets
+
+-- an atom from a start to an end
+abbrev pub lasting : List ℕ → List ℕ → List ℕ
+lasting from to = atom (start from ++ end to)
+
+-- a ChapterDisplay: the name `Intro` in the language `und`
+abbrev pub intro : List ℕ
+intro = (0x80 ∷ 0x8D ∷ []) ++ (0x85 ∷ 0x85 ∷ codes "Intro") ++ (0x43 ∷ 0x7C ∷ 0x83 ∷ codes "und")
+
+-- ---- times in nanoseconds: 0, and 0.5, 1, 1.5, 2, 2.5 and 3 seconds
+
+abbrev pub zero_s : List ℕ
+zero_s = 0 ∷ []
+
+abbrev pub half_s : List ℕ
+half_s = 0x1D ∷ 0xCD ∷ 0x65 ∷ 0 ∷ []
+
+abbrev pub one_s : List ℕ
+one_s = 0x3B ∷ 0x9A ∷ 0xCA ∷ 0 ∷ []
+
+abbrev one_and_a_half_s : List ℕ
+one_and_a_half_s = 0x59 ∷ 0x68 ∷ 0x2F ∷ 0 ∷ []
+
+abbrev pub two_s : List ℕ
+two_s = 0x77 ∷ 0x35 ∷ 0x94 ∷ 0 ∷ []
+
+abbrev two_and_a_half_s : List ℕ
+two_and_a_half_s = 0x95 ∷ 2 ∷ 0xF9 ∷ 0 ∷ []
+
+abbrev three_s : List ℕ
+three_s = 0xB2 ∷ 0xD0 ∷ 0x5E ∷ 0 ∷ []
+
+-- ---- chapters
+
+-- from 0 to 2.5 seconds, and from there to 3 seconds
+abbrev two_atoms : List ℕ
+two_atoms = lasting zero_s two_and_a_half_s ++ lasting two_and_a_half_s three_s
+
+-- one at 0 and one at 1 second, without ends
+abbrev pub endless : List ℕ
+endless = atom (start zero_s) ++ atom (start one_s)
+
+-- from 0 to 2 seconds, and in it one to 0.5 seconds and one from 1 second to 2 seconds
+abbrev pub nested : List ℕ
+nested = atom (start zero_s ++ end two_s ++ lasting zero_s half_s ++ lasting one_s two_s)
+
+-- an edition with an identifier and the endless ones
+abbrev named : List ℕ
+named = edition (edition_uid 8 ++ endless)
+
+-- ---- what goes into a stretch
+
+-- up to a time, between two times, and from a time on
+abbrev before : ℕ → Stretch
+before limit = record { from = 0; to = Some limit }
+
+abbrev between : ℕ → ℕ → Stretch
+between begin limit = record { from = begin; to = Some limit }
+
+abbrev onward : ℕ → Stretch
+onward begin = record { from = begin; to = None }
+
+-- what of a Chapters Element goes into a stretch, both without its header
+abbrev cut_to : Stretch → List ℕ → Result (Option (List ℕ)) Damage
+cut_to s body = and_then (tree_of 0x1043A770 0 body 5 65536) (λ tree. Ok (option_map content (cut s tree)))
+
+-- one edition becomes another, and nothing is left of one
+abbrev becomes : Stretch → List ℕ → List ℕ → Type 0
+becomes s old new = cut_to s (edition old) ≡ Ok (Some (edition new))
+
+abbrev is_left_out : Stretch → List ℕ → Type 0
+is_left_out s old = cut_to s (edition old) ≡ Ok None
+
+-- what of the nested ones goes into the time from 0.5 seconds on, counted from there
+abbrev nested_onward : List ℕ
+nested_onward = atom (start zero_s ++ end one_and_a_half_s ++ lasting half_s one_and_a_half_s)
+
+pub record AreCut : Type 0 where
+  -- before 2 seconds: the first one, which now ends there
+  pub first_part : becomes (before 2000000000) two_atoms (lasting zero_s two_s)
+  -- from 2 seconds on: both, counted from there
+  pub second_part : becomes (onward 2000000000) two_atoms (lasting zero_s half_s ++ lasting half_s one_s)
+  -- what starts where the stretch ends isn't in it
+  pub starts_at_limit : becomes (before 2500000000) two_atoms (lasting zero_s two_and_a_half_s)
+  -- nor is what ends where it begins
+  pub ends_at_begin : becomes (onward 2500000000) two_atoms (lasting zero_s half_s)
+  -- an atom without an end lasts up to the next one, and gets no end
+  pub lasts_to_next : becomes (onward 500000000) endless (atom (start zero_s) ++ atom (start half_s))
+  pub next_at_begin : becomes (onward 1000000000) endless (atom (start zero_s))
+  -- the last one never ends
+  pub never_ends : becomes (between 2000000000 3000000000) endless (atom (start zero_s))
+  -- a start that is missing is 0, and comes last
+  pub missing_start : becomes (before 1) (atom intro) (atom (intro ++ start zero_s))
+  -- atoms inside one are cut alike, and are left out with it
+  pub inside : becomes (onward 500000000) nested nested_onward
+  pub left_out_with_it : is_left_out (onward 2000000000) (atom (start zero_s ++ end two_s ++ lasting two_s three_s))
+  -- an edition that has no atom then is left out; what else another has stays
+  pub empty_edition : cut_to (onward 0) (edition (edition_uid 7) ++ named) ≡ Ok (Some named)
+  -- where no atom goes into the stretch, nothing is left
+  pub nothing_left : is_left_out (onward 3000000000) two_atoms
+
+pub cuts : AreCut
+unfolding is_utf8 chars encode grove grove_within element_in id_at size_at entry_of table count_leading_zeros uint_width least_size_width
+cuts = record {
+  first_part = refl;
+  second_part = refl;
+  starts_at_limit = refl;
+  ends_at_begin = refl;
+  lasts_to_next = refl;
+  next_at_begin = refl;
+  never_ends = refl;
+  missing_start = refl;
+  inside = refl;
+  left_out_with_it = refl;
+  empty_edition = refl;
+  nothing_left = refl;
+}

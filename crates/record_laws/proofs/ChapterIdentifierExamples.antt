@@ -1,0 +1,58 @@
+-- Identifiers that small Chapters Elements get, computed, so that a wrong definition does not check.
+use Rattle.std.proofs.Common.{◌≡◌, ℕ, List, [], ◌∷◌, ◌++◌, Result, Ok, refl}
+use Rattle.std.specs.Int.Count.{count_leading_zeros}
+use Rattle.std.specs.Str.{is_utf8, chars}
+use lib.Utf8.{encode}
+use Rattle.ebml_numbers.specs.Number.{id_at, size_at, uint_width, least_size_width}
+use Rattle.mkv_schema.specs.Table.{table}
+use Rattle.mkv_schema.specs.Schema.{entry_of}
+use Rattle.mkv_schema.specs.Element.{element_in}
+use Rattle.mkv_schema.specs.Outline.{and_then}
+use Rattle.mkv_io.specs.declared.damage.Damage.{Damage}
+use Rattle.tree_format.specs.Node.{Node}
+use Rattle.tree_format.specs.NormalForm.{content}
+use Rattle.tree_format.specs.Reading.{tree_of, grove, grove_within}
+use Rattle.record_changes.specs.Identifiers.{renumbered}
+use Rattle.record_changes.specs.Atoms.{edition_uids, chapter_uids}
+use Rattle.record_changes.specs.ChapterIdentifiers.{with_identifiers}
+use Rattle.record_laws.proofs.ChapterExamples.{edition, atom, edition_uid, start, intro, zero_s}
+use Rattle.record_laws.proofs.ShiftExamples.{one_chapter}
+
+abbrev chapter_uid : ℕ → List ℕ
+chapter_uid n = 0x73 ∷ 0xC4 ∷ 0x81 ∷ n ∷ []
+
+-- an edition and an atom with these identifiers
+abbrev named : ℕ → ℕ → List ℕ
+named e c = edition (edition_uid e ++ atom (chapter_uid c))
+
+-- an edition with an atom, one inside it, and one behind it
+abbrev three_atoms : ℕ → ℕ → ℕ → List ℕ
+three_atoms first inner second =
+    edition (edition_uid 1 ++ atom (chapter_uid first ++ atom (chapter_uid inner)) ++ atom (chapter_uid second))
+
+-- each edition and each atom with the number that its identifier gets
+abbrev identified : Node → Node
+identified tree = with_identifiers (renumbered (edition_uids tree)) (renumbered (chapter_uids tree)) tree
+
+-- what a Chapters Element becomes by that, both without its header
+abbrev renamed : List ℕ → Result (List ℕ) Damage
+renamed body = and_then (tree_of 0x1043A770 0 body 5 65536) (λ tree. Ok (content (identified tree)))
+
+abbrev become : List ℕ → List ℕ → Type 0
+become old new = renamed old ≡ Ok new
+
+pub record AreIdentified : Type 0 where
+  -- those of a chapter that was made are 0, and become 1
+  pub made : become (edition (edition_uid 0 ++ atom (chapter_uid 0 ++ start zero_s ++ intro))) one_chapter
+  -- those that are positive and stand once stay
+  pub stay : become (named 5 9 ++ named 3 2) (named 5 9 ++ named 3 2)
+  -- the second of two that are one gets the smallest that is free; editions and chapters are counted apart
+  pub repeated : become (named 5 1 ++ named 5 1) (named 5 1 ++ named 1 2)
+  -- one that is missing comes last
+  pub missing : become (edition (atom intro)) (edition (atom (intro ++ chapter_uid 1) ++ edition_uid 1))
+  -- an atom comes before those inside it, and these before the next one
+  pub order : become (three_atoms 0 0 0) (three_atoms 1 2 3)
+
+pub identifies : AreIdentified
+unfolding is_utf8 chars encode grove grove_within element_in id_at size_at entry_of table count_leading_zeros uint_width least_size_width
+identifies = record { made = refl; stay = refl; repeated = refl; missing = refl; order = refl }

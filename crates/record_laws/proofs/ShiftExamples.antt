@@ -1,0 +1,105 @@
+-- Chapters that are later, and where chapters start, computed, so that a wrong definition does not check.
+use Rattle.std.proofs.Common.{◌≡◌, ℕ, List, [], ◌∷◌, ◌++◌, replicate, Result, Ok, refl}
+use Rattle.std.specs.Int.Count.{count_leading_zeros}
+use Rattle.std.specs.Str.{is_utf8, chars}
+use lib.Utf8.{encode}
+use Rattle.ebml_numbers.specs.Number.{id_at, size_at, uint_width, least_size_width}
+use Rattle.mkv_schema.specs.Table.{table}
+use Rattle.mkv_schema.specs.Schema.{entry_of}
+use Rattle.mkv_schema.specs.Element.{element_in}
+use Rattle.mkv_schema.specs.Outline.{and_then}
+use Rattle.mkv_io.specs.declared.damage.Damage.{Damage}
+use Rattle.tree_format.specs.NormalForm.{content}
+use Rattle.tree_format.specs.Reading.{tree_of, grove, grove_within}
+use Rattle.record_changes.specs.Shift.{shifted}
+use Rattle.record_changes.specs.Starts.{top_starts}
+use Rattle.record_laws.proofs.ChapterExamples.{edition, atom, edition_uid, start, lasting, intro, zero_s, half_s, one_s, endless, nested}
+
+-- ---- chapters
+
+-- an edition with the chapter `Intro` at 0, in its octets, and the same with the chapter at 20 milliseconds
+abbrev pub one_chapter : List ℕ
+one_chapter =
+    (0x45 ∷ 0xB9 ∷ 0x9C ∷ []) ++
+    (0x45 ∷ 0xBC ∷ 0x81 ∷ 1 ∷ []) ++
+    (0xB6 ∷ 0x96 ∷ []) ++
+    (0x73 ∷ 0xC4 ∷ 0x81 ∷ 1 ∷ []) ++
+    (0x91 ∷ 0x81 ∷ 0 ∷ []) ++
+    (0x80 ∷ 0x8D ∷ []) ++
+    (0x85 ∷ 0x85 ∷ 0x49 ∷ 0x6E ∷ 0x74 ∷ 0x72 ∷ 0x6F ∷ []) ++
+    (0x43 ∷ 0x7C ∷ 0x83 ∷ 0x75 ∷ 0x6E ∷ 0x64 ∷ [])
+
+abbrev later_chapter : List ℕ
+later_chapter =
+    (0x45 ∷ 0xB9 ∷ 0x9F ∷ []) ++
+    (0x45 ∷ 0xBC ∷ 0x81 ∷ 1 ∷ []) ++
+    (0xB6 ∷ 0x99 ∷ []) ++
+    (0x73 ∷ 0xC4 ∷ 0x81 ∷ 1 ∷ []) ++
+    (0x91 ∷ 0x84 ∷ 1 ∷ 0x31 ∷ 0x2D ∷ 0 ∷ []) ++
+    (0x80 ∷ 0x8D ∷ []) ++
+    (0x85 ∷ 0x85 ∷ 0x49 ∷ 0x6E ∷ 0x74 ∷ 0x72 ∷ 0x6F ∷ []) ++
+    (0x43 ∷ 0x7C ∷ 0x83 ∷ 0x75 ∷ 0x6E ∷ 0x64 ∷ [])
+
+-- two editions with an atom each, from a start to an end
+abbrev two_editions : List ℕ → List ℕ → List ℕ
+two_editions from to = edition (lasting from to) ++ edition (lasting from to)
+
+-- the last time of 64 bits
+abbrev last : List ℕ
+last = replicate 8 0xFF
+
+-- ---- chapters that are later
+
+-- what a Chapters Element becomes whose chapters are so much later, both without its header
+abbrev later : ℕ → List ℕ → Result (List ℕ) Damage
+later by body = and_then (tree_of 0x1043A770 0 body 5 65536) (λ tree. Ok (content (shifted by tree)))
+
+-- an edition becomes another by half a second
+abbrev becomes : List ℕ → List ℕ → Type 0
+becomes old new = later 500000000 (edition old) ≡ Ok (edition new)
+
+pub record AreLater : Type 0 where
+  -- a start takes the octets that it then needs
+  pub one : later 20000000 one_chapter ≡ Ok later_chapter
+  -- an end is later too, in every edition
+  pub ends : later 500000000 (two_editions zero_s half_s) ≡ Ok (two_editions half_s one_s)
+  -- a start that is missing was 0, and comes last
+  pub missing_start : becomes (atom intro) (atom (intro ++ start half_s))
+  -- a missing end isn't added, and what is no atom stays
+  pub others_stay : becomes (edition_uid 7 ++ atom (start zero_s)) (edition_uid 7 ++ atom (start half_s))
+  -- atoms inside an atom are later too
+  pub inside : becomes (atom (start zero_s ++ atom (start half_s))) (atom (start half_s ++ atom (start one_s)))
+  pub missing_inside : becomes (atom (start zero_s ++ atom intro)) (atom (start half_s ++ atom (intro ++ start half_s)))
+  -- no time is later than the last one
+  pub no_later_than_last : becomes (lasting zero_s last) (lasting half_s last)
+
+pub laters : AreLater
+unfolding is_utf8 chars encode grove grove_within element_in id_at size_at entry_of table count_leading_zeros uint_width least_size_width
+laters = record {
+  one = refl;
+  ends = refl;
+  missing_start = refl;
+  others_stay = refl;
+  inside = refl;
+  missing_inside = refl;
+  no_later_than_last = refl;
+}
+
+-- ---- where chapters start
+
+-- the starts of a Chapters Element's chapters
+abbrev starts : List ℕ → Result (List ℕ) Damage
+starts body = and_then (tree_of 0x1043A770 0 body 5 65536) (λ tree. Ok (top_starts tree))
+
+pub record AreStarts : Type 0 where
+  -- in the order of the atoms; one that is missing is 0
+  pub top : starts (edition (atom (start one_s) ++ atom intro)) ≡ Ok (1000000000 ∷ 0 ∷ [])
+  -- without those of atoms inside atoms
+  pub none_inside : starts (edition nested) ≡ Ok (0 ∷ [])
+  -- of the first edition alone
+  pub first_edition : starts (edition (atom (start half_s)) ++ edition endless) ≡ Ok (500000000 ∷ [])
+  pub no_edition : starts [] ≡ Ok []
+
+pub begins : AreStarts
+unfolding is_utf8 chars encode grove grove_within element_in id_at size_at entry_of table count_leading_zeros
+begins = record { top = refl; none_inside = refl; first_edition = refl; no_edition = refl }

@@ -1,0 +1,58 @@
+-- Small files of simple chapters that are read, computed, so that a wrong definition does not check.
+use Rattle.std.proofs.Common.{◌≡◌, ℕ, List, [], ◌∷◌, ◌++◌, codes, Ok, Err, refl}
+use Rattle.std.specs.Str.{is_utf8, chars}
+use lib.Utf8.{encode}
+use Rattle.srt_texts.specs.declared.chapter_reading.Chapter.{Chapter}
+use Rattle.srt_texts.specs.Fields.{cut, digits, sixtieth}
+use Rattle.srt_texts.specs.Pairs.{time_of, first_line, second_line, pairs, simple}
+use Rattle.record_laws.proofs.SubRipExamples.{text}
+
+-- a chapter: its start and its name
+abbrev chapter : ℕ → List ℕ → Chapter
+chapter from words = record { start = from; name = words }
+
+abbrev pub intro : List ℕ
+intro = text (codes "CHAPTER01=00:00:00.000" ∷ codes "CHAPTER01NAME=Intro" ∷ [])
+
+-- one with four digits and an empty name, and empty lines before and inside
+abbrev sparse : List ℕ
+sparse = text ([] ∷ codes "CHAPTER0002=01:02:03.004" ∷ [] ∷ codes "CHAPTER0002NAME=" ∷ [])
+
+-- a first line, and one with this behind `CHAPTER`
+abbrev behind_first : List ℕ → List ℕ
+behind_first words = text (codes "CHAPTER01=00:00:00.000" ∷ (codes "CHAPTER" ++ words) ∷ [])
+
+pub record AreChapters : Type 0 where
+  -- no line is no chapter
+  pub nothing : simple [] ≡ Ok []
+  pub one : simple intro ≡ Ok (chapter 0 (codes "Intro") ∷ [])
+  -- empty lines say nothing
+  pub two : simple (intro ++ sparse) ≡ Ok (chapter 0 (codes "Intro") ∷ chapter 3723004000000 [] ∷ [])
+  -- no time stands in a first line
+  pub no_time : simple (codes "CHAPTER01=x") ≡ Err 1
+  -- minutes are below 60
+  pub minutes : simple (text (codes "CHAPTER01=00:60:00.000" ∷ codes "CHAPTER01NAME=a" ∷ [])) ≡ Err 1
+  -- a number has at least two digits, and at most four
+  pub one_digit : simple (text (codes "CHAPTER1=00:00:00.000" ∷ codes "CHAPTER1NAME=a" ∷ [])) ≡ Err 1
+  pub five_digits : simple (text (codes "CHAPTER00001=00:00:00.000" ∷ codes "CHAPTER00001NAME=a" ∷ [])) ≡ Err 1
+  -- it is the same in both lines, digit for digit
+  pub other_number : simple (behind_first (codes "001NAME=a")) ≡ Err 2
+  -- a name is UTF-8
+  pub not_utf8 : simple (behind_first (codes "01NAME=" ++ 0xFF ∷ [])) ≡ Err 2
+  -- a second line that is missing is told behind the last line, empty ones counted
+  pub missing : simple (intro ++ text (codes "CHAPTER02=00:00:01.000" ∷ [] ∷ [])) ≡ Err 5
+
+pub chapters : AreChapters
+unfolding simple pairs first_line second_line time_of cut digits sixtieth is_utf8 chars encode
+chapters = record {
+  nothing = refl;
+  one = refl;
+  two = refl;
+  no_time = refl;
+  minutes = refl;
+  one_digit = refl;
+  five_digits = refl;
+  other_number = refl;
+  not_utf8 = refl;
+  missing = refl;
+}

@@ -1,0 +1,83 @@
+-- Small SubRip files that are read, computed, so that a wrong definition does not check.
+use Rattle.std.proofs.Common.{◌≡◌, ℕ, List, [], ◌∷◌, ◌++◌, codes, Ok, Err, refl}
+use Rattle.std.specs.Str.{is_utf8, chars}
+use lib.Utf8.{encode}
+use Rattle.mkv_io.specs.declared.entry.Entry.{Entry}
+use Rattle.srt_texts.specs.Fields.{cut, digits, sixtieth}
+use Rattle.srt_texts.specs.Times.{seconds, clock, times, is_number}
+use Rattle.srt_texts.specs.Srt.{head, before_head, trimmed, entries, has_arrow, first_bad, insert_by, sorted_by, srt}
+
+-- lines, each ended by LF
+abbrev pub text : List (List ℕ) → List ℕ
+text [] = []
+text (l ∷ ls) = l ++ 10 ∷ text ls
+
+-- an entry: its start, its duration and its text
+abbrev entry : ℕ → ℕ → List ℕ → Entry
+entry from lasting words = record { start = from; duration = lasting; text = words }
+
+-- one of two lines, from 1 second to 2.5 seconds
+abbrev pub hi : List ℕ
+hi = text (codes "1" ∷ codes "00:00:01,000 --> 00:00:02,500" ∷ codes "Hi" ∷ codes "you" ∷ [] ∷ [])
+
+abbrev hi_read : Entry
+hi_read = entry 1000000000 1500000000 (codes "Hi" ++ 10 ∷ codes "you")
+
+-- one from 0.5 seconds to 1.5 seconds
+abbrev early : List ℕ
+early = text (codes "7 " ∷ codes "00:00:00.500 --> 00:00:01.500 X1:40" ∷ codes "a" ∷ [] ∷ codes "b" ∷ [])
+
+abbrev early_read : Entry
+early_read = entry 500000000 1000000000 (codes "a" ++ 10 ∷ 10 ∷ codes "b")
+
+-- one from 1 second to 1 second, with the mark of UTF-8 in front, CRLF behind lines, and nothing behind the last one
+abbrev marked : List ℕ
+marked =
+    (239 ∷ 187 ∷ 191 ∷ []) ++
+    codes "1" ++ (13 ∷ 10 ∷ []) ++
+    codes "00:00:01,000 --> 00:00:01,000" ++ (13 ∷ 10 ∷ []) ++
+    codes "a"
+
+-- one of a millisecond whose text is a number
+abbrev numbered : List ℕ
+numbered = text (codes "1" ∷ codes "00:00:00,000 --> 00:00:00,001" ∷ codes "2" ∷ [])
+
+-- one at the latest time that four digits of hours tell, without a text
+abbrev latest_of_all : List ℕ
+latest_of_all = text (codes "1" ∷ codes "9999:59:59,999 --> 9999:59:59,999" ∷ [])
+
+pub record AreEntries : Type 0 where
+  -- the lines of a text have LF between them; empty ones at its end go
+  pub one : srt hi ≡ Ok (hi_read ∷ [])
+  -- empty lines inside stay, a point may stand for a comma, a space behind the number, and words behind the times
+  pub between : srt early ≡ Ok (early_read ∷ [])
+  -- entries are in the order of their starts, whatever their numbers
+  pub sorted : srt (hi ++ early) ≡ Ok (early_read ∷ hi_read ∷ [])
+  -- the mark in front says nothing, CRLF ends a line, and the last line needs no end; an entry may end where it starts
+  pub with_mark : srt marked ≡ Ok (entry 1000000000 0 (codes "a") ∷ [])
+  -- a number line without a time line behind it is text
+  pub number : srt numbered ≡ Ok (entry 0 1000000 (codes "2") ∷ [])
+  -- hours may have four digits, and a text may be missing
+  pub latest : srt latest_of_all ≡ Ok (entry 35999999999000000 0 [] ∷ [])
+
+pub entries_read : AreEntries
+unfolding srt head before_head trimmed entries has_arrow first_bad insert_by sorted_by seconds clock times is_number cut digits sixtieth is_utf8 chars encode
+entries_read = record { one = refl; between = refl; sorted = refl; with_mark = refl; number = refl; latest = refl }
+
+pub record AreBadLines : Type 0 where
+  -- a line before the first number line
+  pub front : srt (text (codes "x" ∷ [])) ≡ Err 1
+  -- a number line there has no time line behind it
+  pub no_times : srt (text (codes "1" ∷ codes "a" ∷ [])) ≡ Err 1
+  -- an entry ends before it starts
+  pub backward : srt (text (codes "1" ∷ codes "00:00:02,000 --> 00:00:01,999" ∷ [])) ≡ Err 2
+  -- an arrow stands in a text
+  pub arrow : srt (hi ++ text (codes "a-->b" ∷ [])) ≡ Err 6
+  -- minutes are below 60: the line is no time line
+  pub minutes : srt (hi ++ text (codes "2" ∷ codes "00:60:00,000 --> 01:00:00,000" ∷ [])) ≡ Err 7
+  -- a line isn't UTF-8: it stands before the one with an arrow, and is told
+  pub not_utf8 : srt (hi ++ text ((0xFF ∷ []) ∷ codes "-->" ∷ [])) ≡ Err 6
+
+pub bad_lines : AreBadLines
+unfolding srt head before_head trimmed entries has_arrow first_bad insert_by sorted_by seconds clock times is_number cut digits sixtieth is_utf8 chars encode
+bad_lines = record { front = refl; no_times = refl; backward = refl; arrow = refl; minutes = refl; not_utf8 = refl }

@@ -1,0 +1,152 @@
+-- What is written of small Tags Elements, computed, so that a wrong definition does not check.
+use Rattle.std.proofs.Common.{◌≡◌, ℕ, ◌+◌, ◌==◌, ◌&&◌, if◌then◌else◌, true, false, List, [], ◌∷◌, ◌++◌, length, Option, Some, None, Result, Ok, refl}
+use Rattle.std.specs.Int.Count.{count_leading_zeros}
+use Rattle.std.specs.Str.{is_utf8, chars}
+use lib.Utf8.{encode}
+use Rattle.ebml_numbers.specs.Number.{id_at, size_at, uint_width, least_size_width}
+use Rattle.mkv_schema.specs.Table.{table}
+use Rattle.mkv_schema.specs.Schema.{entry_of}
+use Rattle.mkv_schema.specs.Element.{element_in}
+use Rattle.mkv_schema.specs.Outline.{and_then}
+use Rattle.mkv_io.specs.declared.damage.Damage.{Damage}
+use Rattle.tree_format.specs.NormalForm.{content}
+use Rattle.tree_format.specs.Reading.{tree_of, grove, grove_within}
+use Rattle.record_changes.specs.declared.uid_map.TagKeep.{TagKeep}
+use Rattle.record_changes.specs.Tags.{written_tags}
+
+-- ---- Elements, each of fewer than 127 octets
+
+-- a SimpleTag: A is b
+abbrev simple : List ℕ
+simple =
+    (0x67 ∷ 0xC8 ∷ 0x88 ∷ []) ++
+    (0x45 ∷ 0xA3 ∷ 0x81 ∷ 0x41 ∷ []) ++
+    (0x44 ∷ 0x87 ∷ 0x81 ∷ 0x62 ∷ [])
+
+-- a Tag with this in front of a SimpleTag
+abbrev tag : List ℕ → List ℕ
+tag front = 0x73 ∷ 0x73 ∷ (0x80 + length (front ++ simple)) ∷ front ++ simple
+
+-- a Tag with Targets, and these inside
+abbrev about : List ℕ → List ℕ
+about targets = tag (0x63 ∷ 0xC0 ∷ (0x80 + length targets) ∷ targets)
+
+-- a TagTrackUID in these octets, and the target of each kind in one octet
+abbrev track_in : List ℕ → List ℕ
+track_in octets = 0x63 ∷ 0xC5 ∷ (0x80 + length octets) ∷ octets
+
+abbrev track : ℕ → List ℕ
+track n = 0x63 ∷ 0xC5 ∷ 0x81 ∷ n ∷ []
+
+abbrev edition : ℕ → List ℕ
+edition n = 0x63 ∷ 0xC9 ∷ 0x81 ∷ n ∷ []
+
+abbrev chapter : ℕ → List ℕ
+chapter n = 0x63 ∷ 0xC4 ∷ 0x81 ∷ n ∷ []
+
+abbrev attachment : ℕ → List ℕ
+attachment n = 0x63 ∷ 0xC6 ∷ 0x81 ∷ n ∷ []
+
+-- a TargetTypeValue
+abbrev level : ℕ → List ℕ
+level n = 0x68 ∷ 0xCA ∷ 0x81 ∷ n ∷ []
+
+-- ---- Tags
+
+-- one about the track 5 in its octets, and the same about the track 1
+abbrev about_5 : List ℕ
+about_5 =
+    (0x73 ∷ 0x73 ∷ 0x92 ∷ []) ++
+    (0x63 ∷ 0xC0 ∷ 0x84 ∷ []) ++
+    (0x63 ∷ 0xC5 ∷ 0x81 ∷ 5 ∷ []) ++
+    (0x67 ∷ 0xC8 ∷ 0x88 ∷ []) ++
+    (0x45 ∷ 0xA3 ∷ 0x81 ∷ 0x41 ∷ []) ++
+    (0x44 ∷ 0x87 ∷ 0x81 ∷ 0x62 ∷ [])
+
+abbrev about_1 : List ℕ
+about_1 =
+    (0x73 ∷ 0x73 ∷ 0x92 ∷ []) ++
+    (0x63 ∷ 0xC0 ∷ 0x84 ∷ []) ++
+    (0x63 ∷ 0xC5 ∷ 0x81 ∷ 1 ∷ []) ++
+    (0x67 ∷ 0xC8 ∷ 0x88 ∷ []) ++
+    (0x45 ∷ 0xA3 ∷ 0x81 ∷ 0x41 ∷ []) ++
+    (0x44 ∷ 0x87 ∷ 0x81 ∷ 0x62 ∷ [])
+
+-- about a track, and about an edition and a track
+abbrev two_of_tracks : List ℕ
+two_of_tracks = about_5 ++ about (edition 5 ++ track 5)
+
+-- without Targets, with empty ones, about all tracks, and about a chapter
+abbrev four_others : List ℕ
+four_others = tag [] ++ about [] ++ about (track 0) ++ about (chapter 5)
+
+-- about one thing of each kind
+abbrev four_gone : List ℕ
+four_gone = about (track 6) ++ about (edition 5) ++ about (chapter 5) ++ about (attachment 5)
+
+-- ---- what is written
+
+-- what is written of a Tags Element, both without its header
+abbrev written : TagKeep → (ℕ → ℕ → Option ℕ) → List ℕ → Result (List ℕ) Damage
+written keep numbers body =
+    and_then (tree_of 0x1254C367 0 body 5 65536) (λ tree. Ok (content (written_tags keep numbers tree)))
+
+-- of what Tags name the track 5 alone is written, with this number
+abbrev number_of_5 : ℕ → ℕ → ℕ → Option ℕ
+number_of_5 number id uid = if id == 0x63C5 && uid == 5 then Some number else None
+
+-- the same where all Tags are wanted
+abbrev all : ℕ → List ℕ → Result (List ℕ) Damage
+all number body = written (record { tracks = true; global = true }) (number_of_5 number) body
+
+pub record AreWritten : Type 0 where
+  -- the track keeps its identifier: the Tag is as it was
+  pub same : all 5 about_5 ≡ Ok about_5
+  -- it gets another: the target has it
+  pub another : all 1 about_5 ≡ Ok about_1
+  -- an identifier takes the octets that it needs
+  pub longer : all 300 (about (track 5)) ≡ Ok (about (track_in (1 ∷ 0x2C ∷ [])))
+  pub shorter : all 5 (about (track_in (0 ∷ 0 ∷ 5 ∷ []))) ≡ Ok (about (track 5))
+  -- a Tag about nothing that is written goes; the others stay in their order
+  pub not_written : all 1 (tag [] ++ four_gone ++ about_5) ≡ Ok (tag [] ++ about_1)
+  -- of several targets those that are written stay
+  pub some : all 1 (about (track 6 ++ track 5 ++ edition 5)) ≡ Ok about_1
+  -- a Tag that names no one thing stays, and so does a target that is 0
+  pub no_targets : all 1 (tag [] ++ about [] ++ about (track 0)) ≡ Ok (tag [] ++ about [] ++ about (track 0))
+  -- other Elements of Targets stay in their places
+  pub others_stay : all 1 (about (level 30 ++ track 5)) ≡ Ok (about (level 30 ++ track 1))
+
+pub writes : AreWritten
+unfolding is_utf8 chars encode grove grove_within element_in id_at size_at entry_of table count_leading_zeros uint_width least_size_width
+writes = record {
+  same = refl;
+  another = refl;
+  longer = refl;
+  shorter = refl;
+  not_written = refl;
+  some = refl;
+  no_targets = refl;
+  others_stay = refl;
+}
+
+-- ---- Tags that aren't wanted
+
+-- all that Tags name is written as it was, but Tags about tracks aren't wanted, or all others aren't
+abbrev without_tracks : List ℕ → Result (List ℕ) Damage
+without_tracks body = written (record { tracks = false; global = true }) (λ id uid. Some uid) body
+
+abbrev without_others : List ℕ → Result (List ℕ) Damage
+without_others body = written (record { tracks = true; global = false }) (λ id uid. Some uid) body
+
+pub record AreUnwanted : Type 0 where
+  -- a Tag is about a track where one of its targets is one, whatever the others are
+  pub of_tracks : without_tracks two_of_tracks ≡ Ok []
+  -- a track that is 0 counts for none
+  pub not_of_tracks : without_tracks four_others ≡ Ok four_others
+  -- and the other way round
+  pub others : without_others four_others ≡ Ok []
+  pub not_others : without_others two_of_tracks ≡ Ok two_of_tracks
+
+pub unwanted : AreUnwanted
+unfolding is_utf8 chars encode grove grove_within element_in id_at size_at entry_of table count_leading_zeros uint_width least_size_width
+unwanted = record { of_tracks = refl; not_of_tracks = refl; others = refl; not_others = refl }

@@ -1,0 +1,45 @@
+-- Entries of SubRip and simple chapters that are written, computed, so that a wrong definition does not check.
+use Rattle.std.proofs.Common.{◌≡◌, ℕ, List, [], ◌∷◌, ◌++◌, codes, refl}
+use Rattle.std.specs.Prelude.{pos, negsuc}
+use Rattle.std.specs.Fmt.{digits}
+use Rattle.srt_texts.specs.Pieces.{stamp}
+use Rattle.srt_texts.specs.Writing.{put_srt}
+use Rattle.srt_texts.specs.ChapterWriting.{put_pair}
+use Rattle.record_laws.proofs.SubRipExamples.{text, hi}
+use Rattle.record_laws.proofs.SimpleChapterExamples.{intro}
+
+-- an entry of a number line and a time line
+abbrev bare : List ℕ → List ℕ → List ℕ
+bare number times = text (number ∷ times ∷ [] ∷ [] ∷ [])
+
+abbrev twelfth : List ℕ
+twelfth = text (codes "CHAPTER12=01:02:03.004" ∷ codes "CHAPTER12NAME=a" ∷ [])
+
+abbrev hundredth : List ℕ
+hundredth = text (codes "CHAPTER100=100:00:00.000" ∷ codes "CHAPTER100NAME=" ∷ [])
+
+pub record AreEntries : Type 0 where
+  -- a number, the times, the text, and an empty line
+  pub one : put_srt 1 (pos 1000000000) 1500000000 (codes "Hi" ++ 10 ∷ codes "you") ≡ hi
+  -- milliseconds of the start and of the end are rounded down
+  pub rounded : put_srt 12 (pos 1999999) 2000000 [] ≡ bare (codes "12") (codes "00:00:00,001 --> 00:00:00,003")
+  -- a time before 0 is written as 0; here the start is a second before it
+  pub negative : put_srt 1 (negsuc 999999999) 1500000000 [] ≡ bare (codes "1") (codes "00:00:00,000 --> 00:00:00,500")
+  -- hours have at least two digits, and more where they need them
+  pub hours : put_srt 1 (pos 359999999000000) 1000000 [] ≡ bare (codes "1") (codes "99:59:59,999 --> 100:00:00,000")
+
+pub entries : AreEntries
+unfolding put_srt stamp digits
+entries = record { one = refl; rounded = refl; negative = refl; hours = refl }
+
+pub record AreChapters : Type 0 where
+  -- a line with the time, and one with the name
+  pub one : put_pair 1 0 (codes "Intro") ≡ intro
+  -- milliseconds are rounded down
+  pub rounded : put_pair 12 3723004999999 (codes "a") ≡ twelfth
+  -- numbers and hours have at least two digits, and more where they need them
+  pub hundred : put_pair 100 360000000000000 [] ≡ hundredth
+
+pub chapters : AreChapters
+unfolding put_pair stamp digits
+chapters = record { one = refl; rounded = refl; hundred = refl }
