@@ -11,7 +11,6 @@ use Rattle.remux_plan.specs.Parts.{PlannedOutput}
 use Rattle.remux_plan.specs.declared.summary.Summary.{Summary}
 use Rattle.remuxer.specs.Output.{WritesAll, laid_out}
 use Rattle.remuxer.proofs.OutputsLemmas.{world_with}
-use Rattle.mkv_lines.specs.declared.status.Stop.{Stop}
 use Rattle.mkv_merge.specs.Bound.{contents_length, most_of}
 use Rattle.mkv_merge.specs.Joined.{Merges, sources_alone, sources_apart}
 use Rattle.mkv_merge.specs.Merge.{outputs_of as merge_outputs}
@@ -22,9 +21,8 @@ use Rattle.generator.specs.declared.blocks.Medium.TheVariants.{Pictures, Sounds}
 use Rattle.generator.specs.declared.names.Names as own
 use Rattle.generator.specs.Files.{file_of}
 use Rattle.generator.specs.Bound.{ReadsBoth, ReadsParts, layouts, most_behind, most_merged}
-use Rattle.generator.specs.Generate.{MergeMade, both_words, made_file, made_of, merge_of, parts_words, two_files}
+use Rattle.generator.specs.Generate.{both_words, made_file, made_of, merge_of, parts_words, two_files}
 use Rattle.mkv_merge.specs.Plain.{plain_file}
-use Rattle.generator.specs.Outcome.{IsOneFile}
 use Rattle.generator.proofs.MakingLemmas.{both-found, both-one, both-there, parts-found, told-then}
 use Rattle.generator.proofs.TurnLemmas.{first-told, last-told, written-behind}
 

@@ -1,14 +1,12 @@
 -- A block that is made is the one that its parts say.
-use Rattle.std.proofs.Common.{◌≡◌, ◌≤◌, ◌+◌, ℕ, Bool, List, [], ◌∷◌, ◌++◌, length, map, sum, refl, sym, ◌∙◌, ap, ap₂, subst, arith}
+use Rattle.std.proofs.Common.{◌≡◌, ◌≤◌, ℕ, Bool, List, [], ◌∷◌, ◌++◌, length, map, sum, refl, sym, ap, subst, arith}
 use Rattle.lacing.specs.Writing.{FitsKind}
 use Rattle.lacing.specs.declared.kind.Lace.{Lace}
 use Rattle.block_format.specs.Content.{frames_cut}
 use Rattle.block_format.specs.declared.limits.TheConstants.{MOST_OF_BLOCK}
-use Rattle.output_model.specs.OutputBlock.{IsLent, OutputBlock, lent_block}
-use Rattle.output_model.specs.declared.heads.OutHead.{OutHead}
-use Rattle.cluster_writer.specs.Lent.{lent}
+use Rattle.output_model.specs.OutputBlock.{OutputBlock}
 use Rattle.generator.specs.Blocks.{simple_block}
-use Rattle.generator.specs.Made.{HasParts, IsMade, lent_made, simple_head}
+use Rattle.generator.specs.Made.{HasParts, IsMade, simple_head}
 use Rattle.generator.specs.declared.blocks.Made.{Made}
 
 -- without a prefix frames are as they are

@@ -1,5 +1,5 @@
 -- Some of the blocks: computed, so that a wrong definition does not check.
-use Rattle.std.proofs.Common.{◌≡◌, ℕ, true, false, List, [], ◌∷◌, length, map, refl}
+use Rattle.std.proofs.Common.{◌≡◌, ℕ, true, false, [], ◌∷◌, length, map, refl}
 use Rattle.output_model.specs.OutputBlock.{OutputBlock}
 use Rattle.merge_model.specs.Merged.{merged}
 use Rattle.generator.specs.Blocks.{blocks_of, picture, sound}

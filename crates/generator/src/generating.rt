@@ -1,15 +1,12 @@
 //! The command.
 
-ghost use Rattle.std.specs.Prelude.{◌≡◌, ◌≢◌, ◌+◌, ◌≤◌, ℕ, IfOk};
-ghost use Rattle.mkv_io.specs.Sources.{live_files};
+ghost use Rattle.std.specs.Prelude.{◌≡◌, ◌≢◌, ◌≤◌, IfOk};
 ghost use Rattle.mkv_io.specs.Told.{Told};
-ghost use Rattle.mkv_lines.specs.Faults.{HasStopCause};
+ghost use Rattle.mkv_lines.specs.Command.{ComesTo, HasEnded};
 ghost use Rattle.mkv_lines.specs.Line.{text_of};
 ghost use Rattle.mkv_lines.specs.Ordinary.{IsOrdinary};
 ghost use Rattle.mkv_lines.specs.Said.{HasSayCause, Says};
-ghost use Rattle.mkv_lines.specs.Seen.{seen};
-ghost use Rattle.mkv_lines.specs.Verdict.{Reaches};
-ghost use Rattle.generator.specs.Bound.{most_made, most_to_generate};
+ghost use Rattle.generator.specs.Bound.{ReadsToGenerate, ReadsToMake};
 ghost use Rattle.generator.specs.Generate.{first_written, generate_verdict, line_for, verdict_of};
 ghost use Rattle.generator.specs.Outcome.{lines_of, status_for};
 
@@ -103,16 +100,10 @@ fn generate<F: Files, P: Report>(
 ) -> Result<Status, Stop>
     requires most { n ≤ 100000 }
     requires apart { names.now.pictures ≢ names.now.sounds }
-    ensures verdict { Told (F.names files.old) (λ world. Reaches
-        (seen F.Reads F.writing_faults F.names P.Report files.old report.old)
-        (seen F.Reads F.writing_faults F.names P.Report files.new report.new)
-        result (verdict_of n names.now)) }
-    ensures ordinary { IfOk result IsOrdinary }
-    ensures live { (file : ℕ) → (live_files F.Reads files.new).live file ≡ (live_files F.Reads files.old).live file }
-    ensures cause { HasStopCause
-        (seen F.Reads F.writing_faults F.names P.Report files.old report.old).counts
-        (seen F.Reads F.writing_faults F.names P.Report files.new report.new).counts result }
-    ensures octets { Told (F.names files.old) (λ world. F.octets_read files.new ≤ F.octets_read files.old + most_made n names.now) }
+    ensures verdict { Told (F.names files.old) (λ world.
+        ComesTo F.Reads F.Files.own P.Report files.old files.new report.old report.new result (verdict_of n names.now)) }
+    ensures ended { HasEnded F.Reads F.Files.own P.Report files.old files.new report.old report.new result }
+    ensures octets { ReadsToMake F.Reads F.Files.own files.old files.new n names.now }
 {
     match make(alloc, n, names, files) {
         Ok(outcome) => tell(alloc, n, &outcome, report),
@@ -133,17 +124,10 @@ pub fn generate_of<F: Files, P: Report>(
 ) -> Result<Status, Stop>
     requires least { 1 ≤ n }
     requires most { n ≤ 100000 }
-    ensures verdict { Told (F.names files.old) (λ world. Reaches
-        (seen F.Reads F.writing_faults F.names P.Report files.old report.old)
-        (seen F.Reads F.writing_faults F.names P.Report files.new report.new)
-        result (generate_verdict n prefix.now)) }
-    ensures ordinary { IfOk result IsOrdinary }
-    ensures live { (file : ℕ) → (live_files F.Reads files.new).live file ≡ (live_files F.Reads files.old).live file }
-    ensures cause { HasStopCause
-        (seen F.Reads F.writing_faults F.names P.Report files.old report.old).counts
-        (seen F.Reads F.writing_faults F.names P.Report files.new report.new).counts result }
-    ensures octets { Told (F.names files.old) (λ world.
-        F.octets_read files.new ≤ F.octets_read files.old + most_to_generate n prefix.now) }
+    ensures verdict { Told (F.names files.old) (λ world.
+        ComesTo F.Reads F.Files.own P.Report files.old files.new report.old report.new result (generate_verdict n prefix.now)) }
+    ensures ended { HasEnded F.Reads F.Files.own P.Report files.old files.new report.old report.new result }
+    ensures octets { ReadsToGenerate F.Reads F.Files.own files.old files.new n prefix.now }
 {
     match Names::new(alloc, prefix) {
         Ok(names) => generate(alloc, n, &names, files, report),

@@ -1,15 +1,13 @@
 //! The files are made.
 
-ghost use Rattle.std.specs.Prelude.{◌≡◌, ◌≢◌, ◌+◌, ◌<◌, ◌≤◌, ◌^◌, ℕ};
+ghost use Rattle.std.specs.Prelude.{◌≡◌, ◌≢◌, ◌<◌, ◌≤◌, ◌^◌, ℕ};
 ghost use Rattle.mkv_io.specs.Ends.{HasRemuxCause};
 ghost use Rattle.mkv_io.specs.Sources.{live_files};
 ghost use Rattle.mkv_io.specs.Told.{Told};
-ghost use Rattle.mkv_lines.specs.Faults.{HasStopCause};
 ghost use Rattle.remuxer.specs.Output.{WritesOutputs};
-ghost use Rattle.mkv_merge.specs.Joined.{files_counts};
-ghost use Rattle.generator.specs.Bound.{ReadsBoth, ReadsParts, most_made};
+ghost use Rattle.generator.specs.Bound.{ReadsBoth, ReadsParts, ReadsToMake};
 ghost use Rattle.generator.specs.Generate.{both_words, parts_words, two_files};
-ghost use Rattle.generator.specs.Outcome.{Makes, MakesBoth, MakesParts};
+ghost use Rattle.generator.specs.Outcome.{HasMakeStop, Makes, MakesBoth, MakesParts};
 
 use crate::blocks::Medium;
 use crate::file::write_file;
@@ -67,7 +65,7 @@ fn merge_parts<F: Files>(
     ensures makes { MakesParts (F.names files.old) (F.names files.new) names.now both result }
     ensures octets { ReadsParts (F.names files.old) names.now (F.octets_read files.old) (F.octets_read files.new) }
     ensures live { (file : ℕ) → (live_files F.Reads files.new).live file ≡ (live_files F.Reads files.old).live file }
-    ensures cause { HasStopCause (files_counts F.Reads F.Files.own files.old) (files_counts F.Reads F.Files.own files.new) result }
+    ensures cause { HasMakeStop F.Reads F.Files.own files.old files.new result }
 {
     let _names = names;
     match merge_files(alloc, &words, files) {
@@ -90,7 +88,7 @@ fn make_parts<F: Files>(
     ensures makes { MakesParts (F.names files.old) (F.names files.new) names.now both result }
     ensures octets { ReadsParts (F.names files.old) names.now (F.octets_read files.old) (F.octets_read files.new) }
     ensures live { (file : ℕ) → (live_files F.Reads files.new).live file ≡ (live_files F.Reads files.old).live file }
-    ensures cause { HasStopCause (files_counts F.Reads F.Files.own files.old) (files_counts F.Reads F.Files.own files.new) result }
+    ensures cause { HasMakeStop F.Reads F.Files.own files.old files.new result }
 {
     match parts_words(alloc, names) {
         Ok(words) => merge_parts(alloc, names, words, both, files),
@@ -109,7 +107,7 @@ fn merge_both<F: Files>(
     ensures makes { MakesBoth (F.names files.old) (F.names files.new) names.now result }
     ensures octets { ReadsBoth (F.names files.old) names.now (F.octets_read files.old) (F.octets_read files.new) }
     ensures live { (file : ℕ) → (live_files F.Reads files.new).live file ≡ (live_files F.Reads files.old).live file }
-    ensures cause { HasStopCause (files_counts F.Reads F.Files.own files.old) (files_counts F.Reads F.Files.own files.new) result }
+    ensures cause { HasMakeStop F.Reads F.Files.own files.old files.new result }
 {
     match merge_files(alloc, &words, files) {
         Ok(Merged::Written(summary)) => make_parts(alloc, names, Done { words, summary }, files),
@@ -123,7 +121,7 @@ fn make_both<F: Files>(alloc: Global, names: &Names, files: &mut F) -> Result<Ou
     ensures makes { MakesBoth (F.names files.old) (F.names files.new) names.now result }
     ensures octets { ReadsBoth (F.names files.old) names.now (F.octets_read files.old) (F.octets_read files.new) }
     ensures live { (file : ℕ) → (live_files F.Reads files.new).live file ≡ (live_files F.Reads files.old).live file }
-    ensures cause { HasStopCause (files_counts F.Reads F.Files.own files.old) (files_counts F.Reads F.Files.own files.new) result }
+    ensures cause { HasMakeStop F.Reads F.Files.own files.old files.new result }
 {
     match both_words(alloc, names) {
         Ok(words) => merge_both(alloc, names, words, files),
@@ -141,9 +139,9 @@ pub(crate) fn make<F: Files>(
     requires number { n < 2 ^ 18 }
     requires apart { names.now.pictures ≢ names.now.sounds }
     ensures makes { Told (F.names files.old) (λ world. Makes (F.names files.old) (F.names files.new) n names.now result) }
-    ensures octets { Told (F.names files.old) (λ world. F.octets_read files.new ≤ F.octets_read files.old + most_made n names.now) }
+    ensures octets { ReadsToMake F.Reads F.Files.own files.old files.new n names.now }
     ensures live { (file : ℕ) → (live_files F.Reads files.new).live file ≡ (live_files F.Reads files.old).live file }
-    ensures cause { HasStopCause (files_counts F.Reads F.Files.own files.old) (files_counts F.Reads F.Files.own files.new) result }
+    ensures cause { HasMakeStop F.Reads F.Files.own files.old files.new result }
 {
     match write_files(alloc, n, names, files) {
         Ok(()) => make_both(alloc, names, files),

@@ -18,18 +18,18 @@ use Rattle.extractors.specs.declared.frame_form.Refusal.{Refusal}
 use Rattle.extractors.specs.declared.frame_form.Unfit.{Unfit}
 use Rattle.extractors.specs.declared.frame_form.Unfit.TheVariants as unfit
 use Rattle.extractors.specs.declared.track_output.TrackOutput.{TrackOutput}
-use Rattle.meta_records.specs.Attached.{AttachedFile}
 use Rattle.meta_records.specs.Records.{scale_of_info}
 use Rattle.extractors.specs.Attached.{attached_outputs}
 use Rattle.extractors.specs.Cues.{cues_outputs}
-use Rattle.extractors.specs.Source.{entry_in}
+use Rattle.extractors.specs.Source.{entry_in, events_in}
+use Rattle.extractors.specs.declared.source.Source.{Source}
 use Rattle.mkv_lines.specs.Line.{bad_config_line, bad_frame_lines, damage_lines, missing_line, no_attachment_line, no_extractor_line, no_track_line, output_is_input_line, refusal_line, warning_line, wrote_line}
 use Rattle.mkv_lines.specs.Verdict.{Verdict, at_once, refused, unless_pending}
 use Rattle.mkv_lines.specs.declared.status.Status.{Status}
 use Rattle.mkv_lines.specs.declared.status.Status.TheVariants.{Done, Warned}
 use Rattle.sidecar_edit.specs.Pending.{is_pending}
 use Rattle.mkv_extract.specs.Names.{first_written}
-use Rattle.mkv_extract.specs.Read.{FileRead, read_of}
+use Rattle.mkv_extract.specs.Read.{FileRead, read_in, read_of}
 
 -- ---- the tracks that a file hasn't
 
@@ -38,11 +38,11 @@ abbrev pub once : List ℕ → List ℕ
 once [] = []
 once (n ∷ ns) = n ∷ filter (λ m. not (n == m)) (once ns)
 
--- the numbers that targets name, each once, which a file of so many tracks hasn't
+-- the numbers that targets name, from this one on, each once: those of things that a file hasn't
 abbrev pub absent : ℕ → List Target → List ℕ
 absent count targets = filter (λ n. nat_le count n) (once (map (λ (t : Target). t.id) targets))
 
--- a target names a track that a file of so many tracks hasn't
+-- a target names a thing that a file hasn't: one with this number, or a higher one
 abbrev pub has_absent : ℕ → List Target → Bool
 has_absent count targets = list_any (λ (t : Target). nat_le count t.id) targets
 
@@ -122,10 +122,14 @@ held_verdict name is_missing missing outputs damage = record {
 abbrev pub targets_verdict : List ℕ → (ℕ → List ℕ) → ℕ → List Target → List Output → Option Damage → Verdict
 targets_verdict name line count targets outputs damage = held_verdict name (has_absent count targets) (map line (absent count targets)) outputs damage
 
+-- what is taken of the chapters of a file
+abbrev pub chapters_verdict : List ℕ → List ℕ → FileRead → Verdict
+chapters_verdict name out file = held_verdict name false [] (chapters_output out file.chapters ∷ []) file.damage
+
 -- what targets take of the attached files of a content, which are numbered from 1
-abbrev pub attached_verdict : List ℕ → List Target → List ℕ → List AttachedFile → Option Damage → Verdict
-attached_verdict name targets bytes files damage =
-    targets_verdict name (no_attachment_line name) (length files + 1) targets (attached_outputs bytes targets files) damage
+abbrev pub attached_verdict : List ℕ → List Target → List ℕ → FileRead → Verdict
+attached_verdict name targets bytes file =
+    targets_verdict name (no_attachment_line name) (length file.attachments + 1) targets (attached_outputs bytes targets file.attachments) file.damage
 
 -- what targets take of the first Cues of a file with these tracks
 abbrev pub cues_verdict : List ℕ → List Target → FileRead → Verdict
@@ -134,8 +138,8 @@ cues_verdict name targets file =
 
 -- what a job comes to of a content that was read so, and that has these blocks and damages
 abbrev pub job_verdict : List ℕ → Job → List ℕ → FileRead → List Event → Verdict
-job_verdict name (jobs.Chapters out) bytes file events = held_verdict name false [] (chapters_output out file.chapters ∷ []) file.damage
-job_verdict name (jobs.Attachments list) bytes file events = attached_verdict name list bytes file.attachments file.damage
+job_verdict name (jobs.Chapters out) bytes file events = chapters_verdict name out file
+job_verdict name (jobs.Attachments list) bytes file events = attached_verdict name list bytes file
 job_verdict name (jobs.Cues list) bytes file events = cues_verdict name list file
 job_verdict name job bytes file events = fit_verdict name job file.tracks events
 
@@ -143,10 +147,18 @@ abbrev pub read_verdict : List ℕ → Job → List ℕ → Result FileRead Dama
 read_verdict name job bytes (Err d) = refused (refusal_line name d)
 read_verdict name job bytes (Ok file) = job_verdict name job bytes file (file_events true bytes file.segment)
 
+-- what a job comes to of a content
+abbrev pub file_verdict : List ℕ → Job → List ℕ → Verdict
+file_verdict name job bytes = read_verdict name job bytes (read_of job bytes)
+
+-- what a job comes to of a source whose file has this content
+abbrev pub source_verdict : List ℕ → Job → Source → List ℕ → Verdict
+source_verdict name job source bytes = job_verdict name job bytes (read_in source) (events_in source bytes)
+
 -- what is told of a name, which may have no content, and of whose file an edit may be pending
 abbrev pub name_verdict : List ℕ → Job → Bool → Option (List ℕ) → Verdict
 name_verdict name job pending None = refused (missing_line name)
-name_verdict name job pending (Some bytes) = unless_pending name pending (read_verdict name job bytes (read_of job bytes))
+name_verdict name job pending (Some bytes) = unless_pending name pending (file_verdict name job bytes)
 
 -- an output that has the name of a file which is read is refused
 abbrev pub unless_written : Option (List ℕ) → Verdict → Verdict

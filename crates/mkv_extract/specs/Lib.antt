@@ -3,4 +3,5 @@ pub mod End
 pub mod Extract
 pub mod Names
 pub mod Read
+pub mod Takes
 pub mod Told

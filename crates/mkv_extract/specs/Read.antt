@@ -1,5 +1,5 @@
--- What is read of a file before its blocks, for a job that takes something of it.
-use Rattle.std.specs.Prelude.{◌≡◌, ⊤, ℕ, ◌+◌, ◌==◌, Bool, if◌then◌else◌, List, [], ◌∷◌, ◌++◌, map, Option, None, Result, Ok, Err}
+-- What is read of a file before its blocks, for a job that takes something of it: RFC 9559, section 5.1 (Segment Element).
+use Rattle.std.specs.Prelude.{◌≡◌, ⊤, ℕ, ◌+◌, ◌==◌, Bool, true, if◌then◌else◌, List, [], ◌∷◌, ◌++◌, map, Option, None, Result, Ok, Err}
 use Rattle.std.specs.List.{list_any}
 use Rattle.mkv_io.specs.declared.damage.Damage.{Damage}
 use Rattle.word_values.specs.declared.job.Job.{Job}
@@ -9,13 +9,16 @@ use Rattle.mkv_schema.specs.declared.element.Header.{Header}
 use Rattle.mkv_schema.specs.Outline.{Outlined, and_then, first_damage, outline_of, unless}
 use Rattle.element_reader.specs.declared.outline_end.OutlineEnd.{OutlineEnd}
 use Rattle.element_reader.specs.declared.outline_end.OutlineEnd.TheVariants as outline_end
+use Rattle.element_reader.specs.Outline.{FileOutline, outline_in}
 use Rattle.tree_format.specs.Node.{Node}
 use Rattle.file_format.specs.Encoding.{usable_causes}
+use Rattle.file_format.specs.FileBlocks.{file_events}
 use Rattle.track_records.specs.declared.track.Track.{Track}
 use Rattle.meta_records.specs.Attached.{AttachedFile, in_file}
-use Rattle.meta_records.specs.Records.{FileRecords, file_records}
+use Rattle.meta_records.specs.Records.{FileRecords, ReadsAs, file_records}
 use Rattle.extractors.specs.Reading.{first_cues}
 use Rattle.extractors.specs.Job.{targets_of}
+use Rattle.extractors.specs.Source.{events_in}
 use Rattle.extractors.specs.declared.source.Source.{Source}
 
 -- a target names the track of this number, from 0
@@ -81,3 +84,11 @@ ReadsSource found (Ok s) = found ≡ Ok (read_in s)
 ReadsSource found (Err (outline_end.Refused d)) = found ≡ Err d
 ReadsSource found (Err outline_end.ReadFault) = ⊤
 ReadsSource found (Err outline_end.Memory) = ⊤
+
+-- The first Cues was read so, where this is the outline of the content.
+abbrev pub ReadsCues : Job → FileOutline → Result (Option Node) OutlineEnd → List ℕ → Type 0
+ReadsCues job outline result bytes = (held : ℕ) → outline_in held bytes ≡ Ok outline → ReadsAs (cues_for job bytes outline.segment) result
+
+-- Its ticks have as many nanoseconds as those of the file's own blocks and damages.
+abbrev pub HasOwnEvents : Source → List ℕ → Type 0
+HasOwnEvents source bytes = events_in source bytes ≡ file_events true bytes source.outline.segment

@@ -1,8 +1,15 @@
 -- What is told of targets.
-use Rattle.std.specs.Prelude.{ℕ, ◌==◌, nat_lt, if◌then◌else◌, List, [], ◌∷◌, ◌++◌, map}
+use Rattle.std.specs.Prelude.{◌≡◌, ℕ, ◌==◌, nat_lt, Bool, if◌then◌else◌, List, [], ◌∷◌, ◌++◌, map, Option, Result, IfOk}
+use Rattle.mkv_io.specs.declared.damage.Damage.{Damage}
+use Rattle.mkv_io.specs.declared.report.Report.{Ghosts as ReportGhosts}
 use Rattle.word_values.specs.declared.job.Target.{Target}
-use Rattle.cluster_reader.specs.ToldDamages.{ToldDamages}
-use Rattle.mkv_lines.specs.Line.{more_bad_frames_line, more_damages_line, no_attachment_line, no_track_line, warning_line}
+use Rattle.cluster_reader.specs.ToldDamages.{ToldDamages, told_damages}
+use Rattle.extractors.specs.declared.extracted.Extracted.{Extracted}
+use Rattle.mkv_lines.specs.Line.{more_bad_frames_line, more_damages_line, no_attachment_line, no_track_line, warning_line, wrote_line}
+use Rattle.mkv_lines.specs.Said.{Says}
+use Rattle.mkv_lines.specs.declared.status.Status.{Status}
+use Rattle.mkv_lines.specs.declared.status.Stop.{Stop}
+use Rattle.mkv_extract.specs.Extract.{absent, outline_lines, status_of, told_bad, told_lines}
 use Rattle.mkv_extract.specs.declared.telling.Missing.{Missing}
 use Rattle.mkv_extract.specs.declared.telling.Missing.TheVariants as missing
 use Rattle.mkv_extract.specs.declared.telling.Wrong.{Wrong}
@@ -29,3 +36,34 @@ warnings what name d = map (warning_line name) d.first ++ others what name d.mor
 abbrev pub written : ℕ → List Target → List (List ℕ)
 written count [] = []
 written count (t ∷ ts) = (if nat_lt t.id count then t.name ∷ [] else []) ++ written count ts
+
+-- ---- what the calls say
+
+-- These lines were said to a report, or a first part of them, where a call has stopped.
+abbrev pub SaysTo : {P T : Type 0} → ReportGhosts P → P → P → List (List ℕ) → Result T Stop → Type 0
+SaysTo p report report' lines result = Says (p.lines report) (p.lines report') lines result
+
+-- a line for each number, from this one on, that targets name: the file hasn't what it stands for
+abbrev pub absent_lines : Missing → List ℕ → ℕ → List Target → List (List ℕ)
+absent_lines what name count targets = map (line_of what name) (absent count targets)
+
+-- a line for each output: of the targets whose numbers are below this one
+abbrev pub wrote_lines : ℕ → List Target → List (List ℕ)
+wrote_lines count targets = map wrote_line (written count targets)
+
+-- the outputs, and then what is wrong with level 1
+abbrev pub held_lines : List ℕ → ℕ → List Target → Option Damage → List (List ℕ)
+held_lines name count targets damage = wrote_lines count targets ++ outline_lines name damage
+
+-- a warning for what is wrong with the file, and then for each frame that isn't written
+abbrev pub wrong_lines : List ℕ → Extracted → List (List ℕ)
+wrong_lines name e = told_lines name e.damages ++ told_bad name e.bad_frames
+
+-- the outputs, and then what is wrong with the file and with frames
+abbrev pub extracted_lines : List ℕ → ℕ → List Target → Extracted → List (List ℕ)
+extracted_lines name count targets e = wrote_lines count targets ++ wrong_lines name e
+
+-- The status is that of the damages of which an extraction tells, whatever they are, and of whether something isn't there.
+abbrev pub HasStatusOf : Extracted → Bool → Result Status Stop → Type 0
+HasStatusOf e is_missing result =
+    (damages bad : List Damage) → e.damages ≡ told_damages damages → e.bad_frames ≡ told_damages bad → IfOk result (λ s. s ≡ status_of is_missing (damages ++ bad))

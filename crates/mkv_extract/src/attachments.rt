@@ -1,17 +1,15 @@
 //! Attached files are taken out of a file.
 
-ghost use Rattle.std.specs.Prelude.{◌≡◌, ◌+◌, ◌*◌, ◌≤◌, ℕ, length, map, All, IfOk};
+ghost use Rattle.std.specs.Prelude.{◌*◌, ◌≤◌, length, All};
 ghost use Rattle.mkv_io.specs.Names.{AreOthers};
-ghost use Rattle.mkv_io.specs.Sources.{IfTold, file_size, live_files};
+ghost use Rattle.mkv_io.specs.Sources.{IfTold};
 ghost use Rattle.word_values.specs.declared.job.Target.{Target as TargetSeen};
-ghost use Rattle.meta_records.specs.Attached.{in_file};
 ghost use Rattle.extractors.specs.Job.{names_of};
 ghost use Rattle.extractors.specs.Source.{IsSource};
-ghost use Rattle.mkv_lines.specs.Faults.{HasStopCause};
-ghost use Rattle.mkv_lines.specs.Ordinary.{IsOrdinary};
-ghost use Rattle.mkv_lines.specs.Seen.{seen};
-ghost use Rattle.mkv_lines.specs.Verdict.{Reaches};
+ghost use Rattle.mkv_lines.specs.Command.{ComesTo, HasEnded};
+ghost use Rattle.mkv_extract.specs.Bound.{HasReadOf};
 ghost use Rattle.mkv_extract.specs.Extract.{attached_verdict};
+ghost use Rattle.mkv_extract.specs.Read.{read_in};
 
 use crate::extract::stop_of;
 use crate::telling::{Missing, say_absent, tell_held};
@@ -33,17 +31,11 @@ pub fn extract_attachments<F: Files, P: Report>(
     requires source { IsSource F.Reads files.old source.now }
     requires numbers { All (λ (t : TargetSeen). 1 ≤ t.id) targets.now }
     requires other { AreOthers (F.holder files.old source.now.file.n) (names_of targets.now) }
-    ensures verdict { IfTold F.Reads files.old source.now.file (λ bytes. Reaches
-        (seen F.Reads F.writing_faults F.names P.Report files.old report.old)
-        (seen F.Reads F.writing_faults F.names P.Report files.new report.new)
-        result (attached_verdict name.now targets.now bytes (map in_file source.now.attachments) source.now.outline.damage)) }
-    ensures ordinary { IfOk result IsOrdinary }
-    ensures live { (file : ℕ) → (live_files F.Reads files.new).live file ≡ (live_files F.Reads files.old).live file }
-    ensures cause { HasStopCause
-        (seen F.Reads F.writing_faults F.names P.Report files.old report.old).counts
-        (seen F.Reads F.writing_faults F.names P.Report files.new report.new).counts result }
-    ensures octets { F.octets_read files.new
-        ≤ F.octets_read files.old + length targets.now * file_size F.Reads files.old source.now.file }
+    ensures verdict { IfTold F.Reads files.old source.now.file (λ bytes.
+        ComesTo F.Reads F.Files.own P.Report files.old files.new report.old report.new result
+        (attached_verdict name.now targets.now bytes (read_in source.now))) }
+    ensures ended { HasEnded F.Reads F.Files.own P.Report files.old files.new report.old report.new result }
+    ensures octets { HasReadOf F.Reads files.old files.new source.now.file (λ octets. length targets.now * octets) }
 {
     let count = source.attachments.as_slice().len() as u64 + 1;
     say_absent(alloc, Missing::Attachment, name, targets, count, report)?;

@@ -1,17 +1,15 @@
 //! The chapters of a file are taken out.
 
-ghost use Rattle.std.specs.Prelude.{◌≡◌, ◌≤◌, ℕ, ◌∷◌, [], false, IfOk, IfSome};
-ghost use Rattle.mkv_io.specs.Sources.{live_files};
+ghost use Rattle.std.specs.Prelude.{◌≡◌, ◌≤◌, ◌∷◌, false, IfOk, IfSome};
 ghost use Rattle.mkv_schema.specs.declared.ids.TheConstants.{CHAPTERS};
 ghost use Rattle.tree_format.specs.Standing.{IsSoundOf};
-ghost use Rattle.extractors.specs.Chapters.{chapters_output};
-ghost use Rattle.mkv_lines.specs.Faults.{HasStopCause};
+ghost use Rattle.mkv_lines.specs.Command.{ComesTo, HasEnded};
 ghost use Rattle.mkv_lines.specs.Line.{wrote_line};
 ghost use Rattle.mkv_lines.specs.Ordinary.{IsOrdinary};
-ghost use Rattle.mkv_lines.specs.Said.{HasSayCause, Says};
-ghost use Rattle.mkv_lines.specs.Seen.{seen};
-ghost use Rattle.mkv_lines.specs.Verdict.{Reaches};
-ghost use Rattle.mkv_extract.specs.Extract.{held_status, held_verdict, outline_lines};
+ghost use Rattle.mkv_lines.specs.Said.{HasSayCause};
+ghost use Rattle.mkv_extract.specs.Extract.{chapters_verdict, held_status, outline_lines};
+ghost use Rattle.mkv_extract.specs.Read.{read_in};
+ghost use Rattle.mkv_extract.specs.Told.{SaysTo};
 
 use crate::extract::stop_of;
 use crate::telling::warn_outline;
@@ -30,15 +28,9 @@ pub fn extract_chapters<F: Files, P: Report>(
     report: &mut P,
 ) -> Result<Status, Stop>
     requires { IfSome source.now.chapters (IsSoundOf CHAPTERS) }
-    ensures verdict { Reaches
-        (seen F.Reads F.writing_faults F.names P.Report files.old report.old)
-        (seen F.Reads F.writing_faults F.names P.Report files.new report.new)
-        result (held_verdict name.now false [] (chapters_output out.now source.now.chapters ∷ []) source.now.outline.damage) }
-    ensures ordinary { IfOk result IsOrdinary }
-    ensures live { (file : ℕ) → (live_files F.Reads files.new).live file ≡ (live_files F.Reads files.old).live file }
-    ensures cause { HasStopCause
-        (seen F.Reads F.writing_faults F.names P.Report files.old report.old).counts
-        (seen F.Reads F.writing_faults F.names P.Report files.new report.new).counts result }
+    ensures verdict { ComesTo F.Reads F.Files.own P.Report files.old files.new report.old report.new result
+        (chapters_verdict name.now out.now (read_in source.now)) }
+    ensures ended { HasEnded F.Reads F.Files.own P.Report files.old files.new report.old report.new result }
     ensures octets { F.octets_read files.new ≤ F.octets_read files.old }
 {
     if let Err(end) = write_chapters(alloc, files, &source.chapters, out) {
@@ -55,7 +47,7 @@ fn tell_output<P: Report>(
     damage: Option<Damage>,
     report: &mut P,
 ) -> Result<Status, Stop>
-    ensures said { Says (P.lines report.old) (P.lines report.new) (wrote_line out.now ∷ outline_lines name.now damage) result }
+    ensures said { SaysTo P.Report report.old report.new (wrote_line out.now ∷ outline_lines name.now damage) result }
     ensures status { IfOk result (λ status. status ≡ held_status false damage) }
     ensures ordinary { IfOk result IsOrdinary }
     ensures cause { HasSayCause (P.faults report.old) (P.faults report.new) result }

@@ -1,12 +1,8 @@
 //! Cue points are taken out of a file.
 
-ghost use Rattle.std.specs.Prelude.{◌≡◌, ◌≤◌, ℕ, IfOk};
-ghost use Rattle.mkv_io.specs.Sources.{live_files};
+ghost use Rattle.std.specs.Prelude.{◌≤◌};
 ghost use Rattle.extractors.specs.Source.{IsSource};
-ghost use Rattle.mkv_lines.specs.Faults.{HasStopCause};
-ghost use Rattle.mkv_lines.specs.Ordinary.{IsOrdinary};
-ghost use Rattle.mkv_lines.specs.Seen.{seen};
-ghost use Rattle.mkv_lines.specs.Verdict.{Reaches};
+ghost use Rattle.mkv_lines.specs.Command.{ComesTo, HasEnded};
 ghost use Rattle.mkv_extract.specs.Extract.{cues_verdict};
 ghost use Rattle.mkv_extract.specs.Read.{read_in};
 
@@ -28,15 +24,9 @@ pub fn extract_cues<F: Files, P: Report>(
     report: &mut P,
 ) -> Result<Status, Stop>
     requires { IsSource F.Reads files.old source.now }
-    ensures verdict { Reaches
-        (seen F.Reads F.writing_faults F.names P.Report files.old report.old)
-        (seen F.Reads F.writing_faults F.names P.Report files.new report.new)
-        result (cues_verdict name.now targets.now (read_in source.now)) }
-    ensures ordinary { IfOk result IsOrdinary }
-    ensures live { (file : ℕ) → (live_files F.Reads files.new).live file ≡ (live_files F.Reads files.old).live file }
-    ensures cause { HasStopCause
-        (seen F.Reads F.writing_faults F.names P.Report files.old report.old).counts
-        (seen F.Reads F.writing_faults F.names P.Report files.new report.new).counts result }
+    ensures verdict { ComesTo F.Reads F.Files.own P.Report files.old files.new report.old report.new result
+        (cues_verdict name.now targets.now (read_in source.now)) }
+    ensures ended { HasEnded F.Reads F.Files.own P.Report files.old files.new report.old report.new result }
     ensures octets { F.octets_read files.new ≤ F.octets_read files.old }
 {
     let count = source.tracks.len() as u64;

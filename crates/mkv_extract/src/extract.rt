@@ -1,22 +1,18 @@
 //! A file is opened, its tracks are taken out, and it is closed.
 
-ghost use Rattle.std.specs.Prelude.{◌≡◌, ◌+◌, ◌*◌, ◌≤◌, ℕ, None, IfOk, IsSome};
-ghost use Rattle.mkv_io.specs.Names.{AreApart, AreOthers};
-ghost use Rattle.mkv_io.specs.Sources.{IfTold, IsLive, file_size, live_files};
+ghost use Rattle.std.specs.Prelude.{◌≡◌, ◌*◌, None, IsSome};
+ghost use Rattle.mkv_io.specs.Sources.{IfTold};
 ghost use Rattle.mkv_io.specs.Told.{Told};
-ghost use Rattle.extractors.specs.Job.{CanBeDone, form_of, job_refusal, names_for, names_of, targets_of};
-ghost use Rattle.extractors.specs.Source.{AreUsable, IsSource, entries_in, events_in};
+ghost use Rattle.extractors.specs.Job.{CanBeDone, form_of, job_refusal};
+ghost use Rattle.extractors.specs.Source.{entries_in, events_in};
 ghost use Rattle.sidecar_edit.specs.Pending.{is_pending};
-ghost use Rattle.sidecar_edit.specs.declared.place.TheConstants.{HEAD};
-ghost use Rattle.mkv_lines.specs.Faults.{HasStopCause};
+ghost use Rattle.mkv_lines.specs.Command.{ComesTo, HasEnded};
 ghost use Rattle.mkv_lines.specs.Line.{text_of};
-ghost use Rattle.mkv_lines.specs.Ordinary.{IsOrdinary};
-ghost use Rattle.mkv_lines.specs.Seen.{seen};
-ghost use Rattle.mkv_lines.specs.Verdict.{Reaches, unless_pending};
-ghost use Rattle.mkv_extract.specs.Bound.{most_of_content, most_of_file, most_to_extract};
+ghost use Rattle.mkv_lines.specs.Verdict.{unless_pending};
+ghost use Rattle.mkv_extract.specs.Bound.{HasReadIn, HasReadOf, most_of_both, most_of_content, most_of_file, most_to_extract};
 ghost use Rattle.mkv_extract.specs.End.{stop_of};
-ghost use Rattle.mkv_extract.specs.Extract.{extract_verdict, fit_verdict, job_verdict, read_verdict, taken_verdict, unfit_line};
-ghost use Rattle.mkv_extract.specs.Read.{read_in, read_of};
+ghost use Rattle.mkv_extract.specs.Extract.{extract_verdict, file_verdict, fit_verdict, source_verdict, taken_verdict, unfit_line};
+ghost use Rattle.mkv_extract.specs.Takes.{CanTake, CanTakeFrom};
 
 use crate::attachments::extract_attachments;
 use crate::chapters::extract_chapters;
@@ -41,17 +37,11 @@ pub fn extract_of<F: Files, P: Report>(
     report: &mut P,
 ) -> Result<Status, Stop>
     requires job { CanBeDone job.now }
-    ensures verdict { Told (F.names files.old) (λ world. Reaches
-        (seen F.Reads F.writing_faults F.names P.Report files.old report.old)
-        (seen F.Reads F.writing_faults F.names P.Report files.new report.new)
-        result (extract_verdict world name.now job.now)) }
-    ensures ordinary { IfOk result IsOrdinary }
-    ensures live { (file : ℕ) → (live_files F.Reads files.new).live file ≡ (live_files F.Reads files.old).live file }
-    ensures cause { HasStopCause
-        (seen F.Reads F.writing_faults F.names P.Report files.old report.old).counts
-        (seen F.Reads F.writing_faults F.names P.Report files.new report.new).counts result }
-    ensures octets { Told (F.names files.old) (λ world.
-        F.octets_read files.new ≤ F.octets_read files.old + most_to_extract world name.now job.now) }
+    ensures verdict { Told (F.names files.old) (λ world.
+        ComesTo F.Reads F.Files.own P.Report files.old files.new report.old report.new result
+        (extract_verdict world name.now job.now)) }
+    ensures ended { HasEnded F.Reads F.Files.own P.Report files.old files.new report.old report.new result }
+    ensures octets { HasReadIn F.Reads F.Files.own files.old files.new (λ world. most_to_extract world name.now job.now) }
 {
     match first_written(alloc, name, job) {
         Ok(None) => {}
@@ -82,20 +72,12 @@ fn extract_settled<F: Files, P: Report>(
     file: FileId,
     report: &mut P,
 ) -> Result<Status, Stop>
-    requires job { CanBeDone job.now }
-    requires live { IsLive F.Reads files.old file }
-    requires other { AreOthers (F.holder files.old file.n) (names_for job.now) }
-    ensures verdict { Told (F.names files.old) (λ world. IfTold F.Reads files.old file (λ bytes. Reaches
-        (seen F.Reads F.writing_faults F.names P.Report files.old report.old)
-        (seen F.Reads F.writing_faults F.names P.Report files.new report.new)
-        result (unless_pending name.now (is_pending world name.now) (read_verdict name.now job.now bytes (read_of job.now bytes))))) }
-    ensures ordinary { IfOk result IsOrdinary }
-    ensures live { (file : ℕ) → (live_files F.Reads files.new).live file ≡ (live_files F.Reads files.old).live file }
-    ensures cause { HasStopCause
-        (seen F.Reads F.writing_faults F.names P.Report files.old report.old).counts
-        (seen F.Reads F.writing_faults F.names P.Report files.new report.new).counts result }
-    ensures octets { F.octets_read files.new
-        ≤ F.octets_read files.old + (HEAD + most_of_file job.now (file_size F.Reads files.old file)) }
+    requires { CanTake F.Reads F.Files.own files.old file job.now }
+    ensures verdict { Told (F.names files.old) (λ world. IfTold F.Reads files.old file (λ bytes.
+        ComesTo F.Reads F.Files.own P.Report files.old files.new report.old report.new result
+        (unless_pending name.now (is_pending world name.now) (file_verdict name.now job.now bytes)))) }
+    ensures ended { HasEnded F.Reads F.Files.own P.Report files.old files.new report.old report.new result }
+    ensures octets { HasReadOf F.Reads files.old files.new file (most_of_both job.now) }
 {
     if is_pending(alloc, name, files)? {
         return refuse(alloc, &Line::PendingEdit { name }, report);
@@ -112,20 +94,12 @@ fn extract_file<F: Files, P: Report>(
     file: FileId,
     report: &mut P,
 ) -> Result<Status, Stop>
-    requires job { CanBeDone job.now }
-    requires live { IsLive F.Reads files.old file }
-    requires other { AreOthers (F.holder files.old file.n) (names_for job.now) }
-    ensures verdict { IfTold F.Reads files.old file (λ bytes. Reaches
-        (seen F.Reads F.writing_faults F.names P.Report files.old report.old)
-        (seen F.Reads F.writing_faults F.names P.Report files.new report.new)
-        result (read_verdict name.now job.now bytes (read_of job.now bytes))) }
-    ensures ordinary { IfOk result IsOrdinary }
-    ensures live { (file : ℕ) → (live_files F.Reads files.new).live file ≡ (live_files F.Reads files.old).live file }
-    ensures cause { HasStopCause
-        (seen F.Reads F.writing_faults F.names P.Report files.old report.old).counts
-        (seen F.Reads F.writing_faults F.names P.Report files.new report.new).counts result }
-    ensures octets { F.octets_read files.new
-        ≤ F.octets_read files.old + most_of_file job.now (file_size F.Reads files.old file) }
+    requires { CanTake F.Reads F.Files.own files.old file job.now }
+    ensures verdict { IfTold F.Reads files.old file (λ bytes.
+        ComesTo F.Reads F.Files.own P.Report files.old files.new report.old report.new result
+        (file_verdict name.now job.now bytes)) }
+    ensures ended { HasEnded F.Reads F.Files.own P.Report files.old files.new report.old report.new result }
+    ensures octets { HasReadOf F.Reads files.old files.new file (most_of_file job.now) }
 {
     match read_source(alloc, job, files, file) {
         Ok(source) => extract_job(alloc, name, job, &source, files, report),
@@ -146,21 +120,12 @@ fn extract_job<F: Files, P: Report>(
     files: &mut F,
     report: &mut P,
 ) -> Result<Status, Stop>
-    requires job { CanBeDone job.now }
-    requires source { IsSource F.Reads files.old source.now }
-    requires usable { AreUsable source.now (targets_of job.now) }
-    requires other { AreOthers (F.holder files.old source.now.file.n) (names_for job.now) }
-    ensures verdict { IfTold F.Reads files.old source.now.file (λ bytes. Reaches
-        (seen F.Reads F.writing_faults F.names P.Report files.old report.old)
-        (seen F.Reads F.writing_faults F.names P.Report files.new report.new)
-        result (job_verdict name.now job.now bytes (read_in source.now) (events_in source.now bytes))) }
-    ensures ordinary { IfOk result IsOrdinary }
-    ensures live { (file : ℕ) → (live_files F.Reads files.new).live file ≡ (live_files F.Reads files.old).live file }
-    ensures cause { HasStopCause
-        (seen F.Reads F.writing_faults F.names P.Report files.old report.old).counts
-        (seen F.Reads F.writing_faults F.names P.Report files.new report.new).counts result }
-    ensures octets { F.octets_read files.new
-        ≤ F.octets_read files.old + most_of_content job.now (file_size F.Reads files.old source.now.file) }
+    requires { CanTakeFrom F.Reads F.Files.own files.old source.now job.now }
+    ensures verdict { IfTold F.Reads files.old source.now.file (λ bytes.
+        ComesTo F.Reads F.Files.own P.Report files.old files.new report.old report.new result
+        (source_verdict name.now job.now source.now bytes)) }
+    ensures ended { HasEnded F.Reads F.Files.own P.Report files.old files.new report.old report.new result }
+    ensures octets { HasReadOf F.Reads files.old files.new source.now.file (most_of_content job.now) }
 {
     match job {
         Job::Chapters { name: out } => extract_chapters(
@@ -189,20 +154,12 @@ fn extract_fit<F: Files, P: Report>(
     report: &mut P,
 ) -> Result<Status, Stop>
     requires takes { IsSome (form_of job.now) }
-    requires apart { AreApart (names_of (targets_of job.now)) }
-    requires source { IsSource F.Reads files.old source.now }
-    requires usable { AreUsable source.now (targets_of job.now) }
-    requires other { AreOthers (F.holder files.old source.now.file.n) (names_of (targets_of job.now)) }
-    ensures verdict { IfTold F.Reads files.old source.now.file (λ bytes. Reaches
-        (seen F.Reads F.writing_faults F.names P.Report files.old report.old)
-        (seen F.Reads F.writing_faults F.names P.Report files.new report.new)
-        result (fit_verdict name.now job.now source.now.tracks (events_in source.now bytes))) }
-    ensures ordinary { IfOk result IsOrdinary }
-    ensures live { (file : ℕ) → (live_files F.Reads files.new).live file ≡ (live_files F.Reads files.old).live file }
-    ensures cause { HasStopCause
-        (seen F.Reads F.writing_faults F.names P.Report files.old report.old).counts
-        (seen F.Reads F.writing_faults F.names P.Report files.new report.new).counts result }
-    ensures octets { F.octets_read files.new ≤ F.octets_read files.old + 2 * file_size F.Reads files.old source.now.file }
+    requires can { CanTakeFrom F.Reads F.Files.own files.old source.now job.now }
+    ensures verdict { IfTold F.Reads files.old source.now.file (λ bytes.
+        ComesTo F.Reads F.Files.own P.Report files.old files.new report.old report.new result
+        (fit_verdict name.now job.now source.now.tracks (events_in source.now bytes))) }
+    ensures ended { HasEnded F.Reads F.Files.own P.Report files.old files.new report.old report.new result }
+    ensures octets { HasReadOf F.Reads files.old files.new source.now.file (λ octets. 2 * octets) }
 {
     match job_refusal(alloc, job, source.tracks.as_slice()) {
         Ok(None) => extract_source(alloc, name, job, source, files, report),
@@ -233,20 +190,12 @@ fn extract_source<F: Files, P: Report>(
 ) -> Result<Status, Stop>
     requires takes { IsSome (form_of job.now) }
     requires fit { job_refusal job.now (entries_in source.now) ≡ None }
-    requires apart { AreApart (names_of (targets_of job.now)) }
-    requires source { IsSource F.Reads files.old source.now }
-    requires usable { AreUsable source.now (targets_of job.now) }
-    requires other { AreOthers (F.holder files.old source.now.file.n) (names_of (targets_of job.now)) }
-    ensures verdict { IfTold F.Reads files.old source.now.file (λ bytes. Reaches
-        (seen F.Reads F.writing_faults F.names P.Report files.old report.old)
-        (seen F.Reads F.writing_faults F.names P.Report files.new report.new)
-        result (taken_verdict name.now job.now source.now.tracks (events_in source.now bytes))) }
-    ensures ordinary { IfOk result IsOrdinary }
-    ensures live { (file : ℕ) → (live_files F.Reads files.new).live file ≡ (live_files F.Reads files.old).live file }
-    ensures cause { HasStopCause
-        (seen F.Reads F.writing_faults F.names P.Report files.old report.old).counts
-        (seen F.Reads F.writing_faults F.names P.Report files.new report.new).counts result }
-    ensures octets { F.octets_read files.new ≤ F.octets_read files.old + 2 * file_size F.Reads files.old source.now.file }
+    requires can { CanTakeFrom F.Reads F.Files.own files.old source.now job.now }
+    ensures verdict { IfTold F.Reads files.old source.now.file (λ bytes.
+        ComesTo F.Reads F.Files.own P.Report files.old files.new report.old report.new result
+        (taken_verdict name.now job.now source.now.tracks (events_in source.now bytes))) }
+    ensures ended { HasEnded F.Reads F.Files.own P.Report files.old files.new report.old report.new result }
+    ensures octets { HasReadOf F.Reads files.old files.new source.now.file (λ octets. 2 * octets) }
 {
     let targets = targets_of(job);
     let count = source.tracks.len() as u64;

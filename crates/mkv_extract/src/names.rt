@@ -1,13 +1,12 @@
 //! The names of the outputs of an extraction, and those of the files that it reads.
 
-ghost use Rattle.std.specs.Prelude.{◌≡◌, ◌||◌, IfOk};
+ghost use Rattle.std.specs.Prelude.{◌≡◌, IfOk};
 ghost use Rattle.std.specs.List.{find};
 ghost use Rattle.std.specs.Option.{option_copied};
-ghost use Rattle.std.specs.Str.{bytes_eq};
 ghost use Rattle.word_values.specs.declared.job.Target.{Target as TargetSeen};
 ghost use Rattle.sidecar_edit.specs.Name.{sidecar_of};
 ghost use Rattle.extractors.specs.Job.{names_of};
-ghost use Rattle.mkv_extract.specs.Names.{first_written, is_read};
+ghost use Rattle.mkv_extract.specs.Names.{first_written, is_either, is_read};
 
 use mkv_io::Text;
 use sidecar_edit::sidecar_name;
@@ -16,15 +15,14 @@ use word_values::{Job, Target};
 
 /// Whether an output has the name of the file, or that of its sidecar.
 fn is_read(name: &str, sidecar: &str, out: &str) -> bool
-    ensures { result ≡ (bytes_eq out.now name.now || bytes_eq out.now sidecar.now) }
+    ensures { result ≡ is_either name.now sidecar.now out.now }
 {
     out == name || out == sidecar
 }
 
 /// The first of these targets whose output has one of these names.
 fn target_among<'a>(name: &str, sidecar: &str, targets: &'a [Target]) -> Option<&'a Target>
-    ensures { option_copied result
-        ≡ find (λ (t : TargetSeen). bytes_eq t.name name.now || bytes_eq t.name sidecar.now) targets.now }
+    ensures { option_copied result ≡ find (λ (t : TargetSeen). is_either name.now sidecar.now t.name) targets.now }
 {
     targets
         .iter()

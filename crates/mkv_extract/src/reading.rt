@@ -1,19 +1,18 @@
 //! What is read of a file before its blocks.
 
-ghost use Rattle.std.specs.Prelude.{◌≡◌, ◌+◌, ◌≤◌, true, None, ℕ, Ok, IfOk, IfSome};
+ghost use Rattle.std.specs.Prelude.{◌≡◌, None, IfOk, IfSome};
 ghost use Rattle.mkv_io.specs.Faults.{HasCause};
 ghost use Rattle.mkv_io.specs.Sources.{IfTold, IsLive, file_size};
 ghost use Rattle.mkv_schema.specs.declared.ids.TheConstants.{CUES};
 ghost use Rattle.tree_format.specs.Standing.{IsSoundOf};
-ghost use Rattle.element_reader.specs.Outline.{is_outline_fault, outline_in};
-ghost use Rattle.meta_records.specs.Records.{AreRead, ReadsAs};
-ghost use Rattle.file_format.specs.FileBlocks.{file_events};
+ghost use Rattle.element_reader.specs.Outline.{is_outline_fault};
+ghost use Rattle.meta_records.specs.Records.{AreRead};
 ghost use Rattle.extractors.specs.Job.{targets_of};
-ghost use Rattle.extractors.specs.Source.{AreUsable, IsSource, events_in};
+ghost use Rattle.extractors.specs.Source.{AreUsable, IsSource};
 ghost use Rattle.mkv_schema.specs.Outline.{first_damage};
 ghost use Rattle.track_records.specs.Sound.{IsEntry};
-ghost use Rattle.mkv_extract.specs.Bound.{ReadsAtMost, most_before, most_of_cues};
-ghost use Rattle.mkv_extract.specs.Read.{ReadsSource, causes_of, cues_for, first_unusable, is_named, read_of};
+ghost use Rattle.mkv_extract.specs.Bound.{HasReadOf, ReadsAtMost, most_before, most_of_cues};
+ghost use Rattle.mkv_extract.specs.Read.{HasOwnEvents, ReadsCues, ReadsSource, causes_of, first_unusable, is_named, read_of};
 
 use ebml_tree::Tree;
 use element_reader::{Outline, OutlineEnd};
@@ -39,8 +38,7 @@ pub fn read_source<R: Reads>(
     ensures file { IfOk result (λ source. source.file ≡ file) }
 
     // A tick has as many nanoseconds as in the file's own blocks and damages.
-    ensures events { IfOk result (λ source. IfTold R.Reads src.old file (λ bytes.
-        events_in source bytes ≡ file_events true bytes source.outline.segment)) }
+    ensures events { IfOk result (λ source. IfTold R.Reads src.old file (HasOwnEvents source)) }
     ensures reads { ReadsAtMost R.Reads src.old src.new (most_before job.now (file_size R.Reads src.old file)) }
     ensures cause { HasCause is_outline_fault (R.reading_faults src.old) (R.reading_faults src.new) result }
 {
@@ -71,12 +69,11 @@ fn cues_for<R: Reads>(
 ) -> Result<Option<Tree>, OutlineEnd>
     requires live { IsLive R.Reads src.old file }
     requires whole { outline.now.total ≡ file_size R.Reads src.old file }
-    ensures exact { IfTold R.Reads src.old file (λ bytes. (held : ℕ) → outline_in held bytes ≡ Ok outline.now
-        → ReadsAs (cues_for job.now bytes outline.now.segment) result) }
+    ensures exact { IfTold R.Reads src.old file (ReadsCues job.now outline.now result) }
     ensures sound { IfOk result (λ tree. IfSome tree (IsSoundOf CUES)) }
     ensures standing { R.standing src.new ≡ R.standing src.old }
     ensures cause { HasCause is_outline_fault (R.reading_faults src.old) (R.reading_faults src.new) result }
-    ensures octets { R.octets_read src.new ≤ R.octets_read src.old + most_of_cues job.now (file_size R.Reads src.old file) }
+    ensures octets { HasReadOf R.Reads src.old src.new file (most_of_cues job.now) }
 {
     match job {
         Job::Cues { .. } => first_cues(alloc, outline, src, file),

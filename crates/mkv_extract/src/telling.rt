@@ -1,14 +1,14 @@
 //! What is told of an extraction.
 
-ghost use Rattle.std.specs.Prelude.{◌≡◌, false, ◌&&◌, not, nat_le, nat_lt, length, ◌++◌, ◌∷◌, [], List, map, IfOk};
+ghost use Rattle.std.specs.Prelude.{◌≡◌, false, ◌&&◌, not, nat_le, nat_lt, length, ◌∷◌, [], List, Ok, IfOk};
 ghost use Rattle.mkv_io.specs.declared.damage.Damage.{Damage};
 ghost use Rattle.cluster_reader.specs.ToldDamages.{told_damages};
-ghost use Rattle.mkv_lines.specs.Line.{warning_line, wrote_line};
+ghost use Rattle.mkv_lines.specs.Line.{warning_line};
 ghost use Rattle.mkv_lines.specs.Ordinary.{IsOrdinary};
-ghost use Rattle.mkv_lines.specs.Said.{HasSayCause, Says};
-ghost use Rattle.mkv_extract.specs.Extract.{absent, has_absent, held_status, outline_lines, status_of, told_bad, told_lines};
+ghost use Rattle.mkv_lines.specs.Said.{HasSayCause};
+ghost use Rattle.mkv_extract.specs.Extract.{has_absent, held_status, outline_lines};
 ghost use Rattle.mkv_extract.specs.Read.{is_named};
-ghost use Rattle.mkv_extract.specs.Told.{line_of, more_line, warnings, written};
+ghost use Rattle.mkv_extract.specs.Told.{HasStatusOf, SaysTo, absent_lines, extracted_lines, held_lines, line_of, more_line, warnings, wrong_lines, wrote_lines};
 
 use crate::reading::is_named;
 use cluster_reader::Damages;
@@ -43,7 +43,7 @@ pub fn say_absent<P: Report>(
     count: u64,
     report: &mut P,
 ) -> Result<(), Stop>
-    ensures said { Says (P.lines report.old) (P.lines report.new) (map (line_of missing name.now) (absent count targets.now)) result }
+    ensures said { SaysTo P.Report report.old report.new (absent_lines missing name.now count targets.now) result }
     ensures cause { HasSayCause (P.faults report.old) (P.faults report.new) result }
 {
     for (k, target) in targets.iter().enumerate() {
@@ -64,7 +64,7 @@ fn say_missing<P: Report>(
     number: u64,
     report: &mut P,
 ) -> Result<(), Stop>
-    ensures said { Says (P.lines report.old) (P.lines report.new) (line_of missing name.now number ∷ []) result }
+    ensures said { SaysTo P.Report report.old report.new (line_of missing name.now number ∷ []) result }
     ensures cause { HasSayCause (P.faults report.old) (P.faults report.new) result }
 {
     match missing {
@@ -89,12 +89,8 @@ pub fn tell<P: Report>(
     extracted: &Extracted,
     report: &mut P,
 ) -> Result<Status, Stop>
-    ensures said { Says (P.lines report.old) (P.lines report.new)
-        (map wrote_line (written count targets.now)
-        ++ (told_lines name.now extracted.now.damages ++ told_bad name.now extracted.now.bad_frames)) result }
-    ensures status { (damages bad : List Damage)
-        → extracted.now.damages ≡ told_damages damages → extracted.now.bad_frames ≡ told_damages bad
-        → IfOk result (λ status. status ≡ status_of (has_absent count targets.now) (damages ++ bad)) }
+    ensures said { SaysTo P.Report report.old report.new (extracted_lines name.now count targets.now extracted.now) result }
+    ensures status { HasStatusOf extracted.now (has_absent count targets.now) result }
     ensures ordinary { IfOk result IsOrdinary }
     ensures cause { HasSayCause (P.faults report.old) (P.faults report.new) result }
 {
@@ -110,8 +106,7 @@ fn warn_all<P: Report>(
     extracted: &Extracted,
     report: &mut P,
 ) -> Result<(), Stop>
-    ensures said { Says (P.lines report.old) (P.lines report.new)
-        (told_lines name.now extracted.now.damages ++ told_bad name.now extracted.now.bad_frames) result }
+    ensures said { SaysTo P.Report report.old report.new (wrong_lines name.now extracted.now) result }
     ensures cause { HasSayCause (P.faults report.old) (P.faults report.new) result }
 {
     warn(alloc, Wrong::File, name, &extracted.damages, report)?;
@@ -125,7 +120,7 @@ pub fn say_wrote<P: Report>(
     count: u64,
     report: &mut P,
 ) -> Result<(), Stop>
-    ensures said { Says (P.lines report.old) (P.lines report.new) (map wrote_line (written count targets.now)) result }
+    ensures said { SaysTo P.Report report.old report.new (wrote_lines count targets.now) result }
     ensures cause { HasSayCause (P.faults report.old) (P.faults report.new) result }
 {
     for target in targets {
@@ -146,7 +141,7 @@ fn warn<P: Report>(
     damages: &Damages,
     report: &mut P,
 ) -> Result<(), Stop>
-    ensures said { Says (P.lines report.old) (P.lines report.new) (warnings what name.now damages.now) result }
+    ensures said { SaysTo P.Report report.old report.new (warnings what name.now damages.now) result }
     ensures cause { HasSayCause (P.faults report.old) (P.faults report.new) result }
 {
     let first = damages.first();
@@ -168,7 +163,7 @@ fn say_more<P: Report>(
     more: u64,
     report: &mut P,
 ) -> Result<(), Stop>
-    ensures said { Says (P.lines report.old) (P.lines report.new) (more_line what name.now more ∷ []) result }
+    ensures said { SaysTo P.Report report.old report.new (more_line what name.now more ∷ []) result }
     ensures cause { HasSayCause (P.faults report.old) (P.faults report.new) result }
 {
     match what {
@@ -186,8 +181,7 @@ pub fn tell_held<P: Report>(
     damage: Option<Damage>,
     report: &mut P,
 ) -> Result<Status, Stop>
-    ensures said { Says (P.lines report.old) (P.lines report.new)
-        (map wrote_line (written count targets.now) ++ outline_lines name.now damage) result }
+    ensures said { SaysTo P.Report report.old report.new (held_lines name.now count targets.now damage) result }
     ensures status { IfOk result (λ status. status ≡ held_status (has_absent count targets.now) damage) }
     ensures ordinary { IfOk result IsOrdinary }
     ensures cause { HasSayCause (P.faults report.old) (P.faults report.new) result }
@@ -208,7 +202,7 @@ pub fn warn_outline<P: Report>(
     damage: Option<Damage>,
     report: &mut P,
 ) -> Result<Status, Stop>
-    ensures said { Says (P.lines report.old) (P.lines report.new) (outline_lines name.now damage) result }
+    ensures said { SaysTo P.Report report.old report.new (outline_lines name.now damage) result }
     ensures status { IfOk result (λ status. status ≡ held_status false damage) }
     ensures ordinary { IfOk result IsOrdinary }
     ensures cause { HasSayCause (P.faults report.old) (P.faults report.new) result }
@@ -227,7 +221,7 @@ fn warn_of<P: Report>(
     damage: &Damage,
     report: &mut P,
 ) -> Result<(), Stop>
-    ensures said { Says (P.lines report.old) (P.lines report.new) (warning_line name.now damage.now ∷ []) result }
+    ensures said { SaysTo P.Report report.old report.new (warning_line name.now damage.now ∷ []) result }
     ensures cause { HasSayCause (P.faults report.old) (P.faults report.new) result }
 {
     let damage = *damage;
@@ -236,9 +230,7 @@ fn warn_of<P: Report>(
 
 /// Whether something is warned of: a track that isn't there, a damage, or a frame that isn't written.
 fn status_of(targets: &[Target], count: u64, extracted: &Extracted) -> Status
-    ensures value { (damages bad : List Damage)
-        → extracted.now.damages ≡ told_damages damages → extracted.now.bad_frames ≡ told_damages bad
-        → result ≡ status_of (has_absent count targets.now) (damages ++ bad) }
+    ensures value { HasStatusOf extracted.now (has_absent count targets.now) (Ok result) }
     ensures ordinary { IsOrdinary result }
 {
     if has_absent(targets, count) {

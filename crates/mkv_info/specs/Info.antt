@@ -18,6 +18,10 @@ abbrev pub name_verdict : Form → List ℕ → Bool → Option (List ℕ) → V
 name_verdict form name pending None = refused (missing_line name)
 name_verdict form name pending (Some bytes) = unless_pending name pending (content_verdict form name bytes)
 
+-- what is told of the content that a name of a world has
+abbrev pub settled_verdict : Form → (List ℕ → Option (List ℕ)) → List ℕ → List ℕ → Verdict
+settled_verdict form world name bytes = name_verdict form name (is_pending world name) (Some bytes)
+
 -- what is told of a name in a world of names
 abbrev pub info_verdict : Form → (List ℕ → Option (List ℕ)) → List ℕ → Verdict
 info_verdict form world name = name_verdict form name (is_pending world name) (world name)

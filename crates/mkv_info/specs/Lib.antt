@@ -2,6 +2,7 @@ pub mod Bound
 pub mod Identified
 pub mod Info
 pub mod Listed
+pub mod Telling
 pub mod Read
 pub mod Tracks
 pub mod Json

@@ -1,7 +1,9 @@
--- What `info` tells of a file: a line for each Element and each track.
+-- What `info` tells of a file: a line for each Element (RFC 8794, section 8, EBML Document) and each track (RFC 9559, section 5.1.4,
+-- Tracks Element). The lines are this project's.
 use Rattle.std.specs.Prelude.{ℕ, ◌++◌, List, [], ◌∷◌, map, Option, Some, None, Result, Ok, Err}
 use Rattle.mkv_io.specs.declared.damage.Damage.{Damage}
 use Rattle.mkv_schema.specs.Outline.{Outlined, outline_of, segment_run}
+use Rattle.mkv_schema.specs.declared.element.Header.{Header}
 use Rattle.element_reader.specs.Outline.{FileOutline}
 use Rattle.track_records.specs.declared.track.Track.{Track}
 use Rattle.mkv_lines.specs.Line.{level_0_line, level_1_line, refusal_line, warning_line}
@@ -17,6 +19,10 @@ element_lines o = level_0_line o.ebml ∷ level_0_line o.segment ∷ map level_1
 -- the same lines, of an outline that was read and the Elements that its Segment has
 abbrev pub shown_lines : List ℕ → FileOutline → List (List ℕ)
 shown_lines bytes o = level_0_line o.ebml ∷ level_0_line o.segment ∷ map level_1_line (segment_run bytes o.segment).list
+
+-- the lines of level 1 alone, of its Segment
+abbrev pub level_1_lines : Header → List ℕ → List (List ℕ)
+level_1_lines segment bytes = map level_1_line (segment_run bytes segment).list
 
 -- a file that is damaged at level 1 is listed up to there, with a warning behind the list
 abbrev pub warnings : List ℕ → Option Damage → List (List ℕ)

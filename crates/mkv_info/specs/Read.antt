@@ -1,4 +1,4 @@
--- What is read of a file to identify it.
+-- What is read of a file to identify it: RFC 9559, section 5.1 (Segment Element).
 use Rattle.std.specs.Prelude.{◌≡◌, ⊤, List, ℕ, Option, Result, Ok, Err}
 use Rattle.mkv_io.specs.declared.damage.Damage.{Damage}
 use Rattle.mkv_schema.specs.Outline.{Outlined, and_then, outline_of}

@@ -1,15 +1,15 @@
 //! A file as one line of JSON.
 
 ghost use Rattle.std.specs.Prelude.{◌≡◌, ◌+◌, ◌≤◌, Ok, IfOk};
-ghost use Rattle.mkv_io.specs.Sources.{IfTold, IsLive, file_size};
+ghost use Rattle.mkv_io.specs.Sources.{IsLive, file_size};
 ghost use Rattle.mkv_info.specs.Sound.{CanBeTold};
-ghost use Rattle.mkv_lines.specs.Faults.{HasReadStop};
 ghost use Rattle.mkv_lines.specs.Ordinary.{IsOrdinary};
 ghost use Rattle.mkv_lines.specs.Said.{HasSayCause};
 ghost use Rattle.mkv_lines.specs.Verdict.{SaysVerdict};
 ghost use Rattle.mkv_info.specs.Bound.{most_to_identify};
 ghost use Rattle.mkv_info.specs.Identified.{identified, identified_verdict};
 ghost use Rattle.mkv_info.specs.Read.{read_in};
+ghost use Rattle.mkv_info.specs.Telling.{HasTellStop, Informs};
 
 use crate::line::identify;
 use crate::list::warn;
@@ -28,12 +28,10 @@ pub fn identify_file<R: Reads, P: Report>(
     report: &mut P,
 ) -> Result<Status, Stop>
     requires { IsLive R.Reads src.old file }
-    ensures verdict { IfTold R.Reads src.old file (λ bytes. SaysVerdict (P.lines report.old) (P.lines report.new)
-        result (identified_verdict name.now bytes)) }
+    ensures verdict { Informs R.Reads P.Report src.old file report.old report.new result (identified_verdict name.now) }
     ensures ordinary { IfOk result IsOrdinary }
     ensures standing { R.standing src.new ≡ R.standing src.old }
-    ensures cause { HasReadStop (R.reading_faults src.old) (R.reading_faults src.new)
-        (P.faults report.old) (P.faults report.new) result }
+    ensures cause { HasTellStop R.Reads P.Report src.old src.new report.old report.new result }
     ensures octets { R.octets_read src.new ≤ R.octets_read src.old + most_to_identify (file_size R.Reads src.old file) }
 {
     match read_file(alloc, src, file) {

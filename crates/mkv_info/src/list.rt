@@ -1,17 +1,13 @@
 //! A file's Elements, a line for each.
 
-ghost use Rattle.std.specs.Prelude.{◌≡◌, ◌+◌, ◌*◌, ◌≤◌, Ok, map, IfOk};
-ghost use Rattle.mkv_io.specs.Sources.{IfTold, IsLive, file_size};
-ghost use Rattle.mkv_schema.specs.Outline.{segment_run};
+ghost use Rattle.std.specs.Prelude.{◌≡◌, ◌+◌, ◌*◌, ◌≤◌, IfOk};
+ghost use Rattle.mkv_io.specs.Sources.{IsLive, file_size};
 ghost use Rattle.elements.specs.Window.{nothing_at};
-ghost use Rattle.element_reader.specs.Outline.{outline_in};
-ghost use Rattle.mkv_lines.specs.Faults.{HasReadStop};
-ghost use Rattle.mkv_lines.specs.Line.{level_1_line};
 ghost use Rattle.mkv_lines.specs.Ordinary.{IsOrdinary};
 ghost use Rattle.mkv_lines.specs.Said.{HasSayCause, Says};
-ghost use Rattle.mkv_lines.specs.Verdict.{SaysVerdict};
 ghost use Rattle.mkv_info.specs.Bound.{most_to_list};
-ghost use Rattle.mkv_info.specs.Listed.{listed_verdict, shown_lines, status_with, warnings};
+ghost use Rattle.mkv_info.specs.Listed.{level_1_lines, listed_verdict, shown_lines, status_with, warnings};
+ghost use Rattle.mkv_info.specs.Telling.{HasTellStop, ListsOutline, SaysOf, Informs};
 
 use crate::tracks::{say_tracks, tracks_of};
 use element_reader::{Outline, OutlineEnd, Window, segment_bound};
@@ -30,10 +26,10 @@ pub fn list_file<R: Reads, P: Report>(
     report: &mut P,
 ) -> Result<Status, Stop>
     requires { IsLive R.Reads src.old file }
-    ensures verdict { IfTold R.Reads src.old file (λ bytes. SaysVerdict (P.lines report.old) (P.lines report.new) result (listed_verdict name.now bytes)) }
+    ensures verdict { Informs R.Reads P.Report src.old file report.old report.new result (listed_verdict name.now) }
     ensures ordinary { IfOk result IsOrdinary }
     ensures standing { R.standing src.new ≡ R.standing src.old }
-    ensures cause { HasReadStop (R.reading_faults src.old) (R.reading_faults src.new) (P.faults report.old) (P.faults report.new) result }
+    ensures cause { HasTellStop R.Reads P.Report src.old src.new report.old report.new result }
     ensures octets { R.octets_read src.new ≤ R.octets_read src.old + most_to_list (file_size R.Reads src.old file) }
 {
     match Outline::read(alloc, src, file) {
@@ -57,11 +53,10 @@ fn list_outline<R: Reads, P: Report>(
 ) -> Result<Status, Stop>
     requires live { IsLive R.Reads src.old file }
     requires whole { outline.now.total ≡ file_size R.Reads src.old file }
-    ensures verdict { IfTold R.Reads src.old file (λ bytes.
-        outline_in 0 bytes ≡ Ok outline.now → SaysVerdict (P.lines report.old) (P.lines report.new) result (listed_verdict name.now bytes)) }
+    ensures verdict { ListsOutline R.Reads P.Report src.old file outline.now name.now report.old report.new result }
     ensures ordinary { IfOk result IsOrdinary }
     ensures standing { R.standing src.new ≡ R.standing src.old }
-    ensures cause { HasReadStop (R.reading_faults src.old) (R.reading_faults src.new) (P.faults report.old) (P.faults report.new) result }
+    ensures cause { HasTellStop R.Reads P.Report src.old src.new report.old report.new result }
     ensures octets { R.octets_read src.new ≤ R.octets_read src.old + 2 * file_size R.Reads src.old file }
 {
     match tracks_of(alloc, outline, src, file)? {
@@ -84,9 +79,9 @@ fn say_elements<R: Reads, P: Report>(
 ) -> Result<(), Stop>
     requires live { IsLive R.Reads src.old file }
     requires whole { outline.now.total ≡ file_size R.Reads src.old file }
-    ensures said { IfTold R.Reads src.old file (λ bytes. Says (P.lines report.old) (P.lines report.new) (shown_lines bytes outline.now) result) }
+    ensures said { SaysOf R.Reads P.Report src.old file report.old report.new result (λ bytes. shown_lines bytes outline.now) }
     ensures standing { R.standing src.new ≡ R.standing src.old }
-    ensures cause { HasReadStop (R.reading_faults src.old) (R.reading_faults src.new) (P.faults report.old) (P.faults report.new) result }
+    ensures cause { HasTellStop R.Reads P.Report src.old src.new report.old report.new result }
     ensures octets { R.octets_read src.new ≤ R.octets_read src.old + file_size R.Reads src.old file }
 {
     let Ok(mut window) = Window::new(alloc) else {
@@ -109,10 +104,9 @@ fn say_level_1<R: Reads, P: Report>(
     requires live { IsLive R.Reads src.old file }
     requires whole { outline.now.total ≡ file_size R.Reads src.old file }
     requires empty { window.old ≡ nothing_at 0 }
-    ensures said { IfTold R.Reads src.old file (λ bytes.
-        Says (P.lines report.old) (P.lines report.new) (map level_1_line (segment_run bytes outline.now.segment).list) result) }
+    ensures said { SaysOf R.Reads P.Report src.old file report.old report.new result (level_1_lines outline.now.segment) }
     ensures standing { R.standing src.new ≡ R.standing src.old }
-    ensures cause { HasReadStop (R.reading_faults src.old) (R.reading_faults src.new) (P.faults report.old) (P.faults report.new) result }
+    ensures cause { HasTellStop R.Reads P.Report src.old src.new report.old report.new result }
     ensures octets { R.octets_read src.new ≤ R.octets_read src.old + file_size R.Reads src.old file }
 {
     let segment = outline.segment();

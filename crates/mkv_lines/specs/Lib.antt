@@ -1,4 +1,5 @@
 pub mod Code
+pub mod Command
 pub mod Faults
 pub mod Line
 pub mod Ordinary

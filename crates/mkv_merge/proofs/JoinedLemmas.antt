@@ -1,10 +1,8 @@
 -- A merge of which nothing is said.
-use Rattle.std.proofs.Common.{◌≡◌, ℕ, Bool, false, ◌||◌, List, [], map, Option, Some, None, Result, Ok, Err, refl, sym, ◌∙◌, ap, subst}
+use Rattle.std.proofs.Common.{◌≡◌, ℕ, List, [], map, Option, Some, None, Result, Ok, Err, sym, ◌∙◌, ap, subst}
 use Rattle.std.specs.Prelude.{option_map, unwrap_or}
-use Rattle.std.specs.List.{flat_map}
 use Rattle.mkv_io.specs.LiveFiles.{LiveFiles}
 use Rattle.mkv_io.specs.Names.{Names}
-use Rattle.mkv_io.specs.declared.remux_end.RemuxEnd.{RemuxEnd}
 use Rattle.mkv_outputs.specs.Drafts.{StandsInTurn}
 use Rattle.mkv_outputs.proofs.DraftsLemmas.{StandsInTurn-none}
 use Rattle.input_files.specs.Inputs.{file_names, first_missing}
@@ -13,18 +11,16 @@ use Rattle.merge_words.specs.declared.output.MergeWords.{MergeWords}
 use Rattle.merge_inputs.specs.declared.input.Input.{Input}
 use Rattle.merge_plan.specs.Plan.{Source}
 use Rattle.remux_plan.specs.Parts.{PlannedOutput, outputs_in}
-use Rattle.remux_plan.specs.Summary.{IsSummary, count_to, damages_of, written_of}
+use Rattle.remux_plan.specs.Summary.{IsSummary, damages_of, written_of}
 use Rattle.remux_plan.specs.declared.plan.MergePlan.{MergePlan}
-use Rattle.remux_plan.specs.declared.plan.PlannedLane.{PlannedLane}
 use Rattle.remux_plan.specs.declared.summary.Summary.{Summary}
-use Rattle.remuxer.specs.Output.{WritesAll, WritesOutputs, drafts_of}
+use Rattle.remuxer.specs.Output.{WritesAll, drafts_of}
 use Rattle.mkv_lines.specs.declared.status.Stop.{Stop}
-use Rattle.mkv_merge.specs.Joined.{HasMerged, IsSummaryOf, Merges, no_texts, outputs_found, sources_alone}
-use Rattle.mkv_merge.specs.Merge.{outputs_of, sources_with}
+use Rattle.mkv_merge.specs.Joined.{IsSummaryOf, Merges, no_texts, outputs_found, sources_alone}
+use Rattle.mkv_merge.specs.Merge.{sources_with}
 use Rattle.mkv_merge.specs.Read.{contents_of, first_written, unless_missing}
 use Rattle.mkv_merge.specs.Refused.{and_then, unless}
-use Rattle.mkv_merge.specs.declared.joining.Merged.{Merged}
-use Rattle.mkv_merge.specs.declared.joining.Merged.TheVariants.{Written, Refused}
+use Rattle.mkv_merge.specs.declared.joining.Merged.TheVariants.{Written}
 use Rattle.mkv_merge.specs.declared.refusal.Refusal.{Refusal}
 use Rattle.mkv_merge.specs.declared.refusal.Refusal.TheVariants.{Missing, OutputIsInput}
 use Rattle.mkv_merge.proofs.OutputsLemmas.{outputs-are}

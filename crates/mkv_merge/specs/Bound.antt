@@ -1,9 +1,13 @@
 -- How many octets a merge may read.
-use Rattle.std.specs.Prelude.{ℕ, ◌+◌, ◌*◌, if◌then◌else◌, List, [], length, sum_by, Option, is_none, unwrap_or, Result, Ok, Err}
+use Rattle.std.specs.Prelude.{ℕ, ◌≤◌, ◌+◌, ◌*◌, if◌then◌else◌, List, [], length, sum_by, Option, is_none, unwrap_or, Result, Ok, Err}
 use Rattle.mkv_io.specs.declared.outside.FileId.{FileId}
 use Rattle.mkv_io.specs.LiveFiles.{LiveFiles}
+use Rattle.mkv_io.specs.Sources.{live_files}
+use Rattle.mkv_io.specs.declared.reads.Reads.{Ghosts}
 use Rattle.sidecar_edit.specs.declared.place.TheConstants.{HEAD}
 use Rattle.input_files.specs.TextFiles.{text_octets}
+use Rattle.remux_plan.specs.declared.plan.MergePlan.{MergePlan}
+use Rattle.remuxer.specs.Plan.{data_length}
 use Rattle.merge_words.specs.declared.files.FileWords.{FileWords}
 use Rattle.merge_words.specs.declared.output.MergeWords.{MergeWords}
 use Rattle.merge_plan.specs.Front.{attached_length, reads_of}
@@ -11,9 +15,20 @@ use Rattle.merge_plan.specs.Plan.{Source, lanes_given}
 use Rattle.mkv_merge.specs.Merge.{sources_of}
 use Rattle.mkv_merge.specs.declared.refusal.Refusal.{Refusal}
 
+-- The count of octets read has risen by at most so many.
+abbrev pub ReadsUpTo : {S : Type 0} → Ghosts S → S → S → ℕ → Type 0
+ReadsUpTo r old new most = r.octets_read new ≤ r.octets_read old + most
+
 -- the lengths of live files, of each as often as it is listed
 abbrev pub files_size : LiveFiles → List FileId → ℕ
 files_size f list = sum_by (λ (file : FileId). f.size file.n) list
+
+abbrev pub live_size : {S : Type 0} → Ghosts S → S → List FileId → ℕ
+live_size r files list = files_size (live_files r files) list
+
+-- what a merge of this plan may read, whose inputs have so many octets: all twice for each lane, and the data of attached files
+abbrev pub most_planned : MergePlan → ℕ → ℕ
+most_planned p octets = 2 * (length p.lanes * octets) + data_length p
 
 -- the lengths of the contents of inputs, of each as often as the words name it
 abbrev pub contents_length : (List ℕ → Option (List ℕ)) → List FileWords → ℕ

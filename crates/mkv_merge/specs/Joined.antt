@@ -3,20 +3,25 @@ use Rattle.std.specs.Prelude.{◌≡◌, ℕ, List, [], map, flat_map, Option, R
 use Rattle.std.specs.List.{enumerate_from}
 use Rattle.std.specs.Option.{option_map}
 use Rattle.mkv_io.specs.Names.{Names}
+use Rattle.mkv_io.specs.Told.{Told}
+use Rattle.mkv_io.specs.declared.outside.FileId.{FileId}
 use Rattle.mkv_io.specs.declared.reads.Reads.{Ghosts}
 use Rattle.mkv_io.specs.declared.files.Files as writing
 use Rattle.mkv_outputs.specs.Drafts.{StandsInTurn}
 use Rattle.input_files.specs.declared.text_files.TextFiles.{TextFiles}
 use Rattle.input_files.specs.declared.chapter_file.ChapterFile.TheVariants.{Absent}
 use Rattle.merge_words.specs.declared.output.MergeWords.{MergeWords}
+use Rattle.merge_inputs.specs.declared.input.Input.{Input}
 use Rattle.merge_plan.specs.Plan.{Source}
 use Rattle.remux_plan.specs.Parts.{PlannedOutput}
 use Rattle.remux_plan.specs.Summary.{written_of}
 use Rattle.remux_plan.specs.declared.summary.Summary.{Summary}
 use Rattle.remuxer.specs.Output.{WritesAll, drafts_of}
-use Rattle.mkv_lines.specs.Faults.{Counts}
+use Rattle.mkv_lines.specs.Faults.{Counts, HasStopCause}
 use Rattle.mkv_lines.specs.declared.status.Stop.{Stop}
+use Rattle.mkv_merge.specs.Bound.{contents_length, most_of}
 use Rattle.mkv_merge.specs.Merge.{has_damage, is_some_of, outputs_of, sources_with, warnings}
+use Rattle.mkv_merge.specs.Prepared.{IfAllTold, sources_from}
 use Rattle.mkv_merge.specs.Read.{contents_of, first_written}
 use Rattle.mkv_merge.specs.Refused.{and_then, unless}
 use Rattle.mkv_merge.specs.Told.{warnings_from}
@@ -37,6 +42,10 @@ sources_apart words contents = and_then (unless (option_map OutputIsInput (first
 abbrev pub sources_alone : (List ℕ → Option (List ℕ)) → MergeWords → Result (List Source) Refusal
 sources_alone world words =
     and_then (unless (option_map OutputIsInput (first_written words)) words.files) (λ files. and_then (contents_of world files) (sources_with words no_texts))
+
+-- what such a merge may read in a world of names
+abbrev pub most_lone : (List ℕ → Option (List ℕ)) → MergeWords → ℕ
+most_lone world words = most_of (sources_alone world words) (contents_length world words.files)
 
 -- ---- what was merged
 
@@ -65,6 +74,22 @@ Merges old new words found (Ok (Written s)) = HasMerged old new words found s
 Merges old new words found (Ok (Refused why)) = (found ≡ Err why) × (new ≡ old)
 Merges old new words found (Err stop) = StandsInTurn old new (drafts_of (outputs_found words found))
 
+-- So does a merge of what was prepared, where the files of the inputs are told; of live files; and of names, where they tell.
+abbrev pub MergesPrepared : {S : Type 0} → Ghosts S → writing.Ghosts S → S → S → MergeWords → List FileId → List Input → Result Merged Stop → Type 0
+MergesPrepared r f old new words list inputs result = IfAllTold r old list (λ contents. Merges (f.names old) (f.names new) words (Ok (sources_from contents inputs)) result)
+
+abbrev pub MergesLive : {S : Type 0} → Ghosts S → writing.Ghosts S → S → S → MergeWords → List FileId → Result Merged Stop → Type 0
+MergesLive r f old new words list result = IfAllTold r old list (λ contents. Merges (f.names old) (f.names new) words (sources_with words no_texts contents) result)
+
+abbrev pub MergesAlone : {S : Type 0} → writing.Ghosts S → S → S → MergeWords → Result Merged Stop → Type 0
+MergesAlone f old new words result = Told (f.names old) (λ world. Merges (f.names old) (f.names new) words (sources_alone world words) result)
+
+-- ---- why it stops
+
 -- how often files failed, of which no line is said
 abbrev pub files_counts : {S : Type 0} → Ghosts S → writing.Ghosts S → S → Counts
 files_counts r f files = record { reading = r.reading_faults files; writing = f.writing_faults files; report = 0 }
+
+-- A merge of which nothing is said stops for want of memory, or where files failed whose count then rose.
+abbrev pub HasFilesCause : {S : Type 0} → Ghosts S → writing.Ghosts S → S → S → Result Merged Stop → Type 0
+HasFilesCause r f old new result = HasStopCause (files_counts r f old) (files_counts r f new) result

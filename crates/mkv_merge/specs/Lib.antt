@@ -10,4 +10,5 @@ pub mod Chapters
 pub mod Texts
 pub mod Timed
 pub mod Records
+pub mod Stages
 pub mod Told

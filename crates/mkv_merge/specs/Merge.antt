@@ -41,7 +41,8 @@ use Rattle.mkv_merge.specs.declared.refusal.Refusal.TheVariants.{Differs, Output
 -- ---- the sources
 
 -- the sources of a merge whose inputs have these contents, each that is appended in its place; or what refuses them before they
--- are planned: what is read of each, what the text files give, and then one whose tracks can't go on in the lanes of the one before it
+-- are planned: what is read of each, what the text files give, and then one whose tracks can't go on in the lanes to which it is
+-- appended
 abbrev pub sources_read : MergeWords → TextFiles → List (List ℕ) → Result (List Source) Refusal
 sources_read words texts contents =
     and_then (inputs_with words texts contents) (λ reads.
@@ -125,8 +126,11 @@ absent_of file count = filter (λ n. nat_le count n) file.named
 abbrev pub absent : FileWords × InputRead → List ℕ
 absent f = absent_of f.0 f.1.count
 
+abbrev pub lines_absent : FileWords → ℕ → List (List ℕ)
+lines_absent file count = map (no_track_line file.name) (absent_of file count)
+
 abbrev pub absent_lines : FileWords × InputRead → List (List ℕ)
-absent_lines f = map (no_track_line f.0.name) (absent f)
+absent_lines f = lines_absent f.0 f.1.count
 
 -- the links of lanes: of each the number of its source, and the damages that are met in it
 abbrev pub links_met : List (List ℕ) → List (List Given) → List (ℕ × List Damage)

@@ -1,17 +1,25 @@
 -- What is known of a merge whose inputs were read and planned.
-use Rattle.std.specs.Prelude.{◌≡◌, ⊤, ℕ, List, map, Some, Result, Ok, Err}
+use Rattle.std.specs.Prelude.{◌≡◌, ⊤, ℕ, Bool, List, length, map, Some, Result, Ok, Err}
 use Rattle.std.specs.List.{All, zip}
 use Rattle.mkv_io.specs.declared.outside.FileId.{FileId}
+use Rattle.mkv_io.specs.Faults.{HasCause}
 use Rattle.mkv_io.specs.LiveFiles.{LiveFiles}
+use Rattle.mkv_io.specs.Sources.{live_files}
+use Rattle.mkv_io.specs.declared.reads.Reads.{Ghosts}
+use Rattle.mkv_outputs.specs.Sinks.{AreLive}
 use Rattle.input_files.specs.Inputs as files
 use Rattle.input_files.specs.declared.text_files.TextFiles.{TextFiles}
 use Rattle.merge_words.specs.declared.output.MergeWords.{MergeWords}
-use Rattle.merge_inputs.specs.Input.{InputRead, IsInput, read_in}
+use Rattle.merge_words.specs.Sound.{IsSoundMerge}
+use Rattle.merge_words.specs.declared.files.FileWords.{FileWords}
+use Rattle.merge_inputs.specs.Input.{InputRead, IsInput, input_of, read_in}
 use Rattle.merge_inputs.specs.declared.input.Input.{Input}
 use Rattle.merge_plan.specs.Plan.{Source}
 use Rattle.merge_plan.specs.Planned.{CanBeWritten, IsPlanOf}
 use Rattle.merge_plan.specs.Spots.{HasPlace}
+use Rattle.mkv_merge.specs.Ends.{is_files_fault}
 use Rattle.mkv_merge.specs.Merge.{sources_read, sources_with}
+use Rattle.mkv_merge.specs.Read.{inputs_of, inputs_with, numbered}
 use Rattle.mkv_merge.specs.declared.preparing.Prepared.{Prepared}
 use Rattle.mkv_merge.specs.declared.refusal.MergeEnd.{MergeEnd}
 use Rattle.mkv_merge.specs.declared.refusal.MergeEnd.TheVariants.{Refused, Stopped}
@@ -21,6 +29,21 @@ use Rattle.mkv_merge.specs.declared.refusal.Refusal.{Refusal}
 abbrev pub AreTold : LiveFiles → List FileId → List (List ℕ) → Type 0
 AreTold f list contents = files.contents_of f.content list ≡ map Some contents
 
+-- a fact of the contents of live files, where all of these are told
+abbrev pub IfAllTold : {S : Type 0} → Ghosts S → S → List FileId → (List (List ℕ) → Type 0) → Type 0
+IfAllTold r s list P = (contents : List (List ℕ)) → AreTold (live_files r s) list contents → P contents
+
+-- Inputs can be read and planned: the words keep their limits, and there is a live file for each that they name.
+pub record CanPrepare {S : Type 0} (r : Ghosts S) (s : S) (words : MergeWords) (list : List FileId) : Type 0 where
+  pub sound : IsSoundMerge words
+  pub live : AreLive (live_files r s).live list
+  pub each : length list ≡ length words.files
+
+-- A call that only reads leaves all that stands, and its count of faults rose where it was stopped by one.
+pub record EndsReading {S T : Type 0} (r : Ghosts S) (old new : S) (result : Result T MergeEnd) : Type 0 where
+  pub standing : r.standing new ≡ r.standing old
+  pub cause : HasCause is_files_fault (r.reading_faults old) (r.reading_faults new) result
+
 -- What was found is what was read, or what refuses it; a call of the outside may fail, and there may be no memory.
 abbrev pub ReadsAs : {A B : Type 0} → (B → A) → Result A Refusal → Result B MergeEnd → Type 0
 ReadsAs shown found (Ok x) = found ≡ Ok (shown x)
@@ -29,6 +52,16 @@ ReadsAs shown found (Err (Stopped stop)) = ⊤
 
 abbrev pub reads_in : List Input → List InputRead
 reads_in inputs = map read_in inputs
+
+-- An input was read that has this content, by its number; so was each of a merge; and so were all, with what the text files give.
+abbrev pub ReadsOne : ℕ → FileWords → Bool → ℕ → List ℕ → Result Input MergeEnd → Type 0
+ReadsOne input words webm held bytes result = ReadsAs read_in (numbered input (input_of words webm held bytes)) result
+
+abbrev pub ReadsEach : MergeWords → List (List ℕ) → Result (List Input) MergeEnd → Type 0
+ReadsEach words contents result = ReadsAs reads_in (inputs_of words contents) result
+
+abbrev pub ReadsAll : MergeWords → TextFiles → List (List ℕ) → Result (List Input) MergeEnd → Type 0
+ReadsAll words texts contents result = ReadsAs reads_in (inputs_with words texts contents) result
 
 -- the sources of inputs that have these contents
 abbrev pub sources_from : List (List ℕ) → List Input → List Source

@@ -4,6 +4,7 @@ use Rattle.ext_times.specs.Listing.{Listing}
 use Rattle.input_files.specs.declared.times_file.TimesFile.{TimesFile}
 use Rattle.merge_inputs.specs.Input.{InputRead}
 use Rattle.merge_inputs.specs.declared.input.Input.{Input}
+use Rattle.merge_plan.specs.Records.{is_appended}
 use Rattle.mkv_merge.specs.Texts.{given_listing, with_listings}
 use Rattle.mkv_merge.specs.declared.texts.SharedTimes.{SharedTimes}
 
@@ -32,6 +33,10 @@ at_input input l = if l.input == input then (l.id, l.times) ∷ [] else []
 
 abbrev pub shared_at : ℕ → List SharedTimes → List (ℕ × Listing)
 shared_at input shared = flat_map (λ (s : SharedTimes). at_input input (listed_of s)) shared
+
+-- the times that were shared for an input; one that is appended keeps its own
+abbrev pub shared_for : ℕ → List SharedTimes → InputRead → List (ℕ × Listing)
+shared_for input shared i = if is_appended i then [] else shared_at input shared
 
 -- inputs, the first of which has this number, with what was shared
 abbrev pub shared_from : List SharedTimes → ℕ → List InputRead → List InputRead

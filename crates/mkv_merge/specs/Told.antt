@@ -1,11 +1,14 @@
 -- The lines that are told of what a merge has found wrong.
-use Rattle.std.specs.Prelude.{ℕ, suc, ◌==◌, Bool, ◌||◌, List, [], ◌∷◌, ◌++◌, map, filter}
+use Rattle.std.specs.Prelude.{ℕ, suc, ◌==◌, Bool, ◌||◌, List, [], ◌∷◌, ◌++◌, length, map, filter}
 use Rattle.merge_words.specs.declared.files.FileWords.{FileWords}
-use Rattle.mkv_lines.specs.Line.{more_damages_line, warning_line}
-use Rattle.mkv_merge.specs.Merge.{is_some_of}
+use Rattle.merge_words.specs.declared.output.MergeWords.{MergeWords}
+use Rattle.mkv_lines.specs.Line.{more_damages_line, warning_line, wrote_blocks_line}
+use Rattle.mkv_lines.specs.declared.status.Status.{Status}
+use Rattle.mkv_merge.specs.Merge.{has_other_count, is_some_of, status_of, uuid_lines}
 use Rattle.remux_plan.specs.declared.summary.InputDamage.{InputDamage}
 use Rattle.remux_plan.specs.declared.summary.MoreDamage.{MoreDamage}
 use Rattle.remux_plan.specs.declared.summary.Summary.{Summary}
+use Rattle.remux_plan.specs.declared.summary.Written.{Written}
 
 -- those of the damages that are of an input
 abbrev pub damages_at : ℕ → List InputDamage → List InputDamage
@@ -14,11 +17,15 @@ damages_at input damages = filter (λ (d : InputDamage). d.input == input) damag
 abbrev pub more_at : ℕ → List MoreDamage → List MoreDamage
 more_at input more = filter (λ (m : MoreDamage). m.input == input) more
 
--- what is told of an input of this name
+-- what is told of an input of this name: its damages one by one, and how many others it has
+abbrev pub damage_warnings : List ℕ → ℕ → List InputDamage → List (List ℕ)
+damage_warnings name input damages = map (λ (d : InputDamage). warning_line name d.damage) (damages_at input damages)
+
+abbrev pub more_warnings : List ℕ → ℕ → List MoreDamage → List (List ℕ)
+more_warnings name input more = map (λ (m : MoreDamage). more_damages_line name m.count) (more_at input more)
+
 abbrev pub input_warnings : Summary → ℕ → List ℕ → List (List ℕ)
-input_warnings s input name =
-    map (λ (d : InputDamage). warning_line name d.damage) (damages_at input s.damages)
-    ++ map (λ (m : MoreDamage). more_damages_line name m.count) (more_at input s.more)
+input_warnings s input name = damage_warnings name input s.damages ++ more_warnings name input s.more
 
 -- the same of inputs, the first of which has this number
 abbrev pub warnings_from : Summary → ℕ → List FileWords → List (List ℕ)
@@ -28,3 +35,18 @@ warnings_from s input (file ∷ files) = input_warnings s input file.name ++ war
 -- something is warned of: a track that isn't there, or a damage
 abbrev pub is_warned : Bool → Summary → Bool
 is_warned absent s = absent || is_some_of s.damages
+
+-- the lines of outputs that stand whole
+abbrev pub wrote_lines : List Written → List (List ℕ)
+wrote_lines outputs = map (λ (w : Written). wrote_blocks_line w.name w.blocks) outputs
+
+-- the lines of the outputs, and then the warnings of the inputs; and then that of the number of identifiers
+abbrev pub told_outputs : MergeWords → Summary → List (List ℕ)
+told_outputs words s = wrote_lines s.outputs ++ warnings_from s 0 words.files
+
+abbrev pub told_summary : MergeWords → Summary → List (List ℕ)
+told_summary words s = told_outputs words s ++ uuid_lines words (length s.outputs)
+
+-- the status of a merge of which all is told
+abbrev pub told_status : MergeWords → Bool → Summary → Status
+told_status words absent s = status_of (is_warned absent s || has_other_count words (length s.outputs))

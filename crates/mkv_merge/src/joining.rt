@@ -1,18 +1,15 @@
 //! Files are merged, and no line is said.
 
-ghost use Rattle.std.specs.Prelude.{◌≡◌, ◌+◌, ◌*◌, ◌≤◌, ℕ, List, length};
-ghost use Rattle.std.specs.List.{zip};
+ghost use Rattle.std.specs.Prelude.{◌≡◌, ℕ};
 ghost use Rattle.mkv_io.specs.Sources.{live_files};
 ghost use Rattle.mkv_io.specs.Told.{Told};
 ghost use Rattle.input_files.specs.Inputs.{AreInputs, file_names};
 ghost use Rattle.merge_words.specs.Sound.{IsSoundMerge};
-ghost use Rattle.mkv_lines.specs.Faults.{HasStopCause};
-ghost use Rattle.remuxer.specs.Plan.{data_length};
-ghost use Rattle.mkv_merge.specs.Bound.{contents_length, files_size, most_of};
-ghost use Rattle.mkv_merge.specs.Joined.{Merges, files_counts, no_texts, sources_alone};
-ghost use Rattle.mkv_merge.specs.Merge.{sources_with};
-ghost use Rattle.mkv_merge.specs.Prepared.{AreTold, IsPrepared, reads_in};
+ghost use Rattle.mkv_merge.specs.Bound.{ReadsUpTo};
+ghost use Rattle.mkv_merge.specs.Joined.{HasFilesCause, MergesAlone, MergesLive, MergesPrepared, most_lone, no_texts};
+ghost use Rattle.mkv_merge.specs.Prepared.{IsPrepared};
 ghost use Rattle.mkv_merge.specs.Read.{IsApartMerge};
+ghost use Rattle.mkv_merge.specs.Stages.{ReadsPlanned, ReadsWith};
 
 use crate::names::first_written;
 use crate::preparing::{Prepared, prepare};
@@ -44,12 +41,10 @@ fn merge_prepared<F: Files>(
     requires words { IsApartMerge words.now }
     requires inputs { AreInputs F.Reads F.Files.own (file_names words.now.files) files.old ids.now }
     requires prepared { IsPrepared (live_files F.Reads files.old) words.now ids.now prepared }
-    ensures merges { (contents : List (List ℕ)) → AreTold (live_files F.Reads files.old) ids.now contents
-        → Merges (F.names files.old) (F.names files.new) words.now (Ok (zip contents (reads_in prepared.inputs))) result }
+    ensures merges { MergesPrepared F.Reads F.Files.own files.old files.new words.now ids.now prepared.inputs result }
     ensures live { (file : ℕ) → (live_files F.Reads files.new).live file ≡ (live_files F.Reads files.old).live file }
-    ensures cause { HasStopCause (files_counts F.Reads F.Files.own files.old) (files_counts F.Reads F.Files.own files.new) result }
-    ensures octets { F.octets_read files.new ≤ F.octets_read files.old
-        + (2 * (length prepared.plan.lanes * files_size (live_files F.Reads files.old) ids.now) + data_length prepared.plan) }
+    ensures cause { HasFilesCause F.Reads F.Files.own files.old files.new result }
+    ensures octets { ReadsPlanned F.Reads files.old files.new ids.now prepared.plan }
 {
     let (_words, _ids) = (words, ids);
     match remux(alloc, prepared.plan, files) {
@@ -67,12 +62,10 @@ fn merge_live<F: Files>(
 ) -> Result<Merged, Stop>
     requires words { IsApartMerge words.now }
     requires inputs { AreInputs F.Reads F.Files.own (file_names words.now.files) files.old ids.now }
-    ensures merges { (contents : List (List ℕ)) → AreTold (live_files F.Reads files.old) ids.now contents
-        → Merges (F.names files.old) (F.names files.new) words.now (sources_with words.now no_texts contents) result }
+    ensures merges { MergesLive F.Reads F.Files.own files.old files.new words.now ids.now result }
     ensures live { (file : ℕ) → (live_files F.Reads files.new).live file ≡ (live_files F.Reads files.old).live file }
-    ensures cause { HasStopCause (files_counts F.Reads F.Files.own files.old) (files_counts F.Reads F.Files.own files.new) result }
-    ensures octets { (contents : List (List ℕ)) → AreTold (live_files F.Reads files.old) ids.now contents → F.octets_read files.new
-        ≤ F.octets_read files.old + most_of (sources_with words.now no_texts contents) (files_size (live_files F.Reads files.old) ids.now) }
+    ensures cause { HasFilesCause F.Reads F.Files.own files.old files.new result }
+    ensures octets { ReadsWith F.Reads files.old files.new words.now no_texts ids.now }
 {
     let texts = TextFiles {
         chapters: ChapterFile::Absent,
@@ -92,11 +85,10 @@ pub fn merge_files<F: Files>(
     files: &mut F,
 ) -> Result<Merged, Stop>
     requires { IsSoundMerge words.now }
-    ensures merges { Told (F.names files.old) (λ world. Merges (F.names files.old) (F.names files.new) words.now (sources_alone world words.now) result) }
+    ensures merges { MergesAlone F.Files.own files.old files.new words.now result }
     ensures live { (file : ℕ) → (live_files F.Reads files.new).live file ≡ (live_files F.Reads files.old).live file }
-    ensures cause { HasStopCause (files_counts F.Reads F.Files.own files.old) (files_counts F.Reads F.Files.own files.new) result }
-    ensures octets { Told (F.names files.old) (λ world. F.octets_read files.new
-        ≤ F.octets_read files.old + most_of (sources_alone world words.now) (contents_length world words.now.files)) }
+    ensures cause { HasFilesCause F.Reads F.Files.own files.old files.new result }
+    ensures octets { Told (F.names files.old) (λ world. ReadsUpTo F.Reads files.old files.new (most_lone world words.now)) }
 {
     match first_written(alloc, words) {
         Ok(None) => {}

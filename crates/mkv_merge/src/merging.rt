@@ -1,20 +1,16 @@
 //! Files are opened, merged and closed.
 
-ghost use Rattle.std.specs.Prelude.{◌≡◌, ◌+◌, ◌≤◌, ℕ, List, IfOk};
-ghost use Rattle.mkv_io.specs.Sources.{live_files};
 ghost use Rattle.mkv_io.specs.Told.{Told};
 ghost use Rattle.input_files.specs.ChapterFile.{CanBeWritten};
 ghost use Rattle.merge_words.specs.Sound.{IsSoundMerge};
 ghost use Rattle.input_files.specs.Inputs.{AreInputs, file_names};
-ghost use Rattle.mkv_lines.specs.Faults.{HasStopCause};
-ghost use Rattle.mkv_lines.specs.Ordinary.{IsOrdinary};
-ghost use Rattle.mkv_lines.specs.Seen.{seen};
-ghost use Rattle.mkv_lines.specs.Verdict.{Reaches};
-ghost use Rattle.mkv_merge.specs.Bound.{files_size, most_beside, most_looked, most_of, most_read};
-ghost use Rattle.mkv_merge.specs.Merge.{merge_verdict, sources_beside, sources_of, sources_settled, sources_with, verdict_of};
-ghost use Rattle.mkv_merge.specs.Prepared.{AreTold};
+ghost use Rattle.mkv_lines.specs.Command.{ComesTo, HasEnded};
+ghost use Rattle.mkv_merge.specs.Bound.{ReadsUpTo, most_read};
+ghost use Rattle.mkv_merge.specs.Merge.{merge_verdict, sources_of};
 ghost use Rattle.mkv_merge.specs.Read.{IsApartMerge};
 ghost use Rattle.mkv_merge.specs.Records.{EndsReadable};
+ghost use Rattle.mkv_merge.specs.Stages.{EndsReadableBeside, EndsReadableSettled, EndsReadableWith};
+ghost use Rattle.mkv_merge.specs.Stages.{ReachesBeside, ReachesSettled, ReachesWith, ReadsBeside, ReadsSettled, ReadsWith};
 
 use crate::names::first_written;
 use crate::pending::begun_refusal;
@@ -40,19 +36,10 @@ fn merge_opened<F: Files, P: Report>(
     requires words { IsApartMerge words.now }
     requires inputs { AreInputs F.Reads F.Files.own (file_names words.now.files) files.old ids.now }
     requires chapters { CanBeWritten texts.chapters }
-    ensures verdict { (contents : List (List ℕ)) → AreTold (live_files F.Reads files.old) ids.now contents → Reaches
-        (seen F.Reads F.writing_faults F.names P.Report files.old report.old)
-        (seen F.Reads F.writing_faults F.names P.Report files.new report.new)
-        result (verdict_of words.now (sources_with words.now texts contents)) }
-    ensures ordinary { IfOk result IsOrdinary }
-    ensures live { (file : ℕ) → (live_files F.Reads files.new).live file ≡ (live_files F.Reads files.old).live file }
-    ensures cause { HasStopCause
-        (seen F.Reads F.writing_faults F.names P.Report files.old report.old).counts
-        (seen F.Reads F.writing_faults F.names P.Report files.new report.new).counts result }
-    ensures readable { Told (F.names files.old) (λ world. (contents : List (List ℕ)) → AreTold (live_files F.Reads files.old) ids.now contents
-        → EndsReadable words.now (sources_with words.now texts contents) result) }
-    ensures octets { (contents : List (List ℕ)) → AreTold (live_files F.Reads files.old) ids.now contents → F.octets_read files.new
-        ≤ F.octets_read files.old + most_of (sources_with words.now texts contents) (files_size (live_files F.Reads files.old) ids.now) }
+    ensures verdict { ReachesWith F.Reads F.Files.own P.Report files.old files.new report.old report.new words.now texts ids.now result }
+    ensures ended { HasEnded F.Reads F.Files.own P.Report files.old files.new report.old report.new result }
+    ensures readable { EndsReadableWith F.Reads F.Files.own files.old words.now texts ids.now result }
+    ensures octets { ReadsWith F.Reads files.old files.new words.now texts ids.now }
 {
     match prepare(alloc, words, texts, files, ids) {
         Ok(prepared) => write(alloc, words, prepared, ids, files, report),
@@ -73,20 +60,10 @@ fn merge_settled<F: Files, P: Report>(
     requires words { IsApartMerge words.now }
     requires inputs { AreInputs F.Reads F.Files.own (file_names words.now.files) files.old ids.now }
     requires chapters { CanBeWritten texts.chapters }
-    ensures verdict { Told (F.names files.old) (λ world. (contents : List (List ℕ)) → AreTold (live_files F.Reads files.old) ids.now contents → Reaches
-        (seen F.Reads F.writing_faults F.names P.Report files.old report.old)
-        (seen F.Reads F.writing_faults F.names P.Report files.new report.new)
-        result (verdict_of words.now (sources_settled world words.now texts contents))) }
-    ensures ordinary { IfOk result IsOrdinary }
-    ensures live { (file : ℕ) → (live_files F.Reads files.new).live file ≡ (live_files F.Reads files.old).live file }
-    ensures cause { HasStopCause
-        (seen F.Reads F.writing_faults F.names P.Report files.old report.old).counts
-        (seen F.Reads F.writing_faults F.names P.Report files.new report.new).counts result }
-    ensures readable { Told (F.names files.old) (λ world. (contents : List (List ℕ)) → AreTold (live_files F.Reads files.old) ids.now contents
-        → EndsReadable words.now (sources_settled world words.now texts contents) result) }
-    ensures octets { Told (F.names files.old) (λ world. (contents : List (List ℕ)) → AreTold (live_files F.Reads files.old) ids.now contents
-        → F.octets_read files.new ≤ F.octets_read files.old
-        + (most_of (sources_settled world words.now texts contents) (files_size (live_files F.Reads files.old) ids.now) + most_looked words.now)) }
+    ensures verdict { ReachesSettled F.Reads F.Files.own P.Report files.old files.new report.old report.new words.now texts ids.now result }
+    ensures ended { HasEnded F.Reads F.Files.own P.Report files.old files.new report.old report.new result }
+    ensures readable { EndsReadableSettled F.Reads F.Files.own files.old words.now texts ids.now result }
+    ensures octets { ReadsSettled F.Reads F.Files.own files.old files.new words.now texts ids.now }
 {
     match begun_refusal(alloc, words, &texts, files) {
         Ok(None) => merge_opened(alloc, words, texts, ids, files, report),
@@ -105,18 +82,10 @@ fn merge_beside<F: Files, P: Report>(
 ) -> Result<Status, Stop>
     requires words { IsApartMerge words.now }
     requires chapters { CanBeWritten texts.chapters }
-    ensures verdict { Told (F.names files.old) (λ world. Reaches
-        (seen F.Reads F.writing_faults F.names P.Report files.old report.old)
-        (seen F.Reads F.writing_faults F.names P.Report files.new report.new)
-        result (verdict_of words.now (sources_beside world words.now texts))) }
-    ensures ordinary { IfOk result IsOrdinary }
-    ensures live { (file : ℕ) → (live_files F.Reads files.new).live file ≡ (live_files F.Reads files.old).live file }
-    ensures cause { HasStopCause
-        (seen F.Reads F.writing_faults F.names P.Report files.old report.old).counts
-        (seen F.Reads F.writing_faults F.names P.Report files.new report.new).counts result }
-    ensures readable { Told (F.names files.old) (λ world. EndsReadable words.now (sources_beside world words.now texts) result) }
-    ensures octets { Told (F.names files.old) (λ world. F.octets_read files.new
-        ≤ F.octets_read files.old + most_beside world words.now (sources_beside world words.now texts)) }
+    ensures verdict { ReachesBeside F.Reads F.Files.own P.Report files.old files.new report.old report.new words.now texts result }
+    ensures ended { HasEnded F.Reads F.Files.own P.Report files.old files.new report.old report.new result }
+    ensures readable { EndsReadableBeside F.Reads F.Files.own files.old words.now texts result }
+    ensures octets { ReadsBeside F.Reads F.Files.own files.old files.new words.now texts }
 {
     let ids = match open_all(alloc, words.files.as_slice(), files) {
         Ok(ids) => ids,
@@ -140,20 +109,14 @@ pub fn merge_of<F: Files, P: Report>(
     report: &mut P,
 ) -> Result<Status, Stop>
     requires { IsSoundMerge words.now }
-    ensures verdict { Told (F.names files.old) (λ world. Reaches
-        (seen F.Reads F.writing_faults F.names P.Report files.old report.old)
-        (seen F.Reads F.writing_faults F.names P.Report files.new report.new)
-        result (merge_verdict world words.now)) }
-    ensures ordinary { IfOk result IsOrdinary }
-    ensures live { (file : ℕ) → (live_files F.Reads files.new).live file ≡ (live_files F.Reads files.old).live file }
-    ensures cause { HasStopCause
-        (seen F.Reads F.writing_faults F.names P.Report files.old report.old).counts
-        (seen F.Reads F.writing_faults F.names P.Report files.new report.new).counts result }
+    ensures verdict { Told (F.names files.old) (λ world.
+        ComesTo F.Reads F.Files.own P.Report files.old files.new report.old report.new result (merge_verdict world words.now)) }
+    ensures ended { HasEnded F.Reads F.Files.own P.Report files.old files.new report.old report.new result }
 
     // What a merge that ended has written can be read again: what its inputs give besides tracks and blocks, and outputs of
     // no more octets than a file may have.
     ensures readable { Told (F.names files.old) (λ world. EndsReadable words.now (sources_of world words.now) result) }
-    ensures octets { Told (F.names files.old) (λ world. F.octets_read files.new ≤ F.octets_read files.old + most_read world words.now) }
+    ensures octets { Told (F.names files.old) (λ world. ReadsUpTo F.Reads files.old files.new (most_read world words.now)) }
 {
     match first_written(alloc, words) {
         Ok(None) => {}

@@ -1,17 +1,13 @@
 //! What stands before the blocks of the inputs, and what they come to.
 
-ghost use Rattle.std.specs.Prelude.{◌≡◌, ◌+◌, ◌*◌, ◌≤◌, List, ℕ, length, IfOk};
-ghost use Rattle.std.specs.List.{All};
-ghost use Rattle.mkv_io.specs.Faults.{HasCause};
+ghost use Rattle.std.specs.Prelude.{◌≡◌, ◌*◌, IfOk};
 ghost use Rattle.mkv_io.specs.Sources.{IfTold, IsLive, file_size, live_files};
-ghost use Rattle.mkv_outputs.specs.Sinks.{AreLive};
 ghost use Rattle.input_files.specs.ChapterFile.{CanBeWritten};
-ghost use Rattle.merge_words.specs.Sound.{IsSoundFile, IsSoundMerge};
-ghost use Rattle.merge_inputs.specs.Input.{IsInput, IsReadOf, held_in, input_of, read_in};
-ghost use Rattle.mkv_merge.specs.Bound.{files_size};
-ghost use Rattle.mkv_merge.specs.Ends.{is_files_fault};
-ghost use Rattle.mkv_merge.specs.Prepared.{AreInputsOf, AreTold, IsPrepared, Prepares, ReadsAs, ReadsInPlace, reads_in};
-ghost use Rattle.mkv_merge.specs.Read.{inputs_of, inputs_with, numbered};
+ghost use Rattle.merge_words.specs.Sound.{IsSoundFile};
+ghost use Rattle.merge_inputs.specs.Input.{IsInput, IsReadOf, held_in};
+ghost use Rattle.mkv_merge.specs.Bound.{ReadsUpTo, live_size};
+ghost use Rattle.mkv_merge.specs.Prepared.{AreInputsOf, CanPrepare, EndsReading, IfAllTold, IsPrepared, Prepares};
+ghost use Rattle.mkv_merge.specs.Prepared.{ReadsAll, ReadsEach, ReadsInPlace, ReadsOne};
 
 use crate::chapters::with_file;
 use crate::refusal::{MergeEnd, Refusal};
@@ -44,12 +40,11 @@ fn read_one<R: Reads>(
 ) -> Result<Input, MergeEnd>
     requires live { IsLive R.Reads src.old file }
     requires delays { IsSoundFile words.now }
-    ensures exact { IfTold R.Reads src.old file (λ bytes. ReadsAs read_in (numbered input (input_of words.now webm held bytes)) result) }
+    ensures exact { IfTold R.Reads src.old file (λ bytes. ReadsOne input words.now webm held bytes result) }
     ensures input { IfOk result (IsInput (live_files R.Reads src.new)) }
     ensures file { IfOk result (IsReadOf file words.now) }
-    ensures standing { R.standing src.new ≡ R.standing src.old }
-    ensures cause { HasCause is_files_fault (R.reading_faults src.old) (R.reading_faults src.new) result }
-    ensures octets { R.octets_read src.new ≤ R.octets_read src.old + 25 * file_size R.Reads src.old file }
+    ensures reading { EndsReading R.Reads src.old src.new result }
+    ensures octets { ReadsUpTo R.Reads src.old src.new (25 * file_size R.Reads src.old file) }
 {
     match read_input(alloc, words, webm, held, src, file) {
         Ok(read) => Ok(read),
@@ -76,15 +71,11 @@ fn read_inputs<R: Reads>(
     src: &mut R,
     files: &[FileId],
 ) -> Result<List<Input>, MergeEnd>
-    requires sound { IsSoundMerge words.now }
-    requires live { AreLive (live_files R.Reads src.old).live files.now }
-    requires each { length files.now ≡ length words.now.files }
-    ensures exact { (contents : List (List ℕ)) → AreTold (live_files R.Reads src.old) files.now contents
-        → ReadsAs reads_in (inputs_of words.now contents) result }
+    requires ready { CanPrepare R.Reads src.old words.now files.now }
+    ensures exact { IfAllTold R.Reads src.old files.now (λ contents. ReadsEach words.now contents result) }
     ensures inputs { IfOk result (AreInputsOf (live_files R.Reads src.new) files.now) }
-    ensures standing { R.standing src.new ≡ R.standing src.old }
-    ensures cause { HasCause is_files_fault (R.reading_faults src.old) (R.reading_faults src.new) result }
-    ensures octets { R.octets_read src.new ≤ R.octets_read src.old + 25 * files_size (live_files R.Reads src.old) files.now }
+    ensures reading { EndsReading R.Reads src.old src.new result }
+    ensures octets { ReadsUpTo R.Reads src.old src.new (25 * live_size R.Reads src.old files.now) }
 {
     let mut inputs = List::new(alloc);
     let mut held: u64 = 0;
@@ -105,16 +96,12 @@ fn read_all<R: Reads>(
     src: &mut R,
     files: &[FileId],
 ) -> Result<List<Input>, MergeEnd>
-    requires sound { IsSoundMerge words.now }
+    requires ready { CanPrepare R.Reads src.old words.now files.now }
     requires chapters { CanBeWritten texts.chapters }
-    requires live { AreLive (live_files R.Reads src.old).live files.now }
-    requires each { length files.now ≡ length words.now.files }
-    ensures exact { (contents : List (List ℕ)) → AreTold (live_files R.Reads src.old) files.now contents
-        → ReadsAs reads_in (inputs_with words.now texts contents) result }
+    ensures exact { IfAllTold R.Reads src.old files.now (λ contents. ReadsAll words.now texts contents result) }
     ensures inputs { IfOk result (AreInputsOf (live_files R.Reads src.new) files.now) }
-    ensures standing { R.standing src.new ≡ R.standing src.old }
-    ensures cause { HasCause is_files_fault (R.reading_faults src.old) (R.reading_faults src.new) result }
-    ensures octets { R.octets_read src.new ≤ R.octets_read src.old + 25 * files_size (live_files R.Reads src.old) files.now }
+    ensures reading { EndsReading R.Reads src.old src.new result }
+    ensures octets { ReadsUpTo R.Reads src.old src.new (25 * live_size R.Reads src.old files.now) }
 {
     let TextFiles { chapters, times } = texts;
     let read = read_inputs(alloc, words, src, files)?;
@@ -123,7 +110,7 @@ fn read_all<R: Reads>(
 }
 
 /// The inputs as they were read, each that is appended in its place; or what refuses them: what is read of each, what the
-/// text files give, and then one whose tracks can't go on in the lanes of the one before it.
+/// text files give, and then one whose tracks can't go on in the lanes to which it is appended.
 fn inputs_in_place<R: Reads>(
     alloc: Global,
     words: &MergeWords,
@@ -131,16 +118,12 @@ fn inputs_in_place<R: Reads>(
     src: &mut R,
     files: &[FileId],
 ) -> Result<List<Input>, MergeEnd>
-    requires sound { IsSoundMerge words.now }
+    requires ready { CanPrepare R.Reads src.old words.now files.now }
     requires chapters { CanBeWritten texts.chapters }
-    requires live { AreLive (live_files R.Reads src.old).live files.now }
-    requires each { length files.now ≡ length words.now.files }
-    ensures exact { (contents : List (List ℕ)) → AreTold (live_files R.Reads src.old) files.now contents
-        → ReadsInPlace words.now texts contents result }
+    ensures exact { IfAllTold R.Reads src.old files.now (λ contents. ReadsInPlace words.now texts contents result) }
     ensures inputs { IfOk result (AreInputsOf (live_files R.Reads src.new) files.now) }
-    ensures standing { R.standing src.new ≡ R.standing src.old }
-    ensures cause { HasCause is_files_fault (R.reading_faults src.old) (R.reading_faults src.new) result }
-    ensures octets { R.octets_read src.new ≤ R.octets_read src.old + 27 * files_size (live_files R.Reads src.old) files.now }
+    ensures reading { EndsReading R.Reads src.old src.new result }
+    ensures octets { ReadsUpTo R.Reads src.old src.new (27 * live_size R.Reads src.old files.now) }
 {
     let inputs = read_all(alloc, words, texts, src, files)?;
     if let Some(differs) = append_refusal(inputs.as_slice()) {
@@ -157,15 +140,12 @@ pub fn prepare<R: Reads>(
     src: &mut R,
     files: &[FileId],
 ) -> Result<Prepared, MergeEnd>
-    requires sound { IsSoundMerge words.now }
+    requires ready { CanPrepare R.Reads src.old words.now files.now }
     requires chapters { CanBeWritten texts.chapters }
-    requires live { AreLive (live_files R.Reads src.old).live files.now }
-    requires each { length files.now ≡ length words.now.files }
-    ensures exact { (contents : List (List ℕ)) → AreTold (live_files R.Reads src.old) files.now contents → Prepares words.now texts contents result }
+    ensures exact { IfAllTold R.Reads src.old files.now (λ contents. Prepares words.now texts contents result) }
     ensures prepared { IfOk result (IsPrepared (live_files R.Reads src.new) words.now files.now) }
-    ensures standing { R.standing src.new ≡ R.standing src.old }
-    ensures cause { HasCause is_files_fault (R.reading_faults src.old) (R.reading_faults src.new) result }
-    ensures octets { R.octets_read src.new ≤ R.octets_read src.old + 27 * files_size (live_files R.Reads src.old) files.now }
+    ensures reading { EndsReading R.Reads src.old src.new result }
+    ensures octets { ReadsUpTo R.Reads src.old src.new (27 * live_size R.Reads src.old files.now) }
 {
     let inputs = inputs_in_place(alloc, words, texts, src, files)?;
     match plan_of(alloc, words, inputs.as_slice()) {

@@ -32,7 +32,7 @@ pub enum Refusal {
     Chapters(TextRefusal),
     /// The file of times of this name isn't taken.
     Times { name: Text, why: TextRefusal },
-    /// The tracks of this appended input can't go on in those of the one before it.
+    /// The tracks of this appended input can't go on in the lanes of the input to which it is appended.
     Differs(AppendDiffers),
     /// The inputs make no output.
     Plan(PlanRefusal),

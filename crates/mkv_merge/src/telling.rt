@@ -1,16 +1,14 @@
 //! What is told of a merge.
 
-ghost use Rattle.std.specs.Prelude.{◌≡◌, map, length, IfOk};
-ghost use Rattle.mkv_lines.specs.Line.{more_damages_line, no_track_line, text_of, warning_line};
+ghost use Rattle.std.specs.Prelude.{◌≡◌, length, IfOk};
+ghost use Rattle.mkv_lines.specs.Line.{text_of};
 ghost use Rattle.mkv_lines.specs.Ordinary.{IsOrdinary};
 ghost use Rattle.mkv_lines.specs.Said.{HasSayCause, Says};
 ghost use Rattle.mkv_lines.specs.Verdict.{SaysVerdict, refused};
-ghost use Rattle.remux_plan.specs.declared.summary.InputDamage.{InputDamage as DamageSeen};
-ghost use Rattle.remux_plan.specs.declared.summary.MoreDamage.{MoreDamage as MoreSeen};
-ghost use Rattle.mkv_merge.specs.Merge.{absent_of, has_absent, has_other_count, is_some_of, lines_before, uuid_lines};
+ghost use Rattle.mkv_merge.specs.Merge.{absent_of, has_absent, has_other_count, is_some_of, lines_absent, lines_before, uuid_lines};
 ghost use Rattle.mkv_merge.specs.Prepared.{reads_in};
 ghost use Rattle.mkv_merge.specs.Refused.{chapters_name, input_line, line_of, name_of, plan_line, text_line};
-ghost use Rattle.mkv_merge.specs.Told.{damages_at, more_at, warnings_from};
+ghost use Rattle.mkv_merge.specs.Told.{damage_warnings, more_warnings, warnings_from};
 
 use crate::refusal::Refusal;
 use input_files::TextRefusal;
@@ -130,7 +128,7 @@ fn say_absent_of<P: Report>(
     count: usize,
     report: &mut P,
 ) -> Result<(), Stop>
-    ensures said { Says (P.lines report.old) (P.lines report.new) (map (no_track_line file.now.name) (absent_of file.now count)) result }
+    ensures said { Says (P.lines report.old) (P.lines report.new) (lines_absent file.now count) result }
     ensures cause { HasSayCause (P.faults report.old) (P.faults report.new) result }
 {
     let name = file.name.as_str();
@@ -192,7 +190,7 @@ fn warn_of<P: Report>(
     damages: &[InputDamage],
     report: &mut P,
 ) -> Result<(), Stop>
-    ensures said { Says (P.lines report.old) (P.lines report.new) (map (λ (d : DamageSeen). warning_line name.now d.damage) (damages_at input damages.now)) result }
+    ensures said { Says (P.lines report.old) (P.lines report.new) (damage_warnings name.now input damages.now) result }
     ensures cause { HasSayCause (P.faults report.old) (P.faults report.new) result }
 {
     for each in damages {
@@ -213,7 +211,7 @@ fn warn_more<P: Report>(
     more: &[MoreDamage],
     report: &mut P,
 ) -> Result<(), Stop>
-    ensures said { Says (P.lines report.old) (P.lines report.new) (map (λ (m : MoreSeen). more_damages_line name.now m.count) (more_at input more.now)) result }
+    ensures said { Says (P.lines report.old) (P.lines report.new) (more_warnings name.now input more.now) result }
     ensures cause { HasSayCause (P.faults report.old) (P.faults report.new) result }
 {
     for each in more {

@@ -1,12 +1,11 @@
 //! The times of files in place of those of tracks, and what refuses text files.
 
-ghost use Rattle.std.specs.Prelude.{◌≡◌, ◌++◌, false, [], if◌then◌else◌, map, IfOk, IfErr, OnOk};
+ghost use Rattle.std.specs.Prelude.{◌≡◌, ◌++◌, false, map, IfOk, IfErr, OnOk};
 ghost use Rattle.merge_inputs.specs.Input.{listings_in, read_in};
-ghost use Rattle.merge_plan.specs.Records.{is_appended};
 ghost use Rattle.mkv_merge.specs.Ends.{is_files_fault};
 ghost use Rattle.mkv_merge.specs.Prepared.{ReadsAs, reads_in};
 ghost use Rattle.mkv_merge.specs.Texts.{missing_text, missing_times, times_refusal, with_times};
-ghost use Rattle.mkv_merge.specs.Timed.{IsSameBut, at_input, listed_by, listed_in, listed_of, shared_at, shared_from};
+ghost use Rattle.mkv_merge.specs.Timed.{IsSameBut, at_input, listed_by, listed_in, listed_of, shared_at, shared_for, shared_from};
 
 use crate::refusal::{MergeEnd, Refusal};
 use ext_times::Times;
@@ -126,7 +125,7 @@ fn times_for(
     input: &Input,
     shared: &[SharedTimes],
 ) -> Result<List<TrackTimes>, AllocError>
-    ensures { IfOk result (λ times. listings_in times ≡ (if is_appended (read_in input.now) then [] else shared_at number shared.now)) }
+    ensures { IfOk result (λ times. listings_in times ≡ shared_for number shared.now (read_in input.now)) }
 {
     if input.shift.is_some() {
         Ok(List::new(alloc))

@@ -1,25 +1,16 @@
 //! What was prepared is written, and told of.
 
-ghost use Rattle.std.specs.Prelude.{◌≡◌, ◌+◌, ◌*◌, ◌≤◌, ℕ, List, ◌++◌, ◌||◌, length, map, IfOk};
-ghost use Rattle.std.specs.List.{zip};
+ghost use Rattle.std.specs.Prelude.{◌≡◌, IfOk};
 ghost use Rattle.mkv_io.specs.Sources.{live_files};
-ghost use Rattle.mkv_io.specs.Told.{Told};
 ghost use Rattle.input_files.specs.Inputs.{AreInputs, file_names};
-ghost use Rattle.mkv_lines.specs.Faults.{HasStopCause};
-ghost use Rattle.mkv_lines.specs.Line.{wrote_blocks_line};
+ghost use Rattle.mkv_lines.specs.Command.{HasEnded};
 ghost use Rattle.mkv_lines.specs.Ordinary.{IsOrdinary};
 ghost use Rattle.mkv_lines.specs.Said.{HasSayCause, Says};
-ghost use Rattle.mkv_lines.specs.Seen.{seen};
-ghost use Rattle.mkv_lines.specs.Verdict.{Reaches};
-ghost use Rattle.remux_plan.specs.declared.summary.Written.{Written as WrittenSeen};
-ghost use Rattle.remuxer.specs.Plan.{data_length};
-ghost use Rattle.mkv_merge.specs.Bound.{files_size};
 ghost use Rattle.mkv_merge.specs.Ends.{stop_of};
-ghost use Rattle.mkv_merge.specs.Merge.{has_other_count, merged_verdict, status_of, uuid_lines};
-ghost use Rattle.mkv_merge.specs.Prepared.{AreTold, IsPrepared, reads_in};
+ghost use Rattle.mkv_merge.specs.Prepared.{IsPrepared};
 ghost use Rattle.mkv_merge.specs.Read.{IsApartMerge};
-ghost use Rattle.mkv_merge.specs.Records.{AreShort};
-ghost use Rattle.mkv_merge.specs.Told.{is_warned, warnings_from};
+ghost use Rattle.mkv_merge.specs.Stages.{EndsShort, ReachesPlanned, ReadsPlanned};
+ghost use Rattle.mkv_merge.specs.Told.{told_outputs, told_status, told_summary, wrote_lines};
 
 use crate::preparing::Prepared;
 use crate::telling::{has_absent, has_other_count, say_absent, say_uuids, warn};
@@ -42,7 +33,7 @@ pub fn stop_of(end: RemuxEnd) -> Stop
 
 /// Tells of the outputs, which stand whole.
 fn say_wrote<P: Report>(alloc: Global, outputs: &[Written], report: &mut P) -> Result<(), Stop>
-    ensures said { Says (P.lines report.old) (P.lines report.new) (map (λ (w : WrittenSeen). wrote_blocks_line w.name w.blocks) outputs.now) result }
+    ensures said { Says (P.lines report.old) (P.lines report.new) (wrote_lines outputs.now) result }
     ensures cause { HasSayCause (P.faults report.old) (P.faults report.new) result }
 {
     for output in outputs {
@@ -59,8 +50,7 @@ fn tell_outputs<P: Report>(
     summary: &Summary,
     report: &mut P,
 ) -> Result<(), Stop>
-    ensures said { Says (P.lines report.old) (P.lines report.new)
-        (map (λ (w : WrittenSeen). wrote_blocks_line w.name w.blocks) summary.now.outputs ++ warnings_from summary.now 0 words.now.files) result }
+    ensures said { Says (P.lines report.old) (P.lines report.new) (told_outputs words.now summary.now) result }
     ensures cause { HasSayCause (P.faults report.old) (P.faults report.new) result }
 {
     say_wrote(alloc, summary.outputs.as_slice(), report)?;
@@ -76,10 +66,8 @@ fn tell<P: Report>(
     summary: &Summary,
     report: &mut P,
 ) -> Result<Status, Stop>
-    ensures said { Says (P.lines report.old) (P.lines report.new)
-        (map (λ (w : WrittenSeen). wrote_blocks_line w.name w.blocks) summary.now.outputs ++ warnings_from summary.now 0 words.now.files
-        ++ uuid_lines words.now (length summary.now.outputs)) result }
-    ensures status { IfOk result (λ status. status ≡ status_of (is_warned absent summary.now || has_other_count words.now (length summary.now.outputs))) }
+    ensures said { Says (P.lines report.old) (P.lines report.new) (told_summary words.now summary.now) result }
+    ensures status { IfOk result (λ status. status ≡ told_status words.now absent summary.now) }
     ensures ordinary { IfOk result IsOrdinary }
     ensures cause { HasSayCause (P.faults report.old) (P.faults report.new) result }
 {
@@ -105,21 +93,12 @@ pub fn write<F: Files, P: Report>(
     requires words { IsApartMerge words.now }
     requires inputs { AreInputs F.Reads F.Files.own (file_names words.now.files) files.old ids.now }
     requires prepared { IsPrepared (live_files F.Reads files.old) words.now ids.now prepared }
-    ensures verdict { (contents : List (List ℕ)) → AreTold (live_files F.Reads files.old) ids.now contents → Reaches
-        (seen F.Reads F.writing_faults F.names P.Report files.old report.old)
-        (seen F.Reads F.writing_faults F.names P.Report files.new report.new)
-        result (merged_verdict words.now (zip contents (reads_in prepared.inputs))) }
-    ensures ordinary { IfOk result IsOrdinary }
-    ensures live { (file : ℕ) → (live_files F.Reads files.new).live file ≡ (live_files F.Reads files.old).live file }
-    ensures cause { HasStopCause
-        (seen F.Reads F.writing_faults F.names P.Report files.old report.old).counts
-        (seen F.Reads F.writing_faults F.names P.Report files.new report.new).counts result }
-    ensures short { Told (F.names files.old) (λ world. (contents : List (List ℕ)) → AreTold (live_files F.Reads files.old) ids.now contents
-        → IfOk result (λ _. AreShort words.now (zip contents (reads_in prepared.inputs)))) }
+    ensures verdict { ReachesPlanned F.Reads F.Files.own P.Report files.old files.new report.old report.new words.now ids.now prepared.inputs result }
+    ensures ended { HasEnded F.Reads F.Files.own P.Report files.old files.new report.old report.new result }
+    ensures short { EndsShort F.Reads F.Files.own files.old words.now ids.now prepared.inputs result }
 
     // Each lane reads at most twice the file of its input, and attached files are copied.
-    ensures octets { F.octets_read files.new ≤ F.octets_read files.old
-        + (2 * (length prepared.plan.lanes * files_size (live_files F.Reads files.old) ids.now) + data_length prepared.plan) }
+    ensures octets { ReadsPlanned F.Reads files.old files.new ids.now prepared.plan }
 {
     let Prepared { inputs, plan } = prepared;
     let _ids = ids;

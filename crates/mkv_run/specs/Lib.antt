@@ -1,3 +1,4 @@
+pub mod ByWords
 pub mod Ends
 pub mod Exit
 pub mod Kept

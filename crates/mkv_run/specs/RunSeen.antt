@@ -1,11 +1,13 @@
 -- What is seen of a run: of its files and its report, and of its disk.
-use Rattle.std.specs.Prelude.{◌≡◌, ◌⊎◌, ⊤, ℕ, Result, Ok, Err}
+use Rattle.std.specs.Prelude.{◌≡◌, ◌⊎◌, ⊤, ℕ, Result, Ok, Err, IfOk}
 use Rattle.mkv_io.specs.Faults.{HasRisen}
+use Rattle.mkv_io.specs.Sources.{live_files}
 use Rattle.mkv_io.specs.declared.reads.Reads.{Ghosts as ReadsGhosts}
 use Rattle.mkv_io.specs.declared.files.Files.{Ghosts as FilesGhosts}
 use Rattle.mkv_io.specs.declared.report.Report.{Ghosts as ReportGhosts}
 use Rattle.mkv_disk.specs.declared.disk.Disk.{Ghosts as DiskGhosts}
 use Rattle.mkv_lines.specs.Faults.{FilesRose, ReportRose}
+use Rattle.mkv_lines.specs.Ordinary.{IsOrdinary}
 use Rattle.mkv_lines.specs.Said.{ReportLines}
 use Rattle.mkv_lines.specs.Seen.{Seen, seen}
 use Rattle.mkv_lines.specs.declared.status.Status.{Status}
@@ -57,6 +59,12 @@ HasRunStop reach old new (Err stop.Files) =
 HasRunStop reach old new (Err stop.Disk) = DiskRose old.disk new.disk × (new.seen.counts ≡ old.seen.counts) × (new.seen.lines ≡ old.seen.lines)
 HasRunStop reach old new (Err stop.Report) =
     ReportRose old.seen.counts new.seen.counts × (new.seen.counts ≡ record old.seen.counts { report = new.seen.counts.report }) × (new.disk ≡ old.disk)
+
+-- A command ended by itself with an ordinary status; or it has stopped, and told why. The same files are live as before.
+pub record HasObeyed {F D R : Type 0} (r : ReadsGhosts F) (f : FilesGhosts F) (s : ReadsGhosts D) (d : DiskGhosts D) (p : ReportGhosts R) (files files' : F) (disk disk' : D) (report report' : R) (reach : Reach) (result : Result Status Stop) : Type 0 where
+  pub ordinary : IfOk result IsOrdinary
+  pub live : (file : ℕ) → (live_files r files').live file ≡ (live_files r files).live file
+  pub cause : HasRunStop reach (run_seen r f s d p files disk report) (run_seen r f s d p files' disk' report') result
 
 -- A run ends with Outside only where a count rose, and always where one did; and with NoMemory without a line of an edit in place.
 abbrev pub HasStatusCause : Reach → RunSeen → RunSeen → Status → Type 0

@@ -1,18 +1,14 @@
 //! The program: its words, and the exit status with which it ends.
 
-ghost use Rattle.std.specs.Prelude.{◌≡◌, ◌+◌, ◌<◌, ◌⊎◌, ℕ, IfOk, IfErr, IsOkAnd, MatchResult, OnErr};
+ghost use Rattle.std.specs.Prelude.{◌≡◌, ◌<◌, ◌⊎◌, ℕ, IfOk, IfErr, IsOkAnd, OnErr};
 ghost use Rattle.std.specs.Process.{exit_status};
 ghost use Rattle.mkv_io.specs.Sources.{live_files};
-ghost use Rattle.mkv_disk.specs.Calls.{AnyMoment, AtRest};
-ghost use Rattle.mkv_args.specs.Words.{command};
+ghost use Rattle.mkv_disk.specs.Calls.{AtRest};
 ghost use Rattle.mkv_lines.specs.Code.{code_of};
 ghost use Rattle.word_values.specs.Place.{texts};
-ghost use Rattle.mkv_propedit.specs.Recover.{disk_world};
 ghost use Rattle.merged_outputs.specs.Merge.{HasMerged};
-ghost use Rattle.mkv_run.specs.Exit.{HasExited};
-ghost use Rattle.mkv_run.specs.Run.{ReadsWithinIn, verdict_in};
-ghost use Rattle.mkv_run.specs.RunSeen.{run_seen};
-ghost use Rattle.mkv_run.specs.Touched.{IsInPlace, LeftOnTheWay, Touches, reach_in};
+ghost use Rattle.mkv_run.specs.ByWords.{CrashLeaves, ExitsFor, ReadsFor, IsIdle, reach_for};
+ghost use Rattle.mkv_run.specs.Touched.{IsInPlace};
 
 use crate::running::run;
 use mkv_disk::Disk;
@@ -47,24 +43,20 @@ pub fn program<F: Files, D: Disk, R: Report>(
     disk: &mut D,
     report: &mut R,
 ) -> ExitCode
-    requires { IsOkAnd words.now (λ words. IsInPlace (reach_in (command (texts words.items)))) → AtRest D.Disk.own disk.old }
-    ensures ok { IfOk words.now (λ words. HasExited (reach_in (command (texts words.items)))
-        (run_seen F.Reads F.Files.own D.Reads D.Disk.own R.Report files.old disk.old report.old)
-        (run_seen F.Reads F.Files.own D.Reads D.Disk.own R.Report files.new disk.new report.new)
-        (Touches D.Reads D.Disk.own (reach_in (command (texts words.items))) files.old files.new disk.old disk.new)
-        (verdict_in (F.names files.old) (disk_world D.Disk.own disk.old) (texts words.items)) (exit_status result)) }
+    requires { IsOkAnd words.now (λ words. IsInPlace (reach_for words.items)) → AtRest D.Disk.own disk.old }
+    ensures ok { IfOk words.now (λ words. ExitsFor F.Reads F.Files.own D.Reads D.Disk.own R.Report files.old files.new disk.old disk.new
+        report.old report.new words.items (exit_status result)) }
 
     // Where it ends with 0 or 1, the merge that the words ask for was written.
     ensures merged { IfOk words.now (λ words. exit_status result < 2
         → HasMerged (F.names files.old) (texts words.items) (F.names files.new)) }
     ensures unread { IfErr words.now (λ status. exit_status result ≡ code_of status) }
-    ensures idle { OnErr words.now (run_seen F.Reads F.Files.own D.Reads D.Disk.own R.Report files.new disk.new report.new
-        ≡ run_seen F.Reads F.Files.own D.Reads D.Disk.own R.Report files.old disk.old report.old) }
-    ensures any_moment { MatchResult words.now (λ words. AtRest D.Disk.own disk.old → AnyMoment D.Disk.own disk.old disk.new
-        (LeftOnTheWay (reach_in (command (texts words.items))))) (λ _. disk.new ≡ disk.old) }
+    ensures idle { OnErr words.now (IsIdle F.Reads F.Files.own D.Reads D.Disk.own R.Report files.old files.new disk.old disk.new
+        report.old report.new) }
+    ensures any_moment { IfOk words.now (λ words. CrashLeaves D.Disk.own disk.old disk.new (reach_for words.items)) }
     ensures closed { (file : ℕ) → (live_files F.Reads files.new).live file ≡ (live_files F.Reads files.old).live file }
-    ensures octets { IfOk words.now (λ words. ReadsWithinIn (F.names files.old) (disk_world D.Disk.own disk.old) (texts words.items)
-        (F.octets_read files.old + D.octets_read disk.old) (F.octets_read files.new + D.octets_read disk.new)) }
+    ensures octets { IfOk words.now (λ words.
+        ReadsFor F.Reads F.Files.own D.Reads D.Disk.own files.old files.new disk.old disk.new words.items) }
 {
     match words {
         Ok(words) => ExitCode::from(run(alloc, words, files, disk, report).code()),

@@ -1,23 +1,22 @@
 //! A run, from the words of its command line to its status.
 
-ghost use Rattle.std.specs.Prelude.{◌≡◌, ◌+◌, ℕ, IfOk};
+ghost use Rattle.std.specs.Prelude.{◌≡◌, ℕ, IfOk};
 ghost use Rattle.mkv_io.specs.Sources.{live_files};
 ghost use Rattle.mkv_io.specs.Told.{Told};
 ghost use Rattle.mkv_args.specs.Sound.{IsSound};
-ghost use Rattle.mkv_disk.specs.Calls.{AnyMoment, AtRest};
-ghost use Rattle.mkv_args.specs.Words.{command};
+ghost use Rattle.mkv_disk.specs.Calls.{AtRest};
 ghost use Rattle.mkv_lines.specs.Code.{status_of};
+ghost use Rattle.mkv_lines.specs.Command.{ComesTo};
 ghost use Rattle.mkv_lines.specs.Ordinary.{IsOrdinary};
 ghost use Rattle.mkv_lines.specs.Line.{word_line};
 ghost use Rattle.mkv_lines.specs.Said.{HasSayCause};
-ghost use Rattle.mkv_lines.specs.Seen.{seen};
-ghost use Rattle.mkv_lines.specs.Verdict.{Reaches, SaysVerdict, refused};
+ghost use Rattle.mkv_lines.specs.Verdict.{SaysVerdict, refused};
 ghost use Rattle.mkv_propedit.specs.Recover.{disk_world};
 ghost use Rattle.word_values.specs.Place.{texts};
-ghost use Rattle.mkv_run.specs.Ends.{Ends};
-ghost use Rattle.mkv_run.specs.Run.{MergesReadable, MergesReadableIn, ReadsWithin, ReadsWithinIn, WritesMerge, verdict_in, verdict_of};
-ghost use Rattle.mkv_run.specs.RunSeen.{HasRunStop, HasStatusCause, run_seen};
-ghost use Rattle.mkv_run.specs.Touched.{IsInPlace, LeftOnTheWay, Touches, reach_in, reach_of};
+ghost use Rattle.mkv_run.specs.ByWords.{CrashLeaves, EndsFor, HasCauseFor, ReadsFor, ReadsToObey, reach_for, verdict_for};
+ghost use Rattle.mkv_run.specs.Run.{MergesReadable, MergesReadableIn, WritesMerge, verdict_of};
+ghost use Rattle.mkv_run.specs.RunSeen.{HasObeyed};
+ghost use Rattle.mkv_run.specs.Touched.{IsInPlace, Touches, reach_of};
 
 use crate::help::{help, version};
 use edit_laws::{edits_change_nothing_else, new_index_is_whole};
@@ -42,13 +41,12 @@ pub fn run<F: Files, D: Disk, R: Report>(
     disk: &mut D,
     report: &mut R,
 ) -> Status
-    requires { IsInPlace (reach_in (command (texts words.now.items))) → AtRest D.Disk.own disk.old }
+    requires { IsInPlace (reach_for words.now.items) → AtRest D.Disk.own disk.old }
 
     // The status, the lines and the outputs are those of the verdict, as far as a fault of the outside or want of
     // memory lets it come; no other name has changed.
-    ensures verdict { Told (verdict_in (F.names files.old) (disk_world D.Disk.own disk.old) (texts words.now.items)) (Ends
-        (run_seen F.Reads F.Files.own D.Reads D.Disk.own R.Report files.old disk.old report.old)
-        (run_seen F.Reads F.Files.own D.Reads D.Disk.own R.Report files.new disk.new report.new) result) }
+    ensures verdict { EndsFor F.Reads F.Files.own D.Reads D.Disk.own R.Report files.old files.new disk.old disk.new
+        report.old report.new words.now.items result }
 
     // After a merge that ended well its output holds the merge, where the names are told and what they hold is octets. What a
     // merge with usual words wrote, and what keeps a reader's limits, is written as it was when it is merged alone and
@@ -57,25 +55,22 @@ pub fn run<F: Files, D: Disk, R: Report>(
 
     // Outside is answered only where a count of faults rose, and always where one did. For want of memory an edit in place
     // says nothing.
-    ensures cause { HasStatusCause (reach_in (command (texts words.now.items)))
-        (run_seen F.Reads F.Files.own D.Reads D.Disk.own R.Report files.old disk.old report.old)
-        (run_seen F.Reads F.Files.own D.Reads D.Disk.own R.Report files.new disk.new report.new) result }
+    ensures cause { HasCauseFor F.Reads F.Files.own D.Reads D.Disk.own R.Report files.old files.new disk.old disk.new
+        report.old report.new words.now.items result }
 
     // No file stays open, and none is closed.
     ensures closed { (file : ℕ) → (live_files F.Reads files.new).live file ≡ (live_files F.Reads files.old).live file }
 
     // What a command may read, of files and of the disk together.
-    ensures octets { ReadsWithinIn (F.names files.old) (disk_world D.Disk.own disk.old) (texts words.now.items)
-        (F.octets_read files.old + D.octets_read disk.old) (F.octets_read files.new + D.octets_read disk.new) }
+    ensures octets { ReadsFor F.Reads F.Files.own D.Reads D.Disk.own files.old files.new disk.old disk.new words.now.items }
 
     // An edit in place leaves the files as they are, and all else the disk; help and words that are refused leave both. What
     // is edited or indexed keeps the rest of the file.
-    ensures touches { Touches D.Reads D.Disk.own (reach_in (command (texts words.now.items))) files.old files.new disk.old disk.new result }
+    ensures touches { Touches D.Reads D.Disk.own (reach_for words.now.items) files.old files.new disk.old disk.new result }
 
     // What a crash at any moment leaves of the two files of the disk, where nothing was pending: after an edit they come to
     // the file as it was or as it is to be, and where one is recovered to what they came to.
-    ensures any_moment { AtRest D.Disk.own disk.old
-        → AnyMoment D.Disk.own disk.old disk.new (LeftOnTheWay (reach_in (command (texts words.now.items)))) }
+    ensures any_moment { CrashLeaves D.Disk.own disk.old disk.new (reach_for words.now.items) }
 {
     outputs_are_written_again();
     match carry_out(alloc, words, files, disk, report) {
@@ -101,19 +96,14 @@ fn carry_out<F: Files, D: Disk, R: Report>(
     disk: &mut D,
     report: &mut R,
 ) -> Result<Status, Stop>
-    requires { IsInPlace (reach_in (command (texts words.now.items))) → AtRest D.Disk.own disk.old }
-    ensures verdict { Told (verdict_in (F.names files.old) (disk_world D.Disk.own disk.old) (texts words.now.items)) (Reaches
-        (seen F.Reads F.writing_faults F.names R.Report files.old report.old)
-        (seen F.Reads F.writing_faults F.names R.Report files.new report.new) result) }
-    ensures ordinary { IfOk result IsOrdinary }
-    ensures cause { HasRunStop (reach_in (command (texts words.now.items)))
-        (run_seen F.Reads F.Files.own D.Reads D.Disk.own R.Report files.old disk.old report.old)
-        (run_seen F.Reads F.Files.own D.Reads D.Disk.own R.Report files.new disk.new report.new) result }
-    ensures closed { (file : ℕ) → (live_files F.Reads files.new).live file ≡ (live_files F.Reads files.old).live file }
+    requires { IsInPlace (reach_for words.now.items) → AtRest D.Disk.own disk.old }
+    ensures verdict { Told (verdict_for F.Files.own D.Disk.own files.old disk.old words.now.items)
+        (ComesTo F.Reads F.Files.own R.Report files.old files.new report.old report.new result) }
+    ensures ended { HasObeyed F.Reads F.Files.own D.Reads D.Disk.own R.Report files.old files.new disk.old disk.new
+        report.old report.new (reach_for words.now.items) result }
     ensures readable { MergesReadableIn (F.names files.old) (texts words.now.items) result }
-    ensures octets { ReadsWithinIn (F.names files.old) (disk_world D.Disk.own disk.old) (texts words.now.items)
-        (F.octets_read files.old + D.octets_read disk.old) (F.octets_read files.new + D.octets_read disk.new) }
-    ensures touches { Touches D.Reads D.Disk.own (reach_in (command (texts words.now.items))) files.old files.new disk.old disk.new (status_of result) }
+    ensures octets { ReadsFor F.Reads F.Files.own D.Reads D.Disk.own files.old files.new disk.old disk.new words.now.items }
+    ensures touches { Touches D.Reads D.Disk.own (reach_for words.now.items) files.old files.new disk.old disk.new (status_of result) }
 {
     match read_words(alloc, words) {
         Ok(command) => obey(alloc, &command, files, disk, report),
@@ -132,17 +122,12 @@ fn obey<F: Files, D: Disk, R: Report>(
 ) -> Result<Status, Stop>
     requires sound { IsSound command.now }
     requires at_rest { IsInPlace (reach_of command.now) → AtRest D.Disk.own disk.old }
-    ensures verdict { Told (verdict_of (F.names files.old) (disk_world D.Disk.own disk.old) command.now) (Reaches
-        (seen F.Reads F.writing_faults F.names R.Report files.old report.old)
-        (seen F.Reads F.writing_faults F.names R.Report files.new report.new) result) }
-    ensures ordinary { IfOk result IsOrdinary }
-    ensures cause { HasRunStop (reach_of command.now)
-        (run_seen F.Reads F.Files.own D.Reads D.Disk.own R.Report files.old disk.old report.old)
-        (run_seen F.Reads F.Files.own D.Reads D.Disk.own R.Report files.new disk.new report.new) result }
-    ensures closed { (file : ℕ) → (live_files F.Reads files.new).live file ≡ (live_files F.Reads files.old).live file }
+    ensures verdict { Told (verdict_of (F.names files.old) (disk_world D.Disk.own disk.old) command.now)
+        (ComesTo F.Reads F.Files.own R.Report files.old files.new report.old report.new result) }
+    ensures ended { HasObeyed F.Reads F.Files.own D.Reads D.Disk.own R.Report files.old files.new disk.old disk.new
+        report.old report.new (reach_of command.now) result }
     ensures readable { MergesReadable (F.names files.old) command.now result }
-    ensures octets { ReadsWithin (F.names files.old) (disk_world D.Disk.own disk.old) command.now
-        (F.octets_read files.old + D.octets_read disk.old) (F.octets_read files.new + D.octets_read disk.new) }
+    ensures octets { ReadsToObey F.Reads F.Files.own D.Reads D.Disk.own files.old files.new disk.old disk.new command.now }
     ensures touches { Touches D.Reads D.Disk.own (reach_of command.now) files.old files.new disk.old disk.new (status_of result) }
 {
     match command {

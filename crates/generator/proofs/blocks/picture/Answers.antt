@@ -1,9 +1,9 @@
-use Rattle.std.proofs.Common.{◌≡◌, ◌≤◌, ◌+◌, ◌*◌, ◌%◌, ◌==◌, ℕ, List, ◌∷◌, [], length, refl, ◌∙◌, ap, subst, arith}
+use Rattle.std.proofs.Common.{◌*◌, ◌%◌, ◌==◌, ℕ, List, ◌∷◌, [], refl, subst, arith}
 use Rattle.std.proofs.lemmas.List.FromFn.{length-map-range_with_len}
 use Rattle.lacing.specs.declared.kind.Lace.TheVariants as lace
 use Rattle.output_model.specs.declared.heads.OutHead.{OutHead}
 use Rattle.generator.specs.Blocks.{counting, picture_size}
-use Rattle.generator.specs.Made.{HasParts, simple_head}
+use Rattle.generator.specs.Made.{HasParts}
 use Rattle.generator.proofs.MadeLemmas.{made-is}
 use Rattle.generator.proofs.blocks.picture.Goals as goal
 

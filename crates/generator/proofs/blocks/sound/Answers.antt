@@ -1,11 +1,11 @@
-use Rattle.std.proofs.Common.{◌≡◌, ◌*◌, ◌%◌, ◌==◌, ℕ, Bool, true, if◌then◌else◌, List, ◌∷◌, [], refl, sym, ◌∙◌, ap, subst, arith}
+use Rattle.std.proofs.Common.{◌*◌, ◌%◌, ℕ, Bool, true, if◌then◌else◌, List, ◌∷◌, [], refl, sym, subst, arith}
 use Rattle.std.proofs.lemmas.Bool.{eq-eqb, ne_eqb}
 use Rattle.std.proofs.lemmas.List.FromFn.{length-map-range_with_len}
 use Rattle.lacing.specs.declared.kind.Lace.TheVariants as lace
 use Rattle.output_model.specs.OutputBlock.{OutputBlock}
 use Rattle.output_model.specs.declared.heads.OutHead.{OutHead}
 use Rattle.generator.specs.Blocks.{counting, simple_block}
-use Rattle.generator.specs.Made.{HasParts, IsMade, simple_head}
+use Rattle.generator.specs.Made.{HasParts, IsMade}
 use Rattle.generator.proofs.MadeLemmas.{made-is}
 use Rattle.generator.proofs.blocks.sound.Goals as goal
 

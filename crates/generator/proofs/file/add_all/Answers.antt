@@ -1,11 +1,8 @@
-use Rattle.std.proofs.Common.{◌≡◌, ◌≤◌, ◌+◌, ℕ, List, ◌∷◌, [], Ok, Err, refl, sym, ◌∙◌, ap, subst, arith}
+use Rattle.std.proofs.Common.{◌≤◌, ◌+◌, List, refl, ◌∙◌, subst, arith}
 use Rattle.std.proofs.lemmas.Result.{err_from_is_err_and}
-use Rattle.mkv_io.specs.Names.{Names}
 use Rattle.mkv_io.proofs.EndsLemmas.{HasRemuxCause-then}
 use Rattle.mkv_io.proofs.WritingLemmas.{WritesOnly-none}
 use Rattle.output_model.specs.OutputBlock.{OutputBlock}
-use Rattle.output_model.specs.Document.{Document}
-use Rattle.generator.specs.Files.{rule_of}
 use Rattle.generator.specs.Writing.{IsOnTheWay}
 use Rattle.generator.proofs.FileLemmas.{all-left, lane_left, next-left, none-left, rest-added, writes-then}
 use Rattle.generator.proofs.file.add_all.Goals as goal

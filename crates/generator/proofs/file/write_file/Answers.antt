@@ -1,11 +1,10 @@
-use Rattle.std.proofs.Common.{◌≤◌, ℕ, List, [], ◌∷◌, Ok, Err, refl, sym, ◌∙◌, ap, subst, arith}
+use Rattle.std.proofs.Common.{[], ◌∷◌, Ok, Err, sym, ◌∙◌, subst, arith}
 use Rattle.std.proofs.lemmas.Result.{err_from_is_err_and}
 use Rattle.mkv_io.specs.Names.{Names}
 use Rattle.mkv_io.specs.Sources.{live_files}
 use Rattle.mkv_outputs.specs.Drafts.{StandsInTurn}
 use Rattle.mkv_outputs.proofs.DraftsLemmas.{StandsInTurn-none}
 use Rattle.cues_seekhead.specs.Draft.{draft_of}
-use Rattle.tree_format.specs.Node.{id_of}
 use Rattle.remuxer.proofs.OutputLemmas.{abandoned-keeps, drafted-in_turn, finished-keeps}
 use Rattle.remuxer.proofs.ShortLemmas.{HoldsOfFiles}
 use Rattle.generator.specs.Files.{file_of}

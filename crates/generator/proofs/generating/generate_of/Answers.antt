@@ -1,5 +1,5 @@
 use Rattle.std.proofs.Common.{◌+◌, ◌≤◌, ◌≢◌, refl, sym, subst}
-use Rattle.mkv_lines.specs.Seen.{seen}
+use Rattle.mkv_lines.specs.Command.{seen_in}
 use Rattle.mkv_lines.specs.Verdict.{Reaches}
 use Rattle.mkv_lines.proofs.VerdictLemmas.{IsStopped-before}
 use Rattle.generator.specs.declared.names.Names as own
@@ -14,13 +14,13 @@ generate-requires-clause-apart g c = subst (λ (names : own.Names). names.pictur
 -- the files were made
 pub returns-in-Ok-clause-verdict : goal.returns-in-Ok-clause-verdict
 returns-in-Ok-clause-verdict g c = λ world told.
-    subst (λ (names : own.Names). Reaches (seen g.F.Reads g.F.Files.writing_faults g.F.Files.names g.P.Report c.args.files.now c.args.report.now)
-    (seen g.F.Reads g.F.Files.writing_faults g.F.Files.names g.P.Report c.generate.new.files c.generate.new.report) c.generate.result (verdict_of c.args.n names)) c.in-Ok.ensures (c.generate.ensures.verdict world told)
+    subst (λ (names : own.Names). Reaches (seen_in g.F.Reads g.F.Files g.P.Report c.args.files.now c.args.report.now)
+    (seen_in g.F.Reads g.F.Files g.P.Report c.generate.new.files c.generate.new.report) c.generate.result (verdict_of c.args.n names)) c.in-Ok.ensures (c.generate.ensures.verdict world told)
 
 -- there is no memory for the names
 pub returns-in-Err-clause-verdict : goal.returns-in-Err-clause-verdict
 returns-in-Err-clause-verdict g c = λ world told.
-    let still = seen g.F.Reads g.F.Files.writing_faults g.F.Files.names g.P.Report c.args.files.now c.args.report.now in
+    let still = seen_in g.F.Reads g.F.Files g.P.Report c.args.files.now c.args.report.now in
     IsStopped-before still still (generate_verdict c.args.n c.args.prefix.now) refl refl
 
 -- how much is read

@@ -7,7 +7,7 @@ use Rattle.extractors.specs.Cues.{cues_outputs}
 use Rattle.extractors.specs.Source.{entries_in, entry_in}
 use Rattle.mkv_lines.specs.Line.{no_track_line, wrote_line}
 use Rattle.mkv_lines.specs.Said.{Says}
-use Rattle.mkv_lines.specs.Seen.{seen}
+use Rattle.mkv_lines.specs.Command.{seen_in}
 use Rattle.mkv_lines.specs.declared.status.Status.{Status}
 use Rattle.mkv_extract.specs.Extract.{has_absent, held_status, outline_lines}
 use Rattle.mkv_extract.specs.Told.{written}
@@ -20,8 +20,8 @@ returns-in_err-say_absent-clause-verdict g c =
     let p = err_from_is_err_and c.from_residual.result c.from_residual.ensures.1 in
     let source = c.args.source.now in
     rw p.1
-    (targets-begun (seen g.F.Reads g.F.Files.writing_faults g.F.Files.names g.P.Report c.args.files.now c.args.report.now)
-    (seen g.F.Reads g.F.Files.writing_faults g.F.Files.names g.P.Report c.args.files.now c.say_absent.new.report)
+    (targets-begun (seen_in g.F.Reads g.F.Files g.P.Report c.args.files.now c.args.report.now)
+    (seen_in g.F.Reads g.F.Files g.P.Report c.args.files.now c.say_absent.new.report)
     p.0 c.args.name.now (no_track_line c.args.name.now) (length source.tracks) c.len-count.result c.args.targets.now (cues_outputs (scale_of_info source.info) source.cues c.args.targets.now (entries_in source)) source.outline.damage
     c.len-count.ensures c.in_err-say_absent.ensures.said refl)
 
@@ -29,8 +29,8 @@ returns-in_err-say_absent-clause-verdict g c =
 pub returns-in-Err-clause-verdict : goal.returns-in-Err-clause-verdict
 returns-in-Err-clause-verdict g c =
     let source = c.args.source.now in
-    targets-stopped (seen g.F.Reads g.F.Files.writing_faults g.F.Files.names g.P.Report c.args.files.now c.args.report.now)
-    (seen g.F.Reads g.F.Files.writing_faults g.F.Files.names g.P.Report c.write_cues.new.files c.say_absent.new.report)
+    targets-stopped (seen_in g.F.Reads g.F.Files g.P.Report c.args.files.now c.args.report.now)
+    (seen_in g.F.Reads g.F.Files g.P.Report c.write_cues.new.files c.say_absent.new.report)
     c.stop_of.result c.args.name.now (no_track_line c.args.name.now) (length source.tracks) c.len-count.result c.args.targets.now (cues_outputs (scale_of_info source.info) source.cues c.args.targets.now (entries_in source)) source.outline.damage
     c.len-count.ensures c.in_ok-say_absent.ensures.said c.in-Err.ensures.writes
 
@@ -41,8 +41,8 @@ returns-clause-verdict g c =
     let name = c.args.name.now in
     let targets = c.args.targets.now in
     let count = c.len-count.result in
-    targets-told (seen g.F.Reads g.F.Files.writing_faults g.F.Files.names g.P.Report c.args.files.now c.args.report.now)
-    (seen g.F.Reads g.F.Files.writing_faults g.F.Files.names g.P.Report c.write_cues.new.files c.tell_held.new.report)
+    targets-told (seen_in g.F.Reads g.F.Files g.P.Report c.args.files.now c.args.report.now)
+    (seen_in g.F.Reads g.F.Files g.P.Report c.write_cues.new.files c.tell_held.new.report)
     (g.P.Report.lines c.say_absent.new.report) c.tell_held.result name (no_track_line name) (length source.tracks) count targets (cues_outputs (scale_of_info source.info) source.cues targets (entries_in source)) source.outline.damage
     (cues-names (scale_of_info source.info) source.cues targets (entries_in source) ∙ ap (λ (n : ℕ). written n targets) (length-map source.tracks entry_in))
     c.len-count.ensures c.in_ok-say_absent.ensures.said

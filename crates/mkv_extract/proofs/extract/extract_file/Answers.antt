@@ -1,9 +1,10 @@
-use Rattle.std.proofs.Common.{◌≡◌, Some, refl, sym, ◌∙◌, ap, subst}
+use Rattle.std.proofs.Common.{◌≡◌, Some, refl, sym, ◌∙◌, ap, subst, rules}
 use Rattle.mkv_io.specs.declared.outside.FileId.{FileId}
 use Rattle.mkv_io.specs.Sources.{live_files}
 use Rattle.extractors.specs.Source.{events_in}
 use Rattle.mkv_lines.specs.Faults.{Counts, HasStopCause}
-use Rattle.mkv_lines.specs.Seen.{Seen, seen}
+use Rattle.mkv_lines.specs.Command.{seen_in}
+use Rattle.mkv_lines.specs.Seen.{Seen}
 use Rattle.mkv_lines.specs.Verdict.{Reaches, Verdict}
 use Rattle.mkv_lines.proofs.VerdictLemmas.{IsStopped-before}
 use Rattle.mkv_extract.specs.Extract.{job_verdict, read_verdict}
@@ -13,14 +14,14 @@ use Rattle.mkv_extract.proofs.extract.extract_file.Goals as goal
 -- the file couldn't be read
 pub returns-in-Err-ReadFault-clause-verdict : goal.returns-in-Err-ReadFault-clause-verdict
 returns-in-Err-ReadFault-clause-verdict g c = λ bytes told.
-    IsStopped-before (seen g.F.Reads g.F.Files.writing_faults g.F.Files.names g.P.Report c.args.files.now c.args.report.now)
-    (seen g.F.Reads g.F.Files.writing_faults g.F.Files.names g.P.Report c.read_source.new.src c.args.report.now)
+    IsStopped-before (seen_in g.F.Reads g.F.Files g.P.Report c.args.files.now c.args.report.now)
+    (seen_in g.F.Reads g.F.Files g.P.Report c.read_source.new.src c.args.report.now)
     (read_verdict c.args.name.now c.args.job.now bytes (read_of c.args.job.now bytes)) refl (g.met.F.Files.names_stand c.read_source.new.src c.args.files.now c.in-Err-ReadFault.ensures.reads.standing)
 
 pub returns-in-Err-Memory-clause-verdict : goal.returns-in-Err-Memory-clause-verdict
 returns-in-Err-Memory-clause-verdict g c = λ bytes told.
-    IsStopped-before (seen g.F.Reads g.F.Files.writing_faults g.F.Files.names g.P.Report c.args.files.now c.args.report.now)
-    (seen g.F.Reads g.F.Files.writing_faults g.F.Files.names g.P.Report c.read_source.new.src c.args.report.now)
+    IsStopped-before (seen_in g.F.Reads g.F.Files g.P.Report c.args.files.now c.args.report.now)
+    (seen_in g.F.Reads g.F.Files g.P.Report c.read_source.new.src c.args.report.now)
     (read_verdict c.args.name.now c.args.job.now bytes (read_of c.args.job.now bytes)) refl (g.met.F.Files.names_stand c.read_source.new.src c.args.files.now c.in-Err-Memory.ensures.reads.standing)
 
 -- reading leaves all as it was
@@ -39,9 +40,9 @@ returns-in-Ok-clause-verdict g c = λ bytes told.
     ap (λ s. (g.F.Reads.files s).content source.file.n) standing ∙ ap (λ (file : FileId). (live_files g.F.Reads old).content file.n) c.in-Ok.ensures.file ∙ told in
     let read : job_verdict name job bytes (read_in source) (events_in source bytes) ≡ read_verdict name job bytes _ =
     ap (job_verdict name job bytes (read_in source)) (c.in-Ok.ensures.events bytes told) ∙ ap (read_verdict name job bytes) (sym (c.in-Ok.ensures.exact bytes told)) in
-    let before : Seen = seen g.F.Reads g.F.Files.writing_faults g.F.Files.names g.P.Report old c.args.report.now in
-    let after : Seen = seen g.F.Reads g.F.Files.writing_faults g.F.Files.names g.P.Report c.extract_job.new.files c.extract_job.new.report in
-    let same : seen g.F.Reads g.F.Files.writing_faults g.F.Files.names g.P.Report mid c.args.report.now ≡ before =
+    let before : Seen = seen_in g.F.Reads g.F.Files g.P.Report old c.args.report.now in
+    let after : Seen = seen_in g.F.Reads g.F.Files g.P.Report c.extract_job.new.files c.extract_job.new.report in
+    let same : seen_in g.F.Reads g.F.Files g.P.Report mid c.args.report.now ≡ before =
     λ i. record {
       counts = record { reading = reading i; writing = writing i; report = g.P.Report.faults c.args.report.now };
       lines = g.P.Report.lines c.args.report.now;
@@ -50,13 +51,17 @@ returns-in-Ok-clause-verdict g c = λ bytes told.
     subst (λ (v : Verdict). Reaches before after c.extract_job.result v) read
     (subst (λ (s : Seen). Reaches s after c.extract_job.result (job_verdict name job bytes (read_in source) (events_in source bytes))) same (c.extract_job.ensures.verdict bytes there))
 
-pub returns-in-Ok-clause-cause : goal.returns-in-Ok-clause-cause
-returns-in-Ok-clause-cause g c =
+pub returns-in-Ok-clause-ended : goal.returns-in-Ok-clause-ended
+returns-in-Ok-clause-ended g c =
     let old = c.args.files.now in
     let mid = c.read_source.new.src in
     let reading : g.F.Reads.reading_faults mid ≡ g.F.Reads.reading_faults old = c.in-Ok.ensures.cause in
     let writing : g.F.Files.writing_faults mid ≡ g.F.Files.writing_faults old = g.met.F.Files.writing_stands mid old c.in-Ok.ensures.reads.standing in
-    let after : Counts = (seen g.F.Reads g.F.Files.writing_faults g.F.Files.names g.P.Report c.extract_job.new.files c.extract_job.new.report).counts in
-    let same : (seen g.F.Reads g.F.Files.writing_faults g.F.Files.names g.P.Report mid c.args.report.now).counts ≡ (seen g.F.Reads g.F.Files.writing_faults g.F.Files.names g.P.Report old c.args.report.now).counts =
+    let after : Counts = (seen_in g.F.Reads g.F.Files g.P.Report c.extract_job.new.files c.extract_job.new.report).counts in
+    let same : (seen_in g.F.Reads g.F.Files g.P.Report mid c.args.report.now).counts ≡ (seen_in g.F.Reads g.F.Files g.P.Report old c.args.report.now).counts =
     λ i. record { reading = reading i; writing = writing i; report = g.P.Report.faults c.args.report.now } in
-    subst (λ (counts : Counts). HasStopCause counts after c.extract_job.result) same c.extract_job.ensures.cause
+    record {
+      ordinary = search rules;
+      live = search rules;
+      cause = subst (λ (counts : Counts). HasStopCause counts after c.extract_job.result) same c.extract_job.ensures.ended.cause;
+    }

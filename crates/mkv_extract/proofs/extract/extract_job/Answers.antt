@@ -1,31 +1,20 @@
 use Rattle.std.proofs.Common.{subst}
-use Rattle.mkv_io.specs.Names.{AreApart, AreOthers}
-use Rattle.mkv_lines.specs.Seen.{seen}
+use Rattle.mkv_lines.specs.Command.{seen_in}
 use Rattle.mkv_lines.specs.Verdict.{Reaches, Verdict}
 use Rattle.extractors.specs.Source.{events_in}
 use Rattle.mkv_extract.specs.Read.{read_in}
-use Rattle.mkv_extract.proofs.ExtractLemmas.{names-job, taken-job, verdict-job}
+use Rattle.mkv_extract.proofs.ExtractLemmas.{taken-job, verdict-job}
 use Rattle.mkv_extract.proofs.extract.extract_job.Goals as goal
 
 -- it takes something of tracks
 pub extract_fit-requires-clause-takes : goal.extract_fit-requires-clause-takes
 extract_fit-requires-clause-takes g c = taken-job c.args.job.now _ _ c.in-Tracks.is
 
-pub extract_fit-requires-clause-apart : goal.extract_fit-requires-clause-apart
-extract_fit-requires-clause-apart g c =
-    let some = taken-job c.args.job.now _ _ c.in-Tracks.is in
-    subst AreApart (names-job c.args.job.now some) c.requires.job.apart
-
-pub extract_fit-requires-clause-other : goal.extract_fit-requires-clause-other
-extract_fit-requires-clause-other g c =
-    let some = taken-job c.args.job.now _ _ c.in-Tracks.is in
-    subst (AreOthers (g.F.Files.holder c.args.files.now c.args.source.now.file.n)) (names-job c.args.job.now some) c.requires.other
-
 pub returns-in-Tracks-clause-verdict : goal.returns-in-Tracks-clause-verdict
 returns-in-Tracks-clause-verdict g c = λ bytes told.
     let some = taken-job c.args.job.now _ _ c.in-Tracks.is in
     subst (λ (v : Verdict). Reaches
-    (seen g.F.Reads g.F.Files.writing_faults g.F.Files.names g.P.Report c.args.files.now c.args.report.now)
-    (seen g.F.Reads g.F.Files.writing_faults g.F.Files.names g.P.Report c.extract_fit.new.files c.extract_fit.new.report) c.extract_fit.result v)
+    (seen_in g.F.Reads g.F.Files g.P.Report c.args.files.now c.args.report.now)
+    (seen_in g.F.Reads g.F.Files g.P.Report c.extract_fit.new.files c.extract_fit.new.report) c.extract_fit.result v)
     (verdict-job c.args.name.now c.args.job.now bytes (read_in c.args.source.now) (events_in c.args.source.now bytes) some)
     (c.extract_fit.ensures.verdict bytes told)

@@ -1,7 +1,7 @@
 use Rattle.std.proofs.Common.{refl}
 use Rattle.std.proofs.lemmas.Result.{err_from_is_err_and}
 use Rattle.sidecar_edit.specs.Pending.{is_pending}
-use Rattle.mkv_lines.specs.Seen.{seen}
+use Rattle.mkv_lines.specs.Command.{seen_in}
 use Rattle.mkv_lines.specs.Verdict.{unless_pending}
 use Rattle.mkv_lines.proofs.VerdictLemmas.{IsStopped-before}
 use Rattle.mkv_extract.specs.Extract.{read_verdict}
@@ -15,7 +15,7 @@ returns-in_err-is_pending-clause-verdict g c = λ world told bytes is.
     let name = c.args.name.now in
     let job = c.args.job.now in
     rw p.1
-    (IsStopped-before (seen g.F.Reads g.F.Files.writing_faults g.F.Files.names g.P.Report c.args.files.now c.args.report.now)
-    (seen g.F.Reads g.F.Files.writing_faults g.F.Files.names g.P.Report c.is_pending.new.files c.args.report.now)
+    (IsStopped-before (seen_in g.F.Reads g.F.Files g.P.Report c.args.files.now c.args.report.now)
+    (seen_in g.F.Reads g.F.Files g.P.Report c.is_pending.new.files c.args.report.now)
     (unless_pending name (is_pending world name) (read_verdict name job bytes (read_of job bytes)))
     refl c.is_pending.ensures.looks.names)

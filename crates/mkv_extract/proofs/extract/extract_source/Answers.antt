@@ -1,20 +1,29 @@
-use Rattle.std.proofs.Common.{refl, ap}
+use Rattle.std.proofs.Common.{refl, ap, subst}
 use Rattle.std.proofs.lemmas.Result.{err_from_is_err_and}
+use Rattle.mkv_io.specs.Names.{AreApart, AreOthers}
 use Rattle.block_format.specs.Events.{blocks_of, damages_of}
 use Rattle.extractors.specs.BadFrames.{bad_frames}
 use Rattle.extractors.specs.Source.{events_in, outputs_in}
 use Rattle.extractors.specs.declared.extracted.Extracted.{Extracted}
-use Rattle.mkv_lines.specs.Seen.{seen}
-use Rattle.mkv_extract.proofs.ExtractLemmas.{taken-begun, taken-told}
+use Rattle.mkv_lines.specs.Command.{seen_in}
+use Rattle.mkv_extract.proofs.ExtractLemmas.{names-job, taken-begun, taken-told}
 use Rattle.mkv_extract.proofs.extract.extract_source.Goals as goal
+
+-- the outputs have the names of the targets
+pub extract-requires-clause-apart : goal.extract-requires-clause-apart
+extract-requires-clause-apart g c = subst AreApart (names-job c.args.job.now c.requires.takes) c.requires.can.done.apart
+
+pub extract-requires-clause-other : goal.extract-requires-clause-other
+extract-requires-clause-other g c =
+    subst (AreOthers (g.F.Files.holder c.args.files.now c.args.source.now.file.n)) (names-job c.args.job.now c.requires.takes) c.requires.can.other
 
 -- a warning of a track that isn't there couldn't be said
 pub returns-in_err-say_absent-clause-verdict : goal.returns-in_err-say_absent-clause-verdict
 returns-in_err-say_absent-clause-verdict g c = λ bytes told.
     let p = err_from_is_err_and c.from_residual.result c.from_residual.ensures.1 in
     rw p.1
-    (taken-begun (seen g.F.Reads g.F.Files.writing_faults g.F.Files.names g.P.Report c.args.files.now c.args.report.now)
-    (seen g.F.Reads g.F.Files.writing_faults g.F.Files.names g.P.Report c.args.files.now c.say_absent.new.report)
+    (taken-begun (seen_in g.F.Reads g.F.Files g.P.Report c.args.files.now c.args.report.now)
+    (seen_in g.F.Reads g.F.Files g.P.Report c.args.files.now c.say_absent.new.report)
     p.0 c.args.name.now c.args.job.now c.args.source.now.tracks (events_in c.args.source.now bytes) c.targets_of-targets.result.now c.len-count.result
     c.targets_of-targets.ensures c.len-count.ensures c.in_err-say_absent.ensures.said refl)
 
@@ -24,8 +33,8 @@ returns-clause-verdict g c = λ bytes told.
     let events = events_in c.args.source.now bytes in
     let list = outputs_in c.args.source.now c.args.job.now in
     let tells = c.in-Ok.ensures.tells bytes told in
-    taken-told (seen g.F.Reads g.F.Files.writing_faults g.F.Files.names g.P.Report c.args.files.now c.args.report.now)
-    (seen g.F.Reads g.F.Files.writing_faults g.F.Files.names g.P.Report c.extract.new.files c.tell.new.report)
+    taken-told (seen_in g.F.Reads g.F.Files g.P.Report c.args.files.now c.args.report.now)
+    (seen_in g.F.Reads g.F.Files g.P.Report c.extract.new.files c.tell.new.report)
     (g.P.Report.lines c.say_absent.new.report) c.tell.result c.args.name.now c.args.job.now c.args.source.now.tracks events c.targets_of-targets.result.now c.len-count.result c.in-Ok.extracted
     c.requires.takes c.requires.fit c.targets_of-targets.ensures c.len-count.ensures tells c.in_ok-say_absent.ensures.said c.tell.ensures.said
     (c.tell.ensures.status (damages_of events) (bad_frames list (blocks_of events)) (ap (λ (e : Extracted). e.damages) tells) (ap (λ (e : Extracted). e.bad_frames) tells))

@@ -1,6 +1,6 @@
 use Rattle.std.proofs.Common.{refl, ◌∙◌}
 use Rattle.sidecar_edit.specs.Pending.{is_pending}
-use Rattle.mkv_lines.specs.Seen.{seen}
+use Rattle.mkv_lines.specs.Command.{seen_in}
 use Rattle.mkv_lines.proofs.VerdictLemmas.{IsStopped-before}
 use Rattle.mkv_info.specs.Info.{info_verdict}
 use Rattle.mkv_info.proofs.InfoLemmas.{reaches-settled}
@@ -9,14 +9,14 @@ use Rattle.mkv_info.proofs.info.info_of.Goals as goal
 -- the file couldn't be opened
 pub returns-in-Err-Failed-clause-verdict : goal.returns-in-Err-Failed-clause-verdict
 returns-in-Err-Failed-clause-verdict g c = λ world told.
-    IsStopped-before (seen g.F.Reads g.F.Files.writing_faults g.F.Files.names g.P.Report c.args.files.now c.args.report.now)
-    (seen g.F.Reads g.F.Files.writing_faults g.F.Files.names g.P.Report c.open_file.new.self c.args.report.now)
+    IsStopped-before (seen_in g.F.Reads g.F.Files g.P.Report c.args.files.now c.args.report.now)
+    (seen_in g.F.Reads g.F.Files g.P.Report c.open_file.new.self c.args.report.now)
     (info_verdict c.args.form world c.args.name.now) refl c.open_file.ensures.names
 
 pub returns-in-Err-Memory-clause-verdict : goal.returns-in-Err-Memory-clause-verdict
 returns-in-Err-Memory-clause-verdict g c = λ world told.
-    IsStopped-before (seen g.F.Reads g.F.Files.writing_faults g.F.Files.names g.P.Report c.args.files.now c.args.report.now)
-    (seen g.F.Reads g.F.Files.writing_faults g.F.Files.names g.P.Report c.open_file.new.self c.args.report.now)
+    IsStopped-before (seen_in g.F.Reads g.F.Files g.P.Report c.args.files.now c.args.report.now)
+    (seen_in g.F.Reads g.F.Files g.P.Report c.open_file.new.self c.args.report.now)
     (info_verdict c.args.form world c.args.name.now) refl c.open_file.ensures.names
 
 -- the file was there
@@ -24,8 +24,8 @@ pub returns-clause-verdict : goal.returns-clause-verdict
 returns-clause-verdict g c = λ world told.
     let name = c.args.name.now in
     let opened = c.open_file.ensures.names in
-    reaches-settled (seen g.F.Reads g.F.Files.writing_faults g.F.Files.names g.P.Report c.args.files.now c.args.report.now)
-    (seen g.F.Reads g.F.Files.writing_faults g.F.Files.names g.P.Report c.close.new.self c.tell_settled-ended.new.report)
+    reaches-settled (seen_in g.F.Reads g.F.Files g.P.Report c.args.files.now c.args.report.now)
+    (seen_in g.F.Reads g.F.Files g.P.Report c.close.new.self c.tell_settled-ended.new.report)
     c.tell_settled-ended.result c.args.form name (is_pending world name) (world name)
     (λ none. let refused = (c.in-Ok.ensures.missing world told).1 none in absurd (cc))
     (λ bytes is. c.tell_settled-ended.ensures.verdict world (opened ∙ told) bytes (c.in-Ok.ensures.content world told ∙ is))

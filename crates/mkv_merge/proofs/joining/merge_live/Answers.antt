@@ -23,7 +23,7 @@ pub returns-in-Ok-clause-merges : goal.returns-in-Ok-clause-merges
 returns-in-Ok-clause-merges g c = λ contents told.
     let old = c.args.files.now in
     let mid = c.prepare.new.src in
-    let standing = c.in-Ok.ensures.standing in
+    let standing = c.in-Ok.ensures.reading.standing in
     let same : live_files g.F.Reads mid ≡ live_files g.F.Reads old = ap g.F.Reads.files standing in
     let names : g.F.Files.names mid ≡ g.F.Files.names old = g.met.F.Files.names_stand mid old standing in
     let plain = ap (λ (times : List TimesFile). let texts : TextFiles = record { chapters = Absent; times = times } in sources_with c.args.words.now texts contents) c.new.ensures in
@@ -36,13 +36,13 @@ pub returns-in-Err-Refused-clause-merges : goal.returns-in-Err-Refused-clause-me
 returns-in-Err-Refused-clause-merges g c = λ contents told.
     let plain = ap (λ (times : List TimesFile). let texts : TextFiles = record { chapters = Absent; times = times } in sources_with c.args.words.now texts contents) c.new.ensures in
     let why = rw c.in-Err-Refused.field-0-is at (c.in-Err-Refused.ensures.exact contents told) in
-    rw c.in-Err-Refused.field-0-is (sym plain ∙ why, g.met.F.Files.names_stand c.prepare.new.src c.args.files.now c.in-Err-Refused.ensures.standing)
+    rw c.in-Err-Refused.field-0-is (sym plain ∙ why, g.met.F.Files.names_stand c.prepare.new.src c.args.files.now c.in-Err-Refused.ensures.reading.standing)
 
 -- an input couldn't be read
 pub returns-in-Err-Stopped-clause-merges : goal.returns-in-Err-Stopped-clause-merges
 returns-in-Err-Stopped-clause-merges g c = λ contents told.
     merges-begun (g.F.Files.names c.args.files.now) (g.F.Files.names c.prepare.new.src) c.args.words.now (sources_with c.args.words.now no_texts contents) c.from.result
-    (g.met.F.Files.names_stand c.prepare.new.src c.args.files.now c.in-Err-Stopped.ensures.standing)
+    (g.met.F.Files.names_stand c.prepare.new.src c.args.files.now c.in-Err-Stopped.ensures.reading.standing)
 
 -- ---- how much is read
 
@@ -54,7 +54,7 @@ returns-in-Ok-clause-octets g c = λ contents told.
     let mid = c.prepare.new.src in
     let p = c.in-Ok.prepared in
     let now = live_files g.F.Reads mid in
-    let same : now ≡ live_files g.F.Reads old = ap g.F.Reads.files c.in-Ok.ensures.standing in
+    let same : now ≡ live_files g.F.Reads old = ap g.F.Reads.files c.in-Ok.ensures.reading.standing in
     let plain = ap (λ (times : List TimesFile). let texts : TextFiles = record { chapters = Absent; times = times } in sources_with words texts contents) c.new.ensures in
     let sources = zip contents (reads_in p.inputs) in
     let many = many-inputs g.F.Reads g.F.Files old words ids p.inputs c.requires.inputs c.in-Ok.ensures.prepared.inputs.of in

@@ -40,9 +40,6 @@ returns-in-Ok-clause-verdict g c = λ world told.
     (subst (λ (v : Verdict). Reaches read now c.merge_beside.result v) (ap (verdict_of words) (sym sources))
     (c.merge_beside.ensures.verdict world (looks.names ∙ told)))
 
-pub returns-in-Ok-clause-live : goal.returns-in-Ok-clause-live
-returns-in-Ok-clause-live g c = λ file. c.merge_beside.ensures.live file ∙ c.read_text_files.ensures.looks.kept.live file
-
 -- a text file couldn't be read
 pub returns-in-Err-read_text_files-clause-verdict : goal.returns-in-Err-read_text_files-clause-verdict
 returns-in-Err-read_text_files-clause-verdict g c = λ world told.

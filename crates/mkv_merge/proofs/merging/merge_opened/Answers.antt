@@ -18,12 +18,12 @@ pub returns-in-Ok-clause-verdict : goal.returns-in-Ok-clause-verdict
 returns-in-Ok-clause-verdict g c = λ contents told.
     let old = c.args.files.now in
     let mid = c.prepare.new.src in
-    let standing : g.F.Reads.standing mid ≡ g.F.Reads.standing old = c.in-Ok.ensures.standing in
+    let standing : g.F.Reads.standing mid ≡ g.F.Reads.standing old = c.in-Ok.ensures.reading.standing in
     let same : live_files g.F.Reads mid ≡ live_files g.F.Reads old = ap g.F.Reads.files standing in
     let was = seen g.F.Reads g.F.Files.writing_faults g.F.Files.names g.P.Report old c.args.report.now in
     let read = seen g.F.Reads g.F.Files.writing_faults g.F.Files.names g.P.Report mid c.args.report.now in
     let now = seen g.F.Reads g.F.Files.writing_faults g.F.Files.names g.P.Report c.write.new.files c.write.new.report in
-    let reading : g.F.Reads.reading_faults mid ≡ g.F.Reads.reading_faults old = c.in-Ok.ensures.cause in
+    let reading : g.F.Reads.reading_faults mid ≡ g.F.Reads.reading_faults old = c.in-Ok.ensures.reading.cause in
     let writing : g.F.Files.writing_faults mid ≡ g.F.Files.writing_faults old = g.met.F.Files.writing_stands mid old standing in
     let names : g.F.Files.names mid ≡ g.F.Files.names old = g.met.F.Files.names_stand mid old standing in
     let nothing : read ≡ was = λ i. record {
@@ -43,7 +43,7 @@ returns-in-Err-Stopped-clause-verdict g c = λ contents told.
     let mid = c.prepare.new.src in
     IsStopped-before (seen g.F.Reads g.F.Files.writing_faults g.F.Files.names g.P.Report old c.args.report.now)
     (seen g.F.Reads g.F.Files.writing_faults g.F.Files.names g.P.Report mid c.args.report.now)
-    (verdict_of words (sources_with words c.args.texts contents)) refl (g.met.F.Files.names_stand mid old c.in-Err-Stopped.ensures.standing)
+    (verdict_of words (sources_with words c.args.texts contents)) refl (g.met.F.Files.names_stand mid old c.in-Err-Stopped.ensures.reading.standing)
 
 -- ---- how much is read
 
@@ -55,7 +55,7 @@ returns-in-Ok-clause-octets g c = λ contents told.
     let mid = c.prepare.new.src in
     let p = c.in-Ok.prepared in
     let now = live_files g.F.Reads mid in
-    let same : now ≡ live_files g.F.Reads old = ap g.F.Reads.files c.in-Ok.ensures.standing in
+    let same : now ≡ live_files g.F.Reads old = ap g.F.Reads.files c.in-Ok.ensures.reading.standing in
     let sources = zip contents (reads_in p.inputs) in
     let many = many-inputs g.F.Reads g.F.Files old words ids p.inputs c.requires.inputs c.in-Ok.ensures.prepared.inputs.of in
     let is = merge-is now words ids contents p c.in-Ok.ensures.prepared (subst (λ (f : LiveFiles). AreTold f ids contents) (sym same) told) many in
@@ -71,14 +71,14 @@ returns-in-Ok-clause-readable g c = λ world named contents told.
     let old = c.args.files.now in
     let p = c.in-Ok.prepared in
     let now = live_files g.F.Reads c.prepare.new.src in
-    let same : now ≡ live_files g.F.Reads old = ap g.F.Reads.files c.in-Ok.ensures.standing in
+    let same : now ≡ live_files g.F.Reads old = ap g.F.Reads.files c.in-Ok.ensures.reading.standing in
     let sources = zip contents (reads_in p.inputs) in
     let many = many-inputs g.F.Reads g.F.Files old words ids p.inputs c.requires.inputs c.in-Ok.ensures.prepared.inputs.of in
     let mid-told : AreTold now ids contents = subst (λ (f : LiveFiles). AreTold f ids contents) (sym same) told in
     let is = merge-is now words ids contents p c.in-Ok.ensures.prepared mid-told many in
     readable-found words (sources_with words c.args.texts contents) sources c.write.result (c.in-Ok.ensures.exact contents told)
     (records-are now words p.inputs p.plan sources is c.in-Ok.ensures.prepared.written)
-    (c.write.ensures.short world (g.met.F.Files.names_stand c.prepare.new.src old c.in-Ok.ensures.standing ∙ named) contents mid-told)
+    (c.write.ensures.short world (g.met.F.Files.names_stand c.prepare.new.src old c.in-Ok.ensures.reading.standing ∙ named) contents mid-told)
 
 -- refused
 pub returns-in-Err-Refused-clause-readable : goal.returns-in-Err-Refused-clause-readable

@@ -19,7 +19,7 @@ pub read_one-requires-clause-delays : goal.read_one-requires-clause-delays
 read_one-requires-clause-delays g c =
     let w = c.index-as_slice-input.result in
     let is : w ≡ get_or c.args.words.now.files c.loop-input.input w = c.index-as_slice-input.is ∙ ap (λ (files : List FileWords). get_or files c.loop-input.input w) c.as_slice.ensures in
-    subst IsSoundFile (sym is) (c.requires.sound.each c.loop-input.input w (omega arith))
+    subst IsSoundFile (sym is) (c.requires.ready.sound.each c.loop-input.input w (omega arith))
 
 -- what refuses the input refuses all
 pub returns-in_err-read-clause-exact : goal.returns-in_err-read-clause-exact
@@ -27,7 +27,7 @@ returns-in_err-read-clause-exact g c = λ contents told.
     let p = err_from_is_err_and c.from_residual.result c.from_residual.ensures.1 in
     let w = c.index-as_slice-input.result in
     rw (p.1, p.2) (refused-at (live_files g.R.Reads c.args.src.now) c.args.words.now c.args.files.now contents c.loop-input.input c.loop-input.held (reads_in c.loop-input.inputs) w (record { n = 0 }) c.in_err-read.field-0.0
-    c.requires.each c.loop-input-test.true
+    c.requires.ready.each c.loop-input-test.true
     (c.index-as_slice-input.is ∙ ap (λ (files : List FileWords). get_or files c.loop-input.input w) c.as_slice.ensures) told
     (λ bytes is. c.in_err-read.ensures.exact bytes (ap (λ standing. (g.R.Reads.files standing).content (get_or c.args.files.now c.loop-input.input (record { n = 0 })).n) c.loop-input.invariant.standing ∙ is))
     (c.loop-input.invariant.goes_on contents told))
@@ -61,7 +61,7 @@ pub loop-input-preserved : goal.loop-input-preserved
 loop-input-preserved g c = record {
   good = subst (All (IsInput (live_files g.R.Reads c.args.src.now))) (sym c.in_ok-push.ensures.ok)
       (All-push (IsInput (live_files g.R.Reads c.args.src.now)) c.loop-input.inputs c.in_ok-read.read c.loop-input.invariant.good
-      (subst (λ standing. IsInput (g.R.Reads.files standing) c.in_ok-read.read) (c.read_one.ensures.standing ∙ c.loop-input.invariant.standing) c.in_ok-read.ensures.input));
+      (subst (λ standing. IsInput (g.R.Reads.files standing) c.in_ok-read.read) (c.read_one.ensures.reading.standing ∙ c.loop-input.invariant.standing) c.in_ok-read.ensures.input));
   of = ap (map (λ (i : Input). i.file)) c.in_ok-push.ensures.ok
       ∙ files-more c.loop-input.inputs c.in_ok-read.read c.args.files.now c.loop-input.input (record { n = 0 }) c.loop-input-test.true c.in_ok-read.ensures.file.file c.loop-input.invariant.of;
   places = subst (All HasPlace) (sym c.in_ok-push.ensures.ok) (All-push HasPlace c.loop-input.inputs c.in_ok-read.read c.loop-input.invariant.places (read-place _ _ c.in_ok-read.read c.in_ok-read.ensures.file));
@@ -73,12 +73,12 @@ loop-input-preserved g c = record {
       (subst (λ (held : ℕ). GoesOn c.args.words.now contents (c.loop-input.input + 1) held (reads_in c.loop-input.inputs ++ read_in read ∷ []))
       (sym (c.saturating_add-held.ensures ∙ ap (counted c.loop-input.held) c.held_by.ensures))
       (read-at (live_files g.R.Reads c.args.src.now) c.args.words.now c.args.files.now contents c.loop-input.input c.loop-input.held (reads_in c.loop-input.inputs) w (record { n = 0 }) (read_in read)
-      c.requires.each c.loop-input-test.true
+      c.requires.ready.each c.loop-input-test.true
       (c.index-as_slice-input.is ∙ ap (λ (files : List FileWords). get_or files c.loop-input.input w) c.as_slice.ensures) told
       (λ bytes is. c.in_ok-read.ensures.exact bytes (ap (λ standing. (g.R.Reads.files standing).content (get_or c.args.files.now c.loop-input.input (record { n = 0 })).n) c.loop-input.invariant.standing ∙ is))
       (c.loop-input.invariant.goes_on contents told)));
-  standing = c.read_one.ensures.standing ∙ c.loop-input.invariant.standing;
-  faults = c.in_ok-read.ensures.cause ∙ c.loop-input.invariant.faults;
+  standing = c.read_one.ensures.reading.standing ∙ c.loop-input.invariant.standing;
+  faults = c.in_ok-read.ensures.reading.cause ∙ c.loop-input.invariant.faults;
   octets = pays-more (live_files g.R.Reads c.args.src.now) c.args.files.now c.loop-input.input (record { n = 0 }) (g.R.Reads.octets_read c.args.src.now) (g.R.Reads.octets_read c.loop-input.src) (g.R.Reads.octets_read c.read_one.new.src)
       (file_size g.R.Reads c.loop-input.src (get_or c.args.files.now c.loop-input.input (record { n = 0 }))) c.loop-input-test.true
       (ap (λ standing. (g.R.Reads.files standing).size (get_or c.args.files.now c.loop-input.input (record { n = 0 })).n) c.loop-input.invariant.standing)

@@ -1,5 +1,5 @@
 use Rattle.std.proofs.Common.{◌+◌, Result, refl, sym, subst}
-use Rattle.mkv_lines.specs.Seen.{seen}
+use Rattle.mkv_lines.specs.Command.{seen_in}
 use Rattle.mkv_lines.proofs.VerdictLemmas.{IsStopped-before}
 use Rattle.mkv_args.specs.Words.{command}
 use Rattle.mkv_args.specs.declared.command.Command.{Command}
@@ -14,7 +14,7 @@ use Rattle.mkv_run.proofs.running.carry_out.Goals as goal
 -- there was no memory for the words
 pub returns-in-Err-Memory-clause-verdict : goal.returns-in-Err-Memory-clause-verdict
 returns-in-Err-Memory-clause-verdict g c = λ v told.
-    let still = seen g.F.Reads g.F.Files.writing_faults g.F.Files.names g.R.Report c.args.files.now c.args.report.now in
+    let still = seen_in g.F.Reads g.F.Files g.R.Report c.args.files.now c.args.report.now in
     IsStopped-before still still v refl refl
 
 pub returns-in-Err-Memory-clause-touches : goal.returns-in-Err-Memory-clause-touches

@@ -2,7 +2,7 @@ use Rattle.std.proofs.Common.{◌+◌, ◌≤◌, List, ℕ, length, Option, Ok,
 use Rattle.mkv_io.specs.Told.{Told}
 use Rattle.mkv_disk.specs.Calls.{OfReads}
 use Rattle.mkv_lines.specs.Code.{status_of}
-use Rattle.mkv_lines.specs.Seen.{seen}
+use Rattle.mkv_lines.specs.Command.{seen_in}
 use Rattle.mkv_lines.specs.Verdict.{Reaches, SaysVerdict}
 use Rattle.mkv_lines.proofs.VerdictLemmas.{Reaches-lines}
 use Rattle.mkv_args.specs.Sound.{IsSound}
@@ -29,8 +29,8 @@ use Rattle.mkv_run.proofs.running.obey.Goals as goal
 pub returns-in-Recover-clause-verdict : goal.returns-in-Recover-clause-verdict
 returns-in-Recover-clause-verdict g c =
     let d = g.D.Disk in let a = c.args.disk.now in let file = c.in-Recover.file in let result = c.recover_of.result in
-    let old = seen g.F.Reads g.F.Files.writing_faults g.F.Files.names g.R.Report c.args.files.now c.args.report.now in
-    let new = seen g.F.Reads g.F.Files.writing_faults g.F.Files.names g.R.Report c.args.files.now c.recover_of.new.report in
+    let old = seen_in g.F.Reads g.F.Files g.R.Report c.args.files.now c.args.report.now in
+    let new = seen_in g.F.Reads g.F.Files g.R.Report c.args.files.now c.recover_of.new.report in
     let M = (d.pair a).media.reads in let S = (d.pair a).sidecar.reads in
     let says = subst (λ (name : List ℕ). OfReads d a (λ m s. SaysVerdict old.lines new.lines result (recover_verdict (d.is_there a name) name m s))) c.as_str-in-Recover.ensures.same c.recover_of.ensures.verdict in
     let reaches = verdict-told d a file (λ v. Reaches old new result v)
@@ -40,8 +40,8 @@ returns-in-Recover-clause-verdict g c =
 pub returns-in-Reindex-clause-verdict : goal.returns-in-Reindex-clause-verdict
 returns-in-Reindex-clause-verdict g c =
     let d = g.D.Disk in let a = c.args.disk.now in let file = c.in-Reindex.file in let result = c.reindex_of.result in
-    let old = seen g.F.Reads g.F.Files.writing_faults g.F.Files.names g.R.Report c.args.files.now c.args.report.now in
-    let new = seen g.F.Reads g.F.Files.writing_faults g.F.Files.names g.R.Report c.args.files.now c.reindex_of.new.report in
+    let old = seen_in g.F.Reads g.F.Files g.R.Report c.args.files.now c.args.report.now in
+    let new = seen_in g.F.Reads g.F.Files g.R.Report c.args.files.now c.reindex_of.new.report in
     let M = (d.pair a).media.reads in let S = (d.pair a).sidecar.reads in
     let says = subst (λ (name : List ℕ). OfReads d a (λ m s. SaysVerdict old.lines new.lines result (reindex_verdict (d.is_there a name) name m s))) c.as_str-in-Reindex.ensures.same c.reindex_of.ensures.verdict in
     let reaches = index-told_on d a file (λ v. Reaches old new result v)
@@ -51,8 +51,8 @@ returns-in-Reindex-clause-verdict g c =
 pub returns-in-Propedit-clause-verdict : goal.returns-in-Propedit-clause-verdict
 returns-in-Propedit-clause-verdict g c =
     let d = g.D.Disk in let a = c.args.disk.now in let file = c.in-Propedit.file in let edits = c.in-Propedit.edits in let result = c.propedit_of.result in
-    let old = seen g.F.Reads g.F.Files.writing_faults g.F.Files.names g.R.Report c.args.files.now c.args.report.now in
-    let new = seen g.F.Reads g.F.Files.writing_faults g.F.Files.names g.R.Report c.args.files.now c.propedit_of.new.report in
+    let old = seen_in g.F.Reads g.F.Files g.R.Report c.args.files.now c.args.report.now in
+    let new = seen_in g.F.Reads g.F.Files g.R.Report c.args.files.now c.propedit_of.new.report in
     let M = (d.pair a).media.reads in let S = (d.pair a).sidecar.reads in
     let says = subst (λ (name : List ℕ). OfReads d a (λ m s. SaysVerdict old.lines new.lines result (propedit_verdict (d.is_there a name) name edits m s))) c.as_str-in-Propedit.ensures.same c.propedit_of.ensures.verdict in
     let v = propedit_verdict (d.is_there a file) file edits M S in

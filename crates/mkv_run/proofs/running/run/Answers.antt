@@ -5,13 +5,12 @@ use Rattle.mkv_lines.specs.Code.{status_of}
 use Rattle.mkv_lines.specs.Faults.{Counts}
 use Rattle.mkv_lines.specs.Line.{disk_fault_line, files_fault_line}
 use Rattle.mkv_lines.specs.Said.{SaysPart}
-use Rattle.mkv_args.specs.Words.{command}
 use Rattle.mkv_propedit.specs.Recover.{disk_world}
 use Rattle.word_values.specs.Place.{texts}
+use Rattle.mkv_run.specs.ByWords.{reach_for}
 use Rattle.mkv_run.specs.Ends.{Ends, EndsOutside}
 use Rattle.mkv_run.specs.Run.{verdict_in}
 use Rattle.mkv_run.specs.RunSeen.{RunSeen, run_seen}
-use Rattle.mkv_run.specs.Touched.{reach_in}
 use Rattle.mkv_run.proofs.MergedLemmas.{merges-again, merges-well}
 use Rattle.mkv_run.proofs.RunLemmas.{ends-done, fault-alone, fault-told, stops-saying, touches-moment}
 use Rattle.mkv_run.proofs.running.run.Goals as goal
@@ -24,7 +23,7 @@ returns-in-Err-Files-clause-verdict g c = λ verdict told.
     let faults = g.R.Report.faults in let lines = g.R.Report.lines in let names = g.F.Files.names in
     let was = run_seen g.F.Reads g.F.Files g.D.Reads g.D.Disk g.R.Report c.args.files.now c.args.disk.now c.args.report.now in
     let now = run_seen g.F.Reads g.F.Files g.D.Reads g.D.Disk g.R.Report c.carry_out.new.files c.carry_out.new.disk c.say_files_fault.new.report in
-    let cause = rw c.in-Err-Files.field-0-is at c.in-Err-Files.ensures.cause in
+    let cause = rw c.in-Err-Files.field-0-is at c.in-Err-Files.ensures.ended.cause in
     let stopped = c.in-Err-Files.ensures.verdict verdict told in
     stops-saying (SaysPart (lines c.args.report.now) (lines c.carry_out.new.report)) (EndsOutside was now) (names c.args.files.now) (names c.carry_out.new.files) verdict
     (λ all part.
@@ -42,7 +41,7 @@ returns-in-Err-Disk-clause-verdict g c = λ verdict told.
     let faults = g.R.Report.faults in let lines = g.R.Report.lines in let names = g.F.Files.names in
     let was = run_seen g.F.Reads g.F.Files g.D.Reads g.D.Disk g.R.Report c.args.files.now c.args.disk.now c.args.report.now in
     let now = run_seen g.F.Reads g.F.Files g.D.Reads g.D.Disk g.R.Report c.carry_out.new.files c.carry_out.new.disk c.say_disk_fault.new.report in
-    let cause = rw c.in-Err-Disk.field-0-is at c.in-Err-Disk.ensures.cause in
+    let cause = rw c.in-Err-Disk.field-0-is at c.in-Err-Disk.ensures.ended.cause in
     let stopped = c.in-Err-Disk.ensures.verdict verdict told in
     stops-saying (SaysPart (lines c.args.report.now) (lines c.carry_out.new.report)) (EndsOutside was now) (names c.args.files.now) (names c.carry_out.new.files) verdict
     (λ all part.
@@ -60,7 +59,7 @@ returns-in-Err-Report-clause-verdict g c = λ verdict told.
     let lines = g.R.Report.lines in let names = g.F.Files.names in
     let was = run_seen g.F.Reads g.F.Files g.D.Reads g.D.Disk g.R.Report c.args.files.now c.args.disk.now c.args.report.now in
     let now = run_seen g.F.Reads g.F.Files g.D.Reads g.D.Disk g.R.Report c.carry_out.new.files c.carry_out.new.disk c.carry_out.new.report in
-    let cause = rw c.in-Err-Report.field-0-is at c.in-Err-Report.ensures.cause in
+    let cause = rw c.in-Err-Report.field-0-is at c.in-Err-Report.ensures.ended.cause in
     let stopped = c.in-Err-Report.ensures.verdict verdict told in
     stops-saying (SaysPart (lines c.args.report.now) (lines c.carry_out.new.report)) (EndsOutside was now) (names c.args.files.now) (names c.carry_out.new.files) verdict
     (λ all part. inr (inr (cause.0, part)))
@@ -74,7 +73,7 @@ returns-in-Ok-clause-merged g c =
     let words = c.args.words.now.items in
     let disk = disk_world g.D.Disk c.args.disk.now in
     let status = c.in-Ok.status in
-    let ended : Told (verdict_in before.seen.names disk (texts words)) (Ends before now status) = λ verdict told. ends-done before now status verdict c.in-Ok.ensures.ordinary (c.in-Ok.ensures.verdict verdict told) in
+    let ended : Told (verdict_in before.seen.names disk (texts words)) (Ends before now status) = λ verdict told. ends-done before now status verdict c.in-Ok.ensures.ended.ordinary (c.in-Ok.ensures.verdict verdict told) in
     let well = merges-well before now disk words status c.in-Ok.ensures.readable ended in
     record { well = well; again = merges-again c.outputs_are_written_again.ensures before now disk words status well ended }
 
@@ -82,25 +81,25 @@ returns-in-Ok-clause-merged g c =
 
 pub returns-in-Ok-clause-any_moment : goal.returns-in-Ok-clause-any_moment
 returns-in-Ok-clause-any_moment g c = λ rest.
-    touches-moment g.D.Reads g.D.Disk (reach_in (command (texts c.args.words.now.items))) c.args.files.now c.carry_out.new.files c.args.disk.now c.carry_out.new.disk (status_of c.carry_out.result)
+    touches-moment g.D.Reads g.D.Disk (reach_for c.args.words.now.items) c.args.files.now c.carry_out.new.files c.args.disk.now c.carry_out.new.disk (status_of c.carry_out.result)
     rest (g.met.D.Disk.only_now c.args.disk.now) c.carry_out.ensures.touches
 
 pub returns-in-Err-Memory-clause-any_moment : goal.returns-in-Err-Memory-clause-any_moment
 returns-in-Err-Memory-clause-any_moment g c = λ rest.
-    touches-moment g.D.Reads g.D.Disk (reach_in (command (texts c.args.words.now.items))) c.args.files.now c.carry_out.new.files c.args.disk.now c.carry_out.new.disk (status_of c.carry_out.result)
+    touches-moment g.D.Reads g.D.Disk (reach_for c.args.words.now.items) c.args.files.now c.carry_out.new.files c.args.disk.now c.carry_out.new.disk (status_of c.carry_out.result)
     rest (g.met.D.Disk.only_now c.args.disk.now) c.carry_out.ensures.touches
 
 pub returns-in-Err-Report-clause-any_moment : goal.returns-in-Err-Report-clause-any_moment
 returns-in-Err-Report-clause-any_moment g c = λ rest.
-    touches-moment g.D.Reads g.D.Disk (reach_in (command (texts c.args.words.now.items))) c.args.files.now c.carry_out.new.files c.args.disk.now c.carry_out.new.disk (status_of c.carry_out.result)
+    touches-moment g.D.Reads g.D.Disk (reach_for c.args.words.now.items) c.args.files.now c.carry_out.new.files c.args.disk.now c.carry_out.new.disk (status_of c.carry_out.result)
     rest (g.met.D.Disk.only_now c.args.disk.now) c.carry_out.ensures.touches
 
 pub returns-in-Err-Files-clause-any_moment : goal.returns-in-Err-Files-clause-any_moment
 returns-in-Err-Files-clause-any_moment g c = λ rest.
-    touches-moment g.D.Reads g.D.Disk (reach_in (command (texts c.args.words.now.items))) c.args.files.now c.carry_out.new.files c.args.disk.now c.carry_out.new.disk (status_of c.carry_out.result)
+    touches-moment g.D.Reads g.D.Disk (reach_for c.args.words.now.items) c.args.files.now c.carry_out.new.files c.args.disk.now c.carry_out.new.disk (status_of c.carry_out.result)
     rest (g.met.D.Disk.only_now c.args.disk.now) c.carry_out.ensures.touches
 
 pub returns-in-Err-Disk-clause-any_moment : goal.returns-in-Err-Disk-clause-any_moment
 returns-in-Err-Disk-clause-any_moment g c = λ rest.
-    touches-moment g.D.Reads g.D.Disk (reach_in (command (texts c.args.words.now.items))) c.args.files.now c.carry_out.new.files c.args.disk.now c.carry_out.new.disk (status_of c.carry_out.result)
+    touches-moment g.D.Reads g.D.Disk (reach_for c.args.words.now.items) c.args.files.now c.carry_out.new.files c.args.disk.now c.carry_out.new.disk (status_of c.carry_out.result)
     rest (g.met.D.Disk.only_now c.args.disk.now) c.carry_out.ensures.touches

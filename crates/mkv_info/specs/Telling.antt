@@ -1,0 +1,30 @@
+-- What a call comes to that reads a live file and tells of it.
+use Rattle.std.specs.Prelude.{◌≡◌, ℕ, List, Result, Ok}
+use Rattle.mkv_io.specs.Sources.{IfTold}
+use Rattle.mkv_io.specs.declared.outside.FileId.{FileId}
+use Rattle.mkv_io.specs.declared.reads.Reads.{Ghosts as ReadsGhosts}
+use Rattle.mkv_io.specs.declared.report.Report.{Ghosts as ReportGhosts}
+use Rattle.element_reader.specs.Outline.{FileOutline, outline_in}
+use Rattle.mkv_lines.specs.Faults.{HasReadStop}
+use Rattle.mkv_lines.specs.Said.{Says}
+use Rattle.mkv_lines.specs.Verdict.{SaysVerdict, Verdict}
+use Rattle.mkv_lines.specs.declared.status.Status.{Status}
+use Rattle.mkv_lines.specs.declared.status.Stop.{Stop}
+use Rattle.mkv_info.specs.Listed.{listed_verdict}
+
+-- It has said the lines of the verdict on the file's content, where that is told, or a first part of them.
+abbrev pub Informs : {S P : Type 0} → ReadsGhosts S → ReportGhosts P → S → FileId → P → P → Result Status Stop → (List ℕ → Verdict) → Type 0
+Informs r p src file old new result verdict = IfTold r src file (λ bytes. SaysVerdict (p.lines old) (p.lines new) result (verdict bytes))
+
+-- the same of lines alone
+abbrev pub SaysOf : {S P T : Type 0} → ReadsGhosts S → ReportGhosts P → S → FileId → P → P → Result T Stop → (List ℕ → List (List ℕ)) → Type 0
+SaysOf r p src file old new result lines = IfTold r src file (λ bytes. Says (p.lines old) (p.lines new) (lines bytes) result)
+
+-- It has listed the content of a name that has this outline.
+abbrev pub ListsOutline : {S P : Type 0} → ReadsGhosts S → ReportGhosts P → S → FileId → FileOutline → List ℕ → P → P → Result Status Stop → Type 0
+ListsOutline r p src file outline name old new result =
+    IfTold r src file (λ bytes. outline_in 0 bytes ≡ Ok outline → SaysVerdict (p.lines old) (p.lines new) result (listed_verdict name bytes))
+
+-- why it stops
+abbrev pub HasTellStop : {S P T : Type 0} → ReadsGhosts S → ReportGhosts P → S → S → P → P → Result T Stop → Type 0
+HasTellStop r p src src_now old new result = HasReadStop (r.reading_faults src) (r.reading_faults src_now) (p.faults old) (p.faults new) result

@@ -1,0 +1,64 @@
+-- What a run does with its files, its disk and its report, by what the words of its command line ask for.
+use Rattle.std.specs.Prelude.{◌≡◌, ℕ, ◌+◌, List, Option}
+use Rattle.std.specs.declared.alloc.Global.{Global}
+use Rattle.std.specs.declared.string.String.{String}
+use Rattle.mkv_io.specs.Told.{Told}
+use Rattle.mkv_io.specs.declared.files.Files.{Ghosts as FilesGhosts}
+use Rattle.mkv_io.specs.declared.reads.Reads.{Ghosts as ReadsGhosts}
+use Rattle.mkv_io.specs.declared.report.Report.{Ghosts as ReportGhosts}
+use Rattle.mkv_disk.specs.Calls.{AnyMoment, AtRest}
+use Rattle.mkv_disk.specs.declared.disk.Disk.{Ghosts as DiskGhosts}
+use Rattle.mkv_args.specs.Words.{command}
+use Rattle.mkv_args.specs.declared.command.Command.{Command}
+use Rattle.mkv_lines.specs.Verdict.{Verdict}
+use Rattle.mkv_lines.specs.declared.status.Status.{Status}
+use Rattle.mkv_propedit.specs.Recover.{disk_world}
+use Rattle.word_values.specs.Place.{texts}
+use Rattle.mkv_run.specs.Ends.{Ends}
+use Rattle.mkv_run.specs.Exit.{HasExited}
+use Rattle.mkv_run.specs.Run.{ReadsWithin, ReadsWithinIn, verdict_in}
+use Rattle.mkv_run.specs.RunSeen.{HasStatusCause, run_seen}
+use Rattle.mkv_run.specs.Touched.{LeftOnTheWay, Reach, Touches, reach_in}
+
+-- what is reached
+abbrev pub reach_for : List (String Global) → Reach
+reach_for words = reach_in (command (texts words))
+
+-- its verdict, where the outside tells it
+abbrev pub verdict_for : {F D : Type 0} → FilesGhosts F → DiskGhosts D → F → D → List (String Global) → Option Verdict
+verdict_for f d files disk words = verdict_in (f.names files) (disk_world d disk) (texts words)
+
+-- It ends with this status as its verdict has it, where that is told.
+abbrev pub EndsFor : {F D R : Type 0} → ReadsGhosts F → FilesGhosts F → ReadsGhosts D → DiskGhosts D → ReportGhosts R → F → F → D → D → R → R → List (String Global) → Status → Type 0
+EndsFor r f s d p files files' disk disk' report report' words status =
+    Told (verdict_for f d files disk words) (Ends (run_seen r f s d p files disk report) (run_seen r f s d p files' disk' report') status)
+
+-- A fault of the outside is told only where one was counted.
+abbrev pub HasCauseFor : {F D R : Type 0} → ReadsGhosts F → FilesGhosts F → ReadsGhosts D → DiskGhosts D → ReportGhosts R → F → F → D → D → R → R → List (String Global) → Status → Type 0
+HasCauseFor r f s d p files files' disk disk' report report' words status =
+    HasStatusCause (reach_for words) (run_seen r f s d p files disk report) (run_seen r f s d p files' disk' report') status
+
+-- The program ends with the number of such a status.
+abbrev pub ExitsFor : {F D R : Type 0} → ReadsGhosts F → FilesGhosts F → ReadsGhosts D → DiskGhosts D → ReportGhosts R → F → F → D → D → R → R → List (String Global) → ℕ → Type 0
+ExitsFor r f s d p files files' disk disk' report report' words code =
+    HasExited (reach_for words) (run_seen r f s d p files disk report) (run_seen r f s d p files' disk' report')
+    (Touches s d (reach_for words) files files' disk disk') (verdict_for f d files disk words) code
+
+-- Nothing was done: what is seen is as it was, and so is the disk.
+pub record IsIdle {F D R : Type 0} (r : ReadsGhosts F) (f : FilesGhosts F) (s : ReadsGhosts D) (d : DiskGhosts D) (p : ReportGhosts R) (files files' : F) (disk disk' : D) (report report' : R) : Type 0 where
+  pub seen : run_seen r f s d p files' disk' report' ≡ run_seen r f s d p files disk report
+  pub still : disk' ≡ disk
+
+-- It reads no more than they may, of the files and of the disk together.
+abbrev pub ReadsFor : {F D : Type 0} → ReadsGhosts F → FilesGhosts F → ReadsGhosts D → DiskGhosts D → F → F → D → D → List (String Global) → Type 0
+ReadsFor r f s d files files' disk disk' words =
+    ReadsWithinIn (f.names files) (disk_world d disk) (texts words) (r.octets_read files + s.octets_read disk) (r.octets_read files' + s.octets_read disk')
+
+-- the same of a command
+abbrev pub ReadsToObey : {F D : Type 0} → ReadsGhosts F → FilesGhosts F → ReadsGhosts D → DiskGhosts D → F → F → D → D → Command → Type 0
+ReadsToObey r f s d files files' disk disk' command =
+    ReadsWithin (f.names files) (disk_world d disk) command (r.octets_read files + s.octets_read disk) (r.octets_read files' + s.octets_read disk')
+
+-- A crash at any moment leaves what it may on the way, where nothing was pending.
+abbrev pub CrashLeaves : {D : Type 0} → DiskGhosts D → D → D → Reach → Type 0
+CrashLeaves d old new reach = AtRest d old → AnyMoment d old new (LeftOnTheWay reach)
