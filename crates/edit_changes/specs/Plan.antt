@@ -233,7 +233,9 @@ length_moving o ps seeks room =
 abbrev pub new_end : FileOutline → List Part → ℕ
 new_end o ps = o.total + length (appended ps)
 
--- What refuses it, in the order in which it is asked. Where nothing is appended, the ends of the file may be what they are.
+-- What refuses that parts move, in the order in which it is asked: there is too much to write (EditTooLarge); an Element ends elsewhere
+-- than the file does (Tail); one that moves isn't the only one of its ID (Twin); there is no room for the SeekHead (SeekHead); the
+-- Segment's size has too few octets for the new end (SegmentSize). Where nothing is appended, the ends may be what they are.
 abbrev pub moving_refusals : FileOutline → List Part → Element → ℕ → List (Option Refusal)
 moving_refusals o ps seeks room =
     too_large (length_moving o ps seeks room) ps

@@ -1,4 +1,5 @@
--- What an output has of the blocks of a file, whose track it takes.
+-- What an output has of the blocks of a file, whose track it takes: RFC 9559, section 10 (Cluster Blocks). The forms of codecs are those of
+-- their own standards.
 use Rattle.std.specs.Prelude.{ℕ, ◌+◌, min, List, [], ◌∷◌, ◌++◌, map, Option, Some, unwrap_or}
 use Rattle.mkv_io.specs.Faults.{last_count}
 use Rattle.srt_texts.specs.Writing.{put_srt}

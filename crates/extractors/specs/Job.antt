@@ -71,7 +71,7 @@ names_unfit why kind entries t = option_map_or (λ entry. is_unfit why (coding_o
 abbrev pub unfit_of : Form → List Node → Target → Option Unfit
 unfit_of kind entries t = option_map_or (λ entry. result_err (coding_of kind entry)) (slice_get entries t.id) None
 
--- the number, from 0, of the first track that is named and isn't taken so, for this reason
+-- the number, from 0, of the track of the first target, in the order of the words, that isn't taken so, for this reason
 abbrev pub first_unfit : Unfit → Form → List Target → List Node → Option ℕ
 first_unfit why kind targets entries = option_map (λ (t : Target). t.id) (find (names_unfit why kind entries) targets)
 

@@ -1,4 +1,5 @@
--- The end of a file, over the links that take blocks of it.
+-- The end of a file, over the links that take blocks of it: what the code knows on the way. The end of a file is that of
+-- `merge_model`, Ends.
 use Rattle.std.specs.Prelude.{◌<◌, ◌^◌, ℕ, ◌*◌, ◌==◌, max, if◌then◌else◌, List, [], ◌∷◌, map, Option}
 use Rattle.std.specs.Option.{IfSome, unwrap_or}
 use Rattle.block_format.specs.Block.{Block}

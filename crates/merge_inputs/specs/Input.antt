@@ -1,4 +1,4 @@
--- What is read of an input of a merge before its blocks.
+-- What is read of an input of a merge before its blocks: RFC 9559, section 5.1 (Segment Element), or a text of this project's grammar.
 use Rattle.std.specs.Prelude.{◌≡◌, ◌≤◌, ⊤, true, ℕ, Bool, if◌then◌else◌, List, [], ◌∷◌, length, map, Option, Some, None, IfSome, option_map, Result, Ok, Err}
 use Rattle.std.specs.List.{All}
 use Rattle.mkv_schema.specs.declared.ids.TheConstants.{CHAPTERS, TAGS}

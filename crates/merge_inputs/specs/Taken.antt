@@ -1,4 +1,4 @@
--- The tracks that the words of a merge take of a file, and what the words say of them.
+-- The tracks that the words of a merge take of a file, and what the words say of them: RFC 9559, section 5.1.4 (Tracks Element).
 use Rattle.std.specs.Prelude.{◌≡◌, ◌<◌, ℕ, ◌+◌, ◌^◌, pos, nat_abs, ◌==◌, if◌then◌else◌, List, [], ◌∷◌, ◌++◌, flat_map, Option, Some, None, unwrap_or}
 use Rattle.mkv_io.specs.declared.damage.Damage.{Damage}
 use Rattle.mkv_schema.specs.Outline.{first_damage}

@@ -1,4 +1,5 @@
--- A lane: one output track, which takes its blocks from one input, or from one input after the other.
+-- A lane: one output track, which takes its blocks from one input, or from one input after the other. That is this project's; blocks are
+-- those of RFC 9559, section 10 (Cluster Blocks).
 use Rattle.std.specs.Prelude.{ℕ, if◌then◌else◌, List, [], ◌∷◌, ◌++◌, map}
 use Rattle.mkv_io.specs.declared.damage.Damage.{Damage}
 use Rattle.output_model.specs.OutputBlock.{OutputBlock}

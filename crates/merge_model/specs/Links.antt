@@ -1,4 +1,5 @@
--- What one input gives to a lane, and how its blocks are placed in the output.
+-- What one input gives to a lane, and how its blocks are placed in the output: RFC 9559, sections 10 (Cluster Blocks), 10.3 (Block
+-- Lacing) and 11 (Timestamps).
 use Rattle.std.specs.Prelude.{ℕ, ◌+◌, ◌==◌, ℤ, pos, ◌+ℤ◌, Bool, true, false, List, [], ◌∷◌, ◌++◌, map, filter, flat_map, Option, Some, None, is_some}
 use Rattle.std.specs.Option.{option_map}
 use Rattle.lacing.specs.declared.kind.Lace.{Lace}
@@ -65,7 +66,7 @@ text_given delay shift entries = record {
 
 -- ---- a block in the output
 
--- one frame is written without lace
+-- the lacing of a block as it is written: none for a single frame, else the kind that it had
 abbrev pub lace_for : List (List ℕ) → Lace → Lace
 lace_for [] kind = kind
 lace_for (frame ∷ []) kind = lace.None

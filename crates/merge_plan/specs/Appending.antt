@@ -18,7 +18,7 @@ first_differing (lane ∷ lanes) (t ∷ taken) = option_or (first_difference lan
 abbrev pub differing : List TakenTrack → List TakenTrack → Option ℕ
 differing lanes taken = if length lanes == length taken then first_differing lanes taken else Some TRACK_ENTRY
 
--- the same of an input, where the one before it gives to lanes with these tracks; nothing of one that isn't appended
+-- the same of an input that is appended to lanes which these tracks began; nothing of one that isn't
 abbrev pub difference_at : List TakenTrack → InputRead → Option ℕ
 difference_at before i = if is_appended i then differing before i.taken else None
 
@@ -34,6 +34,6 @@ abbrev pub differs_from : List TakenTrack → ℕ → List InputRead → Option 
 differs_from before input [] = None
 differs_from before input (i ∷ is) = option_or (option_map (differs_at input) (difference_at before i)) (differs_from (lane_tracks before i) (input + 1) is)
 
--- what refuses inputs as appended ones: the first input whose tracks can't go on in the lanes of the one before it
+-- what refuses inputs as appended ones: the first input whose tracks can't go on in the lanes to which it is appended
 abbrev pub append_refusal : List InputRead → Option AppendDiffers
 append_refusal reads = differs_from [] 0 reads

@@ -1,4 +1,4 @@
--- What the last of some inputs says of one that is appended to it.
+-- What the last of some inputs says of one that is appended to it: what the code knows on the way. Where inputs stand is that of Places.
 use Rattle.std.specs.Prelude.{◌≡◌, ℕ, ◌+◌, ◌-◌, List, length, Option, None, Some, slice_get}
 use Rattle.std.specs.List.{All}
 use Rattle.std.specs.Option.{option_map, option_map_or}

@@ -4,7 +4,7 @@ use Rattle.std.specs.Option.{option_map}
 use Rattle.merge_model.specs.Ends.{file_end}
 use Rattle.merge_plan.specs.Plan.{Source, given_of, later_by}
 
--- where a source ends: so much later as it is itself
+-- where a source ends in the output: at the end of its blocks, so much later as it begins
 abbrev pub end_of : Source → ℕ
 end_of s = later_by s.1 + file_end (given_of s)
 
@@ -17,5 +17,6 @@ abbrev pub in_place_from : ℕ → List Source → List Source
 in_place_from time [] = []
 in_place_from time (s ∷ ss) = begun_at time s ∷ in_place_from (end_of (begun_at time s)) ss
 
+-- the sources where they stand in the output: each that is appended begins where the one before it ends
 abbrev pub in_place : List Source → List Source
 in_place sources = in_place_from 0 sources

@@ -1,4 +1,4 @@
--- The codecs of WebM.
+-- The codecs of WebM, by the WebM project's guidelines for containers.
 use Rattle.std.specs.Prelude.{ℕ, Bool, List, [], ◌∷◌, codes}
 use Rattle.std.specs.List.{list_any}
 use Rattle.std.specs.Str.{bytes_eq}

@@ -9,7 +9,7 @@ use merge_inputs::{Input, TakenTrack};
 use mkv_schema::ids::TRACK_ENTRY;
 use track_records::differs;
 
-/// An appended input whose tracks can't go on in the lanes of the one before it.
+/// An appended input whose tracks can't go on in the lanes of the input to which it is appended.
 #[derive(Clone, Copy, Debug, PartialEq, Eq)]
 pub struct AppendDiffers {
     /// The input, counted from 0.
@@ -43,7 +43,7 @@ fn differing(lanes: &[TakenTrack], taken: &[TakenTrack]) -> Option<u32>
     }
 }
 
-// In which Element an input differs, where the one before it gives to lanes with these tracks.
+// In which Element an input differs from the tracks that began the lanes to which it is appended.
 fn difference_at(before: &[TakenTrack], input: &Input) -> Option<u32>
     ensures { result ≡ difference_at before.now (read_in input.now) }
 {
@@ -65,7 +65,7 @@ fn lane_tracks<'a>(before: &'a [TakenTrack], input: &'a Input) -> &'a [TakenTrac
     }
 }
 
-/// The first appended input whose tracks can't go on in the lanes of the one before it: there are more of them or fewer,
+/// The first appended input whose tracks can't go on in the lanes to which it is appended: there are more of them or fewer,
 /// or one differs from that of its lane in its type, its codec or what the codec was given, its size or its sampling.
 pub fn append_refusal(inputs: &[Input]) -> Option<AppendDiffers>
     ensures { result ≡ append_refusal (map read_in inputs.now) }

@@ -1,4 +1,4 @@
--- The options of `merge`.
+-- The options of `merge`: this project's, after mkvmerge(1).
 use Rattle.std.specs.Prelude.{ℕ, Bool, ◌||◌, if◌then◌else◌, List, [], ◌∷◌, codes, Option, None, option_map}
 use Rattle.std.specs.List.{find}
 use Rattle.std.specs.Str.{bytes_eq}

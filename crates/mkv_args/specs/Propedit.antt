@@ -1,4 +1,4 @@
--- The words of `propedit`.
+-- The words of `propedit`: this project's grammar, after mkvpropedit(1).
 use Rattle.std.specs.Prelude.{ℕ, ◌+◌, ◌==◌, if◌then◌else◌, List, [], ◌∷◌, ◌++◌, length, drop, slice_index, codes, Option, Some, None, option_map, Result, Ok}
 use Rattle.std.specs.List.{starts_with}
 use Rattle.std.specs.Str.{bytes_eq}

@@ -82,7 +82,7 @@ pending_edit_line name = codes "error: " ++ (shown_text name ++ codes ": Pending
 abbrev pub output_is_input_line : List ℕ → List ℕ
 output_is_input_line name = codes "error: " ++ (shown_text name ++ codes ": OutputIsInput")
 
--- an appended input whose tracks differ from those of the input before it
+-- an appended input whose tracks differ from those that began their lanes
 abbrev pub append_differs_line : List ℕ → ℕ → List ℕ
 append_differs_line name id = codes "error: " ++ (shown_text name ++ (codes ": " ++ (codes "AppendDiffers" ++ element_text id)))
 

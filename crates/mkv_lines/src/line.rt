@@ -84,7 +84,7 @@ pub enum Line<'a> {
     OutputIsInput {
         name: &'a str,
     },
-    /// The tracks of an appended input differ in the Element of this ID from those of the input before it.
+    /// The tracks of an appended input differ in the Element of this ID from those that began their lanes.
     AppendDiffers {
         name: &'a str,
         id: u32,

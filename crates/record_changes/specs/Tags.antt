@@ -51,7 +51,8 @@ aims_of numbers targets = record {
 abbrev pub aims_in : (ℕ → ℕ → Option ℕ) → Node → Aims
 aims_in numbers tag = aims_of numbers (flat_map targets_in (children tag))
 
--- It is wanted, as one about a track or as another; and it had no targets, or one of them is written.
+-- A Tag is written where the words keep its kind, those about tracks or the others, and it names nothing or something that the output
+-- has.
 abbrev pub are_kept : TagKeep → Aims → Bool
 are_kept keep aims = (if aims.track then keep.tracks else keep.global) && (not aims.any || aims.written)
 

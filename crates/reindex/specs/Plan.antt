@@ -27,7 +27,8 @@ new_cues points = slice_get (cues_elements points) 0
 abbrev pub cues_part : ℕ → ℕ → Option Element → Part
 cues_part place room new = record { id = CUES; place = place; room = room; nodes = 0; element = new }
 
--- The new one stands where the old one does, or nowhere yet; without a new one the old one goes.
+-- What becomes of the Cues: a new one stands where the old one does, or goes to the end of the file where that has no room or there is
+-- none; without a new one the old one goes.
 abbrev pub cues_parts : List Header → Option Header → Option Element → List Part
 cues_parts list None None = []
 cues_parts list None (Some e) = cues_part 0 0 (Some e) ∷ []

@@ -19,7 +19,7 @@ abbrev pub holds_edit : Option (List ℕ) → Bool
 holds_edit None = false
 holds_edit (Some sidecar) = is_begun (state sidecar)
 
--- in a world of names, an edit of the file of this name is pending
+-- An edit of the file of this name is pending, in a world of names: its sidecar is there, and is live.
 abbrev pub is_pending : (List ℕ → Option (List ℕ)) → List ℕ → Bool
 is_pending world name = holds_edit (world (sidecar_of name))
 

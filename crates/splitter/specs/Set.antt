@@ -1,4 +1,4 @@
--- What the fields of `Cuts` are.
+-- What the fields of `Cuts` are. No rule of a split stands on it.
 use Rattle.std.specs.Prelude.{◌≡◌, ℕ, ◌*◌, unwrap_or}
 use Rattle.splitter.specs.declared.cuts.Cuts.TheInside.{Inside}
 use Rattle.splitter.specs.Split.{has_come, is_over, keeps}

@@ -1,4 +1,4 @@
--- The places of blocks, one after the other.
+-- The places of blocks, one after the other: what the code knows on the way. What a split is stands in Split and Sections.
 use Rattle.std.specs.Prelude.{ℕ, ◌+◌, ◌-◌, ◌*◌, ◌^◌, min, Bool, ◌&&◌, ◌||◌, if◌then◌else◌, Option, Some, None, is_none, unwrap_or}
 use Rattle.splitter.specs.declared.cuts.Place.{Place}
 use Rattle.splitter.specs.declared.cuts.Place.TheVariants.{Same, Next, Out}

@@ -1,4 +1,4 @@
--- How simple chapters are written.
+-- How simple chapters are written, in this project's grammar.
 use Rattle.std.specs.Prelude.{ℕ, ◌/◌, List, [], ◌∷◌, ◌++◌, codes}
 use Rattle.srt_texts.specs.declared.pieces.Piece.{Piece}
 use Rattle.srt_texts.specs.declared.pieces.Piece.TheVariants.{Time}

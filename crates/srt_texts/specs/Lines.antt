@@ -1,4 +1,4 @@
--- The lines of a text file.
+-- The lines of a text file, in this project's grammar.
 use Rattle.std.specs.Prelude.{ℕ, List, [], ◌∷◌, take, drop, if◌then◌else◌}
 use Rattle.std.specs.Str.{bytes_eq}
 use Rattle.std.specs.Str.Lines.{lines}

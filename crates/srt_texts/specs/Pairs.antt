@@ -1,4 +1,4 @@
--- Simple chapters: a line with a chapter's time and a line with its name, for each chapter.
+-- Simple chapters, in this project's grammar: a line with a chapter's time and a line with its name, for each chapter.
 use Rattle.std.specs.Prelude.{ℕ, ◌+◌, ◌*◌, if◌then◌else◌, List, [], ◌∷◌, codes, Option, Some, None, Result, Ok, Err}
 use Rattle.std.specs.Str.{is_utf8}
 use Rattle.srt_texts.specs.Lines.{lines_of}

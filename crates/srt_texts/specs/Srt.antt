@@ -1,4 +1,4 @@
--- SubRip.
+-- SubRip, in this project's grammar.
 use Rattle.std.specs.Prelude.{ℕ, ◌+◌, ◌-◌, Bool, false, not, ◌||◌, ◌==◌, nat_lt, if◌then◌else◌, List, [], ◌∷◌, length, take, drop, codes, Option, Some, None, Result, Ok, Err}
 use Rattle.std.specs.Option.{is_some}
 use Rattle.std.specs.List.{join_with_byte}
@@ -71,6 +71,7 @@ is_misplaced Front begins l = has_arrow l || not (begins || length l == 0)
 is_misplaced (Second t) begins l = nat_lt t.end t.start
 is_misplaced Behind begins l = has_arrow l
 
+-- A line is bad where it isn't UTF-8, or can't stand there.
 abbrev pub is_bad : Place → Bool → List ℕ → Bool
 is_bad place begins l = not (is_utf8 l) || is_misplaced place begins l
 

@@ -1,4 +1,4 @@
--- The two lines that begin an entry of SubRip: its number and its times.
+-- The two lines that begin an entry of SubRip, in this project's grammar: its number and its times.
 use Rattle.std.specs.Prelude.{ℕ, ◌+◌, ◌*◌, Bool, ◌&&◌, ◌||◌, ◌==◌, nat_le, if◌then◌else◌, List, length, take, drop, slice_index, codes, Option, Some, None}
 use Rattle.std.specs.List.{list_all, prefix_len}
 use Rattle.std.specs.Char.{is_ascii_digit}

@@ -1,4 +1,4 @@
--- How an entry of SubRip is written.
+-- How an entry of SubRip is written, in this project's grammar.
 use Rattle.std.specs.Prelude.{ℕ, ℤ, pos, negsuc, ◌+ℤ◌, ◌/◌, List, [], ◌∷◌, ◌++◌, codes}
 use Rattle.std.specs.Fmt.{decimal}
 use Rattle.srt_texts.specs.declared.pieces.Piece.{Piece}

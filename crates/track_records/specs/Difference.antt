@@ -23,6 +23,7 @@ are_alike None (Some q) = false
 are_alike (Some p) None = false
 are_alike (Some p) (Some q) = bytes_eq p q
 
--- the ID of the first field in which two entries differ
+-- The ID of the first of seven fields in which two entries differ: TrackType, CodecID, CodecPrivate, of Video PixelWidth and PixelHeight,
+-- of Audio Channels and SamplingFrequency.
 abbrev pub first_difference : Node → Node → Option ℕ
 first_difference a b = option_map (λ f. f.id) (find (λ f. not (are_alike (octets_at f a) (octets_at f b))) FIELDS)

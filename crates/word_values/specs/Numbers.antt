@@ -1,4 +1,4 @@
--- Numbers, times and sizes, as they are spelled in words.
+-- Numbers, times and sizes, as they are spelled in words: this project's grammar.
 use Rattle.std.specs.Prelude.{ℕ, ℤ, pos, neg_ℤ, ◌+◌, ◌-◌, ◌*◌, ◌^◌, min, Bool, ◌&&◌, ◌==◌, nat_lt, nat_le, if◌then◌else◌, List, length, take, drop, slice_index, Option, Some, None, option_map, option_and_then}
 use Rattle.std.specs.List.{list_all, position}
 use Rattle.std.specs.Char.{is_ascii_digit, is_digit}
