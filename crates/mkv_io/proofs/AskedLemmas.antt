@@ -1,35 +1,47 @@
 -- What is asked for by calls one after the other: laws for whoever opens and makes files.
-use Rattle.std.proofs.Common.{◌≡◌, List, [], ◌∷◌, ◌++◌, append_assoc, append-nil, inl, inr, Result, Ok, Err, sym, ◌∙◌, ap}
+use Rattle.std.proofs.Common.{◌≡◌, ◌≢◌, ℕ, List, [], ◌∷◌, ◌++◌, inl, inr, Result, Ok, Err, refl, sym, subst}
 use Rattle.std.proofs.lemmas.List.Elements.{All-nil, All-cons, All-append}
-use Rattle.mkv_io.specs.Asked.{AsksFor, AsksOnly}
+use Rattle.mkv_io.specs.Asked.{AsksFor, AsksNone, AsksOnly, IsBesides, IsUnasked}
+use Rattle.mkv_io.specs.Names.{AreOthers}
 use Rattle.mkv_io.specs.declared.asked.Asked.{Asked}
+use Rattle.mkv_io.specs.declared.asked.Asked.TheVariants.{Made, Opened}
 
 -- nothing is asked for
-pub asks-none : (Is : Asked → Type 0) (old new : List Asked) → new ≡ old → AsksOnly Is old new
-asks-none Is old new same = record { more = []; added = same ∙ sym (append-nil old); each = All-nil Is }
+pub asks-none : (Are : Asked → Type 0) (old new : List Asked) → new ≡ old → AsksNone Are old new
+asks-none Are old new same = λ name is unasked. subst (IsUnasked name) (sym same) unasked
 
--- one name is
-asks-added : (Is : Asked → Type 0) (name : Asked) (old new : List Asked) → Is name → new ≡ old ++ name ∷ [] → AsksOnly Is old new
-asks-added Is name old new is added = record { more = name ∷ []; added = added; each = All-cons Is name [] is (All-nil Is) }
+-- one name is, which isn't among these
+pub asks-added : (Are : Asked → Type 0) (added : Asked) (old new : List Asked) → (Are added → ⊥) → new ≡ old ++ added ∷ [] → AsksNone Are old new
+asks-added Are added old new isnt is = λ name are unasked.
+    subst (IsUnasked name) (sym is) (All-append (λ (other : Asked). other ≢ name) old (added ∷ []) unasked
+    (All-cons (λ (other : Asked). other ≢ name) added [] (λ same. isnt (subst Are (sym same) are)) (All-nil (λ (other : Asked). other ≢ name))))
 
 -- a call that opens or makes a file
-pub asks-one : {T E : Type 0} (Is : Asked → Type 0) (name : Asked) (old new : List Asked) (result : Result T E) → Is name → AsksFor name old new result → AsksOnly Is old new
-asks-one Is name old new (Ok value) is asks = asks-added Is name old new is asks
-asks-one Is name old new (Err fault) is (inl same) = asks-none Is old new same
-asks-one Is name old new (Err fault) is (inr added) = asks-added Is name old new is added
+pub asks-one : {T E : Type 0} (Are : Asked → Type 0) (added : Asked) (old new : List Asked) (result : Result T E) → (Are added → ⊥) → AsksFor added old new result → AsksNone Are old new
+asks-one Are added old new (Ok value) isnt asks = asks-added Are added old new isnt asks
+asks-one Are added old new (Err fault) isnt (inl same) = asks-none Are old new same
+asks-one Are added old new (Err fault) isnt (inr is) = asks-added Are added old new isnt is
 
 -- two calls
-pub asks-both : (Is : Asked → Type 0) (a b c : List Asked) → AsksOnly Is a b → AsksOnly Is b c → AsksOnly Is a c
-asks-both Is a b c first next = record {
-  more = first.more ++ next.more;
-  added = next.added ∙ ap (λ so_far. so_far ++ next.more) first.added ∙ append_assoc a first.more next.more;
-  each = All-append Is first.more next.more first.each next.each;
-}
+pub asks-both : (Are : Asked → Type 0) (a b c : List Asked) → AsksNone Are a b → AsksNone Are b c → AsksNone Are a c
+asks-both Are a b c first next = λ name are unasked. next name are (first name are unasked)
 
--- what is such is also of a wider kind
-pub asks-wider : (Is Wider : Asked → Type 0) (old new : List Asked) → ((name : Asked) → Is name → Wider name) → AsksOnly Is old new → AsksOnly Wider old new
-asks-wider Is Wider old new wider asks = record {
-  more = asks.more;
-  added = asks.added;
-  each = λ k d below. wider _ (asks.each k d below);
-}
+-- none of these was, so none of fewer
+pub asks-fewer : (Are Fewer : Asked → Type 0) (old new : List Asked) → ((name : Asked) → Fewer name → Are name) → AsksNone Are old new → AsksNone Fewer old new
+asks-fewer Are Fewer old new all asks = λ name fewer unasked. asks name (all name fewer) unasked
+
+-- only names among these were, so only names among more
+pub asks-more : (opened made more_opened more_made : List (List ℕ)) (old new : List Asked) → ((name : List ℕ) → AreOthers name more_opened → AreOthers name opened) → ((name : List ℕ) → AreOthers name more_made → AreOthers name made) → AsksOnly opened made old new → AsksOnly more_opened more_made old new
+asks-more opened made more_opened more_made old new open_among made_among asks = asks-fewer (IsBesides opened made) (IsBesides more_opened more_made) old new each asks
+  where
+    each : (name : Asked) → IsBesides more_opened more_made name → IsBesides opened made name
+    each (Opened name) others = open_among name others
+    each (Made name) others = made_among name others
+
+-- a file is opened
+pub asks-opened : {T E : Type 0} (name : List ℕ) (made : List (List ℕ)) (old new : List Asked) (result : Result T E) → AsksFor (Opened name) old new result → AsksOnly (name ∷ []) made old new
+asks-opened name made old new result asks = asks-one (IsBesides (name ∷ []) made) (Opened name) old new result (λ others. others.0 refl) asks
+
+-- a file is made, or isn't
+pub asks-made : {T E : Type 0} (opened : List (List ℕ)) (name : List ℕ) (old new : List Asked) (result : Result T E) → AsksFor (Made name) old new result → AsksOnly opened (name ∷ []) old new
+asks-made opened name old new result asks = asks-one (IsBesides opened (name ∷ [])) (Made name) old new result (λ others. others.0 refl) asks

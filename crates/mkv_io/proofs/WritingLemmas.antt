@@ -1,10 +1,12 @@
 -- Calls that only write to live files, one after the other: laws for whoever writes files.
 use Rattle.std.proofs.Common.{◌≡◌, ◌≢◌, ◌≤◌, ℕ, Bool, true, false, MatchBool, List, [], ◌∷◌, Result, Ok, Err, refl, sym, ◌∙◌, ap, subst, arith}
+use Rattle.mkv_io.specs.Asked.{IsBesides}
 use Rattle.mkv_io.specs.Faults.{HasCause, HasRisen}
 use Rattle.mkv_io.specs.LiveFiles.{IsSameFile, KeepsFiles, KeepsHolders, LiveFiles}
 use Rattle.mkv_io.specs.Names.{AreOthers}
 use Rattle.mkv_io.specs.Sources.{OnlyReads, live_files}
-use Rattle.mkv_io.specs.Writing.{KeepsOthers, WritesOnly}
+use Rattle.mkv_io.specs.Writing.{KeepsOthers, UsesOnly, WritesOnly}
+use Rattle.mkv_io.proofs.AskedLemmas.{asks-more, asks-none}
 use Rattle.mkv_io.specs.declared.reads.Reads.{Ghosts}
 use Rattle.mkv_io.specs.declared.files.Files as writing
 
@@ -19,17 +21,18 @@ IsSameFile-twice a b c file first next = record {
 -- ---- what stays
 
 -- nothing happens
-pub KeepsOthers-none : {S : Type 0} (r : Ghosts S) (f : writing.Ghosts S) (names : List (List ℕ)) (files : S) → KeepsOthers r f names files files
-KeepsOthers-none r f names files = record {
+pub UsesOnly-none : {S : Type 0} (r : Ghosts S) (f : writing.Ghosts S) (opened written : List (List ℕ)) (files : S) → UsesOnly r f opened written files files
+UsesOnly-none r f opened written files = record {
   live = λ file. refl;
   given = omega arith;
   holders = λ file live. refl;
   others = λ file is. record { alive = refl; size = λ live. refl; content = λ live. refl };
+  asks = λ name besides unasked. unasked;
 }
 
 -- two calls
-pub KeepsOthers-then : {S : Type 0} (r : Ghosts S) (f : writing.Ghosts S) (names : List (List ℕ)) (a b c : S) → KeepsOthers r f names a b → KeepsOthers r f names b c → KeepsOthers r f names a c
-KeepsOthers-then r f names a b c first next = record {
+pub UsesOnly-then : {S : Type 0} (r : Ghosts S) (f : writing.Ghosts S) (opened written : List (List ℕ)) (a b c : S) → UsesOnly r f opened written a b → UsesOnly r f opened written b c → UsesOnly r f opened written a c
+UsesOnly-then r f opened written a b c first next = record {
   live = λ file. next.live file ∙ first.live file;
   given = let earlier = first.given in let later = next.given in omega arith;
   holders = λ file live. next.holders file (first.live file ∙ live) ∙ first.holders file live;
@@ -38,34 +41,53 @@ KeepsOthers-then r f names a b c first next = record {
     size = λ live. (again file other live).size (first.live file ∙ live) ∙ (first.others file other).size live;
     content = λ live. (again file other live).content (first.live file ∙ live) ∙ (first.others file other).content live;
   };
+  asks = λ name besides unasked. next.asks name besides (first.asks name besides unasked);
 }
   where
-    again : (file : ℕ) → AreOthers (f.holder a file) names → (live_files r a).live file ≡ true → IsSameFile (live_files r b) (live_files r c) file
+    again : (file : ℕ) → AreOthers (f.holder a file) written → (live_files r a).live file ≡ true → IsSameFile (live_files r b) (live_files r c) file
     again file other live =
-        let P : List ℕ → Type 0 = λ name. AreOthers name names in
+        let P : List ℕ → Type 0 = λ name. AreOthers name written in
         next.others file (subst P (sym (first.holders file live)) other)
 
--- what leaves all names but these leaves all but these and more
-pub KeepsOthers-more : {S : Type 0} (r : Ghosts S) (f : writing.Ghosts S) (names more : List (List ℕ)) (old new : S) → ((name : List ℕ) → AreOthers name more → AreOthers name names) → KeepsOthers r f names old new → KeepsOthers r f more old new
-KeepsOthers-more r f names more old new among kept = record {
+-- what uses only these names uses only these and more
+pub UsesOnly-more : {S : Type 0} (r : Ghosts S) (f : writing.Ghosts S) (opened written more_opened more_written : List (List ℕ)) (old new : S) → ((name : List ℕ) → AreOthers name more_opened → AreOthers name opened) → ((name : List ℕ) → AreOthers name more_written → AreOthers name written) → UsesOnly r f opened written old new → UsesOnly r f more_opened more_written old new
+UsesOnly-more r f opened written more_opened more_written old new open_among among kept = record {
   live = kept.live;
   given = kept.given;
   holders = kept.holders;
   others = λ file other. kept.others file (among (f.holder old file) other);
+  asks = asks-more opened written more_opened more_written (f.asked old) (f.asked new) open_among among kept.asks;
 }
 
--- a call that only reads leaves all names
-pub KeepsOthers-read : {S : Type 0} (r : Ghosts S) (f : writing.Ghosts S) (names : List (List ℕ)) (old new : S) → OnlyReads r old new → f.given new ≡ f.given old → ((file : ℕ) → f.holder new file ≡ f.holder old file) → KeepsOthers r f names old new
-KeepsOthers-read r f names old new reads given holders = record {
-  live = λ file. ap (λ standing. (r.files standing).live file) reads.standing;
+-- a call that leaves all that stands uses none
+pub UsesOnly-standing : {S : Type 0} (r : Ghosts S) (f : writing.Ghosts S) (opened written : List (List ℕ)) (old new : S) → r.standing new ≡ r.standing old → f.given new ≡ f.given old → KeepsHolders (live_files r old).live (f.holder old) (f.holder new) → f.asked new ≡ f.asked old → UsesOnly r f opened written old new
+UsesOnly-standing r f opened written old new stands given holders asked = record {
+  live = λ file. ap (λ standing. (r.files standing).live file) stands;
   given = omega (arith, given);
-  holders = λ file live. holders file;
+  holders = holders;
   others = λ file is. record {
-    alive = ap (λ standing. (r.files standing).live file) reads.standing;
-    size = λ live. ap (λ standing. (r.files standing).size file) reads.standing;
-    content = λ live. ap (λ standing. (r.files standing).content file) reads.standing;
+    alive = ap (λ standing. (r.files standing).live file) stands;
+    size = λ live. ap (λ standing. (r.files standing).size file) stands;
+    content = λ live. ap (λ standing. (r.files standing).content file) stands;
   };
+  asks = asks-none (IsBesides opened written) (f.asked old) (f.asked new) asked;
 }
+
+-- ---- calls that open none
+
+pub KeepsOthers-none : {S : Type 0} (r : Ghosts S) (f : writing.Ghosts S) (names : List (List ℕ)) (files : S) → KeepsOthers r f names files files
+KeepsOthers-none r f names files = UsesOnly-none r f [] names files
+
+pub KeepsOthers-then : {S : Type 0} (r : Ghosts S) (f : writing.Ghosts S) (names : List (List ℕ)) (a b c : S) → KeepsOthers r f names a b → KeepsOthers r f names b c → KeepsOthers r f names a c
+KeepsOthers-then r f names a b c first next = UsesOnly-then r f [] names a b c first next
+
+-- what leaves all names but these leaves all but these and more
+pub KeepsOthers-more : {S : Type 0} (r : Ghosts S) (f : writing.Ghosts S) (names more : List (List ℕ)) (old new : S) → ((name : List ℕ) → AreOthers name more → AreOthers name names) → KeepsOthers r f names old new → KeepsOthers r f more old new
+KeepsOthers-more r f names more old new among kept = UsesOnly-more r f [] names [] more old new (λ name others. others) among kept
+
+-- a call that only reads leaves all names
+pub KeepsOthers-read : {S : Type 0} (r : Ghosts S) (f : writing.Ghosts S) (names : List (List ℕ)) (old new : S) → OnlyReads r old new → f.given new ≡ f.given old → ((file : ℕ) → f.holder new file ≡ f.holder old file) → f.asked new ≡ f.asked old → KeepsOthers r f names old new
+KeepsOthers-read r f names old new reads given holders asked = UsesOnly-standing r f [] names old new reads.standing given (λ file live. holders file) asked
 
 -- ---- calls that write
 
@@ -111,9 +133,10 @@ pub WritesOnly-one : {S T E : Type 0} (r : Ghosts S) (f : writing.Ghosts S) (old
     → HasCause is_fault (f.writing_faults old) (f.writing_faults new) result
     → r.reading_faults new ≡ r.reading_faults old
     → r.octets_read new ≡ r.octets_read old
+    → f.asked new ≡ f.asked old
     → WritesOnly r f (f.holder old file ∷ []) old new
-WritesOnly-one r f old new file is_fault result given alive others holders cause reading octets = record {
-  kept = record { live = alive; given = omega (arith, given); holders = holders; others = λ other differs. others other (λ same. differs.0 (sym same)) };
+WritesOnly-one r f old new file is_fault result given alive others holders cause reading octets asked = record {
+  kept = record { live = alive; given = omega (arith, given); holders = holders; others = λ other differs. others other (λ same. differs.0 (sym same)); asks = asks-none (IsBesides [] (f.holder old file ∷ [])) (f.asked old) (f.asked new) asked };
   given = given;
   reading = reading;
   octets = octets;

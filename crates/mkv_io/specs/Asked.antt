@@ -1,7 +1,9 @@
 -- The names under which files were opened or made, in order; that of a making that failed may be among them.
-use Rattle.std.specs.Prelude.{◌≡◌, ◌⊎◌, List, [], ◌∷◌, ◌++◌, Result, Ok, Err}
+use Rattle.std.specs.Prelude.{◌≡◌, ◌≢◌, ◌⊎◌, ℕ, List, [], ◌∷◌, ◌++◌, Result, Ok, Err}
 use Rattle.std.specs.List.{All}
 use Rattle.mkv_io.specs.declared.asked.Asked.{Asked}
+use Rattle.mkv_io.specs.declared.asked.Asked.TheVariants.{Made, Opened}
+use Rattle.mkv_io.specs.Names.{AreOthers}
 
 -- A call that opens or makes a file adds its name behind the others. One that is refused adds it or none: a file may
 -- have been made or emptied before its making failed.
@@ -9,8 +11,19 @@ abbrev pub AsksFor : {T E : Type 0} → Asked → List Asked → List Asked → 
 AsksFor name old new (Ok _) = new ≡ old ++ name ∷ []
 AsksFor name old new (Err _) = (new ≡ old) ⊎ (new ≡ old ++ name ∷ [])
 
--- All names that were added since are of this kind.
-pub record AsksOnly (Is : Asked → Type 0) (old new : List Asked) : Type 0 where
-  pub more : List Asked
-  pub added : new ≡ old ++ more
-  pub each : All Is more
+-- The name wasn't asked for.
+abbrev pub IsUnasked : Asked → List Asked → Type 0
+IsUnasked name asked = All (λ (other : Asked). other ≢ name) asked
+
+-- None of these names was asked for since.
+abbrev pub AsksNone : (Asked → Type 0) → List Asked → List Asked → Type 0
+AsksNone Are old new = (name : Asked) → Are name → IsUnasked name old → IsUnasked name new
+
+-- It isn't one of the names that may be opened, nor of those that may be made.
+abbrev pub IsBesides : List (List ℕ) → List (List ℕ) → Asked → Type 0
+IsBesides opened made (Opened name) = AreOthers name opened
+IsBesides opened made (Made name) = AreOthers name made
+
+-- Only these names were opened since, and only these were made.
+abbrev pub AsksOnly : List (List ℕ) → List (List ℕ) → List Asked → List Asked → Type 0
+AsksOnly opened made old new = AsksNone (IsBesides opened made) old new

@@ -1,18 +1,24 @@
 -- What a call leaves that only writes to live files.
-use Rattle.std.specs.Prelude.{◌≡◌, ◌≤◌, ℕ, List}
+use Rattle.std.specs.Prelude.{◌≡◌, ◌≤◌, ℕ, List, []}
+use Rattle.mkv_io.specs.Asked.{AsksOnly}
 use Rattle.mkv_io.specs.LiveFiles.{KeepsFiles, KeepsHolders}
 use Rattle.mkv_io.specs.Names.{AreOthers}
 use Rattle.mkv_io.specs.Sources.{live_files}
 use Rattle.mkv_io.specs.declared.reads.Reads.{Ghosts}
 use Rattle.mkv_io.specs.declared.files.Files as writing
 
--- Which files are live stays, and under which names; and the files of all names but these stay the same. A number
--- that was given stays so.
-pub record KeepsOthers {S : Type 0} (r : Ghosts S) (f : writing.Ghosts S) (names : List (List ℕ)) (old new : S) : Type 0 where
+-- A call opens files of these names alone, and makes or writes those of the others alone: which files are live stays, and
+-- under which names; and those of no name that is written stay the same. A number that was given stays so.
+pub record UsesOnly {S : Type 0} (r : Ghosts S) (f : writing.Ghosts S) (opened written : List (List ℕ)) (old new : S) : Type 0 where
   pub live : (file : ℕ) → (live_files r new).live file ≡ (live_files r old).live file
   pub given : f.given old ≤ f.given new
   pub holders : KeepsHolders (live_files r old).live (f.holder old) (f.holder new)
-  pub others : KeepsFiles (live_files r old) (live_files r new) (λ file. AreOthers (f.holder old file) names)
+  pub others : KeepsFiles (live_files r old) (live_files r new) (λ file. AreOthers (f.holder old file) written)
+  pub asks : AsksOnly opened written (f.asked old) (f.asked new)
+
+-- It opens none.
+abbrev pub KeepsOthers : {S : Type 0} → Ghosts S → writing.Ghosts S → List (List ℕ) → S → S → Type 0
+KeepsOthers r f names old new = UsesOnly r f [] names old new
 
 -- A call that only writes under these names keeps the live files of all others; what the names then tell is said
 -- elsewhere. It gives no number and reads nothing, and its count of faults doesn't fall.
