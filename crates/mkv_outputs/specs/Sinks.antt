@@ -2,6 +2,7 @@
 use Rattle.std.specs.Prelude.{◌≡◌, ◌≢◌, ◌<◌, ◌≤◌, ℕ, List, [], ◌∷◌, map, Bool, true, false, Result, Ok, Err}
 use Rattle.std.specs.List.{All, AllPairs, AllWithin}
 use Rattle.mkv_io.specs.declared.outside.FileId.{FileId}
+use Rattle.mkv_io.specs.Asked.{AsksOnly}
 use Rattle.mkv_io.specs.LiveFiles.{KeepsFiles, KeepsHolders}
 use Rattle.mkv_io.specs.Names.{AreApart, AreOthers, Names}
 use Rattle.mkv_io.specs.Sources.{live_files}
@@ -54,6 +55,7 @@ pub record MakesOnly {S : Type 0} (r : Ghosts S) (f : writing.Ghosts S) (name : 
   pub alive : (file : ℕ) → file < f.given old → (live_files r new).live file ≡ (live_files r old).live file
   pub holders : KeepsHolders (live_files r old).live (f.holder old) (f.holder new)
   pub others : KeepsFiles (live_files r old) (live_files r new) (λ file. (file < f.given old) × (f.holder old file ≢ name))
+  pub asks : AsksOnly [] (name ∷ []) (f.asked old) (f.asked new)
   pub reading : r.reading_faults new ≡ r.reading_faults old
   pub octets : r.octets_read new ≡ r.octets_read old
 
@@ -70,18 +72,20 @@ pub record EndsOnly {S : Type 0} (r : Ghosts S) (f : writing.Ghosts S) (old new 
   pub names : f.names new ≡ f.names old
   pub given : f.given new ≡ f.given old
   pub holders : KeepsHolders (live_files r new).live (f.holder old) (f.holder new)
+  pub asked : f.asked new ≡ f.asked old
   pub writing : f.writing_faults new ≡ f.writing_faults old
   pub reading : r.reading_faults new ≡ r.reading_faults old
   pub octets : r.octets_read new ≡ r.octets_read old
 
--- Since the files were so, these outputs were made, and names among these were written: every other file is live as
--- before, each keeps its name, and the files of other names stay the same.
+-- Since the files were so, these outputs were made, and names among these were made or written: every other file is live
+-- as before, each keeps its name, and the files of other names stay the same.
 pub record MadeSince {S : Type 0} (r : Ghosts S) (f : writing.Ghosts S) (names : List (List ℕ)) (old new : S) (sinks : List Sink) : Type 0 where
   pub newer : All (λ (s : FileId). f.given old ≤ s.n) (ids_of sinks)
   pub besides : (file : ℕ) → IsNoneOf file (ids_of sinks) → (live_files r new).live file ≡ (live_files r old).live file
   pub given : f.given old ≤ f.given new
   pub holders : KeepsHolders (live_files r old).live (f.holder old) (f.holder new)
   pub others : KeepsFiles (live_files r old) (live_files r new) (λ file. ((live_files r old).live file ≡ true) × AreOthers (f.holder old file) names)
+  pub asks : AsksOnly [] names (f.asked old) (f.asked new)
 
 -- ---- what was given
 

@@ -1,12 +1,15 @@
 -- Files that are only looked into.
 use Rattle.std.proofs.Common.{◌≡◌, ◌≢◌, ◌⊎◌, inl, inr, ◌<◌, ◌≤◌, ℕ, Bool, true, false, List, [], Option, Some, None, refl, sym, ◌∙◌, ap, arith}
 use Rattle.std.proofs.lemmas.Bool.{cases_eq}
+use Rattle.mkv_io.specs.Asked.{AsksOnly, IsBesides}
 use Rattle.mkv_io.specs.LiveFiles.{IsSameFile, KeepsFiles, KeepsHolders}
+use Rattle.mkv_io.specs.Names.{AreOthers}
 use Rattle.mkv_io.specs.Sources.{live_files}
-use Rattle.mkv_io.specs.Writing.{KeepsOthers}
+use Rattle.mkv_io.specs.Writing.{UsesOnly}
 use Rattle.mkv_io.specs.declared.reads.Reads.{Ghosts}
 use Rattle.mkv_io.specs.declared.files.Files as writing
-use Rattle.mkv_io.proofs.WritingLemmas.{IsSameFile-twice, KeepsOthers-none, KeepsOthers-then}
+use Rattle.mkv_io.proofs.AskedLemmas.{asks-both, asks-none}
+use Rattle.mkv_io.proofs.WritingLemmas.{IsSameFile-twice, UsesOnly-more, UsesOnly-none, UsesOnly-standing, UsesOnly-then}
 use Rattle.sidecar_edit.specs.declared.held.Gate.{Gate}
 use Rattle.sidecar_edit.specs.Gate.{state}
 use Rattle.sidecar_edit.specs.Pending.{LooksOnly, holds_edit, is_begun}
@@ -18,40 +21,37 @@ holds-read (Some bytes) held there read = ap is_begun (read bytes refl)
 
 -- ---- one call after the other
 
-pub LooksOnly-none : {S : Type 0} (r : Ghosts S) (f : writing.Ghosts S) (files : S) → LooksOnly r f files files
-LooksOnly-none r f files = record { kept = KeepsOthers-none r f [] files; names = refl; writing = refl }
+pub LooksOnly-none : {S : Type 0} (r : Ghosts S) (f : writing.Ghosts S) (opened : List (List ℕ)) (files : S) → LooksOnly r f opened files files
+LooksOnly-none r f opened files = record { kept = UsesOnly-none r f opened [] files; names = refl; writing = refl }
 
-pub LooksOnly-then : {S : Type 0} (r : Ghosts S) (f : writing.Ghosts S) (a b c : S) → LooksOnly r f a b → LooksOnly r f b c → LooksOnly r f a c
-LooksOnly-then r f a b c first next = record {
-  kept = KeepsOthers-then r f [] a b c first.kept next.kept;
+pub LooksOnly-then : {S : Type 0} (r : Ghosts S) (f : writing.Ghosts S) (opened : List (List ℕ)) (a b c : S) → LooksOnly r f opened a b → LooksOnly r f opened b c → LooksOnly r f opened a c
+LooksOnly-then r f opened a b c first next = record {
+  kept = UsesOnly-then r f opened [] a b c first.kept next.kept;
   names = next.names ∙ first.names;
   writing = next.writing ∙ first.writing;
 }
 
--- ---- a call that leaves all that stands
-
-pub KeepsOthers-standing : {S : Type 0} (r : Ghosts S) (f : writing.Ghosts S) (names : List (List ℕ)) (old new : S) → r.standing new ≡ r.standing old → f.given new ≡ f.given old → KeepsHolders (live_files r old).live (f.holder old) (f.holder new) → KeepsOthers r f names old new
-KeepsOthers-standing r f names old new stands given holders = record {
-  live = λ file. ap (λ standing. (r.files standing).live file) stands;
-  given = omega (arith, given);
-  holders = holders;
-  others = λ file is. record {
-    alive = ap (λ standing. (r.files standing).live file) stands;
-    size = λ live. ap (λ standing. (r.files standing).size file) stands;
-    content = λ live. ap (λ standing. (r.files standing).content file) stands;
-  };
+-- what looks only into these files looks only into these and more
+pub LooksOnly-more : {S : Type 0} (r : Ghosts S) (f : writing.Ghosts S) (opened more : List (List ℕ)) (old new : S) → ((name : List ℕ) → AreOthers name more → AreOthers name opened) → LooksOnly r f opened old new → LooksOnly r f more old new
+LooksOnly-more r f opened more old new among looks = record {
+  kept = UsesOnly-more r f opened [] more [] old new among (λ name others. others) looks.kept;
+  names = looks.names;
+  writing = looks.writing;
 }
 
--- Names, holders, numbers and writing faults are functions of what stands.
+-- ---- a call that leaves all that stands
+
+-- Names, holders, numbers, writing faults and what was asked for are functions of what stands.
 pub record AreStanding {S : Type 0} (r : Ghosts S) (f : writing.Ghosts S) : Type 0 where
   pub names : (a b : S) → r.standing a ≡ r.standing b → f.names a ≡ f.names b
   pub holders : (a b : S) → r.standing a ≡ r.standing b → (file : ℕ) → f.holder a file ≡ f.holder b file
   pub given : (a b : S) → r.standing a ≡ r.standing b → f.given a ≡ f.given b
   pub writing : (a b : S) → r.standing a ≡ r.standing b → f.writing_faults a ≡ f.writing_faults b
+  pub asked : (a b : S) → r.standing a ≡ r.standing b → f.asked a ≡ f.asked b
 
-pub LooksOnly-standing : {S : Type 0} (r : Ghosts S) (f : writing.Ghosts S) (old new : S) → AreStanding r f → r.standing new ≡ r.standing old → LooksOnly r f old new
-LooksOnly-standing r f old new laws stands = record {
-  kept = KeepsOthers-standing r f [] old new stands (laws.given new old stands) (λ file live. laws.holders new old stands file);
+pub LooksOnly-standing : {S : Type 0} (r : Ghosts S) (f : writing.Ghosts S) (opened : List (List ℕ)) (old new : S) → AreStanding r f → r.standing new ≡ r.standing old → LooksOnly r f opened old new
+LooksOnly-standing r f opened old new laws stands = record {
+  kept = UsesOnly-standing r f opened [] old new stands (laws.given new old stands) (λ file live. laws.holders new old stands file) (laws.asked new old stands);
   names = laws.names new old stands;
   writing = laws.writing new old stands;
 }
@@ -59,7 +59,8 @@ LooksOnly-standing r f old new laws stands = record {
 -- ---- a file is opened, read and closed
 
 -- A file was opened under a new number, was only read, and was closed.
-pub record IsLookedInto {S : Type 0} (r : Ghosts S) (f : writing.Ghosts S) (old opened read closed : S) (file : ℕ) : Type 0 where
+-- Only files of these names were opened.
+pub record IsLookedInto {S : Type 0} (r : Ghosts S) (f : writing.Ghosts S) (opens : List (List ℕ)) (old opened read closed : S) (file : ℕ) : Type 0 where
   pub least : f.given old ≤ file
   pub most : file < f.given opened
   pub alone : (other : ℕ) → other ≢ file → (live_files r opened).live other ≡ (live_files r old).live other
@@ -72,9 +73,11 @@ pub record IsLookedInto {S : Type 0} (r : Ghosts S) (f : writing.Ghosts S) (old 
   pub closed_given : f.given closed ≡ f.given read
   pub closed_others : KeepsFiles (live_files r read) (live_files r closed) (λ other. other ≢ file)
   pub closed_holders : KeepsHolders (live_files r closed).live (f.holder read) (f.holder closed)
+  pub asks : AsksOnly opens [] (f.asked old) (f.asked opened)
+  pub asked : f.asked closed ≡ f.asked opened
 
-pub KeepsOthers-looked : {S : Type 0} (r : Ghosts S) (f : writing.Ghosts S) (old opened read closed : S) (file : ℕ) → ((files : S) (other : ℕ) → (live_files r files).live other ≡ true → other < f.given files) → IsLookedInto r f old opened read closed file → KeepsOthers r f [] old closed
-KeepsOthers-looked r f old opened read closed file numbered looked = record {
+pub UsesOnly-looked : {S : Type 0} (r : Ghosts S) (f : writing.Ghosts S) (opens : List (List ℕ)) (old opened read closed : S) (file : ℕ) → ((files : S) (other : ℕ) → (live_files r files).live other ≡ true → other < f.given files) → IsLookedInto r f opens old opened read closed file → UsesOnly r f opens [] old closed
+UsesOnly-looked r f opens old opened read closed file numbered looked = record {
   live = alive;
   given = let least = looked.least in let most = looked.most in omega (arith, looked.given, looked.closed_given);
   holders = λ other live.
@@ -84,6 +87,7 @@ KeepsOthers-looked r f old opened read closed file numbered looked = record {
     size = λ live. (same other live).size live;
     content = λ live. (same other live).content live;
   };
+  asks = asks-both (IsBesides opens []) (f.asked old) (f.asked opened) (f.asked closed) looked.asks (asks-none (IsBesides opens []) (f.asked opened) (f.asked closed) looked.asked);
 }
   where
     -- a file that was live before has another number

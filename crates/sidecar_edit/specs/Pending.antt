@@ -1,6 +1,6 @@
 -- Whether an edit of a file is pending, and what a call leaves that only looks.
 use Rattle.std.specs.Prelude.{◌≡◌, ℕ, Bool, true, false, List, [], Option, Some, None}
-use Rattle.mkv_io.specs.Writing.{KeepsOthers}
+use Rattle.mkv_io.specs.Writing.{UsesOnly}
 use Rattle.mkv_io.specs.declared.reads.Reads.{Ghosts}
 use Rattle.mkv_io.specs.declared.files.Files as writing
 use Rattle.sidecar_edit.specs.declared.held.Gate.{Gate}
@@ -23,8 +23,9 @@ holds_edit (Some sidecar) = is_begun (state sidecar)
 abbrev pub is_pending : (List ℕ → Option (List ℕ)) → List ℕ → Bool
 is_pending world name = holds_edit (world (sidecar_of name))
 
--- A call that only looks into files leaves which of them are live, each live one as it was, and the content of every name.
-pub record LooksOnly {S : Type 0} (r : Ghosts S) (f : writing.Ghosts S) (old new : S) : Type 0 where
-  pub kept : KeepsOthers r f [] old new
+-- A call that only looks into files of these names leaves which files are live, each live one as it was, and the content of
+-- every name.
+pub record LooksOnly {S : Type 0} (r : Ghosts S) (f : writing.Ghosts S) (opened : List (List ℕ)) (old new : S) : Type 0 where
+  pub kept : UsesOnly r f opened [] old new
   pub names : f.names new ≡ f.names old
   pub writing : f.writing_faults new ≡ f.writing_faults old

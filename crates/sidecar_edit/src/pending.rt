@@ -1,9 +1,10 @@
 //! The sidecar of a file is looked into.
 
-ghost use Rattle.std.specs.Prelude.{◌≡◌, ◌+◌, ◌≤◌, IfOk};
+ghost use Rattle.std.specs.Prelude.{◌≡◌, ◌+◌, ◌≤◌, [], ◌∷◌, IfOk};
 ghost use Rattle.mkv_io.specs.Faults.{HasCause, is_read_fault};
 ghost use Rattle.mkv_io.specs.Told.{Told};
 ghost use Rattle.sidecar_edit.specs.declared.place.TheConstants.{HEAD};
+ghost use Rattle.sidecar_edit.specs.Name.{sidecar_of};
 ghost use Rattle.sidecar_edit.specs.Pending.{LooksOnly, is_begun, is_pending};
 
 use crate::held::Gate;
@@ -16,7 +17,7 @@ use std::alloc::Global;
 /// read is a `ReadFault`.
 pub fn is_pending<F: Files>(alloc: Global, name: &str, files: &mut F) -> Result<bool, ReadEnd>
     ensures exact { Told (F.names files.old) (λ world. IfOk result (λ pending. pending ≡ is_pending world name.now)) }
-    ensures looks { LooksOnly F.Reads F.Files.own files.old files.new }
+    ensures looks { LooksOnly F.Reads F.Files.own (sidecar_of name.now ∷ []) files.old files.new }
     ensures cause { HasCause is_read_fault (F.reading_faults files.old) (F.reading_faults files.new) result }
     ensures octets { F.octets_read files.new ≤ F.octets_read files.old + HEAD }
 {

@@ -1,7 +1,9 @@
-use Rattle.std.proofs.Common.{◌≡◌, List, ℕ, ◌∙◌, ap}
+use Rattle.std.proofs.Common.{◌≡◌, List, [], ◌∷◌, ℕ, ◌∙◌, ap, subst}
+use Rattle.mkv_io.proofs.AskedLemmas.{asks-opened}
+use Rattle.mkv_io.specs.Asked.{AsksOnly}
 use Rattle.sidecar_edit.specs.Name.{sidecar_of}
 use Rattle.sidecar_edit.specs.Pending.{holds_edit}
-use Rattle.sidecar_edit.proofs.LooksLemmas.{KeepsOthers-looked, holds-read}
+use Rattle.sidecar_edit.proofs.LooksLemmas.{UsesOnly-looked, holds-read}
 use Rattle.sidecar_edit.proofs.pending.is_pending.Goals as goal
 
 -- the sidecar was there, and what it holds was read
@@ -22,8 +24,9 @@ returns-clause-looks g c =
     let opened = c.open_file.new.self in
     let read = c.state-held.new.src in
     let standing = c.state-held.ensures.only.standing in
+    let P : List ℕ → Type 0 = λ name. AsksOnly (name ∷ []) [] (g.F.Files.asked c.args.files.now) (g.F.Files.asked opened) in
     record {
-      kept = KeepsOthers-looked g.F.Reads g.F.Files c.args.files.now opened read c.close.new.self c.in-Ok.file.n laws.numbered (record {
+      kept = UsesOnly-looked g.F.Reads g.F.Files (sidecar_of c.args.name.now ∷ []) c.args.files.now opened read c.close.new.self c.in-Ok.file.n laws.numbered (record {
         least = c.in-Ok.ensures.number.0;
         most = c.in-Ok.ensures.number.1;
         alone = c.in-Ok.ensures.alone;
@@ -36,6 +39,8 @@ returns-clause-looks g c =
         closed_given = c.close.ensures.given;
         closed_others = c.close.ensures.others;
         closed_holders = c.close.ensures.holders;
+        asks = subst P (c.as_str.ensures.same ∙ c.in_ok-sidecar.ensures) (asks-opened c.as_str.result.now [] (g.F.Files.asked c.args.files.now) (g.F.Files.asked opened) c.open_file.result c.open_file.ensures.asks);
+        asked = c.close.ensures.asks ∙ laws.asked_stands read opened standing;
       });
       names = c.close.ensures.names ∙ laws.names_stand read opened standing ∙ c.open_file.ensures.names;
       writing = c.close.ensures.writing ∙ laws.writing_stands read opened standing ∙ c.open_file.ensures.writing;

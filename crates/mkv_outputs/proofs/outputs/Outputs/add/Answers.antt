@@ -1,5 +1,6 @@
 use Rattle.mkv_io.specs.declared.outside.FileId.{FileId}
 use Rattle.std.proofs.Common.{ℕ, length, ◌<◌, ◌≡◌, ◌++◌, ◌∷◌, [], List, ap, arith, inl, refl, sym, subst, ◌∙◌}
+use Rattle.mkv_io.proofs.AskedLemmas.{asks-made}
 use Rattle.mkv_outputs.specs.Outputs.{empty}
 use Rattle.mkv_outputs.specs.Sinks.{HaveBeenGiven, MakesOnly, ids_of}
 use Rattle.mkv_outputs.specs.declared.sink.Sink.{Sink}
@@ -48,6 +49,7 @@ returns-clause-only g c =
       alive = c.create.ensures.alive;
       holders = c.create.ensures.holders;
       others = c.create.ensures.others;
+      asks = asks-made [] c.args.name.now (g.F.Files.asked c.args.files.now) (g.F.Files.asked c.create.new.self) c.create.result c.create.ensures.asks;
       reading = c.create.ensures.reading;
       octets = c.create.ensures.octets;
     })

@@ -40,6 +40,7 @@ loop-sink-preserved g c =
           let other = still-live (g.F.Reads.files (g.F.Reads.standing c.close.new.self)).live c.sink-item.result.file.n file c.close.ensures.ended live in
           c.close.ensures.holders file live ∙ c.loop-sink.invariant.holders file (sym (c.close.ensures.others file other).alive ∙ live);
       numbers = c.close.ensures.given ∙ c.loop-sink.invariant.numbers;
+      asked = c.close.ensures.asks ∙ c.loop-sink.invariant.asked;
       writing = c.close.ensures.writing ∙ c.loop-sink.invariant.writing;
       reading = c.close.ensures.reading ∙ c.loop-sink.invariant.reading;
       octets = c.close.ensures.octets ∙ c.loop-sink.invariant.octets;
