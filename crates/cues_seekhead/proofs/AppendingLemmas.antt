@@ -174,10 +174,10 @@ IsAppended-told (Err fault) None old new name octets at n told untold some = Pas
 
 -- Octets are read from another file, and then appended.
 pub AppendsOnly-read : {S T : Type 0} (r : Ghosts S) (f : writing.Ghosts S) (file : FileId) (content : Option (List ℕ)) (octets : List ℕ) (at n : ℕ) (a b c : S) (result : Result T RemuxEnd)
-    → OnlyReads r a b → r.reading_faults b ≡ r.reading_faults a → r.octets_read b ≤ r.octets_read a + n → f.names b ≡ f.names a → ((k : ℕ) → f.holder b k ≡ f.holder a k) → f.given b ≡ f.given a → f.writing_faults b ≡ f.writing_faults a
+    → OnlyReads r a b → r.reading_faults b ≡ r.reading_faults a → r.octets_read b ≤ r.octets_read a + n → f.names b ≡ f.names a → ((k : ℕ) → f.holder b k ≡ f.holder a k) → f.given b ≡ f.given a → f.writing_faults b ≡ f.writing_faults a → f.asked b ≡ f.asked a
     → Told content (λ bytes. octets ≡ octets_from bytes at n) → (content ≡ None → f.names a ≡ None) → length octets ≡ length (octets_told content at n)
     → AppendsOnly r f file octets 0 b c result → AppendsOnly r f file (octets_told content at n) n a c result
-AppendsOnly-read r f file content octets at n a b c result reads faults most names holders given written told untold same appends =
+AppendsOnly-read r f file content octets at n a b c result reads faults most names holders given written asked told untold same appends =
     let holder = holders file.n in
     record {
       appended =
@@ -185,7 +185,7 @@ AppendsOnly-read r f file content octets at n a b c result reads faults most nam
           let Q : List ℕ → Type 0 = λ name. IsAppended (f.names a) (f.names c) name octets result in
           IsAppended-told result content (f.names a) (f.names c) (f.holder a file.n) octets at n told untold (subst Q holder (subst P names appends.appended));
       size = OnOk-map result (λ size. omega (arith, size, same, ap (λ standing. (r.files standing).size file.n) reads.standing)) appends.size;
-      kept = KeepsOthers-then r f (f.holder a file.n ∷ []) a b c (KeepsOthers-read r f (f.holder a file.n ∷ []) a b reads given holders)
+      kept = KeepsOthers-then r f (f.holder a file.n ∷ []) a b c (KeepsOthers-read r f (f.holder a file.n ∷ []) a b reads given holders asked)
           (let P : List ℕ → Type 0 = λ name. KeepsOthers r f (name ∷ []) b c in subst P holder appends.kept);
       cause = cause-after r f a b c result faults written appends.cause;
       reads = omega (arith, appends.reads, most);
@@ -193,12 +193,12 @@ AppendsOnly-read r f file content octets at n a b c result reads faults most nam
 
 -- the read failed
 pub AppendsOnly-unread : {S T : Type 0} (r : Ghosts S) (f : writing.Ghosts S) (file : FileId) (octets : List ℕ) (n : ℕ) (a b : S)
-    → OnlyReads r a b → HasRisen (r.reading_faults a) (r.reading_faults b) → r.octets_read b ≤ r.octets_read a + n → f.names b ≡ f.names a → ((k : ℕ) → f.holder b k ≡ f.holder a k) → f.given b ≡ f.given a → f.writing_faults b ≡ f.writing_faults a
+    → OnlyReads r a b → HasRisen (r.reading_faults a) (r.reading_faults b) → r.octets_read b ≤ r.octets_read a + n → f.names b ≡ f.names a → ((k : ℕ) → f.holder b k ≡ f.holder a k) → f.given b ≡ f.given a → f.writing_faults b ≡ f.writing_faults a → f.asked b ≡ f.asked a
     → AppendsOnly {T = T} r f file octets n a b (Err remux_end.ReadFault)
-AppendsOnly-unread r f file octets n a b reads rose most names holders given written = record {
+AppendsOnly-unread r f file octets n a b reads rose most names holders given written asked = record {
   appended = PassesSome-none (f.names a) (f.names b) (f.holder a file.n) octets names;
   size = tt;
-  kept = KeepsOthers-read r f (f.holder a file.n ∷ []) a b reads given holders;
+  kept = KeepsOthers-read r f (f.holder a file.n ∷ []) a b reads given holders asked;
   cause = record { reading = rose; writing = written };
   reads = most;
 }

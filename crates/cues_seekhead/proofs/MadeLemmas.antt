@@ -1,11 +1,13 @@
 -- A file that is made, written and ended.
 use Rattle.std.proofs.Common.{◌≡◌, ◌≤◌, ◌<◌, ℕ, zero, suc, List, [], ◌∷◌, true, get_or, sym, ◌∙◌, subst, arith}
 use Rattle.mkv_io.specs.declared.outside.FileId.{FileId}
+use Rattle.mkv_io.specs.Asked.{IsBesides}
 use Rattle.mkv_io.specs.Names.{AreOthers}
 use Rattle.mkv_io.specs.Sources.{live_files}
 use Rattle.mkv_io.specs.Writing.{KeepsOthers}
 use Rattle.mkv_io.specs.declared.reads.Reads.{Ghosts}
 use Rattle.mkv_io.specs.declared.files.Files as writing
+use Rattle.mkv_io.proofs.AskedLemmas.{asks-both}
 use Rattle.mkv_io.proofs.WritingLemmas.{IsSameFile-twice}
 use Rattle.mkv_outputs.specs.Sinks.{EndsOnly, MadeSince}
 use Rattle.mkv_outputs.proofs.FilesLemmas.{KeepsOthers-ended}
@@ -22,6 +24,7 @@ MakesFile-kept r f name file a b c numbered made kept = record {
   holders = λ other live. kept.holders other (stays other live) ∙ made.holders other live;
   others = λ other is. IsSameFile-twice (live_files r a) (live_files r b) (live_files r c) other (made.others other is)
       (kept.others other (let P : List ℕ → Type 0 = λ n. AreOthers n (name ∷ []) in subst P (sym (made.holders other is.0)) is.1));
+  asks = asks-both (IsBesides [] (name ∷ [])) (f.asked a) (f.asked b) (f.asked c) made.asks kept.asks;
 }
   where
     stays : (other : ℕ) → (live_files r a).live other ≡ true → (live_files r b).live other ≡ true
@@ -35,6 +38,7 @@ as_made r f name file a b made = record {
   given = made.given;
   holders = made.holders;
   others = made.others;
+  asks = made.asks;
 }
   where
     at : (k : ℕ) (d : FileId) → k < 1 → f.given a ≤ (get_or (file ∷ []) k d).n

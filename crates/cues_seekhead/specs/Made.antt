@@ -1,6 +1,7 @@
 -- A file that is made, written and ended.
 use Rattle.std.specs.Prelude.{◌≡◌, ◌≢◌, ◌≤◌, ℕ, List, [], ◌∷◌, true, Result, Ok, Err}
 use Rattle.mkv_io.specs.declared.outside.FileId.{FileId}
+use Rattle.mkv_io.specs.Asked.{AsksOnly}
 use Rattle.mkv_io.specs.LiveFiles.{KeepsFiles, KeepsHolders}
 use Rattle.mkv_io.specs.Names.{AreOthers}
 use Rattle.mkv_io.specs.Sources.{live_files}
@@ -12,7 +13,7 @@ use Rattle.mkv_outputs.specs.Sinks.{EndsOnly}
 use Rattle.cues_seekhead.specs.OpenOutput.{OpenOutput}
 
 -- A file was made under a name, and is live under a new number. Which other files are live stays, and under which
--- names; and the files of other names stay the same.
+-- names; and the files of other names stay the same. No other file was made, and none opened.
 pub record MakesFile {S : Type 0} (r : Ghosts S) (f : writing.Ghosts S) (name : List ℕ) (file : FileId) (old new : S) : Type 0 where
   pub newer : f.given old ≤ file.n
   pub live : (live_files r new).live file.n ≡ true
@@ -21,6 +22,7 @@ pub record MakesFile {S : Type 0} (r : Ghosts S) (f : writing.Ghosts S) (name : 
   pub given : f.given old ≤ f.given new
   pub holders : KeepsHolders (live_files r old).live (f.holder old) (f.holder new)
   pub others : KeepsFiles (live_files r old) (live_files r new) (λ other. ((live_files r old).live other ≡ true) × AreOthers (f.holder old other) (name ∷ []))
+  pub asks : AsksOnly [] (name ∷ []) (f.asked old) (f.asked new)
 
 -- A file is made for an output. After a refusal none is open: the same files are live as before, and those of other
 -- names are the same.

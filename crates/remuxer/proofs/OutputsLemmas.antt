@@ -2,8 +2,11 @@
 use Rattle.std.proofs.Common.{◌≡◌, ◌≤◌, ◌<◌, ℕ, suc, ◌+◌, ◌^◌, Bool, true, false, List, [], ◌∷◌, ◌++◌, All, length, map, Option, Some, None, ◌⊎◌, inl, inr, refl, sym, ◌∙◌, ap, ap₂, subst, append_assoc, append-nil, arith}
 use Rattle.std.specs.Prelude.{◌==◌, if◌then◌else◌, slice_index_or}
 use Rattle.std.proofs.lemmas.List.{length-map, map-append}
-use Rattle.std.proofs.lemmas.List.Elements.{All-append, All-cons, All-nil}
+use Rattle.std.proofs.lemmas.List.Elements.{All-append, All-cons, All-head, All-nil, All-tail}
 use Rattle.std.proofs.lemmas.Bool.Decides.{nat_tests}
+use Rattle.mkv_io.specs.Asked.{AsksNone, IsBesides}
+use Rattle.mkv_io.specs.declared.asked.Asked.{Asked}
+use Rattle.mkv_io.specs.declared.asked.Asked.TheVariants.{Made, Opened}
 use Rattle.mkv_io.specs.LiveFiles.{LiveFiles}
 use Rattle.mkv_io.specs.Names.{AreOthers, Names, changed_at, with_content}
 use Rattle.mkv_io.specs.Sources.{live_files}
@@ -12,6 +15,8 @@ use Rattle.mkv_io.specs.Writing.{KeepsOthers}
 use Rattle.mkv_io.specs.declared.reads.Reads.{Ghosts}
 use Rattle.mkv_io.specs.declared.files.Files as writing
 use Rattle.std.proofs.lemmas.Slice.Eq.{bytes_eq-Decides}
+use Rattle.mkv_io.proofs.AskedLemmas.{asks-fewer}
+use Rattle.mkv_io.proofs.NamesLemmas.{others-behind, others-front}
 use Rattle.mkv_io.proofs.WritingLemmas.{KeepsOthers-more, KeepsOthers-none, KeepsOthers-then}
 use Rattle.mkv_outputs.specs.Drafts.{AreDrafted, Draft, IsDrafted, StandsInTurn, output_of, outputs_of}
 use Rattle.mkv_outputs.specs.Outputs.{Output, with_outputs}
@@ -43,7 +48,7 @@ use Rattle.remuxer.specs.Taking.{GoesOn}
 use Rattle.remuxer.specs.declared.placed.PartStart.{PartStart}
 use Rattle.remuxer.specs.declared.placed.PlacedBlocks.{PlacedBlocks}
 use Rattle.remuxer.proofs.TakingLemmas.{OnlyRead, files-same, goes-then, read-keeps}
-use Rattle.remuxer.specs.Output.{CanBeNext, FindsNext, FindsPart, HasRecords, IsShort, IsToldNext, IsUnwritten, IsUnwrittenLink, KeepsUnwritten, ReadsParts, WritesAll, WritesOne, data_of, drafts_of, laid_out, next_name, next_spec, own_spec, part_in, parts_begun}
+use Rattle.remuxer.specs.Output.{CanBeNext, FindsNext, FindsPart, HasRecords, IsShort, IsNotMade, IsToldNext, IsUnwritten, IsUnwrittenLink, KeepsUnwritten, ReadsParts, WritesAll, WritesOne, data_of, drafts_of, laid_out, next_name, next_spec, own_spec, part_in, parts_begun}
 
 -- ---- one behind the other
 
@@ -102,14 +107,6 @@ unwritten-apart holder split output name m may unwritten = λ k d lt. λ j e ins
     one (Track t) isnt = (λ same. let both : may_be_written split output (holder t.file.n) ≡ true = sym (ap (may_be_written split output) same) ∙ may in absurd (cc), tt)
     one (Entries entries) isnt = tt
 
-others-front : (name : List ℕ) (xs ys : List (List ℕ)) → AreOthers name (xs ++ ys) → AreOthers name xs
-others-front name [] ys others = tt
-others-front name (x ∷ xs) ys others = (others.0, others-front name xs ys others.1)
-
-others-behind : (name : List ℕ) (xs ys : List (List ℕ)) → AreOthers name (xs ++ ys) → AreOthers name ys
-others-behind name [] ys others = others
-others-behind name (x ∷ xs) ys others = others-behind name xs ys others.1
-
 -- files that stay open keep their names
 pub unwritten-kept : {S : Type 0} (r : Ghosts S) (f : writing.Ghosts S) (split : Bool) (output : List ℕ) (names : List (List ℕ)) (a b : S) (m m' : MergeSeen) → KeepsOthers r f names a b → IsReady (live_files r a) m → KeepsQueues m.queues m'.queues → IsUnwritten (f.holder a) split output m → IsUnwritten (f.holder b) split output m'
 unwritten-kept r f split output names a b m m' kept ready lanes unwritten =
@@ -148,6 +145,22 @@ module _ {S : Type 0} (r : Ghosts S) (f : writing.Ghosts S) (split : Bool) (outp
         (KeepsOthers-more r f first.names (first.names ++ next.names) a b (λ name others. others-front name first.names next.names others) first.kept)
         (KeepsOthers-more r f next.names (first.names ++ next.names) b c (λ name others. others-behind name first.names next.names others) next.kept);
   }
+
+  -- a name that can't be written is none of those that were
+  others-unwritten : (name : List ℕ) (names : List (List ℕ)) → may_be_written split output name ≡ false → All (λ n. may_be_written split output n ≡ true) names → AreOthers name names
+  others-unwritten name [] isnt form = tt
+  others-unwritten name (first ∷ names) isnt form = (
+    λ same. let may : may_be_written split output name ≡ true = ap (may_be_written split output) (sym same) ∙ All-head (λ n. may_be_written split output n ≡ true) first names form in absurd (cc),
+    others-unwritten name names isnt (All-tail (λ n. may_be_written split output n ≡ true) first names form),
+  )
+
+  -- so no file is made under it, and none is opened
+  pub unwritten-asks : (a b : S) → KeepsUnwritten r f split output a b → AsksNone (IsNotMade split output) (f.asked a) (f.asked b)
+  unwritten-asks a b keeps = asks-fewer (IsBesides [] keeps.names) (IsNotMade split output) (f.asked a) (f.asked b) each keeps.kept.asks
+    where
+      each : (name : Asked) → IsNotMade split output name → IsBesides [] keeps.names name
+      each (Opened name) isnt = tt
+      each (Made name) isnt = others-unwritten name keeps.names isnt keeps.form
 
 -- the links' files are told where a part begins
 pub told-merge : (f : LiveFiles) (b : PlacedBlocks) (lane : Option ℕ) → IsToldFrom f b lane → IsTold f b.merge

@@ -13,7 +13,7 @@ use Rattle.mkv_io.specs.declared.outside.FileId.{FileId}
 use Rattle.tree_format.specs.Node.{Node}
 use Rattle.mkv_io.specs.declared.reads.Reads.{Ghosts}
 use Rattle.mkv_io.specs.declared.files.Files as writing
-use Rattle.mkv_io.proofs.WritingLemmas.{KeepsOthers-then}
+use Rattle.mkv_io.proofs.WritingLemmas.{KeepsOthers-then, UsesOnly-standing}
 use Rattle.mkv_io.specs.declared.remux_end.RemuxEnd.{RemuxEnd}
 use Rattle.output_model.specs.OutputBlock.{OutputBlock}
 use Rattle.output_model.specs.Document.{Document, cues_for}
@@ -56,17 +56,19 @@ use Rattle.remuxer.proofs.StepLemmas.{ahead-parts}
 
 -- ---- files that were only read
 
--- What stands, the names, and under which of them files were opened are the same.
+-- What stands, the names, under which of them files were opened, and what was asked for are the same.
 pub record OnlyRead {S : Type 0} (r : Ghosts S) (f : writing.Ghosts S) (old new : S) : Type 0 where
   pub standing : r.standing new ≡ r.standing old
   pub names : f.names new ≡ f.names old
   pub holders : (file : ℕ) → f.holder new file ≡ f.holder old file
   pub given : f.given new ≡ f.given old
+  pub asked : f.asked new ≡ f.asked old
 
 -- all of these are functions of what stands
 pub only-read : {S : Type 0} (r : Ghosts S) (f : writing.Ghosts S) (old new : S) → r.standing new ≡ r.standing old → ((a b : S) → r.standing a ≡ r.standing b → f.names a ≡ f.names b)
-    → ((a b : S) → r.standing a ≡ r.standing b → (file : ℕ) → f.holder a file ≡ f.holder b file) → ((a b : S) → r.standing a ≡ r.standing b → f.given a ≡ f.given b) → OnlyRead r f old new
-only-read r f old new same names holders given = record { standing = same; names = names new old same; holders = holders new old same; given = given new old same }
+    → ((a b : S) → r.standing a ≡ r.standing b → (file : ℕ) → f.holder a file ≡ f.holder b file) → ((a b : S) → r.standing a ≡ r.standing b → f.given a ≡ f.given b)
+    → ((a b : S) → r.standing a ≡ r.standing b → f.asked a ≡ f.asked b) → OnlyRead r f old new
+only-read r f old new same names holders given asked = record { standing = same; names = names new old same; holders = holders new old same; given = given new old same; asked = asked new old same }
 
 module _ {S : Type 0} (r : Ghosts S) (f : writing.Ghosts S) (old new : S) (read : OnlyRead r f old new) where
   pub files-same : live_files r new ≡ live_files r old
@@ -76,15 +78,17 @@ module _ {S : Type 0} (r : Ghosts S) (f : writing.Ghosts S) (old new : S) (read 
   holder-same = λ i file. read.holders file i
 
   pub read-keeps : (names : List (List ℕ)) → KeepsOthers r f names old new
-  read-keeps names = record {
-    live = λ file. ap (λ (s : LiveFiles). s.live file) files-same;
-    given = omega (arith, read.given);
-    holders = λ file live. read.holders file;
-    others = λ file is. record {
-      alive = ap (λ (s : LiveFiles). s.live file) files-same;
-      size = λ live. ap (λ (s : LiveFiles). s.size file) files-same;
-      content = λ live. ap (λ (s : LiveFiles). s.content file) files-same;
+  read-keeps names = UsesOnly-standing r f [] names old new read.standing read.given (λ file live. read.holders file) read.asked
+
+  -- nothing was written into an open output
+  pub read-writes : {T : Type 0} (w : BlockWriter) (done : T) → IsOpen r old w.out → WritesInto r f old new w w (Ok done)
+  read-writes w done is_open = record {
+    file = refl;
+    is_open = record {
+      live = ap (λ (s : LiveFiles). s.live w.out.file.n) files-same ∙ is_open.live;
+      size = ap (λ (s : LiveFiles). s.size w.out.file.n) files-same ∙ is_open.size;
     };
+    kept = read-keeps (f.holder old w.out.file.n ∷ []);
   }
 
   -- an output on the way

@@ -3,6 +3,8 @@ use Rattle.std.specs.Prelude.{◌≡◌, ◌≤◌, ⊤, ℕ, ◌+◌, Bool, tru
 use Rattle.std.specs.Option.{option_and_then}
 use Rattle.mkv_io.specs.Faults.{counted, last_count}
 use Rattle.mkv_io.specs.LiveFiles.{LiveFiles}
+use Rattle.mkv_io.specs.declared.asked.Asked.{Asked}
+use Rattle.mkv_io.specs.declared.asked.Asked.TheVariants.{Made, Opened}
 use Rattle.mkv_io.specs.Names.{Names, with_content}
 use Rattle.mkv_io.specs.Sources.{live_files}
 use Rattle.mkv_io.specs.Told.{Told}
@@ -276,11 +278,16 @@ SaysWritten r old o b result = IsTold (live_files r old) b.merge → IfOk result
 abbrev pub ReadsParts : {S : Type 0} → Ghosts S → S → S → OutputSpec → PlacedBlocks → Type 0
 ReadsParts r old new o b = r.octets_read new ≤ r.octets_read old + due (live_files r old) b.merge + files_length (live_files r old) b.merge + data_of o
 
--- No file stays open, and the files of all names stay but of those that may be written.
+-- No file stays open, and the files of all names stay but of those that may be written; no other file is made, and none opened.
 pub record KeepsUnwritten {S : Type 0} (r : Ghosts S) (f : writing.Ghosts S) (split : Bool) (output : List ℕ) (old new : S) : Type 0 where
   pub names : List (List ℕ)
   pub form : All (λ name. may_be_written split output name ≡ true) names
   pub kept : KeepsOthers r f names old new
+
+-- Another name than those that may be written; one that is opened is always another.
+abbrev pub IsNotMade : Bool → List ℕ → Asked → Type 0
+IsNotMade split output (Opened name) = ⊤
+IsNotMade split output (Made name) = may_be_written split output name ≡ false
 
 -- It has as many lanes as before, and has told all damages where the links' files are told.
 pub record Ends (f : LiveFiles) (m m' : MergeSeen) : Type 0 where

@@ -9,7 +9,7 @@ use Rattle.cues_seekhead.proofs.copying.append.Goals as goal
 pub returns : goal.returns
 returns g c =
     let only = WritesOnly-one g.F.Reads g.F.Files c.args.files.now c.append.new.self c.args.file.n is_make_failure c.append.result
-    c.append.ensures.given c.append.ensures.alive c.append.ensures.others c.append.ensures.holders c.append.ensures.cause c.append.ensures.reading c.append.ensures.octets in
+    c.append.ensures.given c.append.ensures.alive c.append.ensures.others c.append.ensures.holders c.append.ensures.cause c.append.ensures.reading c.append.ensures.octets c.append.ensures.asks in
     record {
       appended = c.in_ok-append.ensures.ok.names;
       size = c.in_ok-append.ensures.ok.size;
@@ -23,7 +23,7 @@ pub returns-in_err-append : goal.returns-in_err-append
 returns-in_err-append g c =
     let p = err_from_is_err_and c.from_residual.result c.from_residual.ensures.1 in
     let only = WritesOnly-one g.F.Reads g.F.Files c.args.files.now c.append.new.self c.args.file.n is_make_failure c.append.result
-    c.append.ensures.given c.append.ensures.alive c.append.ensures.others c.append.ensures.holders c.append.ensures.cause c.append.ensures.reading c.append.ensures.octets in
+    c.append.ensures.given c.append.ensures.alive c.append.ensures.others c.append.ensures.holders c.append.ensures.cause c.append.ensures.reading c.append.ensures.octets c.append.ensures.asks in
     rw (p.1, p.2) (record {
       appended = PassesSome-refused c.in_err-append.field-0.0 _ _ _ _ c.args.file.n _ c.args.octets.now c.in_err-append.ensures.failed
           (λ is. g.met.F.Files.names_stand c.append.new.self c.args.files.now (c.in_err-append.ensures.memory is));

@@ -2,12 +2,12 @@ use Rattle.std.proofs.Common.{ℕ, List, Ok, Err, length, sym, ◌∙◌, ap, su
 use Rattle.std.proofs.lemmas.Result.{err_from_is_err_and}
 use Rattle.std.specs.List.{range_with_len}
 use Rattle.mkv_io.specs.Sources.{live_files}
-use Rattle.remux_plan.specs.Parts.{outputs_in}
+use Rattle.remux_plan.specs.Parts.{is_split, outputs_in}
 use Rattle.remux_plan.specs.declared.TheConstants.{MOST_INPUTS}
 use Rattle.remux_plan.specs.declared.summary.Written.{Written}
 use Rattle.remuxer.specs.Taking.{told_by}
 use Rattle.remuxer.specs.Told.{HasDamages}
-use Rattle.remuxer.proofs.OutputsLemmas.{all-in_turn}
+use Rattle.remuxer.proofs.OutputsLemmas.{all-in_turn, keeps-none}
 use Rattle.remuxer.proofs.PartLemmas.{whole-of}
 use Rattle.remuxer.proofs.PlanLemmas.{plan-can, plan-ends, plan-inputs, plan-keeps, plan-reads, plan-says, plan-summary, plan-told, plan-writes}
 use Rattle.remuxer.proofs.StartedLemmas.{count-started}
@@ -27,6 +27,11 @@ write_parts-requires g c =
     let m = c.in_ok-merge.merge in
     let starts = c.in_ok-merge.ensures.starts (live_files g.F.Reads a) in
     plan-can g.F.Reads g.F.Files a plan c.requires lanes m c.in_ok-lanes.ensures starts c.in_ok-merge.ensures.begins _ c.in_ok-merge.ensures.idle c.new-cuts.result c.new-cuts.ensures c.is_split.result c.is_split.ensures
+
+-- nothing was written before
+pub returns-in_err-merge-clause-kept : goal.returns-in_err-merge-clause-kept
+returns-in_err-merge-clause-kept g c =
+    rw c.in_err-merge.ensures.idle (keeps-none g.F.Reads g.F.Files (is_split c.args.plan) c.args.plan.output c.args.files.now)
 
 -- ---- the outputs were refused
 

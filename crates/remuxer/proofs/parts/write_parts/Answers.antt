@@ -18,7 +18,7 @@ returns-in_err-next-clause-writes g c = λ told.
     let end = err_from_is_err_and c.from_residual.result c.from_residual.ensures.1 in
     let a = c.args.files.now in
     let b = c.first_part.new.src in
-    let read = only-read g.F.Reads g.F.Files a b c.in_err-next.ensures.standing g.met.F.Files.names_stand g.met.F.Files.holders_stand g.met.F.Files.given_stands in
+    let read = only-read g.F.Reads g.F.Files a b c.in_err-next.ensures.standing g.met.F.Files.names_stand g.met.F.Files.holders_stand g.met.F.Files.given_stands g.met.F.Files.asked_stands in
     let all = drafts_of (outputs_left (live_files g.F.Reads a) c.args.spec c.args.blocks.now) in
     rw end.1 (subst (λ (names : Names). StandsInTurn (g.F.Files.names a) names all) (sym read.names) (StandsInTurn-none (g.F.Files.names a) all))
 
@@ -26,7 +26,7 @@ pub returns-in_err-next-clause-kept : goal.returns-in_err-next-clause-kept
 returns-in_err-next-clause-kept g c =
     let a = c.args.files.now in
     let b = c.first_part.new.src in
-    let read = only-read g.F.Reads g.F.Files a b c.in_err-next.ensures.standing g.met.F.Files.names_stand g.met.F.Files.holders_stand g.met.F.Files.given_stands in
+    let read = only-read g.F.Reads g.F.Files a b c.in_err-next.ensures.standing g.met.F.Files.names_stand g.met.F.Files.holders_stand g.met.F.Files.given_stands g.met.F.Files.asked_stands in
     keeps-read g.F.Reads g.F.Files c.args.spec.split c.args.spec.name a b read
 
 pub returns-in_err-next-clause-cause : goal.returns-in_err-next-clause-cause
@@ -34,7 +34,7 @@ returns-in_err-next-clause-cause g c =
     let end = err_from_is_err_and c.from_residual.result c.from_residual.ensures.1 in
     let a = c.args.files.now in
     let b = c.first_part.new.src in
-    let read = only-read g.F.Reads g.F.Files a b c.in_err-next.ensures.standing g.met.F.Files.names_stand g.met.F.Files.holders_stand g.met.F.Files.given_stands in
+    let read = only-read g.F.Reads g.F.Files a b c.in_err-next.ensures.standing g.met.F.Files.names_stand g.met.F.Files.holders_stand g.met.F.Files.given_stands g.met.F.Files.asked_stands in
     rw (end.1, end.2) (HasRemuxCause-read g.F.Reads g.F.Files a b c.in_err-next.field-0.0 (g.met.F.Files.writing_stands b a c.in_err-next.ensures.standing) c.in_err-next.ensures.cause)
 
 -- ---- the parts
@@ -43,7 +43,7 @@ pub parts-init : goal.parts-init
 parts-init g c =
     let a = c.args.files.now in
     let b = c.first_part.new.src in
-    let read = only-read g.F.Reads g.F.Files a b c.in_ok-next.ensures.standing g.met.F.Files.names_stand g.met.F.Files.holders_stand g.met.F.Files.given_stands in
+    let read = only-read g.F.Reads g.F.Files a b c.in_ok-next.ensures.standing g.met.F.Files.names_stand g.met.F.Files.holders_stand g.met.F.Files.given_stands g.met.F.Files.asked_stands in
     record {
       way = subst (λ (written : List Written). OnTheWay g.F.Reads g.F.Files c.args.spec a c.args.blocks.now b c.args.spec c.first_part.new.self written c.in_ok-next.next) (sym c.new-written.ensures)
           (way-begins g.F.Reads g.F.Files c.args.spec a c.args.blocks.now b c.first_part.new.self c.in_ok-next.next _ read c.in_ok-next.ensures.goes c.in_ok-next.ensures.finds c.requires.records.attached);

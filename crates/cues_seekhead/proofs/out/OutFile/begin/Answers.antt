@@ -4,6 +4,7 @@ use Rattle.mkv_io.specs.Contents.{with_appended}
 use Rattle.mkv_io.specs.Names.{with_change, with_content}
 use Rattle.mkv_io.specs.Sources.{live_files}
 use Rattle.mkv_io.specs.Writing.{KeepsOthers}
+use Rattle.mkv_io.proofs.AskedLemmas.{asks-made}
 use Rattle.output_model.specs.declared.attachment.Attachment.{Attachment}
 use Rattle.tree_format.specs.Node.{Node}
 use Rattle.output_model.specs.Element.{joined}
@@ -11,7 +12,7 @@ use Rattle.output_model.specs.Document.{opened_with, tree_element}
 use Rattle.mkv_outputs.specs.Written.{PassesSome}
 use Rattle.output_model.specs.Front.{front_with}
 use Rattle.cues_seekhead.proofs.AttachingLemmas.{attached_octets}
-use Rattle.cues_seekhead.proofs.BeginLemmas.{EndsOnly-one, CanAttach-created, MakesFile-created, attached-all-created, begun-known, begun-none, begun-octets, begun-part, can-data}
+use Rattle.cues_seekhead.proofs.BeginLemmas.{EndsOnly-one, CanAttach-created, KeepsOthers-unmade, MakesFile-created, attached-all-created, begun-known, begun-none, begun-octets, begun-part, can-data}
 use Rattle.cues_seekhead.proofs.DraftLemmas.{appended-to}
 use Rattle.cues_seekhead.proofs.LayoutLemmas.{length-opened}
 use Rattle.cues_seekhead.proofs.MadeLemmas.{MakesFile-ended, MakesFile-kept}
@@ -23,13 +24,24 @@ returns-in_err-file-clause-err g c =
     let p = err_from_is_err_and c.from_residual-in_err-file.result c.from_residual-in_err-file.ensures.1 in
     rw p.1 (begun-none _ _ c.args.name.now _ c.in_err-file.ensures.err)
 
+pub returns-in_err-file-clause-made : goal.returns-in_err-file-clause-made
+returns-in_err-file-clause-made g c =
+    let p = err_from_is_err_and c.from_residual-in_err-file.result c.from_residual-in_err-file.ensures.1 in
+    let r = g.F.Reads in
+    let f = g.F.Files in
+    let old = c.args.files.now in
+    let new = c.create.new.self in
+    rw p.1 (KeepsOthers-unmade r f c.args.name.now old new (g.met.F.Files.numbered old) c.in_err-file.ensures.refused c.create.ensures.given c.create.ensures.holders c.create.ensures.others
+    (asks-made [] c.args.name.now (f.asked old) (f.asked new) c.create.result c.create.ensures.asks))
+
 -- attached files stay what they are
 pub write_front-requires-clause-attached : goal.write_front-requires-clause-attached
 write_front-requires-clause-attached g c = λ k d below.
     let old = c.args.files.now in
     let new = c.create.new.self in
     let ok = c.in_ok-file.ensures in
-    let made = MakesFile-created g.F.Reads g.F.Files c.args.name.now c.in_ok-file.file old new (g.met.F.Files.numbered old) ok.number.0 ok.live ok.holder ok.alone c.create.ensures.given c.create.ensures.holders c.create.ensures.others in
+    let made = MakesFile-created g.F.Reads g.F.Files c.args.name.now c.in_ok-file.file old new (g.met.F.Files.numbered old) ok.number.0 ok.live ok.holder ok.alone c.create.ensures.given c.create.ensures.holders c.create.ensures.others
+    (asks-made [] c.args.name.now (g.F.Files.asked old) (g.F.Files.asked new) c.create.result c.create.ensures.asks) in
     CanAttach-created g.F.Reads g.F.Files c.args.name.now c.in_ok-file.file old new _ (g.met.F.Files.numbered old) made (c.requires.attached k d below)
 
 -- it was made, and written
@@ -40,7 +52,8 @@ returns-in-Ok-clause-made g c =
     let old = c.args.files.now in
     let new = c.create.new.self in
     let ok = c.in_ok-file.ensures in
-    let made = MakesFile-created r f c.args.name.now c.in_ok-file.file old new (g.met.F.Files.numbered old) ok.number.0 ok.live ok.holder ok.alone c.create.ensures.given c.create.ensures.holders c.create.ensures.others in
+    let made = MakesFile-created r f c.args.name.now c.in_ok-file.file old new (g.met.F.Files.numbered old) ok.number.0 ok.live ok.holder ok.alone c.create.ensures.given c.create.ensures.holders c.create.ensures.others
+    (asks-made [] c.args.name.now (f.asked old) (f.asked new) c.create.result c.create.ensures.asks) in
     let P : List ℕ → Type 0 = λ name. KeepsOthers r f (name ∷ []) new c.write_front.new.files in
     MakesFile-kept r f c.args.name.now c.in_ok-file.file old new c.write_front.new.files (g.met.F.Files.numbered old) made (subst P ok.holder c.write_front.ensures.kept)
 
@@ -56,7 +69,8 @@ returns-in-Ok-clause-ok g c =
     let front = c.args.front.now in
     let them = front.attachments in
     let files = live_files r old in
-    let made = MakesFile-created r f name c.in_ok-file.file old new (g.met.F.Files.numbered old) ok.number.0 ok.live ok.holder ok.alone c.create.ensures.given c.create.ensures.holders c.create.ensures.others in
+    let made = MakesFile-created r f name c.in_ok-file.file old new (g.met.F.Files.numbered old) ok.number.0 ok.live ok.holder ok.alone c.create.ensures.given c.create.ensures.holders c.create.ensures.others
+    (asks-made [] name (f.asked old) (f.asked new) c.create.result c.create.ensures.asks) in
     let masters = λ (k : ℕ) (d : Attachment) (below : k < length them). (c.requires.attached k d below).master in
     let own = λ (k : ℕ) (d : Attachment) (below : k < length them). (c.requires.attached k d below).id in
     let have = can-data r f name old them (g.met.F.Reads.told_size (r.standing old)) c.requires.attached in
@@ -90,7 +104,8 @@ returns-clause-err g c =
     let front = c.args.front.now in
     let them = front.attachments in
     let files = live_files r old in
-    let made = MakesFile-created r f name c.in_ok-file.file old new (g.met.F.Files.numbered old) ok.number.0 ok.live ok.holder ok.alone c.create.ensures.given c.create.ensures.holders c.create.ensures.others in
+    let made = MakesFile-created r f name c.in_ok-file.file old new (g.met.F.Files.numbered old) ok.number.0 ok.live ok.holder ok.alone c.create.ensures.given c.create.ensures.holders c.create.ensures.others
+    (asks-made [] name (f.asked old) (f.asked new) c.create.result c.create.ensures.asks) in
     let masters = λ (k : ℕ) (d : Attachment) (below : k < length them). (c.requires.attached k d below).master in
     let own = λ (k : ℕ) (d : Attachment) (below : k < length them). (c.requires.attached k d below).id in
     let have = can-data r f name old them (g.met.F.Reads.told_size (r.standing old)) c.requires.attached in
@@ -110,8 +125,9 @@ returns-clause-made g c =
     let new = c.create.new.self in
     let wrote = c.write_front.new.files in
     let ok = c.in_ok-file.ensures in
-    let made = MakesFile-created r f c.args.name.now c.in_ok-file.file old new (g.met.F.Files.numbered old) ok.number.0 ok.live ok.holder ok.alone c.create.ensures.given c.create.ensures.holders c.create.ensures.others in
+    let made = MakesFile-created r f c.args.name.now c.in_ok-file.file old new (g.met.F.Files.numbered old) ok.number.0 ok.live ok.holder ok.alone c.create.ensures.given c.create.ensures.holders c.create.ensures.others
+    (asks-made [] c.args.name.now (f.asked old) (f.asked new) c.create.result c.create.ensures.asks) in
     let P : List ℕ → Type 0 = λ name. KeepsOthers r f (name ∷ []) new wrote in
     let kept = MakesFile-kept r f c.args.name.now c.in_ok-file.file old new wrote (g.met.F.Files.numbered old) made (subst P ok.holder c.write_front.ensures.kept) in
     MakesFile-ended r f c.args.name.now c.in_ok-file.file old wrote c.close.new.self (g.met.F.Files.numbered old) kept
-    (EndsOnly-one r f wrote c.close.new.self c.in_ok-file.file c.close.ensures.ended c.close.ensures.others c.close.ensures.names c.close.ensures.given c.close.ensures.holders c.close.ensures.writing c.close.ensures.reading c.close.ensures.octets)
+    (EndsOnly-one r f wrote c.close.new.self c.in_ok-file.file c.close.ensures.ended c.close.ensures.others c.close.ensures.names c.close.ensures.given c.close.ensures.holders c.close.ensures.writing c.close.ensures.reading c.close.ensures.octets c.close.ensures.asks)

@@ -1,4 +1,4 @@
-use Rattle.std.proofs.Common.{[], Ok, ◌∙◌, subst, arith}
+use Rattle.std.proofs.Common.{[], Ok, Err, ◌∙◌, subst, arith}
 use Rattle.std.proofs.lemmas.Result.{err_from_is_err_and}
 use Rattle.mkv_io.specs.Sources.{live_files}
 use Rattle.splitter.specs.Sections.{Split}
@@ -23,7 +23,22 @@ returns-in_err-add_next-clause-takes g c = λ told.
     let drafted = subst (λ (s : Split). StaysDraft g.F.Reads g.F.Files c.args.rules.now (rest_of_part (live_files g.F.Reads b) s c.args.start m) b c.add_next.new.files c.steps.self) inv.goes.split (c.in_err-add_next.ensures.takes (inv.goes.told told).told) in
     rw end.1 (some-drafted g.F.Reads g.F.Files c.args.rules.now (split_in c.args.blocks.now) c.args.start a b c.add_next.new.files c.args.self.now c.steps.self c.args.blocks.now m (inv.takes told) drafted)
 
+pub returns-in_err-add_next-clause-writes : goal.returns-in_err-add_next-clause-writes
+returns-in_err-add_next-clause-writes g c =
+    let end = err_from_is_err_and c.from_residual.result c.from_residual.ensures.1 in
+    let inv = c.steps.invariant in
+    let both = writes-then {T = Unit {0}} g.F.Reads g.F.Files c.args.files.now c.steps.files c.add_next.new.files c.args.self.now c.steps.self c.add_next.new.self (tt {0}) (Err c.in_err-add_next.field-0.0) c.requires.can.is_open
+    (record { file = inv.file; is_open = inv.is_open; kept = inv.kept }) c.in_err-add_next.ensures.writes in
+    rw end.1 (record { file = both.file; is_open = tt; kept = both.kept })
+
 -- the part is over
+pub returns-in-Over-clause-writes : goal.returns-in-Over-clause-writes
+returns-in-Over-clause-writes g c =
+    let inv = c.steps.invariant in
+    let wrote = c.in_ok-add_next.ensures.writes in
+    writes-then {T = Unit {0}} g.F.Reads g.F.Files c.args.files.now c.steps.files c.add_next.new.files c.args.self.now c.steps.self c.add_next.new.self (tt {0}) (Ok c.in-Over.ahead) c.requires.can.is_open
+    (record { file = inv.file; is_open = inv.is_open; kept = inv.kept }) (record { file = wrote.file; is_open = wrote.is_open; kept = wrote.kept })
+
 pub returns-in-Over-clause-takes : goal.returns-in-Over-clause-takes
 returns-in-Over-clause-takes g c = λ told.
     let inv = c.steps.invariant in

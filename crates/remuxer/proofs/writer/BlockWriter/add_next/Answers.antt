@@ -11,17 +11,18 @@ use Rattle.time_merge.proofs.QueueLemmas.{count-kept, steps-lane, told-kept}
 use Rattle.remuxer.specs.Placed.{PlacesOne}
 use Rattle.remuxer.specs.Places.{block_lent, in_part_from, split_in}
 use Rattle.remuxer.specs.declared.writer.Turn.{Turn}
+use Rattle.remuxer.specs.declared.writer.Turn.TheVariants.{Over}
 use Rattle.remuxer.proofs.NextLemmas.{paid-of, read-goes}
 use Rattle.remuxer.proofs.PartLemmas.{fits-of}
 use Rattle.remuxer.proofs.StepLemmas.{gives-same, is-same, lane-is, not-same, on_to, other-start, over-found, same-in, same-load, split-same, step-gives, step-left, step-one, step-other, step-same, step-split}
-use Rattle.remuxer.proofs.TakingLemmas.{only-read, over-ahead, over-ended, part-next, read-drafted, some-taken, turn-drafted, turn-goes, turn-keeps, turn-left, turn-takes}
+use Rattle.remuxer.proofs.TakingLemmas.{only-read, over-ahead, over-ended, part-next, read-drafted, read-writes, some-taken, turn-drafted, turn-goes, turn-keeps, turn-left, turn-takes}
 use Rattle.remuxer.proofs.writer.BlockWriter.add_next.Goals as goal
 
 -- the next block couldn't be read
 pub returns-in_err-next-clause-takes : goal.returns-in_err-next-clause-takes
 returns-in_err-next-clause-takes g c =
     let p = err_from_is_err_and c.from_residual.result c.from_residual.ensures.1 in
-    let read = only-read g.F.Reads g.F.Files c.args.files.now c.place_next.new.src c.in_err-next.ensures.standing g.met.F.Files.names_stand g.met.F.Files.holders_stand g.met.F.Files.given_stands in
+    let read = only-read g.F.Reads g.F.Files c.args.files.now c.place_next.new.src c.in_err-next.ensures.standing g.met.F.Files.names_stand g.met.F.Files.holders_stand g.met.F.Files.given_stands g.met.F.Files.asked_stands in
     rw p.1 (λ told. read-drafted g.F.Reads g.F.Files c.args.rules.now c.args.files.now c.place_next.new.src c.args.self.now _ read)
 
 -- there is none
@@ -29,7 +30,7 @@ pub returns-in_default-clause-takes : goal.returns-in_default-clause-takes
 returns-in_default-clause-takes g c = λ told.
     let a = c.args.files.now in
     let b = c.place_next.new.src in
-    let read = only-read g.F.Reads g.F.Files a b c.in_ok-next.ensures.standing g.met.F.Files.names_stand g.met.F.Files.holders_stand g.met.F.Files.given_stands in
+    let read = only-read g.F.Reads g.F.Files a b c.in_ok-next.ensures.standing g.met.F.Files.names_stand g.met.F.Files.holders_stand g.met.F.Files.given_stands g.met.F.Files.asked_stands in
     let blocks = rw c.in_default.is at (c.in_ok-next.ensures.gives told).blocks in
     (over-ended g.F.Reads g.F.Files c.args.rules.now c.args.start a b c.args.self.now c.args.blocks.now (on_to c.args.blocks.now c.place_next.new.merge c.place_next.new.cuts) read blocks.0)
 
@@ -40,7 +41,7 @@ returns-in_default-clause-goes g c =
     let p = c.args.blocks.now in
     let same = rw c.in_default.is at c.in_ok-next.ensures.places in
     let pays = rw c.in_default.is at c.in_ok-next.ensures.pays in
-    let read = only-read g.F.Reads g.F.Files a b c.in_ok-next.ensures.standing g.met.F.Files.names_stand g.met.F.Files.holders_stand g.met.F.Files.given_stands in
+    let read = only-read g.F.Reads g.F.Files a b c.in_ok-next.ensures.standing g.met.F.Files.names_stand g.met.F.Files.holders_stand g.met.F.Files.given_stands g.met.F.Files.asked_stands in
     let gives = gives-same (live_files g.F.Reads a) (live_files g.F.Reads b) p c.place_next.new.merge c.place_next.new.cuts c.requires.can.gives c.in_ok-next.ensures.moves.keeps c.in_ok-next.ensures.ready same in
     turn-goes g.F.Reads g.F.Files c.args.rules.now a b b c.args.self.now c.args.self.now p (on_to p c.place_next.new.merge c.place_next.new.cuts)
     read c.requires.can.apart c.in_ok-next.ensures.moves.keeps gives (KeepsOthers-none g.F.Reads g.F.Files _ b) (split-same p c.place_next.new.merge c.place_next.new.cuts same) refl pays
@@ -69,7 +70,7 @@ returns-then-not-is_same-clause-takes g c = λ told.
     let places = rw c.in-Some.is at c.in_ok-next.ensures.places in
     let its = subst (λ drives. PlacesOne drives m' p.cuts c' next) c.as_slice.ensures places in
     let gives = rw c.in-Some.is at c.in_ok-next.ensures.gives told in
-    let read = only-read g.F.Reads g.F.Files a b c.in_ok-next.ensures.standing g.met.F.Files.names_stand g.met.F.Files.holders_stand g.met.F.Files.given_stands in
+    let read = only-read g.F.Reads g.F.Files a b c.in_ok-next.ensures.standing g.met.F.Files.names_stand g.met.F.Files.holders_stand g.met.F.Files.given_stands g.met.F.Files.asked_stands in
     let other = not-same next.place (sym c.if-not-is_same.ensures) in
     let x = block_lent next.lane moves.steps.queue.lane in
     (over-ahead g.F.Reads g.F.Files c.args.rules.now c.args.start a b c.args.self.now p (on_to p m' c') next x read
@@ -78,6 +79,13 @@ returns-then-not-is_same-clause-takes g c = λ told.
     (step-split f p m' c' next c.requires.can.gives moves.keeps moves.steps its)
     (step-one f p m' c' next c.requires.can.gives moves.keeps moves.steps its)
     (other-start f p m' c' next c.requires.can.gives moves.keeps moves.steps its c.args.start c.requires.within.started c.requires.within.kept other))
+
+pub returns-then-not-is_same-clause-writes : goal.returns-then-not-is_same-clause-writes
+returns-then-not-is_same-clause-writes g c =
+    let a = c.args.files.now in
+    let b = c.place_next.new.src in
+    let read = only-read g.F.Reads g.F.Files a b c.in_ok-next.ensures.standing g.met.F.Files.names_stand g.met.F.Files.holders_stand g.met.F.Files.given_stands g.met.F.Files.asked_stands in
+    read-writes g.F.Reads g.F.Files a b read c.args.self.now (Over (Some c.in-Some.ahead)) c.requires.can.is_open
 
 pub returns-then-not-is_same-clause-goes : goal.returns-then-not-is_same-clause-goes
 returns-then-not-is_same-clause-goes g c =
@@ -140,7 +148,7 @@ returns-in_err-add_lent-clause-takes g c =
     let moves = rw c.in-Some.is at c.in_ok-next.ensures.moves in
     let places = rw c.in-Some.is at c.in_ok-next.ensures.places in
     let its = subst (λ drives. PlacesOne drives m' p.cuts c' next) c.as_slice.ensures places in
-    let read = only-read g.F.Reads g.F.Files a b c.in_ok-next.ensures.standing g.met.F.Files.names_stand g.met.F.Files.holders_stand g.met.F.Files.given_stands in
+    let read = only-read g.F.Reads g.F.Files a b c.in_ok-next.ensures.standing g.met.F.Files.names_stand g.met.F.Files.holders_stand g.met.F.Files.given_stands g.met.F.Files.asked_stands in
     let can = step-gives f p m' c' next c.requires.can.gives moves.keeps moves.steps its (live_files g.F.Reads b) c.in_ok-next.ensures.ready in
     let same = is-same next.place (sym c.if-not-is_same.ensures) in
     let uncut = step-same f p m' c' next c.requires.can.gives moves.keeps moves.steps its c.args.start c.requires.within.started same in
@@ -169,7 +177,7 @@ returns-in_err-add_lent-clause-writes g c =
     let moves = rw c.in-Some.is at c.in_ok-next.ensures.moves in
     let places = rw c.in-Some.is at c.in_ok-next.ensures.places in
     let its = subst (λ drives. PlacesOne drives m' p.cuts c' next) c.as_slice.ensures places in
-    let read = only-read g.F.Reads g.F.Files a b c.in_ok-next.ensures.standing g.met.F.Files.names_stand g.met.F.Files.holders_stand g.met.F.Files.given_stands in
+    let read = only-read g.F.Reads g.F.Files a b c.in_ok-next.ensures.standing g.met.F.Files.names_stand g.met.F.Files.holders_stand g.met.F.Files.given_stands g.met.F.Files.asked_stands in
     let can = step-gives f p m' c' next c.requires.can.gives moves.keeps moves.steps its (live_files g.F.Reads b) c.in_ok-next.ensures.ready in
     rw q.1 (record {
       file = c.in_err-add_lent.ensures.writes.file;
@@ -201,7 +209,7 @@ returns-clause-takes g c = λ told.
     let moves = rw c.in-Some.is at c.in_ok-next.ensures.moves in
     let places = rw c.in-Some.is at c.in_ok-next.ensures.places in
     let its = subst (λ drives. PlacesOne drives m' p.cuts c' next) c.as_slice.ensures places in
-    let read = only-read g.F.Reads g.F.Files a b c.in_ok-next.ensures.standing g.met.F.Files.names_stand g.met.F.Files.holders_stand g.met.F.Files.given_stands in
+    let read = only-read g.F.Reads g.F.Files a b c.in_ok-next.ensures.standing g.met.F.Files.names_stand g.met.F.Files.holders_stand g.met.F.Files.given_stands g.met.F.Files.asked_stands in
     let can = step-gives f p m' c' next c.requires.can.gives moves.keeps moves.steps its (live_files g.F.Reads b) c.in_ok-next.ensures.ready in
     let same = is-same next.place (sym c.if-not-is_same.ensures) in
     let uncut = step-same f p m' c' next c.requires.can.gives moves.keeps moves.steps its c.args.start c.requires.within.started same in
@@ -231,7 +239,7 @@ returns-clause-writes g c =
     let moves = rw c.in-Some.is at c.in_ok-next.ensures.moves in
     let places = rw c.in-Some.is at c.in_ok-next.ensures.places in
     let its = subst (λ drives. PlacesOne drives m' p.cuts c' next) c.as_slice.ensures places in
-    let read = only-read g.F.Reads g.F.Files a b c.in_ok-next.ensures.standing g.met.F.Files.names_stand g.met.F.Files.holders_stand g.met.F.Files.given_stands in
+    let read = only-read g.F.Reads g.F.Files a b c.in_ok-next.ensures.standing g.met.F.Files.names_stand g.met.F.Files.holders_stand g.met.F.Files.given_stands g.met.F.Files.asked_stands in
     let can = step-gives f p m' c' next c.requires.can.gives moves.keeps moves.steps its (live_files g.F.Reads b) c.in_ok-next.ensures.ready in
     record {
       file = c.in_ok-add_lent.ensures.writes.file;
@@ -252,7 +260,7 @@ returns-clause-goes g c =
     let moves = rw c.in-Some.is at c.in_ok-next.ensures.moves in
     let places = rw c.in-Some.is at c.in_ok-next.ensures.places in
     let its = subst (λ drives. PlacesOne drives m' p.cuts c' next) c.as_slice.ensures places in
-    let read = only-read g.F.Reads g.F.Files a b c.in_ok-next.ensures.standing g.met.F.Files.names_stand g.met.F.Files.holders_stand g.met.F.Files.given_stands in
+    let read = only-read g.F.Reads g.F.Files a b c.in_ok-next.ensures.standing g.met.F.Files.names_stand g.met.F.Files.holders_stand g.met.F.Files.given_stands g.met.F.Files.asked_stands in
     let can = step-gives f p m' c' next c.requires.can.gives moves.keeps moves.steps its (live_files g.F.Reads b) c.in_ok-next.ensures.ready in
     turn-goes g.F.Reads g.F.Files c.args.rules.now a b e c.args.self.now c.add_lent.new.self p (on_to p m' c') read c.requires.can.apart moves.keeps can c.in_ok-add_lent.ensures.writes.kept
     (step-split f p m' c' next c.requires.can.gives moves.keeps moves.steps its) c.in_ok-add_lent.ensures.octets (paid-of f p.merge m' (g.F.Reads.octets_read a) (g.F.Reads.octets_read b) c.in_ok-next.next c.in_ok-next.ensures.pays)
@@ -274,7 +282,7 @@ returns-clause-finds g c =
     let moves = rw c.in-Some.is at c.in_ok-next.ensures.moves in
     let places = rw c.in-Some.is at c.in_ok-next.ensures.places in
     let its = subst (λ drives. PlacesOne drives m' p.cuts c' next) c.as_slice.ensures places in
-    let read = only-read g.F.Reads g.F.Files a b c.in_ok-next.ensures.standing g.met.F.Files.names_stand g.met.F.Files.holders_stand g.met.F.Files.given_stands in
+    let read = only-read g.F.Reads g.F.Files a b c.in_ok-next.ensures.standing g.met.F.Files.names_stand g.met.F.Files.holders_stand g.met.F.Files.given_stands g.met.F.Files.asked_stands in
     let can = step-gives f p m' c' next c.requires.can.gives moves.keeps moves.steps its (live_files g.F.Reads b) c.in_ok-next.ensures.ready in
     let same = is-same next.place (sym c.if-not-is_same.ensures) in
     (same-in f p m' c' next c.requires.can.gives moves.keeps moves.steps its c.args.start c.requires.within.started same c.requires.within.kept, moves.steps.on)
