@@ -3,11 +3,15 @@ use Rattle.std.proofs.Common.{◌≡◌, ◌≢◌, ℕ, suc, zero, ◌<◌, ◌
 use Rattle.std.proofs.lemmas.List.Elements.{All-push}
 use Rattle.std.proofs.lemmas.List.Quantifiers.{all_pairs_push}
 use Rattle.mkv_io.specs.declared.outside.FileId.{FileId}
+use Rattle.mkv_io.specs.Asked.{AsksOnly, IsBesides}
 use Rattle.mkv_io.specs.LiveFiles.{IsSameFile, KeepsFiles, KeepsHolders}
 use Rattle.mkv_io.specs.Names.{AreOthers}
 use Rattle.mkv_io.specs.Sources.{live_files}
 use Rattle.mkv_io.specs.declared.reads.Reads.{Ghosts}
 use Rattle.mkv_io.specs.declared.files.Files as writing
+use Rattle.mkv_io.specs.Writing.{UsesOnly}
+use Rattle.mkv_io.proofs.AskedLemmas.{asks-both, asks-more, asks-none}
+use Rattle.mkv_io.proofs.NamesLemmas.{others-behind, others-front}
 use Rattle.mkv_io.proofs.WritingLemmas.{IsSameFile-twice}
 use Rattle.mkv_outputs.specs.Sinks.{IsNoneOf, holders_of}
 use Rattle.mkv_outputs.proofs.FilesLemmas.{AreLive-below, AreLive-on, IsNoneOf-below, is_ended}
@@ -30,6 +34,7 @@ OpensInputs-none r f files = record {
   given = omega arith;
   holders = λ file live. refl;
   others = λ file live. record { alive = refl; size = λ is. refl; content = λ is. refl };
+  asks = λ name besides unasked. unasked;
 }
 
 -- A file was opened under a name.
@@ -41,6 +46,7 @@ pub record OpensOne {S : Type 0} (r : Ghosts S) (f : writing.Ghosts S) (name : L
   pub holder : f.holder new file.n ≡ name
   pub holders : KeepsHolders (live_files r old).live (f.holder old) (f.holder new)
   pub others : KeepsFiles (live_files r old) (live_files r new) (λ other. other < f.given old)
+  pub asks : AsksOnly (name ∷ []) [] (f.asked old) (f.asked new)
 
 -- a number that is none of some and one more is none of these
 IsNoneOf-added : (list : List FileId) (f : FileId) (file : ℕ) → IsNoneOf file (list ++ f ∷ []) → IsNoneOf file list × (file ≢ f.n)
@@ -77,10 +83,28 @@ OpensInputs-more r f names name a b c ids file numbered first next = record {
   holders = λ other live. next.holders other (stays other live) ∙ first.holders other live;
   others = λ other live. IsSameFile-twice (live_files r a) (live_files r b) (live_files r c) other (first.others other live)
       (next.others other (numbered b other (stays other live)));
+  asks = asks-both (IsBesides (names ++ name ∷ []) []) (f.asked a) (f.asked b) (f.asked c)
+      (asks-more names [] (names ++ name ∷ []) [] (f.asked a) (f.asked b) (λ other others. others-front other names (name ∷ []) others) (λ other others. others) first.asks)
+      (asks-more (name ∷ []) [] (names ++ name ∷ []) [] (f.asked b) (f.asked c) (λ other others. others-behind other names (name ∷ []) others) (λ other others. others) next.asks);
 }
   where
     stays : (other : ℕ) → (live_files r a).live other ≡ true → (live_files r b).live other ≡ true
     stays other live = (first.others other live).alive ∙ live
+
+-- a file that isn't opened leaves all that stands
+pub UsesOnly-unopened : {S : Type 0} (r : Ghosts S) (f : writing.Ghosts S) (name : List ℕ) (old new : S) → r.standing new ≡ r.standing old → f.given new ≡ f.given old → KeepsHolders (live_files r old).live (f.holder old) (f.holder new)
+    → AsksOnly (name ∷ []) [] (f.asked old) (f.asked new) → UsesOnly r f (name ∷ []) [] old new
+UsesOnly-unopened r f name old new stands given holders asks = record {
+  live = λ file. ap (λ standing. (r.files standing).live file) stands;
+  given = omega (arith, given);
+  holders = holders;
+  others = λ file is. record {
+    alive = ap (λ standing. (r.files standing).live file) stands;
+    size = λ live. ap (λ standing. (r.files standing).size file) stands;
+    content = λ live. ap (λ standing. (r.files standing).content file) stands;
+  };
+  asks = asks;
+}
 
 -- ---- they stand over what is written
 
@@ -97,7 +121,7 @@ stand-over r f names written old new ids are kept = record {
 -- ---- they are closed
 
 pub end-as-begun : {S : Type 0} (r : Ghosts S) (f : writing.Ghosts S) → AreNumbered r f → EndAsBegun r f
-end-as-begun r f numbered names written start opened done end ids opens kept ends = record {
+end-as-begun r f numbered names uses written start opened done end ids opens kept ends = record {
   live = alive;
   given = let earlier = opens.given in let later = kept.given in omega (arith, ends.given);
   holders = λ file live. ends.holders file (alive file ∙ live) ∙ kept.holders file (stays file live) ∙ opens.holders file live;
@@ -106,6 +130,11 @@ end-as-begun r f numbered names written start opened done end ids opens kept end
     size = λ live. (same file other live).size live;
     content = λ live. (same file other live).content live;
   };
+  asks = asks-both (IsBesides (names ++ uses) written) (f.asked start) (f.asked opened) (f.asked end)
+      (asks-more names [] (names ++ uses) written (f.asked start) (f.asked opened) (λ name others. others-front name names uses others) (λ name others. tt) opens.asks)
+      (asks-both (IsBesides (names ++ uses) written) (f.asked opened) (f.asked done) (f.asked end)
+      (asks-more uses written (names ++ uses) written (f.asked opened) (f.asked done) (λ name others. others-behind name names uses others) (λ name others. others) kept.asks)
+      (asks-none (IsBesides (names ++ uses) written) (f.asked done) (f.asked end) ends.asked));
 }
   where
     -- a file that was live before is none of them

@@ -1,5 +1,6 @@
 pub mod InputsLemmas
 pub mod NamesLemmas
+pub mod LooksLemmas
 pub mod TextLemmas
 pub mod TimesLemmas
 pub mod TrackLemmas

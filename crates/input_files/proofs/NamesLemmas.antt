@@ -1,9 +1,11 @@
 -- The first of the inputs' names that passes a test, and the contents of those that are open.
-use Rattle.std.proofs.Common.{◌≡◌, ◌≢◌, ℕ, suc, ◌+◌, ◌<◌, Bool, true, false, if◌then◌else◌, List, [], ◌∷◌, ◌++◌, length, take, drop, get_or, map, Option, Some, None, is_none, refl, sym, ◌∙◌, ap, arith}
+use Rattle.std.proofs.Common.{◌≡◌, ◌≢◌, ℕ, zero, suc, ◌+◌, ◌<◌, Bool, true, false, if◌then◌else◌, List, [], ◌∷◌, ◌++◌, length, take, drop, get_or, map, Option, Some, None, is_none, refl, sym, ◌∙◌, ap, arith}
 use Rattle.std.specs.List.{position_from}
 use Rattle.std.proofs.Math.Seq.{drop-cons, take-suc}
 use Rattle.std.proofs.lemmas.List.{map-append}
 use Rattle.mkv_io.specs.declared.outside.FileId.{FileId}
+use Rattle.mkv_io.specs.Names.{AreOthers}
+use Rattle.sidecar_edit.specs.Name.{sidecar_of}
 use Rattle.sidecar_edit.specs.Pending.{is_pending}
 use Rattle.merge_words.specs.declared.files.FileWords.{FileWords}
 use Rattle.mkv_outputs.specs.Sinks.{AreLive, holders_of}
@@ -50,6 +52,21 @@ names-more words k w name below is named =
   where
     one_more : (n : ℕ) → n + 1 ≡ suc n
     one_more n = omega arith
+
+-- ---- names that are others
+
+-- others than all of these are others than the first of them
+pub others-first : (name : List ℕ) (words : List FileWords) (k : ℕ) → AreOthers name (file_names words) → AreOthers name (file_names (take k words))
+others-first name [] zero others = tt
+others-first name [] (suc k) others = tt
+others-first name (w ∷ ws) zero others = tt
+others-first name (w ∷ ws) (suc k) others = (others.0, others-first name ws k others.1)
+
+-- others than all sidecars are others than each
+pub others-sidecar : (name : List ℕ) (words : List FileWords) (k : ℕ) (w : FileWords) → k < length words → w ≡ get_or words k w → AreOthers name (map sidecar_of (file_names words)) → sidecar_of w.name ≢ name
+others-sidecar name [] k w below is others = absurd (omega arith)
+others-sidecar name (x ∷ xs) zero w below is others = λ same. others.0 (ap (λ (each : FileWords). sidecar_of each.name) (sym is) ∙ same)
+others-sidecar name (x ∷ xs) (suc k) w below is others = others-sidecar name xs k w (omega arith) is others.1
 
 -- ---- the contents
 

@@ -1,9 +1,10 @@
--- The input files of a merge, as they are opened.
-use Rattle.std.specs.Prelude.{◌≡◌, ◌≤◌, ⊤, ℕ, Bool, true, false, List, map, Option, Some, None, is_none, Result, Ok, Err}
+-- The input files of a merge, as they are opened. It is this project's.
+use Rattle.std.specs.Prelude.{◌≡◌, ◌≤◌, ⊤, ℕ, Bool, true, false, List, [], map, Option, Some, None, is_none, Result, Ok, Err}
 use Rattle.std.specs.List.{All, position_from}
 use Rattle.mkv_io.specs.declared.outside.FileId.{FileId}
 use Rattle.mkv_io.specs.declared.outside.OpenFault.{OpenFault}
 use Rattle.mkv_io.specs.declared.outside.OpenFault.TheVariants as open_fault
+use Rattle.mkv_io.specs.Asked.{AsksOnly}
 use Rattle.mkv_io.specs.LiveFiles.{KeepsFiles, KeepsHolders}
 use Rattle.mkv_io.specs.Sources.{live_files}
 use Rattle.mkv_io.specs.declared.reads.Reads.{Ghosts}
@@ -39,6 +40,7 @@ pub record OpensInputs {S : Type 0} (r : Ghosts S) (f : writing.Ghosts S) (names
   pub given : f.given old ≤ f.given new
   pub holders : KeepsHolders (live_files r old).live (f.holder old) (f.holder new)
   pub others : KeepsFiles (live_files r old) (live_files r new) (λ file. (live_files r old).live file ≡ true)
+  pub asks : AsksOnly names [] (f.asked old) (f.asked new)
 
 -- No name's content changes, nothing is written, and no octet is read.
 pub record LeavesContents {S : Type 0} (r : Ghosts S) (f : writing.Ghosts S) (old new : S) : Type 0 where

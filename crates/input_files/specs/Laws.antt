@@ -1,11 +1,11 @@
 -- What holds of input files, whatever is written under other names.
-use Rattle.std.specs.Prelude.{ℕ, List}
+use Rattle.std.specs.Prelude.{ℕ, List, ◌++◌}
 use Rattle.std.specs.List.{All}
 use Rattle.mkv_io.specs.declared.outside.FileId.{FileId}
 use Rattle.mkv_io.specs.LiveFiles.{IsSameFile}
 use Rattle.mkv_io.specs.Names.{AreOthers}
 use Rattle.mkv_io.specs.Sources.{live_files}
-use Rattle.mkv_io.specs.Writing.{KeepsOthers}
+use Rattle.mkv_io.specs.Writing.{KeepsOthers, UsesOnly}
 use Rattle.mkv_io.specs.declared.reads.Reads.{Ghosts}
 use Rattle.mkv_io.specs.declared.files.Files as writing
 use Rattle.mkv_outputs.specs.Sinks.{EndsOnly}
@@ -22,9 +22,9 @@ abbrev pub StandOverWrites : {S : Type 0} → Ghosts S → writing.Ghosts S → 
 StandOverWrites {S} r f = (names written : List (List ℕ)) (old new : S) (ids : List FileId)
     → AreInputs r f names old ids → KeepsOthers r f written old new → StandsOver r f names written old new ids
 
--- Where input files were opened, only names among these were written then, and the input files were closed at last,
--- all is as where only these names were written.
+-- Where input files were opened, only names among these were then opened or written, and the input files were closed at
+-- last, all is as where only these names and the inputs' were opened, and only these were written.
 abbrev pub EndAsBegun : {S : Type 0} → Ghosts S → writing.Ghosts S → Type 0
-EndAsBegun {S} r f = (names written : List (List ℕ)) (start opened done end : S) (ids : List FileId)
-    → OpensInputs r f names start opened ids → KeepsOthers r f written opened done → EndsOnly r f done end ids
-    → KeepsOthers r f written start end
+EndAsBegun {S} r f = (names uses written : List (List ℕ)) (start opened done end : S) (ids : List FileId)
+    → OpensInputs r f names start opened ids → UsesOnly r f uses written opened done → EndsOnly r f done end ids
+    → UsesOnly r f (names ++ uses) written start end

@@ -1,9 +1,14 @@
--- The text files of a merge besides its inputs: its chapter file and its files of times.
-use Rattle.std.specs.Prelude.{ℕ, ◌+◌, List, Option}
+-- The text files of a merge besides its inputs: its chapter file and its files of times. What is taken of them is this project's.
+use Rattle.std.specs.Prelude.{ℕ, ◌+◌, List, ◌++◌, Option}
+use Rattle.std.specs.Option.{option_to_list}
 use Rattle.merge_words.specs.declared.files.FileWords.{FileWords}
 use Rattle.input_files.specs.ChapterFile.{chapter_file, chapter_octets}
-use Rattle.input_files.specs.TimesFile.{times_files, times_octets}
+use Rattle.input_files.specs.TimesFile.{times_files, times_named, times_names, times_octets}
 use Rattle.input_files.specs.declared.text_files.TextFiles.{TextFiles}
+
+-- the names of the chapter file and of the files of times
+abbrev pub text_names : Option (List ℕ) → List FileWords → List (List ℕ)
+text_names chapters words = option_to_list chapters ++ times_names (times_named words)
 
 -- what they give in a world of names
 abbrev pub text_files : (List ℕ → Option (List ℕ)) → Option (List ℕ) → List FileWords → TextFiles

@@ -25,6 +25,10 @@ named_from input (w ∷ ws) = map (named_of input) w.times ++ named_from (suc in
 abbrev pub times_named : List FileWords → List TimesName
 times_named words = named_from 0 words
 
+-- their names
+abbrev pub times_names : List TimesName → List (List ℕ)
+times_names times = map (λ (n : TimesName). n.name) times
+
 -- ---- what they give
 
 -- what a file gives whose content lists this

@@ -4,7 +4,7 @@ ghost use Rattle.std.specs.Prelude.{◌≡◌, map, IfOk, OnErr, []};
 ghost use Rattle.mkv_io.specs.Faults.{HasCause};
 ghost use Rattle.mkv_io.specs.Sources.{live_files};
 ghost use Rattle.mkv_io.specs.Told.{Told};
-ghost use Rattle.mkv_io.specs.Writing.{KeepsOthers};
+ghost use Rattle.mkv_io.specs.Writing.{UsesOnly};
 ghost use Rattle.mkv_outputs.specs.Sinks.{AreLive, AreRising, EndsOnly};
 ghost use Rattle.input_files.specs.Inputs.{LeavesContents, OpensInputs, TellsMissing, contents_of, end_of, file_names, is_inputs_fault};
 
@@ -25,7 +25,7 @@ pub fn open_all<F: Files>(
     ensures missing { Told (F.names files.old) (λ world. TellsMissing world (file_names words.now) result) }
 
     // A refusal leaves which files are live, and each as it was.
-    ensures refused { OnErr result (KeepsOthers F.Reads F.Files.own [] files.old files.new) }
+    ensures refused { OnErr result (UsesOnly F.Reads F.Files.own (file_names words.now) [] files.old files.new) }
     ensures same { LeavesContents F.Reads F.Files.own files.old files.new }
     ensures cause { HasCause is_inputs_fault (F.reading_faults files.old) (F.reading_faults files.new) result }
 {

@@ -5,7 +5,7 @@ ghost use Rattle.mkv_io.specs.Faults.{HasCause, is_read_fault};
 ghost use Rattle.mkv_io.specs.Told.{Told};
 ghost use Rattle.sidecar_edit.specs.Pending.{LooksOnly};
 ghost use Rattle.input_files.specs.ChapterFile.{CanBeWritten};
-ghost use Rattle.input_files.specs.TextFiles.{text_files, text_octets};
+ghost use Rattle.input_files.specs.TextFiles.{text_files, text_names, text_octets};
 
 use crate::chapter_file::{ChapterFile, read_chapter_file};
 use crate::times_file::{TimesFile, read_times_files};
@@ -33,7 +33,7 @@ pub fn read_text_files<F: Files>(
 
     // Whatever the names tell, Chapters that were read can be written.
     ensures written { IfOk result (λ texts. CanBeWritten texts.chapters) }
-    ensures looks { LooksOnly F.Reads F.Files.own files.old files.new }
+    ensures looks { LooksOnly F.Reads F.Files.own (text_names chapters.now words.now) files.old files.new }
     ensures cause { HasCause is_read_fault (F.reading_faults files.old) (F.reading_faults files.new) result }
     ensures octets { Told (F.names files.old) (λ world. F.octets_read files.new ≤ F.octets_read files.old + text_octets world chapters.now words.now) }
 {

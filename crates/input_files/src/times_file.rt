@@ -1,10 +1,10 @@
 //! The files of times that the words of a merge name, by their names.
 
-ghost use Rattle.std.specs.Prelude.{◌≡◌, ◌++◌, ◌+◌, ◌≤◌, map, IfOk, OnOk};
+ghost use Rattle.std.specs.Prelude.{◌≡◌, ◌++◌, ◌+◌, ◌≤◌, [], ◌∷◌, map, IfOk, OnOk};
 ghost use Rattle.mkv_io.specs.Faults.{HasCause, is_read_fault};
 ghost use Rattle.mkv_io.specs.Told.{Told};
 ghost use Rattle.sidecar_edit.specs.Pending.{LooksOnly};
-ghost use Rattle.input_files.specs.TimesFile.{given_with, named_of, octets_with, size_with, times_files, times_named, times_octets};
+ghost use Rattle.input_files.specs.TimesFile.{given_with, named_of, octets_with, size_with, times_files, times_named, times_names, times_octets};
 
 use crate::limits::{MOST_OF_ALL_TIMES, MOST_OF_TIMES};
 use crate::reading::read_track_times;
@@ -87,7 +87,7 @@ fn read_named<F: Files>(
 ) -> Result<Found, ReadEnd>
     ensures exact { Told (F.names files.old) (λ world. IfOk result (λ found. found.given ≡ given_with room (world name.now))) }
     ensures size { Told (F.names files.old) (λ world. IfOk result (λ found. found.size ≡ size_with (world name.now))) }
-    ensures looks { LooksOnly F.Reads F.Files.own files.old files.new }
+    ensures looks { LooksOnly F.Reads F.Files.own (name.now ∷ []) files.old files.new }
     ensures cause { HasCause is_read_fault (F.reading_faults files.old) (F.reading_faults files.new) result }
     ensures octets { Told (F.names files.old) (λ world. F.octets_read files.new ≤ F.octets_read files.old + octets_with (world name.now)) }
 {
@@ -120,7 +120,7 @@ pub fn read_times_files<F: Files>(
     files: &mut F,
 ) -> Result<List<TimesFile>, ReadEnd>
     ensures exact { Told (F.names files.old) (λ world. IfOk result (λ list. list ≡ times_files world words.now)) }
-    ensures looks { LooksOnly F.Reads F.Files.own files.old files.new }
+    ensures looks { LooksOnly F.Reads F.Files.own (times_names (times_named words.now)) files.old files.new }
     ensures cause { HasCause is_read_fault (F.reading_faults files.old) (F.reading_faults files.new) result }
     ensures octets { Told (F.names files.old) (λ world. F.octets_read files.new ≤ F.octets_read files.old + times_octets world words.now) }
 {

@@ -23,6 +23,7 @@ loop-id-preserved g c =
           let other = still-live (g.F.Reads.files (g.F.Reads.standing c.close.new.self)).live closed.n file c.close.ensures.ended live in
           c.close.ensures.holders file live ∙ c.loop-id.invariant.holders file (sym (c.close.ensures.others file other).alive ∙ live);
       numbers = c.close.ensures.given ∙ c.loop-id.invariant.numbers;
+      asked = c.close.ensures.asks ∙ c.loop-id.invariant.asked;
       writing = c.close.ensures.writing ∙ c.loop-id.invariant.writing;
       reading = c.close.ensures.reading ∙ c.loop-id.invariant.reading;
       octets = c.close.ensures.octets ∙ c.loop-id.invariant.octets;

@@ -14,6 +14,7 @@ invariant-loop-id g l = record {
   names : g.F.Files.names l.files ≡ g.F.Files.names l.initial.files;
   holders : KeepsHolders (g.F.Reads.files (g.F.Reads.standing l.files)).live (g.F.Files.holder l.initial.files) (g.F.Files.holder l.files);
   numbers : g.F.Files.given l.files ≡ g.F.Files.given l.initial.files;
+  asked : g.F.Files.asked l.files ≡ g.F.Files.asked l.initial.files;
   writing : g.F.Files.writing_faults l.files ≡ g.F.Files.writing_faults l.initial.files;
   reading : g.F.Reads.reading_faults l.files ≡ g.F.Reads.reading_faults l.initial.files;
   octets : g.F.Reads.octets_read l.files ≡ g.F.Reads.octets_read l.initial.files;

@@ -1,22 +1,32 @@
 use Rattle.std.proofs.Common.{List, [], ◌∷◌, ◌++◌, ℕ, ◌+◌, take, map, sym, ◌∙◌, ap, subst}
 use Rattle.std.proofs.lemmas.List.{take_all}
+use Rattle.mkv_io.specs.Names.{AreOthers}
 use Rattle.mkv_io.specs.Sources.{live_files}
+use Rattle.mkv_io.proofs.AskedLemmas.{asks-opened}
+use Rattle.mkv_io.proofs.WritingLemmas.{UsesOnly-more}
 use Rattle.mkv_outputs.specs.Sinks.{EndsOnly}
-use Rattle.sidecar_edit.proofs.LooksLemmas.{KeepsOthers-standing}
 use Rattle.input_files.specs.Inputs.{OpensInputs, contents_of, file_names}
-use Rattle.input_files.proofs.InputsLemmas.{OpensInputs-more, end-as-begun}
-use Rattle.input_files.proofs.NamesLemmas.{contents-named, missing-passed, names-more}
+use Rattle.input_files.proofs.InputsLemmas.{OpensInputs-more, UsesOnly-unopened, end-as-begun}
+use Rattle.input_files.proofs.NamesLemmas.{contents-named, missing-passed, names-more, others-first}
 use Rattle.input_files.proofs.files.open_all.Goals as goal
 
 -- those that are open are closed again
 pub returns-in-Err-clause-refused : goal.returns-in-Err-clause-refused
 returns-in-Err-clause-refused g c =
-    end-as-begun g.F.Reads g.F.Files g.met.F.Files.numbered (file_names (take c.loop-k.k c.args.words.now)) []
+    let words = c.args.words.now in
+    let name = c.as_str.result.now in
+    let before = file_names (take c.loop-k.k words) in
+    let fault = c.in-Err.ensures.err in
+    let more = names-more words c.loop-k.k c.index-words-k.result name c.loop-k-test.true c.index-words-k.is c.as_str.ensures.same in
+    UsesOnly-more g.F.Reads g.F.Files (before ++ name ∷ []) [] (file_names words) [] c.args.files.now c.close_all.new.files
+    (λ other others. subst (AreOthers other) more (others-first other words (c.loop-k.k + 1) others)) (λ other others. others)
+    (end-as-begun g.F.Reads g.F.Files g.met.F.Files.numbered before (name ∷ []) []
     c.args.files.now c.loop-k.files c.open_file.new.self c.close_all.new.files c.loop-k.ids.items
     c.loop-k.invariant.opens
-    (KeepsOthers-standing g.F.Reads g.F.Files [] c.loop-k.files c.open_file.new.self c.in-Err.ensures.err
-    (g.met.F.Files.given_stands c.open_file.new.self c.loop-k.files c.in-Err.ensures.err) c.open_file.ensures.holders)
-    (subst (EndsOnly g.F.Reads g.F.Files c.open_file.new.self c.close_all.new.files) c.as_slice.ensures.value c.close_all.ensures)
+    (UsesOnly-unopened g.F.Reads g.F.Files name c.loop-k.files c.open_file.new.self fault
+    (g.met.F.Files.given_stands c.open_file.new.self c.loop-k.files fault) c.open_file.ensures.holders
+    (asks-opened name [] (g.F.Files.asked c.loop-k.files) (g.F.Files.asked c.open_file.new.self) c.open_file.result c.open_file.ensures.asks))
+    (subst (EndsOnly g.F.Reads g.F.Files c.open_file.new.self c.close_all.new.files) c.as_slice.ensures.value c.close_all.ensures))
 
 -- one more is open
 pub loop-k-preserved : goal.loop-k-preserved
@@ -34,6 +44,7 @@ loop-k-preserved g c = record {
         holder = c.in-Ok.ensures.holder;
         holders = c.open_file.ensures.holders;
         others = c.open_file.ensures.others;
+        asks = asks-opened c.as_str.result.now [] (g.F.Files.asked c.loop-k.files) (g.F.Files.asked c.open_file.new.self) c.open_file.result c.open_file.ensures.asks;
       })));
   missing = λ world told.
       c.loop-k.invariant.missing world told

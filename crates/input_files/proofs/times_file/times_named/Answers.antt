@@ -1,4 +1,4 @@
-use Rattle.std.proofs.Common.{List, ◌++◌, map, ◌∙◌, ap}
+use Rattle.std.proofs.Common.{◌++◌, map, ◌∙◌, ap}
 use Rattle.input_files.specs.TimesFile.{named_of}
 use Rattle.input_files.proofs.TimesLemmas.{named-all, named-more}
 use Rattle.input_files.proofs.times_file.times_named.Goals as goal
