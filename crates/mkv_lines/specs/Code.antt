@@ -1,4 +1,4 @@
--- The exit status of the program, and what stops it.
+-- The exit status of the program, and what stops it. They are this project's.
 use Rattle.std.specs.Prelude.{ℕ, Result, Ok, Err}
 use Rattle.mkv_lines.specs.declared.status.Status.{Status}
 use Rattle.mkv_lines.specs.declared.status.Status.TheVariants.{Done, Warned, Refused, NoMemory, Outside}

@@ -1,11 +1,15 @@
--- How a command over files ends, whatever it was to do.
-use Rattle.std.specs.Prelude.{◌≡◌, ℕ, Result, IfOk}
-use Rattle.mkv_io.specs.Sources.{live_files}
+-- How a command over files ends, whatever it was to do, and what it or a part of it says and reads.
+use Rattle.std.specs.Prelude.{◌≡◌, ℕ, ◌+◌, ◌≤◌, List, Option, Result, IfOk}
+use Rattle.mkv_io.specs.Sources.{file_size, live_files}
+use Rattle.mkv_io.specs.Told.{Told}
+use Rattle.mkv_io.specs.declared.outside.FileId.{FileId}
 use Rattle.mkv_io.specs.declared.reads.Reads.{Ghosts as ReadsGhosts}
 use Rattle.mkv_io.specs.declared.files.Files.{Ghosts as FilesGhosts}
 use Rattle.mkv_io.specs.declared.report.Report.{Ghosts as ReportGhosts}
-use Rattle.mkv_lines.specs.Faults.{HasStopCause}
+use Rattle.sidecar_edit.specs.declared.place.TheConstants.{HEAD}
+use Rattle.mkv_lines.specs.Faults.{Counts, HasStopCause}
 use Rattle.mkv_lines.specs.Ordinary.{IsOrdinary}
+use Rattle.mkv_lines.specs.Said.{Says}
 use Rattle.mkv_lines.specs.Seen.{Seen, seen}
 use Rattle.mkv_lines.specs.Verdict.{Reaches, Verdict}
 use Rattle.mkv_lines.specs.declared.status.Status.{Status}
@@ -25,3 +29,33 @@ pub record HasEnded {F P : Type 0} (r : ReadsGhosts F) (f : FilesGhosts F) (p : 
   pub ordinary : IfOk result IsOrdinary
   pub live : (file : ℕ) → (live_files r files').live file ≡ (live_files r files).live file
   pub cause : HasStopCause (seen_in r f p files report).counts (seen_in r f p files' report').counts result
+
+-- ---- of a command, or of a part of one
+
+-- These lines were added to a report, or a first part of them where the call stopped.
+abbrev pub SaysTo : {P T : Type 0} → ReportGhosts P → P → P → List (List ℕ) → Result T Stop → Type 0
+SaysTo p report report' lines result = Says (p.lines report) (p.lines report') lines result
+
+-- the counts of files alone, where nothing is said
+abbrev pub files_counts : {F : Type 0} → ReadsGhosts F → FilesGhosts F → F → Counts
+files_counts r f files = record { reading = r.reading_faults files; writing = f.writing_faults files; report = 0 }
+
+-- What works on files alone, and says nothing, stops for want of memory, or where reading or writing failed, whose count then rose.
+abbrev pub HasFilesCause : {F T : Type 0} → ReadsGhosts F → FilesGhosts F → F → F → Result T Stop → Type 0
+HasFilesCause r f files files' result = HasStopCause (files_counts r f files) (files_counts r f files') result
+
+-- At most so many octets more were read.
+abbrev pub ReadsUpTo : {F : Type 0} → ReadsGhosts F → F → F → ℕ → Type 0
+ReadsUpTo r files files' most = r.octets_read files' ≤ r.octets_read files + most
+
+-- The same, where the bound is one of the length that a live file had.
+abbrev pub ReadsOf : {F : Type 0} → ReadsGhosts F → F → F → FileId → (ℕ → ℕ) → Type 0
+ReadsOf r files files' file most = ReadsUpTo r files files' (most (file_size r files file))
+
+-- The same, where the bound is one of the world of names, if it is told.
+abbrev pub ReadsByNames : {F : Type 0} → ReadsGhosts F → FilesGhosts F → F → F → ((List ℕ → Option (List ℕ)) → ℕ) → Type 0
+ReadsByNames r f files files' most = Told (f.names files) (λ world. ReadsUpTo r files files' (most world))
+
+-- what may be read of a file of so many octets, where its sidecar is looked into before
+abbrev pub with_sidecar_head : (ℕ → ℕ) → ℕ → ℕ
+with_sidecar_head most octets = HEAD + most octets

@@ -1,4 +1,4 @@
--- The lines that a user is told, each without its line end.
+-- The lines that a user is told, each without its line end. They are this project's.
 use Rattle.std.specs.Prelude.{ℕ, ◌==◌, ◌++◌, if◌then◌else◌, List, [], ◌∷◌, map, codes}
 use Rattle.std.specs.Fmt.{decimal}
 use Rattle.mkv_io.specs.declared.damage.Damage.{Damage}

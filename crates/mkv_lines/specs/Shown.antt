@@ -1,4 +1,4 @@
--- How Elements, sizes and damages are shown in a line.
+-- How Elements, sizes and damages are shown in a line. It is this project's.
 use Rattle.std.specs.Prelude.{ℕ, ◌++◌, ◌==◌, ◌/◌, ◌%◌, nat_lt, nat_le, Bool, true, ◌&&◌, ◌||◌, if◌then◌else◌, List, ◌∷◌, flat_map, codes, unwrap_or}
 use Rattle.std.specs.Char.{encode_utf8}
 use Rattle.std.specs.Str.{chars}

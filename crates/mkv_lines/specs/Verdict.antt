@@ -1,4 +1,4 @@
--- What a command comes to: its status, the lines that it says, and the outputs that it writes.
+-- What a command comes to: its status, the lines that it says, and the outputs that it writes. It is this project's.
 use Rattle.std.specs.Prelude.{◌≡◌, ◌⊎◌, ℕ, Bool, true, false, List, [], ◌∷◌, Result, Ok, Err}
 use Rattle.mkv_io.specs.Lines.{with_lines}
 use Rattle.mkv_io.specs.Names.{Names}
