@@ -1,10 +1,7 @@
--- How many octets `info` and `merge -J` may read.
-use Rattle.std.specs.Prelude.{ℕ, ◌≤◌, ◌+◌, ◌*◌, min, List, length, Option, Some, None}
-use Rattle.mkv_io.specs.Told.{Told}
-use Rattle.mkv_io.specs.declared.files.Files.{Ghosts as FilesGhosts}
-use Rattle.mkv_io.specs.declared.reads.Reads.{Ghosts as ReadsGhosts}
+-- How many octets `info` and `merge -J` may read. The bounds are this project's.
+use Rattle.std.specs.Prelude.{ℕ, ◌+◌, ◌*◌, min, List, length, Option, Some, None}
 use Rattle.meta_records.specs.declared.limits.TheConstants.{MOST_OF_ATTACHMENTS}
-use Rattle.sidecar_edit.specs.declared.place.TheConstants.{HEAD}
+use Rattle.mkv_lines.specs.Command.{with_sidecar_head}
 use Rattle.mkv_info.specs.declared.info.Form.{Form}
 use Rattle.mkv_info.specs.declared.info.Form.TheVariants.{Lines, Json}
 
@@ -21,19 +18,11 @@ abbrev pub most_of_form : Form → ℕ → ℕ
 most_of_form Lines octets = most_to_list octets
 most_of_form Json octets = most_to_identify octets
 
--- what may be read of an open one to tell of it: besides, what its sidecar begins with
-abbrev pub most_open : Form → ℕ → ℕ
-most_open form octets = HEAD + most_of_form form octets
-
 -- what may be read of a name, which may have no content
 abbrev pub most_with : Form → Option (List ℕ) → ℕ
 most_with form None = 0
-most_with form (Some bytes) = most_open form (length bytes)
+most_with form (Some bytes) = with_sidecar_head (most_of_form form) (length bytes)
 
 -- what may be read of a name in a world of names
 abbrev pub most_to_tell : Form → (List ℕ → Option (List ℕ)) → List ℕ → ℕ
 most_to_tell form world name = most_with form (world name)
-
--- No more is read of a name than that, where the names tell.
-abbrev pub ReadsToTell : {F : Type 0} → ReadsGhosts F → FilesGhosts F → F → F → Form → List ℕ → Type 0
-ReadsToTell r f old new form name = Told (f.names old) (λ world. r.octets_read new ≤ r.octets_read old + most_to_tell form world name)

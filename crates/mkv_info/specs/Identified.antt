@@ -1,4 +1,4 @@
--- What `merge -J` tells of a file: one line of JSON.
+-- What `merge -J` tells of a file: one line of JSON. Its members are this project's, after `mkvmerge -J`.
 use Rattle.std.specs.Prelude.{ℕ, List, ◌∷◌, Result, Ok, Err}
 use Rattle.mkv_io.specs.declared.damage.Damage.{Damage}
 use Rattle.mkv_info.specs.Identification.{identification_line}

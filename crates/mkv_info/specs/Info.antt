@@ -1,4 +1,4 @@
--- What is told of one file, in either form.
+-- What is told of one file, in either form. All of it is this project's, after mkvinfo(1) and `mkvmerge -J`.
 use Rattle.std.specs.Prelude.{ℕ, Bool, List, Option, Some, None}
 use Rattle.mkv_lines.specs.Line.{missing_line}
 use Rattle.mkv_lines.specs.Verdict.{Verdict, refused, unless_pending}

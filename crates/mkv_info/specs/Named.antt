@@ -1,4 +1,4 @@
--- Which TrackUIDs are looked for.
+-- Which TrackUIDs are looked for. It is this project's.
 use Rattle.std.specs.Prelude.{ℕ, ◌==◌, Bool, true, Option, Some, None}
 
 -- a TrackUID is the one that is looked for, or any is

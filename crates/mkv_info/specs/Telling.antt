@@ -5,8 +5,8 @@ use Rattle.mkv_io.specs.declared.outside.FileId.{FileId}
 use Rattle.mkv_io.specs.declared.reads.Reads.{Ghosts as ReadsGhosts}
 use Rattle.mkv_io.specs.declared.report.Report.{Ghosts as ReportGhosts}
 use Rattle.element_reader.specs.Outline.{FileOutline, outline_in}
+use Rattle.mkv_lines.specs.Command.{SaysTo}
 use Rattle.mkv_lines.specs.Faults.{HasReadStop}
-use Rattle.mkv_lines.specs.Said.{Says}
 use Rattle.mkv_lines.specs.Verdict.{SaysVerdict, Verdict}
 use Rattle.mkv_lines.specs.declared.status.Status.{Status}
 use Rattle.mkv_lines.specs.declared.status.Stop.{Stop}
@@ -18,7 +18,7 @@ Informs r p src file old new result verdict = IfTold r src file (λ bytes. SaysV
 
 -- the same of lines alone
 abbrev pub SaysOf : {S P T : Type 0} → ReadsGhosts S → ReportGhosts P → S → FileId → P → P → Result T Stop → (List ℕ → List (List ℕ)) → Type 0
-SaysOf r p src file old new result lines = IfTold r src file (λ bytes. Says (p.lines old) (p.lines new) (lines bytes) result)
+SaysOf r p src file old new result lines = IfTold r src file (λ bytes. SaysTo p old new (lines bytes) result)
 
 -- It has listed the content of a name that has this outline.
 abbrev pub ListsOutline : {S P : Type 0} → ReadsGhosts S → ReportGhosts P → S → FileId → FileOutline → List ℕ → P → P → Result Status Stop → Type 0

@@ -1,12 +1,14 @@
 //! A file is opened, told of and closed.
 
-ghost use Rattle.std.specs.Prelude.{◌≡◌, ◌+◌, ◌≤◌, ℕ, IfOk};
-ghost use Rattle.mkv_io.specs.Sources.{IsLive, file_size};
+ghost use Rattle.std.specs.Prelude.{◌≡◌, [], ◌∷◌, IfOk};
+ghost use Rattle.mkv_io.specs.Asked.{AsksOnly};
+ghost use Rattle.mkv_io.specs.Sources.{IsLive};
 ghost use Rattle.mkv_io.specs.Told.{Told};
+ghost use Rattle.sidecar_edit.specs.Name.{sidecar_of, with_sidecar};
 ghost use Rattle.sidecar_edit.specs.Pending.{LooksOnly};
-ghost use Rattle.mkv_lines.specs.Command.{ComesTo, HasEnded};
+ghost use Rattle.mkv_lines.specs.Command.{ComesTo, HasEnded, ReadsByNames, with_sidecar_head, ReadsOf};
 ghost use Rattle.mkv_lines.specs.Ordinary.{IsOrdinary};
-ghost use Rattle.mkv_info.specs.Bound.{ReadsToTell, most_open};
+ghost use Rattle.mkv_info.specs.Bound.{most_of_form, most_to_tell};
 ghost use Rattle.mkv_info.specs.Info.{info_verdict, settled_verdict};
 ghost use Rattle.mkv_info.specs.Telling.{HasTellStop, Informs};
 
@@ -38,7 +40,8 @@ pub fn info_of<F: Files, P: Report>(
         ComesTo F.Reads F.Files.own P.Report files.old files.new report.old report.new result (info_verdict form world name.now)) }
     ensures ended { HasEnded F.Reads F.Files.own P.Report files.old files.new report.old report.new result }
     ensures names { F.names files.new ≡ F.names files.old }
-    ensures octets { ReadsToTell F.Reads F.Files.own files.old files.new form name.now }
+    ensures asks { AsksOnly (with_sidecar name.now) [] (F.asked files.old) (F.asked files.new) }
+    ensures octets { ReadsByNames F.Reads F.Files.own files.old files.new (λ world. most_to_tell form world name.now) }
 {
     let file = match files.open_file(name) {
         Ok(file) => file,
@@ -64,9 +67,9 @@ fn tell_settled<F: Files, P: Report>(
     ensures verdict { Told (F.names files.old) (λ world.
         Informs F.Reads P.Report files.old file report.old report.new result (settled_verdict form world name.now)) }
     ensures ordinary { IfOk result IsOrdinary }
-    ensures looks { LooksOnly F.Reads F.Files.own files.old files.new }
+    ensures looks { LooksOnly F.Reads F.Files.own (sidecar_of name.now ∷ []) files.old files.new }
     ensures cause { HasTellStop F.Reads P.Report files.old files.new report.old report.new result }
-    ensures octets { F.octets_read files.new ≤ F.octets_read files.old + most_open form (file_size F.Reads files.old file) }
+    ensures octets { ReadsOf F.Reads files.old files.new file (with_sidecar_head (most_of_form form)) }
 {
     if is_pending(alloc, name, files)? {
         return refuse(alloc, &Line::PendingEdit { name }, report);

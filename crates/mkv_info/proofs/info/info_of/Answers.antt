@@ -1,9 +1,13 @@
-use Rattle.std.proofs.Common.{refl, ◌∙◌}
+use Rattle.std.proofs.Common.{[], refl, ◌∙◌}
+use Rattle.mkv_io.specs.Asked.{IsBesides}
+use Rattle.mkv_io.specs.declared.asked.Asked.TheVariants.{Opened}
+use Rattle.mkv_io.proofs.AskedLemmas.{asks-one}
+use Rattle.sidecar_edit.specs.Name.{with_sidecar}
 use Rattle.sidecar_edit.specs.Pending.{is_pending}
 use Rattle.mkv_lines.specs.Command.{seen_in}
 use Rattle.mkv_lines.proofs.VerdictLemmas.{IsStopped-before}
 use Rattle.mkv_info.specs.Info.{info_verdict}
-use Rattle.mkv_info.proofs.InfoLemmas.{reaches-settled}
+use Rattle.mkv_info.proofs.InfoLemmas.{asks-told, reaches-settled}
 use Rattle.mkv_info.proofs.info.info_of.Goals as goal
 
 -- the file couldn't be opened
@@ -30,3 +34,22 @@ returns-clause-verdict g c = λ world told.
     (λ none. let refused = (c.in-Ok.ensures.missing world told).1 none in absurd (cc))
     (λ bytes is. c.tell_settled-ended.ensures.verdict world (opened ∙ told) bytes (c.in-Ok.ensures.content world told ∙ is))
     (c.close.ensures.names ∙ c.tell_settled-ended.ensures.looks.names ∙ opened)
+
+-- it was asked for all the same
+pub returns-in-Err-Missing-clause-asks : goal.returns-in-Err-Missing-clause-asks
+returns-in-Err-Missing-clause-asks g c =
+    asks-one (IsBesides (with_sidecar c.args.name.now) []) (Opened c.args.name.now) (g.F.Files.asked c.args.files.now) (g.F.Files.asked c.open_file.new.self) c.open_file.result (λ others. others.0 refl) c.open_file.ensures.asks
+
+pub returns-in-Err-Failed-clause-asks : goal.returns-in-Err-Failed-clause-asks
+returns-in-Err-Failed-clause-asks g c =
+    asks-one (IsBesides (with_sidecar c.args.name.now) []) (Opened c.args.name.now) (g.F.Files.asked c.args.files.now) (g.F.Files.asked c.open_file.new.self) c.open_file.result (λ others. others.0 refl) c.open_file.ensures.asks
+
+pub returns-in-Err-Memory-clause-asks : goal.returns-in-Err-Memory-clause-asks
+returns-in-Err-Memory-clause-asks g c =
+    asks-one (IsBesides (with_sidecar c.args.name.now) []) (Opened c.args.name.now) (g.F.Files.asked c.args.files.now) (g.F.Files.asked c.open_file.new.self) c.open_file.result (λ others. others.0 refl) c.open_file.ensures.asks
+
+-- it and its sidecar were opened
+pub returns-clause-asks : goal.returns-clause-asks
+returns-clause-asks g c =
+    asks-told c.args.name.now (g.F.Files.asked c.args.files.now) (g.F.Files.asked c.open_file.new.self) (g.F.Files.asked c.tell_settled-ended.new.files) (g.F.Files.asked c.close.new.self) c.open_file.result
+    c.open_file.ensures.asks c.tell_settled-ended.ensures.looks.kept.asks c.close.ensures.asks
