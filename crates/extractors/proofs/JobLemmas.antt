@@ -8,6 +8,7 @@ use Rattle.std.proofs.lemmas.List.{drop_all}
 use Rattle.std.proofs.lemmas.Grind.{flat_map-append}
 use Rattle.mkv_io.specs.Names.{AreApart, AreOthers}
 use Rattle.word_values.specs.declared.job.Job.{Job}
+use Rattle.word_values.specs.declared.job.Job.TheVariants as jobs
 use Rattle.word_values.specs.declared.job.Target.{Target}
 use Rattle.tree_format.specs.Node.{Node}
 use Rattle.file_format.specs.Entry.{default_duration_of}
@@ -16,7 +17,7 @@ use Rattle.file_format.specs.Tracks.{IsTrack}
 use Rattle.track_records.specs.declared.track.Track.{Track}
 use Rattle.meta_records.specs.Records.{AreRead}
 use Rattle.extractors.specs.Content.{names_in}
-use Rattle.extractors.specs.Job.{first_unfit, is_unfit, job_outputs, names_unfit, output_with, names_of, output_for, outputs_for, outputs_taken, form_of, refusal_of, refusal_taken, targets_of, track_output, unfit_of}
+use Rattle.extractors.specs.Job.{first_unfit, is_unfit, job_outputs, names_for, names_unfit, output_with, names_of, output_for, outputs_for, outputs_taken, form_of, refusal_of, refusal_taken, targets_of, track_output, unfit_of}
 use Rattle.extractors.specs.Codec.{coding_of}
 use Rattle.extractors.proofs.CodecLemmas.{coding_of-can}
 use Rattle.extractors.specs.declared.frame_form.Coding.{Coding}
@@ -178,6 +179,13 @@ outputs_for-others kind (t ∷ ts) entries name others = step (slice_get entries
     step : (entry : Option Node) → AreOthers name (names_in (outputs_for kind ts entries)) → AreOthers name (names_in (output_for kind t entry ++ outputs_for kind ts entries))
     step None rest = rest
     step (Some e) rest = coded e (coding_of kind e) rest
+
+-- those of a job are among the names of its files
+pub job_outputs-others : (job : Job) (entries : List Node) (name : List ℕ) → AreOthers name (names_for job) → AreOthers name (names_in (job_outputs job entries))
+job_outputs-others (jobs.Tracks form list) entries name others = outputs_for-others form list entries name others
+job_outputs-others (jobs.Attachments list) entries name others = tt
+job_outputs-others (jobs.Cues list) entries name others = tt
+job_outputs-others (jobs.Chapters out) entries name others = tt
 
 pub outputs_for-apart : (kind : Form) (targets : List Target) (entries : List Node) → AreApart (names_of targets) → AreApart (names_in (outputs_for kind targets entries))
 outputs_for-apart kind [] entries apart = tt

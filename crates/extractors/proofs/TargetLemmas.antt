@@ -8,6 +8,7 @@ use Rattle.mkv_io.specs.Names.{AreOthers, Names, with_content}
 use Rattle.mkv_io.specs.Writing.{KeepsOthers}
 use Rattle.mkv_io.specs.declared.reads.Reads.{Ghosts}
 use Rattle.mkv_io.specs.declared.files.Files as writing
+use Rattle.mkv_io.proofs.WritingLemmas.{KeepsOthers-more}
 use Rattle.word_values.specs.declared.job.Target.{Target}
 use Rattle.mkv_outputs.specs.Outputs.{Output, with_outputs}
 use Rattle.mkv_outputs.specs.Starts.{AreBegun, StandsInPart}
@@ -26,12 +27,8 @@ AreOthers-target name targets k t others below is = (λ same. at targets k other
     at (first ∷ rest) (suc i) none inside = at rest i none.1 (omega arith)
 
 pub KeepsOthers-target : {S : Type 0} (r : Ghosts S) (f : writing.Ghosts S) (old new : S) (targets : List Target) (k : ℕ) (t : Target) → k < length targets → t ≡ get_or targets k t → KeepsOthers r f (t.name ∷ []) old new → KeepsOthers r f (names_of targets) old new
-KeepsOthers-target r f old new targets k t below is kept = record {
-  live = kept.live;
-  given = kept.given;
-  holders = kept.holders;
-  others = λ file none. kept.others file (AreOthers-target (f.holder old file) targets k t none below is);
-}
+KeepsOthers-target r f old new targets k t below is kept =
+    KeepsOthers-more r f (t.name ∷ []) (names_of targets) old new (λ name others. AreOthers-target name targets k t others below is) kept
 
 -- ---- outputs behind others
 

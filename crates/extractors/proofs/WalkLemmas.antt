@@ -7,7 +7,7 @@ use Rattle.mkv_io.specs.Sources.{live_files}
 use Rattle.mkv_io.specs.Writing.{KeepsOthers}
 use Rattle.mkv_io.specs.declared.reads.Reads.{Ghosts}
 use Rattle.mkv_io.specs.declared.files.Files as writing
-use Rattle.mkv_io.proofs.WritingLemmas.{KeepsOthers-none, KeepsOthers-then}
+use Rattle.mkv_io.proofs.WritingLemmas.{KeepsOthers-none, KeepsOthers-then, UsesOnly-standing}
 use Rattle.block_format.specs.Block.{Block}
 use Rattle.block_format.specs.Events.{Event, block, blocks_of, damages_of}
 use Rattle.cluster_reader.specs.Reading.{damage_event}
@@ -193,25 +193,12 @@ MetSoFar-told f list a b sinks now numbers all left told so none =
 pub WritesAndReads-none : {S : Type 0} (r : Ghosts S) (f : writing.Ghosts S) (files : S) (sinks : List Sink) → AreOpen r files sinks → WritesAndReads r f files files sinks sinks
 WritesAndReads-none r f files sinks outputs = record { same = refl; outputs = outputs; kept = KeepsOthers-none r f (names_under f files sinks) files }
 
--- what reading leaves keeps all names
-KeepsOthers-standing : {S : Type 0} (r : Ghosts S) (f : writing.Ghosts S) (names : List (List ℕ)) (old new : S) → r.standing new ≡ r.standing old → f.given new ≡ f.given old → ((file : ℕ) → f.holder new file ≡ f.holder old file) → KeepsOthers r f names old new
-KeepsOthers-standing r f names old new same given holders = record {
-  live = λ file. ap (λ standing. (r.files standing).live file) same;
-  given = omega (arith, given);
-  holders = λ file live. holders file;
-  others = λ file is. record {
-    alive = ap (λ standing. (r.files standing).live file) same;
-    size = λ live. ap (λ standing. (r.files standing).size file) same;
-    content = λ live. ap (λ standing. (r.files standing).content file) same;
-  };
-}
-
 -- a file was read
-pub WritesAndReads-read : {S : Type 0} (r : Ghosts S) (f : writing.Ghosts S) (a b c : S) (sinks now : List Sink) → WritesAndReads r f a b sinks now → r.standing c ≡ r.standing b → f.given c ≡ f.given b → ((file : ℕ) → f.holder c file ≡ f.holder b file) → WritesAndReads r f a c sinks now
-WritesAndReads-read r f a b c sinks now walks same given holders = record {
+pub WritesAndReads-read : {S : Type 0} (r : Ghosts S) (f : writing.Ghosts S) (a b c : S) (sinks now : List Sink) → WritesAndReads r f a b sinks now → r.standing c ≡ r.standing b → f.given c ≡ f.given b → ((file : ℕ) → f.holder c file ≡ f.holder b file) → f.asked c ≡ f.asked b → WritesAndReads r f a c sinks now
+WritesAndReads-read r f a b c sinks now walks same given holders asked = record {
   same = walks.same;
   outputs = AreOpen-kept r b c now now walks.outputs refl (λ file. ap (λ standing. (r.files standing).live file) same);
-  kept = KeepsOthers-then r f (names_under f a sinks) a b c walks.kept (KeepsOthers-standing r f (names_under f a sinks) b c same given holders);
+  kept = KeepsOthers-then r f (names_under f a sinks) a b c walks.kept (UsesOnly-standing r f [] (names_under f a sinks) b c same given (λ file live. holders file) asked);
 }
 
 -- the outputs keep their names

@@ -1,4 +1,4 @@
--- The frames that their codec has no form for.
+-- The frames that their codec has no form for. What counts as one is this project's; the forms are the codecs'.
 use Rattle.std.specs.Prelude.{◌≡◌, ◌==◌, Bool, ℕ, pos, if◌then◌else◌, is_none, List, [], ◌++◌, map, filter, Option, None, Some}
 use Rattle.std.specs.List.{find, flat_map}
 use Rattle.mkv_schema.specs.declared.ids.TheConstants.{SIMPLE_BLOCK, BLOCK}

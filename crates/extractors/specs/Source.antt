@@ -1,4 +1,4 @@
--- A file of which something is taken, and what is taken of it.
+-- A file of which something is taken, and what is taken of it. What that is, is this project's.
 use Rattle.std.specs.Prelude.{◌≡◌, ℕ, List, map, None, IfSome, slice_get}
 use Rattle.std.specs.List.{All}
 use Rattle.mkv_io.specs.Sources.{IsLive, file_size}

@@ -5,13 +5,17 @@ use Rattle.std.specs.Str.{bytes_eq}
 use Rattle.std.proofs.lemmas.Bool.{le-ltb, lt-ltb}
 use Rattle.std.proofs.lemmas.List.{length-map}
 use Rattle.std.proofs.lemmas.Slice.Eq.{bytes_eq-Decides}
+use Rattle.mkv_io.specs.Asked.{AsksFor, AsksOnly, IsBesides}
 use Rattle.mkv_io.specs.Lines.{with_lines}
 use Rattle.mkv_io.specs.Names.{AreOthers}
+use Rattle.mkv_io.specs.declared.asked.Asked.{Asked}
+use Rattle.mkv_io.specs.declared.asked.Asked.TheVariants.{Opened}
+use Rattle.mkv_io.proofs.AskedLemmas.{asks-both, asks-more, asks-none, asks-one}
 use Rattle.word_values.specs.declared.job.Job.{Job}
 use Rattle.word_values.specs.declared.job.Job.TheVariants as form
 use Rattle.word_values.specs.declared.job.Form.{Form}
 use Rattle.word_values.specs.declared.job.Target.{Target}
-use Rattle.sidecar_edit.specs.Name.{sidecar_of}
+use Rattle.sidecar_edit.specs.Name.{sidecar_of, with_sidecar}
 use Rattle.mkv_outputs.specs.Outputs.{Output, names_of, with_outputs}
 use Rattle.mkv_outputs.specs.Starts.{StandsInPart}
 use Rattle.meta_records.specs.Attached.{AttachedFile}
@@ -29,6 +33,7 @@ use Rattle.extractors.specs.declared.frame_form.Unfit.TheVariants.{NoExtractor, 
 use Rattle.extractors.specs.declared.track_output.TrackOutput.{TrackOutput}
 use Rattle.extractors.specs.Job as jobs
 use Rattle.extractors.proofs.ContentLemmas.{names_of-outputs}
+use Rattle.extractors.proofs.JobLemmas.{job_outputs-others}
 use Rattle.extractors.specs.Source.{entry_in}
 use Rattle.mkv_lines.specs.Line.{no_track_line, wrote_line}
 use Rattle.mkv_lines.specs.Said.{ReportLines, Says, SaysPart}
@@ -99,6 +104,28 @@ taken-names None targets entries some fit = absurd (cc)
 taken-names (Some kind) targets entries some fit =
     let none = none-refused (first_unfit NoExtractor kind targets entries) (first_unfit BadConfig kind targets entries) fit in
     written-names kind targets entries none.0 none.1
+
+-- ---- the names that are opened and made
+
+-- only outputs of a job were made, so only files of its names
+pub asks-taken : (job : Job) (entries : List Node) (old new : List Asked) → AsksOnly [] (names_in (job_outputs job entries)) old new → AsksOnly [] (names_for job) old new
+asks-taken job entries old new asks = asks-more [] (names_in (job_outputs job entries)) [] (names_for job) old new (λ name others. others) (job_outputs-others job entries) asks
+
+-- a sidecar is looked into, and the outputs are made
+pub asks-settled : (name : List ℕ) (made : List (List ℕ)) (a b c : List Asked) → AsksOnly (sidecar_of name ∷ []) [] a b → AsksOnly [] made b c → AsksOnly (sidecar_of name ∷ []) made a c
+asks-settled name made a b c looks makes =
+    asks-both (IsBesides (sidecar_of name ∷ []) made) a b c
+    (asks-more (sidecar_of name ∷ []) [] (sidecar_of name ∷ []) made a b (λ other others. others) (λ other others. tt) looks)
+    (asks-more [] made (sidecar_of name ∷ []) made b c (λ other others. tt) (λ other others. others) makes)
+
+-- a file is opened, what stands beside it is looked into, outputs are made, and the file is closed
+pub asks-extracted : {T E : Type 0} (name : List ℕ) (made : List (List ℕ)) (a b c d : List Asked) (result : Result T E) → AsksFor (Opened name) a b result → AsksOnly (sidecar_of name ∷ []) made b c → d ≡ c → AsksOnly (with_sidecar name) made a d
+asks-extracted name made a b c d result opens makes closed =
+    asks-both (IsBesides (with_sidecar name) made) a b d
+    (asks-one (IsBesides (with_sidecar name) made) (Opened name) a b result (λ others. others.0 refl) opens)
+    (asks-both (IsBesides (with_sidecar name) made) b c d
+    (asks-more (sidecar_of name ∷ []) made (with_sidecar name) made b c (λ other others. others.1) (λ other others. others) makes)
+    (asks-none (IsBesides (with_sidecar name) made) c d closed))
 
 -- ---- lines and outputs
 

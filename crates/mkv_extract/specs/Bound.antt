@@ -1,14 +1,10 @@
--- How many octets `extract` may read.
-use Rattle.std.specs.Prelude.{◌≡◌, ◌≤◌, ℕ, ◌+◌, ◌*◌, min, List, length, Option, Some, None}
-use Rattle.mkv_io.specs.Sources.{file_size}
-use Rattle.mkv_io.specs.Told.{Told}
-use Rattle.mkv_io.specs.declared.files.Files.{Ghosts as FilesGhosts}
-use Rattle.mkv_io.specs.declared.outside.FileId.{FileId}
+-- How many octets `extract` may read. The bounds are this project's.
+use Rattle.std.specs.Prelude.{◌≡◌, ℕ, ◌+◌, ◌*◌, min, List, length, Option, Some, None}
 use Rattle.mkv_io.specs.declared.reads.Reads.{Ghosts}
 use Rattle.word_values.specs.declared.job.Job.{Job}
 use Rattle.word_values.specs.declared.job.Job.TheVariants as jobs
 use Rattle.meta_records.specs.declared.limits.TheConstants.{MOST_OF_ATTACHMENTS}
-use Rattle.sidecar_edit.specs.declared.place.TheConstants.{HEAD}
+use Rattle.mkv_lines.specs.Command.{ReadsUpTo, with_sidecar_head}
 
 -- of a file of so many octets the first Cues is read once, for a job that takes it
 abbrev pub most_of_cues : Job → ℕ → ℕ
@@ -31,32 +27,16 @@ most_of_content job octets = 0
 abbrev pub most_of_file : Job → ℕ → ℕ
 most_of_file job octets = most_before job octets + most_of_content job octets
 
--- besides, what its sidecar begins with
-abbrev pub most_of_both : Job → ℕ → ℕ
-most_of_both job octets = HEAD + most_of_file job octets
-
 -- what may be read of a name, which may have no content
 abbrev pub most_with : Job → Option (List ℕ) → ℕ
 most_with job None = 0
-most_with job (Some bytes) = most_of_both job (length bytes)
+most_with job (Some bytes) = with_sidecar_head (most_of_file job) (length bytes)
 
 -- what may be read of a name in a world of names
 abbrev pub most_to_extract : (List ℕ → Option (List ℕ)) → List ℕ → Job → ℕ
 most_to_extract world name job = most_with job (world name)
 
--- At most so many octets more have been read.
-abbrev pub HasReadAtMost : {S : Type 0} → Ghosts S → S → S → ℕ → Type 0
-HasReadAtMost r old new most = r.octets_read new ≤ r.octets_read old + most
-
--- The same, where the bound is one of the length that a live file had.
-abbrev pub HasReadOf : {S : Type 0} → Ghosts S → S → S → FileId → (ℕ → ℕ) → Type 0
-HasReadOf r old new file most = HasReadAtMost r old new (most (file_size r old file))
-
--- The same, where the bound is one of a world of names, if it is told.
-abbrev pub HasReadIn : {S : Type 0} → Ghosts S → FilesGhosts S → S → S → ((List ℕ → Option (List ℕ)) → ℕ) → Type 0
-HasReadIn r f old new most = Told (f.names old) (λ world. HasReadAtMost r old new (most world))
-
 -- Nothing has changed but the count of octets read, which has risen by at most so many.
 pub record ReadsAtMost {S : Type 0} (r : Ghosts S) (old new : S) (most : ℕ) : Type 0 where
   pub standing : r.standing new ≡ r.standing old
-  pub octets : HasReadAtMost r old new most
+  pub octets : ReadsUpTo r old new most

@@ -1,4 +1,4 @@
--- The names of the outputs of an extraction, and those of the files that it reads.
+-- The names of the outputs of an extraction, and those of the files that it reads. They are this project's.
 use Rattle.std.specs.Prelude.{ℕ, Bool, ◌||◌, List, Option}
 use Rattle.std.specs.List.{find}
 use Rattle.std.specs.Str.{bytes_eq}

@@ -1,12 +1,10 @@
--- What is told of targets.
+-- What is told of targets. The lines are this project's.
 use Rattle.std.specs.Prelude.{◌≡◌, ℕ, ◌==◌, nat_lt, Bool, if◌then◌else◌, List, [], ◌∷◌, ◌++◌, map, Option, Result, IfOk}
 use Rattle.mkv_io.specs.declared.damage.Damage.{Damage}
-use Rattle.mkv_io.specs.declared.report.Report.{Ghosts as ReportGhosts}
 use Rattle.word_values.specs.declared.job.Target.{Target}
 use Rattle.cluster_reader.specs.ToldDamages.{ToldDamages, told_damages}
 use Rattle.extractors.specs.declared.extracted.Extracted.{Extracted}
 use Rattle.mkv_lines.specs.Line.{more_bad_frames_line, more_damages_line, no_attachment_line, no_track_line, warning_line, wrote_line}
-use Rattle.mkv_lines.specs.Said.{Says}
 use Rattle.mkv_lines.specs.declared.status.Status.{Status}
 use Rattle.mkv_lines.specs.declared.status.Stop.{Stop}
 use Rattle.mkv_extract.specs.Extract.{absent, outline_lines, status_of, told_bad, told_lines}
@@ -38,10 +36,6 @@ written count [] = []
 written count (t ∷ ts) = (if nat_lt t.id count then t.name ∷ [] else []) ++ written count ts
 
 -- ---- what the calls say
-
--- These lines were said to a report, or a first part of them, where a call has stopped.
-abbrev pub SaysTo : {P T : Type 0} → ReportGhosts P → P → P → List (List ℕ) → Result T Stop → Type 0
-SaysTo p report report' lines result = Says (p.lines report) (p.lines report') lines result
 
 -- a line for each number, from this one on, that targets name: the file hasn't what it stands for
 abbrev pub absent_lines : Missing → List ℕ → ℕ → List Target → List (List ℕ)

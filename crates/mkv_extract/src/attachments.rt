@@ -1,13 +1,13 @@
 //! Attached files are taken out of a file.
 
-ghost use Rattle.std.specs.Prelude.{◌*◌, ◌≤◌, length, All};
+ghost use Rattle.std.specs.Prelude.{◌*◌, ◌≤◌, [], length, All};
+ghost use Rattle.mkv_io.specs.Asked.{AsksOnly};
 ghost use Rattle.mkv_io.specs.Names.{AreOthers};
 ghost use Rattle.mkv_io.specs.Sources.{IfTold};
 ghost use Rattle.word_values.specs.declared.job.Target.{Target as TargetSeen};
 ghost use Rattle.extractors.specs.Job.{names_of};
 ghost use Rattle.extractors.specs.Source.{IsSource};
-ghost use Rattle.mkv_lines.specs.Command.{ComesTo, HasEnded};
-ghost use Rattle.mkv_extract.specs.Bound.{HasReadOf};
+ghost use Rattle.mkv_lines.specs.Command.{ComesTo, HasEnded, ReadsOf};
 ghost use Rattle.mkv_extract.specs.Extract.{attached_verdict};
 ghost use Rattle.mkv_extract.specs.Read.{read_in};
 
@@ -35,7 +35,8 @@ pub fn extract_attachments<F: Files, P: Report>(
         ComesTo F.Reads F.Files.own P.Report files.old files.new report.old report.new result
         (attached_verdict name.now targets.now bytes (read_in source.now))) }
     ensures ended { HasEnded F.Reads F.Files.own P.Report files.old files.new report.old report.new result }
-    ensures octets { HasReadOf F.Reads files.old files.new source.now.file (λ octets. length targets.now * octets) }
+    ensures asks { AsksOnly [] (names_of targets.now) (F.asked files.old) (F.asked files.new) }
+    ensures octets { ReadsOf F.Reads files.old files.new source.now.file (λ octets. length targets.now * octets) }
 {
     let count = source.attachments.as_slice().len() as u64 + 1;
     say_absent(alloc, Missing::Attachment, name, targets, count, report)?;

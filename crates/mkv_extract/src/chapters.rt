@@ -1,15 +1,15 @@
 //! The chapters of a file are taken out.
 
-ghost use Rattle.std.specs.Prelude.{◌≡◌, ◌≤◌, ◌∷◌, false, IfOk, IfSome};
+ghost use Rattle.std.specs.Prelude.{◌≡◌, ◌≤◌, [], ◌∷◌, false, IfOk, IfSome};
+ghost use Rattle.mkv_io.specs.Asked.{AsksOnly};
 ghost use Rattle.mkv_schema.specs.declared.ids.TheConstants.{CHAPTERS};
 ghost use Rattle.tree_format.specs.Standing.{IsSoundOf};
-ghost use Rattle.mkv_lines.specs.Command.{ComesTo, HasEnded};
+ghost use Rattle.mkv_lines.specs.Command.{ComesTo, HasEnded, SaysTo};
 ghost use Rattle.mkv_lines.specs.Line.{wrote_line};
 ghost use Rattle.mkv_lines.specs.Ordinary.{IsOrdinary};
 ghost use Rattle.mkv_lines.specs.Said.{HasSayCause};
 ghost use Rattle.mkv_extract.specs.Extract.{chapters_verdict, held_status, outline_lines};
 ghost use Rattle.mkv_extract.specs.Read.{read_in};
-ghost use Rattle.mkv_extract.specs.Told.{SaysTo};
 
 use crate::extract::stop_of;
 use crate::telling::warn_outline;
@@ -31,6 +31,7 @@ pub fn extract_chapters<F: Files, P: Report>(
     ensures verdict { ComesTo F.Reads F.Files.own P.Report files.old files.new report.old report.new result
         (chapters_verdict name.now out.now (read_in source.now)) }
     ensures ended { HasEnded F.Reads F.Files.own P.Report files.old files.new report.old report.new result }
+    ensures asks { AsksOnly [] (out.now ∷ []) (F.asked files.old) (F.asked files.new) }
     ensures octets { F.octets_read files.new ≤ F.octets_read files.old }
 {
     if let Err(end) = write_chapters(alloc, files, &source.chapters, out) {

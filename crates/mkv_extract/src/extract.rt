@@ -1,15 +1,17 @@
 //! A file is opened, its tracks are taken out, and it is closed.
 
-ghost use Rattle.std.specs.Prelude.{◌≡◌, ◌*◌, None, IsSome};
+ghost use Rattle.std.specs.Prelude.{◌≡◌, ◌*◌, [], ◌∷◌, None, IsSome};
+ghost use Rattle.mkv_io.specs.Asked.{AsksOnly};
 ghost use Rattle.mkv_io.specs.Sources.{IfTold};
 ghost use Rattle.mkv_io.specs.Told.{Told};
-ghost use Rattle.extractors.specs.Job.{CanBeDone, form_of, job_refusal};
+ghost use Rattle.extractors.specs.Job.{CanBeDone, form_of, job_refusal, names_for};
 ghost use Rattle.extractors.specs.Source.{entries_in, events_in};
+ghost use Rattle.sidecar_edit.specs.Name.{sidecar_of, with_sidecar};
 ghost use Rattle.sidecar_edit.specs.Pending.{is_pending};
-ghost use Rattle.mkv_lines.specs.Command.{ComesTo, HasEnded};
+ghost use Rattle.mkv_lines.specs.Command.{ComesTo, HasEnded, ReadsByNames, ReadsOf, with_sidecar_head};
 ghost use Rattle.mkv_lines.specs.Line.{text_of};
 ghost use Rattle.mkv_lines.specs.Verdict.{unless_pending};
-ghost use Rattle.mkv_extract.specs.Bound.{HasReadIn, HasReadOf, most_of_both, most_of_content, most_of_file, most_to_extract};
+ghost use Rattle.mkv_extract.specs.Bound.{most_of_content, most_of_file, most_to_extract};
 ghost use Rattle.mkv_extract.specs.End.{stop_of};
 ghost use Rattle.mkv_extract.specs.Extract.{extract_verdict, file_verdict, fit_verdict, source_verdict, taken_verdict, unfit_line};
 ghost use Rattle.mkv_extract.specs.Takes.{CanTake, CanTakeFrom};
@@ -41,7 +43,8 @@ pub fn extract_of<F: Files, P: Report>(
         ComesTo F.Reads F.Files.own P.Report files.old files.new report.old report.new result
         (extract_verdict world name.now job.now)) }
     ensures ended { HasEnded F.Reads F.Files.own P.Report files.old files.new report.old report.new result }
-    ensures octets { HasReadIn F.Reads F.Files.own files.old files.new (λ world. most_to_extract world name.now job.now) }
+    ensures asks { AsksOnly (with_sidecar name.now) (names_for job.now) (F.asked files.old) (F.asked files.new) }
+    ensures octets { ReadsByNames F.Reads F.Files.own files.old files.new (λ world. most_to_extract world name.now job.now) }
 {
     match first_written(alloc, name, job) {
         Ok(None) => {}
@@ -77,7 +80,8 @@ fn extract_settled<F: Files, P: Report>(
         ComesTo F.Reads F.Files.own P.Report files.old files.new report.old report.new result
         (unless_pending name.now (is_pending world name.now) (file_verdict name.now job.now bytes)))) }
     ensures ended { HasEnded F.Reads F.Files.own P.Report files.old files.new report.old report.new result }
-    ensures octets { HasReadOf F.Reads files.old files.new file (most_of_both job.now) }
+    ensures asks { AsksOnly (sidecar_of name.now ∷ []) (names_for job.now) (F.asked files.old) (F.asked files.new) }
+    ensures octets { ReadsOf F.Reads files.old files.new file (with_sidecar_head (most_of_file job.now)) }
 {
     if is_pending(alloc, name, files)? {
         return refuse(alloc, &Line::PendingEdit { name }, report);
@@ -99,7 +103,8 @@ fn extract_file<F: Files, P: Report>(
         ComesTo F.Reads F.Files.own P.Report files.old files.new report.old report.new result
         (file_verdict name.now job.now bytes)) }
     ensures ended { HasEnded F.Reads F.Files.own P.Report files.old files.new report.old report.new result }
-    ensures octets { HasReadOf F.Reads files.old files.new file (most_of_file job.now) }
+    ensures asks { AsksOnly [] (names_for job.now) (F.asked files.old) (F.asked files.new) }
+    ensures octets { ReadsOf F.Reads files.old files.new file (most_of_file job.now) }
 {
     match read_source(alloc, job, files, file) {
         Ok(source) => extract_job(alloc, name, job, &source, files, report),
@@ -125,7 +130,8 @@ fn extract_job<F: Files, P: Report>(
         ComesTo F.Reads F.Files.own P.Report files.old files.new report.old report.new result
         (source_verdict name.now job.now source.now bytes)) }
     ensures ended { HasEnded F.Reads F.Files.own P.Report files.old files.new report.old report.new result }
-    ensures octets { HasReadOf F.Reads files.old files.new source.now.file (most_of_content job.now) }
+    ensures asks { AsksOnly [] (names_for job.now) (F.asked files.old) (F.asked files.new) }
+    ensures octets { ReadsOf F.Reads files.old files.new source.now.file (most_of_content job.now) }
 {
     match job {
         Job::Chapters { name: out } => extract_chapters(
@@ -159,7 +165,8 @@ fn extract_fit<F: Files, P: Report>(
         ComesTo F.Reads F.Files.own P.Report files.old files.new report.old report.new result
         (fit_verdict name.now job.now source.now.tracks (events_in source.now bytes))) }
     ensures ended { HasEnded F.Reads F.Files.own P.Report files.old files.new report.old report.new result }
-    ensures octets { HasReadOf F.Reads files.old files.new source.now.file (λ octets. 2 * octets) }
+    ensures asks { AsksOnly [] (names_for job.now) (F.asked files.old) (F.asked files.new) }
+    ensures octets { ReadsOf F.Reads files.old files.new source.now.file (λ octets. 2 * octets) }
 {
     match job_refusal(alloc, job, source.tracks.as_slice()) {
         Ok(None) => extract_source(alloc, name, job, source, files, report),
@@ -195,7 +202,8 @@ fn extract_source<F: Files, P: Report>(
         ComesTo F.Reads F.Files.own P.Report files.old files.new report.old report.new result
         (taken_verdict name.now job.now source.now.tracks (events_in source.now bytes))) }
     ensures ended { HasEnded F.Reads F.Files.own P.Report files.old files.new report.old report.new result }
-    ensures octets { HasReadOf F.Reads files.old files.new source.now.file (λ octets. 2 * octets) }
+    ensures asks { AsksOnly [] (names_for job.now) (F.asked files.old) (F.asked files.new) }
+    ensures octets { ReadsOf F.Reads files.old files.new source.now.file (λ octets. 2 * octets) }
 {
     let targets = targets_of(job);
     let count = source.tracks.len() as u64;

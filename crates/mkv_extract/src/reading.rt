@@ -1,6 +1,6 @@
 //! What is read of a file before its blocks.
 
-ghost use Rattle.std.specs.Prelude.{◌≡◌, None, IfOk, IfSome};
+ghost use Rattle.std.specs.Prelude.{◌≡◌, IfOk, IfSome};
 ghost use Rattle.mkv_io.specs.Faults.{HasCause};
 ghost use Rattle.mkv_io.specs.Sources.{IfTold, IsLive, file_size};
 ghost use Rattle.mkv_schema.specs.declared.ids.TheConstants.{CUES};
@@ -11,8 +11,9 @@ ghost use Rattle.extractors.specs.Job.{targets_of};
 ghost use Rattle.extractors.specs.Source.{AreUsable, IsSource};
 ghost use Rattle.mkv_schema.specs.Outline.{first_damage};
 ghost use Rattle.track_records.specs.Sound.{IsEntry};
-ghost use Rattle.mkv_extract.specs.Bound.{HasReadOf, ReadsAtMost, most_before, most_of_cues};
+ghost use Rattle.mkv_extract.specs.Bound.{ReadsAtMost, most_before, most_of_cues};
 ghost use Rattle.mkv_extract.specs.Read.{HasOwnEvents, ReadsCues, ReadsSource, causes_of, first_unusable, is_named, read_of};
+ghost use Rattle.mkv_lines.specs.Command.{ReadsOf};
 
 use ebml_tree::Tree;
 use element_reader::{Outline, OutlineEnd};
@@ -73,7 +74,7 @@ fn cues_for<R: Reads>(
     ensures sound { IfOk result (λ tree. IfSome tree (IsSoundOf CUES)) }
     ensures standing { R.standing src.new ≡ R.standing src.old }
     ensures cause { HasCause is_outline_fault (R.reading_faults src.old) (R.reading_faults src.new) result }
-    ensures octets { HasReadOf R.Reads src.old src.new file (most_of_cues job.now) }
+    ensures octets { ReadsOf R.Reads src.old src.new file (most_of_cues job.now) }
 {
     match job {
         Job::Cues { .. } => first_cues(alloc, outline, src, file),

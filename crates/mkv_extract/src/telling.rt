@@ -6,9 +6,10 @@ ghost use Rattle.cluster_reader.specs.ToldDamages.{told_damages};
 ghost use Rattle.mkv_lines.specs.Line.{warning_line};
 ghost use Rattle.mkv_lines.specs.Ordinary.{IsOrdinary};
 ghost use Rattle.mkv_lines.specs.Said.{HasSayCause};
+ghost use Rattle.mkv_lines.specs.Command.{SaysTo};
 ghost use Rattle.mkv_extract.specs.Extract.{has_absent, held_status, outline_lines};
 ghost use Rattle.mkv_extract.specs.Read.{is_named};
-ghost use Rattle.mkv_extract.specs.Told.{HasStatusOf, SaysTo, absent_lines, extracted_lines, held_lines, line_of, more_line, warnings, wrong_lines, wrote_lines};
+ghost use Rattle.mkv_extract.specs.Told.{HasStatusOf, absent_lines, extracted_lines, held_lines, line_of, more_line, warnings, wrong_lines, wrote_lines};
 
 use crate::reading::is_named;
 use cluster_reader::Damages;

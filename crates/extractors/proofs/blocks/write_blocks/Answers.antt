@@ -66,7 +66,8 @@ pub returns-in_err-advance_for-clause-walks : goal.returns-in_err-advance_for-cl
 returns-in_err-advance_for-clause-walks g c =
     let holders_same = g.met.F.Files.holders_stand c.advance_for.new.src c.steps.files c.advance_for.ensures.standing in
     let given_same = g.met.F.Files.given_stands c.advance_for.new.src c.steps.files c.advance_for.ensures.standing in
-    WritesAndReads-read g.F.Reads g.F.Files c.args.files.now c.steps.files c.advance_for.new.src c.args.outputs.now c.steps.outputs c.steps.invariant.walks c.advance_for.ensures.standing given_same holders_same
+    let asked_same = g.met.F.Files.asked_stands c.advance_for.new.src c.steps.files c.advance_for.ensures.standing in
+    WritesAndReads-read g.F.Reads g.F.Files c.args.files.now c.steps.files c.advance_for.new.src c.args.outputs.now c.steps.outputs c.steps.invariant.walks c.advance_for.ensures.standing given_same holders_same asked_same
 
 pub returns-in_err-advance_for-clause-cause : goal.returns-in_err-advance_for-clause-cause
 returns-in_err-advance_for-clause-cause g c =
@@ -91,10 +92,11 @@ steps-preserved-in-Continue-branch-5 g c =
     let names_same = g.met.F.Files.names_stand c.advance_for.new.src c.steps.files c.advance_for.ensures.standing in
     let holders_same = g.met.F.Files.holders_stand c.advance_for.new.src c.steps.files c.advance_for.ensures.standing in
     let given_same = g.met.F.Files.given_stands c.advance_for.new.src c.steps.files c.advance_for.ensures.standing in
+    let asked_same = g.met.F.Files.asked_stands c.advance_for.new.src c.steps.files c.advance_for.ensures.standing in
     let same = c.steps.invariant.walks.kept.others c.args.cursor.now.file.n c.requires.other in
     let size = ap (λ (f : FileId). (g.F.Reads.files (g.F.Reads.standing c.steps.files)).size f.n) c.steps.invariant.file ∙ same.size c.requires.stands.live in
     let file_same = c.advance_for.ensures.moves.same.file ∙ c.steps.invariant.file in
-    let walks = WritesAndReads-read g.F.Reads g.F.Files c.args.files.now c.steps.files c.advance_for.new.src c.args.outputs.now c.steps.outputs c.steps.invariant.walks c.advance_for.ensures.standing given_same holders_same in
+    let walks = WritesAndReads-read g.F.Reads g.F.Files c.args.files.now c.steps.files c.advance_for.new.src c.args.outputs.now c.steps.outputs c.steps.invariant.walks c.advance_for.ensures.standing given_same holders_same asked_same in
     let other : AreOthers (g.F.Files.holder c.advance_for.new.src c.advance_for.new.self.file.n) (names_under g.F.Files c.advance_for.new.src c.steps.outputs) =
     subst (λ (f : FileId). AreOthers (g.F.Files.holder c.advance_for.new.src f.n) (names_under g.F.Files c.advance_for.new.src c.steps.outputs)) (sym file_same)
     (input-other g.F.Reads g.F.Files c.args.files.now c.advance_for.new.src c.args.outputs.now c.steps.outputs c.args.cursor.now.file.n c.requires.open walks c.requires.stands.live c.requires.other) in
@@ -137,7 +139,8 @@ pub returns-in_err-take_block-in-Block-clause-walks : goal.returns-in_err-take_b
 returns-in_err-take_block-in-Block-clause-walks g c =
     let holders_same = g.met.F.Files.holders_stand c.advance_for.new.src c.steps.files c.advance_for.ensures.standing in
     let given_same = g.met.F.Files.given_stands c.advance_for.new.src c.steps.files c.advance_for.ensures.standing in
-    let walks = WritesAndReads-read g.F.Reads g.F.Files c.args.files.now c.steps.files c.advance_for.new.src c.args.outputs.now c.steps.outputs c.steps.invariant.walks c.advance_for.ensures.standing given_same holders_same in
+    let asked_same = g.met.F.Files.asked_stands c.advance_for.new.src c.steps.files c.advance_for.ensures.standing in
+    let walks = WritesAndReads-read g.F.Reads g.F.Files c.args.files.now c.steps.files c.advance_for.new.src c.args.outputs.now c.steps.outputs c.steps.invariant.walks c.advance_for.ensures.standing given_same holders_same asked_same in
     WritesAndReads-write g.F.Reads g.F.Files c.args.files.now c.advance_for.new.src c.take_block.new.files c.args.outputs.now c.steps.outputs c.take_block.new.outputs c.requires.open walks c.take_block.ensures.only
 
 pub returns-in_err-take_block-in-Block-clause-cause : goal.returns-in_err-take_block-in-Block-clause-cause
@@ -163,6 +166,7 @@ steps-preserved g c =
     let names_same = g.met.F.Files.names_stand c.advance_for.new.src c.steps.files c.advance_for.ensures.standing in
     let holders_same = g.met.F.Files.holders_stand c.advance_for.new.src c.steps.files c.advance_for.ensures.standing in
     let given_same = g.met.F.Files.given_stands c.advance_for.new.src c.steps.files c.advance_for.ensures.standing in
+    let asked_same = g.met.F.Files.asked_stands c.advance_for.new.src c.steps.files c.advance_for.ensures.standing in
     let same = c.steps.invariant.walks.kept.others c.args.cursor.now.file.n c.requires.other in
     let size = ap (λ (f : FileId). (g.F.Reads.files (g.F.Reads.standing c.steps.files)).size f.n) c.steps.invariant.file ∙ same.size c.requires.stands.live in
     record {
@@ -174,7 +178,7 @@ steps-preserved g c =
       count = c.steps.invariant.count;
       ready = c.advance_for.ensures.stands;
       file = c.advance_for.ensures.moves.same.file ∙ c.steps.invariant.file;
-      walks = WritesAndReads-read g.F.Reads g.F.Files c.args.files.now c.steps.files c.advance_for.new.src c.args.outputs.now c.steps.outputs c.steps.invariant.walks c.advance_for.ensures.standing given_same holders_same;
+      walks = WritesAndReads-read g.F.Reads g.F.Files c.args.files.now c.steps.files c.advance_for.new.src c.args.outputs.now c.steps.outputs c.steps.invariant.walks c.advance_for.ensures.standing given_same holders_same asked_same;
       pays = omega (arith, c.steps.invariant.pays, c.in_ok-advance_for.ensures.spends.pays);
       most = omega (arith, c.in_ok-advance_for.ensures.spends.most, size);
       writing = g.met.F.Files.writing_stands c.advance_for.new.src c.steps.files c.advance_for.ensures.standing ∙ c.steps.invariant.writing;
@@ -205,7 +209,8 @@ pub returns-in-End-clause-walks : goal.returns-in-End-clause-walks
 returns-in-End-clause-walks g c =
     let holders_same = g.met.F.Files.holders_stand c.advance_for.new.src c.steps.files c.advance_for.ensures.standing in
     let given_same = g.met.F.Files.given_stands c.advance_for.new.src c.steps.files c.advance_for.ensures.standing in
-    WritesAndReads-read g.F.Reads g.F.Files c.args.files.now c.steps.files c.advance_for.new.src c.args.outputs.now c.steps.outputs c.steps.invariant.walks c.advance_for.ensures.standing given_same holders_same
+    let asked_same = g.met.F.Files.asked_stands c.advance_for.new.src c.steps.files c.advance_for.ensures.standing in
+    WritesAndReads-read g.F.Reads g.F.Files c.args.files.now c.steps.files c.advance_for.new.src c.args.outputs.now c.steps.outputs c.steps.invariant.walks c.advance_for.ensures.standing given_same holders_same asked_same
 
 pub returns-in-End-clause-octets : goal.returns-in-End-clause-octets
 returns-in-End-clause-octets g c =

@@ -24,3 +24,10 @@ returns-clause-verdict g c =
     (subst (λ (d : Option Damage). Says lines (g.P.Report.lines c.tell_output.new.report) (wrote_line out ∷ outline_lines name d) c.tell_output.result) c.damage.ensures c.tell_output.ensures.said)
     (subst (λ (d : Option Damage). IfOk c.tell_output.result (λ (s : Status). s ≡ held_status false d)) c.damage.ensures c.tell_output.ensures.status)
     c.in_default.ensures.writes
+
+-- only outputs were made
+pub returns-in-Err-clause-asks : goal.returns-in-Err-clause-asks
+returns-in-Err-clause-asks g c = c.write_chapters.ensures.kept.asks
+
+pub returns-clause-asks : goal.returns-clause-asks
+returns-clause-asks g c = c.write_chapters.ensures.kept.asks

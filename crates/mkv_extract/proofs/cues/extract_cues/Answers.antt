@@ -49,3 +49,10 @@ returns-clause-verdict g c =
     (subst (λ (d : Option Damage). Says (g.P.Report.lines c.say_absent.new.report) (g.P.Report.lines c.tell_held.new.report) (map wrote_line (written count targets) ++ outline_lines name d) c.tell_held.result) c.damage.ensures c.tell_held.ensures.said)
     (subst (λ (d : Option Damage). IfOk c.tell_held.result (λ (s : Status). s ≡ held_status (has_absent count targets) d)) c.damage.ensures c.tell_held.ensures.status)
     c.in_default.ensures.writes
+
+-- only outputs were made
+pub returns-in-Err-clause-asks : goal.returns-in-Err-clause-asks
+returns-in-Err-clause-asks g c = c.write_cues.ensures.kept.asks
+
+pub returns-clause-asks : goal.returns-clause-asks
+returns-clause-asks g c = c.write_cues.ensures.kept.asks

@@ -1,11 +1,15 @@
-use Rattle.std.proofs.Common.{refl}
+use Rattle.std.proofs.Common.{[], ◌∷◌, refl}
 use Rattle.std.proofs.lemmas.Result.{err_from_is_err_and}
+use Rattle.mkv_io.proofs.AskedLemmas.{asks-more}
+use Rattle.sidecar_edit.specs.Name.{sidecar_of}
+use Rattle.extractors.specs.Job.{names_for}
 use Rattle.sidecar_edit.specs.Pending.{is_pending}
 use Rattle.mkv_lines.specs.Command.{seen_in}
 use Rattle.mkv_lines.specs.Verdict.{unless_pending}
 use Rattle.mkv_lines.proofs.VerdictLemmas.{IsStopped-before}
 use Rattle.mkv_extract.specs.Extract.{read_verdict}
 use Rattle.mkv_extract.specs.Read.{read_of}
+use Rattle.mkv_extract.proofs.ExtractLemmas.{asks-settled}
 use Rattle.mkv_extract.proofs.extract.extract_settled.Goals as goal
 
 -- the sidecar couldn't be looked into
@@ -19,3 +23,17 @@ returns-in_err-is_pending-clause-verdict g c = λ world told bytes is.
     (seen_in g.F.Reads g.F.Files g.P.Report c.is_pending.new.files c.args.report.now)
     (unless_pending name (is_pending world name) (read_verdict name job bytes (read_of job bytes)))
     refl c.is_pending.ensures.looks.names)
+
+-- only the sidecar was opened
+pub returns-in_err-is_pending-clause-asks : goal.returns-in_err-is_pending-clause-asks
+returns-in_err-is_pending-clause-asks g c =
+    asks-more (sidecar_of c.args.name.now ∷ []) [] (sidecar_of c.args.name.now ∷ []) (names_for c.args.job.now) (g.F.Files.asked c.args.files.now) (g.F.Files.asked c.is_pending.new.files) (λ other others. others) (λ other others. tt) c.is_pending.ensures.looks.kept.asks
+
+pub returns-then-branch-clause-asks : goal.returns-then-branch-clause-asks
+returns-then-branch-clause-asks g c =
+    asks-more (sidecar_of c.args.name.now ∷ []) [] (sidecar_of c.args.name.now ∷ []) (names_for c.args.job.now) (g.F.Files.asked c.args.files.now) (g.F.Files.asked c.is_pending.new.files) (λ other others. others) (λ other others. tt) c.is_pending.ensures.looks.kept.asks
+
+-- and then the outputs were made
+pub returns-clause-asks : goal.returns-clause-asks
+returns-clause-asks g c =
+    asks-settled c.args.name.now (names_for c.args.job.now) (g.F.Files.asked c.args.files.now) (g.F.Files.asked c.is_pending.new.files) (g.F.Files.asked c.extract_file.new.files) c.is_pending.ensures.looks.kept.asks c.extract_file.ensures.asks

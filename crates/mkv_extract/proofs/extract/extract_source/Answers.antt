@@ -3,10 +3,10 @@ use Rattle.std.proofs.lemmas.Result.{err_from_is_err_and}
 use Rattle.mkv_io.specs.Names.{AreApart, AreOthers}
 use Rattle.block_format.specs.Events.{blocks_of, damages_of}
 use Rattle.extractors.specs.BadFrames.{bad_frames}
-use Rattle.extractors.specs.Source.{events_in, outputs_in}
+use Rattle.extractors.specs.Source.{entries_in, events_in, outputs_in}
 use Rattle.extractors.specs.declared.extracted.Extracted.{Extracted}
 use Rattle.mkv_lines.specs.Command.{seen_in}
-use Rattle.mkv_extract.proofs.ExtractLemmas.{names-job, taken-begun, taken-told}
+use Rattle.mkv_extract.proofs.ExtractLemmas.{asks-taken, names-job, taken-begun, taken-told}
 use Rattle.mkv_extract.proofs.extract.extract_source.Goals as goal
 
 -- the outputs have the names of the targets
@@ -39,3 +39,12 @@ returns-clause-verdict g c = λ bytes told.
     c.requires.takes c.requires.fit c.targets_of-targets.ensures c.len-count.ensures tells c.in_ok-say_absent.ensures.said c.tell.ensures.said
     (c.tell.ensures.status (damages_of events) (bad_frames list (blocks_of events)) (ap (λ (e : Extracted). e.damages) tells) (ap (λ (e : Extracted). e.bad_frames) tells))
     (c.in-Ok.ensures.writes bytes told)
+
+-- only outputs were made
+pub returns-in-Err-clause-asks : goal.returns-in-Err-clause-asks
+returns-in-Err-clause-asks g c =
+    asks-taken c.args.job.now (entries_in c.args.source.now) (g.F.Files.asked c.args.files.now) (g.F.Files.asked c.extract.new.files) c.extract.ensures.kept.asks
+
+pub returns-clause-asks : goal.returns-clause-asks
+returns-clause-asks g c =
+    asks-taken c.args.job.now (entries_in c.args.source.now) (g.F.Files.asked c.args.files.now) (g.F.Files.asked c.extract.new.files) c.extract.ensures.kept.asks
