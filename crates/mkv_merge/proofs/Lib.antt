@@ -8,4 +8,5 @@ pub mod TextsLemmas
 pub mod OutputsLemmas
 pub mod VerdictLemmas
 pub mod WritingLemmas
+pub mod AskedLemmas
 pub mod ChaptersLemmas

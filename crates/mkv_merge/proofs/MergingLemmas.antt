@@ -5,8 +5,14 @@ use Rattle.std.specs.List.{position_from}
 use Rattle.std.proofs.lemmas.List.Sums.{sum_by-cons}
 use Rattle.mkv_io.specs.declared.outside.FileId.{FileId}
 use Rattle.mkv_io.specs.LiveFiles.{IsSameFile, LiveFiles}
+use Rattle.mkv_io.specs.Sources.{live_files}
 use Rattle.mkv_io.specs.Told.{Told}
+use Rattle.mkv_io.specs.Writing.{UsesOnly}
+use Rattle.mkv_io.specs.declared.reads.Reads.{Ghosts}
+use Rattle.mkv_io.specs.declared.files.Files as writing
 use Rattle.mkv_outputs.specs.Sinks.{AreLive}
+use Rattle.mkv_outputs.proofs.FilesLemmas.{AreLive-on}
+use Rattle.mkv_outputs.proofs.GivenLemmas.{holders_of-kept}
 use Rattle.input_files.specs.Inputs as inputs
 use Rattle.input_files.specs.Inputs.{file_names, first_missing}
 use Rattle.input_files.specs.TextFiles.{text_files, text_octets}
@@ -117,6 +123,14 @@ reads-chaptered world words found old mid new is first second =
     within n m c same first second = omega arith
 
 -- ---- live files that are the same
+
+-- inputs stand while files are only looked into
+pub inputs-stand : {S : Type 0} (r : Ghosts S) (f : writing.Ghosts S) (names opened written : List (List ℕ)) (old new : S) (ids : List FileId) → inputs.AreInputs r f names old ids → UsesOnly r f opened written old new → inputs.AreInputs r f names new ids
+inputs-stand r f names opened written old new ids are uses = record {
+  live = AreLive-on (live_files r old).live (live_files r new).live ids are.live uses.live;
+  rising = are.rising;
+  under = holders_of-kept (live_files r old).live (f.holder old) (f.holder new) ids are.live uses.holders ∙ are.under;
+}
 
 -- they have the same contents
 pub contents-kept : (live : ℕ → Bool) (old new : ℕ → Option (List ℕ)) (ids : List FileId) → ((file : ℕ) → live file ≡ true → new file ≡ old file) → AreLive live ids → inputs.contents_of new ids ≡ inputs.contents_of old ids

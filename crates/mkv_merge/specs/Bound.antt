@@ -1,5 +1,5 @@
--- How many octets a merge may read.
-use Rattle.std.specs.Prelude.{ℕ, ◌≤◌, ◌+◌, ◌*◌, if◌then◌else◌, List, [], length, sum_by, Option, is_none, unwrap_or, Result, Ok, Err}
+-- How many octets a merge may read. The bounds are this project's.
+use Rattle.std.specs.Prelude.{ℕ, ◌+◌, ◌*◌, if◌then◌else◌, List, [], length, sum_by, Option, is_none, unwrap_or, Result, Ok, Err}
 use Rattle.mkv_io.specs.declared.outside.FileId.{FileId}
 use Rattle.mkv_io.specs.LiveFiles.{LiveFiles}
 use Rattle.mkv_io.specs.Sources.{live_files}
@@ -14,10 +14,6 @@ use Rattle.merge_plan.specs.Front.{attached_length, reads_of}
 use Rattle.merge_plan.specs.Plan.{Source, lanes_given}
 use Rattle.mkv_merge.specs.Merge.{sources_of}
 use Rattle.mkv_merge.specs.declared.refusal.Refusal.{Refusal}
-
--- The count of octets read has risen by at most so many.
-abbrev pub ReadsUpTo : {S : Type 0} → Ghosts S → S → S → ℕ → Type 0
-ReadsUpTo r old new most = r.octets_read new ≤ r.octets_read old + most
 
 -- the lengths of live files, of each as often as it is listed
 abbrev pub files_size : LiveFiles → List FileId → ℕ

@@ -1,4 +1,4 @@
--- What a merge comes to of which nothing is said, and which looks at no file but its inputs.
+-- What a merge comes to of which nothing is said, and which looks at no file but its inputs. It is this project's.
 use Rattle.std.specs.Prelude.{◌≡◌, ℕ, List, [], map, flat_map, Option, Result, Ok, Err}
 use Rattle.std.specs.List.{enumerate_from}
 use Rattle.std.specs.Option.{option_map}
@@ -17,7 +17,6 @@ use Rattle.remux_plan.specs.Parts.{PlannedOutput}
 use Rattle.remux_plan.specs.Summary.{written_of}
 use Rattle.remux_plan.specs.declared.summary.Summary.{Summary}
 use Rattle.remuxer.specs.Output.{WritesAll, drafts_of}
-use Rattle.mkv_lines.specs.Faults.{Counts, HasStopCause}
 use Rattle.mkv_lines.specs.declared.status.Stop.{Stop}
 use Rattle.mkv_merge.specs.Bound.{contents_length, most_of}
 use Rattle.mkv_merge.specs.Merge.{has_damage, is_some_of, outputs_of, sources_with, warnings}
@@ -83,13 +82,3 @@ MergesLive r f old new words list result = IfAllTold r old list (λ contents. Me
 
 abbrev pub MergesAlone : {S : Type 0} → writing.Ghosts S → S → S → MergeWords → Result Merged Stop → Type 0
 MergesAlone f old new words result = Told (f.names old) (λ world. Merges (f.names old) (f.names new) words (sources_alone world words) result)
-
--- ---- why it stops
-
--- how often files failed, of which no line is said
-abbrev pub files_counts : {S : Type 0} → Ghosts S → writing.Ghosts S → S → Counts
-files_counts r f files = record { reading = r.reading_faults files; writing = f.writing_faults files; report = 0 }
-
--- A merge of which nothing is said stops for want of memory, or where files failed whose count then rose.
-abbrev pub HasFilesCause : {S : Type 0} → Ghosts S → writing.Ghosts S → S → S → Result Merged Stop → Type 0
-HasFilesCause r f old new result = HasStopCause (files_counts r f old) (files_counts r f new) result

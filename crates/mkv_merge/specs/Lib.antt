@@ -3,6 +3,7 @@ pub mod Merge
 pub mod Plain
 pub mod Prepared
 pub mod Read
+pub mod Asked
 pub mod Refused
 pub mod Ends
 pub mod Joined

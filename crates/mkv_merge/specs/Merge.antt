@@ -1,4 +1,4 @@
--- What `merge` comes to.
+-- What `merge` comes to. The command is this project's, after mkvmerge(1); what its outputs hold is RFC 9559's.
 use Rattle.std.specs.Prelude.{ℕ, ◌==◌, nat_le, Bool, true, false, not, ◌&&◌, ◌||◌, if◌then◌else◌, List, [], ◌∷◌, ◌++◌, length, map, filter, flat_map, Option, Result, Ok, Err}
 use Rattle.std.specs.List.{enumerate_from, find, list_any, range_with_len, zip}
 use Rattle.std.specs.Option.{option_map, option_map_or}

@@ -1,4 +1,4 @@
--- What is read of the inputs of a merge, and what refuses them.
+-- What is read of the inputs of a merge, and what refuses them. Both are this project's.
 use Rattle.std.specs.Prelude.{◌≡◌, ℕ, suc, Bool, true, false, ◌&&◌, List, [], ◌∷◌, ◌++◌, map, find, Option, Some, None, is_none, is_some, unwrap_or, Result, Ok, Err}
 use Rattle.std.specs.List.{zip}
 use Rattle.std.specs.Option.{option_or, option_to_list}
@@ -6,9 +6,8 @@ use Rattle.std.specs.Str.{bytes_eq}
 use Rattle.mkv_io.specs.Faults.{counted}
 use Rattle.sidecar_edit.specs.Name.{sidecar_of}
 use Rattle.sidecar_edit.specs.Pending.{is_pending}
-use Rattle.input_files.specs.TimesFile.{times_named}
+use Rattle.input_files.specs.TimesFile.{times_named, times_names}
 use Rattle.input_files.specs.declared.text_files.TextFiles.{TextFiles}
-use Rattle.input_files.specs.declared.times_file.TimesName.{TimesName}
 use Rattle.splitter.specs.Names.{is_part_name}
 use Rattle.merge_words.specs.declared.files.FileWords.{FileWords}
 use Rattle.merge_words.specs.declared.output.MergeWords.{MergeWords}
@@ -23,10 +22,6 @@ use Rattle.mkv_merge.specs.declared.refusal.Refusal.{Refusal}
 use Rattle.mkv_merge.specs.declared.refusal.Refusal.TheVariants.{Missing, PendingInput, PendingOutput, Input}
 
 -- ---- the names
-
--- the names of files of times
-abbrev pub times_names : List TimesName → List (List ℕ)
-times_names times = map (λ (n : TimesName). n.name) times
 
 -- the names that no output of a merge may have, in the order in which they are looked at: those of its inputs, of its chapter file and of
 -- its files of times, and of the sidecars of its inputs and of its files of times

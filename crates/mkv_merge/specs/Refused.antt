@@ -1,4 +1,4 @@
--- Why nothing is merged, and the line that says so.
+-- Why nothing is merged, and the line that says so. The lines and their order are this project's.
 use Rattle.std.specs.Prelude.{ℕ, List, [], Option, Some, None, unwrap_or, Result, Ok, Err}
 use Rattle.std.specs.List.{slice_get}
 use Rattle.std.specs.Option.{option_map_or}

@@ -9,10 +9,10 @@ use Rattle.input_files.specs.declared.text_files.TextFiles.{TextFiles}
 use Rattle.merge_words.specs.declared.output.MergeWords.{MergeWords}
 use Rattle.merge_inputs.specs.declared.input.Input.{Input}
 use Rattle.remux_plan.specs.declared.plan.MergePlan.{MergePlan}
-use Rattle.mkv_lines.specs.Command.{ComesTo}
+use Rattle.mkv_lines.specs.Command.{ComesTo, ReadsUpTo}
 use Rattle.mkv_lines.specs.declared.status.Status.{Status}
 use Rattle.mkv_lines.specs.declared.status.Stop.{Stop}
-use Rattle.mkv_merge.specs.Bound.{ReadsUpTo, live_size, most_beside, most_looked, most_of, most_planned}
+use Rattle.mkv_merge.specs.Bound.{live_size, most_beside, most_looked, most_of, most_planned}
 use Rattle.mkv_merge.specs.Merge.{merged_verdict, sources_beside, sources_settled, sources_with, verdict_of}
 use Rattle.mkv_merge.specs.Prepared.{IfAllTold, sources_from}
 use Rattle.mkv_merge.specs.Records.{AreShort, EndsReadable}

@@ -1,4 +1,4 @@
--- Inputs that were given the times of files.
+-- Inputs that were given the times of files. The way is this project's.
 use Rattle.std.specs.Prelude.{◌≡◌, ℕ, suc, ◌==◌, if◌then◌else◌, List, [], ◌∷◌, flat_map, map}
 use Rattle.ext_times.specs.Listing.{Listing}
 use Rattle.input_files.specs.declared.times_file.TimesFile.{TimesFile}

@@ -1,4 +1,4 @@
--- The lines that are told of what a merge has found wrong.
+-- The lines that are told of what a merge has found wrong. They are this project's.
 use Rattle.std.specs.Prelude.{ℕ, suc, ◌==◌, Bool, ◌||◌, List, [], ◌∷◌, ◌++◌, length, map, filter}
 use Rattle.merge_words.specs.declared.files.FileWords.{FileWords}
 use Rattle.merge_words.specs.declared.output.MergeWords.{MergeWords}

@@ -1,15 +1,16 @@
 //! Files are merged, and no line is said.
 
-ghost use Rattle.std.specs.Prelude.{◌≡◌, ℕ};
+ghost use Rattle.std.specs.Prelude.{◌≡◌, ℕ, []};
 ghost use Rattle.mkv_io.specs.Sources.{live_files};
 ghost use Rattle.mkv_io.specs.Told.{Told};
 ghost use Rattle.input_files.specs.Inputs.{AreInputs, file_names};
 ghost use Rattle.merge_words.specs.Sound.{IsSoundMerge};
-ghost use Rattle.mkv_merge.specs.Bound.{ReadsUpTo};
-ghost use Rattle.mkv_merge.specs.Joined.{HasFilesCause, MergesAlone, MergesLive, MergesPrepared, most_lone, no_texts};
+ghost use Rattle.mkv_merge.specs.Asked.{AsksToMerge};
+ghost use Rattle.mkv_merge.specs.Joined.{MergesAlone, MergesLive, MergesPrepared, most_lone, no_texts};
 ghost use Rattle.mkv_merge.specs.Prepared.{IsPrepared};
 ghost use Rattle.mkv_merge.specs.Read.{IsApartMerge};
 ghost use Rattle.mkv_merge.specs.Stages.{ReadsPlanned, ReadsWith};
+ghost use Rattle.mkv_lines.specs.Command.{HasFilesCause, ReadsUpTo};
 
 use crate::names::first_written;
 use crate::preparing::{Prepared, prepare};
@@ -44,6 +45,7 @@ fn merge_prepared<F: Files>(
     ensures merges { MergesPrepared F.Reads F.Files.own files.old files.new words.now ids.now prepared.inputs result }
     ensures live { (file : ℕ) → (live_files F.Reads files.new).live file ≡ (live_files F.Reads files.old).live file }
     ensures cause { HasFilesCause F.Reads F.Files.own files.old files.new result }
+    ensures asks { AsksToMerge [] words.now (F.asked files.old) (F.asked files.new) }
     ensures octets { ReadsPlanned F.Reads files.old files.new ids.now prepared.plan }
 {
     let (_words, _ids) = (words, ids);
@@ -65,6 +67,7 @@ fn merge_live<F: Files>(
     ensures merges { MergesLive F.Reads F.Files.own files.old files.new words.now ids.now result }
     ensures live { (file : ℕ) → (live_files F.Reads files.new).live file ≡ (live_files F.Reads files.old).live file }
     ensures cause { HasFilesCause F.Reads F.Files.own files.old files.new result }
+    ensures asks { AsksToMerge [] words.now (F.asked files.old) (F.asked files.new) }
     ensures octets { ReadsWith F.Reads files.old files.new words.now no_texts ids.now }
 {
     let texts = TextFiles {
@@ -88,6 +91,7 @@ pub fn merge_files<F: Files>(
     ensures merges { MergesAlone F.Files.own files.old files.new words.now result }
     ensures live { (file : ℕ) → (live_files F.Reads files.new).live file ≡ (live_files F.Reads files.old).live file }
     ensures cause { HasFilesCause F.Reads F.Files.own files.old files.new result }
+    ensures asks { AsksToMerge (file_names words.now.files) words.now (F.asked files.old) (F.asked files.new) }
     ensures octets { Told (F.names files.old) (λ world. ReadsUpTo F.Reads files.old files.new (most_lone world words.now)) }
 {
     match first_written(alloc, words) {

@@ -1,11 +1,13 @@
 //! Files are opened, merged and closed.
 
+ghost use Rattle.std.specs.Prelude.{[], ◌++◌};
 ghost use Rattle.mkv_io.specs.Told.{Told};
 ghost use Rattle.input_files.specs.ChapterFile.{CanBeWritten};
 ghost use Rattle.merge_words.specs.Sound.{IsSoundMerge};
 ghost use Rattle.input_files.specs.Inputs.{AreInputs, file_names};
-ghost use Rattle.mkv_lines.specs.Command.{ComesTo, HasEnded};
-ghost use Rattle.mkv_merge.specs.Bound.{ReadsUpTo, most_read};
+ghost use Rattle.mkv_lines.specs.Command.{ComesTo, HasEnded, ReadsUpTo};
+ghost use Rattle.mkv_merge.specs.Asked.{AsksToMerge, opened_by, sidecars_of};
+ghost use Rattle.mkv_merge.specs.Bound.{most_read};
 ghost use Rattle.mkv_merge.specs.Merge.{merge_verdict, sources_of};
 ghost use Rattle.mkv_merge.specs.Read.{IsApartMerge};
 ghost use Rattle.mkv_merge.specs.Records.{EndsReadable};
@@ -39,6 +41,7 @@ fn merge_opened<F: Files, P: Report>(
     ensures verdict { ReachesWith F.Reads F.Files.own P.Report files.old files.new report.old report.new words.now texts ids.now result }
     ensures ended { HasEnded F.Reads F.Files.own P.Report files.old files.new report.old report.new result }
     ensures readable { EndsReadableWith F.Reads F.Files.own files.old words.now texts ids.now result }
+    ensures asks { AsksToMerge [] words.now (F.asked files.old) (F.asked files.new) }
     ensures octets { ReadsWith F.Reads files.old files.new words.now texts ids.now }
 {
     match prepare(alloc, words, texts, files, ids) {
@@ -63,6 +66,7 @@ fn merge_settled<F: Files, P: Report>(
     ensures verdict { ReachesSettled F.Reads F.Files.own P.Report files.old files.new report.old report.new words.now texts ids.now result }
     ensures ended { HasEnded F.Reads F.Files.own P.Report files.old files.new report.old report.new result }
     ensures readable { EndsReadableSettled F.Reads F.Files.own files.old words.now texts ids.now result }
+    ensures asks { AsksToMerge (sidecars_of words.now) words.now (F.asked files.old) (F.asked files.new) }
     ensures octets { ReadsSettled F.Reads F.Files.own files.old files.new words.now texts ids.now }
 {
     match begun_refusal(alloc, words, &texts, files) {
@@ -85,6 +89,7 @@ fn merge_beside<F: Files, P: Report>(
     ensures verdict { ReachesBeside F.Reads F.Files.own P.Report files.old files.new report.old report.new words.now texts result }
     ensures ended { HasEnded F.Reads F.Files.own P.Report files.old files.new report.old report.new result }
     ensures readable { EndsReadableBeside F.Reads F.Files.own files.old words.now texts result }
+    ensures asks { AsksToMerge (file_names words.now.files ++ sidecars_of words.now) words.now (F.asked files.old) (F.asked files.new) }
     ensures octets { ReadsBeside F.Reads F.Files.own files.old files.new words.now texts }
 {
     let ids = match open_all(alloc, words.files.as_slice(), files) {
@@ -116,6 +121,7 @@ pub fn merge_of<F: Files, P: Report>(
     // What a merge that ended has written can be read again: what its inputs give besides tracks and blocks, and outputs of
     // no more octets than a file may have.
     ensures readable { Told (F.names files.old) (λ world. EndsReadable words.now (sources_of world words.now) result) }
+    ensures asks { AsksToMerge (opened_by words.now) words.now (F.asked files.old) (F.asked files.new) }
     ensures octets { Told (F.names files.old) (λ world. ReadsUpTo F.Reads files.old files.new (most_read world words.now)) }
 {
     match first_written(alloc, words) {

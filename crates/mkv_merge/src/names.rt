@@ -4,7 +4,8 @@ ghost use Rattle.std.specs.Prelude.{◌≡◌, ◌++◌, find, map, IfOk, OnOk};
 ghost use Rattle.std.specs.Option.{option_copied, option_to_list};
 ghost use Rattle.sidecar_edit.specs.Name.{sidecar_of};
 ghost use Rattle.input_files.specs.Inputs.{file_names};
-ghost use Rattle.mkv_merge.specs.Read.{first_written, is_output, is_part, read_names, times_names};
+ghost use Rattle.input_files.specs.TimesFile.{times_names};
+ghost use Rattle.mkv_merge.specs.Read.{first_written, is_output, is_part, read_names};
 
 use input_files::{TimesName, times_named};
 use merge_words::{FileWords, MergeWords};

@@ -4,6 +4,7 @@ ghost use Rattle.std.specs.Prelude.{◌≡◌, ◌+◌, ◌≤◌, IfOk};
 ghost use Rattle.mkv_io.specs.Faults.{HasCause, is_read_fault};
 ghost use Rattle.mkv_io.specs.Told.{Told};
 ghost use Rattle.sidecar_edit.specs.Pending.{LooksOnly};
+ghost use Rattle.mkv_merge.specs.Asked.{sidecars_of};
 ghost use Rattle.mkv_merge.specs.Bound.{most_looked};
 ghost use Rattle.mkv_merge.specs.Read.{begun_refusal, pending_of};
 
@@ -23,7 +24,7 @@ fn pending_of<F: Files>(
     files: &mut F,
 ) -> Result<Option<Refusal>, ReadEnd>
     ensures exact { Told (F.names files.old) (λ world. IfOk result (λ why. why ≡ pending_of world words.now)) }
-    ensures looks { LooksOnly F.Reads F.Files.own files.old files.new }
+    ensures looks { LooksOnly F.Reads F.Files.own (sidecars_of words.now) files.old files.new }
     ensures cause { HasCause is_read_fault (F.reading_faults files.old) (F.reading_faults files.new) result }
     ensures octets { F.octets_read files.new ≤ F.octets_read files.old + most_looked words.now }
 {
@@ -45,7 +46,7 @@ pub fn begun_refusal<F: Files>(
     files: &mut F,
 ) -> Result<Option<Refusal>, ReadEnd>
     ensures exact { Told (F.names files.old) (λ world. IfOk result (λ why. why ≡ begun_refusal world words.now texts.now)) }
-    ensures looks { LooksOnly F.Reads F.Files.own files.old files.new }
+    ensures looks { LooksOnly F.Reads F.Files.own (sidecars_of words.now) files.old files.new }
     ensures cause { HasCause is_read_fault (F.reading_faults files.old) (F.reading_faults files.new) result }
     ensures octets { F.octets_read files.new ≤ F.octets_read files.old + most_looked words.now }
 {

@@ -5,9 +5,10 @@ ghost use Rattle.mkv_io.specs.Sources.{IfTold, IsLive, file_size, live_files};
 ghost use Rattle.input_files.specs.ChapterFile.{CanBeWritten};
 ghost use Rattle.merge_words.specs.Sound.{IsSoundFile};
 ghost use Rattle.merge_inputs.specs.Input.{IsInput, IsReadOf, held_in};
-ghost use Rattle.mkv_merge.specs.Bound.{ReadsUpTo, live_size};
+ghost use Rattle.mkv_merge.specs.Bound.{live_size};
 ghost use Rattle.mkv_merge.specs.Prepared.{AreInputsOf, CanPrepare, EndsReading, IfAllTold, IsPrepared, Prepares};
 ghost use Rattle.mkv_merge.specs.Prepared.{ReadsAll, ReadsEach, ReadsInPlace, ReadsOne};
+ghost use Rattle.mkv_lines.specs.Command.{ReadsUpTo};
 
 use crate::chapters::with_file;
 use crate::refusal::{MergeEnd, Refusal};

@@ -1,11 +1,12 @@
 //! What was prepared is written, and told of.
 
-ghost use Rattle.std.specs.Prelude.{◌≡◌, IfOk};
+ghost use Rattle.std.specs.Prelude.{◌≡◌, [], IfOk};
 ghost use Rattle.mkv_io.specs.Sources.{live_files};
 ghost use Rattle.input_files.specs.Inputs.{AreInputs, file_names};
 ghost use Rattle.mkv_lines.specs.Command.{HasEnded};
 ghost use Rattle.mkv_lines.specs.Ordinary.{IsOrdinary};
 ghost use Rattle.mkv_lines.specs.Said.{HasSayCause, Says};
+ghost use Rattle.mkv_merge.specs.Asked.{AsksToMerge};
 ghost use Rattle.mkv_merge.specs.Ends.{stop_of};
 ghost use Rattle.mkv_merge.specs.Prepared.{IsPrepared};
 ghost use Rattle.mkv_merge.specs.Read.{IsApartMerge};
@@ -96,6 +97,7 @@ pub fn write<F: Files, P: Report>(
     ensures verdict { ReachesPlanned F.Reads F.Files.own P.Report files.old files.new report.old report.new words.now ids.now prepared.inputs result }
     ensures ended { HasEnded F.Reads F.Files.own P.Report files.old files.new report.old report.new result }
     ensures short { EndsShort F.Reads F.Files.own files.old words.now ids.now prepared.inputs result }
+    ensures asks { AsksToMerge [] words.now (F.asked files.old) (F.asked files.new) }
 
     // Each lane reads at most twice the file of its input, and attached files are copied.
     ensures octets { ReadsPlanned F.Reads files.old files.new ids.now prepared.plan }

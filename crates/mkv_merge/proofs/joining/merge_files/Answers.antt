@@ -13,6 +13,7 @@ use Rattle.mkv_merge.specs.Read.{first_written}
 use Rattle.mkv_merge.specs.declared.refusal.Refusal.{Refusal}
 use Rattle.mkv_merge.proofs.JoinedLemmas.{alone-missing, alone-taken, alone-there, merges-begun}
 use Rattle.mkv_merge.proofs.MergingLemmas.{opened-told, reads-alone, size-told}
+use Rattle.mkv_merge.proofs.AskedLemmas.{merge-asks-both, merge-asks-inputs, merge-asks-more, merge-asks-none}
 use Rattle.mkv_merge.proofs.joining.merge_files.Goals as goal
 
 -- an output has a name that is read
@@ -72,3 +73,38 @@ returns-clause-octets g c = λ world told.
     reads-alone world words (sources_with words no_texts contents) (g.F.Reads.octets_read c.args.files.now) (g.F.Reads.octets_read opened) (g.F.Reads.octets_read c.merge_live-ended.new.files) (g.F.Reads.octets_read c.close_all.new.files) (files_size f ids)
     (alone-there world words c.as_slice.result.now apart c.as_slice.ensures there) (size-told f (g.met.F.Reads.told_size (g.F.Reads.standing opened)) world words.files ids told_files)
     c.in-Ok.ensures.same.octets (c.merge_live-ended.ensures.octets contents told_files) c.close_all.ensures.octets
+
+-- ---- what is asked for
+
+-- inputs are opened
+pub returns-clause-asks : goal.returns-clause-asks
+returns-clause-asks g c =
+    let words = c.args.words.now in
+    let names = file_names words.files in
+    let old = g.F.Files.asked c.args.files.now in
+    let opened = g.F.Files.asked c.open_all.new.files in
+    let merged = g.F.Files.asked c.merge_live-ended.new.files in
+    let closed = g.F.Files.asked c.close_all.new.files in
+    merge-asks-both names words old opened closed (merge-asks-inputs words c.as_slice.result.now old opened c.as_slice.ensures c.in-Ok.ensures.opens.asks)
+    (merge-asks-both names words opened merged closed (merge-asks-more [] names words opened merged (λ name others. tt) c.merge_live-ended.ensures.asks)
+    (merge-asks-none names words merged closed c.close_all.ensures.asked))
+
+-- they couldn't be opened
+pub returns-in-Err-Missing-clause-asks : goal.returns-in-Err-Missing-clause-asks
+returns-in-Err-Missing-clause-asks g c =
+    merge-asks-inputs c.args.words.now c.as_slice.result.now (g.F.Files.asked c.args.files.now) (g.F.Files.asked c.open_all.new.files) c.as_slice.ensures c.in-Err-Missing.ensures.refused.asks
+
+pub returns-in-Err-Failed-clause-asks : goal.returns-in-Err-Failed-clause-asks
+returns-in-Err-Failed-clause-asks g c =
+    merge-asks-inputs c.args.words.now c.as_slice.result.now (g.F.Files.asked c.args.files.now) (g.F.Files.asked c.open_all.new.files) c.as_slice.ensures c.in-Err-Failed.ensures.refused.asks
+
+pub returns-in-Err-Memory-clause-asks : goal.returns-in-Err-Memory-clause-asks
+returns-in-Err-Memory-clause-asks g c =
+    merge-asks-inputs c.args.words.now c.as_slice.result.now (g.F.Files.asked c.args.files.now) (g.F.Files.asked c.open_all.new.files) c.as_slice.ensures c.in-Err-Memory.ensures.refused.asks
+
+-- nothing was looked at
+pub returns-in-Ok-Some-clause-asks : goal.returns-in-Ok-Some-clause-asks
+returns-in-Ok-Some-clause-asks g c = merge-asks-none (file_names c.args.words.now.files) c.args.words.now (g.F.Files.asked c.args.files.now) (g.F.Files.asked c.args.files.now) refl
+
+pub returns-in-Err-clause-asks : goal.returns-in-Err-clause-asks
+returns-in-Err-clause-asks g c = merge-asks-none (file_names c.args.words.now.files) c.args.words.now (g.F.Files.asked c.args.files.now) (g.F.Files.asked c.args.files.now) refl

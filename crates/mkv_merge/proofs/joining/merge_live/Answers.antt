@@ -1,4 +1,4 @@
-use Rattle.std.proofs.Common.{◌≡◌, List, length, Result, sym, ◌∙◌, ap, subst}
+use Rattle.std.proofs.Common.{◌≡◌, List, [], length, Result, sym, ◌∙◌, ap, subst}
 use Rattle.std.specs.List.{zip}
 use Rattle.mkv_io.specs.LiveFiles.{LiveFiles}
 use Rattle.mkv_io.specs.Names.{Names}
@@ -16,6 +16,7 @@ use Rattle.mkv_merge.specs.declared.refusal.Refusal.{Refusal}
 use Rattle.mkv_merge.proofs.JoinedLemmas.{merges-begun}
 use Rattle.mkv_merge.proofs.MergingLemmas.{reads-both}
 use Rattle.mkv_merge.proofs.WritingLemmas.{data-counted, lanes-count, many-inputs, merge-is}
+use Rattle.mkv_merge.proofs.AskedLemmas.{merge-asks-both, merge-asks-none}
 use Rattle.mkv_merge.proofs.joining.merge_live.Goals as goal
 
 -- reading has changed nothing, and what was prepared is what the sources come to
@@ -61,3 +62,26 @@ returns-in-Ok-clause-octets g c = λ contents told.
     let is = merge-is now words ids contents p c.in-Ok.ensures.prepared (subst (λ (f : LiveFiles). AreTold f ids contents) (sym same) told) many in
     reads-both (sources_with words no_texts contents) sources (length p.plan.lanes) (g.F.Reads.octets_read old) (g.F.Reads.octets_read mid) (g.F.Reads.octets_read c.merge_prepared.new.files) (files_size (live_files g.F.Reads old) ids) (files_size now ids) (data_length p.plan)
     (sym plain ∙ c.in-Ok.ensures.exact contents told) (lanes-count now words p.inputs p.plan sources is) (ap (λ (f : LiveFiles). files_size f ids) same) (data-counted now words p.inputs p.plan sources is) c.prepare.ensures.octets c.merge_prepared.ensures.octets
+
+-- ---- what is asked for
+
+-- reading asks for nothing
+pub returns-in-Ok-clause-asks : goal.returns-in-Ok-clause-asks
+returns-in-Ok-clause-asks g c =
+    let words = c.args.words.now in
+    let old = c.args.files.now in
+    let mid = c.prepare.new.src in
+    merge-asks-both [] words (g.F.Files.asked old) (g.F.Files.asked mid) (g.F.Files.asked c.merge_prepared.new.files)
+    (merge-asks-none [] words (g.F.Files.asked old) (g.F.Files.asked mid) (g.met.F.Files.asked_stands mid old c.in-Ok.ensures.reading.standing)) c.merge_prepared.ensures.asks
+
+pub returns-in-Err-Refused-clause-asks : goal.returns-in-Err-Refused-clause-asks
+returns-in-Err-Refused-clause-asks g c =
+    let old = c.args.files.now in
+    let mid = c.prepare.new.src in
+    merge-asks-none [] c.args.words.now (g.F.Files.asked old) (g.F.Files.asked mid) (g.met.F.Files.asked_stands mid old c.in-Err-Refused.ensures.reading.standing)
+
+pub returns-in-Err-Stopped-clause-asks : goal.returns-in-Err-Stopped-clause-asks
+returns-in-Err-Stopped-clause-asks g c =
+    let old = c.args.files.now in
+    let mid = c.prepare.new.src in
+    merge-asks-none [] c.args.words.now (g.F.Files.asked old) (g.F.Files.asked mid) (g.met.F.Files.asked_stands mid old c.in-Err-Stopped.ensures.reading.standing)

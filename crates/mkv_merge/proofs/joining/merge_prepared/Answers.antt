@@ -4,6 +4,7 @@ use Rattle.mkv_io.specs.Sources.{live_files}
 use Rattle.mkv_merge.specs.Prepared.{reads_in}
 use Rattle.mkv_merge.proofs.JoinedLemmas.{merges-stopped, merges-written}
 use Rattle.mkv_merge.proofs.WritingLemmas.{many-inputs, merge-is, plan-good, plan-reads, plan-told}
+use Rattle.mkv_merge.proofs.AskedLemmas.{merge-asks-made}
 use Rattle.mkv_merge.proofs.joining.merge_prepared.Goals as goal
 
 pub remux-requires : goal.remux-requires
@@ -44,3 +45,11 @@ returns-in-Ok-clause-octets g c =
 pub returns-clause-octets : goal.returns-clause-octets
 returns-clause-octets g c =
     plan-reads (live_files g.F.Reads c.args.files.now) c.args.words.now c.args.ids.now c.args.prepared (g.F.Reads.octets_read c.args.files.now) (g.F.Reads.octets_read c.remux.new.files) c.requires.prepared c.remux.ensures.octets
+
+-- ---- what is asked for
+
+pub returns-in-Ok-clause-asks : goal.returns-in-Ok-clause-asks
+returns-in-Ok-clause-asks g c = merge-asks-made g.F.Reads g.F.Files c.args.words.now c.args.prepared.inputs c.args.prepared.plan c.args.files.now c.remux.new.files c.requires.prepared.plan c.remux.ensures.kept
+
+pub returns-clause-asks : goal.returns-clause-asks
+returns-clause-asks g c = merge-asks-made g.F.Reads g.F.Files c.args.words.now c.args.prepared.inputs c.args.prepared.plan c.args.files.now c.remux.new.files c.requires.prepared.plan c.remux.ensures.kept

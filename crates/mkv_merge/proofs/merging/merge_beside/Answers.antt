@@ -1,4 +1,4 @@
-use Rattle.std.proofs.Common.{◌≡◌, List, [], map, Result, refl, sym, ◌∙◌, ap, subst}
+use Rattle.std.proofs.Common.{◌≡◌, List, [], ◌++◌, map, Result, refl, sym, ◌∙◌, ap, subst}
 use Rattle.std.specs.Prelude.{unwrap_or}
 use Rattle.mkv_io.specs.Sources.{live_files}
 use Rattle.input_files.specs.Inputs.{file_names}
@@ -6,12 +6,14 @@ use Rattle.merge_plan.specs.Plan.{Source}
 use Rattle.mkv_lines.specs.Seen.{Seen, seen}
 use Rattle.mkv_lines.specs.Verdict.{Reaches, Verdict}
 use Rattle.mkv_lines.proofs.VerdictLemmas.{IsStopped-before}
+use Rattle.mkv_merge.specs.Asked.{sidecars_of}
 use Rattle.mkv_merge.specs.Bound.{files_size}
 use Rattle.mkv_merge.specs.Merge.{sources_beside, sources_settled, verdict_of}
 use Rattle.mkv_merge.specs.Prepared.{AreTold}
 use Rattle.mkv_merge.specs.Records.{EndsReadable}
 use Rattle.mkv_merge.specs.declared.refusal.Refusal.{Refusal}
 use Rattle.mkv_merge.proofs.MergingLemmas.{opened-sources, opened-told, reads-few, size-told}
+use Rattle.mkv_merge.proofs.AskedLemmas.{merge-asks-behind, merge-asks-both, merge-asks-front, merge-asks-inputs, merge-asks-none}
 use Rattle.mkv_merge.proofs.merging.merge_beside.Goals as goal
 
 -- the inputs were opened, merged and closed
@@ -94,3 +96,38 @@ returns-clause-readable g c = λ world told.
     subst (λ (found : Result (List Source) Refusal). EndsReadable words found c.merge_settled-ended.result)
     (sym (opened-sources world words c.args.texts c.as_slice.result.now c.as_slice.ensures there))
     (c.merge_settled-ended.ensures.readable world (c.in-Ok.ensures.same.names ∙ told) contents contents-told)
+
+-- ---- what is asked for
+
+-- inputs are opened, and then sidecars
+pub returns-clause-asks : goal.returns-clause-asks
+returns-clause-asks g c =
+    let words = c.args.words.now in
+    let all = file_names words.files ++ sidecars_of words in
+    let old = g.F.Files.asked c.args.files.now in
+    let opened = g.F.Files.asked c.open_all.new.files in
+    let merged = g.F.Files.asked c.merge_settled-ended.new.files in
+    let closed = g.F.Files.asked c.close_all.new.files in
+    merge-asks-both all words old opened closed
+    (merge-asks-front words old opened (merge-asks-inputs words c.as_slice.result.now old opened c.as_slice.ensures c.in-Ok.ensures.opens.asks))
+    (merge-asks-both all words opened merged closed (merge-asks-behind words opened merged c.merge_settled-ended.ensures.asks)
+    (merge-asks-none all words merged closed c.close_all.ensures.asked))
+
+-- they couldn't be opened
+pub returns-in-Err-Missing-clause-asks : goal.returns-in-Err-Missing-clause-asks
+returns-in-Err-Missing-clause-asks g c =
+    let old = g.F.Files.asked c.args.files.now in
+    let new = g.F.Files.asked c.open_all.new.files in
+    merge-asks-front c.args.words.now old new (merge-asks-inputs c.args.words.now c.as_slice.result.now old new c.as_slice.ensures c.in-Err-Missing.ensures.refused.asks)
+
+pub returns-in-Err-Failed-clause-asks : goal.returns-in-Err-Failed-clause-asks
+returns-in-Err-Failed-clause-asks g c =
+    let old = g.F.Files.asked c.args.files.now in
+    let new = g.F.Files.asked c.open_all.new.files in
+    merge-asks-front c.args.words.now old new (merge-asks-inputs c.args.words.now c.as_slice.result.now old new c.as_slice.ensures c.in-Err-Failed.ensures.refused.asks)
+
+pub returns-in-Err-Memory-clause-asks : goal.returns-in-Err-Memory-clause-asks
+returns-in-Err-Memory-clause-asks g c =
+    let old = g.F.Files.asked c.args.files.now in
+    let new = g.F.Files.asked c.open_all.new.files in
+    merge-asks-front c.args.words.now old new (merge-asks-inputs c.args.words.now c.as_slice.result.now old new c.as_slice.ensures c.in-Err-Memory.ensures.refused.asks)

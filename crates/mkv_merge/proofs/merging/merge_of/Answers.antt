@@ -5,11 +5,13 @@ use Rattle.merge_plan.specs.Plan.{Source}
 use Rattle.mkv_lines.specs.Seen.{Seen, seen}
 use Rattle.mkv_lines.specs.Verdict.{Reaches, Verdict}
 use Rattle.mkv_lines.proofs.VerdictLemmas.{IsStopped-before}
+use Rattle.mkv_merge.specs.Asked.{opened_by}
 use Rattle.mkv_merge.specs.Merge.{merge_verdict, sources_beside, verdict_of}
 use Rattle.mkv_merge.specs.Read.{first_written}
 use Rattle.mkv_merge.specs.Records.{EndsReadable}
 use Rattle.mkv_merge.specs.declared.refusal.Refusal.{Refusal}
 use Rattle.mkv_merge.proofs.MergingLemmas.{chaptered-sources, reads-chaptered}
+use Rattle.mkv_merge.proofs.AskedLemmas.{merge-asks-beside, merge-asks-both, merge-asks-none, merge-asks-texts}
 use Rattle.mkv_merge.proofs.merging.merge_of.Goals as goal
 
 -- there was no memory for the names of the outputs
@@ -67,3 +69,28 @@ returns-in-Ok-clause-readable g c = λ world told.
     subst (λ (found : Result (List Source) Refusal). EndsReadable words found c.merge_beside.result)
     (sym (chaptered-sources world words c.in-Ok.texts apart (c.in-Ok.ensures.exact world told ∙ ap (text_files world words.chapters) c.as_slice.ensures)))
     (c.merge_beside.ensures.readable world (c.read_text_files.ensures.looks.names ∙ told))
+
+-- ---- what is asked for
+
+-- text files are opened, and then what is behind them
+pub returns-in-Ok-clause-asks : goal.returns-in-Ok-clause-asks
+returns-in-Ok-clause-asks g c =
+    let words = c.args.words.now in
+    let old = g.F.Files.asked c.args.files.now in
+    let mid = g.F.Files.asked c.read_text_files.new.files in
+    let new = g.F.Files.asked c.merge_beside.new.files in
+    merge-asks-both (opened_by words) words old mid new
+    (merge-asks-texts words c.as_slice.result.now old mid c.as_slice.ensures c.read_text_files.ensures.looks.kept.asks)
+    (merge-asks-beside words mid new c.merge_beside.ensures.asks)
+
+-- one couldn't be read
+pub returns-in-Err-read_text_files-clause-asks : goal.returns-in-Err-read_text_files-clause-asks
+returns-in-Err-read_text_files-clause-asks g c =
+    merge-asks-texts c.args.words.now c.as_slice.result.now (g.F.Files.asked c.args.files.now) (g.F.Files.asked c.read_text_files.new.files) c.as_slice.ensures c.read_text_files.ensures.looks.kept.asks
+
+-- nothing was looked at
+pub returns-in-Ok-Some-clause-asks : goal.returns-in-Ok-Some-clause-asks
+returns-in-Ok-Some-clause-asks g c = merge-asks-none (opened_by c.args.words.now) c.args.words.now (g.F.Files.asked c.args.files.now) (g.F.Files.asked c.args.files.now) refl
+
+pub returns-in-Err-clause-asks : goal.returns-in-Err-clause-asks
+returns-in-Err-clause-asks g c = merge-asks-none (opened_by c.args.words.now) c.args.words.now (g.F.Files.asked c.args.files.now) (g.F.Files.asked c.args.files.now) refl

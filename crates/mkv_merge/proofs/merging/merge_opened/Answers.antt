@@ -1,4 +1,4 @@
-use Rattle.std.proofs.Common.{◌≡◌, length, refl, sym, ◌∙◌, ap, subst}
+use Rattle.std.proofs.Common.{◌≡◌, [], length, refl, sym, ◌∙◌, ap, subst}
 use Rattle.std.specs.List.{zip}
 use Rattle.mkv_io.specs.LiveFiles.{LiveFiles}
 use Rattle.mkv_io.specs.Sources.{live_files}
@@ -11,6 +11,7 @@ use Rattle.mkv_merge.specs.Bound.{files_size}
 use Rattle.mkv_merge.specs.Prepared.{AreTold, reads_in}
 use Rattle.mkv_merge.proofs.MergingLemmas.{reads-both}
 use Rattle.mkv_merge.proofs.WritingLemmas.{data-counted, lanes-count, many-inputs, merge-is, readable-found, readable-none, records-are}
+use Rattle.mkv_merge.proofs.AskedLemmas.{merge-asks-both, merge-asks-none}
 use Rattle.mkv_merge.proofs.merging.merge_opened.Goals as goal
 
 -- reading has changed nothing that is seen, and what was prepared is what the sources come to
@@ -84,3 +85,26 @@ returns-in-Ok-clause-readable g c = λ world named contents told.
 pub returns-in-Err-Refused-clause-readable : goal.returns-in-Err-Refused-clause-readable
 returns-in-Err-Refused-clause-readable g c = λ world named contents told.
     readable-none c.args.words.now (sources_with c.args.words.now c.args.texts contents) c.in-Err-Refused.why c.refuse.result (rw c.in-Err-Refused.field-0-is at (c.in-Err-Refused.ensures.exact contents told))
+
+-- ---- what is asked for
+
+-- reading asks for nothing
+pub returns-in-Ok-clause-asks : goal.returns-in-Ok-clause-asks
+returns-in-Ok-clause-asks g c =
+    let words = c.args.words.now in
+    let old = c.args.files.now in
+    let mid = c.prepare.new.src in
+    merge-asks-both [] words (g.F.Files.asked old) (g.F.Files.asked mid) (g.F.Files.asked c.write.new.files)
+    (merge-asks-none [] words (g.F.Files.asked old) (g.F.Files.asked mid) (g.met.F.Files.asked_stands mid old c.in-Ok.ensures.reading.standing)) c.write.ensures.asks
+
+pub returns-in-Err-Refused-clause-asks : goal.returns-in-Err-Refused-clause-asks
+returns-in-Err-Refused-clause-asks g c =
+    let old = c.args.files.now in
+    let mid = c.prepare.new.src in
+    merge-asks-none [] c.args.words.now (g.F.Files.asked old) (g.F.Files.asked mid) (g.met.F.Files.asked_stands mid old c.in-Err-Refused.ensures.reading.standing)
+
+pub returns-in-Err-Stopped-clause-asks : goal.returns-in-Err-Stopped-clause-asks
+returns-in-Err-Stopped-clause-asks g c =
+    let old = c.args.files.now in
+    let mid = c.prepare.new.src in
+    merge-asks-none [] c.args.words.now (g.F.Files.asked old) (g.F.Files.asked mid) (g.met.F.Files.asked_stands mid old c.in-Err-Stopped.ensures.reading.standing)

@@ -2,10 +2,10 @@ use Rattle.std.proofs.Common.{◌≡◌, List, [], Option, Some, None, Result, r
 use Rattle.mkv_io.specs.Sources.{live_files}
 use Rattle.merge_plan.specs.Plan.{Source}
 use Rattle.input_files.specs.Inputs.{file_names}
-use Rattle.input_files.proofs.InputsLemmas.{stand-over}
 use Rattle.mkv_lines.specs.Seen.{Seen, seen}
 use Rattle.mkv_lines.specs.Verdict.{Reaches, Verdict, refused}
 use Rattle.mkv_lines.proofs.VerdictLemmas.{IsStopped-before, Reaches-lines}
+use Rattle.mkv_merge.specs.Asked.{sidecars_of}
 use Rattle.mkv_merge.specs.Bound.{files_size, most_looked}
 use Rattle.mkv_merge.specs.Merge.{sources_settled, sources_with, verdict_of}
 use Rattle.mkv_merge.specs.Prepared.{AreTold}
@@ -13,15 +13,16 @@ use Rattle.mkv_merge.specs.Read.{begun_refusal}
 use Rattle.mkv_merge.specs.Records.{EndsReadable}
 use Rattle.mkv_merge.specs.Refused.{and_then, line_of, unless}
 use Rattle.mkv_merge.specs.declared.refusal.Refusal.{Refusal}
-use Rattle.mkv_merge.proofs.MergingLemmas.{contents-kept, reads-settled, sizes-kept}
+use Rattle.mkv_merge.proofs.MergingLemmas.{contents-kept, inputs-stand, reads-settled, sizes-kept}
 use Rattle.mkv_merge.proofs.WritingLemmas.{readable-none}
+use Rattle.mkv_merge.proofs.AskedLemmas.{merge-asks-both, merge-asks-more, merge-asks-opened}
 use Rattle.mkv_merge.proofs.merging.merge_settled.Goals as goal
 
 -- the inputs stand while sidecars are looked into
 pub merge_opened-requires-clause-inputs : goal.merge_opened-requires-clause-inputs
 merge_opened-requires-clause-inputs g c =
-    (stand-over g.F.Reads g.F.Files (file_names c.args.words.now.files) [] c.args.files.now c.begun_refusal.new.files c.args.ids.now
-    c.requires.inputs c.begun_refusal.ensures.looks.kept).inputs
+    inputs-stand g.F.Reads g.F.Files (file_names c.args.words.now.files) (sidecars_of c.args.words.now) [] c.args.files.now c.begun_refusal.new.files c.args.ids.now
+    c.requires.inputs c.begun_refusal.ensures.looks.kept
 
 -- no edit is pending: nothing that is seen has changed
 pub returns-in-Ok-None-clause-verdict : goal.returns-in-Ok-None-clause-verdict
@@ -107,3 +108,26 @@ returns-in-Ok-Some-clause-readable g c = λ world told contents held.
     let why = c.in-Ok-Some.why in
     let some : begun_refusal world words c.args.texts ≡ Some why = sym (c.in-Ok-Some.ensures.exact world told) ∙ c.in-Ok-Some.field-0-is in
     readable-none words (sources_settled world words c.args.texts contents) why c.refuse.result (ap (λ (found : Option Refusal). and_then (unless found contents) (sources_with words c.args.texts)) some)
+
+-- ---- what is asked for
+
+-- sidecars are looked into
+pub returns-in-Ok-None-clause-asks : goal.returns-in-Ok-None-clause-asks
+returns-in-Ok-None-clause-asks g c =
+    let words = c.args.words.now in
+    let old = g.F.Files.asked c.args.files.now in
+    let mid = g.F.Files.asked c.begun_refusal.new.files in
+    let new = g.F.Files.asked c.merge_opened.new.files in
+    merge-asks-both (sidecars_of words) words old mid new
+    (merge-asks-opened (sidecars_of words) (sidecars_of words) words old mid (λ name others. others) c.begun_refusal.ensures.looks.kept.asks)
+    (merge-asks-more [] (sidecars_of words) words mid new (λ name others. tt) c.merge_opened.ensures.asks)
+
+pub returns-in-Ok-Some-clause-asks : goal.returns-in-Ok-Some-clause-asks
+returns-in-Ok-Some-clause-asks g c =
+    let words = c.args.words.now in
+    merge-asks-opened (sidecars_of words) (sidecars_of words) words (g.F.Files.asked c.args.files.now) (g.F.Files.asked c.begun_refusal.new.files) (λ name others. others) c.begun_refusal.ensures.looks.kept.asks
+
+pub returns-in-Err-clause-asks : goal.returns-in-Err-clause-asks
+returns-in-Err-clause-asks g c =
+    let words = c.args.words.now in
+    merge-asks-opened (sidecars_of words) (sidecars_of words) words (g.F.Files.asked c.args.files.now) (g.F.Files.asked c.begun_refusal.new.files) (λ name others. others) c.begun_refusal.ensures.looks.kept.asks

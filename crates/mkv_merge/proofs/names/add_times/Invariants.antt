@@ -1,6 +1,6 @@
 -- The names of the files so far stand behind those before.
 use Rattle.std.proofs.Common.{◌≡◌, ◌++◌, take}
-use Rattle.mkv_merge.specs.Read.{times_names}
+use Rattle.input_files.specs.TimesFile.{times_names}
 use Rattle.mkv_merge.proofs.names.add_times.Given as goal
 
 abbrev pub invariant-loop-each : goal.invariant-loop-each

@@ -1,7 +1,7 @@
 -- The names of the files beside those so far stand behind those before.
 use Rattle.std.proofs.Common.{◌≡◌, ◌++◌, map, take}
 use Rattle.sidecar_edit.specs.Name.{sidecar_of}
-use Rattle.mkv_merge.specs.Read.{times_names}
+use Rattle.input_files.specs.TimesFile.{times_names}
 use Rattle.mkv_merge.proofs.names.add_times_sidecars.Given as goal
 
 abbrev pub invariant-loop-each : goal.invariant-loop-each

@@ -1,4 +1,4 @@
-use Rattle.std.proofs.Common.{List, refl, ◌∙◌, ap, subst}
+use Rattle.std.proofs.Common.{List, [], refl, ◌∙◌, ap, subst}
 use Rattle.std.specs.List.{zip}
 use Rattle.std.proofs.lemmas.Result.{err_from_is_err_and}
 use Rattle.mkv_io.specs.Lines.{with_lines}
@@ -10,6 +10,7 @@ use Rattle.mkv_merge.specs.Merge.{has_absent, lines_before}
 use Rattle.mkv_merge.specs.Prepared.{reads_in}
 use Rattle.mkv_merge.proofs.VerdictLemmas.{merge-begun, merge-left, merge-told, outputs-short}
 use Rattle.mkv_merge.proofs.WritingLemmas.{many-inputs, merge-is, plan-good, plan-reads, plan-told}
+use Rattle.mkv_merge.proofs.AskedLemmas.{merge-asks-made, merge-asks-none}
 use Rattle.mkv_merge.proofs.writing.write.Goals as goal
 
 -- a warning of a track that isn't there couldn't be said
@@ -80,3 +81,15 @@ returns-in-Err-clause-octets g c =
 pub returns-clause-octets : goal.returns-clause-octets
 returns-clause-octets g c =
     plan-reads (live_files g.F.Reads c.args.files.now) c.args.words.now c.args.ids.now c.args.prepared (g.F.Reads.octets_read c.args.files.now) (g.F.Reads.octets_read c.remux.new.files) c.requires.prepared c.remux.ensures.octets
+
+-- ---- what is asked for
+
+-- its outputs are made
+pub returns-clause-asks : goal.returns-clause-asks
+returns-clause-asks g c = merge-asks-made g.F.Reads g.F.Files c.args.words.now c.args.prepared.inputs c.args.prepared.plan c.args.files.now c.remux.new.files c.requires.prepared.plan c.remux.ensures.kept
+
+pub returns-in-Err-clause-asks : goal.returns-in-Err-clause-asks
+returns-in-Err-clause-asks g c = merge-asks-made g.F.Reads g.F.Files c.args.words.now c.args.prepared.inputs c.args.prepared.plan c.args.files.now c.remux.new.files c.requires.prepared.plan c.remux.ensures.kept
+
+pub returns-in_err-say_absent-clause-asks : goal.returns-in_err-say_absent-clause-asks
+returns-in_err-say_absent-clause-asks g c = merge-asks-none [] c.args.words.now (g.F.Files.asked c.args.files.now) (g.F.Files.asked c.args.files.now) refl

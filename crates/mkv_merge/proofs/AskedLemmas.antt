@@ -1,0 +1,117 @@
+-- What a merge asks for, one call after the other.
+use Rattle.std.proofs.Common.{◌≡◌, ℕ, Bool, false, if◌then◌else◌, List, [], ◌∷◌, ◌++◌, map, Option, Some, None, ◌∙◌, ap₂, subst}
+use Rattle.std.specs.Prelude.{is_some}
+use Rattle.mkv_io.specs.Asked.{AsksOnly, IsBesides}
+use Rattle.mkv_io.specs.Names.{AreOthers}
+use Rattle.mkv_io.specs.declared.asked.Asked.{Asked}
+use Rattle.mkv_io.specs.declared.asked.Asked.TheVariants.{Made, Opened}
+use Rattle.mkv_io.specs.declared.files.Files as writing
+use Rattle.mkv_io.specs.declared.reads.Reads.{Ghosts}
+use Rattle.mkv_io.proofs.AskedLemmas.{asks-both, asks-fewer, asks-none}
+use Rattle.mkv_io.proofs.NamesLemmas.{others-behind, others-front}
+use Rattle.sidecar_edit.specs.Name.{sidecar_of}
+use Rattle.sidecar_edit.specs.Pending.{LooksOnly}
+use Rattle.sidecar_edit.proofs.LooksLemmas.{LooksOnly-more}
+use Rattle.word_values.specs.declared.lists.SplitWords.{SplitWords}
+use Rattle.remux_plan.specs.Parts.{may_be_written}
+use Rattle.remux_plan.specs.Parts.{is_split as planned_split}
+use Rattle.remux_plan.specs.declared.plan.MergePlan.{MergePlan}
+use Rattle.remuxer.specs.Output.{IsNotMade, KeepsUnwritten}
+use Rattle.remuxer.proofs.OutputsLemmas.{unwritten-asks}
+use Rattle.merge_words.specs.declared.files.FileWords.{FileWords}
+use Rattle.merge_words.specs.declared.output.MergeWords.{MergeWords}
+use Rattle.input_files.specs.Inputs.{file_names}
+use Rattle.input_files.specs.TextFiles.{text_names}
+use Rattle.merge_inputs.specs.declared.input.Input.{Input}
+use Rattle.merge_plan.specs.Planned.{IsPlanOf}
+use Rattle.mkv_merge.specs.Asked.{AsksToMerge, IsBesidesMerge, opened_by, sidecars_of}
+use Rattle.mkv_merge.specs.Read.{is_split}
+use Rattle.mkv_merge.proofs.WritingLemmas.{plan-split}
+
+-- ---- one call after the other
+
+-- nothing is asked for
+pub merge-asks-none : (opened : List (List ℕ)) (words : MergeWords) (old new : List Asked) → new ≡ old → AsksToMerge opened words old new
+merge-asks-none opened words old new same = asks-none (IsBesidesMerge opened words) old new same
+
+-- two calls
+pub merge-asks-both : (opened : List (List ℕ)) (words : MergeWords) (a b c : List Asked) → AsksToMerge opened words a b → AsksToMerge opened words b c → AsksToMerge opened words a c
+merge-asks-both opened words a b c first next = asks-both (IsBesidesMerge opened words) a b c first next
+
+-- files of these names are opened alone, and none is made
+pub merge-asks-opened : (names opened : List (List ℕ)) (words : MergeWords) (old new : List Asked) → ((name : List ℕ) → AreOthers name opened → AreOthers name names) → AsksOnly names [] old new → AsksToMerge opened words old new
+merge-asks-opened names opened words old new among asks = asks-fewer (IsBesides names []) (IsBesidesMerge opened words) old new each asks
+  where
+    each : (name : Asked) → IsBesidesMerge opened words name → IsBesides names [] name
+    each (Opened name) others = among name others
+    each (Made name) isnt = tt
+
+-- what opens only these opens only these and more
+pub merge-asks-more : (opened more : List (List ℕ)) (words : MergeWords) (old new : List Asked) → ((name : List ℕ) → AreOthers name more → AreOthers name opened) → AsksToMerge opened words old new → AsksToMerge more words old new
+merge-asks-more opened more words old new among asks = asks-fewer (IsBesidesMerge opened words) (IsBesidesMerge more words) old new each asks
+  where
+    each : (name : Asked) → IsBesidesMerge more words name → IsBesidesMerge opened words name
+    each (Opened name) others = among name others
+    each (Made name) isnt = isnt
+
+-- the outputs of a plan are made
+pub merge-asks-made : {S : Type 0} (r : Ghosts S) (f : writing.Ghosts S) (words : MergeWords) (inputs : List Input) (p : MergePlan) (old new : S) → IsPlanOf words inputs p → KeepsUnwritten r f (planned_split p) p.output old new → AsksToMerge [] words (f.asked old) (f.asked new)
+merge-asks-made r f words inputs p old new plan kept =
+    asks-fewer (IsNotMade (planned_split p) p.output) (IsBesidesMerge [] words) (f.asked old) (f.asked new) each (unwritten-asks r f (planned_split p) p.output old new kept)
+  where
+    each : (name : Asked) → IsBesidesMerge [] words name → IsNotMade (planned_split p) p.output name
+    each (Opened name) others = tt
+    each (Made name) isnt = ap₂ (λ (split : Bool) (output : List ℕ). may_be_written split output name) (plan-split words inputs p plan) plan.output ∙ isnt
+
+-- ---- sidecars
+
+-- the sidecars that are behind those of the inputs
+abbrev output_sidecars : MergeWords → List (List ℕ)
+output_sidecars words = if is_split words then [] else sidecar_of words.output ∷ []
+
+-- those of the inputs were looked into
+pub looks-inputs : {S : Type 0} (r : Ghosts S) (f : writing.Ghosts S) (words : MergeWords) (files : List FileWords) (old new : S) → files ≡ words.files → LooksOnly r f (map sidecar_of (file_names files)) old new → LooksOnly r f (sidecars_of words) old new
+looks-inputs r f words files old new same looks =
+    let names : List (List ℕ) = map sidecar_of (file_names words.files) in
+    LooksOnly-more r f names (sidecars_of words) old new (λ name others. others-front name names (output_sidecars words) others)
+    (subst (λ (each : List FileWords). LooksOnly r f (map sidecar_of (file_names each)) old new) same looks)
+
+-- an output that isn't split has one
+others-output : (split : Option SplitWords) (output name : List ℕ) → is_some split ≡ false → AreOthers name (if is_some split then [] else sidecar_of output ∷ []) → AreOthers name (sidecar_of output ∷ [])
+others-output None output name whole others = others
+others-output (Some split) output name whole others = absurd (cc)
+
+-- that of the output was
+pub looks-output : {S : Type 0} (r : Ghosts S) (f : writing.Ghosts S) (words : MergeWords) (output : List ℕ) (old new : S) → is_split words ≡ false → output ≡ words.output → LooksOnly r f (sidecar_of output ∷ []) old new → LooksOnly r f (sidecars_of words) old new
+looks-output r f words output old new whole same looks =
+    LooksOnly-more r f (sidecar_of words.output ∷ []) (sidecars_of words) old new
+    (λ name others. others-output words.split words.output name whole (others-behind name (map sidecar_of (file_names words.files)) (output_sidecars words) others))
+    (subst (λ (each : List ℕ). LooksOnly r f (sidecar_of each ∷ []) old new) same looks)
+
+-- ---- inputs and text files
+
+-- inputs are opened
+pub merge-asks-inputs : (words : MergeWords) (files : List FileWords) (old new : List Asked) → files ≡ words.files → AsksOnly (file_names files) [] old new → AsksToMerge (file_names words.files) words old new
+merge-asks-inputs words files old new same asks =
+    merge-asks-opened (file_names words.files) (file_names words.files) words old new (λ name others. others)
+    (subst (λ (each : List FileWords). AsksOnly (file_names each) [] old new) same asks)
+
+-- what opens only inputs, or only sidecars, opens only these
+pub merge-asks-front : (words : MergeWords) (old new : List Asked) → AsksToMerge (file_names words.files) words old new → AsksToMerge (file_names words.files ++ sidecars_of words) words old new
+merge-asks-front words old new asks =
+    merge-asks-more (file_names words.files) (file_names words.files ++ sidecars_of words) words old new (λ name others. others-front name (file_names words.files) (sidecars_of words) others) asks
+
+pub merge-asks-behind : (words : MergeWords) (old new : List Asked) → AsksToMerge (sidecars_of words) words old new → AsksToMerge (file_names words.files ++ sidecars_of words) words old new
+merge-asks-behind words old new asks =
+    merge-asks-more (sidecars_of words) (file_names words.files ++ sidecars_of words) words old new (λ name others. others-behind name (file_names words.files) (sidecars_of words) others) asks
+
+-- text files are opened
+pub merge-asks-texts : (words : MergeWords) (files : List FileWords) (old new : List Asked) → files ≡ words.files → AsksOnly (text_names words.chapters files) [] old new → AsksToMerge (opened_by words) words old new
+merge-asks-texts words files old new same asks =
+    merge-asks-opened (text_names words.chapters words.files) (opened_by words) words old new (λ name others. others-front name (text_names words.chapters words.files) (file_names words.files ++ sidecars_of words) others)
+    (subst (λ (each : List FileWords). AsksOnly (text_names words.chapters each) [] old new) same asks)
+
+-- and then what is behind them
+pub merge-asks-beside : (words : MergeWords) (old new : List Asked) → AsksToMerge (file_names words.files ++ sidecars_of words) words old new → AsksToMerge (opened_by words) words old new
+merge-asks-beside words old new asks =
+    merge-asks-more (file_names words.files ++ sidecars_of words) (opened_by words) words old new (λ name others. others-behind name (text_names words.chapters words.files) (file_names words.files ++ sidecars_of words) others) asks
