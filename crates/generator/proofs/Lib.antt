@@ -6,3 +6,4 @@ mod SoundLemmas
 mod StandardFacts
 mod TellingLemmas
 mod TurnLemmas
+mod AskedLemmas

@@ -16,7 +16,7 @@ use Rattle.mkv_lines.specs.declared.status.Stop.{Stop}
 use Rattle.mkv_lines.specs.declared.status.Stop.TheVariants as stop
 use Rattle.mkv_lines.proofs.SaidLemmas.{SaysPart-none, with_lines-none}
 use Rattle.mkv_lines.proofs.VerdictLemmas.{Reaches-behind}
-use Rattle.mkv_merge.specs.Joined.{files_counts}
+use Rattle.mkv_lines.specs.Command.{files_counts}
 use Rattle.mkv_merge.specs.declared.refusal.Refusal.{Refusal}
 use Rattle.generator.specs.declared.making.Outcome.{Outcome}
 use Rattle.generator.specs.declared.names.Names as own

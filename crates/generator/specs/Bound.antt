@@ -1,9 +1,6 @@
--- How many octets `generate` may read.
+-- How many octets `generate` may read. The bounds are this project's.
 use Rattle.std.specs.Prelude.{◌≡◌, ◌≢◌, ◌≤◌, ℕ, ◌+◌, List, ◌++◌, length, map, sum_by, Option, Some, Result, Ok, Err}
 use Rattle.mkv_io.specs.Names.{Names}
-use Rattle.mkv_io.specs.Told.{Told}
-use Rattle.mkv_io.specs.declared.files.Files.{Ghosts as FilesGhosts}
-use Rattle.mkv_io.specs.declared.reads.Reads.{Ghosts as ReadsGhosts}
 use Rattle.output_model.specs.Document.{layout}
 use Rattle.merge_words.specs.declared.output.MergeWords.{MergeWords}
 use Rattle.remux_plan.specs.Parts.{PlannedOutput}
@@ -35,13 +32,6 @@ most_made n names = most_merged (both_words names) (layouts (two_files n names))
 -- What `generate N PREFIX` may read, whatever the names hold: of files that it has written itself.
 abbrev pub most_to_generate : ℕ → List ℕ → ℕ
 most_to_generate n prefix = most_made n (names_of prefix)
-
--- No more is read, where the names tell.
-abbrev pub ReadsToMake : {F : Type 0} → ReadsGhosts F → FilesGhosts F → F → F → ℕ → own.Names → Type 0
-ReadsToMake r f old new n names = Told (f.names old) (λ world. r.octets_read new ≤ r.octets_read old + most_made n names)
-
-abbrev pub ReadsToGenerate : {F : Type 0} → ReadsGhosts F → FilesGhosts F → F → F → ℕ → List ℕ → Type 0
-ReadsToGenerate r f old new n prefix = Told (f.names old) (λ world. r.octets_read new ≤ r.octets_read old + most_to_generate n prefix)
 
 -- ---- on the way
 

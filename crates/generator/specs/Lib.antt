@@ -5,3 +5,4 @@ pub mod Generate
 pub mod Made
 pub mod Outcome
 pub mod Writing
+pub mod Asked

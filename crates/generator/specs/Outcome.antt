@@ -1,18 +1,14 @@
 -- What `generate` has made, and what it tells of it.
 use Rattle.std.specs.Prelude.{◌≡◌, ◌≢◌, ℕ, ◌||◌, List, [], ◌∷◌, ◌++◌, length, map, Option, Some, Result, Ok, Err}
 use Rattle.mkv_io.specs.Names.{Names}
-use Rattle.mkv_io.specs.declared.files.Files.{Ghosts as FilesGhosts}
-use Rattle.mkv_io.specs.declared.reads.Reads.{Ghosts as ReadsGhosts}
 use Rattle.mkv_outputs.specs.Outputs.{with_outputs}
 use Rattle.remux_plan.specs.Parts.{PlannedOutput}
 use Rattle.remux_plan.specs.Summary.{written_of}
 use Rattle.remuxer.specs.Output.{WritesAll}
-use Rattle.mkv_lines.specs.Faults.{HasStopCause}
 use Rattle.mkv_lines.specs.Verdict.{Leaves, Verdict, list_of}
 use Rattle.mkv_lines.specs.declared.status.Status.{Status}
 use Rattle.mkv_lines.specs.declared.status.Status.TheVariants as status
 use Rattle.mkv_lines.specs.declared.status.Stop.{Stop}
-use Rattle.mkv_merge.specs.Joined.{files_counts}
 use Rattle.mkv_merge.specs.Merge.{is_some_of, status_of}
 use Rattle.mkv_merge.specs.Refused.{line_of}
 use Rattle.mkv_merge.specs.Told.{warnings_from}
@@ -37,10 +33,6 @@ status_for (Refused words why) = status.Refused
 status_for (Made both parts) = status_of (is_some_of both.summary.damages || is_some_of parts.summary.damages)
 
 -- ---- what was made
-
--- why it stops that is made of files alone
-abbrev pub HasMakeStop : {F T : Type 0} → ReadsGhosts F → FilesGhosts F → F → F → Result T Stop → Type 0
-HasMakeStop r f old new result = HasStopCause (files_counts r f old) (files_counts r f new) result
 
 -- What is known of a merge that was done is what is defined.
 pub record IsDone (m : MergeMade) (d : Done) : Type 0 where

@@ -2,12 +2,13 @@
 
 ghost use Rattle.std.specs.Prelude.{◌≡◌, ◌≢◌, ◌≤◌, IfOk};
 ghost use Rattle.mkv_io.specs.Told.{Told};
-ghost use Rattle.mkv_lines.specs.Command.{ComesTo, HasEnded};
+ghost use Rattle.mkv_lines.specs.Command.{ComesTo, HasEnded, ReadsByNames};
 ghost use Rattle.mkv_lines.specs.Line.{text_of};
 ghost use Rattle.mkv_lines.specs.Ordinary.{IsOrdinary};
 ghost use Rattle.mkv_lines.specs.Said.{HasSayCause, Says};
-ghost use Rattle.generator.specs.Bound.{ReadsToGenerate, ReadsToMake};
-ghost use Rattle.generator.specs.Generate.{first_written, generate_verdict, line_for, verdict_of};
+ghost use Rattle.generator.specs.Asked.{AsksToGenerate};
+ghost use Rattle.generator.specs.Bound.{most_made, most_to_generate};
+ghost use Rattle.generator.specs.Generate.{first_written, generate_verdict, line_for, names_of, verdict_of};
 ghost use Rattle.generator.specs.Outcome.{lines_of, status_for};
 
 use crate::making::{Done, Outcome, make};
@@ -103,7 +104,8 @@ fn generate<F: Files, P: Report>(
     ensures verdict { Told (F.names files.old) (λ world.
         ComesTo F.Reads F.Files.own P.Report files.old files.new report.old report.new result (verdict_of n names.now)) }
     ensures ended { HasEnded F.Reads F.Files.own P.Report files.old files.new report.old report.new result }
-    ensures octets { ReadsToMake F.Reads F.Files.own files.old files.new n names.now }
+    ensures asks { AsksToGenerate names.now (F.asked files.old) (F.asked files.new) }
+    ensures octets { ReadsByNames F.Reads F.Files.own files.old files.new (λ _. most_made n names.now) }
 {
     match make(alloc, n, names, files) {
         Ok(outcome) => tell(alloc, n, &outcome, report),
@@ -127,7 +129,8 @@ pub fn generate_of<F: Files, P: Report>(
     ensures verdict { Told (F.names files.old) (λ world.
         ComesTo F.Reads F.Files.own P.Report files.old files.new report.old report.new result (generate_verdict n prefix.now)) }
     ensures ended { HasEnded F.Reads F.Files.own P.Report files.old files.new report.old report.new result }
-    ensures octets { ReadsToGenerate F.Reads F.Files.own files.old files.new n prefix.now }
+    ensures asks { AsksToGenerate (names_of prefix.now) (F.asked files.old) (F.asked files.new) }
+    ensures octets { ReadsByNames F.Reads F.Files.own files.old files.new (λ _. most_to_generate n prefix.now) }
 {
     match Names::new(alloc, prefix) {
         Ok(names) => generate(alloc, n, &names, files, report),

@@ -5,9 +5,11 @@ ghost use Rattle.mkv_io.specs.Ends.{HasRemuxCause};
 ghost use Rattle.mkv_io.specs.Sources.{live_files};
 ghost use Rattle.mkv_io.specs.Told.{Told};
 ghost use Rattle.remuxer.specs.Output.{WritesOutputs};
-ghost use Rattle.generator.specs.Bound.{ReadsBoth, ReadsParts, ReadsToMake};
+ghost use Rattle.generator.specs.Asked.{AsksToGenerate};
+ghost use Rattle.generator.specs.Bound.{ReadsBoth, ReadsParts, most_made};
 ghost use Rattle.generator.specs.Generate.{both_words, parts_words, two_files};
-ghost use Rattle.generator.specs.Outcome.{HasMakeStop, Makes, MakesBoth, MakesParts};
+ghost use Rattle.generator.specs.Outcome.{Makes, MakesBoth, MakesParts};
+ghost use Rattle.mkv_lines.specs.Command.{HasFilesCause, ReadsByNames};
 
 use crate::blocks::Medium;
 use crate::file::write_file;
@@ -46,6 +48,7 @@ fn write_files<F: Files>(
     requires { n < 2 ^ 18 }
     ensures writes { WritesOutputs (F.names files.old) (F.names files.new) (two_files n names.now) result }
     ensures live { (file : ℕ) → (live_files F.Reads files.new).live file ≡ (live_files F.Reads files.old).live file }
+    ensures asks { AsksToGenerate names.now (F.asked files.old) (F.asked files.new) }
     ensures cause { HasRemuxCause F.Reads F.Files.own files.old files.new result }
     ensures octets { F.octets_read files.new ≤ F.octets_read files.old }
 {
@@ -65,7 +68,8 @@ fn merge_parts<F: Files>(
     ensures makes { MakesParts (F.names files.old) (F.names files.new) names.now both result }
     ensures octets { ReadsParts (F.names files.old) names.now (F.octets_read files.old) (F.octets_read files.new) }
     ensures live { (file : ℕ) → (live_files F.Reads files.new).live file ≡ (live_files F.Reads files.old).live file }
-    ensures cause { HasMakeStop F.Reads F.Files.own files.old files.new result }
+    ensures asks { AsksToGenerate names.now (F.asked files.old) (F.asked files.new) }
+    ensures cause { HasFilesCause F.Reads F.Files.own files.old files.new result }
 {
     let _names = names;
     match merge_files(alloc, &words, files) {
@@ -88,7 +92,8 @@ fn make_parts<F: Files>(
     ensures makes { MakesParts (F.names files.old) (F.names files.new) names.now both result }
     ensures octets { ReadsParts (F.names files.old) names.now (F.octets_read files.old) (F.octets_read files.new) }
     ensures live { (file : ℕ) → (live_files F.Reads files.new).live file ≡ (live_files F.Reads files.old).live file }
-    ensures cause { HasMakeStop F.Reads F.Files.own files.old files.new result }
+    ensures asks { AsksToGenerate names.now (F.asked files.old) (F.asked files.new) }
+    ensures cause { HasFilesCause F.Reads F.Files.own files.old files.new result }
 {
     match parts_words(alloc, names) {
         Ok(words) => merge_parts(alloc, names, words, both, files),
@@ -107,7 +112,8 @@ fn merge_both<F: Files>(
     ensures makes { MakesBoth (F.names files.old) (F.names files.new) names.now result }
     ensures octets { ReadsBoth (F.names files.old) names.now (F.octets_read files.old) (F.octets_read files.new) }
     ensures live { (file : ℕ) → (live_files F.Reads files.new).live file ≡ (live_files F.Reads files.old).live file }
-    ensures cause { HasMakeStop F.Reads F.Files.own files.old files.new result }
+    ensures asks { AsksToGenerate names.now (F.asked files.old) (F.asked files.new) }
+    ensures cause { HasFilesCause F.Reads F.Files.own files.old files.new result }
 {
     match merge_files(alloc, &words, files) {
         Ok(Merged::Written(summary)) => make_parts(alloc, names, Done { words, summary }, files),
@@ -121,7 +127,8 @@ fn make_both<F: Files>(alloc: Global, names: &Names, files: &mut F) -> Result<Ou
     ensures makes { MakesBoth (F.names files.old) (F.names files.new) names.now result }
     ensures octets { ReadsBoth (F.names files.old) names.now (F.octets_read files.old) (F.octets_read files.new) }
     ensures live { (file : ℕ) → (live_files F.Reads files.new).live file ≡ (live_files F.Reads files.old).live file }
-    ensures cause { HasMakeStop F.Reads F.Files.own files.old files.new result }
+    ensures asks { AsksToGenerate names.now (F.asked files.old) (F.asked files.new) }
+    ensures cause { HasFilesCause F.Reads F.Files.own files.old files.new result }
 {
     match both_words(alloc, names) {
         Ok(words) => merge_both(alloc, names, words, files),
@@ -139,9 +146,10 @@ pub(crate) fn make<F: Files>(
     requires number { n < 2 ^ 18 }
     requires apart { names.now.pictures ≢ names.now.sounds }
     ensures makes { Told (F.names files.old) (λ world. Makes (F.names files.old) (F.names files.new) n names.now result) }
-    ensures octets { ReadsToMake F.Reads F.Files.own files.old files.new n names.now }
+    ensures octets { ReadsByNames F.Reads F.Files.own files.old files.new (λ _. most_made n names.now) }
     ensures live { (file : ℕ) → (live_files F.Reads files.new).live file ≡ (live_files F.Reads files.old).live file }
-    ensures cause { HasMakeStop F.Reads F.Files.own files.old files.new result }
+    ensures asks { AsksToGenerate names.now (F.asked files.old) (F.asked files.new) }
+    ensures cause { HasFilesCause F.Reads F.Files.own files.old files.new result }
 {
     match write_files(alloc, n, names, files) {
         Ok(()) => make_both(alloc, names, files),

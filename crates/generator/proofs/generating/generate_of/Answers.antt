@@ -3,6 +3,7 @@ use Rattle.mkv_lines.specs.Command.{seen_in}
 use Rattle.mkv_lines.specs.Verdict.{Reaches}
 use Rattle.mkv_lines.proofs.VerdictLemmas.{IsStopped-before}
 use Rattle.generator.specs.declared.names.Names as own
+use Rattle.generator.specs.Asked.{AsksToGenerate}
 use Rattle.generator.specs.Bound.{most_made}
 use Rattle.generator.specs.Generate.{generate_verdict, verdict_of}
 use Rattle.generator.proofs.SoundLemmas.{names-apart}
@@ -27,3 +28,8 @@ returns-in-Err-clause-verdict g c = λ world told.
 pub returns-in-Ok-clause-octets : goal.returns-in-Ok-clause-octets
 returns-in-Ok-clause-octets g c = λ world told.
     subst (λ (names : own.Names). g.F.Reads.octets_read c.generate.new.files ≤ g.F.Reads.octets_read c.args.files.now + most_made c.args.n names) c.in-Ok.ensures (c.generate.ensures.octets world told)
+
+-- which names are opened and made
+pub returns-in-Ok-clause-asks : goal.returns-in-Ok-clause-asks
+returns-in-Ok-clause-asks g c =
+    subst (λ (names : own.Names). AsksToGenerate names (g.F.Files.asked c.args.files.now) (g.F.Files.asked c.generate.new.files)) c.in-Ok.ensures c.generate.ensures.asks

@@ -18,3 +18,8 @@ pub returns-in-Ok-clause-octets : goal.returns-in-Ok-clause-octets
 returns-in-Ok-clause-octets g c = λ world told.
     let read = c.make_both.ensures.octets c.args.n (g.F.Files.names c.args.files.now) world told c.requires.apart c.in-Ok.ensures.writes in
     omega (arith, read, c.write_files.ensures.octets)
+
+-- which names are opened and made
+pub returns-in-Ok-clause-asks : goal.returns-in-Ok-clause-asks
+returns-in-Ok-clause-asks g c = λ name besides unasked.
+    c.make_both.ensures.asks name besides (c.write_files.ensures.asks name besides unasked)

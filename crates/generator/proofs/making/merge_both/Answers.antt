@@ -1,4 +1,5 @@
 use Rattle.generator.specs.Generate.{both_words}
+use Rattle.generator.proofs.AskedLemmas.{both-asks}
 use Rattle.generator.proofs.BoundLemmas.{both-alone, both-more}
 use Rattle.generator.proofs.MakingLemmas.{both-made, both-refused, both-stopped}
 use Rattle.generator.proofs.SoundLemmas.{both-sound, sound-as}
@@ -36,3 +37,17 @@ returns-in-Ok-Refused-clause-octets g c =
 pub returns-in-Err-clause-octets : goal.returns-in-Err-clause-octets
 returns-in-Err-clause-octets g c =
     both-alone (g.F.Files.names c.args.files.now) c.args.names.now c.args.words c.requires (g.F.Reads.octets_read c.args.files.now) (g.F.Reads.octets_read c.merge_files.new.files) c.merge_files.ensures.octets
+
+-- ---- which names are opened and made
+
+pub returns-in-Ok-Written-clause-asks : goal.returns-in-Ok-Written-clause-asks
+returns-in-Ok-Written-clause-asks g c = λ name besides unasked.
+    c.make_parts.ensures.asks name besides (both-asks c.args.names.now c.args.words (g.F.Files.asked c.args.files.now) (g.F.Files.asked c.merge_files.new.files) c.requires c.merge_files.ensures.asks name besides unasked)
+
+pub returns-in-Ok-Refused-clause-asks : goal.returns-in-Ok-Refused-clause-asks
+returns-in-Ok-Refused-clause-asks g c =
+    both-asks c.args.names.now c.args.words (g.F.Files.asked c.args.files.now) (g.F.Files.asked c.merge_files.new.files) c.requires c.merge_files.ensures.asks
+
+pub returns-in-Err-clause-asks : goal.returns-in-Err-clause-asks
+returns-in-Err-clause-asks g c =
+    both-asks c.args.names.now c.args.words (g.F.Files.asked c.args.files.now) (g.F.Files.asked c.merge_files.new.files) c.requires c.merge_files.ensures.asks

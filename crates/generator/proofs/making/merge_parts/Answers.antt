@@ -1,4 +1,5 @@
 use Rattle.generator.specs.Generate.{parts_words}
+use Rattle.generator.proofs.AskedLemmas.{parts-asks}
 use Rattle.generator.proofs.BoundLemmas.{parts-alone}
 use Rattle.generator.proofs.MakingLemmas.{parts-made, parts-refused, parts-stopped}
 use Rattle.generator.proofs.SoundLemmas.{parts-sound, sound-as}
@@ -34,3 +35,17 @@ returns-in-Ok-Refused-clause-octets g c =
 pub returns-in-Err-clause-octets : goal.returns-in-Err-clause-octets
 returns-in-Err-clause-octets g c =
     parts-alone (g.F.Files.names c.args.files.now) c.args.names.now c.args.words (g.F.Reads.octets_read c.args.files.now) (g.F.Reads.octets_read c.merge_files.new.files) c.requires c.merge_files.ensures.octets
+
+-- ---- which names are opened and made
+
+pub returns-in-Ok-Written-clause-asks : goal.returns-in-Ok-Written-clause-asks
+returns-in-Ok-Written-clause-asks g c =
+    parts-asks c.args.names.now c.args.words (g.F.Files.asked c.args.files.now) (g.F.Files.asked c.merge_files.new.files) c.requires c.merge_files.ensures.asks
+
+pub returns-in-Ok-Refused-clause-asks : goal.returns-in-Ok-Refused-clause-asks
+returns-in-Ok-Refused-clause-asks g c =
+    parts-asks c.args.names.now c.args.words (g.F.Files.asked c.args.files.now) (g.F.Files.asked c.merge_files.new.files) c.requires c.merge_files.ensures.asks
+
+pub returns-in-Err-clause-asks : goal.returns-in-Err-clause-asks
+returns-in-Err-clause-asks g c =
+    parts-asks c.args.names.now c.args.words (g.F.Files.asked c.args.files.now) (g.F.Files.asked c.merge_files.new.files) c.requires c.merge_files.ensures.asks

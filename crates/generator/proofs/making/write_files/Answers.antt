@@ -1,8 +1,9 @@
-use Rattle.std.proofs.Common.{List, ℕ, Ok, Err, ◌∙◌, subst}
+use Rattle.std.proofs.Common.{List, ℕ, inl, inr, Ok, Err, ◌∙◌, subst}
 use Rattle.std.proofs.lemmas.Result.{err_from_is_err_and}
 use Rattle.remuxer.specs.Output.{Writes}
 use Rattle.generator.specs.Files.{file_of}
 use Rattle.generator.specs.declared.blocks.Medium.TheVariants.{Pictures, Sounds}
+use Rattle.generator.proofs.AskedLemmas.{file-asks}
 use Rattle.generator.proofs.TurnLemmas.{one-stopped, two-written}
 use Rattle.generator.proofs.making.write_files.Goals as goal
 
@@ -21,3 +22,14 @@ returns-clause-writes g c =
 
 pub returns-clause-live : goal.returns-clause-live
 returns-clause-live g c = λ file. c.write_file-2.ensures.kept.live file ∙ c.in_ok-write_file.ensures.kept.live file
+
+-- ---- which names are made
+
+pub returns-in_err-write_file-clause-asks : goal.returns-in_err-write_file-clause-asks
+returns-in_err-write_file-clause-asks g c =
+    file-asks c.args.names.now c.as_str.result.now (g.F.Files.asked c.args.files.now) (g.F.Files.asked c.write_file.new.files) (inl c.as_str.ensures.same) c.write_file.ensures.kept.asks
+
+pub returns-clause-asks : goal.returns-clause-asks
+returns-clause-asks g c = λ name besides unasked.
+    file-asks c.args.names.now c.as_str-2.result.now (g.F.Files.asked c.write_file.new.files) (g.F.Files.asked c.write_file-2.new.files) (inr c.as_str-2.ensures.same) c.write_file-2.ensures.kept.asks name besides
+    (file-asks c.args.names.now c.as_str.result.now (g.F.Files.asked c.args.files.now) (g.F.Files.asked c.write_file.new.files) (inl c.as_str.ensures.same) c.write_file.ensures.kept.asks name besides unasked)
