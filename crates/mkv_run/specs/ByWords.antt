@@ -44,9 +44,10 @@ ExitsFor r f s d p files files' disk disk' report report' words code =
     HasExited (reach_for words) (run_seen r f s d p files disk report) (run_seen r f s d p files' disk' report')
     (Touches s d (reach_for words) files files' disk disk') (verdict_for f d files disk words) code
 
--- Nothing was done: what is seen is as it was, and so is the disk.
+-- Nothing was done: what is seen is as it was, and so are the files and the disk.
 pub record IsIdle {F D R : Type 0} (r : ReadsGhosts F) (f : FilesGhosts F) (s : ReadsGhosts D) (d : DiskGhosts D) (p : ReportGhosts R) (files files' : F) (disk disk' : D) (report report' : R) : Type 0 where
   pub seen : run_seen r f s d p files' disk' report' ≡ run_seen r f s d p files disk report
+  pub unused : files' ≡ files
   pub still : disk' ≡ disk
 
 -- It reads no more than they may, of the files and of the disk together.

@@ -1,4 +1,4 @@
--- How a run may end that has a verdict.
+-- How a run may end that has a verdict. It is this project's.
 use Rattle.std.specs.Prelude.{◌≡◌, ◌⊎◌, ℕ, ◌++◌, List, [], ◌∷◌}
 use Rattle.mkv_io.specs.Lines.{with_lines}
 use Rattle.mkv_lines.specs.Faults.{FilesRose, ReportRose}

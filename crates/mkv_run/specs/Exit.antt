@@ -1,4 +1,4 @@
--- The exit status of the program.
+-- The exit status of the program. It is this project's.
 use Rattle.std.specs.Prelude.{◌≡◌, ℕ, Option}
 use Rattle.mkv_io.specs.Told.{Told}
 use Rattle.mkv_lines.specs.Code.{code_of}

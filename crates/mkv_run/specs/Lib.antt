@@ -5,3 +5,4 @@ pub mod Kept
 pub mod Run
 pub mod RunSeen
 pub mod Touched
+pub mod Asked

@@ -1,4 +1,4 @@
--- What the words of a command line come to.
+-- What the words of a command line come to. The commands are this project's; what their outputs hold is RFC 9559's.
 use Rattle.std.specs.Prelude.{◌≡◌, ◌≤◌, ⊤, IfOk, ℕ, ◌+◌, List, [], ◌∷◌, length, Option, Some, option_map, Result, Ok, Err}
 use Rattle.mkv_io.specs.Names.{Names}
 use Rattle.mkv_io.specs.Told.{Told}

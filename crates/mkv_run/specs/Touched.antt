@@ -1,4 +1,4 @@
--- Which of the objects that it is given a run changes, and how.
+-- Which of the objects that it is given a run changes, and how. It is this project's.
 use Rattle.std.specs.Prelude.{◌≡◌, ⊤, List, ℕ, Result, Ok, Err}
 use Rattle.mkv_io.specs.declared.reads.Reads as reads
 use Rattle.mkv_disk.specs.declared.disk.Disk as disks

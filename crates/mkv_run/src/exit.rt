@@ -1,12 +1,12 @@
 //! The program: its words, and the exit status with which it ends.
 
-ghost use Rattle.std.specs.Prelude.{◌≡◌, ◌<◌, ◌⊎◌, ℕ, IfOk, IfErr, IsOkAnd, OnErr};
+ghost use Rattle.std.specs.Prelude.{◌≡◌, ◌<◌, ◌⊎◌, IfOk, IfErr, IsOkAnd, OnErr};
 ghost use Rattle.std.specs.Process.{exit_status};
-ghost use Rattle.mkv_io.specs.Sources.{live_files};
 ghost use Rattle.mkv_disk.specs.Calls.{AtRest};
 ghost use Rattle.mkv_lines.specs.Code.{code_of};
 ghost use Rattle.word_values.specs.Place.{texts};
 ghost use Rattle.merged_outputs.specs.Merge.{HasMerged};
+ghost use Rattle.mkv_run.specs.Asked.{LeavesFiles};
 ghost use Rattle.mkv_run.specs.ByWords.{CrashLeaves, ExitsFor, ReadsFor, IsIdle, reach_for};
 ghost use Rattle.mkv_run.specs.Touched.{IsInPlace};
 
@@ -54,7 +54,7 @@ pub fn program<F: Files, D: Disk, R: Report>(
     ensures idle { OnErr words.now (IsIdle F.Reads F.Files.own D.Reads D.Disk.own R.Report files.old files.new disk.old disk.new
         report.old report.new) }
     ensures any_moment { IfOk words.now (λ words. CrashLeaves D.Disk.own disk.old disk.new (reach_for words.items)) }
-    ensures closed { (file : ℕ) → (live_files F.Reads files.new).live file ≡ (live_files F.Reads files.old).live file }
+    ensures files { IfOk words.now (λ words. LeavesFiles F.Reads F.Files.own files.old files.new words.items) }
     ensures octets { IfOk words.now (λ words.
         ReadsFor F.Reads F.Files.own D.Reads D.Disk.own files.old files.new disk.old disk.new words.items) }
 {

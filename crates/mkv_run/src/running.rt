@@ -1,7 +1,6 @@
 //! A run, from the words of its command line to its status.
 
-ghost use Rattle.std.specs.Prelude.{◌≡◌, ℕ, IfOk};
-ghost use Rattle.mkv_io.specs.Sources.{live_files};
+ghost use Rattle.std.specs.Prelude.{IfOk};
 ghost use Rattle.mkv_io.specs.Told.{Told};
 ghost use Rattle.mkv_args.specs.Sound.{IsSound};
 ghost use Rattle.mkv_disk.specs.Calls.{AtRest};
@@ -13,6 +12,7 @@ ghost use Rattle.mkv_lines.specs.Said.{HasSayCause};
 ghost use Rattle.mkv_lines.specs.Verdict.{SaysVerdict, refused};
 ghost use Rattle.mkv_propedit.specs.Recover.{disk_world};
 ghost use Rattle.word_values.specs.Place.{texts};
+ghost use Rattle.mkv_run.specs.Asked.{AsksByWords, AsksToObey, LeavesFiles};
 ghost use Rattle.mkv_run.specs.ByWords.{CrashLeaves, EndsFor, HasCauseFor, ReadsFor, ReadsToObey, reach_for, verdict_for};
 ghost use Rattle.mkv_run.specs.Run.{MergesReadable, MergesReadableIn, WritesMerge, verdict_of};
 ghost use Rattle.mkv_run.specs.RunSeen.{HasObeyed};
@@ -58,8 +58,8 @@ pub fn run<F: Files, D: Disk, R: Report>(
     ensures cause { HasCauseFor F.Reads F.Files.own D.Reads D.Disk.own R.Report files.old files.new disk.old disk.new
         report.old report.new words.now.items result }
 
-    // No file stays open, and none is closed.
-    ensures closed { (file : ℕ) → (live_files F.Reads files.new).live file ≡ (live_files F.Reads files.old).live file }
+    // No file stays open, and none is closed; and no name is opened or made that the words don't ask for.
+    ensures files { LeavesFiles F.Reads F.Files.own files.old files.new words.now.items }
 
     // What a command may read, of files and of the disk together.
     ensures octets { ReadsFor F.Reads F.Files.own D.Reads D.Disk.own files.old files.new disk.old disk.new words.now.items }
@@ -102,6 +102,7 @@ fn carry_out<F: Files, D: Disk, R: Report>(
     ensures ended { HasObeyed F.Reads F.Files.own D.Reads D.Disk.own R.Report files.old files.new disk.old disk.new
         report.old report.new (reach_for words.now.items) result }
     ensures readable { MergesReadableIn (F.names files.old) (texts words.now.items) result }
+    ensures asks { AsksByWords F.Files.own files.old files.new words.now.items }
     ensures octets { ReadsFor F.Reads F.Files.own D.Reads D.Disk.own files.old files.new disk.old disk.new words.now.items }
     ensures touches { Touches D.Reads D.Disk.own (reach_for words.now.items) files.old files.new disk.old disk.new (status_of result) }
 {
@@ -127,6 +128,7 @@ fn obey<F: Files, D: Disk, R: Report>(
     ensures ended { HasObeyed F.Reads F.Files.own D.Reads D.Disk.own R.Report files.old files.new disk.old disk.new
         report.old report.new (reach_of command.now) result }
     ensures readable { MergesReadable (F.names files.old) command.now result }
+    ensures asks { AsksToObey F.Files.own files.old files.new command.now }
     ensures octets { ReadsToObey F.Reads F.Files.own D.Reads D.Disk.own files.old files.new disk.old disk.new command.now }
     ensures touches { Touches D.Reads D.Disk.own (reach_of command.now) files.old files.new disk.old disk.new (status_of result) }
 {

@@ -1,4 +1,5 @@
 use Rattle.std.proofs.Common.{◌+◌, Result, refl, sym, subst}
+use Rattle.mkv_io.specs.Asked.{AsksNone}
 use Rattle.mkv_lines.specs.Command.{seen_in}
 use Rattle.mkv_lines.proofs.VerdictLemmas.{IsStopped-before}
 use Rattle.mkv_args.specs.Words.{command}
@@ -6,6 +7,7 @@ use Rattle.mkv_args.specs.declared.command.Command.{Command}
 use Rattle.mkv_propedit.specs.Recover.{disk_world}
 use Rattle.word_values.specs.Place.{texts}
 use Rattle.word_values.specs.declared.usage.Usage.{Usage}
+use Rattle.mkv_run.specs.Asked.{IsBesidesAfter}
 use Rattle.mkv_run.specs.Run.{ReadsWithinAfter}
 use Rattle.mkv_run.specs.Touched.{IsInPlace, reach_in}
 use Rattle.mkv_run.proofs.RunLemmas.{reads-nothing, touches-nothing}
@@ -40,3 +42,9 @@ pub returns-in-Ok-clause-octets : goal.returns-in-Ok-clause-octets
 returns-in-Ok-clause-octets g c =
     subst (λ (asked : Result Command Usage). ReadsWithinAfter (g.F.Files.names c.args.files.now) (disk_world g.D.Disk c.args.disk.now) asked
     (g.F.Reads.octets_read c.args.files.now + g.D.Reads.octets_read c.args.disk.now) (g.F.Reads.octets_read c.obey.new.files + g.D.Reads.octets_read c.obey.new.disk)) (sym c.in-Ok.ensures.exact) c.obey.ensures.octets
+
+-- the words ask for what their command does
+pub returns-in-Ok-clause-asks : goal.returns-in-Ok-clause-asks
+returns-in-Ok-clause-asks g c =
+    let f = g.F.Files in
+    subst (λ (asked : Result Command Usage). AsksNone (IsBesidesAfter asked) (f.asked c.args.files.now) (f.asked c.obey.new.files)) (sym c.in-Ok.ensures.exact) c.obey.ensures.asks

@@ -1,5 +1,8 @@
-use Rattle.std.proofs.Common.{◌+◌, ◌≤◌, List, ℕ, length, Option, Ok, sym, subst, refl}
+use Rattle.std.proofs.Common.{◌+◌, ◌≤◌, List, [], ℕ, length, Option, Ok, sym, subst, refl}
+use Rattle.mkv_io.specs.Asked.{AsksOnly}
 use Rattle.mkv_io.specs.Told.{Told}
+use Rattle.sidecar_edit.specs.Name.{with_sidecar}
+use Rattle.extractors.specs.Job.{names_for}
 use Rattle.mkv_disk.specs.Calls.{OfReads}
 use Rattle.mkv_lines.specs.Code.{status_of}
 use Rattle.mkv_lines.specs.Command.{seen_in}
@@ -19,7 +22,10 @@ use Rattle.mkv_propedit.specs.Propedit.{propedit_verdict}
 use Rattle.mkv_propedit.specs.Reindex.{most_to_reindex, reindex_verdict, writes_of_index}
 use Rattle.mkv_propedit.proofs.ReindexLemmas.{index-told_on, reindex-outputs}
 use Rattle.mkv_propedit.proofs.PropeditLemmas.{edit-told, propedit-outputs}
+use Rattle.generator.specs.Asked.{AsksToGenerate}
 use Rattle.generator.specs.Bound.{most_to_generate}
+use Rattle.generator.specs.Generate.{names_of}
+use Rattle.mkv_run.specs.Asked.{AsksToObey}
 use Rattle.mkv_run.specs.Run.{ReadsWithin, verdict_of}
 use Rattle.mkv_run.specs.Touched.{IsInPlace, Touches, reach_of}
 use Rattle.mkv_run.proofs.KeptLemmas.{edit-keeps, index-keeps}
@@ -157,3 +163,35 @@ propedit_of-requires g c = c.requires.at_rest (subst (λ (asked : Command). IsIn
 -- the words asked for a job that can be done
 pub extract_of-requires : goal.extract_of-requires
 extract_of-requires g c = record { job = job-done c.in-Extract.job (subst IsSound c.in-Extract.is c.requires.sound) }
+
+-- ---- which names are opened and made
+
+pub returns-in-Info-clause-asks : goal.returns-in-Info-clause-asks
+returns-in-Info-clause-asks g c =
+    let f = g.F.Files in let a = c.args.files.now in let b = c.info_of.new.files in
+    subst (λ (asked : Command). AsksToObey f a b asked) (sym c.in-Info.is)
+    (subst (λ (name : List ℕ). AsksOnly (with_sidecar name) [] (f.asked a) (f.asked b)) c.as_str.ensures.same c.info_of.ensures.asks)
+
+pub returns-in-Identify-clause-asks : goal.returns-in-Identify-clause-asks
+returns-in-Identify-clause-asks g c =
+    let f = g.F.Files in let a = c.args.files.now in let b = c.info_of-in-Identify.new.files in
+    subst (λ (asked : Command). AsksToObey f a b asked) (sym c.in-Identify.is)
+    (subst (λ (name : List ℕ). AsksOnly (with_sidecar name) [] (f.asked a) (f.asked b)) c.as_str-in-Identify.ensures.same c.info_of-in-Identify.ensures.asks)
+
+pub returns-in-Extract-clause-asks : goal.returns-in-Extract-clause-asks
+returns-in-Extract-clause-asks g c =
+    let f = g.F.Files in let a = c.args.files.now in let b = c.extract_of.new.files in
+    subst (λ (asked : Command). AsksToObey f a b asked) (sym c.in-Extract.is)
+    (subst (λ (name : List ℕ). AsksOnly (with_sidecar name) (names_for c.in-Extract.job) (f.asked a) (f.asked b)) c.as_str-in-Extract.ensures.same c.extract_of.ensures.asks)
+
+pub returns-in-Merge-clause-asks : goal.returns-in-Merge-clause-asks
+returns-in-Merge-clause-asks g c =
+    let f = g.F.Files in let a = c.args.files.now in let b = c.merge_of.new.files in
+    subst (λ (asked : Command). AsksToObey f a b asked) (sym c.in-Merge.is)
+    (c.merge_of.ensures.asks)
+
+pub returns-in-Generate-clause-asks : goal.returns-in-Generate-clause-asks
+returns-in-Generate-clause-asks g c =
+    let f = g.F.Files in let a = c.args.files.now in let b = c.generate_of.new.files in
+    subst (λ (asked : Command). AsksToObey f a b asked) (sym c.in-Generate.is)
+    (subst (λ (prefix : List ℕ). AsksToGenerate (names_of prefix) (f.asked a) (f.asked b)) c.as_str-in-Generate.ensures.same c.generate_of.ensures.asks)

@@ -1,0 +1,47 @@
+-- Which names a run opens and makes, by what the words of its command line ask for. It is this project's.
+use Rattle.std.specs.Prelude.{◌≡◌, ⊤, ℕ, List, [], Result, Ok, Err}
+use Rattle.std.specs.declared.alloc.Global.{Global}
+use Rattle.std.specs.declared.string.String.{String}
+use Rattle.mkv_io.specs.Asked.{AsksNone, IsBesides}
+use Rattle.mkv_io.specs.Sources.{live_files}
+use Rattle.mkv_io.specs.declared.asked.Asked.{Asked}
+use Rattle.mkv_io.specs.declared.files.Files.{Ghosts as FilesGhosts}
+use Rattle.mkv_io.specs.declared.reads.Reads.{Ghosts as ReadsGhosts}
+use Rattle.sidecar_edit.specs.Name.{with_sidecar}
+use Rattle.extractors.specs.Job.{names_for}
+use Rattle.word_values.specs.Place.{texts}
+use Rattle.word_values.specs.declared.usage.Usage.{Usage}
+use Rattle.mkv_args.specs.Words.{command}
+use Rattle.mkv_args.specs.declared.command.Command.{Command}
+use Rattle.mkv_args.specs.declared.command.Command.TheVariants.{Info, Identify, Generate, Extract, Merge}
+use Rattle.mkv_merge.specs.Asked.{IsBesidesMerge, opened_by}
+use Rattle.generator.specs.Asked.{IsBesidesGenerate}
+use Rattle.generator.specs.Generate.{names_of}
+
+-- What a command doesn't ask for: to open a name that it may not open, or to make one that it may not make. An edit in place opens
+-- its file on the disk, and asks for nothing here; nor do help and the version.
+abbrev pub IsBesidesCommand : Command → Asked → Type 0
+IsBesidesCommand (Info file) asked = IsBesides (with_sidecar file) [] asked
+IsBesidesCommand (Identify file) asked = IsBesides (with_sidecar file) [] asked
+IsBesidesCommand (Extract file job) asked = IsBesides (with_sidecar file) (names_for job) asked
+IsBesidesCommand (Merge words) asked = IsBesidesMerge (opened_by words) words asked
+IsBesidesCommand (Generate n prefix) asked = IsBesidesGenerate (names_of prefix) asked
+IsBesidesCommand _ asked = ⊤
+
+-- words that are no command ask for none
+abbrev pub IsBesidesAfter : Result Command Usage → Asked → Type 0
+IsBesidesAfter (Ok command) asked = IsBesidesCommand command asked
+IsBesidesAfter (Err usage) asked = ⊤
+
+-- No name is opened or made that a command doesn't ask for.
+abbrev pub AsksToObey : {F : Type 0} → FilesGhosts F → F → F → Command → Type 0
+AsksToObey f files files' command = AsksNone (IsBesidesCommand command) (f.asked files) (f.asked files')
+
+-- nor one that the words of a command line don't
+abbrev pub AsksByWords : {F : Type 0} → FilesGhosts F → F → F → List (String Global) → Type 0
+AsksByWords f files files' words = AsksNone (IsBesidesAfter (command (texts words))) (f.asked files) (f.asked files')
+
+-- No file stays open, and none is closed; and no name is opened or made that the words don't ask for.
+pub record LeavesFiles {F : Type 0} (r : ReadsGhosts F) (f : FilesGhosts F) (files files' : F) (words : List (String Global)) : Type 0 where
+  pub live : (file : ℕ) → (live_files r files').live file ≡ (live_files r files).live file
+  pub asks : AsksByWords f files files' words
