@@ -1,16 +1,9 @@
 //! A SimpleBlock or a BlockGroup of what was read of it: RFC 9559, sections 10 (Cluster Blocks) and 11
 //! (Timestamps).
 
-ghost use Rattle.std.specs.Prelude.{◌≡◌, pos, ◌+ℤ◌, ◌*◌, true, ℕ, ℤ, List, [], IfOk, MatchOption};
-ghost use Rattle.mkv_schema.specs.declared.ids.TheConstants.{BLOCK as BLOCK_ID};
-ghost use Rattle.mkv_schema.specs.declared.element.Header.{Header as HeaderRecord};
-ghost use Rattle.mkv_schema.specs.Outline.{and_then, unless};
-ghost use Rattle.block_format.specs.Block.{simple_block_with};
-ghost use Rattle.block_format.specs.Elements.{group_with, in_time, with_limits, too_many_references};
-ghost use Rattle.block_records.specs.Spelled.{content_of};
-ghost use Rattle.block_records.specs.Group.{Gathers};
+ghost use Rattle.std.specs.Prelude.{◌≡◌, pos, ◌+ℤ◌, ℤ, [], IfOk};
 ghost use Rattle.block_records.specs.Lendable.{CanLead};
-ghost use Rattle.block_records.specs.Made.{has_too_large_ticks, HasTimes, MakesHead};
+ghost use Rattle.block_records.specs.Found.{MakesGroupHead, MakesSimpleHead, TellsTimes};
 
 use crate::content::{Spelled, has_flag, lace_of};
 use crate::gathered::Gathered;
@@ -41,8 +34,7 @@ pub fn simple_head(
     header: &Header,
     spelled: &Spelled,
 ) -> Result<BlockHead, Damage>
-    ensures exact { (frames : List (List ℕ)) → MakesHead frames [] []
-        (in_time (with_limits scale) header.now.id (simple_block_with scale timestamp header.now.offset (content_of spelled.now frames))) result }
+    ensures exact { MakesSimpleHead scale timestamp header.now spelled.now result }
     ensures small { IfOk result (CanLead spelled.now.flags []) }
 {
     let Some(time) = block_time(scale, timestamp, spelled.relative) else {
@@ -63,9 +55,7 @@ pub fn simple_head(
 
 // The times of a group, unless one is too large. The references stand in nanoseconds then.
 fn times_of(scale: u64, timestamp: u64, relative: i64, gathered: &mut Gathered) -> Option<Times>
-    ensures exact { MatchOption result
-        (has_too_large_ticks scale (pos timestamp +ℤ relative) gathered.old.duration gathered.old.references.items ≡ true)
-        (HasTimes scale (pos timestamp +ℤ relative) gathered.old gathered.new) }
+    ensures exact { TellsTimes scale (pos timestamp +ℤ relative) gathered.old gathered.new result }
     ensures block { gathered.new.block ≡ gathered.old.block }
     ensures kept { gathered.new.kept ≡ gathered.old.kept }
 {
@@ -89,10 +79,7 @@ pub fn group_head(
     spelled: &Spelled,
     gathered: &mut Gathered,
 ) -> Result<BlockHead, Damage>
-    ensures exact { (bytes : List ℕ) (children : List HeaderRecord) (frames : List (List ℕ)) → Gathers bytes children gathered.old
-        → MakesHead frames gathered.new.references.items gathered.new.kept.items
-        (and_then (unless (too_many_references (with_limits scale) children) (content_of spelled.now frames))
-        (λ content. in_time (with_limits scale) BLOCK_ID (group_with scale bytes timestamp offset children content))) result }
+    ensures exact { MakesGroupHead scale timestamp offset spelled.now gathered.old gathered.new result }
     ensures kept { gathered.new.kept ≡ gathered.old.kept }
     ensures small { IfOk result (CanLead spelled.now.flags gathered.new.references.items) }
 {

@@ -1,6 +1,6 @@
 //! The buffer of a block.
 
-ghost use Rattle.std.specs.Prelude.{◌≡◌, ◌+◌, ◌≤◌, ◌⊎◌, [], ℕ, List, length, sum, false, Some, OnOk, OnErr, IfOk, IsErrOf, MatchResult};
+ghost use Rattle.std.specs.Prelude.{◌≡◌, ◌≤◌, ◌⊎◌, [], length, sum, false, OnOk, IfOk, MatchResult};
 ghost use Rattle.std.specs.List.{All};
 ghost use Rattle.mkv_io.specs.Faults.{HasCause, is_read_fault};
 ghost use Rattle.mkv_io.specs.Sources.{IfTold, IsLive, file_size};
@@ -9,12 +9,11 @@ ghost use Rattle.mkv_schema.specs.Value.{body_of};
 ghost use Rattle.elements.specs.Looks.{Goes};
 ghost use Rattle.elements.specs.Window.{Holds};
 ghost use Rattle.lacing.specs.Writing.{FitsKind};
-ghost use Rattle.block_format.specs.Elements.{with_limits, simple_block, block_group};
-ghost use Rattle.block_records.specs.Buffered.{Makes};
-ghost use Rattle.block_records.specs.Lendable.{HasSmallTimes, IsLendable, LendsNothing};
+ghost use Rattle.block_records.specs.Lendable.{HasSmallTimes, LendsNothing};
 ghost use Rattle.block_records.specs.Time.{IsSmallTime};
 ghost use Rattle.mkv_io.specs.declared.outside.TheConstants.{LONGEST_FILE};
 ghost use Rattle.block_format.specs.declared.limits.TheConstants.{MOST_REFERENCES};
+ghost use Rattle.block_records.specs.Found.{LendsFound, SpellsGroup, SpellsSimple};
 
 use crate::front::FrontHead;
 use crate::head::BlockHead;
@@ -111,9 +110,8 @@ impl BlockBuffer {
     pub fn spell_simple(&mut self, scale: u64, timestamp: u64, header: &Header) -> Found
         requires few { known header.now.size ≤ MOST_OF_BLOCK }
         requires length { length self.old.octets ≡ known header.now.size }
-        ensures exact { IfOk result (λ found. (bytes : List ℕ) → self.old.octets ≡ body_of bytes header.now
-            → Makes found self.new (simple_block (with_limits scale) bytes (Some timestamp) header.now)) }
-        ensures lent { MatchResult result (λ found. MatchResult found (λ _. IsLendable self.new) (λ _. LendsNothing self.new)) (λ _. LendsNothing self.new) }
+        ensures exact { IfOk result (SpellsSimple scale timestamp header.now self.old.octets self.new) }
+        ensures lent { LendsFound self.new result }
         ensures octets { self.new.octets ≡ self.old.octets }
     {
         let found = self
@@ -129,9 +127,8 @@ impl BlockBuffer {
         requires length { length self.old.octets ≡ known header.now.size }
         requires inside { stated_end header.now ≤ total }
         requires short { total ≤ LONGEST_FILE }
-        ensures exact { IfOk result (λ found. (bytes : List ℕ) → length bytes ≡ total → self.old.octets ≡ body_of bytes header.now
-            → Makes found self.new (block_group (with_limits scale) bytes (Some timestamp) header.now)) }
-        ensures lent { MatchResult result (λ found. MatchResult found (λ _. IsLendable self.new) (λ _. LendsNothing self.new)) (λ _. LendsNothing self.new) }
+        ensures exact { IfOk result (SpellsGroup total scale timestamp header.now self.old.octets self.new) }
+        ensures lent { LendsFound self.new result }
         ensures octets { self.new.octets ≡ self.old.octets }
     {
         let found = self

@@ -1,14 +1,12 @@
 //! What octets in the front of a SimpleBlock's body settle: RFC 9559, sections 10.2 (SimpleBlock Structure) and 10.3
 //! (Block Lacing).
 
-ghost use Rattle.std.specs.Prelude.{◌≡◌, ◌≤◌, ℕ, List, length, Some, IfSome};
+ghost use Rattle.std.specs.Prelude.{◌≡◌, ◌≤◌, length, IfSome};
 ghost use Rattle.mkv_schema.specs.Element.{known};
-ghost use Rattle.mkv_schema.specs.Value.{body_of};
-ghost use Rattle.block_format.specs.Elements.{simple_block, with_limits};
 ghost use Rattle.block_format.specs.declared.limits.TheConstants.{MOST_OF_BLOCK};
-ghost use Rattle.block_records.specs.Front.{HasHead, frame_count, front_head, front_track, laced_count};
+ghost use Rattle.block_records.specs.Front.{frame_count, front_head, front_track, laced_count};
 ghost use Rattle.block_records.specs.Lendable.{HasSmallTimes};
-ghost use Rattle.block_records.specs.Spelled.{IsFront};
+ghost use Rattle.block_records.specs.Found.{Settles};
 
 use crate::block::simple_head;
 use crate::content::{Spelled, header_in, lace_of};
@@ -70,9 +68,7 @@ pub fn front_head(scale: u64, timestamp: u64, header: &Header, front: &[u8]) -> 
     requires few { known header.now.size ≤ MOST_OF_BLOCK }
     requires front { length front.now ≤ known header.now.size }
     ensures exact { result ≡ front_head scale timestamp header.now front.now }
-    ensures settles { IfSome result (λ found. (bytes : List ℕ) → IsFront front.now (body_of bytes header.now)
-        → length (body_of bytes header.now) ≡ known header.now.size
-        → HasHead found (simple_block (with_limits scale) bytes (Some timestamp) header.now)) }
+    ensures settles { IfSome result (Settles scale timestamp header.now front.now) }
     ensures small { IfSome result (λ found. HasSmallTimes found.head) }
     ensures few { IfSome result (λ found. found.frames ≤ 256) }
 {

@@ -1,16 +1,15 @@
 //! The children of a BlockGroup: RFC 9559, section 5.1.3 (Cluster Element).
 
-ghost use Rattle.std.specs.Prelude.{◌≡◌, ◌+◌, ◌-◌, ◌≤◌, ◌⊎◌, ℕ, List, [], ◌∷◌, ◌++◌, length, true, None, Some, IfOk, IfSome, OnOk, OnErr};
-ghost use Rattle.ebml_numbers.specs.Number.{int_of};
+ghost use Rattle.std.specs.Prelude.{◌≡◌, ◌+◌, ◌-◌, ◌≤◌, ◌⊎◌, ℕ, List, [], length, true, None, Some, IfOk, IfSome, OnOk, OnErr};
 ghost use Rattle.mkv_schema.specs.declared.ids.TheConstants.{BLOCK_GROUP as GROUP_ID};
-ghost use Rattle.mkv_schema.specs.declared.element.Header.{Header as HeaderRecord};
 ghost use Rattle.mkv_schema.specs.Element.{in_master, stated_end};
 ghost use Rattle.mkv_schema.specs.Elements.{children_in};
-ghost use Rattle.mkv_schema.specs.Value.{body_of, is_known_value};
+ghost use Rattle.mkv_schema.specs.Value.{is_known_value};
 ghost use Rattle.elements.specs.Body.{IsBody};
 ghost use Rattle.block_format.specs.Elements.{element_octets};
 ghost use Rattle.block_records.specs.Group.{Gathers, GathersRun, IsInside, IsPart};
 ghost use Rattle.mkv_io.specs.declared.outside.TheConstants.{LONGEST_FILE};
+ghost use Rattle.block_records.specs.Found.{GathersChild, GathersReference};
 
 use arrayvec::ArrayVec;
 use block_format::SLICES;
@@ -151,8 +150,7 @@ impl Gathered {
     // Adds the octets of a child, of whose body these are a value.
     fn add(&mut self, child: &Header, value: &[u8], octets: &[u8]) -> Result<(), AllocError>
         requires { is_known_value GROUP_ID child.now.id value.now ≡ true }
-        ensures exact { OnOk result ((bytes : List ℕ) (before : List HeaderRecord) → value.now ≡ body_of bytes child.now → octets.now ≡ element_octets bytes child.now
-            → Gathers bytes before self.old → Gathers bytes (before ++ child.now ∷ []) self.new) }
+        ensures exact { OnOk result (GathersChild child.now value.now octets.now self.old self.new) }
         ensures block { (self.new.block ≡ self.old.block) ⊎ (self.new.block ≡ Some child.now) }
         ensures kept { OnOk result (length self.new.kept.items ≤ length self.old.kept.items + length octets.now) }
         ensures err { OnErr result (self.new.kept.items ≡ self.old.kept.items) }
@@ -170,8 +168,7 @@ impl Gathered {
     // Adds a ReferenceBlock of so many ticks.
     fn add_reference(&mut self, child: &Header, ticks: i64)
         requires { child.now.id ≡ REFERENCE_BLOCK }
-        ensures exact { (bytes : List ℕ) (before : List HeaderRecord) → ticks ≡ int_of (body_of bytes child.now)
-            → Gathers bytes before self.old → Gathers bytes (before ++ child.now ∷ []) self.new }
+        ensures exact { GathersReference child.now ticks self.old self.new }
         ensures block { self.new.block ≡ self.old.block }
         ensures kept { self.new.kept ≡ self.old.kept }
     {

@@ -1,13 +1,11 @@
 //! The parts of a block, which the octets of a SimpleBlock or a BlockGroup spell: RFC 9559, sections 10.1
 //! (Block Structure) and 10.2 (SimpleBlock Structure).
 
-ghost use Rattle.std.specs.Prelude.{◌≡◌, ◌≤◌, ℕ, List, length, Some, IfOk, OnOk, OnErr, MatchResult};
+ghost use Rattle.std.specs.Prelude.{◌≡◌, ◌≤◌, length, IfOk, OnOk, OnErr, MatchResult};
 ghost use Rattle.mkv_schema.specs.Element.{known, stated_end};
-ghost use Rattle.mkv_schema.specs.Value.{body_of};
-ghost use Rattle.block_format.specs.Elements.{with_limits, simple_block, block_group};
-ghost use Rattle.block_records.specs.Buffered.{Makes};
 ghost use Rattle.block_records.specs.Lendable.{HasSmallTimes, IsBlock, IsEmpty, lent};
 ghost use Rattle.mkv_io.specs.declared.outside.TheConstants.{LONGEST_FILE};
+ghost use Rattle.block_records.specs.Found.{SpellsGroup, SpellsSimple, StaysElse};
 
 use crate::block::{group_head, simple_head};
 use crate::content::spell;
@@ -97,11 +95,10 @@ impl Parts {
     pub fn simple(&mut self, octets: &[u8], scale: u64, timestamp: u64, header: &Header) -> Found
         requires few { known header.now.size ≤ MOST_OF_BLOCK }
         requires length { length octets.now ≡ known header.now.size }
-        ensures exact { IfOk result (λ found. (bytes : List ℕ) → octets.now ≡ body_of bytes header.now
-            → Makes found (lent octets.now self.new) (simple_block (with_limits scale) bytes (Some timestamp) header.now)) }
+        ensures exact { IfOk result (SpellsSimple scale timestamp header.now octets.now (lent octets.now self.new)) }
         ensures lent { IfOk result (λ found. OnOk found (IsBlock octets.now self.new)) }
-        ensures head { MatchResult result (λ found. OnErr found (self.new.head ≡ self.old.head)) (λ _. self.new.head ≡ self.old.head) }
-        ensures frames { MatchResult result (λ found. OnErr found (self.new.frames ≡ self.old.frames)) (λ _. self.new.frames ≡ self.old.frames) }
+        ensures head { StaysElse self.old.head self.new.head result }
+        ensures frames { StaysElse self.old.frames self.new.frames result }
     {
         self.forget();
         let spelled = match spell(octets, &mut self.sizes)? {
@@ -134,11 +131,10 @@ impl Parts {
         requires length { length octets.now ≡ known header.now.size }
         requires inside { stated_end header.now ≤ total }
         requires short { total ≤ LONGEST_FILE }
-        ensures exact { IfOk result (λ found. (bytes : List ℕ) → length bytes ≡ total → octets.now ≡ body_of bytes header.now
-            → Makes found (lent octets.now self.new) (block_group (with_limits scale) bytes (Some timestamp) header.now)) }
+        ensures exact { IfOk result (SpellsGroup total scale timestamp header.now octets.now (lent octets.now self.new)) }
         ensures lent { IfOk result (λ found. OnOk found (IsBlock octets.now self.new)) }
-        ensures head { MatchResult result (λ found. OnErr found (self.new.head ≡ self.old.head)) (λ _. self.new.head ≡ self.old.head) }
-        ensures frames { MatchResult result (λ found. OnErr found (self.new.frames ≡ self.old.frames)) (λ _. self.new.frames ≡ self.old.frames) }
+        ensures head { StaysElse self.old.head self.new.head result }
+        ensures frames { StaysElse self.old.frames self.new.frames result }
     {
         self.forget();
         if let Err(damage) = self.gathered.gather(octets, header.body, total)? {

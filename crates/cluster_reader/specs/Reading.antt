@@ -5,7 +5,9 @@ use Rattle.mkv_io.specs.declared.outside.ReadEnd.{ReadEnd}
 use Rattle.mkv_io.specs.declared.damage.Damage.{Damage}
 use Rattle.mkv_io.specs.Faults.{counted}
 use Rattle.mkv_io.specs.LiveFiles.{LiveFiles}
+use Rattle.mkv_io.specs.Sources.{file_size}
 use Rattle.mkv_io.specs.Told.{Told}
+use Rattle.mkv_io.specs.declared.reads.Reads.{Ghosts}
 use Rattle.mkv_schema.specs.declared.element.Header.{Header}
 use Rattle.elements.specs.Window.{ReadAhead, Holds, HasNotPassed, end_ahead}
 use Rattle.block_format.specs.Block.{Block as AnyBlock}
@@ -175,3 +177,7 @@ Pays size old new before now (Err end) = now + read_to old ≤ before + read_to 
 pub record Spends {T : Type 0} (size : ℕ) (old new : Reading) (before now : ℕ) (result : Result T ReadEnd) : Type 0 where
   pub pays : Pays size old new before now result
   pub most : read_to new ≤ size
+
+-- the same of the file of a cursor
+abbrev pub SpendsIn : {S T : Type 0} → Ghosts S → S → S → Reading → Reading → Result T ReadEnd → Type 0
+SpendsIn r src src' old new result = Spends (file_size r src old.file) old new (r.octets_read src) (r.octets_read src') result

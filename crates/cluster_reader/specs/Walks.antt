@@ -1,6 +1,15 @@
 -- A walk over the Elements of a file, one turn after the other.
-use Rattle.std.specs.Prelude.{◌≡◌, ◌≤◌, ◌<◌, ⊤, ℕ, ◌==◌, ◌||◌, Bool, false, if◌then◌else◌, List, [], ◌∷◌, Option, Result, Ok, Err, IfOk}
+use Rattle.std.specs.Prelude.{◌≡◌, ◌≤◌, ◌<◌, ⊤, ℕ, ◌==◌, ◌||◌, Bool, false, if◌then◌else◌, List, [], ◌∷◌, length, Option, Some, Result, Ok, Err, IfOk, IsTrue}
+use Rattle.mkv_io.specs.declared.damage.Damage.{Damage}
 use Rattle.mkv_io.specs.declared.outside.ReadEnd.{ReadEnd}
+use Rattle.mkv_io.specs.declared.reads.Reads.{Ghosts}
+use Rattle.mkv_io.specs.Sources.{IfTold, file_size}
+use Rattle.mkv_schema.specs.Element.{known, stated_end}
+use Rattle.mkv_schema.specs.Value.{body_of}
+use Rattle.elements.specs.Looks.{Goes}
+use Rattle.elements.specs.Window.{Holds, ReadAhead}
+use Rattle.block_records.specs.Front.{HasHead}
+use Rattle.block_records.specs.declared.front.FrontHead.{FrontHead}
 use Rattle.mkv_schema.specs.declared.ids.TheConstants.{BLOCK_GROUP, SIMPLE_BLOCK, TIMESTAMP}
 use Rattle.mkv_io.specs.LiveFiles.{LiveFiles}
 use Rattle.mkv_schema.specs.declared.element.Header.{Header}
@@ -9,7 +18,7 @@ use Rattle.block_format.specs.Events.{Found, found_at, timestamp_behind}
 use Rattle.block_records.specs.Buffered.{Buffered}
 use Rattle.cluster_reader.specs.Places.{IsPlace, turns_left}
 use Rattle.cluster_reader.specs.Reading.{Reading, GivesWanted, GoesOn, LendsWanted, Notes, CanRead, IsSameSegment, Pays, left_of}
-use Rattle.cluster_reader.specs.Takes.{FindsBlock}
+use Rattle.cluster_reader.specs.Takes.{FindsBlock, MakesBlock, MakesWanted}
 use Rattle.cluster_reader.specs.declared.place.Place.{Place}
 use Rattle.cluster_reader.specs.declared.step.Step.{Step}
 use Rattle.cluster_reader.specs.declared.takes.Takes.{Takes}
@@ -47,6 +56,25 @@ Finds takes bytes scale timestamp h b (child.Passed behind) =
     (found_at (with_limits scale) bytes timestamp h ≡ []) × (behind ≡ timestamp_behind bytes timestamp h)
 Finds takes bytes scale timestamp h b child.Block = FindsBlock takes b (found_at (with_limits scale) bytes timestamp h)
 Finds takes bytes scale timestamp h b (child.Damaged d) = found_at (with_limits scale) bytes timestamp h ≡ Err d ∷ []
+
+-- the same of the file of a walk, where it is told
+abbrev pub FindsIn : {S : Type 0} → Ghosts S → S → Walk → Walk → Option ℕ → Header → Takes → Child → Type 0
+FindsIn r src old new timestamp h takes found = IfTold r src old.file (λ bytes. Finds takes bytes old.scale timestamp h new.block found)
+
+-- A SimpleBlock or a BlockGroup of the file of a walk is what is answered: a block, of which is known what is wanted, or a damage.
+abbrev pub MakesIn : {S T : Type 0} → Ghosts S → S → Walk → Walk → Option ℕ → Header → Takes → Result T Damage → Type 0
+MakesIn r src old new timestamp h takes found =
+    IfTold r src old.file (λ bytes. MakesWanted takes found new.block (block_found (with_limits old.scale) bytes timestamp h))
+
+-- Where a SimpleBlock of the file of a walk was passed, it is a block of which is known what is wanted.
+abbrev pub PassesIn : {S : Type 0} → Ghosts S → S → Walk → Walk → ℕ → Header → Takes → Bool → Type 0
+PassesIn r src old new ticks h takes passed =
+    IsTrue passed → IfTold r src old.file (λ bytes. MakesBlock takes new.block (simple_block (with_limits old.scale) bytes (Some ticks) h))
+
+-- Octets that a window holds settle what a SimpleBlock says of itself, and how many frames it has.
+abbrev pub SettlesHeld : ℕ → ℕ → Header → ReadAhead → FrontHead → Type 0
+SettlesHeld scale ticks h window front = (bytes : List ℕ) → length (body_of bytes h) ≡ known h.size → Holds bytes window
+    → HasHead front (simple_block (with_limits scale) bytes (Some ticks) h)
 
 -- A wanted block that is given can be written.
 abbrev pub LendsForChild : Takes → Child → Buffered → Type 0
@@ -113,5 +141,9 @@ pub record TakesStep (takes : Takes) (old new : Walk) (result : Result Step Read
   pub lends : IfOk result (λ step. LendsWanted takes step new.block)
 
 -- What is read is paid by the way, as a cursor's.
-abbrev pub PaysFor : {T : Type 0} → ℕ → Walk → Walk → ℕ → ℕ → Result T ReadEnd → Type 0
-PaysFor size old new before now result = Pays size (shown old) (shown new) before now result
+abbrev pub PaysFor : {S T : Type 0} → Ghosts S → S → S → Walk → Walk → Result T ReadEnd → Type 0
+PaysFor r src src' old new result = Pays (file_size r src old.file) (shown old) (shown new) (r.octets_read src) (r.octets_read src') result
+
+-- An Element with this header is read through the window of a walk, from its body on.
+abbrev pub ReadsBody : {S T E : Type 0} → Ghosts S → S → S → Walk → Walk → Header → Result T E → Type 0
+ReadsBody r src src' old new h result = Goes r old.file h.body (λ _. stated_end h) old.window new.window src src' result

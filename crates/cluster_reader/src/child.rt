@@ -1,18 +1,16 @@
 //! What the children of a Cluster give: RFC 9559, section 5.1.3 (Cluster Element).
 
-ghost use Rattle.std.specs.Prelude.{◌≡◌, ◌≤◌, ℕ, List, length, false, Some, IfOk, IfSome, OnOk, IsTrue};
+ghost use Rattle.std.specs.Prelude.{◌≡◌, ◌≤◌, ℕ, false, IfOk, IfSome, OnOk};
 ghost use Rattle.mkv_io.specs.Faults.{HasCause, is_read_fault};
 ghost use Rattle.mkv_io.specs.Sources.{IfTold, live_files};
 ghost use Rattle.mkv_schema.specs.Element.{is_unknown, known, stated_end};
-ghost use Rattle.mkv_schema.specs.Value.{body_of};
 ghost use Rattle.elements.specs.Looks.{Goes};
 ghost use Rattle.elements.specs.Window.{Holds};
-ghost use Rattle.block_format.specs.Elements.{simple_block, timestamp_for, with_limits};
-ghost use Rattle.block_records.specs.Front.{HasHead};
+ghost use Rattle.block_format.specs.Elements.{timestamp_for, with_limits};
 ghost use Rattle.block_records.specs.Lendable.{HasSmallTimes};
 ghost use Rattle.cluster_reader.specs.Reading.{LendsWanted};
-ghost use Rattle.cluster_reader.specs.Takes.{MakesBlock, MakesWanted, IsPassedWhere, held_front, settled_by, settled_in, wants};
-ghost use Rattle.cluster_reader.specs.Walks.{Finds, IsReady, KeepsWalk, LendsForChild, block_found};
+ghost use Rattle.cluster_reader.specs.Takes.{IsPassedWhere, held_front, settled_by, settled_in, wants};
+ghost use Rattle.cluster_reader.specs.Walks.{IsReady, KeepsWalk, LendsForChild, FindsIn, MakesIn, PassesIn, ReadsBody, SettlesHeld};
 ghost use Rattle.cluster_reader.specs.declared.step.Step.TheVariants as StepOf;
 ghost use Rattle.cluster_reader.specs.declared.takes.Takes.{Takes};
 
@@ -45,13 +43,13 @@ pub fn read_child<R: Reads>(
     requires ready { IsReady (live_files R.Reads src.old) walk.old }
     requires whole { is_unknown header.now.size ≡ false }
     requires inside { stated_end header.now ≤ walk.old.place.end }
-    ensures ok { IfOk result (λ child. IfTold R.Reads src.old walk.old.file (λ bytes. Finds takes bytes walk.old.scale timestamp header.now walk.new.block child)) }
+    ensures ok { IfOk result (FindsIn R.Reads src.old walk.old walk.new timestamp header.now takes) }
     ensures lends { IfOk result (λ child. LendsForChild takes child walk.new.block) }
     ensures only { KeepsWalk header.now.id walk.old walk.new }
     ensures holds { IfTold R.Reads src.old walk.old.file (λ bytes. Holds bytes walk.new.window) }
     ensures standing { R.standing src.new ≡ R.standing src.old }
     ensures cause { HasCause is_read_fault (R.reading_faults src.old) (R.reading_faults src.new) result }
-    ensures goes { Goes R.Reads walk.old.file header.now.body (λ _. stated_end header.now) walk.old.window walk.new.window src.old src.new result }
+    ensures goes { ReadsBody R.Reads src.old src.new walk.old walk.new header.now result }
 {
     if header.id == TIMESTAMP {
         return timestamp_child(walk, src, timestamp, header);
@@ -76,13 +74,13 @@ fn timestamp_child<R: Reads>(
     requires whole { is_unknown header.now.size ≡ false }
     requires inside { stated_end header.now ≤ walk.old.place.end }
     requires id { header.now.id ≡ TIMESTAMP }
-    ensures ok { IfOk result (λ child. IfTold R.Reads src.old walk.old.file (λ bytes. (takes : Takes) → Finds takes bytes walk.old.scale timestamp header.now walk.new.block child)) }
+    ensures ok { IfOk result (λ child. (takes : Takes) → FindsIn R.Reads src.old walk.old walk.new timestamp header.now takes child) }
     ensures lends { IfOk result (λ child. (takes : Takes) → LendsForChild takes child walk.new.block) }
     ensures only { walk.new ≡ record walk.old { window = walk.new.window } }
     ensures holds { IfTold R.Reads src.old walk.old.file (λ bytes. Holds bytes walk.new.window) }
     ensures standing { R.standing src.new ≡ R.standing src.old }
     ensures cause { HasCause is_read_fault (R.reading_faults src.old) (R.reading_faults src.new) result }
-    ensures goes { Goes R.Reads walk.old.file header.now.body (λ _. stated_end header.now) walk.old.window walk.new.window src.old src.new result }
+    ensures goes { ReadsBody R.Reads src.old src.new walk.old walk.new header.now result }
 {
     if known(header.size) > MOST_TIMESTAMP {
         return Ok(Child::Damaged(damage_at(Kind::BadValue, header)));
@@ -131,8 +129,7 @@ fn settled(
     takes: Takes,
 ) -> Option<FrontHead>
     requires few { known header.now.size ≤ MOST_OF_BLOCK }
-    ensures found { IfSome result (λ front. (bytes : List ℕ) → length (body_of bytes header.now) ≡ known header.now.size → Holds bytes window.now
-        → HasHead front (simple_block (with_limits scale) bytes (Some ticks) header.now)) }
+    ensures found { IfSome result (SettlesHeld scale ticks header.now window.now) }
     ensures exact { result ≡ settled_by takes scale ticks header.now (held_front window.now header.now) }
     ensures small { IfSome result (λ front. HasSmallTimes front.head) }
     ensures few { IfSome result (λ front. front.frames ≤ 256) }
@@ -147,7 +144,7 @@ fn settled(
     }
 }
 
-// IsPassedWhere a SimpleBlock that isn't wanted, where its front settles that it is one. Answers whether it does.
+// Passes a SimpleBlock that isn't wanted, where its front settles that it is one. Answers whether it does.
 fn passes<R: Reads>(
     walk: &mut Walk,
     src: &mut R,
@@ -160,8 +157,7 @@ fn passes<R: Reads>(
     requires whole { is_unknown header.now.size ≡ false }
     requires inside { stated_end header.now ≤ walk.old.place.end }
     ensures exact { IfOk result (IsPassedWhere (settled_in takes walk.old.scale ticks header.now walk.new.window) walk.new.block) }
-    ensures found { IfOk result (λ passed. IsTrue passed → IfTold R.Reads src.old walk.old.file (λ bytes.
-        MakesBlock takes walk.new.block (simple_block (with_limits walk.old.scale) bytes (Some ticks) header.now))) }
+    ensures found { IfOk result (PassesIn R.Reads src.old walk.old walk.new ticks header.now takes) }
     ensures only { walk.new ≡ record walk.old { block = walk.new.block; window = walk.new.window } }
     ensures holds { IfTold R.Reads src.old walk.old.file (λ bytes. Holds bytes walk.new.window) }
     ensures standing { R.standing src.new ≡ R.standing src.old }
@@ -194,13 +190,13 @@ fn read_block<R: Reads>(
     requires ready { IsReady (live_files R.Reads src.old) walk.old }
     requires whole { is_unknown header.now.size ≡ false }
     requires inside { stated_end header.now ≤ walk.old.place.end }
-    ensures ok { IfOk result (λ found. IfTold R.Reads src.old walk.old.file (λ bytes. MakesWanted takes found walk.new.block (block_found (with_limits walk.old.scale) bytes timestamp header.now))) }
+    ensures ok { IfOk result (MakesIn R.Reads src.old walk.old walk.new timestamp header.now takes) }
     ensures lends { IfOk result (λ found. OnOk found (LendsWanted takes StepOf.Block walk.new.block)) }
     ensures only { walk.new ≡ record walk.old { block = walk.new.block; window = walk.new.window } }
     ensures holds { IfTold R.Reads src.old walk.old.file (λ bytes. Holds bytes walk.new.window) }
     ensures standing { R.standing src.new ≡ R.standing src.old }
     ensures cause { HasCause is_read_fault (R.reading_faults src.old) (R.reading_faults src.new) result }
-    ensures goes { Goes R.Reads walk.old.file header.now.body (λ _. stated_end header.now) walk.old.window walk.new.window src.old src.new result }
+    ensures goes { ReadsBody R.Reads src.old src.new walk.old walk.new header.now result }
 {
     let ticks = match timestamp_for(timestamp, header) {
         Ok(ticks) => ticks,

@@ -1,16 +1,16 @@
 //! The cursor.
 
-ghost use Rattle.std.specs.Prelude.{◌≡◌, ◌≤◌, ◌⊎◌, true, ℕ, List, [], Some, length, sum, IfOk};
+ghost use Rattle.std.specs.Prelude.{◌≡◌, ◌≤◌, ◌⊎◌, true, ℕ, List, [], length, sum, IfOk};
 ghost use Rattle.mkv_io.specs.Faults.{HasCause, is_read_fault};
 ghost use Rattle.mkv_io.specs.LiveFiles.{LiveFiles};
-ghost use Rattle.mkv_io.specs.Sources.{IfTold, file_size, live_files};
+ghost use Rattle.mkv_io.specs.Sources.{IfTold, live_files};
 ghost use Rattle.std.specs.List.{All};
 ghost use Rattle.lacing.specs.Writing.{FitsKind};
 ghost use Rattle.block_records.specs.Lendable.{HasSmallTimes};
 ghost use Rattle.block_records.specs.Time.{IsSmallTime};
 ghost use Rattle.block_format.specs.Elements.{with_limits};
 ghost use Rattle.block_format.specs.Events.{events_of};
-ghost use Rattle.cluster_reader.specs.Reading.{Begins, Counts, Gives, GivesWanted, CanRead, Moves, MovesWanted, Spends, left_of, with_given};
+ghost use Rattle.cluster_reader.specs.Reading.{Begins, Counts, Gives, GivesWanted, CanRead, Moves, MovesWanted, left_of, with_given, SpendsIn};
 ghost use Rattle.block_format.specs.declared.limits.TheConstants.{MOST_REFERENCES};
 
 use crate::next_step::next_step;
@@ -99,7 +99,7 @@ impl Cursor {
         ensures cause { HasCause is_read_fault (R.reading_faults src.old) (R.reading_faults src.new) result }
 
         // No octet is read twice, but what a call that fails has read.
-        ensures spends { Spends (file_size R.Reads src.old self.old.file) self.old self.new (R.octets_read src.old) (R.octets_read src.new) result }
+        ensures spends { SpendsIn R.Reads src.old src.new self.old self.new result }
     {
         let step = next_step(&mut self.walk, src, Takes::All)?;
         self.count(step);
@@ -115,7 +115,7 @@ impl Cursor {
         ensures stands { CanRead (live_files R.Reads src.new) self.new }
         ensures standing { R.standing src.new ≡ R.standing src.old }
         ensures cause { HasCause is_read_fault (R.reading_faults src.old) (R.reading_faults src.new) result }
-        ensures spends { Spends (file_size R.Reads src.old self.old.file) self.old self.new (R.octets_read src.old) (R.octets_read src.new) result }
+        ensures spends { SpendsIn R.Reads src.old src.new self.old self.new result }
     {
         let step = next_step(&mut self.walk, src, takes)?;
         self.count(step);

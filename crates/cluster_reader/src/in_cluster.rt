@@ -1,8 +1,8 @@
 //! The children of a Cluster, one turn after the other: RFC 9559, section 5.1.3 (Cluster Element).
 
-ghost use Rattle.std.specs.Prelude.{◌≡◌, ◌≤◌, ◌<◌, Some, Ok, false, IfOk};
+ghost use Rattle.std.specs.Prelude.{◌≡◌, ◌≤◌, ◌<◌, Some, Ok, false};
 ghost use Rattle.mkv_io.specs.Faults.{HasCause, is_read_fault};
-ghost use Rattle.mkv_io.specs.Sources.{IfTold, file_size, live_files};
+ghost use Rattle.mkv_io.specs.Sources.{IfTold, live_files};
 ghost use Rattle.mkv_schema.specs.Element.{element_at, in_master, is_unknown, stated_end};
 ghost use Rattle.cluster_reader.specs.Left.{ends_children};
 ghost use Rattle.cluster_reader.specs.Walks.{IsReady, PaysFor, TakesTurn, Turns};
@@ -38,7 +38,7 @@ pub fn turn_in_cluster<R: Reads>(
     ensures ready { IsReady (live_files R.Reads src.new) walk.new }
     ensures standing { R.standing src.new ≡ R.standing src.old }
     ensures cause { HasCause is_read_fault (R.reading_faults src.old) (R.reading_faults src.new) result }
-    ensures pays { PaysFor (file_size R.Reads src.old walk.old.file) walk.old walk.new (R.octets_read src.old) (R.octets_read src.new) result }
+    ensures pays { PaysFor R.Reads src.old src.new walk.old walk.new result }
 {
     let at = walk.place.at;
     if at >= cluster.end {
@@ -79,7 +79,7 @@ fn turn_child<R: Reads>(
     ensures ready { IsReady (live_files R.Reads src.new) walk.new }
     ensures standing { R.standing src.new ≡ R.standing src.old }
     ensures cause { HasCause is_read_fault (R.reading_faults src.old) (R.reading_faults src.new) result }
-    ensures pays { PaysFor (file_size R.Reads src.old walk.old.file) walk.old walk.new (R.octets_read src.old) (R.octets_read src.new) result }
+    ensures pays { PaysFor R.Reads src.old src.new walk.old walk.new result }
 {
     let child = match read_child(walk, src, cluster.timestamp, header, takes) {
         Ok(child) => child,

@@ -2,7 +2,7 @@
 
 ghost use Rattle.std.specs.Prelude.{◌≡◌};
 ghost use Rattle.mkv_io.specs.Faults.{HasCause, is_read_fault};
-ghost use Rattle.mkv_io.specs.Sources.{IfTold, file_size, live_files};
+ghost use Rattle.mkv_io.specs.Sources.{IfTold, live_files};
 ghost use Rattle.cluster_reader.specs.Reading.{GivesWanted};
 ghost use Rattle.cluster_reader.specs.Walks.{IsReady, PaysFor, TakesStep, TakesTurn, Turns, shown};
 
@@ -22,7 +22,7 @@ pub fn next_step<R: Reads>(walk: &mut Walk, src: &mut R, takes: Takes) -> Result
     ensures ready { IsReady (live_files R.Reads src.new) walk.new }
     ensures standing { R.standing src.new ≡ R.standing src.old }
     ensures cause { HasCause is_read_fault (R.reading_faults src.old) (R.reading_faults src.new) result }
-    ensures pays { PaysFor (file_size R.Reads src.old walk.old.file) walk.old walk.new (R.octets_read src.old) (R.octets_read src.new) result }
+    ensures pays { PaysFor R.Reads src.old src.new walk.old walk.new result }
 {
     loop {
         match turn(walk, src, takes)? {
@@ -40,7 +40,7 @@ fn turn<R: Reads>(walk: &mut Walk, src: &mut R, takes: Takes) -> Result<Turn, Re
     ensures ready { IsReady (live_files R.Reads src.new) walk.new }
     ensures standing { R.standing src.new ≡ R.standing src.old }
     ensures cause { HasCause is_read_fault (R.reading_faults src.old) (R.reading_faults src.new) result }
-    ensures pays { PaysFor (file_size R.Reads src.old walk.old.file) walk.old walk.new (R.octets_read src.old) (R.octets_read src.new) result }
+    ensures pays { PaysFor R.Reads src.old src.new walk.old walk.new result }
 {
     match walk.place.cluster {
         None => turn_at_level_1(walk, src),

@@ -2,7 +2,7 @@
 
 ghost use Rattle.std.specs.Prelude.{◌≡◌, ◌≤◌, ◌<◌, true, not, None, IfOk};
 ghost use Rattle.mkv_io.specs.Faults.{HasCause, is_read_fault};
-ghost use Rattle.mkv_io.specs.Sources.{IfTold, file_size, live_files};
+ghost use Rattle.mkv_io.specs.Sources.{IfTold, live_files};
 ghost use Rattle.mkv_schema.specs.Element.{element_at};
 ghost use Rattle.mkv_schema.specs.Placed.{StandsAt, IsWhole};
 ghost use Rattle.elements.specs.Parent.{setting_of};
@@ -50,7 +50,7 @@ impl Walk {
         ensures ready { IsReady (live_files R.Reads src.new) self.new }
         ensures standing { R.standing src.new ≡ R.standing src.old }
         ensures cause { HasCause is_read_fault (R.reading_faults src.old) (R.reading_faults src.new) result }
-        ensures pays { PaysFor (file_size R.Reads src.old self.old.file) self.old self.new (R.octets_read src.old) (R.octets_read src.new) result }
+        ensures pays { PaysFor R.Reads src.old src.new self.old self.new result }
     {
         match self
             .window
