@@ -1,4 +1,4 @@
--- How many octets `propedit` and `recover` may read.
+-- How many octets `propedit` and `recover` may read. The bounds are this project's.
 use Rattle.std.specs.Prelude.{ℕ, ◌+◌, ◌*◌}
 use Rattle.sidecar_edit.specs.declared.place.TheConstants.{HEAD, KEPT, MOST_OCTETS}
 

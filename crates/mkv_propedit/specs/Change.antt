@@ -1,4 +1,4 @@
--- A change of a file in place, be it edits that words ask for or a new index: what it writes, and what is told of it.
+-- A change of a file in place, be it edits that words ask for or a new index: what it writes, and what is told of it. It is this project's.
 use Rattle.std.specs.Prelude.{◌≡◌, ⊤, ℕ, ◌+◌, Bool, List, [], ◌∷◌, Result, Ok, Err}
 use Rattle.mkv_lines.specs.Line.{text_of}
 use Rattle.mkv_lines.specs.Verdict.{Verdict, done, refused}

@@ -5,3 +5,4 @@ pub mod Propedit
 pub mod Recover
 pub mod Recovery
 pub mod Reindex
+pub mod Command

@@ -1,4 +1,4 @@
--- What `recover` comes to: its status and its lines.
+-- What `recover` comes to: its status and its lines. All of it is this project's.
 use Rattle.std.specs.Prelude.{ℕ, Bool, if◌then◌else◌, List, [], ◌∷◌, Option, Some, None, Result, Ok, Err}
 use Rattle.mkv_disk.specs.declared.disk.Disk.{Ghosts}
 use Rattle.mkv_lines.specs.Line.{bad_sidecar_line, foreign_line, missing_line, nothing_line, recovered_line}

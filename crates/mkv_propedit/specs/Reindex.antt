@@ -1,4 +1,4 @@
--- What `reindex` comes to: its status and its lines.
+-- What `reindex` comes to: its status and its lines. All of it is this project's.
 use Rattle.std.specs.Prelude.{ℕ, ◌+◌, ◌*◌, Bool, List, [], ◌∷◌, length, Result, Ok, Err}
 use Rattle.mkv_lines.specs.Line.{reindexed_line}
 use Rattle.mkv_lines.specs.Verdict.{Verdict, done, refused}

@@ -1,15 +1,15 @@
 //! Properties of a file are edited in place.
 
-ghost use Rattle.std.specs.Prelude.{◌≤◌, ◌+◌, IfOk, length};
-ghost use Rattle.mkv_disk.specs.Calls.{AtRest, OfReads};
+ghost use Rattle.std.specs.Prelude.{IfOk};
+ghost use Rattle.mkv_disk.specs.Calls.{AtRest};
 ghost use Rattle.mkv_lines.specs.Code.{status_of};
 ghost use Rattle.mkv_lines.specs.Ordinary.{IsOrdinary};
 ghost use Rattle.mkv_lines.specs.Said.{SaysLast};
-ghost use Rattle.mkv_lines.specs.Verdict.{SaysVerdict};
 ghost use Rattle.mkv_propedit.specs.Bound.{most_to_edit};
 ghost use Rattle.mkv_propedit.specs.Left.{IsEditOf, writes_of_edits};
 ghost use Rattle.mkv_propedit.specs.Propedit.{propedit_verdict};
 ghost use Rattle.mkv_propedit.specs.Recovery.{HasDiskStop};
+ghost use Rattle.mkv_propedit.specs.Command.{ReadsOfDisk, SaysOfDisk};
 
 use crate::change::FileChange;
 use crate::changing::change_file;
@@ -29,12 +29,11 @@ pub fn propedit_of<D: Disk, R: Report>(
     report: &mut R,
 ) -> Result<Status, Stop>
     requires { AtRest D.Disk.own disk.old }
-    ensures verdict { OfReads D.Disk.own disk.old (λ M S. SaysVerdict (R.lines report.old) (R.lines report.new) result
-        (propedit_verdict (D.is_there disk.old name.now) name.now edits.now M S)) }
+    ensures verdict { SaysOfDisk D.Disk.own R.Report disk.old report.old report.new result
+        (propedit_verdict (D.is_there disk.old name.now) name.now edits.now) }
     ensures ordinary { IfOk result IsOrdinary }
     ensures edit { IsEditOf D.Reads D.Disk.own name.now (writes_of_edits edits.now) disk.old disk.new (status_of result) }
-    ensures octets { OfReads D.Disk.own disk.old (λ M S.
-        D.octets_read disk.new ≤ D.octets_read disk.old + most_to_edit (length M)) }
+    ensures octets { ReadsOfDisk D.Reads D.Disk.own disk.old disk.new most_to_edit }
     ensures cause { HasDiskStop D.Reads D.Disk.own disk.old disk.new (R.faults report.old) (R.faults report.new) result }
     ensures last { SaysLast (R.lines report.old) (R.lines report.new) result }
 {

@@ -1,7 +1,10 @@
 -- A walk over the Elements of level 1 that keeps the last Cluster before a place.
-use Rattle.std.specs.Prelude.{◌≡◌, ◌≤◌, ℕ, ◌+◌, ◌*◌, ◌-◌, List, [], ◌∷◌, Option, Some, None}
+use Rattle.std.specs.Prelude.{◌≡◌, ◌≤◌, ℕ, ◌+◌, ◌*◌, ◌-◌, List, [], ◌∷◌, Option, Some, None, Result}
 use Rattle.std.specs.Option.{option_or}
 use Rattle.mkv_io.specs.LiveFiles.{LiveFiles}
+use Rattle.mkv_io.specs.Sources.{IfTold}
+use Rattle.mkv_io.specs.declared.reads.Reads.{Ghosts}
+use Rattle.elements.specs.Looks.{Goes}
 use Rattle.mkv_schema.specs.declared.element.Header.{Header}
 use Rattle.mkv_schema.specs.Order.{AscendFrom}
 use Rattle.element_reader.specs.LevelOne.{CanRead, left}
@@ -40,6 +43,10 @@ pub record HasReached (bytes : List ℕ) (list : List Header) (c : Clusters) : T
   pub come : HasComeTo bytes list c
   pub last : c.last ≡ cluster_before c.reached list
 
+-- It has reached its place in the file, where that is told.
+abbrev pub HasReachedIn : {S : Type 0} → Ghosts S → S → Clusters → Clusters → Type 0
+HasReachedIn r src old new = IfTold r src old.level.file (λ bytes. (list : List Header) → HasComeTo bytes list old → HasReached bytes list new)
+
 -- The next Element was looked at, if there is one.
 pub record LooksAt (bytes : List ℕ) (old new : Clusters) (found : Option Header) : Type 0 where
   pub same : due bytes new ≡ due bytes old
@@ -49,6 +56,10 @@ pub record LooksAt (bytes : List ℕ) (old new : Clusters) (found : Option Heade
 pub record HoldsNext (old new : Clusters) (found : Option Header) : Type 0 where
   pub next : new.next ≡ found
   pub further : steps_left new ≤ steps_left old
+
+-- It has gone on from its place, and the way pays for what was read.
+abbrev pub PaysOn : {S T E : Type 0} → Ghosts S → S → S → Clusters → Clusters → Result T E → Type 0
+PaysOn r src src' old new result = Goes r old.level.file old.level.at (λ _. new.level.at) old.level.ahead new.level.ahead src src' result
 
 -- The walk can go on: it stands in its Segment, and in a live file.
 pub record IsReady (files : LiveFiles) (c : Clusters) : Type 0 where

@@ -1,17 +1,26 @@
 -- The points of a file as they are read.
 use Rattle.std.specs.Prelude.{◌≡◌, ◌≤◌, ⊤, ℕ, ◌+◌, if◌then◌else◌, List, [], ◌∷◌, ◌++◌, map, take, slice_get, Option, Some, None, Result, Ok, Err}
+use Rattle.mkv_io.specs.Sources.{IfTold}
 use Rattle.mkv_io.specs.declared.damage.Damage.{Damage}
+use Rattle.mkv_io.specs.declared.outside.FileId.{FileId}
+use Rattle.mkv_io.specs.declared.reads.Reads.{Ghosts}
 use Rattle.mkv_schema.specs.declared.element.Header.{Header}
 use Rattle.mkv_schema.specs.Outline.{unless}
+use Rattle.element_reader.specs.Outline.{FileOutline, outline_in}
 use Rattle.element_reader.specs.declared.outline_end.OutlineEnd.{OutlineEnd}
 use Rattle.element_reader.specs.declared.outline_end.OutlineEnd.TheVariants as outline_end
 use Rattle.tree_format.specs.Node.{Node}
 use Rattle.file_format.specs.Entry.{number_of}
 use Rattle.block_format.specs.Block.{Block}
 use Rattle.block_format.specs.Events.{Event, blocks_of, damages_of}
+use Rattle.block_records.specs.Buffered.{Buffered, block_of}
+use Rattle.cluster_reader.specs.Reading.{Reading, left_of}
+use Rattle.edit_changes.specs.Records.{trees_of}
+use Rattle.edit_changes.specs.declared.trees.Trees.{Trees}
 use Rattle.output_model.specs.declared.TheConstants.{MOST_CUES}
 use Rattle.output_model.specs.declared.places.CuePoint.{CuePoint}
 use Rattle.reindex.specs.Clusters.{HasComeTo}
+use Rattle.reindex.specs.Index.{points_of}
 use Rattle.reindex.specs.Points.{is_indexed, is_indexed_track, points_among, points_to}
 use Rattle.reindex.specs.declared.clusters.Clusters.{Clusters}
 use Rattle.reindex.specs.declared.indexing.Indexing.{Indexing}
@@ -53,3 +62,19 @@ BlocksAscend p (b ∷ bs) = (p ≤ b.offset) × BlocksAscend (b.offset + 1) bs
 pub record AddsPoint (i : Indexing) (list : List Header) (bytes : List ℕ) (b : Block) (old new : List Point) (clusters : Clusters) : Type 0 where
   pub come : HasComeTo bytes list clusters
   pub points : cues_of new ≡ take MOST_CUES (cues_of old ++ points_for i list b)
+
+-- the same of the file in which the Clusters are looked for, where it is told
+abbrev pub AddsPointIn : {S : Type 0} → Ghosts S → S → Indexing → Buffered → List Point → List Point → Clusters → Clusters → Type 0
+AddsPointIn r src i given old new before clusters = IfTold r src before.level.file (λ bytes. (list : List Header)
+    → HasComeTo bytes list before → before.reached ≤ given.head.offset → AddsPoint i list bytes (block_of given) old new clusters)
+
+-- The points of the blocks that a cursor has left are these, where its file is told.
+abbrev pub ReadsLeft : {S : Type 0} → Ghosts S → S → Indexing → Clusters → Reading → Result (List Point) OutlineEnd → Type 0
+ReadsLeft r src i clusters cursor result = IfTold r src cursor.file (λ bytes. (list : List Header)
+    → HasComeTo bytes list clusters → BlocksAscend clusters.reached (blocks_of (left_of bytes cursor))
+    → ReadsPoints (points_in i list (left_of bytes cursor)) result)
+
+-- The points of a file with this outline and these trees are these, where it is told.
+abbrev pub ReadsAll : {S : Type 0} → Ghosts S → S → FileId → FileOutline → Trees → Result (List Point) OutlineEnd → Type 0
+ReadsAll r src file outline trees result = IfTold r src file (λ bytes. (held : ℕ) → outline_in held bytes ≡ Ok outline
+    → trees_of bytes outline.segment ≡ Ok trees → ReadsPoints (points_of bytes outline.segment trees.tracks) result)

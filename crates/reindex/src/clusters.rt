@@ -1,14 +1,12 @@
 //! The Cluster in which a block stands: RFC 9559, section 5.1.3 (Cluster Element).
 
-ghost use Rattle.std.specs.Prelude.{◌≡◌, ◌==◌, ◌≤◌, ◌<◌, ℕ, List, [], Some, None, max, length, IfOk, IfSome, if◌then◌else◌};
+ghost use Rattle.std.specs.Prelude.{◌≡◌, ◌==◌, ℕ, List, Some, None, max, length, IfOk, if◌then◌else◌, OnOk};
 ghost use Rattle.mkv_io.specs.Faults.{HasCause, is_failure};
 ghost use Rattle.mkv_io.specs.Sources.{IfTold, OnlyReads, live_files};
-ghost use Rattle.mkv_schema.specs.declared.element.Header.{Header as AnyHeader};
 ghost use Rattle.mkv_schema.specs.declared.ids.TheConstants.{CLUSTER as CLUSTER_ID};
 ghost use Rattle.mkv_schema.specs.Outline.{segment_run};
-ghost use Rattle.elements.specs.Looks.{Goes};
 ghost use Rattle.element_reader.specs.LevelOne.{first_place};
-ghost use Rattle.reindex.specs.Clusters.{HasComeTo, HasReached, HoldsNext, IsReady, LooksAt, StaysReady};
+ghost use Rattle.reindex.specs.Clusters.{HasComeTo, HoldsNext, IsReady, LooksAt, StaysReady, PaysOn, HasReachedIn};
 
 use element_reader::{Header, LevelOne, Outline};
 use mkv_io::{Failed, FileId, Reads};
@@ -52,8 +50,7 @@ impl Clusters {
         ensures kept { (self.new.last ≡ self.old.last) × (self.new.reached ≡ self.old.reached) }
         ensures same { OnlyReads R.Reads src.old src.new }
         ensures cause { HasCause is_failure (R.reading_faults src.old) (R.reading_faults src.new) result }
-        ensures goes { Goes R.Reads self.old.level.file self.old.level.at (λ _. self.new.level.at)
-            self.old.level.ahead self.new.level.ahead src.old src.new result }
+        ensures goes { PaysOn R.Reads src.old src.new self.old self.new result }
     {
         if self.next.is_none() {
             self.next = self.level.next(src)?;
@@ -77,14 +74,12 @@ impl Clusters {
     /// Goes on to a place, or stays where it is already behind it. After `Failed` the walk can be gone on with.
     pub fn go_to<R: Reads>(&mut self, src: &mut R, at: u64) -> Result<(), Failed>
         requires { IsReady (live_files R.Reads src.old) self.old }
-        ensures exact { IfOk result (λ _. IfTold R.Reads src.old self.old.level.file (λ bytes. (list : List AnyHeader)
-            → HasComeTo bytes list self.old → HasReached bytes list self.new)) }
+        ensures exact { OnOk result (HasReachedIn R.Reads src.old self.old self.new) }
         ensures reached { self.new.reached ≡ max self.old.reached at }
         ensures ready { StaysReady (live_files R.Reads src.new) self.old self.new }
         ensures same { OnlyReads R.Reads src.old src.new }
         ensures cause { HasCause is_failure (R.reading_faults src.old) (R.reading_faults src.new) result }
-        ensures goes { Goes R.Reads self.old.level.file self.old.level.at (λ _. self.new.level.at)
-            self.old.level.ahead self.new.level.ahead src.old src.new result }
+        ensures goes { PaysOn R.Reads src.old src.new self.old self.new result }
     {
         self.reached = self.reached.max(at);
         'passing: while let Some(header) = self.look(src)? {

@@ -1,20 +1,14 @@
 //! The points of a file are read.
 
-ghost use Rattle.std.specs.Prelude.{◌≡◌, ◌≤◌, ◌+◌, ◌*◌, ℕ, List as AnyList, Ok, max, length, IfOk, OnOk};
+ghost use Rattle.std.specs.Prelude.{◌≡◌, ◌≤◌, ◌+◌, ◌*◌, max, length, IfOk, OnOk};
 ghost use Rattle.mkv_io.specs.Faults.{HasCause, is_read_fault};
-ghost use Rattle.mkv_io.specs.Sources.{IfTold, IsLive, OnlyReads, file_size, live_files};
-ghost use Rattle.mkv_schema.specs.declared.element.Header.{Header};
-ghost use Rattle.elements.specs.Looks.{Goes};
+ghost use Rattle.mkv_io.specs.Sources.{IsLive, OnlyReads, file_size, live_files};
 ghost use Rattle.elements.specs.Window.{HasNotPassed};
-ghost use Rattle.element_reader.specs.Outline.{is_outline_fault, outline_in};
-ghost use Rattle.block_format.specs.Events.{blocks_of};
-ghost use Rattle.block_records.specs.Buffered.{block_of};
-ghost use Rattle.cluster_reader.specs.Reading.{CanRead, left_of};
-ghost use Rattle.edit_changes.specs.Records.{trees_of};
+ghost use Rattle.element_reader.specs.Outline.{is_outline_fault};
+ghost use Rattle.cluster_reader.specs.Reading.{CanRead};
 ghost use Rattle.edit_changes.specs.Trees.{AreSound};
-ghost use Rattle.reindex.specs.Clusters.{HasComeTo, IsReady, StaysReady};
-ghost use Rattle.reindex.specs.Index.{points_of};
-ghost use Rattle.reindex.specs.Reading.{AddsPoint, BlocksAscend, ReadsPoints, points_in};
+ghost use Rattle.reindex.specs.Clusters.{IsReady, StaysReady, PaysOn};
+ghost use Rattle.reindex.specs.Reading.{AddsPointIn, ReadsAll, ReadsLeft};
 
 use crate::clusters::Clusters;
 use crate::indexing::Indexing;
@@ -39,16 +33,13 @@ fn add_point<R: Reads>(
     requires scale { 1 ≤ by.now.scale }
     requires few { length points.old ≤ MOST_CUES }
     requires ready { IsReady (live_files R.Reads src.old) clusters.old }
-    ensures adds { IfOk result (λ _. IfTold R.Reads src.old clusters.old.level.file (λ bytes. (list : AnyList Header)
-        → HasComeTo bytes list clusters.old → clusters.old.reached ≤ cursor.now.block.head.offset
-        → AddsPoint by.now list bytes (block_of cursor.now.block) points.old points.new clusters.new)) }
+    ensures adds { OnOk result (AddsPointIn R.Reads src.old by.now cursor.now.block points.old points.new clusters.old clusters.new) }
     ensures few { length points.new ≤ MOST_CUES }
     ensures reached { clusters.new.reached ≤ max clusters.old.reached cursor.now.block.head.offset }
     ensures ready { StaysReady (live_files R.Reads src.new) clusters.old clusters.new }
     ensures same { OnlyReads R.Reads src.old src.new }
     ensures cause { HasCause is_read_fault (R.reading_faults src.old) (R.reading_faults src.new) result }
-    ensures goes { Goes R.Reads clusters.old.level.file clusters.old.level.at (λ _. clusters.new.level.at)
-        clusters.old.level.ahead clusters.new.level.ahead src.old src.new result }
+    ensures goes { PaysOn R.Reads src.old src.new clusters.old clusters.new result }
 {
     if points.len() >= MOST_CUES || !by.is_indexed(cursor) {
         return Ok(());
@@ -74,9 +65,7 @@ fn collect<R: Reads>(
     requires ready { IsReady (live_files R.Reads src.old) clusters.old }
     requires window { HasNotPassed clusters.old.level.ahead clusters.old.level.at
         (file_size R.Reads src.old cursor.old.file) }
-    ensures exact { IfTold R.Reads src.old cursor.old.file (λ bytes. (list : AnyList Header)
-        → HasComeTo bytes list clusters.old → BlocksAscend clusters.old.reached (blocks_of (left_of bytes cursor.old))
-        → ReadsPoints (points_in by.now list (left_of bytes cursor.old)) result) }
+    ensures exact { ReadsLeft R.Reads src.old by.now clusters.old cursor.old result }
     ensures few { IfOk result (λ points. length points ≤ MOST_CUES) }
     ensures standing { R.standing src.new ≡ R.standing src.old }
     ensures cause { HasCause is_outline_fault (R.reading_faults src.old) (R.reading_faults src.new) result }
@@ -104,9 +93,7 @@ pub fn read_points<R: Reads>(
     requires live { IsLive R.Reads src.old file }
     requires whole { outline.now.total ≡ file_size R.Reads src.old file }
     requires sound { AreSound trees.now }
-    ensures exact { IfTold R.Reads src.old file (λ bytes. (held : ℕ) → outline_in held bytes ≡ Ok outline.now
-        → trees_of bytes outline.now.segment ≡ Ok trees.now
-        → ReadsPoints (points_of bytes outline.now.segment trees.now.tracks) result) }
+    ensures exact { ReadsAll R.Reads src.old file outline.now trees.now result }
     ensures few { IfOk result (λ points. length points ≤ MOST_CUES) }
     ensures standing { R.standing src.new ≡ R.standing src.old }
     ensures cause { HasCause is_outline_fault (R.reading_faults src.old) (R.reading_faults src.new) result }
