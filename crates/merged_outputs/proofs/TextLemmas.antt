@@ -26,7 +26,7 @@ use Rattle.srt_texts.specs.Lines.{lines_of}
 use Rattle.srt_texts.proofs.FieldsLemmas.{most_digits}
 use Rattle.mkv_io.specs.declared.entry.Entry.{Entry}
 use Rattle.srt_texts.specs.Times.{clock, is_number, is_tail, latest, seconds, span, times}
-use Rattle.srt_texts.specs.Srt.{Front, before_head, by_start, entries, entry, first_bad, head, insert_by, onto_entries, sorted_by, srt}
+use Rattle.srt_texts.specs.Srt.{before_head, by_start, entries, entry, first_bad, head, insert_by, onto_entries, sorted_by, srt}
 use Rattle.srt_texts.specs.Srt.{unless_bad as unless_bad_line}
 use Rattle.srt_texts.specs.Reading.{IsEntryWithin}
 use Rattle.srt_texts.proofs.LengthLemmas.{texts_short}
@@ -176,7 +176,7 @@ entries-within bytes es = of (nat_lt MOST_OF_SRT (length bytes)) refl
 
     of : (long : Bool) → nat_lt MOST_OF_SRT (length bytes) ≡ long → (if long then Err TooLarge else unless_bad (srt bytes)) ≡ Ok es → All (IsEntryWithin MOST_OF_SRT) es
     of true long is = absurd (cc)
-    of false long is = good (first_bad Front 1 (lines_of bytes)) (grind (arith, nat_tests)) is
+    of false long is = good (first_bad (lines_of bytes)) (grind (arith, nat_tests)) is
 
 -- Each is a block as a reader finds it.
 pub entry-read : (e : Entry) → IsEntryWithin MOST_OF_SRT e → IsReadBlock (entry_block e)

@@ -1,4 +1,4 @@
--- Contents that hold a merge.
+-- Contents that hold a merge. What a content holds is RFC 9559's; which merge that is to be is this project's.
 use Rattle.std.specs.Prelude.{◌≡◌, ⊤, ℕ, false, List, All, IfSome, Option, None, Some, Ok, filter, length, map}
 use Rattle.mkv_io.specs.Names.{Names}
 use Rattle.mkv_io.specs.Told.{Told}

@@ -6,9 +6,11 @@ use Rattle.std.specs.Str.{is_utf8}
 use Rattle.std.specs.Str.Lines.{lines}
 use Rattle.srt_texts.specs.Pieces.{two_digits, three_digits, two_or_more, stamp}
 use Rattle.srt_texts.specs.declared.chapter_reading.Chapter.{Chapter}
-use Rattle.srt_texts.specs.Pairs.{pairs, simple, first_line, second_line, time_of}
+use Rattle.srt_texts.specs.Lines.{lines_of}
+use Rattle.srt_texts.specs.Pairs.{first_line, second_line, time_of}
+use Rattle.srt_texts.specs.Turn.{pairs}
 use Rattle.srt_texts.specs.ChapterWriting.{put_pair}
-use Rattle.srt_texts.proofs.PairsLemmas.{first_good, second_good, pairs_end}
+use Rattle.srt_texts.proofs.PairsLemmas.{first_good, second_good, pairs_end, simple_is}
 use Rattle.record_laws.specs.Plain.{lacks, ends_with_return, IsLine}
 use Rattle.record_laws.specs.SimpleChapters.{put_pairs, IsPlain, ChaptersAreReadBack}
 use Rattle.record_laws.proofs.DigitsLemmas.{digits_lack, cut_behind, two_all, padded_all, digits_two, digits_three, sixtieth_two, digits_padded}
@@ -115,10 +117,11 @@ read_back (c ∷ cs) k n plain few =
     let rest = read_back cs (k + 1) (n + 1 + 1) plain.1 (omega arith) in
     rw two (first ∙ (second ∙ rw (rest, start) refl))
 
-marked : (cs : List Chapter) → simple (put_pairs 1 cs) ≡ pairs (lines (put_pairs 1 cs)) 1 None
-unfolding simple put_pair
+marked : (cs : List Chapter) → lines_of (put_pairs 1 cs) ≡ lines (put_pairs 1 cs)
+unfolding put_pair
 marked [] = refl
 marked (c ∷ cs) = refl
 
 pub chapters_read_back : ChaptersAreReadBack
-chapters_read_back cs plain few = marked cs ∙ read_back cs 1 1 (all_plain cs plain) (omega arith)
+chapters_read_back cs plain few =
+    simple_is (put_pairs 1 cs) ∙ ap (λ ls. pairs ls 1 None) (marked cs) ∙ read_back cs 1 1 (all_plain cs plain) (omega arith)

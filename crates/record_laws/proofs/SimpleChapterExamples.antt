@@ -4,7 +4,7 @@ use Rattle.std.specs.Str.{is_utf8, chars}
 use lib.Utf8.{encode}
 use Rattle.srt_texts.specs.declared.chapter_reading.Chapter.{Chapter}
 use Rattle.srt_texts.specs.Fields.{cut, digits, sixtieth}
-use Rattle.srt_texts.specs.Pairs.{time_of, first_line, second_line, pairs, simple}
+use Rattle.srt_texts.specs.Pairs.{time_of, first_line, second_line, simple}
 use Rattle.record_laws.proofs.SubRipExamples.{text}
 
 -- a chapter: its start and its name
@@ -43,7 +43,7 @@ pub record AreChapters : Type 0 where
   pub missing : simple (intro ++ text (codes "CHAPTER02=00:00:01.000" ∷ [] ∷ [])) ≡ Err 5
 
 pub chapters : AreChapters
-unfolding simple pairs first_line second_line time_of cut digits sixtieth is_utf8 chars encode
+unfolding simple first_line second_line time_of cut digits sixtieth is_utf8 chars encode
 chapters = record {
   nothing = refl;
   one = refl;

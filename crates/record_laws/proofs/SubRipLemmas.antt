@@ -14,7 +14,9 @@ use Rattle.mkv_io.specs.declared.entry.Entry.{Entry}
 use Rattle.srt_texts.specs.Lines.{lines_of}
 use Rattle.srt_texts.specs.Pieces.{two_digits, three_digits, two_or_more, stamp}
 use Rattle.srt_texts.specs.Times.{is_number, times, span}
-use Rattle.srt_texts.specs.Srt.{Place, Front, Behind, has_arrow, head, before_head, entries, text_of, first_bad, is_bad, insert_by, sorted_by, by_start, srt}
+use Rattle.srt_texts.specs.Srt.{has_arrow, head, before_head, entries, text_of, first_bad, insert_by, sorted_by, by_start, srt}
+use Rattle.srt_texts.specs.Walk.{Place, Front, Behind, bad_from, is_bad_at}
+use Rattle.srt_texts.proofs.WalkLemmas.{bad_is}
 use Rattle.srt_texts.specs.Writing.{put_srt}
 use Rattle.srt_texts.proofs.SrtLemmas.{head_is, head_other, entries_other, entries_head, entries_end, bad_other, bad_head, bad_end, second_good, before_other, before_at, before_end}
 use Rattle.record_laws.specs.Plain.{ends_with_return, IsLine}
@@ -139,10 +141,10 @@ walk_before : (ls more : List (List ℕ)) → Plains ls → before_head more ≡
 walk_before [] more plain begins = before_other [] more (head_other [] more empty_number) ∙ ap (λ ls. [] ∷ ls) begins
 walk_before (l ∷ ls) more plain begins = before_other l (ls ++ ([] ∷ more)) (line_no_head l ls more plain.1) ∙ ap (λ ms. l ∷ ms) (walk_before ls more plain.1 begins)
 
-good_line : (l : List ℕ) → is_utf8 l ≡ true → has_arrow l ≡ false → is_bad Behind false l ≡ false
+good_line : (l : List ℕ) → is_utf8 l ≡ true → has_arrow l ≡ false → is_bad_at Behind false l ≡ false
 good_line l utf8 none = rw (utf8, none) refl
 
-walk_bad : (ls more : List (List ℕ)) (n : ℕ) → Plains ls → ((m : ℕ) → first_bad Behind m more ≡ None) → first_bad Behind n (ls ++ ([] ∷ more)) ≡ None
+walk_bad : (ls more : List (List ℕ)) (n : ℕ) → Plains ls → ((m : ℕ) → bad_from Behind m more ≡ None) → bad_from Behind n (ls ++ ([] ∷ more)) ≡ None
 walk_bad [] more n plain good = bad_other Behind n [] more (head_other [] more empty_number) (good_line [] (low_utf8 [] tt) arrow_none) ∙ good (n + 1)
 walk_bad (l ∷ ls) more n plain good =
     bad_other Behind n l (ls ++ ([] ∷ more)) (line_no_head l ls more plain.1) (good_line l plain.0.utf8 plain.0.no_arrow) ∙ walk_bad ls more (n + 1) plain.1 good
@@ -204,7 +206,7 @@ module _ (k : ℕ) (e : Entry) (few : k < 10 ^ 9) (plain : IsPlainEntry e) where
       let rest = walk_entries (lines_in e.text) more plains in
       found ∙ (ap (λ (f : Entry). f ∷ entries ls) same ∙ ap (λ es. e ∷ es) rest)
 
-  number_good : (is_bad Front true (decimal k) ≡ false) × (is_bad Behind true (decimal k) ≡ false)
+  number_good : (is_bad_at Front true (decimal k) ≡ false) × (is_bad_at Behind true (decimal k) ≡ false)
   number_good =
       let small : k < 2 ^ 64 = omega arith in
       let all = decimal_all k small in
@@ -212,8 +214,8 @@ module _ (k : ℕ) (e : Entry) (few : k < 10 ^ 9) (plain : IsPlainEntry e) where
       let none = lacks_arrow (decimal k) (digits_lack 45 (decimal k) refl all) in
       (rw (utf8, none) refl, rw (utf8, none) refl)
 
-  entry_good : (p : Place) (n : ℕ) (more : List (List ℕ)) → is_bad p true (decimal k) ≡ false → ((m : ℕ) → first_bad Behind m more ≡ None)
-      → first_bad p n (decimal k ∷ time_line a b ∷ (lines_in e.text ++ ([] ∷ more))) ≡ None
+  entry_good : (p : Place) (n : ℕ) (more : List (List ℕ)) → is_bad_at p true (decimal k) ≡ false → ((m : ℕ) → bad_from Behind m more ≡ None)
+      → bad_from p n (decimal k ∷ time_line a b ∷ (lines_in e.text ++ ([] ∷ more))) ≡ None
   entry_good p n more good rest =
       let ls : List (List ℕ) = lines_in e.text ++ ([] ∷ more) in
       let soon : a < 2 ^ 64 = (let h = early in omega arith) in
@@ -249,14 +251,14 @@ entries_back (e ∷ es) k plain few =
     rw (entry_lines k e small plain.0 (put_entries (k + 1) es))
     (entry_read k e small plain.0 more (begins es (k + 1) plain.1 (omega arith)) ∙ ap (λ fs. e ∷ fs) (entries_back es (k + 1) plain.1 (omega arith)))
 
-none_bad : (es : List Entry) (k n : ℕ) → AllPlain es → k + length es ≤ 10 ^ 9 → first_bad Behind n (lines (put_entries k es)) ≡ None
+none_bad : (es : List Entry) (k n : ℕ) → AllPlain es → k + length es ≤ 10 ^ 9 → bad_from Behind n (lines (put_entries k es)) ≡ None
 none_bad [] k n plain few = bad_end Behind n
 none_bad (e ∷ es) k n plain few =
     let small : k < 10 ^ 9 = omega arith in
     rw (entry_lines k e small plain.0 (put_entries (k + 1) es))
     (entry_good k e small plain.0 Behind n (lines (put_entries (k + 1) es)) (number_good k e small plain.0).1 (λ m. none_bad es (k + 1) m plain.1 (omega arith)))
 
-front_good : (es : List Entry) (k : ℕ) → AllPlain es → k + length es ≤ 10 ^ 9 → first_bad Front 1 (lines (put_entries k es)) ≡ None
+front_good : (es : List Entry) (k : ℕ) → AllPlain es → k + length es ≤ 10 ^ 9 → bad_from Front 1 (lines (put_entries k es)) ≡ None
 front_good [] k plain few = bad_end Front 1
 front_good (e ∷ es) k plain few =
     let small : k < 10 ^ 9 = omega arith in
@@ -284,6 +286,6 @@ unfolding srt
 entries_read_back es plain asc few =
     let each = all_plain es plain in
     let most : 1 + length es ≤ 10 ^ 9 = omega arith in
-    let good = front_good es 1 each most in
+    let good : first_bad (lines (put_entries 1 es)) ≡ None = bad_is (lines (put_entries 1 es)) ∙ front_good es 1 each most in
     let back = entries_back es 1 each most in
     rw (marked es, good, back) (ap Ok (sorted_back es asc))

@@ -1,5 +1,6 @@
 pub mod TimesLemmas
 pub mod SrtLemmas
+pub mod WalkLemmas
 pub mod SortLemmas
 pub mod WritingLemmas
 pub mod LengthLemmas

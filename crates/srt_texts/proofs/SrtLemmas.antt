@@ -9,7 +9,8 @@ use Rattle.std.specs.Str.{is_utf8, IsUtf8, bytes_eq}
 use Rattle.std.specs.List.{join_with_byte}
 use Rattle.srt_texts.specs.declared.times.Times.{Times}
 use Rattle.srt_texts.specs.Times.{is_number, times}
-use Rattle.srt_texts.specs.Srt.{has_arrow, Place, Front, Second, Behind, next, is_bad, head, before_head, trimmed, onto_lines, text_of, entry, entries, first_bad}
+use Rattle.srt_texts.specs.Srt.{has_arrow, head, before_head, trimmed, onto_lines, text_of, entry, entries}
+use Rattle.srt_texts.specs.Walk.{Place, Front, Second, Behind, next, is_bad_at, bad_from}
 use Rattle.srt_texts.specs.declared.reading.Head.{Head}
 use Rattle.srt_texts.specs.Times.{latest}
 use Rattle.srt_texts.specs.Reading.{IsWithin, left, breaks}
@@ -53,19 +54,19 @@ entries_head l t ls x is e =
     rw (h, none) refl
 
 -- ---- bad lines
-pub bad_other : (p : Place) (n : ℕ) (l : List ℕ) (ls : List (List ℕ)) → head (l ∷ ls) ≡ None → is_bad p false l ≡ false →
-    first_bad p n (l ∷ ls) ≡ first_bad (next p None) (n + 1) ls
-unfolding first_bad
+pub bad_other : (p : Place) (n : ℕ) (l : List ℕ) (ls : List (List ℕ)) → head (l ∷ ls) ≡ None → is_bad_at p false l ≡ false →
+    bad_from p n (l ∷ ls) ≡ bad_from (next p None) (n + 1) ls
+unfolding bad_from
 bad_other p n l ls none good = rw (none, good) refl
 
-pub bad_head : (p : Place) (n : ℕ) (l : List ℕ) (ls : List (List ℕ)) (x : Times) → head (l ∷ ls) ≡ Some x → is_bad p true l ≡ false →
-    first_bad p n (l ∷ ls) ≡ first_bad (Second x) (n + 1) ls
-unfolding first_bad
+pub bad_head : (p : Place) (n : ℕ) (l : List ℕ) (ls : List (List ℕ)) (x : Times) → head (l ∷ ls) ≡ Some x → is_bad_at p true l ≡ false →
+    bad_from p n (l ∷ ls) ≡ bad_from (Second x) (n + 1) ls
+unfolding bad_from
 bad_head p n l ls x h good = rw (h, good) refl
 
-pub bad_here : (p : Place) (n : ℕ) (l : List ℕ) (ls : List (List ℕ)) → is_bad p (is_some (head (l ∷ ls))) l ≡ true →
-    first_bad p n (l ∷ ls) ≡ Some n
-unfolding first_bad
+pub bad_here : (p : Place) (n : ℕ) (l : List ℕ) (ls : List (List ℕ)) → is_bad_at p (is_some (head (l ∷ ls))) l ≡ true →
+    bad_from p n (l ∷ ls) ≡ Some n
+unfolding bad_from
 bad_here p n l ls bad = rw bad refl
 
 -- ---- texts
@@ -130,8 +131,8 @@ pub entries_end : entries [] ≡ []
 unfolding entries
 entries_end = refl
 
-pub bad_end : (p : Place) (n : ℕ) → first_bad p n [] ≡ None
-unfolding first_bad
+pub bad_end : (p : Place) (n : ℕ) → bad_from p n [] ≡ None
+unfolding bad_from
 bad_end p n = refl
 
 pub trimmed_end : text_of [] ≡ []
@@ -154,17 +155,17 @@ or_last true a x e = refl
 or_last false true x e = refl
 or_last false false x e = e
 
-pub bad_front : (l : List ℕ) (b : Bool) → is_bad Behind false l ≡ true → is_bad Front b l ≡ true
+pub bad_front : (l : List ℕ) (b : Bool) → is_bad_at Behind false l ≡ true → is_bad_at Front b l ≡ true
 bad_front l b e = or_more (not (is_utf8 l)) (has_arrow l) (not (b || length l == 0)) e
 
-pub good_head : (l : List ℕ) → is_bad Behind false l ≡ false → is_bad Front true l ≡ false
+pub good_head : (l : List ℕ) → is_bad_at Behind false l ≡ false → is_bad_at Front true l ≡ false
 good_head l e = or_same (not (is_utf8 l)) (has_arrow l) e
 
-pub good_empty : (l : List ℕ) → length l ≡ 0 → is_bad Behind false l ≡ false → is_bad Front false l ≡ false
+pub good_empty : (l : List ℕ) → length l ≡ 0 → is_bad_at Behind false l ≡ false → is_bad_at Front false l ≡ false
 good_empty [] none e = or_same (not (is_utf8 [])) (has_arrow []) e
 good_empty (b ∷ bs) none e = absurd (omega arith)
 
-pub bad_some : (l : List ℕ) → 0 < length l → is_bad Front false l ≡ true
+pub bad_some : (l : List ℕ) → 0 < length l → is_bad_at Front false l ≡ true
 bad_some [] some = absurd (omega arith)
 bad_some (b ∷ bs) some = or_last (not (is_utf8 (b ∷ bs))) (has_arrow (b ∷ bs)) (not (false || length (b ∷ bs) == 0)) (grind (arith, nat_tests, common_steps))
 
@@ -179,16 +180,16 @@ late_bad false x e = refl
 both_good : (u x : Bool) → u ≡ true → x ≡ false → (not u || x) ≡ false
 both_good u x e f = rw (e, f) refl
 
-pub second_no_text : (n : ℕ) (t : List ℕ) (ls : List (List ℕ)) (x : Times) → is_utf8 t ≡ false → first_bad (Second x) n (t ∷ ls) ≡ Some n
+pub second_no_text : (n : ℕ) (t : List ℕ) (ls : List (List ℕ)) (x : Times) → is_utf8 t ≡ false → bad_from (Second x) n (t ∷ ls) ≡ Some n
 second_no_text n t ls x no_text = bad_here (Second x) n t ls (text_bad (is_utf8 t) (nat_lt x.end x.start) no_text)
 
-pub second_late : (n : ℕ) (t : List ℕ) (ls : List (List ℕ)) (x : Times) → x.end < x.start → first_bad (Second x) n (t ∷ ls) ≡ Some n
+pub second_late : (n : ℕ) (t : List ℕ) (ls : List (List ℕ)) (x : Times) → x.end < x.start → bad_from (Second x) n (t ∷ ls) ≡ Some n
 second_late n t ls x late =
     let is : nat_lt x.end x.start ≡ true = grind (arith, nat_tests) in
     bad_here (Second x) n t ls (late_bad (is_utf8 t) (nat_lt x.end x.start) is)
 
 pub second_good : (n : ℕ) (t : List ℕ) (ls : List (List ℕ)) (x : Times) → times t ≡ Some x → is_utf8 t ≡ true → x.start ≤ x.end →
-    first_bad (Second x) n (t ∷ ls) ≡ first_bad Behind (n + 1) ls
+    bad_from (Second x) n (t ∷ ls) ≡ bad_from Behind (n + 1) ls
 second_good n t ls x e text right =
     let is : nat_lt x.end x.start ≡ false = grind (arith, nat_tests) in
     bad_other (Second x) n t ls (head_second t ls x e) (both_good (is_utf8 t) (nat_lt x.end x.start) text is)

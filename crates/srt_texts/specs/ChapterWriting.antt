@@ -1,14 +1,15 @@
 -- How simple chapters are written, in this project's grammar.
 use Rattle.std.specs.Prelude.{ℕ, ◌/◌, List, [], ◌∷◌, ◌++◌, codes}
+use Rattle.srt_texts.specs.Characters.{EQUALS, LINE_FEED, POINT}
 use Rattle.srt_texts.specs.declared.pieces.Piece.{Piece}
 use Rattle.srt_texts.specs.declared.pieces.Piece.TheVariants.{Time}
 use Rattle.srt_texts.specs.Pieces.{two_or_more, stamp}
 
 abbrev pub time : ℕ → Piece
-time ms = Time 46 ms
+time ms = Time POINT ms
 
 -- the two lines of a chapter: its number and its time, in whole milliseconds, and its number and its name
 unfoldable pub put_pair : ℕ → ℕ → List ℕ → List ℕ
 put_pair number start name =
-    codes "CHAPTER" ++ (two_or_more number ++ (61 ∷ (stamp 46 (start / 1000000) ++ (10 ∷
-    (codes "CHAPTER" ++ (two_or_more number ++ (codes "NAME=" ++ (name ++ (10 ∷ [])))))))))
+    codes "CHAPTER" ++ (two_or_more number ++ (EQUALS ∷ (stamp POINT (start / 1000000) ++ (LINE_FEED ∷
+    (codes "CHAPTER" ++ (two_or_more number ++ (codes "NAME=" ++ (name ++ (LINE_FEED ∷ [])))))))))

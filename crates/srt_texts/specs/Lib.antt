@@ -1,5 +1,7 @@
+pub mod Characters
 pub mod Times
 pub mod Srt
+pub mod Walk
 pub mod Reading
 pub mod Writing
 pub mod Lines

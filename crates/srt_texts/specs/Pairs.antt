@@ -1,6 +1,8 @@
 -- Simple chapters, in this project's grammar: a line with a chapter's time and a line with its name, for each chapter.
-use Rattle.std.specs.Prelude.{ℕ, ◌+◌, ◌*◌, if◌then◌else◌, List, [], ◌∷◌, codes, Option, Some, None, Result, Ok, Err}
+use Rattle.std.specs.Prelude.{ℕ, ◌+◌, ◌*◌, ◌==◌, not, if◌then◌else◌, List, [], ◌∷◌, ◌++◌, length, map, codes, Option, Some, None, ok_or, Result, Ok, Err}
+use Rattle.std.specs.List.{enumerate_from, filter}
 use Rattle.std.specs.Str.{is_utf8}
+use Rattle.srt_texts.specs.Characters.{COLON, EQUALS, POINT}
 use Rattle.srt_texts.specs.Lines.{lines_of}
 use Rattle.srt_texts.specs.Fields.{◌>>=◌, cut, behind, digits, sixtieth}
 use Rattle.srt_texts.specs.declared.chapter_reading.Chapter.{Chapter}
@@ -8,25 +10,25 @@ use Rattle.srt_texts.specs.declared.chapter_reading.Chapter.{Chapter}
 -- `HH:MM:SS.mmm`, in nanoseconds
 unfoldable pub time_of : List ℕ → Option ℕ
 time_of word = do
-  h ← cut 58 word
-  m ← cut 58 h.1
-  s ← cut 46 m.1
+  h ← cut COLON word
+  m ← cut COLON h.1
+  s ← cut POINT m.1
   hours ← digits 2 2 h.0
   minutes ← sixtieth m.0
   seconds ← sixtieth s.0
   thousandths ← digits 3 3 s.1
   Some (((hours * 60 + minutes) * 60000 + (seconds * 1000 + thousandths)) * 1000000)
 
--- a pair whose second line is due: the digits of its number, and its time
-pub record Due : Type 0 where
+-- what the first line of a pair says: the digits of its number, and its time
+pub record Timed : Type 0 where
   pub number : List ℕ
   pub start : ℕ
 
 -- `CHAPTERnn=` and a time, where nn is two to four digits
-unfoldable pub first_line : List ℕ → Option Due
+unfoldable pub first_line : List ℕ → Option Timed
 first_line line = do
   rest ← behind (codes "CHAPTER") line
-  p ← cut 61 rest
+  p ← cut EQUALS rest
   n ← digits 2 4 p.0
   t ← time_of p.1
   Some (record { number = p.0; start = t })
@@ -39,34 +41,57 @@ second_line number line = do
   name ← behind (codes "NAME=") rest
   if is_utf8 name then Some name else None
 
+-- a chapter that starts at this time and has this name
 abbrev pub chapter : ℕ → List ℕ → Chapter
 chapter start name = record { start = start; name = name }
 
--- a chapter, and those behind it
-abbrev pub onto_chapters : Chapter → Result (List Chapter) ℕ → Result (List Chapter) ℕ
-onto_chapters c (Ok cs) = Ok (c ∷ cs)
-onto_chapters c (Err n) = Err n
+-- ---- the lines of a file
 
--- a first line, and what stands behind it; where it is none, the line of this number is bad
-abbrev pub after_first : ℕ → Option Due → (Option Due → Result (List Chapter) ℕ) → Result (List Chapter) ℕ
-after_first n None rest = Err n
-after_first n (Some due) rest = rest (Some due)
+-- a line and its number
+pub record Line : Type 0 where
+  pub number : ℕ
+  pub words : List ℕ
 
--- the same of a second line, whose pair starts at this time
-abbrev pub after_second : ℕ → ℕ → Option (List ℕ) → Result (List Chapter) ℕ → Result (List Chapter) ℕ
-after_second n start None rest = Err n
-after_second n start (Some name) rest = onto_chapters (chapter start name) rest
+-- the line of this number
+abbrev pub numbered : ℕ → List ℕ → Line
+numbered number words = record { number = number; words = words }
 
--- The chapters of these lines, of which the first has this number, where the second line of a pair may be due;
--- or the number of the first bad line. Empty lines count and say nothing; where a second line is missing, the
--- line behind the last is bad.
-unfoldable pub pairs : List (List ℕ) → ℕ → Option Due → Result (List Chapter) ℕ
-pairs [] n None = Ok []
-pairs [] n (Some due) = Err n
-pairs ([] ∷ ls) n due = pairs ls (n + 1) due
-pairs ((b ∷ bs) ∷ ls) n None = after_first n (first_line (b ∷ bs)) (λ due. pairs ls (n + 1) due)
-pairs ((b ∷ bs) ∷ ls) n (Some due) = after_second n due.start (second_line due.number (b ∷ bs)) (pairs ls (n + 1) None)
+-- all lines, which count from 1
+abbrev pub all_lines : List (List ℕ) → List Line
+all_lines ls = map (λ (p : ℕ × List ℕ). numbered p.0 p.1) (enumerate_from 1 ls)
 
--- the chapters of a file, or the number of its first bad line
+-- those that aren't empty
+abbrev pub filled : List (List ℕ) → List Line
+filled ls = filter (λ (l : Line). not (length l.words == 0)) (all_lines ls)
+
+-- and the line behind the last, where a name that is missing is told
+abbrev pub with_end : List (List ℕ) → List Line
+with_end ls = filled ls ++ numbered (length ls + 1) [] ∷ []
+
+-- two by two; one that is left over is left out
+abbrev pub two_by_two : {X : Type 0} → List X → List (X × X)
+two_by_two [] = []
+two_by_two (x ∷ []) = []
+two_by_two (x ∷ y ∷ xs) = (x, y) ∷ two_by_two xs
+
+-- ---- chapters
+
+-- what is made of an answer that is no refusal
+abbrev pub and_then : {X Y : Type 0} → Result X ℕ → (X → Result Y ℕ) → Result Y ℕ
+and_then (Ok x) then_ = then_ x
+and_then (Err n) then_ = Err n
+
+-- the chapter of two lines, or the number of the first that isn't what it has to be
+abbrev pub chapter_of : Line → Line → Result Chapter ℕ
+chapter_of a b =
+    and_then (ok_or (first_line a.words) a.number) (λ first.
+    and_then (ok_or (second_line first.number b.words) b.number) (λ name. Ok (chapter first.start name)))
+
+-- the chapters of all pairs, or the first refusal
+abbrev pub chapters_of : List (Line × Line) → Result (List Chapter) ℕ
+chapters_of [] = Ok []
+chapters_of (p ∷ ps) = and_then (chapter_of p.0 p.1) (λ c. and_then (chapters_of ps) (λ cs. Ok (c ∷ cs)))
+
+-- The chapters of a file, two lines that aren't empty for each, or the number of its first bad line.
 unfoldable pub simple : List ℕ → Result (List Chapter) ℕ
-simple content = pairs (lines_of content) 1 None
+simple content = chapters_of (two_by_two (with_end (lines_of content)))

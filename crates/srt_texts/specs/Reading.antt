@@ -1,12 +1,14 @@
 -- What is known while a SubRip file is read.
 use Rattle.std.specs.Prelude.{◌≡◌, ◌<◌, ◌≤◌, ⊤, All, ℕ, zero, suc, ◌+◌, List, [], ◌∷◌, length, Option, Some, None, Result, Ok, Err}
 use Rattle.std.specs.Str.Lines.{lines}
+use Rattle.srt_texts.specs.Characters.{LINE_FEED}
 use Rattle.srt_texts.specs.declared.reading.Head.{Head}
 use Rattle.mkv_io.specs.declared.entry.Entry.{Entry}
 use Rattle.srt_texts.specs.declared.end.TextEnd.{TextEnd}
 use Rattle.srt_texts.specs.Ends.{Blames}
 use Rattle.srt_texts.specs.Times.{latest}
-use Rattle.srt_texts.specs.Srt.{Place, Second, Behind, head, before_head, entry, entries, first_bad}
+use Rattle.srt_texts.specs.Srt.{head, before_head, entry, entries}
+use Rattle.srt_texts.specs.Walk.{Second, Behind, bad_from}
 use Rattle.srt_texts.specs.declared.times.Times.{Times}
 
 -- the entries from a head on
@@ -17,12 +19,11 @@ entries_at (Some h) = entry h.times (before_head (lines h.rest.now)) ∷ entries
 -- the first bad line behind a head
 abbrev pub bad_at : Option Head → Option ℕ
 bad_at None = None
-bad_at (Some h) = first_bad Behind (h.number + 1) (lines h.rest.now)
+bad_at (Some h) = bad_from Behind (h.number + 1) (lines h.rest.now)
 
--- These lines, which stand at this place and of which the first has this number, have the entries from the head
--- on, and the first bad line behind it.
-abbrev pub GoesOn : Place → ℕ → List (List ℕ) → Option Head → Type 0
-GoesOn place n ls h = (entries ls ≡ entries_at h) × (first_bad place n ls ≡ bad_at h)
+-- These lines, whose first bad line is this, have the entries from the head on, and the first bad line behind it.
+abbrev pub GoesOn : Option ℕ → List (List ℕ) → Option Head → Type 0
+GoesOn bad ls h = (entries ls ≡ entries_at h) × (bad ≡ bad_at h)
 
 -- The head was read from these octets, before which so many lines stand: what is behind it is shorter, and its
 -- times are in order and not too late.
@@ -47,11 +48,11 @@ AreWithin most es = (length es ≤ most) × All (IsEntryWithin most) es
 -- so many line feeds
 abbrev pub breaks : ℕ → List ℕ
 breaks zero = []
-breaks (suc n) = 10 ∷ breaks n
+breaks (suc n) = LINE_FEED ∷ breaks n
 
 -- what is known of a line, of those behind it, and of the head that may begin with it
 abbrev pub HeadRead : List ℕ → List (List ℕ) → ℕ → Result (Option Head) TextEnd → Type 0
 HeadRead l ls n (Ok None) = head (l ∷ ls) ≡ None
 HeadRead l ls n (Ok (Some h)) =
-    (head (l ∷ ls) ≡ Some h.times) × (entries (l ∷ ls) ≡ entries_at (Some h)) × (first_bad (Second h.times) (n + 1) ls ≡ bad_at (Some h))
-HeadRead l ls n (Err e) = (t : Times) × (head (l ∷ ls) ≡ Some t) × Blames e (first_bad (Second t) (n + 1) ls)
+    (head (l ∷ ls) ≡ Some h.times) × (entries (l ∷ ls) ≡ entries_at (Some h)) × (bad_from (Second h.times) (n + 1) ls ≡ bad_at (Some h))
+HeadRead l ls n (Err e) = (t : Times) × (head (l ∷ ls) ≡ Some t) × Blames e (bad_from (Second t) (n + 1) ls)

@@ -1,8 +1,9 @@
 -- SubRip, in this project's grammar.
-use Rattle.std.specs.Prelude.{ℕ, ◌+◌, ◌-◌, Bool, false, not, ◌||◌, ◌==◌, nat_lt, if◌then◌else◌, List, [], ◌∷◌, length, take, drop, codes, Option, Some, None, Result, Ok, Err}
-use Rattle.std.specs.Option.{is_some}
-use Rattle.std.specs.List.{join_with_byte}
+use Rattle.std.specs.Prelude.{ℕ, zero, suc, ◌+◌, ◌-◌, Bool, false, not, ◌&&◌, ◌||◌, ◌==◌, nat_lt, if◌then◌else◌, List, [], ◌∷◌, length, take, drop, slice_index_or, codes, Option, Some, None, option_map, Result, Ok, Err}
+use Rattle.std.specs.Option.{is_none, is_some, option_map_or}
+use Rattle.std.specs.List.{find, join_with_byte, range_with_len}
 use Rattle.std.specs.Str.{bytes_eq, is_utf8}
+use Rattle.srt_texts.specs.Characters.{LINE_FEED}
 use Rattle.srt_texts.specs.declared.times.Times.{Times}
 use Rattle.mkv_io.specs.declared.entry.Entry.{Entry}
 use Rattle.srt_texts.specs.Lines.{lines_of}
@@ -32,7 +33,7 @@ trimmed (l ∷ ls) = onto_lines l (trimmed ls)
 
 -- the text of an entry: its lines with LF between them
 abbrev pub text_of : List (List ℕ) → List ℕ
-text_of ls = join_with_byte 10 (trimmed ls)
+text_of ls = join_with_byte LINE_FEED (trimmed ls)
 
 -- the entry of a head
 abbrev pub entry : Times → List (List ℕ) → Entry
@@ -52,35 +53,38 @@ unfoldable pub has_arrow : List ℕ → Bool
 has_arrow [] = false
 has_arrow (b ∷ bs) = bytes_eq (take 3 (b ∷ bs)) (codes "-->") || has_arrow bs
 
--- where a line stands: before the first head, as the second line of one, or behind it
-pub data Place : Type 0 where
-  Front : Place
-  Second : Times → Place
-  Behind : Place
+-- ---- bad lines
 
--- where the next line stands
-abbrev pub next : Place → Option Times → Place
-next place (Some t) = Second t
-next Front None = Front
-next (Second t) None = Behind
-next Behind None = Behind
+-- line k, which has k lines before it
+abbrev pub line_at : List (List ℕ) → ℕ → List ℕ
+line_at ls k = slice_index_or ls k []
 
--- the line can't stand there
-abbrev pub is_misplaced : Place → Bool → List ℕ → Bool
-is_misplaced Front begins l = has_arrow l || not (begins || length l == 0)
-is_misplaced (Second t) begins l = nat_lt t.end t.start
-is_misplaced Behind begins l = has_arrow l
+-- the times of the head whose second line is line k
+abbrev pub times_at : List (List ℕ) → ℕ → Option Times
+times_at ls zero = None
+times_at ls (suc k) = head (drop k ls)
 
--- A line is bad where it isn't UTF-8, or can't stand there.
-abbrev pub is_bad : Place → Bool → List ℕ → Bool
-is_bad place begins l = not (is_utf8 l) || is_misplaced place begins l
+-- Line k stands before the first head, as each does where there is none, and isn't empty.
+abbrev pub is_stray : List (List ℕ) → ℕ → Bool
+is_stray ls k = nat_lt k (length (before_head ls)) && not (length (line_at ls k) == 0)
 
--- the number of the first bad line, where the first of these lines has this number
-unfoldable pub first_bad : Place → ℕ → List (List ℕ) → Option ℕ
-first_bad place n [] = None
-first_bad place n (l ∷ ls) =
-    if is_bad place (is_some (head (l ∷ ls))) l then Some n
-    else first_bad (next place (head (l ∷ ls))) (n + 1) ls
+-- Line k is the second of a head, whose end is before its start.
+abbrev pub is_backward : List (List ℕ) → ℕ → Bool
+is_backward ls k = option_map_or (λ (t : Times). nat_lt t.end t.start) (times_at ls k) false
+
+-- Line k has `-->`, and is no head's second.
+abbrev pub has_stray_arrow : List (List ℕ) → ℕ → Bool
+has_stray_arrow ls k = is_none (times_at ls k) && has_arrow (line_at ls k)
+
+-- Line k is bad: it isn't UTF-8, or can't stand there.
+abbrev pub is_bad : List (List ℕ) → ℕ → Bool
+is_bad ls k = not (is_utf8 (line_at ls k)) || is_stray ls k || is_backward ls k || has_stray_arrow ls k
+
+-- the number of the first bad line, counted from 1
+unfoldable pub first_bad : List (List ℕ) → Option ℕ
+first_bad ls = option_map (λ k. k + 1) (find (is_bad ls) (range_with_len 0 (length ls)))
+
+-- ---- the order of entries
 
 -- x among what is sorted by these keys: before the first whose key isn't below its own
 unfoldable pub insert_by : {X : Type 0} → (X → ℕ) → X → List X → List X
@@ -101,4 +105,4 @@ unless_bad (Some n) es = Err n
 
 -- the entries of a SubRip file, or the number of its first bad line
 unfoldable pub srt : List ℕ → Result (List Entry) ℕ
-srt content = unless_bad (first_bad Front 1 (lines_of content)) (by_start (entries (lines_of content)))
+srt content = unless_bad (first_bad (lines_of content)) (by_start (entries (lines_of content)))

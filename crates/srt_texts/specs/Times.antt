@@ -2,6 +2,7 @@
 use Rattle.std.specs.Prelude.{ℕ, ◌+◌, ◌*◌, Bool, ◌&&◌, ◌||◌, ◌==◌, nat_le, if◌then◌else◌, List, length, take, drop, slice_index, codes, Option, Some, None}
 use Rattle.std.specs.List.{list_all, prefix_len}
 use Rattle.std.specs.Char.{is_ascii_digit}
+use Rattle.srt_texts.specs.Characters.{COLON, COMMA, POINT, SPACE, TAB}
 use Rattle.srt_texts.specs.Fields.{◌>>=◌, cut, behind, digits, sixtieth}
 use Rattle.srt_texts.specs.declared.times.Times.{Times}
 
@@ -10,13 +11,13 @@ unfoldable pub seconds : List ℕ → Option ℕ
 seconds word = do
   s ← sixtieth (take 2 word)
   m ← digits 3 3 (take 3 (drop 3 word))
-  if slice_index word 2 == 44 || slice_index word 2 == 46 then Some (s * 1000 + m) else None
+  if slice_index word 2 == COMMA || slice_index word 2 == POINT then Some (s * 1000 + m) else None
 
 -- a time in front, in nanoseconds, and what stands behind it
 unfoldable pub clock : List ℕ → Option (ℕ × List ℕ)
 clock word = do
-  h ← cut 58 word
-  m ← cut 58 h.1
+  h ← cut COLON word
+  m ← cut COLON h.1
   hours ← digits 2 4 h.0
   minutes ← sixtieth m.0
   rest ← seconds m.1
@@ -24,7 +25,7 @@ clock word = do
 
 -- nothing, or a space and anything
 abbrev pub is_tail : List ℕ → Bool
-is_tail word = length word == 0 || slice_index word 0 == 32
+is_tail word = length word == 0 || slice_index word 0 == SPACE
 
 -- from a start to an end
 abbrev pub span : ℕ → ℕ → Times
@@ -40,7 +41,7 @@ times line = do
 
 -- a space or a tab
 abbrev pub is_blank : ℕ → Bool
-is_blank b = b == 32 || b == 9
+is_blank b = b == SPACE || b == TAB
 
 -- 1 to 9 digits, and spaces and tabs behind them
 unfoldable pub is_number : List ℕ → Bool

@@ -1,6 +1,7 @@
 -- How an entry of SubRip is written, in this project's grammar.
 use Rattle.std.specs.Prelude.{ℕ, ℤ, pos, negsuc, ◌+ℤ◌, ◌/◌, List, [], ◌∷◌, ◌++◌, codes}
 use Rattle.std.specs.Fmt.{decimal}
+use Rattle.srt_texts.specs.Characters.{COMMA, LINE_FEED}
 use Rattle.srt_texts.specs.declared.pieces.Piece.{Piece}
 use Rattle.srt_texts.specs.declared.pieces.Piece.TheVariants.{Time}
 use Rattle.srt_texts.specs.Pieces.{stamp}
@@ -11,14 +12,14 @@ milliseconds (pos t) = t / 1000000
 milliseconds (negsuc t) = 0
 
 abbrev pub time : ℕ → Piece
-time ms = Time 44 ms
+time ms = Time COMMA ms
 
 -- the times of an entry's start and of its end
 abbrev pub time_line : ℤ → ℕ → List ℕ
 time_line start duration =
-    stamp 44 (milliseconds start) ++ (codes " --> " ++ stamp 44 (milliseconds (start +ℤ pos duration)))
+    stamp COMMA (milliseconds start) ++ (codes " --> " ++ stamp COMMA (milliseconds (start +ℤ pos duration)))
 
 -- an entry: its number, its times and its text, each ended by LF, and an empty line
 unfoldable pub put_srt : ℕ → ℤ → ℕ → List ℕ → List ℕ
 put_srt number start duration text =
-    decimal number ++ (10 ∷ (time_line start duration ++ (10 ∷ (text ++ (10 ∷ 10 ∷ [])))))
+    decimal number ++ (LINE_FEED ∷ (time_line start duration ++ (LINE_FEED ∷ (text ++ (LINE_FEED ∷ LINE_FEED ∷ [])))))

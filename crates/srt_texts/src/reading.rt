@@ -5,7 +5,8 @@ ghost use Rattle.std.specs.Str.Lines.{lines};
 ghost use Rattle.srt_texts.specs.Lines.{lines_of};
 ghost use Rattle.srt_texts.specs.Ends.{Blames, Reads};
 ghost use Rattle.srt_texts.specs.Srt as spec;
-ghost use Rattle.srt_texts.specs.Srt.{first_bad, entries, text_of, before_head, Front, Behind};
+ghost use Rattle.srt_texts.specs.Srt.{first_bad, entries, text_of, before_head};
+ghost use Rattle.srt_texts.specs.Walk.{Behind, bad_from, is_bad_at};
 ghost use Rattle.srt_texts.specs.Reading.{AreWithin, GoesOn, HeadRead, IsWithin, breaks};
 
 use crate::end::TextEnd;
@@ -36,7 +37,7 @@ fn has_arrow(line: &[u8]) -> bool
 
 // The line as text, where it may stand behind a head.
 fn plain(line: &[u8]) -> Option<&str>
-    ensures { MatchOption result (spec.is_bad Behind false line.now ≡ true) (λ s. (spec.is_bad Behind false line.now ≡ false) × (s.now ≡ line.now)) }
+    ensures { MatchOption result (is_bad_at Behind false line.now ≡ true) (λ s. (is_bad_at Behind false line.now ≡ false) × (s.now ≡ line.now)) }
 {
     if has_arrow(line) {
         return None;
@@ -75,8 +76,8 @@ fn read_head<'a>(line: &[u8], after: &'a [u8], number: u64) -> Result<Option<Hea
 
 // Reads up to the first head.
 fn skip_front(text: &[u8]) -> Result<Option<Head<'_>>, TextEnd>
-    ensures ok { IfOk result (GoesOn Front 1 (lines text.now)) }
-    ensures err { IfErr result (λ e. Blames e (first_bad Front 1 (lines text.now))) }
+    ensures ok { IfOk result (GoesOn (first_bad (lines text.now)) (lines text.now)) }
+    ensures err { IfErr result (λ e. Blames e (first_bad (lines text.now))) }
     ensures within { IfOk result (IsWithin 0 text.now) }
 {
     let mut rest = text;
@@ -117,8 +118,8 @@ fn read_text<'a>(
 ) -> Result<(Text, Option<Head<'a>>), TextEnd>
     requires room { before + length from.now < 2 ^ 64 }
     ensures text { IfOk result (λ p. p.0 ≡ text_of (before_head (lines from.now))) }
-    ensures ok { IfOk result (λ p. GoesOn Behind (before + 1) (lines from.now) p.1) }
-    ensures err { IfErr result (λ e. Blames e (first_bad Behind (before + 1) (lines from.now))) }
+    ensures ok { IfOk result (λ p. GoesOn (bad_from Behind (before + 1) (lines from.now)) (lines from.now) p.1) }
+    ensures err { IfErr result (λ e. Blames e (bad_from Behind (before + 1) (lines from.now))) }
     ensures within { IfOk result (λ p. IsWithin before from.now p.1) }
 {
     let mut text = Text::new(alloc);
@@ -149,8 +150,8 @@ fn read_text<'a>(
 // The entries as they stand.
 fn read_entries(alloc: Global, bytes: &[u8]) -> Result<Vec<Entry>, TextEnd>
     ensures ok { IfOk result (λ es. entries (lines_of bytes.now) ≡ es.items) }
-    ensures good { OnOk result (first_bad Front 1 (lines_of bytes.now) ≡ None) }
-    ensures err { IfErr result (λ e. Blames e (first_bad Front 1 (lines_of bytes.now))) }
+    ensures good { OnOk result (first_bad (lines_of bytes.now) ≡ None) }
+    ensures err { IfErr result (λ e. Blames e (first_bad (lines_of bytes.now))) }
     ensures within { IfOk result (λ es. AreWithin (length bytes.now) es.items) }
 {
     let mut list = Vec::new(alloc);

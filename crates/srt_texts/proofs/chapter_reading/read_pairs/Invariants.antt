@@ -2,8 +2,7 @@
 use Rattle.std.proofs.Common.{◌≡◌, ◌+◌, ◌≤◌, length, None}
 use Rattle.std.specs.Str.Lines.{lines}
 use Rattle.srt_texts.specs.Lines.{lines_of}
-use Rattle.srt_texts.specs.Pairs.{pairs}
-use Rattle.srt_texts.specs.Turn.{joined, due_in}
+use Rattle.srt_texts.specs.Turn.{pairs, joined, due_in}
 use Rattle.srt_texts.proofs.chapter_reading.read_pairs.Given as goal
 
 abbrev pub invariant-loop-line : goal.invariant-loop-line

@@ -1,7 +1,7 @@
 -- The entries that were read, and then those from the next head on, are all of them.
 use Rattle.std.proofs.Common.{◌≡◌, ◌+◌, ◌^◌, ◌<◌, ◌≤◌, ◌++◌, length, MatchOption, All}
 use Rattle.srt_texts.specs.Lines.{lines_of}
-use Rattle.srt_texts.specs.Srt.{entries, first_bad, Front}
+use Rattle.srt_texts.specs.Srt.{entries, first_bad}
 use Rattle.srt_texts.specs.Reading.{entries_at, bad_at, left}
 use Rattle.srt_texts.specs.Times.{latest}
 use Rattle.mkv_io.specs.declared.entry.Entry.{Entry}
@@ -10,7 +10,7 @@ use Rattle.srt_texts.proofs.reading.read_entries.Given as goal
 abbrev pub invariant-loop-next : goal.invariant-loop-next
 invariant-loop-next l = record {
   same : entries (lines_of l.bytes) ≡ l.list.items ++ entries_at l.next;
-  bad : first_bad Front 1 (lines_of l.bytes) ≡ bad_at l.next;
+  bad : first_bad (lines_of l.bytes) ≡ bad_at l.next;
   room : MatchOption l.next (Unit {0}) (λ h. (h.number + length h.rest.now < 2 ^ 64) × (h.times.start ≤ h.times.end) × (h.times.end < latest));
   few : length l.list.items + left l.next ≤ length l.bytes;
   ends : All (λ (e : Entry). e.start + e.duration < latest) l.list.items;

@@ -2,7 +2,7 @@ use Rattle.std.proofs.Common.{arith, ◌≡◌, ℕ, List, [], Err, length, rule
 use Rattle.std.proofs.lemmas.List.Sorted.{answers_always, IsNonDecreasingBy-from_sort_by_key, All-permutation}
 use Rattle.mkv_io.specs.declared.entry.Entry.{Entry}
 use Rattle.srt_texts.specs.Lines.{lines_of}
-use Rattle.srt_texts.specs.Srt.{srt, first_bad, Front, sorted_by}
+use Rattle.srt_texts.specs.Srt.{srt, first_bad, sorted_by}
 use Rattle.srt_texts.specs.declared.end.TextEnd.{TextEnd}
 use Rattle.srt_texts.specs.declared.end.TextEnd.TheVariants as text_end
 use Rattle.srt_texts.specs.Ends.{Blames, Reads}
@@ -13,7 +13,7 @@ use Rattle.srt_texts.proofs.reading.read_srt.Goals as goal
 abbrev start_of : Entry → ℕ
 start_of e = e.start
 
-refused : (e : TextEnd) (content : List ℕ) → Blames e (first_bad Front 1 (lines_of content)) → Reads (Err e) (srt content)
+refused : (e : TextEnd) (content : List ℕ) → Blames e (first_bad (lines_of content)) → Reads (Err e) (srt content)
 unfolding srt
 refused (text_end.Bad n) content h = rw h refl
 refused text_end.Memory content h = tt

@@ -4,7 +4,8 @@ use Rattle.srt_texts.specs.Ends.{Blames}
 use Rattle.srt_texts.specs.Reading.{HeadRead, IsWithin, breaks}
 use Rattle.std.proofs.lemmas.Grind.{common_steps}
 use Rattle.std.specs.Str.Lines.{lines}
-use Rattle.srt_texts.specs.Srt.{before_head, head, first_bad, is_bad, Behind, Second}
+use Rattle.srt_texts.specs.Srt.{before_head, head}
+use Rattle.srt_texts.specs.Walk.{bad_from, is_bad_at, Behind, Second}
 use Rattle.srt_texts.proofs.SrtLemmas.{entries_other, entries_end, bad_end, bad_here, bad_head, bad_other, before_other, before_at, before_end, adds_text, adds_empty, adds_some, adds}
 use Rattle.srt_texts.proofs.reading.read_text.Goals as goal
 
@@ -23,15 +24,15 @@ loop-line-init c =
 pub returns-in_default-plain-clause-err : goal.returns-in_default-plain-clause-err
 returns-in_default-plain-clause-err c =
     let l = c.in-Some.line.now in let ls = lines c.in-Some.after.now in let n = c.loop-line.number + 1 in
-    let bad : is_bad Behind false l ≡ true = c.in_default-plain.ensures in
+    let bad : is_bad_at Behind false l ≡ true = c.in_default-plain.ensures in
     cc (c.loop-line.invariant.bad, c.in-Some.ensures.first, bad_here Behind n l ls bad)
 
 pub returns-in-Err-clause-err : goal.returns-in-Err-clause-err
 returns-in-Err-clause-err c =
     let l = c.in-Some.line.now in let ls = lines c.in-Some.after.now in let n = c.loop-line.number + 1 in
-    let good : is_bad Behind true l ≡ false = c.in-Some-plain.ensures.0 in
+    let good : is_bad_at Behind true l ≡ false = c.in-Some-plain.ensures.0 in
     let read = c.in-Err.ensures.is in
-    let same : first_bad (Second read.0) (n + 1) ls ≡ first_bad Behind (c.args.before + 1) (lines c.args.from.now) =
+    let same : bad_from (Second read.0) (n + 1) ls ≡ bad_from Behind (c.args.before + 1) (lines c.args.from.now) =
     cc (c.loop-line.invariant.bad, c.in-Some.ensures.first, bad_head Behind n l ls read.0 read.1 good) in
     subst (λ (bad : Option ℕ). Blames c.in-Err.end bad) same read.2
 
@@ -50,7 +51,7 @@ returns-in-Ok-Some-clause-text c =
 pub returns-in-Ok-Some-clause-ok : goal.returns-in-Ok-Some-clause-ok
 returns-in-Ok-Some-clause-ok c =
     let l = c.in-Some.line.now in let ls = lines c.in-Some.after.now in let n = c.loop-line.number + 1 in
-    let good : is_bad Behind true l ≡ false = c.in-Some-plain.ensures.0 in
+    let good : is_bad_at Behind true l ≡ false = c.in-Some-plain.ensures.0 in
     let read : HeadRead l ls n (Ok (Some c.in-Ok-Some.head)) = subst (λ (o : Option Head). HeadRead l ls n (Ok o)) c.in-Ok-Some.field-0-is c.in-Ok-Some.ensures.is in
     let h = c.in-Some.ensures.first in
     (cc (c.loop-line.invariant.same, h, read.1), cc (c.loop-line.invariant.bad, h, bad_head Behind n l ls c.in-Ok-Some.head.times read.0 good, read.2))
@@ -71,7 +72,7 @@ overflow_add-count c =
 pub loop-line-preserved-then-is_empty : goal.loop-line-preserved-then-is_empty
 loop-line-preserved-then-is_empty c =
     let l = c.in-Some.line.now in let ls = lines c.in-Some.after.now in let n = c.loop-line.number + 1 in let k = c.loop-line.count in
-    let good : is_bad Behind false l ≡ false = c.in-Some-plain.ensures.0 in
+    let good : is_bad_at Behind false l ≡ false = c.in-Some-plain.ensures.0 in
     let none : head (l ∷ ls) ≡ None = subst (λ (o : Option Head). HeadRead l ls n (Ok o)) c.in-Ok-None.field-0-is c.in-Ok-None.ensures.is in
     let empty : length l ≡ 0 = grind (arith, common_steps) in
     let h = c.in-Some.ensures.first in
@@ -87,7 +88,7 @@ loop-line-preserved-then-is_empty c =
 pub loop-line-preserved : goal.loop-line-preserved
 loop-line-preserved c =
     let l = c.in-Some.line.now in let ls = lines c.in-Some.after.now in let n = c.loop-line.number + 1 in let k = c.loop-line.count in
-    let good : is_bad Behind false l ≡ false = c.in-Some-plain.ensures.0 in
+    let good : is_bad_at Behind false l ≡ false = c.in-Some-plain.ensures.0 in
     let none : head (l ∷ ls) ≡ None = subst (λ (o : Option Head). HeadRead l ls n (Ok o)) c.in-Ok-None.field-0-is c.in-Ok-None.ensures.is in
     let some : 0 < length l = grind (arith, common_steps) in
     let h = c.in-Some.ensures.first in

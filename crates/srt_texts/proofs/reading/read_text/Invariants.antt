@@ -1,7 +1,8 @@
 -- The entries and the first bad line are those of what is left, and what is left adds to the text what is missing.
 use Rattle.std.proofs.Common.{◌≡◌, ◌+◌, ◌≤◌, ◌++◌, length}
 use Rattle.std.specs.Str.Lines.{lines}
-use Rattle.srt_texts.specs.Srt.{entries, first_bad, Behind, before_head, text_of}
+use Rattle.srt_texts.specs.Srt.{entries, before_head, text_of}
+use Rattle.srt_texts.specs.Walk.{bad_from, Behind}
 use Rattle.srt_texts.proofs.SrtLemmas.{adds}
 use Rattle.srt_texts.proofs.reading.read_text.Given as goal
 
@@ -12,7 +13,7 @@ invariant-loop-line l = record {
   few : l.count + l.before ≤ l.number;
   text : l.text ++ adds l.count (before_head (lines l.rest)) ≡ text_of (before_head (lines l.from));
   same : entries (lines l.from) ≡ entries (lines l.rest);
-  bad : first_bad Behind (l.before + 1) (lines l.from) ≡ first_bad Behind (l.number + 1) (lines l.rest);
+  bad : bad_from Behind (l.before + 1) (lines l.from) ≡ bad_from Behind (l.number + 1) (lines l.rest);
 }
 
 abbrev pub decreases-loop-line : goal.decreases-loop-line

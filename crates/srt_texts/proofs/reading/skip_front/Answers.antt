@@ -1,33 +1,38 @@
-use Rattle.std.proofs.Common.{◌≡◌, ◌∷◌, ◌<◌, ◌+◌, true, false, arith, subst, ℕ, Option, Some, None, Ok, [], length}
+use Rattle.std.proofs.Common.{◌≡◌, ◌∷◌, ◌<◌, ◌+◌, true, false, arith, subst, ℕ, Option, Some, None, Ok, [], length, refl}
 use Rattle.srt_texts.specs.declared.reading.Head.{Head}
 use Rattle.srt_texts.specs.Ends.{Blames}
 use Rattle.srt_texts.specs.Reading.{HeadRead}
 use Rattle.std.proofs.lemmas.Grind.{common_steps}
 use Rattle.std.specs.Str.Lines.{lines}
 use Rattle.std.specs.Option.{is_some}
-use Rattle.srt_texts.specs.Srt.{head, first_bad, is_bad, Front, Behind, Second}
+use Rattle.srt_texts.specs.Srt.{head, first_bad}
+use Rattle.srt_texts.specs.Walk.{bad_from, is_bad_at, Front, Behind, Second}
 use Rattle.srt_texts.proofs.SrtLemmas.{entries_other, entries_end, bad_end, bad_here, bad_head, bad_other, bad_front, good_head, good_empty, bad_some}
+use Rattle.srt_texts.proofs.WalkLemmas.{bad_is}
 use Rattle.srt_texts.proofs.reading.skip_front.Goals as goal
+
+pub loop-line-init : goal.loop-line-init
+loop-line-init c = record { room = omega arith; same = refl; bad = bad_is (lines c.args.text.now) }
 
 pub returns-in_default-plain-clause-err : goal.returns-in_default-plain-clause-err
 returns-in_default-plain-clause-err c =
     let l = c.in-Some.line.now in let ls = lines c.in-Some.after.now in let n = c.loop-line.number + 1 in
-    let bad : is_bad Behind false l ≡ true = c.in_default-plain.ensures in
+    let bad : is_bad_at Behind false l ≡ true = c.in_default-plain.ensures in
     cc (c.loop-line.invariant.bad, c.in-Some.ensures.first, bad_here Front n l ls (bad_front l (is_some (head (l ∷ ls))) bad))
 
 pub returns-in-Err-clause-err : goal.returns-in-Err-clause-err
 returns-in-Err-clause-err c =
     let l = c.in-Some.line.now in let ls = lines c.in-Some.after.now in let n = c.loop-line.number + 1 in
-    let good : is_bad Behind false l ≡ false = c.in-Some-plain.ensures.0 in
+    let good : is_bad_at Behind false l ≡ false = c.in-Some-plain.ensures.0 in
     let read = c.in-Err.ensures.is in
-    let same : first_bad (Second read.0) (n + 1) ls ≡ first_bad Front 1 (lines c.args.text.now) =
+    let same : bad_from (Second read.0) (n + 1) ls ≡ first_bad (lines c.args.text.now) =
     cc (c.loop-line.invariant.bad, c.in-Some.ensures.first, bad_head Front n l ls read.0 read.1 (good_head l good)) in
     subst (λ (bad : Option ℕ). Blames c.in-Err.end bad) same read.2
 
 pub returns-in-Ok-Some-clause-ok : goal.returns-in-Ok-Some-clause-ok
 returns-in-Ok-Some-clause-ok c =
     let l = c.in-Some.line.now in let ls = lines c.in-Some.after.now in let n = c.loop-line.number + 1 in
-    let good : is_bad Behind false l ≡ false = c.in-Some-plain.ensures.0 in
+    let good : is_bad_at Behind false l ≡ false = c.in-Some-plain.ensures.0 in
     let x = c.in-Ok-Some.head.times in
     let read : HeadRead l ls n (Ok (Some c.in-Ok-Some.head)) = subst (λ (o : Option Head). HeadRead l ls n (Ok o)) c.in-Ok-Some.field-0-is c.in-Ok-Some.ensures.is in
     let h = c.in-Some.ensures.first in
@@ -38,13 +43,13 @@ returns-then-not-is_empty-clause-err c =
     let l = c.in-Some.line.now in let ls = lines c.in-Some.after.now in let n = c.loop-line.number + 1 in
     let none : head (l ∷ ls) ≡ None = subst (λ (o : Option Head). HeadRead l ls n (Ok o)) c.in-Ok-None.field-0-is c.in-Ok-None.ensures.is in
     let some : 0 < length l = grind (arith, common_steps) in
-    let bad : is_bad Front (is_some (head (l ∷ ls))) l ≡ true = rw none (bad_some l some) in
+    let bad : is_bad_at Front (is_some (head (l ∷ ls))) l ≡ true = rw none (bad_some l some) in
     cc (c.loop-line.invariant.bad, c.in-Some.ensures.first, bad_here Front n l ls bad)
 
 pub loop-line-preserved : goal.loop-line-preserved
 loop-line-preserved c =
     let l = c.in-Some.line.now in let ls = lines c.in-Some.after.now in let n = c.loop-line.number + 1 in
-    let good : is_bad Behind false l ≡ false = c.in-Some-plain.ensures.0 in
+    let good : is_bad_at Behind false l ≡ false = c.in-Some-plain.ensures.0 in
     let none : head (l ∷ ls) ≡ None = subst (λ (o : Option Head). HeadRead l ls n (Ok o)) c.in-Ok-None.field-0-is c.in-Ok-None.ensures.is in
     let empty : length l ≡ 0 = grind (arith, common_steps) in
     let h = c.in-Some.ensures.first in

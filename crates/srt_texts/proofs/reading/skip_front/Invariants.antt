@@ -1,14 +1,15 @@
 -- The entries and the first bad line are those of what is left.
 use Rattle.std.proofs.Common.{◌≡◌, ◌+◌, ◌≤◌, length}
 use Rattle.std.specs.Str.Lines.{lines}
-use Rattle.srt_texts.specs.Srt.{entries, first_bad, Front}
+use Rattle.srt_texts.specs.Srt.{entries, first_bad}
+use Rattle.srt_texts.specs.Walk.{bad_from, Front}
 use Rattle.srt_texts.proofs.reading.skip_front.Given as goal
 
 abbrev pub invariant-loop-line : goal.invariant-loop-line
 invariant-loop-line l = record {
   room : l.number + length l.rest ≤ length l.text;
   same : entries (lines l.text) ≡ entries (lines l.rest);
-  bad : first_bad Front 1 (lines l.text) ≡ first_bad Front (l.number + 1) (lines l.rest);
+  bad : first_bad (lines l.text) ≡ bad_from Front (l.number + 1) (lines l.rest);
 }
 
 abbrev pub decreases-loop-line : goal.decreases-loop-line

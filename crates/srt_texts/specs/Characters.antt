@@ -1,0 +1,39 @@
+-- The characters that texts are made of beside words and digits, as octets.
+use Rattle.std.specs.Prelude.{ℕ}
+
+abbrev pub TAB : ℕ
+TAB = 0x09
+
+abbrev pub LINE_FEED : ℕ
+LINE_FEED = 0x0A
+
+abbrev pub SPACE : ℕ
+SPACE = 0x20
+
+-- `#`
+abbrev pub HASH : ℕ
+HASH = 0x23
+
+-- `,`
+abbrev pub COMMA : ℕ
+COMMA = 0x2C
+
+-- `-`
+abbrev pub DASH : ℕ
+DASH = 0x2D
+
+-- `.`
+abbrev pub POINT : ℕ
+POINT = 0x2E
+
+-- `0`
+abbrev pub DIGIT_0 : ℕ
+DIGIT_0 = 0x30
+
+-- `:`
+abbrev pub COLON : ℕ
+COLON = 0x3A
+
+-- `=`
+abbrev pub EQUALS : ℕ
+EQUALS = 0x3D
