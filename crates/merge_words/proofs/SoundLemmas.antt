@@ -29,10 +29,12 @@ use Rattle.merge_words.specs.declared.output.MergeWords.{MergeWords}
 use Rattle.merge_words.specs.Said.{value_in, scale_of, blocks_of, span_of, split_of, uuids_of, delay_of}
 use Rattle.merge_words.specs.Files.{delays_in, file, files}
 use Rattle.merge_words.specs.Output.{merge_words}
-use Rattle.merge_words.specs.Merge.{Start, starts, read_all, items, wrong_if, wrong_at, dangling, complete, merged}
+use Rattle.merge_words.specs.Merge.{starts, read_all, items, wrong_if, wrong_at, dangling, complete, merged}
 use Rattle.merge_words.specs.Sound.{IsSoundFile, IsSoundMerge}
-use Rattle.merge_words.proofs.ItemsLemmas.{latest_other}
-use Rattle.merge_words.specs.Items.{is_file, files_in, latest, since_file, stands, track_in, repeats, repeats_for, read_value, value_at, said, option_at, append_at, file_at, known, item_at}
+use Rattle.merge_words.proofs.ItemsLemmas.{latest, latest_other}
+use Rattle.merge_words.proofs.FilesLemmas.{files_from, parted_files}
+use Rattle.merge_words.proofs.MergeLemmas.{IsMeant, starts-meant}
+use Rattle.merge_words.specs.Items.{Start, is_file, files_in, since_file, stands, track_in, repeats, repeats_for, read_value, value_at, said, option_at, append_at, file_at, known, item_at}
 
 -- ---- options
 
@@ -103,10 +105,10 @@ value_at-sound at count f (Some word) v is = split (value_of f word) refl is
     split None found read = absurd (cc)
     split (Some w) found read = let same : w ≡ v = cc in subst IsSoundValue same (value_of-sound f word w found)
 
-said-sound : (at count : ℕ) (f : ValueForm) (next : Option (List ℕ)) (v : Value) → said at f (flag_of f) next count ≡ Ok v → IsSoundValue v
+said-sound : (at count : ℕ) (f : ValueForm) (next : Option (List ℕ)) (v : Value) → said at f next count ≡ Ok v → IsSoundValue v
 said-sound at count f next v is = split (flag_of f) refl is
   where
-    split : (o : Option Value) → flag_of f ≡ o → said at f o next count ≡ Ok v → IsSoundValue v
+    split : (o : Option Value) → flag_of f ≡ o → unwrap_or (option_map (λ (w : Value). Ok w) o) (value_at (at + 1) f next count) ≡ Ok v → IsSoundValue v
     split None none read = value_at-sound (at + 1) count f next v read
     split (Some w) some read = let same : w ≡ v = cc in subst IsSoundValue same (flag_of-sound f w some)
 
@@ -115,7 +117,7 @@ unfolding option_at
 option-joins before at word means next count item named is =
     let other = ok-else (same means.subject subject.Identify) _ _ item is in
     let once = ok-else (repeats means before) _ _ item other.1 in
-    ok-then (Joins before item) (said at means.form (flag_of means.form) next count) _ item once.1 (λ v here more.
+    ok-then (Joins before item) (said at means.form next count) _ item once.1 (λ v here more.
     let made : Item = record { at = at; subject = means.subject; scope = means.scope; value = v } in
     let last = ok-else (repeats_for means.subject (track_in v) before) _ (Ok made) item more in
     let same_item : made ≡ item = (let found = last.1 in cc) in
@@ -128,18 +130,18 @@ option-joins before at word means next count item named is =
     }))
 
 -- what is read of a word behind other items joins them
-item-joins : (before : List Item) (at : ℕ) (word : List ℕ) (next : Option (List ℕ)) (count : ℕ) (item : Item) → item_at before at word next count ≡ Ok item → Joins before item
+item-joins : (before : List Item) (s : Start) (count : ℕ) (item : Item) → IsMeant s → item_at before s count ≡ Ok item → Joins before item
 unfolding item_at
-item-joins before at word next count item is = split (bytes_eq word (codes "+")) (is_option word) is
+item-joins before s count item meant is = split (bytes_eq s.word (codes "+")) (is_option s.word) is
   where
-    of-option : (o : Option Meaning) → meaning_of word ≡ o → known before at o next count ≡ Ok item → Joins before item
+    of-option : (o : Option Meaning) → meaning_of s.word ≡ o → known before s.at o s.next count ≡ Ok item → Joins before item
     of-option None none found = absurd (cc)
-    of-option (Some means) named found = option-joins before at word means next count item named found
+    of-option (Some means) named found = option-joins before s.at s.word means s.next count item named found
 
-    split : (a b : Bool) → (if a then append_at before at else if b then known before at (meaning_of word) next count else file_at before at word) ≡ Ok item → Joins before item
-    split true b found = append-joins before at item found
-    split false true found = of-option (meaning_of word) refl found
-    split false false found = file-joins before at word item found
+    split : (a b : Bool) → (if a then append_at before s.at else if b then known before s.at s.means s.next count else file_at before s.at s.word) ≡ Ok item → Joins before item
+    split true b found = append-joins before s.at item found
+    split false true found = of-option s.means meant found
+    split false false found = file-joins before s.at s.word item found
 
 -- ---- the files
 
@@ -150,23 +152,23 @@ files_in-first : (i : Item) (items : List Item) → files_in (i ∷ items) ≡ c
 files_in-first i items = let apart = sum_by-append (λ x. cond (is_file x) 1 0) (i ∷ []) items in apart ∙ omega arith
 
 -- a last item that names a file takes those behind the file before it
-files-more : (group items : List Item) (i : Item) → files group (items ++ i ∷ []) ≡ files group items ++ cond (is_file i) (file (latest group items) i.value ∷ []) []
+files-more : (group items : List Item) (i : Item) → files_from group (items ++ i ∷ []) ≡ files_from group items ++ cond (is_file i) (file (latest group items) i.value ∷ []) []
 files-more group [] i = refl
 files-more group (x ∷ xs) i = split (is_file x) (files-more [] xs i) (files-more (group ++ x ∷ []) xs i)
   where
-    split : (b : Bool) → files [] (xs ++ i ∷ []) ≡ files [] xs ++ cond (is_file i) (file (latest [] xs) i.value ∷ []) []
-        → files (group ++ x ∷ []) (xs ++ i ∷ []) ≡ files (group ++ x ∷ []) xs ++ cond (is_file i) (file (latest (group ++ x ∷ []) xs) i.value ∷ []) []
-        → (if b then file group x.value ∷ files [] (xs ++ i ∷ []) else files (group ++ x ∷ []) (xs ++ i ∷ []))
-        ≡ (if b then file group x.value ∷ files [] xs else files (group ++ x ∷ []) xs) ++ cond (is_file i) (file (cond b (latest [] xs) (latest (group ++ x ∷ []) xs)) i.value ∷ []) []
+    split : (b : Bool) → files_from [] (xs ++ i ∷ []) ≡ files_from [] xs ++ cond (is_file i) (file (latest [] xs) i.value ∷ []) []
+        → files_from (group ++ x ∷ []) (xs ++ i ∷ []) ≡ files_from (group ++ x ∷ []) xs ++ cond (is_file i) (file (latest (group ++ x ∷ []) xs) i.value ∷ []) []
+        → (if b then file group x.value ∷ files_from [] (xs ++ i ∷ []) else files_from (group ++ x ∷ []) (xs ++ i ∷ []))
+        ≡ (if b then file group x.value ∷ files_from [] xs else files_from (group ++ x ∷ []) xs) ++ cond (is_file i) (file (cond b (latest [] xs) (latest (group ++ x ∷ []) xs)) i.value ∷ []) []
     split true named other = ap (λ l. file group x.value ∷ l) named
     split false named other = other
 
-length-files : (group items : List Item) → length (files group items) ≡ files_in items
+length-files : (group items : List Item) → length (files_from group items) ≡ files_in items
 length-files group [] = refl
 length-files group (x ∷ xs) = split (is_file x) (length-files [] xs) (length-files (group ++ x ∷ []) xs) ∙ sym (files_in-first x xs)
   where
-    split : (b : Bool) → length (files [] xs) ≡ files_in xs → length (files (group ++ x ∷ []) xs) ≡ files_in xs
-        → length (if b then file group x.value ∷ files [] xs else files (group ++ x ∷ []) xs) ≡ cond b 1 0 + files_in xs
+    split : (b : Bool) → length (files_from [] xs) ≡ files_in xs → length (files_from (group ++ x ∷ []) xs) ≡ files_in xs
+        → length (if b then file group x.value ∷ files_from [] xs else files_from (group ++ x ∷ []) xs) ≡ cond b 1 0 + files_in xs
     split true named other = omega arith
     split false named other = omega arith
 
@@ -201,7 +203,7 @@ file-sound : (group : List Item) (name : Value) → AreSound group → IsSoundFi
 unfolding file
 file-sound group name sound = record { delays = delays-small group sound }
 
-files-sound : (group items : List Item) → AreSound group → AreSound items → All IsSoundFile (files group items)
+files-sound : (group items : List Item) → AreSound group → AreSound items → All IsSoundFile (files_from group items)
 files-sound group [] front sound = All-nil IsSoundFile
 files-sound group (x ∷ xs) front sound =
     split (is_file x) (files-sound [] xs (All-nil (λ (j : Item). IsSoundValue j.value)) behind_it)
@@ -210,8 +212,8 @@ files-sound group (x ∷ xs) front sound =
     behind_it : AreSound xs
     behind_it = All-tail (λ (j : Item). IsSoundValue j.value) x xs sound
 
-    split : (b : Bool) → All IsSoundFile (files [] xs) → All IsSoundFile (files (group ++ x ∷ []) xs) → All IsSoundFile (if b then file group x.value ∷ files [] xs else files (group ++ x ∷ []) xs)
-    split true named other = All-cons IsSoundFile (file group x.value) (files [] xs) (file-sound group x.value front) named
+    split : (b : Bool) → All IsSoundFile (files_from [] xs) → All IsSoundFile (files_from (group ++ x ∷ []) xs) → All IsSoundFile (if b then file group x.value ∷ files_from [] xs else files_from (group ++ x ∷ []) xs)
+    split true named other = All-cons IsSoundFile (file group x.value) (files_from [] xs) (file-sound group x.value front) named
     split false named other = other
 
 -- ---- all items
@@ -220,8 +222,8 @@ files-sound group (x ∷ xs) front sound =
 record Kept (items : List Item) : Type 0 where
   values : AreSound items
   few : files_in items ≤ 64
-  alone : length (files [] items) ≡ 0 → stands subject.Append (latest [] items) ≡ false
-  first : IfSome (slice_get (files [] items) 0) (λ (f : FileWords). f.appended ≡ false)
+  alone : length (files_from [] items) ≡ 0 → stands subject.Append (latest [] items) ≡ false
+  first : IfSome (slice_get (files_from [] items) 0) (λ (f : FileWords). f.appended ≡ false)
 
 kept-none : Kept []
 kept-none = record { values = All-nil (λ (i : Item). IsSoundValue i.value); few = omega arith; alone = λ _. refl; first = tt }
@@ -243,25 +245,25 @@ module _ (before : List Item) (item : Item) (kept : Kept before) (joins : Joins 
   few-more true is = let under = joins.few is in omega arith
   few-more false is = let few = kept.few in omega arith
 
-  more_files : (b : Bool) → is_file item ≡ b → files [] (before ++ item ∷ []) ≡ files [] before ++ cond b (file (latest [] before) item.value ∷ []) []
-  more_files b is = files-more [] before item ∙ ap (λ t. files [] before ++ cond t (file (latest [] before) item.value ∷ []) []) is
+  more_files : (b : Bool) → is_file item ≡ b → files_from [] (before ++ item ∷ []) ≡ files_from [] before ++ cond b (file (latest [] before) item.value ∷ []) []
+  more_files b is = files-more [] before item ∙ ap (λ t. files_from [] before ++ cond t (file (latest [] before) item.value ∷ []) []) is
 
-  first-more : (b : Bool) → is_file item ≡ b → IfSome (slice_get (files [] (before ++ item ∷ [])) 0) (λ (f : FileWords). f.appended ≡ false)
+  first-more : (b : Bool) → is_file item ≡ b → IfSome (slice_get (files_from [] (before ++ item ∷ [])) 0) (λ (f : FileWords). f.appended ≡ false)
   first-more true is =
-      rw (more_files true is) (first-appended (files [] before) (file (latest [] before) item.value) kept.first (λ empty. file-appended (latest [] before) item.value ∙ kept.alone empty))
-  first-more false is = rw (more_files false is) (rw (append-nil (files [] before)) kept.first)
+      rw (more_files true is) (first-appended (files_from [] before) (file (latest [] before) item.value) kept.first (λ empty. file-appended (latest [] before) item.value ∙ kept.alone empty))
+  first-more false is = rw (more_files false is) (rw (append-nil (files_from [] before)) kept.first)
 
-  append_not : (b : Bool) → same item.subject subject.Append ≡ b → length (files [] before) ≡ 0 → b ≡ false
+  append_not : (b : Bool) → same item.subject subject.Append ≡ b → length (files_from [] before) ≡ 0 → b ≡ false
   append_not false is empty = refl
   append_not true is empty =
       let some = joins.behind is in
       let zero_files : files_in before ≡ 0 = sym (length-files [] before) ∙ empty in
       absurd (grind (arith, nat_tests))
 
-  alone-more : (b : Bool) → is_file item ≡ b → length (files [] (before ++ item ∷ [])) ≡ 0 → stands subject.Append (latest [] (before ++ item ∷ [])) ≡ false
-  alone-more true is empty = absurd (omega (arith, ap length (more_files true is), length-append (files [] before) (file (latest [] before) item.value ∷ [])))
+  alone-more : (b : Bool) → is_file item ≡ b → length (files_from [] (before ++ item ∷ [])) ≡ 0 → stands subject.Append (latest [] (before ++ item ∷ [])) ≡ false
+  alone-more true is empty = absurd (omega (arith, ap length (more_files true is), length-append (files_from [] before) (file (latest [] before) item.value ∷ [])))
   alone-more false is empty =
-      let none_before : length (files [] before) ≡ 0 = sym (ap length (more_files false is ∙ append-nil (files [] before))) ∙ empty in
+      let none_before : length (files_from [] before) ≡ 0 = sym (ap length (more_files false is ∙ append-nil (files_from [] before))) ∙ empty in
       let behind_it : latest [] (before ++ item ∷ []) ≡ latest [] before ++ item ∷ [] = latest_other [] before item is in
       ap (stands subject.Append) behind_it ∙ list_any-append (λ (i : Item). same i.subject subject.Append) (latest [] before) (item ∷ [])
       ∙ or-false _ _ (kept.alone none_before) (or-false _ _ (append_not (same item.subject subject.Append) refl none_before) refl)
@@ -274,11 +276,11 @@ module _ (before : List Item) (item : Item) (kept : Kept before) (joins : Joins 
     first = first-more (is_file item) refl;
   }
 
-read_all-kept : (count : ℕ) (before : List Item) (ss : List Start) (items : List Item) → Kept before → read_all count before ss ≡ Ok items → Kept items
-read_all-kept count before [] items kept is = let same : before ≡ items = cc in subst Kept same kept
-read_all-kept count before (s ∷ ss) items kept is =
-    ok-then (Kept items) (item_at before s.at s.word s.next count) _ items is (λ item here more.
-    read_all-kept count (before ++ item ∷ []) ss items (kept-more before item kept (item-joins before s.at s.word s.next count item here)) more)
+read_all-kept : (count : ℕ) (before : List Item) (ss : List Start) (items : List Item) → Kept before → All IsMeant ss → read_all count before ss ≡ Ok items → Kept items
+read_all-kept count before [] items kept meant is = let same : before ≡ items = cc in subst Kept same kept
+read_all-kept count before (s ∷ ss) items kept meant is =
+    ok-then (Kept items) (item_at before s count) _ items is (λ item here more.
+    read_all-kept count (before ++ item ∷ []) ss items (kept-more before item kept (item-joins before s count item (All-head IsMeant s ss meant) here)) (All-tail IsMeant s ss meant) more)
 
 -- ---- what the items say of the whole output
 
@@ -333,7 +335,8 @@ said-of about items sound = find-sound (λ i. same i.subject about) items sound
 merge_words-sound : (items : List Item) → Kept items → (files_in items == 0) ≡ false → IsSoundMerge (merge_words items)
 unfolding merge_words
 merge_words-sound items kept some =
-    let many : length (files [] items) ≡ files_in items = length-files [] items in
+    let all = parted_files items in
+    let many : length (files items) ≡ files_in items = ap length all ∙ length-files [] items in
     let few = kept.few in
     record {
       scale = scale-within (value_in subject.Scale items) (said-of subject.Scale items kept.values);
@@ -342,8 +345,8 @@ merge_words-sound items kept some =
       split = split-kept (value_in subject.Split items) (said-of subject.Split items kept.values);
       uuids = uuids-kept (value_in subject.Uuids items) (said-of subject.Uuids items kept.values);
       files = record { least = grind (arith, nat_tests); most = omega arith };
-      first = kept.first;
-      each = files-sound [] items (All-nil (λ (i : Item). IsSoundValue i.value)) kept.values;
+      first = rw all kept.first;
+      each = rw all (files-sound [] items (All-nil (λ (i : Item). IsSoundValue i.value)) kept.values);
     }
 
 wrong_if-ok : (b : Bool) (word : ℕ) (why : Why) (t : Unit {0}) → wrong_if b word why ≡ Ok t → b ≡ false
@@ -366,4 +369,4 @@ merged-sound words w is =
     ok-then (IsSoundMerge w) (items words) _ w is (λ said here more.
     ok-then (IsSoundMerge w) (complete (length words) said) _ w more (λ t whole last.
     let same_words : merge_words said ≡ w = cc in
-    subst IsSoundMerge same_words (merge_words-sound said (read_all-kept (length words) [] (starts 1 (drop 1 words)) said kept-none here) (complete-files (length words) said t whole))))
+    subst IsSoundMerge same_words (merge_words-sound said (read_all-kept (length words) [] (starts 1 (drop 1 words)) said kept-none (starts-meant 1 (drop 1 words)) here) (complete-files (length words) said t whole))))

@@ -1,5 +1,5 @@
 -- What the words of a merge give as texts are texts.
-use Rattle.std.proofs.Common.{◌≡◌, ◌<◌, ℕ, ◌+◌, ◌*◌, Bool, true, false, ◌&&◌, ◌==◌, if◌then◌else◌, cond, List, [], ◌∷◌, ◌++◌, length, take, drop, get_or, Option, Some, None, IfSome, Ok, refl, subst, arith, option_map}
+use Rattle.std.proofs.Common.{◌≡◌, ◌<◌, ℕ, ◌+◌, ◌*◌, Bool, true, false, ◌&&◌, ◌==◌, if◌then◌else◌, cond, List, [], ◌∷◌, ◌++◌, length, take, drop, get_or, Option, Some, None, IfSome, Ok, refl, subst, arith, option_map, unwrap_or}
 use Rattle.std.specs.Prelude.{All, codes, option_and_then}
 use Rattle.std.specs.List.{cons_option, find, list_any, position}
 use Rattle.std.specs.Str.{IsUtf8, bytes_eq}
@@ -25,11 +25,12 @@ use Rattle.merge_words.specs.declared.item.Item.{Item}
 use Rattle.merge_words.specs.declared.output.MergeWords.{MergeWords}
 use Rattle.merge_words.specs.Options.{meaning_of, same}
 use Rattle.merge_words.specs.Said.{name_of, track_name_of, value_in}
-use Rattle.merge_words.specs.Files.{file, files, names_in}
-use Rattle.merge_words.specs.Items.{append_at, file_at, files_in, is_file, item_at, known, option_at, read_value, repeats, repeats_for, said, since_file, stands, track_in, value_at}
+use Rattle.merge_words.specs.Files.{file, names_in}
+use Rattle.merge_words.specs.Items.{Start, append_at, file_at, files_in, is_file, item_at, known, option_at, read_value, repeats, repeats_for, said, since_file, stands, track_in, value_at}
 use Rattle.merge_words.specs.Output.{merge_words}
-use Rattle.merge_words.specs.Merge.{Start, complete, items, merged, read_all, starts, width}
+use Rattle.merge_words.specs.Merge.{complete, items, merged, read_all, start, starts, takes_next}
 use Rattle.merge_words.specs.Texts.{AreTexts, HasTexts}
+use Rattle.merge_words.proofs.FilesLemmas.{files_from, parted_files}
 
 -- ---- a value
 
@@ -165,10 +166,10 @@ next-text at count f (Some word) v utf8 is = choose (value_of f word) refl is
     choose None found read = absurd (cc)
     choose (Some w) found read = let made : w ≡ v = cc in subst IsText made (value-text f word w utf8 found)
 
-said-text : (at count : ℕ) (f : ValueForm) (next : Option (List ℕ)) (v : Value) → IfSome next IsUtf8 → said at f (flag_of f) next count ≡ Ok v → IsText v
+said-text : (at count : ℕ) (f : ValueForm) (next : Option (List ℕ)) (v : Value) → IfSome next IsUtf8 → said at f next count ≡ Ok v → IsText v
 said-text at count f next v utf8 is = choose (flag_of f) (no-text f) is
   where
-    choose : (o : Option Value) → IfSome o IsText → said at f o next count ≡ Ok v → IsText v
+    choose : (o : Option Value) → IfSome o IsText → unwrap_or (option_map (λ (w : Value). Ok w) o) (value_at (at + 1) f next count) ≡ Ok v → IsText v
     choose None own read = next-text (at + 1) count f next v utf8 read
     choose (Some w) own read = let made : w ≡ v = cc in subst IsText made own
 
@@ -181,7 +182,7 @@ unfolding option_at
 option-text before at means next count item utf8 is =
     let other = ok-else (same means.subject subject.Identify) _ _ item is in
     let once = ok-else (repeats means before) _ _ item other.1 in
-    ok-then (IsTextItem item) (said at means.form (flag_of means.form) next count) _ item once.1 (λ v here more.
+    ok-then (IsTextItem item) (said at means.form next count) _ item once.1 (λ v here more.
     let made : Item = record { at = at; subject = means.subject; scope = means.scope; value = v } in
     let last = ok-else (repeats_for means.subject (track_in v) before) _ (Ok made) item more in
     ok-made IsTextItem made item last.1 (said-text at count means.form next v utf8 here))
@@ -199,34 +200,34 @@ file-text before at word item utf8 is =
     let room = ok-else _ _ _ item is in
     ok-made IsTextItem (record { at = at; subject = subject.File; scope = scope.Output; value = Name word }) item room.1 utf8
 
-item-text : (before : List Item) (at : ℕ) (word : List ℕ) (next : Option (List ℕ)) (count : ℕ) (item : Item) → IsUtf8 word → IfSome next IsUtf8 → item_at before at word next count ≡ Ok item → IsTextItem item
-unfolding item_at
-item-text before at word next count item utf8 behind is = choose (bytes_eq word (codes "+")) (is_option word) is
-  where
-    of-option : (o : Option Meaning) → known before at o next count ≡ Ok item → IsTextItem item
-    of-option None found = absurd (cc)
-    of-option (Some means) found = option-text before at means next count item behind found
-
-    choose : (a b : Bool) → (if a then append_at before at else if b then known before at (meaning_of word) next count else file_at before at word) ≡ Ok item → IsTextItem item
-    choose true b found = append-text before at item found
-    choose false true found = of-option (meaning_of word) found
-    choose false false found = file-text before at word item utf8 found
-
--- ---- all items
-
 -- the words of an item are texts
 record IsTextStart (s : Start) : Type 0 where
   word : IsUtf8 s.word
   next : IfSome s.next IsUtf8
 
+item-text : (before : List Item) (s : Start) (count : ℕ) (item : Item) → IsTextStart s → item_at before s count ≡ Ok item → IsTextItem item
+unfolding item_at
+item-text before s count item utf8 is = choose (bytes_eq s.word (codes "+")) (is_option s.word) is
+  where
+    of-option : (o : Option Meaning) → known before s.at o s.next count ≡ Ok item → IsTextItem item
+    of-option None found = absurd (cc)
+    of-option (Some means) found = option-text before s.at means s.next count item utf8.next found
+
+    choose : (a b : Bool) → (if a then append_at before s.at else if b then known before s.at s.means s.next count else file_at before s.at s.word) ≡ Ok item → IsTextItem item
+    choose true b found = append-text before s.at item found
+    choose false true found = of-option s.means found
+    choose false false found = file-text before s.at s.word item utf8.word found
+
+-- ---- all items
+
 starts-text : (at : ℕ) (words : List (List ℕ)) → All IsUtf8 words → All IsTextStart (starts at words)
 starts-text at [] utf8 = All-nil IsTextStart
-starts-text at (w ∷ []) utf8 = All-cons IsTextStart (record { at = at; word = w; next = None }) [] (record { word = All-head IsUtf8 w [] utf8; next = tt }) (All-nil IsTextStart)
+starts-text at (w ∷ []) utf8 = All-cons IsTextStart (start at w None) [] (record { word = All-head IsUtf8 w [] utf8; next = tt }) (All-nil IsTextStart)
 starts-text at (w ∷ v ∷ ws) utf8 =
     let others : All IsUtf8 (v ∷ ws) = All-tail IsUtf8 w (v ∷ ws) utf8 in
-    All-cons IsTextStart (record { at = at; word = w; next = Some v }) (if width w == 2 then starts (at + 2) ws else starts (at + 1) (v ∷ ws))
+    All-cons IsTextStart (start at w (Some v)) (if takes_next (meaning_of w) then starts (at + 2) ws else starts (at + 1) (v ∷ ws))
     (record { word = All-head IsUtf8 w (v ∷ ws) utf8; next = All-head IsUtf8 v ws others })
-    (choose (width w == 2) (starts-text (at + 2) ws (All-tail IsUtf8 v ws others)) (starts-text (at + 1) (v ∷ ws) others))
+    (choose (takes_next (meaning_of w)) (starts-text (at + 2) ws (All-tail IsUtf8 v ws others)) (starts-text (at + 1) (v ∷ ws) others))
   where
     choose : (b : Bool) → All IsTextStart (starts (at + 2) ws) → All IsTextStart (starts (at + 1) (v ∷ ws)) → All IsTextStart (if b then starts (at + 2) ws else starts (at + 1) (v ∷ ws))
     choose true far near = far
@@ -236,9 +237,9 @@ read-text : (count : ℕ) (before : List Item) (ss : List Start) (all : List Ite
 read-text count before [] all so_far utf8 is = let whole : before ≡ all = cc in subst (All IsTextItem) whole so_far
 read-text count before (s ∷ ss) all so_far utf8 is =
     let own = All-head IsTextStart s ss utf8 in
-    ok-then (All IsTextItem all) (item_at before s.at s.word s.next count) _ all is (λ item here more.
+    ok-then (All IsTextItem all) (item_at before s count) _ all is (λ item here more.
     read-text count (before ++ item ∷ []) ss all
-    (All-append IsTextItem before (item ∷ []) so_far (All-cons IsTextItem item [] (item-text before s.at s.word s.next count item own.word own.next here) (All-nil IsTextItem)))
+    (All-append IsTextItem before (item ∷ []) so_far (All-cons IsTextItem item [] (item-text before s count item own here) (All-nil IsTextItem)))
     (All-tail IsTextStart s ss utf8) more)
 
 -- ---- what they say
@@ -286,7 +287,7 @@ has-texts : (group : List Item) (name : Value) → All IsTextItem group → HasT
 unfolding file
 has-texts group name own = record { names = names-text subject.TrackName group own; languages = names-text subject.Language group own }
 
-files-texts : (group all : List Item) → All IsTextItem group → All IsTextItem all → All HasTexts (files group all)
+files-texts : (group all : List Item) → All IsTextItem group → All IsTextItem all → All HasTexts (files_from group all)
 files-texts group [] front own = All-nil HasTexts
 files-texts group (x ∷ xs) front own =
     choose (is_file x) (files-texts [] xs (All-nil IsTextItem) behind)
@@ -295,15 +296,15 @@ files-texts group (x ∷ xs) front own =
     behind : All IsTextItem xs
     behind = All-tail IsTextItem x xs own
 
-    choose : (b : Bool) → All HasTexts (files [] xs) → All HasTexts (files (group ++ x ∷ []) xs) → All HasTexts (if b then file group x.value ∷ files [] xs else files (group ++ x ∷ []) xs)
-    choose true named other = All-cons HasTexts (file group x.value) (files [] xs) (has-texts group x.value front) named
+    choose : (b : Bool) → All HasTexts (files_from [] xs) → All HasTexts (files_from (group ++ x ∷ []) xs) → All HasTexts (if b then file group x.value ∷ files_from [] xs else files_from (group ++ x ∷ []) xs)
+    choose true named other = All-cons HasTexts (file group x.value) (files_from [] xs) (has-texts group x.value front) named
     choose false named other = other
 
 merge-texts : (all : List Item) → All IsTextItem all → AreTexts (merge_words all)
 unfolding merge_words
 merge-texts all own = record {
   title = name-text (value_in subject.Title all) (found-text (λ i. same i.subject subject.Title) all own);
-  files = files-texts [] all (All-nil IsTextItem) own;
+  files = rw (parted_files all) (files-texts [] all (All-nil IsTextItem) own);
 }
 
 -- What the words of a merge give as texts are texts.

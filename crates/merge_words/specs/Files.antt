@@ -1,6 +1,6 @@
--- What the items of a merge say of each file.
-use Rattle.std.specs.Prelude.{ℕ, ℤ, Bool, not, ◌==◌, if◌then◌else◌, List, [], ◌∷◌, ◌++◌, Option, Some, None, unwrap_or, option_and_then}
-use Rattle.std.specs.List.{filter_map, flat_map, list_any}
+-- What the items of a merge say of each file. All of it is this project's, after mkvmerge(1).
+use Rattle.std.specs.Prelude.{ℕ, ℤ, Bool, not, ◌==◌, List, [], ◌∷◌, map, Option, Some, None, unwrap_or, option_and_then}
+use Rattle.std.specs.List.{filter, filter_map, flat_map, slice_split, zip}
 use Rattle.word_values.specs.declared.lists.Select.{Select}
 use Rattle.word_values.specs.declared.lists.Select.TheVariants.{All, These, AllBut, Off}
 use Rattle.word_values.specs.declared.values.CueWord.{CueWord}
@@ -44,18 +44,18 @@ flags_in subject items = filter_map (λ i. option_and_then track_flag_of (value_
 abbrev pub cues_in : List Item → List (ℕ × CueWord)
 cues_in items = filter_map (λ (i : Item). track_cues_of i.value) items
 
--- the list with one more number, where it isn't there yet
-abbrev pub with : List ℕ → ℕ → List ℕ
-with list id = if list_any (λ k. k == id) list then list else list ++ id ∷ []
+-- the numbers but one
+abbrev pub without : ℕ → List ℕ → List ℕ
+without id ids = filter (λ k. not (k == id)) ids
 
--- the list with these numbers, each once
-abbrev pub once : List ℕ → List ℕ → List ℕ
-once list [] = list
-once list (id ∷ ids) = once (with list id) ids
+-- the numbers in their order, each once
+abbrev pub once : List ℕ → List ℕ
+once [] = []
+once (id ∷ ids) = id ∷ without id (once ids)
 
 -- the tracks that the items name, in their order, each once
 unfoldable pub named_in : List Item → List ℕ
-named_in items = once [] (flat_map (λ (i : Item). ids_of i.value) items)
+named_in items = once (flat_map (λ (i : Item). ids_of i.value) items)
 
 -- the name that a file's item has
 abbrev pub file_name : Value → List ℕ
@@ -83,7 +83,6 @@ file items name = record {
   named = named_in items;
 }
 
--- the files, each with what the items behind the file before it say
-abbrev pub files : List Item → List Item → List FileWords
-files group [] = []
-files group (i ∷ is) = if is_file i then file group i.value ∷ files [] is else files (group ++ i ∷ []) is
+-- each file, with what the items say that stand between the file before it and itself
+abbrev pub files : List Item → List FileWords
+files items = map (λ (f : List Item × Item). file f.0 f.1.value) (zip (slice_split is_file items) (filter is_file items))

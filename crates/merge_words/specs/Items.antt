@@ -1,10 +1,10 @@
 -- The items of a merge's words: an option with its value, `+`, or the name of a file. Each is read
 -- behind the items before it.
-use Rattle.std.specs.Prelude.{ℕ, ◌+◌, Bool, false, ◌&&◌, ◌==◌, nat_le, if◌then◌else◌, List, [], ◌∷◌, ◌++◌, codes, count_by, Option, Some, None, Result, Ok}
-use Rattle.std.specs.List.{list_any}
+use Rattle.std.specs.Prelude.{ℕ, ◌+◌, Bool, false, ◌&&◌, ◌==◌, nat_le, if◌then◌else◌, List, codes, count_by, Option, Some, None, option_map, unwrap_or, Result, Ok}
+use Rattle.std.specs.List.{after_last, list_any}
 use Rattle.std.specs.Str.{bytes_eq}
 use Rattle.word_values.specs.declared.usage.Usage.{Usage}
-use Rattle.word_values.specs.declared.usage.Why.TheVariants.{UnknownOption, MissingValue, BadValue, RepeatedOption, ExtraWord, AppendFirst, TooManyInputs}
+use Rattle.word_values.specs.declared.usage.Why.TheVariants.{UnknownOption, BadValue, RepeatedOption, ExtraWord, AppendFirst, TooManyInputs}
 use Rattle.merge_words.specs.declared.options.Subject.{Subject}
 use Rattle.merge_words.specs.declared.options.Subject.TheVariants as subject
 use Rattle.merge_words.specs.declared.options.Scope.TheVariants as scope
@@ -14,9 +14,10 @@ use Rattle.merge_words.specs.declared.options.Meaning.{Meaning}
 use Rattle.word_values.specs.declared.values.Value.{Value}
 use Rattle.word_values.specs.declared.values.Value.TheVariants.{Flag, Name, Scale, Blocks, Span, Split, Uuids, Tracks, TrackDelay, TrackName, TrackFlag, TrackCues}
 use Rattle.merge_words.specs.declared.item.Item.{Item}
+use Rattle.merge_words.specs.declared.item.TheConstants.{MOST_FILES}
 use Rattle.word_values.specs.Answers.{wrong, ◌>>=◌}
-use Rattle.merge_words.specs.Options.{same, meaning_of}
-use Rattle.word_values.specs.Place.{is_option}
+use Rattle.merge_words.specs.Options.{same}
+use Rattle.word_values.specs.Place.{due, is_option}
 use Rattle.word_values.specs.Values.{flag_of, value_of}
 
 -- the item is a file's name
@@ -27,14 +28,9 @@ is_file i = same i.subject subject.File
 abbrev pub files_in : List Item → ℕ
 files_in items = count_by is_file items
 
--- the last of the items, from behind a file on
-abbrev pub latest : List Item → List Item → List Item
-latest group [] = group
-latest group (i ∷ is) = if is_file i then latest [] is else latest (group ++ i ∷ []) is
-
--- the items behind the last file
+-- the items behind the last file, or all of them where none is named
 unfoldable pub since_file : List Item → List Item
-since_file items = latest [] items
+since_file items = after_last is_file items
 
 -- an item is about this
 abbrev pub stands : Subject → List Item → Bool
@@ -64,7 +60,7 @@ is_track id (Some k) = k == id
 abbrev pub stands_for : Subject → ℕ → List Item → Bool
 stands_for subject id items = list_any (λ i. same i.subject subject && is_track id (track_in i.value)) items
 
--- an option that may stand once, in the whole or for one file, stands again
+-- an option that may stand once, in the whole or for one file, stood once before
 abbrev pub repeats_in : Scope → Subject → List Item → Bool
 repeats_in scope.Output subject before = stands subject before
 repeats_in scope.File subject before = stands subject (since_file before)
@@ -73,24 +69,25 @@ repeats_in scope.Track subject before = false
 abbrev pub repeats : Meaning → List Item → Bool
 repeats means before = repeats_in means.scope means.subject before
 
--- an option for a track stands again for that track
+-- an option for a track stood before for that track
 abbrev pub repeats_for : Subject → Option ℕ → List Item → Bool
 repeats_for subject None before = false
 repeats_for subject (Some id) before = stands_for subject id (since_file before)
 
--- the value, where it is there and of its form; it stands at the number
+-- the value that was read at a number, where the word is of its form
 abbrev pub read_value : ℕ → Option Value → Result Value Usage
 read_value at None = wrong at BadValue
 read_value at (Some value) = Ok value
 
+-- the value of this form that is due at a number, of so many words
 abbrev pub value_at : ℕ → ValueForm → Option (List ℕ) → ℕ → Result Value Usage
-value_at at form None count = wrong count MissingValue
-value_at at form (Some word) count = read_value at (value_of form word)
+value_at at form next count = do
+  word ← due count next
+  read_value at (value_of form word)
 
--- what the option says: of itself, or with the word behind it
-abbrev pub said : ℕ → ValueForm → Option Value → Option (List ℕ) → ℕ → Result Value Usage
-said at form (Some value) next count = Ok value
-said at form None next count = value_at (at + 1) form next count
+-- an option's value: its own, else that of the next word
+abbrev pub said : ℕ → ValueForm → Option (List ℕ) → ℕ → Result Value Usage
+said at form next count = unwrap_or (option_map (λ (v : Value). Ok v) (flag_of form)) (value_at (at + 1) form next count)
 
 -- an option: that it stands again is found before its value is read, but where it is for a track
 unfoldable pub option_at : List Item → ℕ → Meaning → Option (List ℕ) → ℕ → Result Item Usage
@@ -98,7 +95,7 @@ option_at before at means next count =
     if same means.subject subject.Identify then wrong at ExtraWord
     else if repeats means before then wrong at RepeatedOption
     else do
-      value ← said at means.form (flag_of means.form) next count
+      value ← said at means.form next count
       if repeats_for means.subject (track_in value) before then wrong at RepeatedOption
           else Ok (record { at = at; subject = means.subject; scope = means.scope; value = value })
 
@@ -109,20 +106,27 @@ append_at before at =
     else if stands subject.Append (since_file before) then wrong at ExtraWord
     else Ok (record { at = at; subject = subject.Append; scope = scope.File; value = Flag })
 
--- the name of a file, of which there may be 64
+-- the name of a file, of which there may be only so many
 unfoldable pub file_at : List Item → ℕ → List ℕ → Result Item Usage
 file_at before at word =
-    if nat_le 64 (files_in before) then wrong at TooManyInputs
+    if nat_le MOST_FILES (files_in before) then wrong at TooManyInputs
     else Ok (record { at = at; subject = subject.File; scope = scope.Output; value = Name word })
 
--- what a word means that looks like an option
+-- the item of a word that looks like an option, with what it means
 abbrev pub known : List Item → ℕ → Option Meaning → Option (List ℕ) → ℕ → Result Item Usage
 known before at None next count = wrong at UnknownOption
 known before at (Some means) next count = option_at before at means next count
 
--- the item that begins with the word at a number, with the word behind it, of so many words
-unfoldable pub item_at : List Item → ℕ → List ℕ → Option (List ℕ) → ℕ → Result Item Usage
-item_at before at word next count =
-    if bytes_eq word (codes "+") then append_at before at
-    else if is_option word then known before at (meaning_of word) next count
-    else file_at before at word
+-- a word that begins an item: its number, what it means as an option, and the word behind it
+pub record Start : Type 0 where
+  pub at : ℕ
+  pub word : List ℕ
+  pub means : Option Meaning
+  pub next : Option (List ℕ)
+
+-- the item that begins so, of so many words
+unfoldable pub item_at : List Item → Start → ℕ → Result Item Usage
+item_at before s count =
+    if bytes_eq s.word (codes "+") then append_at before s.at
+    else if is_option s.word then known before s.at s.means s.next count
+    else file_at before s.at s.word

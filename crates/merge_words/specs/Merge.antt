@@ -15,35 +15,31 @@ use Rattle.merge_words.specs.declared.output.MergeWords.{MergeWords}
 use Rattle.word_values.specs.Answers.{wrong, ◌>>=◌}
 use Rattle.merge_words.specs.Options.{same, meaning_of}
 use Rattle.word_values.specs.Values.{flag_of}
-use Rattle.merge_words.specs.Items.{item_at, since_file, stands, files_in}
+use Rattle.merge_words.specs.Items.{Start, item_at, since_file, stands, files_in}
 use Rattle.merge_words.specs.Output.{merge_words}
 
--- how many words an item takes whose option means this
-abbrev pub words_of : Option Meaning → ℕ
-words_of None = 1
-words_of (Some means) = if is_none (flag_of means.form) then 2 else 1
+-- the option's value is the word behind it
+abbrev pub takes_next : Option Meaning → Bool
+takes_next None = false
+takes_next (Some means) = is_none (flag_of means.form)
 
--- how many words an item takes that begins with this one
-unfoldable pub width : List ℕ → ℕ
-width word = words_of (meaning_of word)
-
--- a word that begins an item, its number, and the word behind it
-pub record Start : Type 0 where
-  pub at : ℕ
-  pub word : List ℕ
-  pub next : Option (List ℕ)
+-- a word as the first of an item
+abbrev pub start : ℕ → List ℕ → Option (List ℕ) → Start
+start at word next = record { at = at; word = word; means = meaning_of word; next = next }
 
 -- the items' first words, from the word with this number on: a value begins no item
 abbrev pub starts : ℕ → List (List ℕ) → List Start
 starts at [] = []
-starts at (w ∷ []) = record { at = at; word = w; next = None } ∷ []
-starts at (w ∷ v ∷ ws) = record { at = at; word = w; next = Some v } ∷ (if width w == 2 then starts (at + 2) ws else starts (at + 1) (v ∷ ws))
+starts at (w ∷ []) = start at w None ∷ []
+starts at (w ∷ v ∷ ws) =
+    let s : Start = start at w (Some v) in
+    s ∷ (if takes_next s.means then starts (at + 2) ws else starts (at + 1) (v ∷ ws))
 
 -- the items, each read behind those before it; the first that is wrong is told
 abbrev pub read_all : ℕ → List Item → List Start → Result (List Item) Usage
 read_all count before [] = Ok before
 read_all count before (s ∷ ss) = do
-  item ← item_at before s.at s.word s.next count
+  item ← item_at before s count
   read_all count (before ++ item ∷ []) ss
 
 -- the items that the words behind `merge` say

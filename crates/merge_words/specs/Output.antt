@@ -1,9 +1,10 @@
--- What the items of a merge say of the whole output.
+-- What the items of a merge say of the whole output. All of it is this project's, after mkvmerge(1).
 use Rattle.std.specs.Prelude.{ℕ, List, [], Option, unwrap_or, option_and_then}
 use Rattle.word_values.specs.declared.lists.SplitWords.{SplitWords}
 use Rattle.merge_words.specs.declared.options.Subject.TheVariants as subject
 use Rattle.merge_words.specs.declared.item.Item.{Item}
 use Rattle.merge_words.specs.declared.output.MergeWords.{MergeWords}
+use Rattle.merge_words.specs.declared.output.TheConstants.{DEFAULT_SCALE, DEFAULT_BLOCKS, DEFAULT_SPAN}
 use Rattle.merge_words.specs.Items.{stands}
 use Rattle.merge_words.specs.Said.{value_in, name_in, scale_of, blocks_of, span_of, split_of, uuids_of}
 use Rattle.merge_words.specs.Files.{files}
@@ -12,13 +13,13 @@ abbrev pub output_in : List Item → List ℕ
 output_in items = unwrap_or (name_in subject.Output items) []
 
 abbrev pub scale_in : List Item → ℕ
-scale_in items = unwrap_or (option_and_then scale_of (value_in subject.Scale items)) 1000000
+scale_in items = unwrap_or (option_and_then scale_of (value_in subject.Scale items)) DEFAULT_SCALE
 
 abbrev pub blocks_in : List Item → ℕ
-blocks_in items = unwrap_or (option_and_then blocks_of (value_in subject.ClusterLength items)) 65535
+blocks_in items = unwrap_or (option_and_then blocks_of (value_in subject.ClusterLength items)) DEFAULT_BLOCKS
 
 abbrev pub span_in : List Item → ℕ
-span_in items = unwrap_or (option_and_then span_of (value_in subject.ClusterLength items)) 5000000000
+span_in items = unwrap_or (option_and_then span_of (value_in subject.ClusterLength items)) DEFAULT_SPAN
 
 abbrev pub split_in : List Item → Option SplitWords
 split_in items = option_and_then split_of (value_in subject.Split items)
@@ -37,7 +38,7 @@ merge_words items = record {
   blocks = blocks_in items;
   span = span_in items;
   split = split_in items;
-  files = files [] items;
+  files = files items;
   uuids = uuids_in items;
   link = stands subject.Link items;
 }

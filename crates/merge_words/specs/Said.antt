@@ -1,4 +1,4 @@
--- The values of items that are about something.
+-- The values of items that are about something. They are this project's, after mkvmerge(1).
 use Rattle.std.specs.Prelude.{ℕ, ℤ, Bool, if◌then◌else◌, List, Option, Some, None, option_map, option_and_then}
 use Rattle.std.specs.List.{find}
 use Rattle.word_values.specs.declared.lists.SplitWords.{SplitWords}

@@ -1,6 +1,7 @@
 //! What the items of a merge say of each file.
 
-ghost use Rattle.std.specs.Prelude.{◌≡◌, [], IfOk, OnOk};
+ghost use Rattle.std.specs.Prelude.{◌≡◌, ◌==◌, if◌then◌else◌, [], ◌∷◌, ◌++◌, IfOk, OnOk};
+ghost use Rattle.std.specs.List.{list_any};
 ghost use Rattle.merge_words.specs.Files as spec;
 
 use crate::item::{Item, stands, track_in};
@@ -40,9 +41,9 @@ pub struct FileWords {
     pub named: List<u64>,
 }
 
-/// The files, each with what the items behind the file before it say.
+/// Each file, with what the items say that stand between the file before it and itself.
 pub(crate) fn files(alloc: Global, items: &[Item]) -> Result<List<FileWords>, AllocError>
-    ensures { IfOk result (λ files. files ≡ spec.files [] items.now) }
+    ensures { IfOk result (λ files. files ≡ spec.files items.now) }
 {
     let mut files = List::new(alloc);
     let mut start = 0;
@@ -241,21 +242,21 @@ fn cues_in(alloc: Global, items: &[Item]) -> Result<List<(u64, CueWord)>, AllocE
 fn named_in(alloc: Global, items: &[Item]) -> Result<List<u64>, AllocError>
     ensures { IfOk result (λ list. list ≡ spec.named_in items.now) }
 {
-    let mut list = List::new(alloc);
+    let mut ids = List::new(alloc);
     for item in items {
-        add_named(&mut list, &item.value)?;
+        add_ids(&mut ids, &item.value)?;
     }
-    Ok(list)
+    once(alloc, ids.as_slice())
 }
 
 /// Adds the tracks that a value names.
-fn add_named(list: &mut List<u64>, value: &Value) -> Result<(), AllocError>
-    ensures { OnOk result (list.new ≡ spec.once list.old (spec.ids_of value.now)) }
+fn add_ids(list: &mut List<u64>, value: &Value) -> Result<(), AllocError>
+    ensures { OnOk result (list.new ≡ list.old ++ spec.ids_of value.now) }
 {
     match value {
         Value::Tracks(select) => add_selected(list, select),
         _ => match track_in(value) {
-            Some(id) => add(list, id),
+            Some(id) => list.push(id),
             None => Ok(()),
         },
     }
@@ -263,7 +264,7 @@ fn add_named(list: &mut List<u64>, value: &Value) -> Result<(), AllocError>
 
 /// Adds the tracks that a selection names.
 fn add_selected(list: &mut List<u64>, select: &Select) -> Result<(), AllocError>
-    ensures { OnOk result (list.new ≡ spec.once list.old (spec.ids_of_select select.now)) }
+    ensures { OnOk result (list.new ≡ list.old ++ spec.ids_of_select select.now) }
 {
     match select {
         Select::These { ids } => add_all(list, ids.as_slice()),
@@ -273,17 +274,28 @@ fn add_selected(list: &mut List<u64>, select: &Select) -> Result<(), AllocError>
 }
 
 fn add_all(list: &mut List<u64>, ids: &[u64]) -> Result<(), AllocError>
-    ensures { OnOk result (list.new ≡ spec.once list.old ids.now) }
+    ensures { OnOk result (list.new ≡ list.old ++ ids.now) }
 {
     for id in ids {
-        add(list, *id)?;
+        list.push(*id)?;
     }
     Ok(())
 }
 
+/// The numbers in their order, each once.
+fn once(alloc: Global, ids: &[u64]) -> Result<List<u64>, AllocError>
+    ensures { IfOk result (λ list. list ≡ spec.once ids.now) }
+{
+    let mut list = List::new(alloc);
+    for id in ids {
+        add(&mut list, *id)?;
+    }
+    Ok(list)
+}
+
 /// Adds a number that isn't there yet.
 fn add(list: &mut List<u64>, id: u64) -> Result<(), AllocError>
-    ensures { OnOk result (list.new ≡ spec.with list.old id) }
+    ensures { OnOk result (list.new ≡ (if list_any (λ k. k == id) list.old then list.old else list.old ++ id ∷ [])) }
 {
     if list.as_slice().contains(&id) {
         return Ok(());

@@ -5,7 +5,7 @@ ghost use Rattle.word_values.specs.Answers.{Tells};
 ghost use Rattle.merge_words.specs.Items as spec;
 ghost use Rattle.word_values.specs.Place.{texts};
 
-use crate::options::{Meaning, Scope, Subject, meaning_of};
+use crate::options::{Meaning, Scope, Subject};
 use std::alloc::Global;
 use word_values::{
     ArgsEnd, Value, ValueEnd, ValueForm, Why, flag_of, is_option, name, refused, value_of, word_at,
@@ -24,17 +24,18 @@ pub(crate) struct Item {
     pub(crate) value: Value,
 }
 
-/// The item at a word, behind the items before it.
+/// The item at a word that means this as an option, behind the items before it.
 #[tactic(auto, unfolding(crate::specs::Items::item_at))]
 pub(crate) fn item_at(
     alloc: Global,
     words: &[String],
     at: usize,
     word: &str,
+    means: Option<Meaning>,
     before: &[Item],
 ) -> Result<Item, ArgsEnd>
     requires { at < length words.now }
-    ensures { Tells result (spec.item_at before.now at word.now (slice_get (texts words.now) (at + 1)) (length words.now)) }
+    ensures { Tells result (spec.item_at before.now (record { at = at; word = word.now; means = means; next = slice_get (texts words.now) (at + 1) }) (length words.now)) }
 {
     if word == "+" {
         return append_at(at, before);
@@ -42,7 +43,7 @@ pub(crate) fn item_at(
     if !is_option(word) {
         return file_at(alloc, at, word, before);
     }
-    match meaning_of(word) {
+    match means {
         None => refused(at, Why::UnknownOption),
         Some(means) => option_at(alloc, words, at, means, before),
     }
@@ -181,7 +182,7 @@ pub(crate) fn files_in(items: &[Item]) -> usize
 }
 
 /// The items behind the last file. Only these are looked at.
-#[tactic(auto, unfolding(crate::specs::Items::since_file))]
+#[tactic(auto, using(crate::proofs::ItemsLemmas::since_latest))]
 pub(crate) fn since_file(items: &[Item]) -> &[Item]
     ensures { result.now ≡ spec.since_file items.now }
 {

@@ -1,12 +1,12 @@
 //! The words of a merge: its items, what they lack, and what they say.
 
-ghost use Rattle.std.specs.Prelude.{◌≡◌, ◌≤◌, length};
+ghost use Rattle.std.specs.Prelude.{◌≡◌, if◌then◌else◌, length};
 ghost use Rattle.merge_words.specs.Merge as spec;
 ghost use Rattle.word_values.specs.Answers.{Tells};
 ghost use Rattle.word_values.specs.Place.{texts};
 
 use crate::item::{Item, files_in, item_at, since_file, stands};
-use crate::options::{Scope, Subject, meaning_of};
+use crate::options::{Meaning, Scope, Subject, meaning_of};
 use crate::output::{MergeWords, merge_words};
 use mkv_io::List;
 use std::alloc::Global;
@@ -31,21 +31,19 @@ fn items(alloc: Global, words: &[String]) -> Result<List<Item>, ArgsEnd>
     let mut items = List::new(alloc);
     let mut at = 1;
     while let Some(word) = word_at(words, at) {
-        let item = item_at(alloc, words, at, word, items.as_slice())?;
+        let means = meaning_of(word);
+        let item = item_at(alloc, words, at, word, means, items.as_slice())?;
         items.push(item)?;
-        at += width(word);
+        at += width(means);
     }
     Ok(items)
 }
 
-/// How many words an item takes that begins with this one.
-#[tactic(auto, unfolding(crate::specs::Merge::width))]
-fn width(word: &str) -> usize
-    ensures same { result ≡ spec.width word.now }
-    ensures least { 1 ≤ result }
-    ensures most { result ≤ 2 }
+/// How many words an item takes: an option without a value of its own takes the next.
+fn width(means: Option<Meaning>) -> usize
+    ensures { result ≡ (if spec.takes_next means then 2 else 1) }
 {
-    match meaning_of(word) {
+    match means {
         Some(means) if flag_of(means.form).is_none() => 2,
         _ => 1,
     }

@@ -1,43 +1,61 @@
 -- Sections and edits, read one option and its value at a time.
-use Rattle.std.proofs.Common.{◌≡◌, ℕ, ◌+◌, List, [], ◌∷◌, drop, Ok, Err, refl, sym, ap, ◌∙◌, arith}
+use Rattle.std.proofs.Common.{◌≡◌, ℕ, ◌+◌, List, [], ◌∷◌, ◌++◌, drop, Option, Result, Ok, Err, refl, sym, ap, ◌∙◌, arith, append_assoc}
 use Rattle.std.proofs.lemmas.List.{drop-drop}
 use Rattle.std.specs.Prelude.{slice_get}
 use Rattle.word_values.specs.declared.edit.Edit.{Edit}
+use Rattle.word_values.specs.declared.edit.Change.{Change}
+use Rattle.word_values.specs.declared.edit.Selector.{Selector}
 use Rattle.word_values.specs.declared.usage.Usage.{Usage}
-use Rattle.mkv_args.specs.declared.propedit.Stage.{Stage}
+use Rattle.mkv_args.specs.declared.propedit.Step.{Step}
+use Rattle.mkv_args.specs.declared.propedit.Saying.{Saying}
+use Rattle.mkv_args.specs.declared.propedit.Saying.TheVariants as says
 use Rattle.word_values.specs.declared.usage.ArgsEnd.{ArgsEnd}
 use Rattle.word_values.specs.declared.usage.ArgsEnd.TheVariants as args_end
-use Rattle.word_values.specs.Answers.{Tells, TellsOf, ◌>>=◌}
-use Rattle.mkv_args.specs.Propedit.{edits_from, turn, step_of}
+use Rattle.word_values.specs.Answers.{Tells, ◌>>=◌}
+use Rattle.mkv_args.specs.Propedit.{Pair, pairs, said, all_said, edits_in, step_of}
 use Rattle.word_values.proofs.PlaceLemmas.{next_is}
 
-edits_at : (count : ℕ) (stage : Stage) (before : List Edit) (at : ℕ) (w : List ℕ) (rest : List (List ℕ)) →
-    edits_from count stage before at (w ∷ rest) ≡ (turn stage (step_of w) before at (slice_get rest 0) count >>= (λ behind. edits_from count behind.0 behind.1 (at + 2) (drop 1 rest)))
-edits_at count stage before at w [] = refl
-edits_at count stage before at w (v ∷ vs) = refl
+-- an option and its value
+abbrev pair : ℕ → List ℕ → Option (List ℕ) → Pair
+pair at w value = record { at = at; option = w; value = value }
+
+-- the edits so far, and those that the words from a number on say
+abbrev pub edits_from : ℕ → List Edit → Selector → Option Step → ℕ → List (List ℕ) → Result (List Edit) Usage
+edits_from count list place before at ws = all_said count before (pairs at (drop at ws)) >>= (λ all. Ok (list ++ edits_in place all))
+
+pairs_more : (at : ℕ) (w : List ℕ) (rest : List (List ℕ)) → pairs at (w ∷ rest) ≡ pair at w (slice_get rest 0) ∷ pairs (at + 2) (drop 1 rest)
+pairs_more at w [] = refl
+pairs_more at w (v ∷ vs) = refl
 
 two_on : (at : ℕ) (ws : List (List ℕ)) → drop 1 (drop (at + 1) ws) ≡ drop (at + 2) ws
 two_on at ws = drop-drop 1 (at + 1) ws ∙ (let e : at + 1 + 1 ≡ at + 2 = omega arith in ap (λ k. drop k ws) e)
 
-next_back : (at : ℕ) (ws : List (List ℕ)) → slice_get (drop (at + 1) ws) 0 ≡ slice_get ws (at + 1)
-next_back at ws = sym (next_is ws at)
+-- the pairs from a word on
+pairs_at : (at : ℕ) (w : List ℕ) (ws : List (List ℕ)) → drop at ws ≡ w ∷ drop (at + 1) ws → pairs at (drop at ws) ≡ pair at w (slice_get ws (at + 1)) ∷ pairs (at + 2) (drop (at + 2) ws)
+pairs_at at w ws here = rw (here, pairs_more at w (drop (at + 1) ws), two_on at ws, next_is ws at) refl
 
--- an option and its value that may stand
-pub edits_next : (count : ℕ) (stage behind : Stage) (before all : List Edit) (at : ℕ) (w : List ℕ) (ws : List (List ℕ)) →
-    drop at ws ≡ w ∷ drop (at + 1) ws → turn stage (step_of w) before at (slice_get ws (at + 1)) count ≡ Ok (behind, all) →
-    edits_from count stage before at (drop at ws) ≡ edits_from count behind all (at + 2) (drop (at + 2) ws)
-edits_next count stage behind before all at w ws here is =
-    rw (here, edits_at count stage before at w (drop (at + 1) ws), (next_back at ws), is, two_on at ws) refl
+section_first : (list : List Edit) (place next : Selector) (r : Result (List Saying) Usage) →
+    ((r >>= (λ more. Ok (says.Section next ∷ more))) >>= (λ all. Ok (list ++ edits_in place all))) ≡ (r >>= (λ all. Ok (list ++ edits_in next all)))
+section_first list place next (Ok more) = refl
+section_first list place next (Err e) = refl
 
-edits_stop : (count : ℕ) (stage : Stage) (before : List Edit) (at : ℕ) (w : List ℕ) (ws : List (List ℕ)) (usage : Usage) →
-    drop at ws ≡ w ∷ drop (at + 1) ws → turn stage (step_of w) before at (slice_get ws (at + 1)) count ≡ Err usage →
-    edits_from count stage before at (drop at ws) ≡ Err usage
-edits_stop count stage before at w ws usage here is =
-    rw (here, edits_at count stage before at w (drop (at + 1) ws), (next_back at ws), is) refl
+change_first : (list : List Edit) (place : Selector) (change : Change) (name value : List ℕ) (r : Result (List Saying) Usage) →
+    ((r >>= (λ more. Ok (says.Change change name value ∷ more))) >>= (λ all. Ok (list ++ edits_in place all)))
+    ≡ (r >>= (λ all. Ok ((list ++ record { place = place; change = change; name = name; value = value } ∷ []) ++ edits_in place all)))
+change_first list place change name value (Ok more) = ap Ok (sym (append_assoc list (record { place = place; change = change; name = name; value = value } ∷ []) (edits_in place more)))
+change_first list place change name value (Err e) = refl
 
--- one that is wrong
-pub edits_fail : {Z : Type 0} (view : Z → Stage × List Edit) (end : ArgsEnd) (count : ℕ) (stage : Stage) (before : List Edit) (at : ℕ) (w : List ℕ) (ws : List (List ℕ)) →
-    drop at ws ≡ w ∷ drop (at + 1) ws → TellsOf view (Err end) (turn stage (step_of w) before at (slice_get ws (at + 1)) count) →
-    Tells {X = List Edit} (Err end) (edits_from count stage before at (drop at ws))
-edits_fail view (args_end.Usage usage) count stage before at w ws here is = edits_stop count stage before at w ws usage here is
-edits_fail view args_end.Memory count stage before at w ws here is = tt
+module _ (count : ℕ) (list : List Edit) (place : Selector) (before : Option Step) (at : ℕ) (w : List ℕ) (ws : List (List ℕ)) (here : drop at ws ≡ w ∷ drop (at + 1) ws) where
+  -- a section that may stand
+  pub section_next : (next : Selector) → said count before (pair at w (slice_get ws (at + 1))) ≡ Ok (says.Section next) → edits_from count list place before at ws ≡ edits_from count list next (step_of w) (at + 2) ws
+  section_next next is = rw (pairs_at at w ws here, is) (section_first list place next (all_said count (step_of w) (pairs (at + 2) (drop (at + 2) ws))))
+
+  -- an edit that may stand
+  pub change_next : (change : Change) (name value : List ℕ) → said count before (pair at w (slice_get ws (at + 1))) ≡ Ok (says.Change change name value)
+      → edits_from count list place before at ws ≡ edits_from count (list ++ record { place = place; change = change; name = name; value = value } ∷ []) place (step_of w) (at + 2) ws
+  change_next change name value is = rw (pairs_at at w ws here, is) (change_first list place change name value (all_said count (step_of w) (pairs (at + 2) (drop (at + 2) ws))))
+
+  -- what is wrong
+  pub edits_fail : (end : ArgsEnd) → Tells {X = Saying} (Err end) (said count before (pair at w (slice_get ws (at + 1)))) → Tells {X = List Edit} (Err end) (edits_from count list place before at ws)
+  edits_fail (args_end.Usage usage) is = rw (pairs_at at w ws here, is) refl
+  edits_fail args_end.Memory is = tt

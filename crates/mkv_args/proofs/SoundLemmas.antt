@@ -1,7 +1,7 @@
 -- A command that words ask for keeps its limits.
 use Rattle.std.proofs.Common.{◌≡◌, ◌≢◌, ◌<◌, ◌≤◌, ℕ, zero, suc, ◌+◌, Bool, true, false, ◌||◌, ◌&&◌, nat_lt, if◌then◌else◌, List, [], ◌∷◌, ◌++◌, length, length-append, drop, Option, Some, None, option_map, Result, Ok, Err, refl, sym, ◌∙◌, subst, arith}
-use Rattle.std.specs.Prelude.{slice_get, slice_index, ◌==◌, is_none, codes, All, IfOk}
-use Rattle.std.specs.List.{list_any, starts_with}
+use Rattle.std.specs.Prelude.{slice_get, is_none, codes, All, IfOk}
+use Rattle.std.specs.List.{list_any}
 use Rattle.std.specs.Str.{bytes_eq}
 use Rattle.std.proofs.lemmas.Bool.Decides.{nat_tests}
 use Rattle.std.proofs.lemmas.Slice.Eq.{bytes_eq-Decides}
@@ -17,7 +17,7 @@ use Rattle.word_values.specs.declared.edit.Change.TheVariants.{Set, Add, Delete}
 use Rattle.word_values.specs.declared.edit.Selector.{Selector}
 use Rattle.word_values.specs.declared.edit.Selector.TheVariants as selector_is
 use Rattle.word_values.specs.declared.usage.ArgsEnd.{ArgsEnd}
-use Rattle.word_values.specs.declared.usage.Why.TheVariants.{UnknownOption, BadValue, ExtraWord}
+use Rattle.word_values.specs.declared.usage.Why.TheVariants.{MissingValue, UnknownOption, BadValue, ExtraWord}
 use Rattle.word_values.specs.Answers.{Tells, wrong, ◌>>=◌}
 use Rattle.word_values.specs.Numbers.{below, from, number, cut}
 use Rattle.word_values.specs.Place.{due, due_at, file_at, end_at, is_option}
@@ -36,12 +36,13 @@ use Rattle.mkv_args.specs.declared.extract.Mode.{Mode}
 use Rattle.mkv_args.specs.declared.extract.Mode.TheVariants as mode
 use Rattle.mkv_args.specs.declared.propedit.Step.{Step}
 use Rattle.mkv_args.specs.declared.propedit.Step.TheVariants as step
-use Rattle.mkv_args.specs.declared.propedit.Stage.{Stage}
-use Rattle.mkv_args.specs.declared.propedit.Stage.TheVariants.{Outside, Opened, Within}
+use Rattle.mkv_args.specs.declared.propedit.TheConstants.{VIDEO_TRACK, AUDIO_TRACK, SUBTITLE_TRACK, EQUALS}
+use Rattle.mkv_args.specs.declared.propedit.Saying.{Saying}
+use Rattle.mkv_args.specs.declared.propedit.Saying.TheVariants as says
 use Rattle.mkv_args.specs.Entry.{meant}
 use Rattle.mkv_args.specs.Commands.{commands}
 use Rattle.mkv_args.specs.Extract.{is_taken, target_of, target, targets_from, targets, tracks_by, tracks, simple, chapters, listed, modes, job_of, job, extract}
-use Rattle.mkv_args.specs.Propedit.{place, typed, track, selector, step_of, selected, selector_at, edit_of, changed, edit_at, turn, closed, edits_from, edits, propedit}
+use Rattle.mkv_args.specs.Propedit.{place, typed, begins, track, selector, step_of, Pair, pairs, may_follow, may_end, following, changed, meaning, valued, saying_at, said, all_said, edits_in, edits, propedit}
 use Rattle.mkv_args.specs.Merge.{beside, identified, identify, is_word, merged_by, merge}
 use Rattle.mkv_args.specs.Words.{only_file, alone, info, recover, reindex, count_at, blocks_at, generate, command_named, first_command, is_short_help, helped, help_or, command}
 use Rattle.mkv_args.specs.Sound.{names_of, AreTargets, IsSoundJob, IsSoundPlace, AreEdits, IsSound}
@@ -178,95 +179,111 @@ typed-sound kind word s is = mapped IsSoundPlace (λ n. selector_is.Typed kind n
 
 track-sound : (word : List ℕ) (s : Selector) → track word ≡ Some s → IsSoundPlace s
 unfolding track
-track-sound word s is = split (slice_index word 0 == 118) (slice_index word 0 == 97) (slice_index word 0 == 115) (slice_index word 0 == 61) (slice_index word 0 == 64) is
+track-sound word s is = split (begins (codes "v") word) (begins (codes "a") word) (begins (codes "s") word) (begins (codes "=") word) (begins (codes "@") word) is
   where
     split : (v a t u n : Bool)
-        → (if v then typed 1 (drop 1 word) else if a then typed 2 (drop 1 word) else if t then typed 17 (drop 1 word) else if u then option_map selector_is.Uid (number (drop 1 word))
+        → (if v then typed VIDEO_TRACK (drop 1 word) else if a then typed AUDIO_TRACK (drop 1 word) else if t then typed SUBTITLE_TRACK (drop 1 word) else if u then option_map selector_is.Uid (number (drop 1 word))
         else if n then option_map selector_is.Number (number (drop 1 word)) else option_map selector_is.Nth (place word)) ≡ Some s → IsSoundPlace s
-    split true a t u n found = typed-sound 1 (drop 1 word) s found
-    split false true t u n found = typed-sound 2 (drop 1 word) s found
-    split false false true u n found = typed-sound 17 (drop 1 word) s found
+    split true a t u n found = typed-sound VIDEO_TRACK (drop 1 word) s found
+    split false true t u n found = typed-sound AUDIO_TRACK (drop 1 word) s found
+    split false false true u n found = typed-sound SUBTITLE_TRACK (drop 1 word) s found
     split false false false true n found = mapped IsSoundPlace selector_is.Uid (number (drop 1 word)) s found (λ k here. tt)
     split false false false false true found = mapped IsSoundPlace selector_is.Number (number (drop 1 word)) s found (λ k here. tt)
     split false false false false false found = mapped IsSoundPlace selector_is.Nth (place word) s found (place-sound word)
 
 selector-sound : (word : List ℕ) (s : Selector) → selector word ≡ Some s → IsSoundPlace s
 unfolding selector
-selector-sound word s is = split (bytes_eq word (codes "info")) (starts_with (λ a b. a == b) word (codes "track:")) is
+selector-sound word s is = split (bytes_eq word (codes "info")) (begins (codes "track:") word) is
   where
     split : (a b : Bool) → (if a then Some selector_is.Info else if b then track (drop 6 word) else None) ≡ Some s → IsSoundPlace s
     split true b found = let same : selector_is.Info ≡ s = cc in subst IsSoundPlace same tt
     split false true found = track-sound (drop 6 word) s found
     split false false found = absurd (cc)
 
-selector_at-sound : (at : ℕ) (next : Option (List ℕ)) (count : ℕ) (s : Selector) → selector_at at next count ≡ Ok s → IsSoundPlace s
-selector_at-sound at next count s is =
-    ok-then (IsSoundPlace s) (due count next) _ s is (λ word here more. split (selector word) (selector-sound word) more)
+-- a section that is said is sound
+abbrev IsSoundSaying : Saying → Type 0
+IsSoundSaying (says.Section place) = IsSoundPlace place
+IsSoundSaying (says.Change change name value) = Unit {0}
+
+abbrev is_change : Saying → Bool
+is_change (says.Section place) = false
+is_change (says.Change change name value) = true
+
+-- what is said keeps that, and is an edit where the option is one
+record IsSaid (o : Option Step) (y : Saying) : Type 0 where
+  sound : IsSoundSaying y
+  kind : is_change y ≡ may_end o
+
+changed-said : (change : Change) (word : List ℕ) (y : Saying) → changed change word ≡ Some y → IsSaid (Some (step.Edit change)) y
+changed-said change word y is = mapped (IsSaid (Some (step.Edit change))) (λ (p : List ℕ × List ℕ). says.Change change p.0 p.1) (cut EQUALS word) y is (λ p here. record { sound = tt; kind = refl })
+
+meaning-said : (s : Step) (word : List ℕ) (y : Saying) → meaning s word ≡ Some y → IsSaid (Some s) y
+meaning-said step.Section word y is = mapped (IsSaid (Some step.Section)) says.Section (selector word) y is (λ p here. record { sound = selector-sound word p here; kind = refl })
+meaning-said (step.Edit Delete) word y is = let same : says.Change Delete word [] ≡ y = cc in subst (IsSaid (Some (step.Edit Delete))) same (record { sound = tt; kind = refl })
+meaning-said (step.Edit Set) word y is = changed-said Set word y is
+meaning-said (step.Edit Add) word y is = changed-said Add word y is
+
+valued-said : (at : ℕ) (s : Step) (o : Option Saying) (y : Saying) → ((x : Saying) → o ≡ Some x → IsSaid (Some s) x) → valued at o ≡ Ok y → IsSaid (Some s) y
+valued-said at s None y own is = absurd (cc)
+valued-said at s (Some x) y own is = ok-made (IsSaid (Some s)) x y is (own x refl)
+
+saying_at-said : (at : ℕ) (s : Step) (value : Option (List ℕ)) (count : ℕ) (y : Saying) → saying_at at s value count ≡ Ok y → IsSaid (Some s) y
+saying_at-said at s value count y is = ok-then (IsSaid (Some s) y) (due count value) _ y is (λ word here more. valued-said at s (meaning s word) y (meaning-said s word) more)
+
+following-is : (at : ℕ) (before o : Option Step) (s : Step) → following at before o ≡ Ok s → Some s ≡ o
+following-is at before None s is = absurd (cc)
+following-is at before (Some x) s is = choose (may_follow before x) is
   where
-    split : (o : Option Selector) → ((p : Selector) → o ≡ Some p → IsSoundPlace p) → selected at o ≡ Ok s → IsSoundPlace s
-    split None sound found = absurd (cc)
-    split (Some p) sound found = ok-made IsSoundPlace p s found (sound p refl)
+    choose : (b : Bool) → (if b then Ok x else wrong at UnknownOption) ≡ Ok s → Some s ≡ Some x
+    choose true found = cc
+    choose false found = absurd (cc)
 
-edit_of-place : (p : Selector) (change : Change) (at : ℕ) (o : Option (List ℕ × List ℕ)) (e : Edit) → edit_of p change at o ≡ Ok e → e.place ≡ p
-edit_of-place p change at None e is = absurd (cc)
-edit_of-place p change at (Some cut_word) e is = ok-made (λ (x : Edit). x.place ≡ p) (record { place = p; change = change; name = cut_word.0; value = cut_word.1 }) e is refl
-
-changed-place : (p : Selector) (change : Change) (at : ℕ) (word : List ℕ) (e : Edit) → changed p change at word ≡ Ok e → e.place ≡ p
-changed-place p Delete at word e is = ok-made (λ (x : Edit). x.place ≡ p) (record { place = p; change = Delete; name = word; value = [] }) e is refl
-changed-place p Set at word e is = edit_of-place p Set at (cut 61 word) e is
-changed-place p Add at word e is = edit_of-place p Add at (cut 61 word) e is
-
-edit_at-place : (p : Selector) (change : Change) (at : ℕ) (next : Option (List ℕ)) (count : ℕ) (e : Edit) → edit_at p change at next count ≡ Ok e → e.place ≡ p
-edit_at-place p change at next count e is = ok-then (e.place ≡ p) (due count next) _ e is (λ word here more. changed-place p change at word e more)
+pair-said : (count : ℕ) (before : Option Step) (p : Pair) (y : Saying) → said count before p ≡ Ok y → IsSaid (step_of p.option) y
+pair-said count before p y is =
+    ok-then (IsSaid (step_of p.option) y) (following p.at before (step_of p.option)) _ y is (λ s here more.
+    subst (λ o. IsSaid o y) (following-is p.at before (step_of p.option) s here) (saying_at-said (p.at + 1) s p.value count y more))
 
 abbrev HavePlaces : List Edit → Type 0
 HavePlaces list = All (λ (e : Edit). IsSoundPlace e.place) list
 
--- what a stage keeps: its section is sound, and there is an edit where the words may end
-abbrev IsSoundStage : Stage × List Edit → Type 0
-IsSoundStage (Outside, list) = HavePlaces list
-IsSoundStage (Opened p, list) = IsSoundPlace p × HavePlaces list
-IsSoundStage (Within p, list) = IsSoundPlace p × HavePlaces list × (0 < length list)
+-- the edits are sound, and there is one where none was said before
+record AreKept (place : Selector) (before : Option Step) (all : List Saying) : Type 0 where
+  places : HavePlaces (edits_in place all)
+  some : may_end before ≡ false → 0 < length (edits_in place all)
 
-opened : (before : List Edit) (at : ℕ) (next : Option (List ℕ)) (count : ℕ) (y : Stage × List Edit) → HavePlaces before → (selector_at at next count >>= (λ p. Ok (Opened p, before))) ≡ Ok y → IsSoundStage y
-opened before at next count y places is =
-    ok-then (IsSoundStage y) (selector_at at next count) _ y is (λ p here more. ok-made IsSoundStage (Opened p, before) y more (selector_at-sound at next count p here, places))
+all_said-kept : (count : ℕ) (before : Option Step) (ps : List Pair) (place : Selector) (all : List Saying) → IsSoundPlace place → all_said count before ps ≡ Ok all → AreKept place before all
+all_said-kept count before [] place all sound is = choose (may_end before) refl is
+  where
+    choose : (b : Bool) → may_end before ≡ b → (if b then Ok [] else wrong count MissingValue) ≡ Ok all → AreKept place before all
+    choose true ends found = ok-made (AreKept place before) [] all found (record { places = All-nil (λ (e : Edit). IsSoundPlace e.place); some = λ never. absurd (let both : true ≡ false = sym ends ∙ never in cc) })
+    choose false ends found = absurd (cc)
+all_said-kept count before (p ∷ ps) place all sound is =
+    ok-then (AreKept place before all) (said count before p) _ all is (λ y here more.
+    ok-then (AreKept place before all) (all_said count (step_of p.option) ps) _ all more (λ rest there last.
+    ok-made (AreKept place before) (y ∷ rest) all last (joined y rest (pair-said count before p y here) (λ next own. all_said-kept count (step_of p.option) ps next rest own there))))
+  where
+    joined : (y : Saying) (rest : List Saying) → IsSaid (step_of p.option) y → ((next : Selector) → IsSoundPlace next → AreKept next (step_of p.option) rest) → AreKept place before (y ∷ rest)
+    joined (says.Section next) rest own behind =
+        let kept = behind next own.sound in
+        record { places = kept.places; some = λ _. kept.some (sym own.kind) }
+    joined (says.Change change name value) rest own behind = record {
+      places = All-cons (λ (e : Edit). IsSoundPlace e.place) (record { place = place; change = change; name = name; value = value }) (edits_in place rest) sound (behind place sound).places;
+      some = λ _. omega arith;
+    }
 
-edited : (p : Selector) (change : Change) (before : List Edit) (at : ℕ) (next : Option (List ℕ)) (count : ℕ) (y : Stage × List Edit) → IsSoundPlace p → HavePlaces before
-    → (edit_at p change at next count >>= (λ e. Ok (Within p, before ++ e ∷ []))) ≡ Ok y → IsSoundStage y
-edited p change before at next count y sound places is =
-    ok-then (IsSoundStage y) (edit_at p change at next count) _ y is (λ e here more.
-    let there : IsSoundPlace e.place = subst IsSoundPlace (sym (edit_at-place p change at next count e here)) sound in
-    ok-made IsSoundStage (Within p, before ++ e ∷ []) y more
-    (sound, All-append (λ (x : Edit). IsSoundPlace x.place) before (e ∷ []) places (All-cons (λ (x : Edit). IsSoundPlace x.place) e [] there (All-nil (λ (x : Edit). IsSoundPlace x.place))), omega (arith, length-append before (e ∷ []))))
-
-turn-sound : (stage : Stage) (o : Option Step) (before : List Edit) (at : ℕ) (next : Option (List ℕ)) (count : ℕ) (y : Stage × List Edit) → IsSoundStage (stage, before) → turn stage o before at next count ≡ Ok y → IsSoundStage y
-turn-sound stage None before at next count y sound is = absurd (cc)
-turn-sound Outside (Some step.Section) before at next count y sound is = opened before (at + 1) next count y sound is
-turn-sound (Within p) (Some step.Section) before at next count y sound is = opened before (at + 1) next count y sound.1 is
-turn-sound (Opened p) (Some step.Section) before at next count y sound is = absurd (cc)
-turn-sound Outside (Some (step.Edit change)) before at next count y sound is = absurd (cc)
-turn-sound (Opened p) (Some (step.Edit change)) before at next count y sound is = edited p change before (at + 1) next count y sound.0 sound.1 is
-turn-sound (Within p) (Some (step.Edit change)) before at next count y sound is = edited p change before (at + 1) next count y sound.0 sound.1 is
-
-closed-sound : (stage : Stage) (before : List Edit) (count : ℕ) (list : List Edit) → IsSoundStage (stage, before) → closed stage before count ≡ Ok list → AreEdits list
-closed-sound Outside before count list sound is = absurd (cc)
-closed-sound (Opened p) before count list sound is = absurd (cc)
-closed-sound (Within p) before count list sound is = ok-made AreEdits before list is (record { some = sound.2; each = sound.1 })
-
-edits_from-sound : (count : ℕ) (stage : Stage) (before : List Edit) (at : ℕ) (words : List (List ℕ)) (list : List Edit) → IsSoundStage (stage, before) → edits_from count stage before at words ≡ Ok list → AreEdits list
-edits_from-sound count stage before at [] list sound is = closed-sound stage before count list sound is
-edits_from-sound count stage before at (w ∷ []) list sound is =
-    ok-then (AreEdits list) (turn stage (step_of w) before at None count) _ list is (λ y here more. closed-sound y.0 y.1 count list (turn-sound stage (step_of w) before at None count y sound here) more)
-edits_from-sound count stage before at (w ∷ v ∷ ws) list sound is =
-    ok-then (AreEdits list) (turn stage (step_of w) before at (Some v) count) _ list is (λ y here more. edits_from-sound count y.0 y.1 (at + 2) ws list (turn-sound stage (step_of w) before at (Some v) count y sound here) more)
+edits-sound : (words : List (List ℕ)) (list : List Edit) → edits words ≡ Ok list → AreEdits list
+unfolding edits
+edits-sound words list is =
+    ok-then (AreEdits list) (all_said (length words) None (pairs 2 (drop 2 words))) _ list is (λ all here more.
+    let kept = all_said-kept (length words) None (pairs 2 (drop 2 words)) selector_is.Info all tt here in
+    ok-made AreEdits (edits_in selector_is.Info all) list more (record { some = kept.some refl; each = kept.places }))
 
 propedit-sound : (words : List (List ℕ)) (c : Command) → propedit words ≡ Ok c → IsSound c
-unfolding propedit edits
+unfolding propedit
 propedit-sound words c is =
     ok-then (IsSound c) (file_at words 1) _ c is (λ file here more.
     ok-then (IsSound c) (edits words) _ c more (λ list there last.
-    ok-made IsSound (command_is.Propedit file list) c last (edits_from-sound (length words) Outside [] 2 (drop 2 words) list (All-nil (λ (e : Edit). IsSoundPlace e.place)) there)))
+    ok-made IsSound (command_is.Propedit file list) c last (edits-sound words list there)))
 
 -- ---- the commands
 

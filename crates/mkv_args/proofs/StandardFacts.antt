@@ -1,7 +1,7 @@
 -- Lines of words with the commands that they mean, computed, so that a wrong definition does not check. What they mean
 -- was written down by hand.
-use Rattle.std.proofs.Common.{◌≡◌, ℕ, ◌==◌, Bool, true, false, List, [], ◌∷◌, ◌++◌, replicate, codes, Option, Some, None, Result, Ok, map, refl}
-use Rattle.std.specs.Prelude.{ℤ, pos, neg_ℤ}
+use Rattle.std.proofs.Common.{◌≡◌, ℕ, ◌==◌, true, false, List, [], ◌∷◌, ◌++◌, replicate, codes, Option, Some, None, Result, Ok, map, refl}
+use Rattle.std.specs.Prelude.{pos, neg_ℤ}
 use Rattle.std.specs.List.{flat_map, slice_split}
 use Rattle.word_values.specs.declared.edit.Change.{Change}
 use Rattle.word_values.specs.declared.edit.Change.TheVariants.{Set, Add, Delete}
@@ -31,7 +31,7 @@ use Rattle.merge_words.specs.Options.{meaning_of, table}
 use Rattle.merge_words.specs.Items.{append_at, file_at, item_at, option_at, since_file}
 use Rattle.merge_words.specs.Files.{file, named_in}
 use Rattle.merge_words.specs.Output.{merge_words}
-use Rattle.merge_words.specs.Merge.{complete, items, merged, width}
+use Rattle.merge_words.specs.Merge.{complete, items, merged}
 use Rattle.mkv_args.specs.Commands.{commands as verbs}
 use Rattle.mkv_args.specs.Extract.{chapters, extract, job, job_of, modes, target, targets, tracks}
 use Rattle.mkv_args.specs.Merge.{beside, identify, merge}
@@ -190,7 +190,7 @@ pub outputs : Hold (
     asks (codes "merge -o o --cluster-length 100ms f") (commands.Merge (record (merging (codes "o") (plain (codes "f") ∷ [])) { span = 100000000 })) ∷
     asks (codes "merge -o o --cluster-length 32000ms f") (commands.Merge (record (merging (codes "o") (plain (codes "f") ∷ [])) { span = 32000000000 })) ∷
     [])
-unfolding command first_command command_named verbs merge merged items complete width meaning_of table item_at option_at append_at file_at since_file merge_words file named_in value_of text scale cluster_length number whole
+unfolding command first_command command_named verbs merge merged items complete meaning_of table item_at option_at append_at file_at since_file merge_words file named_in value_of text scale cluster_length number whole
 outputs = refl
 
 -- `merge --split`
@@ -213,7 +213,7 @@ pub splits-of-merges : Hold (
     asks_split (codes "merge -o o --split size:17179869184g f") (splits.Size 18446744073709551615) ∷
     asks_split (codes "merge -o o --split size:999999999999g f") (splits.Size 18446744073709551615) ∷
     [])
-unfolding command first_command command_named verbs merge merged items complete width meaning_of table item_at option_at append_at file_at since_file merge_words file named_in value_of split split_of duration chapters_split spans span times numbers size amount time clock seconds fraction sixtieth cut number whole
+unfolding command first_command command_named verbs merge merged items complete meaning_of table item_at option_at append_at file_at since_file merge_words file named_in value_of split split_of duration chapters_split spans span times numbers size amount time clock seconds fraction sixtieth cut number whole
 splits-of-merges = refl
 
 -- `merge` with `--segment-uid`, `--link` and `-J`
@@ -223,7 +223,7 @@ pub identifiers : Hold (
     asks (codes "merge -J f") (commands.Identify (codes "f")) ∷
     asks (codes "merge -J -") (commands.Identify (codes "-")) ∷
     [])
-unfolding command first_command command_named verbs merge merged items complete width meaning_of table item_at option_at append_at file_at since_file merge_words file named_in value_of identify beside uuids uuid
+unfolding command first_command command_named verbs merge merged items complete meaning_of table item_at option_at append_at file_at since_file merge_words file named_in value_of identify beside uuids uuid
 identifiers = refl
 
 -- `merge`, for the next file
@@ -238,7 +238,7 @@ pub selections : Hold (
     asks_merge (codes "merge -o o -M -T --no-global-tags --no-chapters f g") (codes "o") (record (plain (codes "f")) { attachments = false; track_tags = false; global_tags = false; chapters = false } ∷ plain (codes "g") ∷ []) ∷
     asks_file (codes "merge -o o --no-attachments --no-track-tags f") (record (plain (codes "f")) { attachments = false; track_tags = false }) ∷
     [])
-unfolding command first_command command_named verbs merge merged items complete width meaning_of table item_at option_at append_at file_at since_file merge_words file named_in value_of ids numbers number whole
+unfolding command first_command command_named verbs merge merged items complete meaning_of table item_at option_at append_at file_at since_file merge_words file named_in value_of ids numbers number whole
 selections = refl
 
 -- `merge`, for one track of the next file
@@ -258,7 +258,7 @@ pub options-of-tracks : Hold (
     asks_file (codes "merge -o o --timestamps 0:t.txt f") (record (plain (codes "f")) { times = ((0, codes "t.txt") ∷ []); named = (0 ∷ []) }) ∷
     asks_file (codes "merge -o o --timestamps 1: -a !4 f") (record (plain (codes "f")) { audio = AllBut (4 ∷ []); times = ((1, []) ∷ []); named = (1 ∷ 4 ∷ []) }) ∷
     [])
-unfolding command first_command command_named verbs merge merged items complete width meaning_of table item_at option_at append_at file_at since_file merge_words file named_in value_of text language ids numbers track_flag track_value track_and_rest cue_word delay delay_size cut number whole
+unfolding command first_command command_named verbs merge merged items complete meaning_of table item_at option_at append_at file_at since_file merge_words file named_in value_of text language ids numbers track_flag track_value track_and_rest cue_word delay delay_size cut number whole
 options-of-tracks = refl
 
 -- `merge` with `+`, with options behind the last file, and with many files
@@ -268,5 +268,5 @@ pub joins : Hold (
     asks_merge (codes "merge -o o f + g + h") (codes "o") (plain (codes "f") ∷ record (plain (codes "g")) { appended = true } ∷ record (plain (codes "h")) { appended = true } ∷ []) ∷
     asks_merge (codes "merge -o o" ++ flat_map {X = ℕ} (λ _. codes " f") (replicate 64 0)) (codes "o") (replicate 64 (plain (codes "f"))) ∷
     [])
-unfolding command first_command command_named verbs merge merged items complete width meaning_of table item_at option_at append_at file_at since_file merge_words file named_in value_of ids numbers number whole
+unfolding command first_command command_named verbs merge merged items complete meaning_of table item_at option_at append_at file_at since_file merge_words file named_in value_of ids numbers number whole
 joins = refl

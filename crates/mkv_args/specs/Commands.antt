@@ -1,4 +1,4 @@
--- The names of the commands, with what `--help` says of them.
+-- The names of the commands, with what `--help` says of them. They are this project's.
 use Rattle.std.specs.Prelude.{List, [], ◌∷◌, codes}
 use Rattle.mkv_args.specs.declared.commands.Verb.{Verb}
 use Rattle.mkv_args.specs.declared.commands.Verb.TheVariants as verb

@@ -1,4 +1,4 @@
--- The words of `merge`: what is merged, or `-J` and the file that is identified.
+-- The words of `merge`: what is merged, or `-J` and the file that is identified. They are this project's, after mkvmerge(1).
 use Rattle.std.specs.Prelude.{ℕ, Bool, false, ◌&&◌, ◌||◌, if◌then◌else◌, List, slice_get, codes, Option, Some, None, is_none, Result, Ok}
 use Rattle.std.specs.Str.{bytes_eq}
 use Rattle.word_values.specs.declared.usage.Usage.{Usage}

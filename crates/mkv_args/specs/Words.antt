@@ -1,4 +1,4 @@
--- The words of a command line: a command, or the first word that is wrong and why.
+-- The words of a command line: a command, or the first word that is wrong and why. They are this project's.
 use Rattle.std.specs.Prelude.{ℕ, Bool, ◌&&◌, if◌then◌else◌, List, [], ◌∷◌, slice_get, codes, Option, Some, None, is_none, option_and_then, Result, Ok}
 use Rattle.word_values.specs.declared.usage.Usage.{Usage}
 use Rattle.word_values.specs.declared.usage.Why.TheVariants.{NoCommand, UnknownCommand, BadValue}

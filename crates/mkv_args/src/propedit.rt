@@ -1,7 +1,7 @@
 //! The words of `propedit`.
 
 ghost use Rattle.std.specs.Prelude.{◌≡◌, ◌+◌, ◌<◌, length, map, slice_get};
-ghost use Rattle.word_values.specs.Answers.{Tells, TellsOf};
+ghost use Rattle.word_values.specs.Answers.{Reads, Tells};
 ghost use Rattle.mkv_args.specs.Entry as entry;
 ghost use Rattle.mkv_args.specs.Propedit as spec;
 ghost use Rattle.word_values.specs.Place.{texts};
@@ -11,25 +11,38 @@ use crate::entry::{Entry, meant};
 use mkv_io::{List, Text};
 use std::alloc::Global;
 use word_values::{
-    ArgsEnd, Change, Edit, Selector, Why, cut_text, due_at, file_at, name, number, refused, word_at,
+    ArgsEnd, Change, Edit, Selector, ValueEnd, Why, cut_text, due_at, file_at, name, number,
+    refused, word_at,
 };
+
+/// The TrackTypes that have a letter.
+pub const VIDEO_TRACK: u64 = 1;
+
+pub const AUDIO_TRACK: u64 = 2;
+
+pub const SUBTITLE_TRACK: u64 = 17;
+
+/// What stands between a property and its value.
+pub const EQUALS: char = '=';
 
 /// What an option of `propedit` begins.
 #[derive(Clone, Copy, PartialEq, Eq)]
-pub(crate) enum Step {
+pub enum Step {
     Section,
     Edit(Change),
 }
 
-/// Where a word stands among the sections.
-#[derive(Clone, Copy, PartialEq, Eq)]
-pub(crate) enum Stage {
-    /// A section is due.
-    Outside,
-    /// An edit of this section is due.
-    Opened(Selector),
-    /// A section or an edit may stand.
-    Within(Selector),
+/// What an option of `propedit` says with its value.
+#[derive(Drop)]
+pub enum Saying {
+    /// The edits behind it are for this section.
+    Section(Selector),
+    /// A property of the last section before it changes.
+    Change {
+        change: Change,
+        name: Text,
+        value: Text,
+    },
 }
 
 /// `propedit FILE`, then sections.
@@ -51,40 +64,62 @@ fn edits(alloc: Global, words: &[String]) -> Result<List<Edit>, ArgsEnd>
     ensures { Tells result (spec.edits (texts words.now)) }
 {
     let mut list = List::new(alloc);
-    let mut stage = Stage::Outside;
+    let mut place = Selector::Info;
+    let mut before = None;
     let mut at = 2;
     while let Some(word) = word_at(words, at) {
-        stage = turn(alloc, words, at, word, stage, &mut list)?;
+        match said(alloc, words, at, word, before)? {
+            Saying::Section(next) => place = next,
+            Saying::Change {
+                change,
+                name,
+                value,
+            } => list.push(Edit {
+                place,
+                change,
+                name,
+                value,
+            })?,
+        }
+        before = step_of(word);
         at += 2;
     }
-    match stage {
-        Stage::Within(_) => Ok(list),
-        _ => refused(words.len(), Why::MissingValue),
+    if !may_end(before) {
+        return refused(words.len(), Why::MissingValue);
+    }
+    Ok(list)
+}
+
+/// Whether the words may end behind this option.
+fn may_end(before: Option<Step>) -> bool
+    ensures { result ≡ spec.may_end before }
+{
+    matches!(before, Some(Step::Edit(_)))
+}
+
+/// Whether a section or an edit may stand behind this option. A section has edits.
+fn may_follow(before: Option<Step>, step: Step) -> bool
+    ensures { result ≡ spec.may_follow before step }
+{
+    match (before, step) {
+        (None, Step::Edit(_)) | (Some(Step::Section), Step::Section) => false,
+        _ => true,
     }
 }
 
-/// The stage behind an option and its value. An edit joins those before it.
-fn turn(
+/// What the option at a word says with its value, behind the option before it.
+fn said(
     alloc: Global,
     words: &[String],
     at: usize,
     word: &str,
-    stage: Stage,
-    list: &mut List<Edit>,
-) -> Result<Stage, ArgsEnd>
+    before: Option<Step>,
+) -> Result<Saying, ArgsEnd>
     requires { at < length words.now }
-    ensures { TellsOf (λ stage. (stage, list.new)) result (spec.turn stage (spec.step_of word.now) list.old at (slice_get (texts words.now) (at + 1)) (length words.now)) }
+    ensures { Tells result (spec.said (length words.now) before (record { at = at; option = word.now; value = slice_get (texts words.now) (at + 1) })) }
 {
-    match (stage, step_of(word)) {
-        (Stage::Outside | Stage::Within(_), Some(Step::Section)) => {
-            let place = selector_at(words, at + 1)?;
-            Ok(Stage::Opened(place))
-        }
-        (Stage::Opened(place) | Stage::Within(place), Some(Step::Edit(change))) => {
-            let edit = edit_at(alloc, place, change, words, at + 1)?;
-            list.push(edit)?;
-            Ok(Stage::Within(place))
-        }
+    match step_of(word) {
+        Some(step) if may_follow(before, step) => saying_at(alloc, words, at + 1, step),
         _ => refused(at, Why::UnknownOption),
     }
 }
@@ -112,14 +147,47 @@ fn step_of(word: &str) -> Option<Step>
     meant(steps(), word)
 }
 
-/// The section that a word names.
-fn selector_at(words: &[String], at: usize) -> Result<Selector, ArgsEnd>
-    ensures { Tells result (spec.selector_at at (slice_get (texts words.now) at) (length words.now)) }
+/// What an option says with the value at a word.
+fn saying_at(alloc: Global, words: &[String], at: usize, step: Step) -> Result<Saying, ArgsEnd>
+    ensures { Tells result (spec.saying_at at step (slice_get (texts words.now) at) (length words.now)) }
 {
-    match selector(due_at(words, at)?.as_bytes()) {
-        Some(place) => Ok(place),
-        None => refused(at, Why::BadValue),
+    match meaning(alloc, step, due_at(words, at)?) {
+        Ok(saying) => Ok(saying),
+        Err(ValueEnd::Bad) => refused(at, Why::BadValue),
+        Err(ValueEnd::Memory) => Err(ArgsEnd::Memory),
     }
+}
+
+/// What an option says with its value.
+fn meaning(alloc: Global, step: Step, word: &str) -> Result<Saying, ValueEnd>
+    ensures { Reads result (spec.meaning step word.now) }
+{
+    match step {
+        Step::Section => match selector(word.as_bytes()) {
+            Some(place) => Ok(Saying::Section(place)),
+            None => Err(ValueEnd::Bad),
+        },
+        Step::Edit(Change::Delete) => Ok(Saying::Change {
+            change: Change::Delete,
+            name: name(alloc, word)?,
+            value: Text::new(alloc),
+        }),
+        Step::Edit(change) => changed(alloc, change, word),
+    }
+}
+
+/// `NAME=VALUE`, where the name ends at the first `=`.
+fn changed(alloc: Global, change: Change, word: &str) -> Result<Saying, ValueEnd>
+    ensures { Reads result (spec.changed change word.now) }
+{
+    let Some((property, value)) = cut_text(word, EQUALS) else {
+        return Err(ValueEnd::Bad);
+    };
+    Ok(Saying::Change {
+        change,
+        name: name(alloc, property)?,
+        value: name(alloc, value)?,
+    })
 }
 
 /// `info`, `track:n`, `track:vN`, `track:aN`, `track:sN`, `track:=UID` or `track:@number`.
@@ -139,9 +207,9 @@ fn track(word: &[u8]) -> Option<Selector>
     ensures { result ≡ spec.track word.now }
 {
     match word {
-        [b'v', rest @ ..] => typed(1, rest),
-        [b'a', rest @ ..] => typed(2, rest),
-        [b's', rest @ ..] => typed(17, rest),
+        [b'v', rest @ ..] => typed(VIDEO_TRACK, rest),
+        [b'a', rest @ ..] => typed(AUDIO_TRACK, rest),
+        [b's', rest @ ..] => typed(SUBTITLE_TRACK, rest),
         [b'=', rest @ ..] => Some(Selector::Uid { uid: number(rest)? }),
         [b'@', rest @ ..] => Some(Selector::Number {
             number: number(rest)?,
@@ -167,34 +235,4 @@ fn place(word: &[u8]) -> Option<u64>
 {
     let n = number(word)?;
     if n >= 1 { Some(n) } else { None }
-}
-
-/// The edit whose value stands at a word: `n=v`, or `n` alone for a deletion.
-fn edit_at(
-    alloc: Global,
-    place: Selector,
-    change: Change,
-    words: &[String],
-    at: usize,
-) -> Result<Edit, ArgsEnd>
-    ensures { Tells result (spec.edit_at place change at (slice_get (texts words.now) at) (length words.now)) }
-{
-    let word = due_at(words, at)?;
-    if change == Change::Delete {
-        return Ok(Edit {
-            place,
-            change,
-            name: name(alloc, word)?,
-            value: Text::new(alloc),
-        });
-    }
-    let Some((property, value)) = cut_text(word, '=') else {
-        return refused(at, Why::BadValue);
-    };
-    Ok(Edit {
-        place,
-        change,
-        name: name(alloc, property)?,
-        value: name(alloc, value)?,
-    })
 }

@@ -11,7 +11,7 @@ use Rattle.merge_words.specs.declared.options.Subject.TheVariants as subject
 use Rattle.merge_words.specs.declared.options.Scope.TheVariants as scope
 use Rattle.merge_words.specs.Options.{meaning_of, table}
 use Rattle.merge_words.specs.Items.{item_at, append_at, file_at, files_in, stands, is_file, since_file}
-use Rattle.merge_words.specs.Merge.{starts, read_all, width}
+use Rattle.merge_words.specs.Merge.{starts, read_all}
 use Rattle.merge_words.specs.Sound.{IsSoundFile}
 use Rattle.word_laws.specs.Names.{IsInput}
 use Rattle.word_laws.specs.Values.{delay_word, flag_word, cues_word}
@@ -139,13 +139,13 @@ file_readable f sound is = (
 -- ---- a `+`, and the name
 join_read : (count : ℕ) (before : List Item) (at : ℕ) (b : Bool) (rest : List (List ℕ)) → (b ≡ true → (files_in before == 0) ≡ false) → stands subject.Append (since_file before) ≡ false
     → read_all count before (starts at (flag (codes "+") b ++ rest)) ≡ read_all count (before ++ said_items at subject.Append scope.File (said_flag (codes "+") Flag b)) (starts (after_said at (said_flag (codes "+") Flag b)) rest)
-unfolding item_at append_at width meaning_of
+unfolding item_at append_at meaning_of
 join_read count before at false rest some free = rw (append-nil before) refl
 join_read count before at true rest some free = read_one count before at (codes "+") None (item at subject.Append scope.File Flag) rest refl (rw (some refl) (rw free refl))
 
 name_read : (count : ℕ) (before : List Item) (at : ℕ) (name : List ℕ) (rest : List (List ℕ)) → IsInput name → nat_le 64 (files_in before) ≡ false
     → read_all count before (starts at (name ∷ rest)) ≡ read_all count (before ++ item at subject.File scope.Output (Name name) ∷ []) (starts (at + 1) rest)
-unfolding item_at file_at width meaning_of
+unfolding item_at file_at meaning_of
 name_read count before at name rest is few =
     read_one count before at name None (item at subject.File scope.Output (Name name)) rest (rw is.file refl) (rw (other_word name (codes "+") is.joins) (rw is.file (rw few refl)))
 

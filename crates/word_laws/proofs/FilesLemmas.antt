@@ -1,5 +1,5 @@
 -- The files of a merge are read back, one behind the other.
-use Rattle.std.proofs.Common.{◌≡◌, ◌<◌, ◌≤◌, ℕ, ◌+◌, Bool, true, false, ◌&&◌, ◌||◌, if◌then◌else◌, List, [], ◌∷◌, ◌++◌, length, Ok, refl, ◌∙◌, arith, append_assoc, All}
+use Rattle.std.proofs.Common.{◌≡◌, ◌<◌, ◌≤◌, ℕ, ◌+◌, Bool, true, false, ◌&&◌, ◌||◌, List, [], ◌∷◌, ◌++◌, length, Ok, refl, ◌∙◌, arith, append_assoc, All}
 use Rattle.std.proofs.lemmas.Bool.Decides.{nat_tests}
 use Rattle.std.proofs.lemmas.List.{append-nil}
 use Rattle.std.proofs.lemmas.List.Elements.{All-head, All-tail}
@@ -10,10 +10,12 @@ use Rattle.merge_words.specs.declared.files.FileWords.{FileWords}
 use Rattle.merge_words.specs.declared.options.Subject.TheVariants as subject
 use Rattle.merge_words.specs.declared.options.Scope.{Scope}
 use Rattle.merge_words.specs.declared.options.Scope.TheVariants as scope
-use Rattle.merge_words.specs.Items.{files_in, stands, is_file, since_file, latest}
-use Rattle.merge_words.specs.Files.{file, files}
+use Rattle.merge_words.specs.Items.{files_in, stands, is_file, since_file}
+use Rattle.merge_words.specs.Files.{file}
 use Rattle.merge_words.specs.Merge.{starts, read_all}
 use Rattle.merge_words.specs.Sound.{IsSoundFile}
+use Rattle.merge_words.proofs.ItemsLemmas.{latest_file, since_latest}
+use Rattle.merge_words.proofs.FilesLemmas.{files_from}
 use Rattle.word_laws.specs.SpelledMerge.{file_words}
 use Rattle.word_laws.specs.SpellableMerge.{IsMergeFile}
 use Rattle.word_laws.proofs.SayingLemmas.{Item, Piece, item, piece_items, after_pieces, other_stands}
@@ -22,19 +24,10 @@ use Rattle.word_laws.proofs.FileLemmas.{group, file_items, after_file, file_read
 use Rattle.word_laws.proofs.OwnLemmas.{group_says, file_is}
 
 -- ---- behind a file nothing is said yet
-latest_file : (before items : List Item) (i : Item) → is_file i ≡ true → latest before (items ++ i ∷ []) ≡ []
-latest_file before [] i named = rw named refl
-latest_file before (x ∷ xs) i named =
-    elim (is_file x) as (λ b. (if b then latest [] (xs ++ i ∷ []) else latest (before ++ x ∷ []) (xs ++ i ∷ [])) ≡ []) [
-      | true ↦ latest_file [] xs i named
-      | false ↦ latest_file (before ++ x ∷ []) xs i named
-    ]
-
 pub none_since : (before : List Item) (at : ℕ) (f : FileWords) → since_file (before ++ file_items at f) ≡ []
-unfolding since_file
 none_since before at f =
     let last = item (after_pieces at (group f)) subject.File scope.Output (Name f.name) in
-    rw (← append_assoc before (piece_items at (group f)) (last ∷ [])) (latest_file [] (before ++ piece_items at (group f)) last refl)
+    since_latest (before ++ file_items at f) ∙ rw (← append_assoc before (piece_items at (group f)) (last ∷ [])) (latest_file [] (before ++ piece_items at (group f)) last refl)
 
 abbrev in_file : Scope → Bool
 in_file scope.Output = false
@@ -79,22 +72,22 @@ files_read (f ∷ fs) count before at sound are some few none =
     here ∙ (next ∙ rw (append_assoc before (file_items at f) (files_items (after_file at f) fs)) refl)
 
 -- ---- and are what they were spelled from
-pub files_behind : (front own rest : List Item) → stands subject.File own ≡ false → files front (own ++ rest) ≡ files (front ++ own) rest
+pub files_behind : (front own rest : List Item) → stands subject.File own ≡ false → files_from front (own ++ rest) ≡ files_from (front ++ own) rest
 files_behind front [] rest none = rw (append-nil front) refl
 files_behind front (i ∷ is) rest none = split (is_file i) refl none (λ h. files_behind (front ++ i ∷ []) is rest h)
   where
-    split : (b : Bool) → is_file i ≡ b → (b || stands subject.File is) ≡ false → (stands subject.File is ≡ false → files (front ++ i ∷ []) (is ++ rest) ≡ files ((front ++ i ∷ []) ++ is) rest)
-        → files front ((i ∷ is) ++ rest) ≡ files (front ++ i ∷ is) rest
+    split : (b : Bool) → is_file i ≡ b → (b || stands subject.File is) ≡ false → (stands subject.File is ≡ false → files_from (front ++ i ∷ []) (is ++ rest) ≡ files_from ((front ++ i ∷ []) ++ is) rest)
+        → files_from front ((i ∷ is) ++ rest) ≡ files_from (front ++ i ∷ is) rest
     split true named none more = absurd (cc)
     split false named none more = rw named (more none ∙ rw (append_assoc front (i ∷ []) is) refl)
 
-pub files_first : (front : List Item) (at : ℕ) (f : FileWords) (rest : List Item) → files front (file_items at f ++ rest) ≡ file (front ++ piece_items at (group f)) (Name f.name) ∷ files [] rest
+pub files_first : (front : List Item) (at : ℕ) (f : FileWords) (rest : List Item) → files_from front (file_items at f ++ rest) ≡ file (front ++ piece_items at (group f)) (Name f.name) ∷ files_from [] rest
 files_first front at f rest =
     let own = piece_items at (group f) in
     let last = item (after_pieces at (group f)) subject.File scope.Output (Name f.name) in
     rw (append_assoc own (last ∷ []) rest) (files_behind front own (last ∷ rest) (other_stands at subject.File (group f) refl))
 
-pub files_are : (fs : List FileWords) (at : ℕ) → All IsMergeFile fs → files [] (files_items at fs) ≡ fs
+pub files_are : (fs : List FileWords) (at : ℕ) → All IsMergeFile fs → files_from [] (files_items at fs) ≡ fs
 files_are [] at are = refl
 files_are (f ∷ fs) at are =
     let is = All-head IsMergeFile f fs are in

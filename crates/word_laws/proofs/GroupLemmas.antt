@@ -1,10 +1,10 @@
 -- Options that each stand once, or once for each track, are read one behind the other.
-use Rattle.std.proofs.Common.{◌≡◌, ℕ, ◌+◌, Bool, true, false, not, ◌&&◌, ◌||◌, if◌then◌else◌, List, [], ◌∷◌, ◌++◌, map, Some, None, Ok, refl, sym, ◌∙◌, arith, append_assoc, All}
+use Rattle.std.proofs.Common.{◌≡◌, ℕ, ◌+◌, Bool, true, false, not, ◌&&◌, ◌||◌, if◌then◌else◌, List, [], ◌∷◌, ◌++◌, map, Some, None, Ok, refl, sym, ap, ◌∙◌, arith, append_assoc, All}
 use Rattle.std.proofs.lemmas.Bool.Decides.{nat_tests}
 use Rattle.std.proofs.lemmas.List.{append-nil}
 use Rattle.std.proofs.lemmas.List.Folds.{list_any-append}
 use Rattle.std.proofs.lemmas.List.Elements.{All-nil, All-cons, All-head, All-tail}
-use Rattle.std.specs.Prelude.{◌==◌}
+use Rattle.std.specs.Prelude.{◌==◌, is_some}
 use Rattle.std.specs.List.{list_any}
 use Rattle.word_values.specs.declared.values.Value.{Value}
 use Rattle.word_values.specs.Lists.{differ}
@@ -13,10 +13,11 @@ use Rattle.merge_words.specs.declared.options.Subject.TheVariants as subject
 use Rattle.merge_words.specs.declared.options.Scope.{Scope}
 use Rattle.merge_words.specs.declared.options.Scope.TheVariants as scope
 use Rattle.merge_words.specs.declared.options.Meaning.{Meaning}
-use Rattle.merge_words.specs.Options.{same}
+use Rattle.merge_words.specs.Options.{meaning_of, same}
 use Rattle.word_values.specs.Values.{flag_of, value_of}
-use Rattle.merge_words.specs.Items.{is_file, item_at, stands, stands_for, track_in, is_track, repeats_in, repeats_for, since_file, latest}
-use Rattle.merge_words.specs.Merge.{starts, read_all, width}
+use Rattle.merge_words.specs.Items.{is_file, item_at, stands, stands_for, track_in, is_track, repeats_in, repeats_for, since_file}
+use Rattle.merge_words.specs.Merge.{start, starts, read_all, takes_next}
+use Rattle.merge_words.proofs.ItemsLemmas.{latest, since_latest}
 use Rattle.word_laws.proofs.SayingLemmas.{Item, Said, Piece, words_said, said_words, piece_words, takes, next_of, item, said_items, after_said, piece_items, after_pieces, read_one, IsOption, value_item, flag_item, value_width, flag_width, none_about, said_stands, stands_both}
 
 -- ---- the items since the last file grow with what is said
@@ -37,8 +38,7 @@ latest_grows group (x ∷ xs) ys none =
     ]
 
 pub since_grows : (before ys : List Item) → stands subject.File ys ≡ false → since_file (before ++ ys) ≡ since_file before ++ ys
-unfolding since_file
-since_grows before ys none = latest_grows [] before ys none
+since_grows before ys none = since_latest (before ++ ys) ∙ (latest_grows [] before ys none ∙ ap (λ l. l ++ ys) (sym (since_latest before)))
 
 -- the items among which an option of this scope may stand once
 abbrev pub among : Scope → List Item → List Item
@@ -53,9 +53,9 @@ among_grows scope.Track before ys none = since_grows before ys none
 
 -- ---- what is said is an option
 pub record IsSaid (s : Subject) (c : Scope) (x : Said) : Type 0 where
-  pub width : width x.word ≡ takes x.value
+  pub width : takes_next (meaning_of x.word) ≡ is_some x.value
   pub reads : (before : List Item) (at count : ℕ) (rest : List (List ℕ)) → repeats_in c s before ≡ false → repeats_for s (track_in x.says) before ≡ false
-      → item_at before at x.word (next_of x.value rest) count ≡ Ok (item at s c x.says)
+      → item_at before (start at x.word (next_of x.value rest)) count ≡ Ok (item at s c x.says)
 
 pub value_said : (word : List ℕ) (means : Meaning) (text : List ℕ) (value : Value) → IsOption word means → flag_of means.form ≡ None → value_of means.form text ≡ Some value
     → IsSaid means.subject means.scope (record { word = word; value = Some text; says = value })

@@ -17,9 +17,10 @@ use Rattle.merge_words.specs.declared.options.Scope.TheVariants as scope
 use Rattle.merge_words.specs.Options.{same}
 use Rattle.merge_words.specs.Items.{stands, files_in, since_file}
 use Rattle.merge_words.specs.Said.{value_in, name_of, scale_of, blocks_of, span_of, split_of, uuids_of, delay_of, track_cues_of}
-use Rattle.merge_words.specs.Files.{ids_of, file, files}
+use Rattle.merge_words.specs.Files.{ids_of, file}
 use Rattle.merge_words.specs.Output.{merge_words as said_by, scale_in, blocks_in, span_in, uuids_in}
 use Rattle.merge_words.specs.Merge.{starts, read_all, items, complete, merged, linking, unlinked}
+use Rattle.merge_words.proofs.FilesLemmas.{files_from, parted_files}
 use Rattle.merge_words.specs.Sound.{IsSoundMerge, IsSoundFile}
 use Rattle.mkv_args.specs.declared.command.Command.TheVariants as commands
 use Rattle.mkv_args.specs.declared.commands.Verb.TheVariants as verb
@@ -170,7 +171,7 @@ first_says w f = record {
       ∙ (flat_map-append (λ (i : Item). ids_of i.value) (piece_items at (output_pieces w)) (piece_items (after_pieces at (output_pieces w)) (group f)) ∙ joined_none _ _ _ (ids_none w at) (ids_are f (after_pieces at (output_pieces w))));
 }
 
-all_files : (w : MergeWords) (fs : List FileWords) → 0 < length fs → All IsMergeFile fs → files [] (out_items w ++ files_items (begin w) fs) ≡ fs
+all_files : (w : MergeWords) (fs : List FileWords) → 0 < length fs → All IsMergeFile fs → files_from [] (out_items w ++ files_items (begin w) fs) ≡ fs
 all_files w [] some are = absurd (omega arith)
 all_files w (f ∷ fs) some are =
     let one = All-head IsMergeFile f fs are in
@@ -184,7 +185,7 @@ unfolding said_by
 said_is w sound is =
     let some = sound.files.least in
     rw (webm_is w is) (rw (title_is w is) (rw (chapters_is w is) (rw (scale_is w is) (rw (blocks_is w is) (rw (span_is w is)
-    (rw (split_is w is) (rw (all_files w w.files (omega arith) is.files) (rw (uuids_is w is) (rw (link_is w is) refl)))))))))
+    (rw (split_is w is) (rw (parted_files (all_items w) ∙ all_files w w.files (omega arith) is.files) (rw (uuids_is w is) (rw (link_is w is) refl)))))))))
 
 -- ---- the words are read as the items
 since_all : (fs : List FileWords) (before : List Item) (at : ℕ) → since_file before ≡ [] → since_file (before ++ files_items at fs) ≡ []

@@ -1,5 +1,5 @@
 -- The words of `propedit` are read back.
-use Rattle.std.proofs.Common.{◌≡◌, ◌≤◌, inl, inr, ℕ, ◌+◌, true, false, nat_le, List, [], ◌∷◌, ◌++◌, length, drop, codes, Some, Ok, refl, sym, ◌∙◌, subst, arith, append_assoc, All}
+use Rattle.std.proofs.Common.{◌≡◌, ◌≤◌, inl, inr, ℕ, ◌+◌, true, false, nat_le, List, [], ◌∷◌, ◌++◌, length, codes, Option, Some, None, Ok, refl, sym, ap, ◌∙◌, subst, arith, All}
 use Rattle.std.proofs.lemmas.Bool.Decides.{nat_tests}
 use Rattle.std.proofs.lemmas.Fmt.{decimal_nonempty}
 use Rattle.std.proofs.lemmas.List.{append-nil}
@@ -13,10 +13,13 @@ use Rattle.word_values.specs.declared.edit.Change.{Change}
 use Rattle.word_values.specs.declared.edit.Change.TheVariants as change
 use Rattle.word_values.specs.declared.edit.Selector.{Selector}
 use Rattle.word_values.specs.declared.edit.Selector.TheVariants as spot
-use Rattle.word_values.specs.Answers.{◌>>=◌}
 use Rattle.mkv_args.specs.declared.command.Command.TheVariants as commands
 use Rattle.mkv_args.specs.declared.commands.Verb.TheVariants as verb
-use Rattle.mkv_args.specs.Propedit.{closed, selected, place, typed, track, selector, steps, step_of, turn, edits_from, edits, propedit}
+use Rattle.mkv_args.specs.declared.propedit.Step.{Step}
+use Rattle.mkv_args.specs.declared.propedit.Step.TheVariants as step
+use Rattle.mkv_args.specs.declared.propedit.Saying.{Saying}
+use Rattle.mkv_args.specs.declared.propedit.Saying.TheVariants as says
+use Rattle.mkv_args.specs.Propedit.{place, typed, begins, track, selector, steps, step_of, pairs, may_follow, meaning, all_said, edits_in, edits, propedit}
 use Rattle.mkv_args.specs.Sound.{IsSoundPlace, AreEdits}
 use Rattle.mkv_args.specs.Words.{command, command_named}
 use Rattle.word_laws.specs.Values.{HasFewDigits}
@@ -31,12 +34,16 @@ place_read : (n : ℕ) → 1 ≤ n → HasFewDigits n → place (decimal n) ≡ 
 unfolding place
 place_read n some short = let low : nat_le 1 n ≡ true = grind (arith, nat_tests) in rw (number_read n short) (rw low refl)
 
--- the first of a number's digits is no other octet
-digit_first : (o n : ℕ) → is_ascii_digit o ≡ false → HasFewDigits n → (slice_index (decimal n) 0 == o) ≡ false
+not_begun : (o : ℕ) (word : List ℕ) → (slice_index word 0 == o) ≡ false → begins (o ∷ []) word ≡ false
+not_begun o [] other = refl
+not_begun o (x ∷ xs) other = let apart : (o == x) ≡ false = grind (arith, nat_tests) in rw apart refl
+
+-- a number begins with no other octet than a digit
+digit_first : (o n : ℕ) → is_ascii_digit o ≡ false → HasFewDigits n → begins (o ∷ []) (decimal n) ≡ false
 digit_first o n other short =
     let fits = short_fits n short in
     let first = first_other o (decimal n) [] other (decimal_nonempty n fits) (decimal_all n fits) in
-    rw append-nil at first
+    not_begun o (decimal n) (rw append-nil at first)
 
 nth_read : (n : ℕ) → 1 ≤ n → HasFewDigits n → track (decimal n) ≡ Some (spot.Nth n)
 unfolding track
@@ -68,77 +75,53 @@ section_read (spot.Typed kind n) sound is = typed_read kind n is.0 sound is.1
 section_read (spot.Uid uid) sound is = rw (number_read uid is) refl
 section_read (spot.Number n) sound is = rw (number_read n is) refl
 
--- ---- where a word stands among the sections
-
-abbrev first_taken : {A B : Type 0} → (A → B) → Type 0
-first_taken {A} f = A
-
--- the type of these stages
-abbrev Stage : Type 0
-Stage = first_taken closed
-
--- outside of a section, where the words begin
-abbrev begun_at : {s : Stage} → ((words : List (List ℕ)) → edits words ≡ edits_from (length words) s [] 2 (drop 2 words)) → Stage
-begun_at {s} is = s
-
-abbrev outside : Stage
-unfolding edits
-outside = begun_at (λ words. refl)
-
--- behind the name of a section
-abbrev opened_as : (f : Selector → Stage) → ((word : List ℕ) → turn outside (step_of (codes "--edit")) [] 0 (Some word) 0 ≡ (selected 1 (selector word) >>= (λ p. Ok (f p, [])))) → Selector → Stage
-opened_as f is = f
-
-abbrev opened : Selector → Stage
-unfolding edits steps step_of outside
-opened = opened_as _ (λ word. refl)
-
--- behind an edit
-abbrev within_as : (s : Stage) (p : Selector) → turn (opened p) (step_of (codes "--delete")) [] 0 (Some []) 0 ≡ Ok (s, record { place = p; change = change.Delete; name = []; value = [] } ∷ []) → Stage
-within_as s p is = s
-
-abbrev within : Selector → Stage
-unfolding edits steps step_of outside opened
-within p = within_as _ p refl
-
 -- ---- edits
-property_read : (p : Selector) (before : List Edit) (at count : ℕ) (c : Change) (name value : List ℕ) → IsProperty c name value
-    → turn (opened p) (step_of (change_word c)) before at (Some (property_word c name value)) count ≡ Ok (within p, before ++ record { place = p; change = c; name = name; value = value } ∷ [])
-unfolding edits steps step_of outside opened within
-property_read p before at count change.Set name value is = rw (cut_behind 61 name value is) refl
-property_read p before at count change.Add name value is = rw (cut_behind 61 name value is) refl
-property_read p before at count change.Delete name value is = rw is refl
+-- what the words of edits say
+abbrev sayings : List Edit → List Saying
+sayings [] = []
+sayings (e ∷ es) = says.Section e.place ∷ says.Change e.change e.name e.value ∷ sayings es
+
+sayings_back : (place : Selector) (es : List Edit) → edits_in place (sayings es) ≡ es
+sayings_back place [] = refl
+sayings_back place (e ∷ es) = ap (λ l. e ∷ l) (sayings_back e.place es)
+
+section_step : step_of (codes "--edit") ≡ Some step.Section
+unfolding step_of steps
+section_step = refl
+
+change_step : (c : Change) → step_of (change_word c) ≡ Some (step.Edit c)
+unfolding step_of steps
+change_step change.Set = refl
+change_step change.Add = refl
+change_step change.Delete = refl
+
+property_read : (c : Change) (name value : List ℕ) → IsProperty c name value → meaning (step.Edit c) (property_word c name value) ≡ Some (says.Change c name value)
+property_read change.Set name value is = rw (cut_behind 61 name value is) refl
+property_read change.Add name value is = rw (cut_behind 61 name value is) refl
+property_read change.Delete name value is = rw is refl
 
 -- an edit in a section of its own
-edit_read : (count : ℕ) (before : List Edit) (at : ℕ) (e : Edit) (words : List (List ℕ)) → IsSoundPlace e.place → IsSpellableEdit e
-    → edits_from count outside before at (edit_words e ++ words) ≡ edits_from count (within e.place) (before ++ e ∷ []) (at + 2 + 2) words
-unfolding edits steps step_of outside opened within
-edit_read count before at e words sound is =
-    rw (section_read e.place sound is.place) (rw (property_read e.place before (at + 2) count e.change e.name e.value is.property) refl)
+edit_read : (count : ℕ) (before : Option Step) (at : ℕ) (e : Edit) (words : List (List ℕ)) (more : List Saying) → may_follow before step.Section ≡ true → IsSoundPlace e.place → IsSpellableEdit e
+    → all_said count (Some (step.Edit e.change)) (pairs (at + 2 + 2) words) ≡ Ok more → all_said count before (pairs at (edit_words e ++ words)) ≡ Ok (says.Section e.place ∷ says.Change e.change e.name e.value ∷ more)
+edit_read count before at e words more follows sound is rest =
+    rw (section_step, follows, section_read e.place sound is.place, change_step e.change, property_read e.change e.name e.value is.property, rest) refl
 
--- behind another one
-next_edit_read : (count : ℕ) (p : Selector) (before : List Edit) (at : ℕ) (e : Edit) (words : List (List ℕ)) → IsSoundPlace e.place → IsSpellableEdit e
-    → edits_from count (within p) before at (edit_words e ++ words) ≡ edits_from count (within e.place) (before ++ e ∷ []) (at + 2 + 2) words
-unfolding edits steps step_of outside opened within
-next_edit_read count p before at e words sound is =
-    rw (section_read e.place sound is.place) (rw (property_read e.place before (at + 2) count e.change e.name e.value is.property) refl)
-
-edits_from_read : (count : ℕ) (p : Selector) (before : List Edit) (at : ℕ) (es : List Edit) → All (λ (e : Edit). IsSoundPlace e.place) es → All IsSpellableEdit es
-    → edits_from count (within p) before at (flat_map edit_words es) ≡ Ok (before ++ es)
-unfolding edits steps step_of outside opened within
-edits_from_read count p before at [] sound are = rw (append-nil before) refl
-edits_from_read count p before at (e ∷ es) sound are =
-    next_edit_read count p before at e (flat_map edit_words es) (All-head (λ (x : Edit). IsSoundPlace x.place) e es sound) (All-head IsSpellableEdit e es are)
-    ∙ (edits_from_read count e.place (before ++ e ∷ []) (at + 2 + 2) es (All-tail (λ (x : Edit). IsSoundPlace x.place) e es sound) (All-tail IsSpellableEdit e es are) ∙ rw (append_assoc before (e ∷ []) es) refl)
+edits_from_read : (count : ℕ) (c : Change) (at : ℕ) (es : List Edit) → All (λ (e : Edit). IsSoundPlace e.place) es → All IsSpellableEdit es
+    → all_said count (Some (step.Edit c)) (pairs at (flat_map edit_words es)) ≡ Ok (sayings es)
+edits_from_read count c at [] sound are = refl
+edits_from_read count c at (e ∷ es) sound are =
+    edit_read count (Some (step.Edit c)) at e (flat_map edit_words es) (sayings es) refl (All-head (λ (x : Edit). IsSoundPlace x.place) e es sound) (All-head IsSpellableEdit e es are)
+    (edits_from_read count e.change (at + 2 + 2) es (All-tail (λ (x : Edit). IsSoundPlace x.place) e es sound) (All-tail IsSpellableEdit e es are))
 
 edits_read : (file : List ℕ) (es : List Edit) → AreEdits es → All IsSpellableEdit es → edits (codes "propedit" ∷ file ∷ flat_map edit_words es) ≡ Ok es
-unfolding edits steps step_of outside opened within
+unfolding edits
 edits_read file [] sound are = let some = sound.some in absurd (omega arith)
 edits_read file (e ∷ es) sound are =
     let count = length (codes "propedit" ∷ file ∷ flat_map edit_words (e ∷ es)) in
     let each = sound.each in
-    edit_read count [] 2 e (flat_map edit_words es) (All-head (λ (x : Edit). IsSoundPlace x.place) e es each) (All-head IsSpellableEdit e es are)
-    ∙ edits_from_read count e.place (e ∷ []) (2 + 2 + 2) es (All-tail (λ (x : Edit). IsSoundPlace x.place) e es each) (All-tail IsSpellableEdit e es are)
+    let rest = edits_from_read count e.change (2 + 2 + 2) es (All-tail (λ (x : Edit). IsSoundPlace x.place) e es each) (All-tail IsSpellableEdit e es are) in
+    let all = edit_read count None 2 e (flat_map edit_words es) (sayings es) refl (All-head (λ (x : Edit). IsSoundPlace x.place) e es each) (All-head IsSpellableEdit e es are) rest in
+    rw all (ap Ok (sayings_back spot.Info (e ∷ es)))
 
 pub propedit_read : (file : List ℕ) (es : List Edit) → IsFile file → AreEdits es → All IsSpellableEdit es → command (codes "propedit" ∷ file ∷ flat_map edit_words es) ≡ Ok (commands.Propedit file es)
 unfolding command_named propedit

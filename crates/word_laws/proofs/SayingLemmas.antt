@@ -1,7 +1,7 @@
 -- Options that are said one behind the other are read as items.
 use Rattle.std.proofs.Common.{if◌then◌else◌, ◌≡◌, ℕ, ◌+◌, Bool, true, false, not, ◌&&◌, List, [], ◌∷◌, ◌++◌, codes, Option, Some, None, Ok, refl, ap, ◌∙◌}
 use Rattle.std.proofs.lemmas.List.Folds.{list_any-append}
-use Rattle.std.specs.Prelude.{slice_get}
+use Rattle.std.specs.Prelude.{slice_get, is_some}
 use Rattle.std.specs.List.{flat_map}
 use Rattle.std.specs.Str.{bytes_eq}
 use Rattle.word_values.specs.declared.values.Value.{Value}
@@ -13,7 +13,7 @@ use Rattle.merge_words.specs.declared.options.Scope.{Scope}
 use Rattle.merge_words.specs.declared.options.Meaning.{Meaning}
 use Rattle.merge_words.specs.Options.{same, table, meaning_among, meaning_of}
 use Rattle.merge_words.specs.Items.{item_at, option_at, stands, track_in, repeats, repeats_for, since_file}
-use Rattle.merge_words.specs.Merge.{starts, read_all, width}
+use Rattle.merge_words.specs.Merge.{start, starts, read_all, takes_next}
 use Rattle.word_laws.proofs.SimpleLemmas.{other_word}
 
 -- one fact, and then the others
@@ -82,14 +82,14 @@ abbrev pub next_of : Option (List ℕ) → List (List ℕ) → Option (List ℕ)
 next_of None rest = slice_get rest 0
 next_of (Some value) rest = Some value
 
-starts_one : (at : ℕ) (word : List ℕ) (value : Option (List ℕ)) (rest : List (List ℕ)) → width word ≡ takes value
-    → starts at (words_said word value ++ rest) ≡ record { at = at; word = word; next = next_of value rest } ∷ starts (at + takes value) rest
+starts_one : (at : ℕ) (word : List ℕ) (value : Option (List ℕ)) (rest : List (List ℕ)) → takes_next (meaning_of word) ≡ is_some value
+    → starts at (words_said word value ++ rest) ≡ start at word (next_of value rest) ∷ starts (at + takes value) rest
 starts_one at word None [] is = refl
 starts_one at word None (r ∷ rs) is = rw is refl
 starts_one at word (Some value) rest is = rw is refl
 
-pub read_one : (count : ℕ) (before : List Item) (at : ℕ) (word : List ℕ) (value : Option (List ℕ)) (i : Item) (rest : List (List ℕ)) → width word ≡ takes value
-    → item_at before at word (next_of value rest) count ≡ Ok i
+pub read_one : (count : ℕ) (before : List Item) (at : ℕ) (word : List ℕ) (value : Option (List ℕ)) (i : Item) (rest : List (List ℕ)) → takes_next (meaning_of word) ≡ is_some value
+    → item_at before (start at word (next_of value rest)) count ≡ Ok i
     → read_all count before (starts at (words_said word value ++ rest)) ≡ read_all count (before ++ i ∷ []) (starts (at + takes value) rest)
 read_one count before at word value i rest is reads = rw (starts_one at word value rest is) (rw reads refl)
 
@@ -111,7 +111,7 @@ no_join word looks = other_word word (codes "+") (λ is. let e : is_option word 
 -- with a value
 pub value_item : (word : List ℕ) (means : Meaning) (before : List Item) (at count : ℕ) (text : List ℕ) (value : Value) → IsOption word means
     → flag_of means.form ≡ None → value_of means.form text ≡ Some value → repeats means before ≡ false → repeats_for means.subject (track_in value) before ≡ false
-    → item_at before at word (Some text) count ≡ Ok (item at means.subject means.scope value)
+    → item_at before (start at word (Some text)) count ≡ Ok (item at means.subject means.scope value)
 unfolding item_at option_at
 value_item word means before at count text value is due reads once free =
     rw (no_join word (looks_known word means is.0)) (rw (looks_known word means is.0) (rw is.0 (rw is.1 (rw once (rw due (rw reads (rw free refl)))))))
@@ -119,17 +119,15 @@ value_item word means before at count text value is due reads once free =
 -- without one
 pub flag_item : (word : List ℕ) (means : Meaning) (before : List Item) (at count : ℕ) (next : Option (List ℕ)) (value : Value) → IsOption word means
     → flag_of means.form ≡ Some value → repeats means before ≡ false → repeats_for means.subject (track_in value) before ≡ false
-    → item_at before at word next count ≡ Ok (item at means.subject means.scope value)
+    → item_at before (start at word next) count ≡ Ok (item at means.subject means.scope value)
 unfolding item_at option_at
 flag_item word means before at count next value is says once free =
     rw (no_join word (looks_known word means is.0)) (rw (looks_known word means is.0) (rw is.0 (rw is.1 (rw once (rw says (rw free refl))))))
 
-pub value_width : (word : List ℕ) (means : Meaning) → IsOption word means → flag_of means.form ≡ None → width word ≡ 2
-unfolding width
+pub value_width : (word : List ℕ) (means : Meaning) → IsOption word means → flag_of means.form ≡ None → takes_next (meaning_of word) ≡ true
 value_width word means is due = rw is.0 (rw due refl)
 
-pub flag_width : (word : List ℕ) (means : Meaning) (value : Value) → IsOption word means → flag_of means.form ≡ Some value → width word ≡ 1
-unfolding width
+pub flag_width : (word : List ℕ) (means : Meaning) (value : Value) → IsOption word means → flag_of means.form ≡ Some value → takes_next (meaning_of word) ≡ false
 flag_width word means value is says = rw is.0 (rw says refl)
 
 -- ---- items of pieces that are about something else

@@ -9,7 +9,7 @@ use Rattle.word_values.specs.declared.values.ValueForm.TheVariants as form
 use Rattle.word_values.specs.declared.values.Value.{Value}
 use Rattle.word_values.specs.declared.values.Value.TheVariants.{Flag, Name}
 use Rattle.word_values.specs.Place.{is_option}
-use Rattle.word_values.specs.Values.{flag_of, text, value_of}
+use Rattle.word_values.specs.Values.{text, value_of}
 use Rattle.word_values.proofs.AnswerLemmas.{ok-then, ok-else, ok-made}
 use Rattle.merge_words.specs.declared.options.Subject.TheVariants as subject
 use Rattle.merge_words.specs.declared.options.Scope.TheVariants as scope
@@ -17,9 +17,10 @@ use Rattle.merge_words.specs.declared.options.Meaning.{Meaning}
 use Rattle.merge_words.specs.declared.output.MergeWords.{MergeWords}
 use Rattle.merge_words.specs.Options.{Row, meaning, meaning_among, meaning_of, same, spelled, table}
 use Rattle.merge_words.specs.Said.{name_of, value_in}
-use Rattle.merge_words.specs.Items.{append_at, file_at, files_in, item_at, known, option_at, read_value, repeats, repeats_for, said, since_file, stands, track_in, value_at}
+use Rattle.merge_words.specs.Items.{Start, append_at, file_at, files_in, item_at, known, option_at, read_value, repeats, repeats_for, said, since_file, stands, track_in, value_at}
 use Rattle.merge_words.specs.Output.{merge_words}
-use Rattle.merge_words.specs.Merge.{Start, complete, items, merged, read_all, starts}
+use Rattle.merge_words.proofs.MergeLemmas.{IsMeant, starts-meant}
+use Rattle.merge_words.specs.Merge.{complete, items, merged, read_all, starts}
 use Rattle.mkv_args.specs.Words.{command}
 use Rattle.mkv_args.specs.declared.command.Command.TheVariants.{Merge}
 use Rattle.mkv_args.proofs.TextLemmas.{asked-merged}
@@ -57,7 +58,7 @@ text-read at (Some word) count v is = choose (text word) (text-again word) is
     choose None again read = absurd (cc)
     choose (Some t) again read = ok-made HasTextName (Name t) v read (again t refl)
 
-said-text : (at : ℕ) (f : ValueForm) (next : Option (List ℕ)) (count : ℕ) (v : Value) → is_text f ≡ true → said at f (flag_of f) next count ≡ Ok v → HasTextName v
+said-text : (at : ℕ) (f : ValueForm) (next : Option (List ℕ)) (count : ℕ) (v : Value) → is_text f ≡ true → said at f next count ≡ Ok v → HasTextName v
 said-text at form.Text next count v by_text is = text-read (at + 1) next count v is
 said-text at _ next count v by_text is = absurd (cc)
 
@@ -113,7 +114,7 @@ unfolding option_at
 option-title before at word means next count i named is =
     let other = ok-else (same means.subject subject.Identify) _ _ i is in
     let once = ok-else (repeats means before) _ _ i other.1 in
-    ok-then (HasTextTitle i) (said at means.form (flag_of means.form) next count) _ i once.1 (λ v here more.
+    ok-then (HasTextTitle i) (said at means.form next count) _ i once.1 (λ v here more.
     let made : Item = item at means.subject means.scope v in
     let last = ok-else (repeats_for means.subject (track_in v) before) _ (Ok made) i more in
     ok-made HasTextTitle made i last.1 (λ title. said-text at means.form next count v (title-by-text means (option-by-text word means named) title) here))
@@ -131,27 +132,28 @@ file-title before at word i is =
     let room = ok-else _ _ _ i is in
     ok-made HasTextTitle (item at subject.File scope.Output (Name word)) i room.1 (λ never. absurd (cc))
 
-item-title : (before : List Item) (at : ℕ) (word : List ℕ) (next : Option (List ℕ)) (count : ℕ) (i : Item) → item_at before at word next count ≡ Ok i → HasTextTitle i
+item-title : (before : List Item) (s : Start) (count : ℕ) (i : Item) → IsMeant s → item_at before s count ≡ Ok i → HasTextTitle i
 unfolding item_at
-item-title before at word next count i is = split (bytes_eq word (codes "+")) (is_option word) is
+item-title before s count i meant is = split (bytes_eq s.word (codes "+")) (is_option s.word) is
   where
-    of-option : (o : Option Meaning) → meaning_of word ≡ o → known before at o next count ≡ Ok i → HasTextTitle i
+    of-option : (o : Option Meaning) → meaning_of s.word ≡ o → known before s.at o s.next count ≡ Ok i → HasTextTitle i
     of-option None none found = absurd (cc)
-    of-option (Some means) named found = option-title before at word means next count i named found
+    of-option (Some means) named found = option-title before s.at s.word means s.next count i named found
 
-    split : (a b : Bool) → (if a then append_at before at else if b then known before at (meaning_of word) next count else file_at before at word) ≡ Ok i → HasTextTitle i
-    split true b found = append-title before at i found
-    split false true found = of-option (meaning_of word) refl found
-    split false false found = file-title before at word i found
+    split : (a b : Bool) → (if a then append_at before s.at else if b then known before s.at s.means s.next count else file_at before s.at s.word) ≡ Ok i → HasTextTitle i
+    split true b found = append-title before s.at i found
+    split false true found = of-option s.means meant found
+    split false false found = file-title before s.at s.word i found
 
 -- ---- all items
 
-items-titles : (count : ℕ) (before : List Item) (ss : List Start) (all : List Item) → All HasTextTitle before → read_all count before ss ≡ Ok all → All HasTextTitle all
-items-titles count before [] all so_far is = let whole : before ≡ all = cc in subst (All HasTextTitle) whole so_far
-items-titles count before (s ∷ ss) all so_far is =
-    ok-then (All HasTextTitle all) (item_at before s.at s.word s.next count) _ all is (λ item here more.
+items-titles : (count : ℕ) (before : List Item) (ss : List Start) (all : List Item) → All HasTextTitle before → All IsMeant ss → read_all count before ss ≡ Ok all → All HasTextTitle all
+items-titles count before [] all so_far meant is = let whole : before ≡ all = cc in subst (All HasTextTitle) whole so_far
+items-titles count before (s ∷ ss) all so_far meant is =
+    ok-then (All HasTextTitle all) (item_at before s count) _ all is (λ item here more.
     items-titles count (before ++ item ∷ []) ss all
-    (All-append HasTextTitle before (item ∷ []) so_far (All-cons HasTextTitle item [] (item-title before s.at s.word s.next count item here) (All-nil HasTextTitle))) more)
+    (All-append HasTextTitle before (item ∷ []) so_far (All-cons HasTextTitle item [] (item-title before s count item (All-head IsMeant s ss meant) here) (All-nil HasTextTitle)))
+    (All-tail IsMeant s ss meant) more)
 
 found-title : (all : List Item) → All HasTextTitle all → IfSome (value_in subject.Title all) HasTextName
 found-title [] own = tt
@@ -174,7 +176,7 @@ unfolding merged items
 merged-title words w is =
     ok-then (IfSome w.title IsText) (items words) _ w is (λ all here more.
     ok-then (IfSome w.title IsText) (complete (length words) all) _ w more (λ t whole last.
-    ok-made (λ (x : MergeWords). IfSome x.title IsText) (merge_words all) w last (words-title all (items-titles (length words) [] (starts 1 (drop 1 words)) all (All-nil HasTextTitle) here))))
+    ok-made (λ (x : MergeWords). IfSome x.title IsText) (merge_words all) w last (words-title all (items-titles (length words) [] (starts 1 (drop 1 words)) all (All-nil HasTextTitle) (starts-meant 1 (drop 1 words)) here))))
 
 -- So is that of a command line.
 pub asked-title : (line : List (List ℕ)) (w : MergeWords) → command line ≡ Ok (Merge w) → IfSome w.title IsText

@@ -12,6 +12,7 @@ use Rattle.mkv_args.specs.declared.command.Command.{Command}
 use Rattle.mkv_args.specs.declared.command.Command.TheVariants as command
 use Rattle.mkv_args.specs.declared.commands.Verb.{Verb}
 use Rattle.mkv_args.specs.declared.commands.Verb.TheVariants as verb
+use Rattle.mkv_args.specs.declared.propedit.TheConstants.{VIDEO_TRACK, AUDIO_TRACK, SUBTITLE_TRACK, EQUALS}
 use Rattle.word_laws.specs.Values.{HasFewDigits, lacks}
 use Rattle.word_laws.specs.Names.{IsFile, IsInput}
 use Rattle.word_laws.specs.SpellableMerge.{IsSpellableMerge}
@@ -38,7 +39,7 @@ IsJob (jobs.Chapters name) = ⊤
 
 -- video, audio or subtitle
 abbrev pub IsNamedType : ℕ → Type 0
-IsNamedType kind = (kind ≡ 1) ⊎ ((kind ≡ 2) ⊎ (kind ≡ 17))
+IsNamedType kind = (kind ≡ VIDEO_TRACK) ⊎ ((kind ≡ AUDIO_TRACK) ⊎ (kind ≡ SUBTITLE_TRACK))
 
 abbrev pub IsSection : Selector → Type 0
 IsSection selector.Info = ⊤
@@ -49,8 +50,8 @@ IsSection (selector.Number number) = HasFewDigits number
 
 -- a name ends at the first `=`, and what is deleted has no value
 abbrev pub IsProperty : Change → List ℕ → List ℕ → Type 0
-IsProperty change.Set name value = lacks 61 name ≡ true
-IsProperty change.Add name value = lacks 61 name ≡ true
+IsProperty change.Set name value = lacks EQUALS name ≡ true
+IsProperty change.Add name value = lacks EQUALS name ≡ true
 IsProperty change.Delete name value = value ≡ []
 
 -- an edit of a property that a section can name

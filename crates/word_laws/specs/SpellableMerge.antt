@@ -19,7 +19,7 @@ tracks_of {X} list = map (λ (p : ℕ × X). p.0) list
 
 -- the tracks that the options for a file name, in the order of the spelling, each once
 abbrev pub named_tracks : FileWords → List ℕ
-named_tracks f = once [] (flat_map (λ ids. ids) (
+named_tracks f = once (flat_map (λ ids. ids) (
     ids_of_select f.video ∷ ids_of_select f.audio ∷ ids_of_select f.subtitles ∷ tracks_of f.syncs ∷ tracks_of f.names ∷ tracks_of f.languages ∷
     tracks_of f.defaults ∷ tracks_of f.forced ∷ tracks_of f.cues ∷ tracks_of f.times ∷ []))
 

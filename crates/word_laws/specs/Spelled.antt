@@ -1,4 +1,5 @@
 -- How a command is spelled, in the plainest form: what it says is said once, and what is usual isn't said.
+-- The plainest form is this project's choice.
 use Rattle.std.specs.Prelude.{ℕ, ◌==◌, if◌then◌else◌, List, [], ◌∷◌, ◌++◌, map, codes, Some, None}
 use Rattle.std.specs.List.{flat_map}
 use Rattle.std.specs.Fmt.{decimal}
@@ -16,6 +17,7 @@ use Rattle.mkv_args.specs.declared.command.Command.{Command}
 use Rattle.mkv_args.specs.declared.command.Command.TheVariants as command
 use Rattle.mkv_args.specs.declared.commands.Verb.{Verb}
 use Rattle.mkv_args.specs.declared.commands.Verb.TheVariants as verb
+use Rattle.mkv_args.specs.declared.propedit.TheConstants.{VIDEO_TRACK, AUDIO_TRACK}
 use Rattle.word_laws.specs.Values.{with_number}
 use Rattle.word_laws.specs.SpelledMerge.{merge_words}
 
@@ -55,7 +57,7 @@ job_words (jobs.Chapters name) = codes "chapters" ∷ codes "--simple" ∷ name 
 
 -- the letter of a type of tracks
 abbrev pub type_letter : ℕ → List ℕ
-type_letter kind = if kind == 1 then codes "v" else if kind == 2 then codes "a" else codes "s"
+type_letter kind = if kind == VIDEO_TRACK then codes "v" else if kind == AUDIO_TRACK then codes "a" else codes "s"
 
 -- `info`, or a track
 abbrev pub section_word : Selector → List ℕ

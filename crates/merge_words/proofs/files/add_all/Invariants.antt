@@ -1,7 +1,6 @@
--- What is there, and then the numbers from here on, is as all of them behind what was there.
-use Rattle.std.proofs.Common.{◌≡◌, drop}
-use Rattle.merge_words.specs.Files.{once}
+-- What is there, and then the numbers from here on, is what was there and all of them.
+use Rattle.std.proofs.Common.{◌≡◌, ◌++◌, drop}
 use Rattle.merge_words.proofs.files.add_all.Given as goal
 
 abbrev pub invariant-loop-id : goal.invariant-loop-id
-invariant-loop-id l = once l.list (drop l.id-index l.ids) ≡ once l.initial.list l.ids
+invariant-loop-id l = l.list ++ drop l.id-index l.ids ≡ l.initial.list ++ l.ids

@@ -1,6 +1,7 @@
-use Rattle.std.proofs.Common.{arith, sym, ◌≡◌, ◌∙◌, true, false}
+use Rattle.std.proofs.Common.{arith, sym, ◌≡◌, ◌∙◌, true, false, [], drop, append-nil}
+use Rattle.std.proofs.lemmas.List.{drop_all}
 use Rattle.merge_words.specs.Items.{is_file}
-use Rattle.merge_words.proofs.FilesLemmas.{files_join, files_take}
+use Rattle.merge_words.proofs.FilesLemmas.{files_join, files_take, parted_files}
 use Rattle.merge_words.proofs.files.files.Goals as goal
 use Rattle.merge_words.proofs.files.files.Goals.{then-is+in_ok-file+in_ok-push, else-is}
 
@@ -22,3 +23,10 @@ loop-k-preserved c =
             left = rw (w.files-is, w.start-is) (files_join l.files items l.start l.k i l.invariant.within c.loop-k-test.true c.index-items-k.is other ∙ l.invariant.left);
           }
     ]
+
+-- behind the last item nothing is left
+pub returns : goal.returns
+returns c =
+    let l = c.loop-k in let items = c.args.items.now in
+    let none : drop l.k items ≡ [] = drop_all l.k items (omega arith) in
+    sym (append-nil l.files) ∙ ((rw none at l.invariant.left) ∙ sym (parted_files items))

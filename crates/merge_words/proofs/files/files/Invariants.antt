@@ -1,10 +1,10 @@
 -- The files so far, and then those that the items from here on name, are those of all items.
 use Rattle.std.proofs.Common.{◌≡◌, ◌-◌, ◌≤◌, ◌++◌, take, drop, []}
-use Rattle.merge_words.specs.Files.{files}
+use Rattle.merge_words.proofs.FilesLemmas.{files_from}
 use Rattle.merge_words.proofs.files.files.Given as goal
 
 abbrev pub invariant-loop-k : goal.invariant-loop-k
 invariant-loop-k l = record {
   within : l.start ≤ l.k;
-  left : l.files ++ files (take (l.k - l.start) (drop l.start l.items)) (drop l.k l.items) ≡ files [] l.items;
+  left : l.files ++ files_from (take (l.k - l.start) (drop l.start l.items)) (drop l.k l.items) ≡ files_from [] l.items;
 }

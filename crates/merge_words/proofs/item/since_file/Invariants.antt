@@ -1,6 +1,6 @@
 -- No file stands among the items from here on.
 use Rattle.std.proofs.Common.{◌≡◌, ◌≤◌, ◌++◌, take, drop, [], length}
-use Rattle.merge_words.specs.Items.{latest}
+use Rattle.merge_words.proofs.ItemsLemmas.{latest}
 use Rattle.merge_words.proofs.item.since_file.Given as goal
 
 abbrev pub invariant-loop-start : goal.invariant-loop-start

@@ -1,20 +1,27 @@
-use Rattle.std.proofs.Common.{length, ◌∙◌, sym}
+use Rattle.std.proofs.Common.{length, Ok, ◌∙◌, sym, ap}
 use Rattle.std.proofs.lemmas.Result.{err_from_is_err_and}
-use Rattle.mkv_args.specs.declared.propedit.Stage.{Stage}
 use Rattle.word_values.specs.Place.{texts}
-use Rattle.mkv_args.proofs.PropeditLemmas.{edits_next, edits_fail}
+use Rattle.mkv_args.proofs.PropeditLemmas.{section_next, change_next, edits_fail}
 use Rattle.mkv_args.proofs.propedit.edits.Goals as goal
+use Rattle.mkv_args.proofs.propedit.edits.Goals.{in-Section, in-Change+in_ok-push-in-Change}
 
--- what this option says joins what was said
+-- a section comes into force, or an edit joins those before it
 pub loop-word-preserved : goal.loop-word-preserved
 loop-word-preserved c =
     let l = c.loop-word in let ws = c.args.words.now in
-    sym (edits_next (length ws) l.stage c.in_ok-stage.stage l.list c.turn.new.list l.at c.in-Some.word.now (texts ws) c.in-Some.ensures.rest c.in_ok-stage.ensures) ∙ l.invariant
+    elim c.match-branch-2.branch [
+      | in-Section w ↦
+          let joined = section_next (length ws) l.list l.place l.before l.at c.in-Some.word.now (texts ws) c.in-Some.ensures.rest w.in-Section.next (c.in_ok-next.ensures ∙ ap Ok w.in-Section.is) in
+          rw (w.list-is, w.place-is, c.step_of-before.ensures) (sym joined ∙ l.invariant)
+      | in-Change+in_ok-push-in-Change w ↦
+          let joined = change_next (length ws) l.list l.place l.before l.at c.in-Some.word.now (texts ws) c.in-Some.ensures.rest w.in-Change.change w.in-Change.name w.in-Change.value (c.in_ok-next.ensures ∙ ap Ok w.in-Change.is) in
+          rw (w.list-is, w.in_ok-push-in-Change.ensures.ok, w.place-is, c.step_of-before.ensures) (sym joined ∙ l.invariant)
+    ]
 
 -- what is wrong with it is what is wrong first
-pub returns-in_err-stage : goal.returns-in_err-stage
-returns-in_err-stage c =
+pub returns-in_err-next : goal.returns-in_err-next
+returns-in_err-next c =
     let l = c.loop-word in let ws = c.args.words.now in
     let p = err_from_is_err_and c.from_residual.result c.from_residual.ensures.1 in
-    let e = edits_fail (λ (stage : Stage). (stage, c.turn.new.list)) c.in_err-stage.field-0.0 (length ws) l.stage l.list l.at c.in-Some.word.now (texts ws) c.in-Some.ensures.rest c.in_err-stage.ensures in
+    let e = edits_fail (length ws) l.list l.place l.before l.at c.in-Some.word.now (texts ws) c.in-Some.ensures.rest c.in_err-next.field-0.0 c.in_err-next.ensures in
     rw (p.1, p.2) (rw l.invariant at e)

@@ -1,12 +1,13 @@
--- What the words from here on say behind the edits so far is what all of them say.
-use Rattle.std.proofs.Common.{◌≡◌, ◌-◌, length, drop}
+-- The edits so far, and what the words from here on say, are what all of them say.
+use Rattle.std.proofs.Common.{◌≡◌, ◌-◌, length}
 use Rattle.word_values.specs.Place.{texts}
-use Rattle.mkv_args.specs.Propedit.{edits, edits_from}
+use Rattle.mkv_args.specs.Propedit.{edits}
+use Rattle.mkv_args.proofs.PropeditLemmas.{edits_from}
 use Rattle.mkv_args.proofs.propedit.edits.Given as goal
 
 abbrev pub invariant-loop-word : goal.invariant-loop-word
 invariant-loop-word l =
-    edits_from (length l.words) l.stage l.list l.at (drop l.at (texts l.words)) ≡ edits (texts l.words)
+    edits_from (length l.words) l.list l.place l.before l.at (texts l.words) ≡ edits (texts l.words)
 
 abbrev pub decreases-loop-word : goal.decreases-loop-word
 decreases-loop-word l = length l.words - l.at
