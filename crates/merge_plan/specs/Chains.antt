@@ -1,4 +1,4 @@
--- Chains: things of which some are appended to the one before them, and the lanes that they give to.
+-- Chains: things of which some are appended to the one before them, and the lanes that they give to. It is this project's.
 use Rattle.std.specs.Prelude.{ℕ, ◌+◌, Bool, if◌then◌else◌, List, [], ◌∷◌, ◌++◌, map, flat_map}
 use Rattle.std.specs.List.{slice_get, take_while}
 use Rattle.std.specs.Option.{option_to_list}

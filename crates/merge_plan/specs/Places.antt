@@ -1,4 +1,4 @@
--- Where appended inputs begin.
+-- Where appended inputs begin. It is this project's.
 use Rattle.std.specs.Prelude.{ℕ, ◌+◌, List, [], ◌∷◌}
 use Rattle.std.specs.Option.{option_map}
 use Rattle.merge_model.specs.Ends.{file_end}

@@ -1,4 +1,4 @@
--- What the inputs of a merge hold besides their tracks and blocks, and what of it can be taken over.
+-- What the inputs of a merge hold besides their tracks and blocks, and what of it can be taken over. What is taken over is this project's.
 use Rattle.std.specs.Prelude.{List, [], ◌∷◌, All, Option, Some, None, IfSome}
 use Rattle.mkv_schema.specs.declared.ids.TheConstants.{CHAPTERS, TAGS}
 use Rattle.tree_format.specs.Node.{Node, children}

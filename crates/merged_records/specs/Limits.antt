@@ -1,4 +1,4 @@
--- Whether a record of an output is too large.
+-- Whether a record of an output is too large. The limits are this project's.
 use Rattle.std.specs.Prelude.{ℕ, if◌then◌else◌, Option, Some, None}
 use Rattle.std.specs.Option.{option_or}
 use Rattle.mkv_schema.specs.declared.ids.TheConstants.{TRACKS, CHAPTERS, TAGS}
