@@ -1,0 +1,3 @@
+pub mod ExtractExamples
+pub mod InfoExamples
+pub mod PlanExamples

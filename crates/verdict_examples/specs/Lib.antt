@@ -1,0 +1,3 @@
+pub mod Extractions
+pub mod Identifications
+pub mod Plans
