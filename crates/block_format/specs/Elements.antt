@@ -11,7 +11,8 @@ use Rattle.mkv_schema.specs.declared.element.Header.{Header}
 use Rattle.mkv_schema.specs.Element.{in_master, octets_between, known, stated_end, damage}
 use Rattle.mkv_schema.specs.Elements.{Run, children_in}
 use Rattle.mkv_schema.specs.Value.{body_of, first_of}
-use Rattle.mkv_schema.specs.Outline.{first_damage, unless, and_then, where_it, bad_value}
+use Rattle.mkv_schema.specs.Outline.{first_damage, where_it, bad_value}
+use Rattle.mkv_io.specs.Results.{unless, and_then}
 use Rattle.block_format.specs.declared.limits.TheConstants.{SLICES, MOST_OF_BLOCK, MOST_REFERENCES}
 use Rattle.block_format.specs.Content.{Content, content_in, is_invisible, lace_of}
 use Rattle.block_format.specs.Block.{Block, nanoseconds, time_of, has_too_large_time, simple_block_with}

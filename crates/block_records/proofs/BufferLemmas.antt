@@ -9,7 +9,8 @@ use Rattle.mkv_io.specs.declared.damage.Kind.TheVariants.{BlockTooLarge, Missing
 use Rattle.mkv_schema.specs.declared.element.Header.{Header}
 use Rattle.mkv_schema.specs.Element.{in_master, known, stated_end, damage, octets_between}
 use Rattle.mkv_schema.specs.Elements.{children_in}
-use Rattle.mkv_schema.specs.Outline.{and_then, unless, where_it}
+use Rattle.mkv_schema.specs.Outline.{where_it}
+use Rattle.mkv_io.specs.Results.{and_then, unless}
 use Rattle.mkv_schema.specs.Value.{body_of, first_of}
 use Rattle.elements.specs.Body.{IsBody}
 use Rattle.elements.proofs.BodyLemmas.{IsBody-part}

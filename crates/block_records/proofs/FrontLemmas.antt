@@ -14,7 +14,8 @@ use Rattle.mkv_io.specs.declared.damage.Kind.{Kind}
 use Rattle.mkv_io.specs.declared.damage.Kind.TheVariants.{TimeTooLarge}
 use Rattle.mkv_schema.specs.declared.element.Header.{Header}
 use Rattle.mkv_schema.specs.Element.{damage, known}
-use Rattle.mkv_schema.specs.Outline.{unless, where_it}
+use Rattle.mkv_schema.specs.Outline.{where_it}
+use Rattle.mkv_io.specs.Results.{unless}
 use Rattle.mkv_schema.specs.Value.{body_of}
 use Rattle.block_format.specs.declared.limits.TheConstants.{MOST_OF_BLOCK}
 use Rattle.block_format.specs.Block.{Block, has_too_large_time, simple_block_with}

@@ -11,7 +11,8 @@ use Rattle.mkv_io.specs.declared.damage.Damage.{Damage}
 use Rattle.mkv_io.specs.declared.damage.Kind.TheVariants.{TimeTooLarge, TooMany}
 use Rattle.mkv_schema.specs.declared.element.Header.{Header}
 use Rattle.mkv_schema.specs.Element.{damage}
-use Rattle.mkv_schema.specs.Outline.{and_then, unless, where_it}
+use Rattle.mkv_schema.specs.Outline.{where_it}
+use Rattle.mkv_io.specs.Results.{and_then, unless}
 use Rattle.mkv_schema.specs.Value.{body_of, first_of}
 use Rattle.block_format.specs.declared.limits.TheConstants.{MOST_REFERENCES}
 use Rattle.block_format.specs.Content.{is_invisible, lace_of}

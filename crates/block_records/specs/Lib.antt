@@ -5,4 +5,4 @@ pub mod Lendable
 pub mod Made
 pub mod Spelled
 pub mod Time
-pub mod Found
+pub mod Says

@@ -3,7 +3,7 @@
 
 ghost use Rattle.std.specs.Prelude.{◌≡◌, pos, ◌+ℤ◌, ℤ, [], IfOk};
 ghost use Rattle.block_records.specs.Lendable.{CanLead};
-ghost use Rattle.block_records.specs.Found.{MakesGroupHead, MakesSimpleHead, TellsTimes};
+ghost use Rattle.block_records.specs.Says.{MakesGroupHead, MakesSimpleHead, TellsTimes};
 
 use crate::content::{Spelled, has_flag, lace_of};
 use crate::gathered::Gathered;

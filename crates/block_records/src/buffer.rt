@@ -13,7 +13,7 @@ ghost use Rattle.block_records.specs.Lendable.{HasSmallTimes, LendsNothing};
 ghost use Rattle.block_records.specs.Time.{IsSmallTime};
 ghost use Rattle.mkv_io.specs.declared.outside.TheConstants.{LONGEST_FILE};
 ghost use Rattle.block_format.specs.declared.limits.TheConstants.{MOST_REFERENCES};
-ghost use Rattle.block_records.specs.Found.{LendsFound, SpellsGroup, SpellsSimple};
+ghost use Rattle.block_records.specs.Says.{LendsFound, SpellsGroup, SpellsSimple};
 
 use crate::front::FrontHead;
 use crate::head::BlockHead;

@@ -6,7 +6,7 @@ ghost use Rattle.mkv_schema.specs.Element.{known};
 ghost use Rattle.block_format.specs.declared.limits.TheConstants.{MOST_OF_BLOCK};
 ghost use Rattle.block_records.specs.Front.{frame_count, front_head, front_track, laced_count};
 ghost use Rattle.block_records.specs.Lendable.{HasSmallTimes};
-ghost use Rattle.block_records.specs.Found.{Settles};
+ghost use Rattle.block_records.specs.Says.{Settles};
 
 use crate::block::simple_head;
 use crate::content::{Spelled, header_in, lace_of};

@@ -9,7 +9,7 @@ ghost use Rattle.elements.specs.Body.{IsBody};
 ghost use Rattle.block_format.specs.Elements.{element_octets};
 ghost use Rattle.block_records.specs.Group.{Gathers, GathersRun, IsInside, IsPart};
 ghost use Rattle.mkv_io.specs.declared.outside.TheConstants.{LONGEST_FILE};
-ghost use Rattle.block_records.specs.Found.{GathersChild, GathersReference};
+ghost use Rattle.block_records.specs.Says.{GathersChild, GathersReference};
 
 use arrayvec::ArrayVec;
 use block_format::SLICES;

@@ -5,7 +5,7 @@ ghost use Rattle.std.specs.Prelude.{◌≡◌, ◌≤◌, length, IfOk, OnOk, On
 ghost use Rattle.mkv_schema.specs.Element.{known, stated_end};
 ghost use Rattle.block_records.specs.Lendable.{HasSmallTimes, IsBlock, IsEmpty, lent};
 ghost use Rattle.mkv_io.specs.declared.outside.TheConstants.{LONGEST_FILE};
-ghost use Rattle.block_records.specs.Found.{SpellsGroup, SpellsSimple, StaysElse};
+ghost use Rattle.block_records.specs.Says.{SpellsGroup, SpellsSimple, StaysElse};
 
 use crate::block::{group_head, simple_head};
 use crate::content::spell;

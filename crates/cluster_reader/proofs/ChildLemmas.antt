@@ -10,7 +10,7 @@ use Rattle.mkv_io.specs.Contents.{octets_from}
 use Rattle.mkv_schema.specs.declared.element.Header.{Header}
 use Rattle.mkv_schema.specs.Element.{known, damage, stated_end}
 use Rattle.mkv_schema.specs.Value.{body_of}
-use Rattle.mkv_schema.specs.Outline.{unless, and_then}
+use Rattle.mkv_io.specs.Results.{unless, and_then}
 use Rattle.block_format.specs.declared.limits.TheConstants.{MOST_TIMESTAMP}
 use Rattle.block_format.specs.Block.{Block}
 use Rattle.block_format.specs.Elements.{Rules, too_long, timestamp_or, timestamp_for, simple_block, block_group}

@@ -144,6 +144,6 @@ pub record TakesStep (takes : Takes) (old new : Walk) (result : Result Step Read
 abbrev pub PaysFor : {S T : Type 0} → Ghosts S → S → S → Walk → Walk → Result T ReadEnd → Type 0
 PaysFor r src src' old new result = Pays (file_size r src old.file) (shown old) (shown new) (r.octets_read src) (r.octets_read src') result
 
--- An Element with this header is read through the window of a walk, from its body on.
+-- The way through the body of an Element with this header pays for what the window of a walk read of it.
 abbrev pub ReadsBody : {S T E : Type 0} → Ghosts S → S → S → Walk → Walk → Header → Result T E → Type 0
 ReadsBody r src src' old new h result = Goes r old.file h.body (λ _. stated_end h) old.window new.window src src' result

@@ -7,7 +7,7 @@ use Rattle.std.proofs.lemmas.Bool.Decides.{nat_tests}
 use Rattle.std.proofs.lemmas.Grind.{flat_map-append}
 use Rattle.std.proofs.lemmas.List.{map_more}
 use Rattle.std.proofs.Math.Seq.{take-suc}
-use Rattle.mkv_schema.specs.Outline.{and_then}
+use Rattle.mkv_io.specs.Results.{and_then}
 use Rattle.tree_format.specs.Node.{Node, leaf, master, none, nodes_of, id_of, offset_of, children, with_children, depth, depth_all, deepest, IsMaster, HasRoom}
 use Rattle.tree_format.specs.NormalForm.{octets, longest}
 use Rattle.tree_format.specs.Changes.{AreTooLong}

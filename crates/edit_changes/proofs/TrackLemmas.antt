@@ -9,7 +9,8 @@ use Rattle.tree_format.specs.Node.{Node, id_of}
 use Rattle.tree_format.specs.Standing.{StandsIn}
 use Rattle.ebml_tree.specs.Building.{IsRead}
 use Rattle.edit_changes.specs.declared.refusal.Why.{Why}
-use Rattle.edit_changes.specs.Change.{and_then, edited_node, place_of}
+use Rattle.edit_changes.specs.Change.{edited_node, place_of}
+use Rattle.mkv_io.specs.Results.{and_then}
 use Rattle.edit_changes.specs.declared.change.EditEnd.{EditEnd}
 use Rattle.edit_changes.specs.declared.change.EditEnd.TheVariants.{Refused, Memory}
 use Rattle.edit_changes.specs.Made.{Makes}

@@ -19,6 +19,7 @@ use Rattle.edit_changes.specs.declared.refusal.Refusal.{Refusal}
 use Rattle.edit_changes.specs.declared.refusal.Refusal.TheVariants as refusal
 use Rattle.edit_changes.specs.declared.trees.Trees.{Trees}
 use Rattle.edit_changes.specs.Property.{is_info, property_of, value_of}
+use Rattle.mkv_io.specs.Results.{and_then}
 
 -- ---- which TrackEntry is meant
 
@@ -86,10 +87,6 @@ abbrev pub edited_node : Edit → Node → Result Node Why
 edited_node e n = named e.change e.value n (property_of (is_info e.place) e.name)
 
 -- ---- the edits of a file, one after the other
-
-abbrev pub and_then : {A B E : Type 0} → Result A E → (A → Result B E) → Result B E
-and_then (Ok x) more = more x
-and_then (Err e) more = Err e
 
 abbrev pub in_info : Edit → Trees → Option Node → Result Trees Why
 in_info e t None = Err NoInfo

@@ -27,7 +27,8 @@ use Rattle.edit_changes.specs.declared.refusal.Room.{Room}
 use Rattle.edit_changes.specs.declared.refusal.Room.TheVariants.{Tail, Twin, SeekHead, SegmentSize}
 use Rattle.edit_changes.specs.declared.refusal.TheConstants.{MOST_WRITTEN}
 use Rattle.edit_changes.specs.declared.trees.Trees.{Trees}
-use Rattle.edit_changes.specs.Change.{and_then, edited_trees, are_of_info, are_of_tracks}
+use Rattle.edit_changes.specs.Change.{edited_trees, are_of_info, are_of_tracks}
+use Rattle.mkv_io.specs.Results.{unless, and_then}
 use Rattle.edit_changes.specs.Records.{editable}
 use Rattle.edit_changes.specs.Span.{span_of, void_header, fitted}
 use Rattle.edit_changes.specs.SeekHead.{SeekHeadAt, seek_head_of, seek_head_with}
@@ -203,10 +204,6 @@ most_nodes (p ∷ ps) = max p.nodes (most_nodes ps)
 -- how many octets are written there
 abbrev pub length_in_place : List Part → ℕ
 length_in_place ps = sum_by (λ p. length (in_place p)) (filter stands ps)
-
-abbrev pub unless : {A : Type 0} → Option Refusal → A → Result A Refusal
-unless None x = Ok x
-unless (Some r) x = Err r
 
 -- too many octets to write, or too many Elements in one
 abbrev pub too_large : ℕ → List Part → Option Refusal

@@ -5,7 +5,7 @@ use Rattle.mkv_io.specs.declared.damage.Damage.{Damage}
 use Rattle.mkv_io.specs.declared.damage.Kind.TheVariants.{NoTracks}
 use Rattle.mkv_schema.specs.declared.element.Header.{Header}
 use Rattle.mkv_schema.specs.Element.{damage}
-use Rattle.mkv_schema.specs.Outline.{and_then, unless}
+use Rattle.mkv_io.specs.Results.{and_then, unless}
 use Rattle.element_reader.specs.Outline.{FileOutline, outline_in}
 use Rattle.tree_format.specs.Node.{Node, children}
 use Rattle.file_format.specs.Refusal.{refusal_of}

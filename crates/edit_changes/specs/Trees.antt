@@ -11,7 +11,8 @@ use Rattle.edit_changes.specs.declared.refusal.Refusal.{Refusal}
 use Rattle.edit_changes.specs.declared.refusal.Refusal.TheVariants.{Edit as RefusedEdit}
 use Rattle.edit_changes.specs.declared.refusal.Why.{Why}
 use Rattle.edit_changes.specs.declared.refusal.Why.TheVariants.{NoInfo, NoSuchTrack}
-use Rattle.edit_changes.specs.Change.{and_then, edited_node, place_of}
+use Rattle.edit_changes.specs.Change.{edited_node, place_of}
+use Rattle.mkv_io.specs.Results.{and_then}
 use Rattle.edit_changes.specs.declared.change.EditEnd.{EditEnd}
 use Rattle.edit_changes.specs.declared.change.EditEnd.TheVariants as end
 use Rattle.edit_changes.specs.declared.editing.EditsEnd.{EditsEnd}

@@ -11,7 +11,8 @@ use Rattle.mkv_io.specs.declared.outside.TheConstants.{LONGEST_FILE}
 use Rattle.mkv_schema.specs.declared.element.Header.{Header}
 use Rattle.mkv_schema.specs.Element.{in_segment, element_at}
 use Rattle.mkv_schema.specs.Elements.{Run}
-use Rattle.mkv_schema.specs.Outline.{and_then, segment_bound, segment_run}
+use Rattle.mkv_schema.specs.Outline.{segment_bound, segment_run}
+use Rattle.mkv_io.specs.Results.{and_then, and_then as edits_then, unless as unless_refused}
 use Rattle.mkv_schema.specs.Value.{first_of}
 use Rattle.mkv_schema.proofs.OutlineLemmas.{and_then-ok, unless-ok}
 use Rattle.element_reader.specs.Outline.{outline_in}
@@ -29,8 +30,7 @@ use Rattle.output_model.proofs.ReadLemmas.{body_of-read}
 use Rattle.output_laws.specs.Points.{PointsAt, PointsAtBlock}
 use Rattle.output_laws.specs.Reading.{CuesAre}
 use Rattle.sidecar_edit.specs.Writes.{Write, applied}
-use Rattle.edit_changes.specs.Change.{and_then as edits_then}
-use Rattle.edit_changes.specs.Plan.{if_editable, number_of, twin_of, unless as unless_refused, writes_of_parts}
+use Rattle.edit_changes.specs.Plan.{if_editable, number_of, twin_of, writes_of_parts}
 use Rattle.edit_changes.specs.Records.{EditableFile, trees_of}
 use Rattle.edit_changes.specs.SeekHead.{stays}
 use Rattle.edit_plan.proofs.PlanLemmas.{parts-in-order, unless-none}

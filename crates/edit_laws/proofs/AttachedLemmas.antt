@@ -9,7 +9,8 @@ use Rattle.mkv_schema.specs.declared.element.Header.{Header}
 use Rattle.mkv_io.specs.declared.damage.Kind.TheVariants.{MissingChild}
 use Rattle.mkv_schema.specs.Element.{damage, known, stated_end}
 use Rattle.mkv_schema.specs.Elements.{never}
-use Rattle.mkv_schema.specs.Outline.{first_damage, first_refusal, unless, where_it}
+use Rattle.mkv_schema.specs.Outline.{first_damage, first_refusal, where_it}
+use Rattle.mkv_io.specs.Results.{unless}
 use Rattle.mkv_schema.specs.Value.{first_of, is_known_value}
 use Rattle.tree_format.specs.Node.{Node, leaf, master, nodes_of}
 use Rattle.tree_format.specs.Changes.{with_child}

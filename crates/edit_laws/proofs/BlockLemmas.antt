@@ -11,7 +11,8 @@ use Rattle.mkv_schema.specs.declared.element.Header.{Header}
 use Rattle.mkv_schema.specs.Element.{stated_end, damage}
 use Rattle.mkv_schema.specs.Elements.{Run, never}
 use Rattle.mkv_schema.specs.Value.{body_of, is_known_value, first_of}
-use Rattle.mkv_schema.specs.Outline.{and_then, unless, first_damage, bad_value}
+use Rattle.mkv_schema.specs.Outline.{first_damage, bad_value}
+use Rattle.mkv_io.specs.Results.{and_then, unless}
 use Rattle.block_format.specs.Block.{nanoseconds, simple_block_with}
 use Rattle.block_format.specs.Content.{Content, content_in}
 use Rattle.block_format.specs.Elements.{Rules, timestamp_for, at_place, in_time, simple_block, group_run, group_refusal, group_children, block_or, references_among, too_many_references, duration_of, references_of, is_kept, element_octets, kept_of, group_with, group_among, block_group}

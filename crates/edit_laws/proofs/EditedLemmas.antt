@@ -6,7 +6,8 @@ use Rattle.mkv_io.specs.declared.damage.Damage.{Damage}
 use Rattle.mkv_io.specs.declared.outside.TheConstants.{LONGEST_FILE}
 use Rattle.word_values.specs.declared.edit.Edit.{Edit}
 use Rattle.mkv_schema.specs.declared.element.Header.{Header}
-use Rattle.mkv_schema.specs.Outline.{segment_run, unless as unless_damaged}
+use Rattle.mkv_schema.specs.Outline.{segment_run}
+use Rattle.mkv_io.specs.Results.{unless as unless_damaged, and_then}
 use Rattle.mkv_schema.proofs.OutlineLemmas.{and_then-ok, unless-ok}
 use Rattle.element_reader.specs.Outline.{FileOutline, outline_in}
 use Rattle.element_reader.specs.Collected.{others_of}
@@ -14,7 +15,7 @@ use Rattle.output_model.specs.Element.{Element, octets_of}
 use Rattle.sidecar_edit.specs.Writes.{Write, applied}
 use Rattle.edit_changes.specs.declared.refusal.Refusal.{Refusal}
 use Rattle.edit_changes.specs.declared.trees.Trees.{Trees}
-use Rattle.edit_changes.specs.Change.{and_then, edited_trees}
+use Rattle.edit_changes.specs.Change.{edited_trees}
 use Rattle.edit_changes.specs.Records.{EditableFile, editable, trees_of}
 use Rattle.edit_changes.specs.SeekHead.{seek_head_of}
 use Rattle.edit_changes.specs.Plan.{Part, appended, ascending, edit_ids, elements_moving, if_editable, length_in_place, moves, part_writes, parts, plan_of, too_large, writes_in_place, writes_moving, writes_of_parts}

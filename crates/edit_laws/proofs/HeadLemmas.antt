@@ -21,7 +21,8 @@ use Rattle.mkv_schema.specs.declared.element.Header.{Header}
 use Rattle.mkv_schema.specs.declared.limits.TheConstants.{MOST_OF_HEADER}
 use Rattle.mkv_schema.specs.Element.{at_level_0, in_tree, octets_between, id_in, with_size, with_id, body_damage, element_in, element_at, is_unknown, may_be_open, stated_end, end_in, damage}
 use Rattle.mkv_schema.specs.Elements.{Run, never, in_front, step, children_in}
-use Rattle.mkv_schema.specs.Outline.{and_then, unless, first_damage, where_it, ebml_mark, header_children, header_causes, over, bad_value, wrong_doc_type, is_doc_type, above, place_of, ebml_header}
+use Rattle.mkv_schema.specs.Outline.{first_damage, where_it, ebml_mark, header_children, header_causes, over, bad_value, wrong_doc_type, is_doc_type, above, place_of, ebml_header}
+use Rattle.mkv_io.specs.Results.{and_then, unless}
 use Rattle.mkv_schema.specs.Value.{body_of, is_known_value, uint_value, text_of, first_of}
 use Rattle.mkv_schema.proofs.ElementLemmas.{element_at-placed, element_in-whole}
 use Rattle.mkv_schema.proofs.OutlineLemmas.{unless-ok}

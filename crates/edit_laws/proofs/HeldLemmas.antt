@@ -8,7 +8,8 @@ use Rattle.mkv_schema.specs.Table.{table}
 use Rattle.mkv_schema.specs.declared.ids.TheConstants.{ATTACHMENTS, CHAPTERS, CLUSTER, TAGS}
 use Rattle.mkv_schema.specs.declared.element.Header.{Header}
 use Rattle.mkv_schema.specs.Elements.{Run, ends_cluster}
-use Rattle.mkv_schema.specs.Outline.{and_then, segment_bound, segment_run}
+use Rattle.mkv_schema.specs.Outline.{segment_bound, segment_run}
+use Rattle.mkv_io.specs.Results.{and_then}
 use Rattle.mkv_schema.specs.Value.{first_of}
 use Rattle.output_model.specs.Element.{Element, HoldsAt, octets_of, joined, header_in_place, headers_in_place}
 use Rattle.output_model.proofs.HeldLemmas.{held-left, held-right}

@@ -15,7 +15,8 @@ use Rattle.mkv_io.specs.declared.outside.TheConstants.{LONGEST_FILE}
 use Rattle.word_values.specs.declared.edit.Edit.{Edit}
 use Rattle.mkv_schema.specs.declared.element.Header.{Header}
 use Rattle.mkv_schema.specs.Elements.{Run, ends_cluster}
-use Rattle.mkv_schema.specs.Outline.{and_then, segment_bound, segment_run}
+use Rattle.mkv_schema.specs.Outline.{segment_bound, segment_run}
+use Rattle.mkv_io.specs.Results.{and_then}
 use Rattle.mkv_schema.specs.Value.{body_of, first_of}
 use Rattle.mkv_schema.proofs.OutlineLemmas.{and_then-ok}
 use Rattle.tree_format.specs.Reading.{tree_of}

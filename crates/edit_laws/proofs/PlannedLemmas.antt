@@ -9,7 +9,8 @@ use Rattle.mkv_schema.specs.declared.ids.TheConstants.{SEEK_HEAD}
 use Rattle.mkv_io.specs.declared.outside.TheConstants.{LONGEST_FILE}
 use Rattle.mkv_io.specs.declared.damage.Damage.{Damage}
 use Rattle.mkv_schema.specs.declared.element.Header.{Header}
-use Rattle.mkv_schema.specs.Outline.{and_then, segment_run}
+use Rattle.mkv_schema.specs.Outline.{segment_run}
+use Rattle.mkv_io.specs.Results.{and_then}
 use Rattle.mkv_schema.specs.Value.{body_of, first_of}
 use Rattle.element_reader.specs.Collected.{others_of}
 use Rattle.element_reader.specs.Outline.{FileOutline}

@@ -9,7 +9,8 @@ use Rattle.mkv_schema.specs.declared.ids.TheConstants.{CHAPTERS, INFO, TAGS, TRA
 use Rattle.word_values.specs.declared.edit.Edit.{Edit}
 use Rattle.mkv_schema.specs.declared.element.Header.{Header}
 use Rattle.mkv_schema.specs.Element.{stated_end}
-use Rattle.mkv_schema.specs.Outline.{and_then, segment_run}
+use Rattle.mkv_schema.specs.Outline.{segment_run}
+use Rattle.mkv_io.specs.Results.{and_then}
 use Rattle.mkv_schema.specs.Value.{body_of, first_of}
 use Rattle.mkv_schema.proofs.OutlineLemmas.{and_then-ok, unless-ok}
 use Rattle.tree_format.specs.declared.limits.TheConstants.{MOST_NODES}

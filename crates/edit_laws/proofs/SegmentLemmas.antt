@@ -7,7 +7,8 @@ use Rattle.mkv_io.specs.declared.damage.Kind.TheVariants.{NoSegment}
 use Rattle.mkv_schema.specs.declared.element.Header.{Header}
 use Rattle.mkv_schema.specs.Element.{at_level_0, octets_between, element_at, stated_end, end_in, damage}
 use Rattle.mkv_schema.specs.Elements.{Run, ends_at, id_of}
-use Rattle.mkv_schema.specs.Outline.{and_then, unless, before_segment, segment_behind, segment_of}
+use Rattle.mkv_schema.specs.Outline.{before_segment, segment_behind, segment_of}
+use Rattle.mkv_io.specs.Results.{and_then, unless}
 use Rattle.mkv_schema.proofs.ElementLemmas.{element_at-placed, element_in-whole}
 use Rattle.mkv_schema.proofs.ElementsLemmas.{Advances-known}
 use Rattle.output_model.specs.Element.{all_in_front}

@@ -27,7 +27,8 @@ use Rattle.edit_changes.specs.declared.refusal.Why.{Why}
 use Rattle.edit_changes.specs.declared.refusal.Why.TheVariants as why
 use Rattle.edit_changes.specs.declared.trees.Trees.{Trees}
 use Rattle.edit_changes.specs.Property.{is_between, is_info, is_in_tag, is_language, is_lower, is_not_zero, is_printable, is_short, is_words, property_of, value_of, where_text, where_number}
-use Rattle.edit_changes.specs.Change.{and_then, are_of_info, are_of_tracks, added, added_to, changed, edited_from, edited_node, edited_once, has, in_entry, in_info, in_tracks, named, numbered, place_of, set}
+use Rattle.edit_changes.specs.Change.{are_of_info, are_of_tracks, added, added_to, changed, edited_from, edited_node, edited_once, has, in_entry, in_info, in_tracks, named, numbered, place_of, set}
+use Rattle.mkv_io.specs.Results.{and_then}
 use Rattle.edit_changes.specs.Properties.{IsOfKind, IsPropertyOf, section_of}
 use Rattle.edit_changes.specs.Trees.{IsEntryAt}
 use Rattle.edit_changes.proofs.PropertyLemmas.{property-stands}

@@ -8,7 +8,8 @@ use Rattle.mkv_io.specs.declared.damage.Damage.{Damage}
 use Rattle.mkv_io.specs.declared.outside.TheConstants.{LONGEST_FILE}
 use Rattle.word_values.specs.declared.edit.Edit.{Edit}
 use Rattle.mkv_schema.specs.declared.element.Header.{Header}
-use Rattle.mkv_schema.specs.Outline.{and_then, ebml_header, segment_of, segment_run}
+use Rattle.mkv_schema.specs.Outline.{ebml_header, segment_of, segment_run}
+use Rattle.mkv_io.specs.Results.{and_then}
 use Rattle.tree_format.specs.Node.{Node, master, nodes_of}
 use Rattle.tree_format.specs.NormalForm.{octets}
 use Rattle.block_format.specs.Elements.{Rules}

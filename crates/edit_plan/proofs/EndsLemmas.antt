@@ -14,7 +14,8 @@ use Rattle.mkv_io.specs.declared.outside.TheConstants.{LONGEST_FILE}
 use Rattle.mkv_schema.specs.declared.element.Header.{Header}
 use Rattle.mkv_schema.specs.Element.{at_level_0, damage, in_segment, element_at, known, stated_end}
 use Rattle.mkv_schema.specs.Elements.{Run, behind, behind_in_segment, ends_at, ends_segment, id_of, level_1, step}
-use Rattle.mkv_schema.specs.Outline.{Outlined, before_segment, ebml_header, limits_from, outline_of, outlined, segment_behind, segment_bound, segment_of, segment_run, unless}
+use Rattle.mkv_schema.specs.Outline.{Outlined, before_segment, ebml_header, limits_from, outline_of, outlined, segment_behind, segment_bound, segment_of, segment_run}
+use Rattle.mkv_io.specs.Results.{unless}
 use Rattle.mkv_schema.proofs.ElementLemmas.{element_at-placed}
 use Rattle.mkv_schema.proofs.ElementsLemmas.{Advances, Advances-segment, elements-end, elements-more}
 use Rattle.mkv_schema.proofs.OutlineLemmas.{and_then-ok, unless-ok}

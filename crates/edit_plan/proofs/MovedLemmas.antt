@@ -10,7 +10,8 @@ use Rattle.sidecar_edit.specs.Writes as disk
 use Rattle.edit_changes.specs.declared.refusal.Refusal.{Refusal}
 use Rattle.edit_changes.specs.SeekHead.{SeekHeadAt}
 use Rattle.edit_changes.specs.Span.{fitted}
-use Rattle.edit_changes.specs.Plan.{Part, appended, ascending, first_refusal, length_moving, moves, moving_refusals, moving_writes, new_end, part_writes, place_of, room_of, seek_head, size_length, size_writes, unless, write, writes_moving}
+use Rattle.edit_changes.specs.Plan.{Part, appended, ascending, first_refusal, length_moving, moves, moving_refusals, moving_writes, new_end, part_writes, place_of, room_of, seek_head, size_length, size_writes, write, writes_moving}
+use Rattle.mkv_io.specs.Results.{unless}
 use Rattle.edit_plan.specs.declared.prepared.Prepared.{Prepared}
 use Rattle.edit_plan.specs.Moving.{IsPrepared, refused}
 use Rattle.edit_plan.specs.Shown.{written}

@@ -15,7 +15,8 @@ use Rattle.mkv_io.specs.declared.outside.TheConstants.{LONGEST_FILE}
 use Rattle.word_values.specs.declared.edit.Edit.{Edit}
 use Rattle.mkv_schema.specs.declared.element.Header.{Header}
 use Rattle.mkv_schema.specs.Element.{end_in, is_unknown, known, stated_end}
-use Rattle.mkv_schema.specs.Outline.{segment_bound, unless as unless_damaged}
+use Rattle.mkv_schema.specs.Outline.{segment_bound}
+use Rattle.mkv_io.specs.Results.{unless as unless_damaged, and_then as edits_then, unless}
 use Rattle.mkv_schema.proofs.OutlineLemmas.{and_then-ok, unless-ok}
 use Rattle.mkv_schema.specs.Value.{body_of, first_of}
 use Rattle.element_reader.specs.Collected.{others_of}
@@ -33,11 +34,11 @@ use Rattle.edit_changes.specs.declared.refusal.Room.{Room}
 use Rattle.edit_changes.specs.declared.refusal.Room.TheVariants as room
 use Rattle.edit_changes.specs.declared.refusal.TheConstants.{MOST_WRITTEN}
 use Rattle.edit_changes.specs.declared.trees.Trees.{Trees}
-use Rattle.edit_changes.specs.Change.{edited_trees, and_then as edits_then}
+use Rattle.edit_changes.specs.Change.{edited_trees}
 use Rattle.edit_changes.specs.Records.{EditableFile, editable, trees_of}
 use Rattle.edit_changes.specs.SeekHead.{SeekHeadAt, before_clusters, if_read, if_sound, seek_head_of}
 use Rattle.edit_changes.specs.Span.{fitted, span_of}
-use Rattle.edit_changes.specs.Plan.{edit_ids, if_editable, plan_of, Part, part_writes, parts, place, write, recorded, ascending, moves, moving, appended, elements_moving, length_in_place, length_moving, most_nodes, too_large, unless, first_refusal, lacks, size_length, size_refusal, size_need, size_width, size_writes, new_end, tail_refusal, twin_refusal, moving_refusals, moving_writes, writes_moving, writes_in_place, writes_of_parts, seek_head}
+use Rattle.edit_changes.specs.Plan.{edit_ids, if_editable, plan_of, Part, part_writes, parts, place, write, recorded, ascending, moves, moving, appended, elements_moving, length_in_place, length_moving, most_nodes, too_large, first_refusal, lacks, size_length, size_refusal, size_need, size_width, size_writes, new_end, tail_refusal, twin_refusal, moving_refusals, moving_writes, writes_moving, writes_in_place, writes_of_parts, seek_head}
 use Rattle.edit_plan.specs.Laws.{ArePartsOf, PartsAreInOrder}
 use Rattle.edit_plan.proofs.LevelLemmas.{Stand, Stand-later, level-stands}
 use Rattle.edit_plan.proofs.VoidLemmas.{first-room}

@@ -9,7 +9,7 @@ use Rattle.sidecar_edit.specs.Plan.{planned}
 use Rattle.sidecar_edit.specs.Writes.{Write, extent}
 use Rattle.sidecar_edit.specs.declared.place.Place.{Place}
 use Rattle.edit_changes.specs.declared.refusal.Refusal.{Refusal}
-use Rattle.edit_changes.specs.Change.{and_then}
+use Rattle.mkv_io.specs.Results.{and_then}
 use Rattle.edit_changes.specs.Plan.{place, plan_of, recorded}
 use Rattle.edit_plan.specs.Answer.{Answers, Gives}
 use Rattle.edit_plan.specs.Record.{record_of, record_over}

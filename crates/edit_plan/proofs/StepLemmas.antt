@@ -2,13 +2,13 @@
 use Rattle.std.proofs.Common.{◌≡◌, ℕ, false, List, Option, Some, None, Result, Ok, Err, refl, sym, ap, ◌∙◌}
 use Rattle.mkv_io.specs.declared.damage.Damage.{Damage}
 use Rattle.word_values.specs.declared.edit.Edit.{Edit}
-use Rattle.mkv_schema.specs.Outline.{and_then, unless}
+use Rattle.mkv_io.specs.Results.{and_then, unless, and_then as edits_then}
 use Rattle.element_reader.specs.Outline.{FileOutline, outline_in}
 use Rattle.sidecar_edit.specs.Writes.{Write}
 use Rattle.edit_changes.specs.declared.refusal.Refusal.{Refusal}
 use Rattle.edit_changes.specs.declared.refusal.Refusal.TheVariants.{Damaged}
 use Rattle.edit_changes.specs.declared.trees.Trees.{Trees}
-use Rattle.edit_changes.specs.Change.{edited_trees, and_then as edits_then}
+use Rattle.edit_changes.specs.Change.{edited_trees}
 use Rattle.edit_changes.specs.Records.{EditableFile, trees_of}
 use Rattle.edit_changes.specs.Plan.{edit_ids, if_editable, parts, plan_of, writes_of_parts}
 use Rattle.edit_plan.specs.Answer.{Answers, Gives}

@@ -9,7 +9,7 @@ use Rattle.meta_records.specs.Records.{IsHeld, good_info}
 use Rattle.meta_records.proofs.RecordsLemmas.{held}
 use Rattle.file_format.specs.Info.{info_refusal}
 use Rattle.mkv_io.specs.declared.damage.Damage.{Damage}
-use Rattle.mkv_schema.specs.Outline.{unless}
+use Rattle.mkv_io.specs.Results.{unless}
 use Rattle.file_format.specs.Entry.{entries_of}
 use Rattle.file_format.specs.Refusal.{refusal_of}
 use Rattle.track_records.specs.Track.{track_of, tracks_of}

@@ -5,7 +5,7 @@ use Rattle.sidecar_edit.specs.Fields.{Planned}
 use Rattle.sidecar_edit.specs.Plan.{planned}
 use Rattle.sidecar_edit.specs.Writes.{Write, extent}
 use Rattle.edit_changes.specs.declared.refusal.Refusal.{Refusal}
-use Rattle.edit_changes.specs.Change.{and_then}
+use Rattle.mkv_io.specs.Results.{and_then}
 use Rattle.edit_changes.specs.Plan.{place, plan_of, recorded}
 
 -- of some writes over a file of so many octets that begins with these

@@ -17,7 +17,8 @@ use Rattle.mkv_io.specs.declared.damage.Kind.TheVariants.{NotEbml, TooLong, Trun
 use Rattle.mkv_schema.specs.declared.element.Header.{Header}
 use Rattle.mkv_schema.specs.Element.{at_level_0, has_unknown_size, is_truncated, is_too_long, with_body, with_size, with_id, element_at, element_in, damage, stated_end}
 use Rattle.mkv_schema.specs.declared.limits.TheConstants.{MOST_OF_HEADER}
-use Rattle.mkv_schema.specs.Outline.{ebml_mark, first_element, ebml_header, and_then, unless, over, first_damage, header_causes, header_children, children_causes}
+use Rattle.mkv_schema.specs.Outline.{ebml_mark, first_element, ebml_header, over, first_damage, header_causes, header_children, children_causes}
+use Rattle.mkv_io.specs.Results.{and_then, unless}
 use Rattle.mkv_schema.specs.declared.ids.TheConstants.{EBML}
 use Rattle.std.proofs.lemmas.List.{drop-take}
 use Rattle.elements.specs.Body.{IsBody}

@@ -5,7 +5,8 @@ use Rattle.mkv_schema.specs.declared.ids.TheConstants.{CLUSTER}
 use Rattle.mkv_io.specs.declared.damage.Damage.{Damage}
 use Rattle.mkv_schema.specs.declared.element.Header.{Header}
 use Rattle.mkv_schema.specs.Element.{stated_end}
-use Rattle.mkv_schema.specs.Outline.{Outlined, and_then, unless, described, ebml_header, limits_from, outline_of, outlined, segment_of, segment_run, within_limits}
+use Rattle.mkv_schema.specs.Outline.{Outlined, described, ebml_header, limits_from, outline_of, outlined, segment_of, segment_run, within_limits}
+use Rattle.mkv_io.specs.Results.{and_then, unless}
 use Rattle.mkv_schema.specs.Value.{first_of}
 use Rattle.element_reader.specs.Collected.{last_of, others_of}
 use Rattle.element_reader.specs.Level.{HasLevel}

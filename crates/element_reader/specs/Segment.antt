@@ -3,7 +3,8 @@ use Rattle.std.specs.Prelude.{ℕ, List, Result, Ok, Err}
 use Rattle.mkv_io.specs.declared.damage.Damage.{Damage}
 use Rattle.mkv_schema.specs.declared.element.Header.{Header}
 use Rattle.mkv_schema.specs.Elements.{Run}
-use Rattle.mkv_schema.specs.Outline.{and_then, unless, before_segment, segment_behind}
+use Rattle.mkv_schema.specs.Outline.{before_segment, segment_behind}
+use Rattle.mkv_io.specs.Results.{and_then, unless}
 
 -- the Segment behind the Elements that stand before it, or what refuses the file on the way
 abbrev pub found_behind : List ℕ → Run → Result Header Damage

@@ -4,7 +4,8 @@ use Rattle.mkv_schema.specs.declared.ids.TheConstants.{CUES}
 use Rattle.mkv_io.specs.declared.damage.Damage.{Damage}
 use Rattle.mkv_schema.specs.declared.element.Header.{Header}
 use Rattle.mkv_schema.specs.declared.limits.TheConstants.{MOST_OF_CUES}
-use Rattle.mkv_schema.specs.Outline.{and_then, over, segment_run, unless}
+use Rattle.mkv_schema.specs.Outline.{over, segment_run}
+use Rattle.mkv_io.specs.Results.{and_then, unless}
 use Rattle.mkv_schema.specs.Value.{body_of, first_of}
 use Rattle.tree_format.specs.Node.{Node}
 use Rattle.tree_format.specs.Reading.{tree_of}

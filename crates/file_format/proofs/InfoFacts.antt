@@ -10,7 +10,8 @@ use Rattle.mkv_io.specs.declared.damage.Damage.{Damage}
 use Rattle.mkv_io.specs.declared.damage.Kind.TheVariants.{BadValue}
 use Rattle.mkv_schema.specs.Element.{element_in, damage}
 use Rattle.mkv_schema.specs.Elements.{elements, elements_within}
-use Rattle.mkv_schema.specs.Outline.{and_then, outline_of, ebml_header, segment_of}
+use Rattle.mkv_schema.specs.Outline.{outline_of, ebml_header, segment_of}
+use Rattle.mkv_io.specs.Results.{and_then}
 use Rattle.tree_format.specs.Reading.{tree_of, grove, grove_within}
 use Rattle.tree_format.specs.Order.{elements_in, elements_within as trees_within}
 use Rattle.file_format.specs.Info.{info_refusal, file_scale, scale_without_limits}

@@ -10,7 +10,7 @@ use Rattle.mkv_io.specs.declared.damage.Damage.{Damage}
 use Rattle.mkv_io.specs.declared.damage.Kind.{Kind}
 use Rattle.mkv_io.specs.declared.damage.Kind.TheVariants.{BadValue, MissingChild, RepeatedTrack, TooMany, Encoding, TrackScale}
 use Rattle.mkv_schema.specs.Element.{element_in, damage}
-use Rattle.mkv_schema.specs.Outline.{and_then, unless}
+use Rattle.mkv_io.specs.Results.{and_then, unless}
 use Rattle.tree_format.specs.Node.{Node, leaf, master, nodes_of, offset_of}
 use Rattle.tree_format.specs.Reading.{tree_of, grove, grove_within}
 use Rattle.file_format.specs.Entry.{entries_of, number_of, uid_of, type_of, codec_of, language_of, default_duration_of}

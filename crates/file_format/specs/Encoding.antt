@@ -5,7 +5,8 @@ use Rattle.std.specs.Str.{bytes_eq}
 use Rattle.mkv_schema.specs.declared.ids.TheConstants.{TRACK_TIMESTAMP_SCALE, CONTENT_ENCODINGS, CONTENT_ENCODING, CONTENT_ENCODING_SCOPE, CONTENT_ENCODING_TYPE, CONTENT_COMPRESSION, CONTENT_COMP_ALGO, CONTENT_COMP_SETTINGS}
 use Rattle.mkv_io.specs.declared.damage.Damage.{Damage}
 use Rattle.mkv_io.specs.declared.damage.Kind.TheVariants.{Encoding, TrackScale}
-use Rattle.mkv_schema.specs.Outline.{first_damage, unless}
+use Rattle.mkv_schema.specs.Outline.{first_damage}
+use Rattle.mkv_io.specs.Results.{unless}
 use Rattle.tree_format.specs.Node.{Node, id_of, body_of, children}
 use Rattle.tree_format.specs.Values.{first_child, uint_in, failing_child}
 

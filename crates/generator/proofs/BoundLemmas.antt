@@ -14,7 +14,7 @@ use Rattle.remuxer.proofs.OutputsLemmas.{world_with}
 use Rattle.mkv_merge.specs.Bound.{contents_length, most_of}
 use Rattle.mkv_merge.specs.Joined.{Merges, sources_alone, sources_apart}
 use Rattle.mkv_merge.specs.Merge.{outputs_of as merge_outputs}
-use Rattle.mkv_merge.specs.Refused.{and_then}
+use Rattle.mkv_io.specs.Results.{and_then}
 use Rattle.mkv_merge.specs.declared.joining.Merged.TheVariants as merged
 use Rattle.mkv_merge.specs.declared.refusal.Refusal.{Refusal}
 use Rattle.generator.specs.declared.blocks.Medium.TheVariants.{Pictures, Sounds}

@@ -24,7 +24,7 @@ use Rattle.mkv_merge.specs.Joined.{Merges, no_texts, outputs_found, sources_alon
 use Rattle.mkv_merge.specs.Merge.{blocks_of, output_at, sources_with, split_of, status_of}
 use Rattle.mkv_merge.specs.Merge.{outputs_of as merge_outputs}
 use Rattle.mkv_merge.specs.Read.{contents_of, first_written as name_written, unless_missing}
-use Rattle.mkv_merge.specs.Refused.{and_then, unless}
+use Rattle.mkv_io.specs.Results.{and_then, unless}
 use Rattle.mkv_merge.specs.declared.refusal.Refusal.{Refusal}
 use Rattle.mkv_merge.specs.declared.refusal.Refusal.TheVariants.{OutputIsInput}
 use Rattle.generator.specs.declared.making.Done.{Done}

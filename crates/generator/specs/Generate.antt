@@ -12,7 +12,8 @@ use Rattle.merge_plan.specs.Plan.{Source}
 use Rattle.mkv_merge.specs.Joined.{sources_apart}
 use Rattle.mkv_merge.specs.Merge.{has_damage, outputs_of, status_of, warnings}
 use Rattle.mkv_merge.specs.Plain.{plain_file, plain_words}
-use Rattle.mkv_merge.specs.Refused.{and_then, line_of}
+use Rattle.mkv_merge.specs.Refused.{line_of}
+use Rattle.mkv_io.specs.Results.{and_then}
 use Rattle.mkv_merge.specs.declared.refusal.Refusal.{Refusal}
 use Rattle.mkv_lines.specs.Line.{generated_line}
 use Rattle.mkv_lines.specs.Verdict.{Verdict, in_turn}

@@ -26,7 +26,8 @@ use Rattle.srt_texts.specs.Lines.{lines_of}
 use Rattle.srt_texts.proofs.FieldsLemmas.{most_digits}
 use Rattle.mkv_io.specs.declared.entry.Entry.{Entry}
 use Rattle.srt_texts.specs.Times.{clock, is_number, is_tail, latest, seconds, span, times}
-use Rattle.srt_texts.specs.Srt.{before_head, by_start, entries, entry, first_bad, head, insert_by, onto_entries, sorted_by, srt}
+use Rattle.srt_texts.specs.Srt.{before_head, by_start, entries, entry, first_bad, head, onto_entries, srt}
+use Rattle.mkv_io.specs.Sorted.{insert_by, sorted_by}
 use Rattle.srt_texts.specs.Srt.{unless_bad as unless_bad_line}
 use Rattle.srt_texts.specs.Reading.{IsEntryWithin}
 use Rattle.srt_texts.proofs.LengthLemmas.{texts_short}
@@ -144,7 +145,6 @@ entries-early (l ∷ ls) =
 
 module _ {A : Type 0} (P : A → Type 0) (key : A → ℕ) where
   insert-all : (x : A) (ys : List A) → P x → All P ys → All P (insert_by key x ys)
-  unfolding insert_by
   insert-all x [] is each = All-cons P x [] is (All-nil P)
   insert-all x (y ∷ ys) is each = of (nat_lt (key y) (key x)) (insert-all x ys is (All-tail P y ys each))
     where
@@ -153,7 +153,6 @@ module _ {A : Type 0} (P : A → Type 0) (key : A → ℕ) where
       of false rest = All-cons P x (y ∷ ys) is each
 
   sorted-all : (xs : List A) → All P xs → All P (sorted_by key xs)
-  unfolding sorted_by
   sorted-all [] each = All-nil P
   sorted-all (x ∷ xs) each = insert-all x (sorted_by key xs) (All-head P x xs each) (sorted-all xs (All-tail P x xs each))
 

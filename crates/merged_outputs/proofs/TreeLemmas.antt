@@ -14,7 +14,7 @@ use Rattle.mkv_schema.specs.declared.ids.TheConstants.{TRACK_ENTRY, TRACK_UID}
 use Rattle.mkv_io.specs.declared.damage.Kind.TheVariants.{TooMany, BadValue}
 use Rattle.mkv_schema.specs.declared.element.Header.{Header}
 use Rattle.mkv_schema.specs.Element.{stated_end}
-use Rattle.mkv_schema.specs.Outline.{and_then}
+use Rattle.mkv_io.specs.Results.{and_then}
 use Rattle.mkv_schema.specs.Value.{is_known_value, uint_value}
 use Rattle.mkv_schema.proofs.OutlineLemmas.{and_then-ok}
 use Rattle.tree_format.specs.Node.{Node, Nodes, leaf, master, none, node, nodes_of, list_of, id_of, body_of, children, depth, depth_all, deepest}

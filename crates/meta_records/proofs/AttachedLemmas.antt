@@ -4,7 +4,8 @@ use Rattle.mkv_schema.specs.declared.ids.TheConstants.{ATTACHMENTS}
 use Rattle.mkv_io.specs.declared.damage.Damage.{Damage}
 use Rattle.mkv_io.specs.declared.outside.FileId.{FileId}
 use Rattle.mkv_schema.specs.declared.element.Header.{Header}
-use Rattle.mkv_schema.specs.Outline.{first_damage, unless}
+use Rattle.mkv_schema.specs.Outline.{first_damage}
+use Rattle.mkv_io.specs.Results.{unless}
 use Rattle.element_reader.specs.Outline.{FileOutline, first_in, outline_in}
 use Rattle.element_reader.proofs.OutlineLemmas.{Outlines-shown}
 use Rattle.output_model.specs.declared.attachment.Attachment.{Attachment}

@@ -1,7 +1,8 @@
 -- The first of several causes, and what keeps the frames of a track from being used.
 use Rattle.std.proofs.Common.{◌≡◌, ℕ, List, [], ◌∷◌, ◌++◌, Option, Some, None, Ok, Err, refl, ap}
 use Rattle.mkv_io.specs.declared.damage.Damage.{Damage}
-use Rattle.mkv_schema.specs.Outline.{first_damage, unless}
+use Rattle.mkv_schema.specs.Outline.{first_damage}
+use Rattle.mkv_io.specs.Results.{unless}
 use Rattle.tree_format.specs.Node.{Node}
 use Rattle.file_format.specs.Encoding.{prefix_of, usable_causes, usable_prefix}
 

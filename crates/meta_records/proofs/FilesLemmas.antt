@@ -11,7 +11,8 @@ use Rattle.mkv_io.specs.declared.outside.FileId.{FileId}
 use Rattle.mkv_schema.specs.declared.element.Header.{Header}
 use Rattle.mkv_schema.specs.Element.{in_master, damage, end_in, stated_end}
 use Rattle.mkv_schema.specs.Elements.{Run, never}
-use Rattle.mkv_schema.specs.Outline.{first_damage, first_refusal, unless}
+use Rattle.mkv_schema.specs.Outline.{first_damage, first_refusal}
+use Rattle.mkv_io.specs.Results.{unless}
 use Rattle.mkv_schema.proofs.ElementsLemmas.{elements-end}
 use Rattle.tree_format.specs.Node.{offset_of}
 use Rattle.output_model.specs.declared.attachment.Attachment.{Attachment}

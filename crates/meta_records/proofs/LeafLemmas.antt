@@ -6,7 +6,8 @@ use Rattle.mkv_io.specs.declared.damage.Damage.{Damage}
 use Rattle.mkv_io.specs.declared.damage.Kind.TheVariants.{BadValue}
 use Rattle.mkv_schema.specs.declared.element.Header.{Header}
 use Rattle.mkv_schema.specs.Element.{known, stated_end}
-use Rattle.mkv_schema.specs.Outline.{unless, where_it}
+use Rattle.mkv_schema.specs.Outline.{where_it}
+use Rattle.mkv_io.specs.Results.{unless}
 use Rattle.mkv_schema.specs.Value.{body_of, is_known_value}
 use Rattle.tree_format.specs.Node.{Node, leaf}
 use Rattle.meta_records.specs.Attachments.{counted_of, header_len, leaf_of, told_at}

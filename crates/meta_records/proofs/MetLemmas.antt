@@ -4,7 +4,8 @@ use Rattle.mkv_io.specs.declared.damage.Damage.{Damage}
 use Rattle.mkv_schema.specs.declared.element.Header.{Header}
 use Rattle.mkv_schema.specs.Element.{in_master, element_at, octets_between, end_in, stated_end}
 use Rattle.mkv_schema.specs.Elements.{Run, in_front, breaks_at, step, never, children_in}
-use Rattle.mkv_schema.specs.Outline.{first_damage, first_refusal, unless}
+use Rattle.mkv_schema.specs.Outline.{first_damage, first_refusal}
+use Rattle.mkv_io.specs.Results.{unless}
 use Rattle.mkv_schema.proofs.ElementLemmas.{element_in-whole}
 use Rattle.mkv_schema.proofs.ElementsLemmas.{elements-end, elements-more, Advances-known}
 use Rattle.tree_format.specs.Node.{Node}

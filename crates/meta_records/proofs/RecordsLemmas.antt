@@ -12,7 +12,8 @@ use Rattle.mkv_io.specs.declared.damage.Kind.TheVariants.{HeaderTooLarge}
 use Rattle.mkv_schema.specs.declared.element.Header.{Header}
 use Rattle.mkv_schema.specs.Element.{damage, known}
 use Rattle.mkv_schema.specs.declared.limits.TheConstants.{MOST_OF_ALL, MOST_OF_ONE}
-use Rattle.mkv_schema.specs.Outline.{and_then, described, first_damage, first_refusal, is_described, limits_from, over, passes_count, passes_size, segment_run, unless, where_it}
+use Rattle.mkv_schema.specs.Outline.{described, first_damage, first_refusal, is_described, limits_from, over, passes_count, passes_size, segment_run, where_it}
+use Rattle.mkv_io.specs.Results.{and_then, unless}
 use Rattle.mkv_schema.specs.Value.{body_of, first_of}
 use Rattle.tree_format.specs.declared.limits.TheConstants.{MOST_NODES}
 use Rattle.tree_format.specs.Node.{HasRoom, Node}

@@ -5,7 +5,8 @@ use Rattle.mkv_schema.specs.declared.ids.TheConstants.{ATTACHMENTS, FILE_UID}
 use Rattle.mkv_io.specs.declared.damage.Damage.{Damage}
 use Rattle.mkv_schema.specs.declared.element.Header.{Header}
 use Rattle.mkv_schema.specs.Element.{known}
-use Rattle.mkv_schema.specs.Outline.{first_damage, segment_run, unless}
+use Rattle.mkv_schema.specs.Outline.{first_damage, segment_run}
+use Rattle.mkv_io.specs.Results.{unless}
 use Rattle.mkv_schema.specs.Value.{first_of}
 use Rattle.tree_format.specs.Node.{Node}
 use Rattle.tree_format.specs.Values.{uint_in}

@@ -9,7 +9,8 @@ use Rattle.mkv_io.specs.declared.outside.FileId.{FileId}
 use Rattle.mkv_schema.specs.declared.element.Header.{Header}
 use Rattle.mkv_schema.specs.Element.{in_master, damage, known, stated_end}
 use Rattle.mkv_schema.specs.Elements.{Run, children_in}
-use Rattle.mkv_schema.specs.Outline.{first_damage, first_refusal, unless, where_it}
+use Rattle.mkv_schema.specs.Outline.{first_damage, first_refusal, where_it}
+use Rattle.mkv_io.specs.Results.{unless}
 use Rattle.mkv_schema.specs.Value.{body_of, first_of, is_known_value}
 use Rattle.tree_format.specs.declared.limits.TheConstants.{MOST_NODES}
 use Rattle.tree_format.specs.Node.{Node, leaf, master, nodes_of}

@@ -9,7 +9,8 @@ use Rattle.mkv_schema.specs.declared.element.Header.{Header}
 use Rattle.mkv_schema.specs.Element.{damage}
 use Rattle.mkv_schema.specs.Schema.{is_master}
 use Rattle.mkv_schema.specs.declared.limits.TheConstants.{MOST_OF_ONE}
-use Rattle.mkv_schema.specs.Outline.{and_then, is_described, segment_run, unless}
+use Rattle.mkv_schema.specs.Outline.{is_described, segment_run}
+use Rattle.mkv_io.specs.Results.{and_then, unless}
 use Rattle.mkv_schema.specs.Value.{body_of, first_of}
 use Rattle.element_reader.specs.Load.{limit_of}
 use Rattle.element_reader.specs.declared.outline_end.OutlineEnd.{OutlineEnd}

@@ -9,7 +9,8 @@ use Rattle.mkv_io.specs.declared.outside.FileId.{FileId}
 use Rattle.mkv_schema.specs.declared.element.Header.{Header}
 use Rattle.mkv_schema.specs.declared.limits.TheConstants.{LONGEST_HEADER}
 use Rattle.mkv_schema.specs.Element.{in_master, element_at, damage, is_unknown, known, stated_end}
-use Rattle.mkv_schema.specs.Outline.{first_damage, first_refusal, unless}
+use Rattle.mkv_schema.specs.Outline.{first_damage, first_refusal}
+use Rattle.mkv_io.specs.Results.{unless}
 use Rattle.mkv_schema.specs.Placed.{StandsAt}
 use Rattle.tree_format.specs.Node.{Node, depth, offset_of}
 use Rattle.tree_format.specs.Standing.{StandsIn}

@@ -6,7 +6,8 @@ use Rattle.word_values.specs.declared.job.Job.{Job}
 use Rattle.word_values.specs.declared.job.Job.TheVariants as jobs
 use Rattle.word_values.specs.declared.job.Target.{Target}
 use Rattle.mkv_schema.specs.declared.element.Header.{Header}
-use Rattle.mkv_schema.specs.Outline.{Outlined, and_then, first_damage, outline_of, unless}
+use Rattle.mkv_schema.specs.Outline.{Outlined, first_damage, outline_of}
+use Rattle.mkv_io.specs.Results.{and_then, unless}
 use Rattle.element_reader.specs.declared.outline_end.OutlineEnd.{OutlineEnd}
 use Rattle.element_reader.specs.declared.outline_end.OutlineEnd.TheVariants as outline_end
 use Rattle.element_reader.specs.Outline.{FileOutline, outline_in}

@@ -3,7 +3,8 @@ use Rattle.std.proofs.Common.{◌≡◌, ℕ, List, All, Option, Some, None, IfS
 use Rattle.mkv_schema.specs.declared.ids.TheConstants.{TAGS}
 use Rattle.mkv_io.specs.declared.damage.Damage.{Damage}
 use Rattle.mkv_io.specs.declared.outside.FileId.{FileId}
-use Rattle.mkv_schema.specs.Outline.{Outlined, and_then}
+use Rattle.mkv_schema.specs.Outline.{Outlined}
+use Rattle.mkv_io.specs.Results.{and_then}
 use Rattle.element_reader.specs.Outline.{FileOutline, outline_in}
 use Rattle.element_reader.proofs.OutlineLemmas.{Outlines-shown, outline_of-refused}
 use Rattle.tree_format.specs.Node.{Node}

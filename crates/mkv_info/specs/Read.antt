@@ -1,7 +1,8 @@
 -- What is read of a file to identify it: RFC 9559, section 5.1 (Segment Element).
 use Rattle.std.specs.Prelude.{◌≡◌, ⊤, List, ℕ, Option, Result, Ok, Err}
 use Rattle.mkv_io.specs.declared.damage.Damage.{Damage}
-use Rattle.mkv_schema.specs.Outline.{Outlined, and_then, outline_of}
+use Rattle.mkv_schema.specs.Outline.{Outlined, outline_of}
+use Rattle.mkv_io.specs.Results.{and_then}
 use Rattle.element_reader.specs.declared.outline_end.OutlineEnd.{OutlineEnd}
 use Rattle.element_reader.specs.declared.outline_end.OutlineEnd.TheVariants as outline_end
 use Rattle.meta_records.specs.Records.{FileRecords, described_by, file_records}

@@ -15,15 +15,15 @@ AsksFor name old new (Err _) = (new ≡ old) ⊎ (new ≡ old ++ name ∷ [])
 abbrev pub IsUnasked : Asked → List Asked → Type 0
 IsUnasked name asked = All (λ (other : Asked). other ≢ name) asked
 
--- None of these names was asked for since.
+-- Nothing of this kind was asked for since, but what had been before.
 abbrev pub AsksNone : (Asked → Type 0) → List Asked → List Asked → Type 0
 AsksNone Are old new = (name : Asked) → Are name → IsUnasked name old → IsUnasked name new
 
--- It isn't one of the names that may be opened, nor of those that may be made.
+-- An opening of none of the first names, or a making of none of the second.
 abbrev pub IsBesides : List (List ℕ) → List (List ℕ) → Asked → Type 0
 IsBesides opened made (Opened name) = AreOthers name opened
 IsBesides opened made (Made name) = AreOthers name made
 
--- Only these names were opened since, and only these were made.
+-- Of what wasn't asked for before only the first names were opened since, and only the second were made.
 abbrev pub AsksOnly : List (List ℕ) → List (List ℕ) → List Asked → List Asked → Type 0
 AsksOnly opened made old new = AsksNone (IsBesides opened made) old new

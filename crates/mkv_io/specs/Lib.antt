@@ -10,3 +10,6 @@ pub mod Kind
 pub mod RemuxEnd
 pub mod Ends
 pub mod Asked
+pub mod Characters
+pub mod Results
+pub mod Sorted

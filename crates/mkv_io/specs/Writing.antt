@@ -1,4 +1,4 @@
--- What a call leaves that only writes to live files.
+-- What a call leaves that opens, makes and writes files of some names alone.
 use Rattle.std.specs.Prelude.{◌≡◌, ◌≤◌, ℕ, List, []}
 use Rattle.mkv_io.specs.Asked.{AsksOnly}
 use Rattle.mkv_io.specs.LiveFiles.{KeepsFiles, KeepsHolders}
@@ -7,8 +7,8 @@ use Rattle.mkv_io.specs.Sources.{live_files}
 use Rattle.mkv_io.specs.declared.reads.Reads.{Ghosts}
 use Rattle.mkv_io.specs.declared.files.Files as writing
 
--- A call opens files of these names alone, and makes or writes those of the others alone: which files are live stays, and
--- under which names; and those of no name that is written stay the same. A number that was given stays so.
+-- A call opens files of the first names alone, and makes or writes those of the second alone. Which files are live stays, and
+-- under which names; what stands under no name of the second stays the same. A number that was given stays so.
 pub record UsesOnly {S : Type 0} (r : Ghosts S) (f : writing.Ghosts S) (opened written : List (List ℕ)) (old new : S) : Type 0 where
   pub live : (file : ℕ) → (live_files r new).live file ≡ (live_files r old).live file
   pub given : f.given old ≤ f.given new
@@ -16,7 +16,7 @@ pub record UsesOnly {S : Type 0} (r : Ghosts S) (f : writing.Ghosts S) (opened w
   pub others : KeepsFiles (live_files r old) (live_files r new) (λ file. AreOthers (f.holder old file) written)
   pub asks : AsksOnly opened written (f.asked old) (f.asked new)
 
--- It opens none.
+-- A call opens none, and makes or writes files of these names alone.
 abbrev pub KeepsOthers : {S : Type 0} → Ghosts S → writing.Ghosts S → List (List ℕ) → S → S → Type 0
 KeepsOthers r f names old new = UsesOnly r f [] names old new
 

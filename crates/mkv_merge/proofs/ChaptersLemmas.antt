@@ -20,7 +20,7 @@ use Rattle.merge_plan.specs.Spots.{HasPlace}
 use Rattle.mkv_merge.specs.Chapters.{chaptered, chapters_refusal, first_with, with_chapters, with_file, with_tree}
 use Rattle.mkv_merge.specs.Prepared.{AreInputsOf, ReadsAs, reads_in}
 use Rattle.mkv_merge.specs.Read.{inputs_of, inputs_with}
-use Rattle.mkv_merge.specs.Refused.{and_then, unless}
+use Rattle.mkv_io.specs.Results.{and_then, unless}
 use Rattle.mkv_merge.specs.Texts.{with_times}
 use Rattle.mkv_merge.specs.declared.refusal.MergeEnd.{MergeEnd}
 use Rattle.mkv_merge.specs.declared.refusal.MergeEnd.TheVariants.{Refused, Stopped}

@@ -19,7 +19,7 @@ use Rattle.mkv_lines.specs.declared.status.Stop.{Stop}
 use Rattle.mkv_merge.specs.Joined.{IsSummaryOf, Merges, no_texts, outputs_found, sources_alone}
 use Rattle.mkv_merge.specs.Merge.{sources_with}
 use Rattle.mkv_merge.specs.Read.{contents_of, first_written, unless_missing}
-use Rattle.mkv_merge.specs.Refused.{and_then, unless}
+use Rattle.mkv_io.specs.Results.{and_then, unless}
 use Rattle.mkv_merge.specs.declared.joining.Merged.TheVariants.{Written}
 use Rattle.mkv_merge.specs.declared.refusal.Refusal.{Refusal}
 use Rattle.mkv_merge.specs.declared.refusal.Refusal.TheVariants.{Missing, OutputIsInput}

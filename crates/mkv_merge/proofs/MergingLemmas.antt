@@ -26,7 +26,7 @@ use Rattle.mkv_merge.specs.Joined.{sources_alone}
 use Rattle.mkv_merge.specs.Merge.{sources_beside, sources_of, sources_settled, sources_with}
 use Rattle.mkv_merge.specs.Prepared.{AreTold}
 use Rattle.mkv_merge.specs.Read.{begun_refusal, first_written, unless_missing}
-use Rattle.mkv_merge.specs.Refused.{and_then, unless}
+use Rattle.mkv_io.specs.Results.{and_then, unless}
 use Rattle.mkv_merge.specs.declared.refusal.Refusal.{Refusal}
 use Rattle.mkv_merge.specs.declared.refusal.Refusal.TheVariants.{OutputIsInput}
 

@@ -33,7 +33,7 @@ use Rattle.mkv_merge.specs.Bound.{files_size}
 use Rattle.mkv_merge.specs.Merge.{sources_read, sources_with, unless_refused}
 use Rattle.mkv_merge.specs.Prepared.{AreTold, ReadsAs, reads_in, sources_from}
 use Rattle.mkv_merge.specs.Read.{inputs_from, inputs_of, inputs_with, numbered}
-use Rattle.mkv_merge.specs.Refused.{and_then, unless}
+use Rattle.mkv_io.specs.Results.{and_then, unless}
 use Rattle.mkv_merge.specs.declared.refusal.MergeEnd.{MergeEnd}
 use Rattle.mkv_merge.specs.declared.refusal.MergeEnd.TheVariants.{Refused, Stopped}
 use Rattle.mkv_merge.specs.declared.refusal.Refusal.{Refusal}

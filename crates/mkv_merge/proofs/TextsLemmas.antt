@@ -15,7 +15,7 @@ use Rattle.merge_inputs.specs.Input.{InputRead, IsInput, read_in}
 use Rattle.merge_inputs.specs.declared.input.Input.{Input}
 use Rattle.merge_plan.specs.Spots.{HasPlace}
 use Rattle.mkv_merge.specs.Prepared.{AreInputsOf, reads_in}
-use Rattle.mkv_merge.specs.Refused.{unless}
+use Rattle.mkv_io.specs.Results.{unless}
 use Rattle.input_files.specs.declared.refusal.TextRefusal.{TextRefusal}
 use Rattle.mkv_merge.specs.Texts.{given_listing, given_refusal, listings_at, missing_given, missing_times, timed_from, times_refusal, with_listings, with_times}
 use Rattle.mkv_merge.specs.Timed.{IsSameBut, Listed, at_input, given_listed, listed_by, listed_in, listed_of, shared_at, shared_from, untimed}

@@ -6,7 +6,7 @@ use Rattle.input_files.specs.declared.chapter_file.ChapterFile.TheVariants as fi
 use Rattle.merge_inputs.specs.Input.{InputRead}
 use Rattle.merge_inputs.specs.Select.{kept_one}
 use Rattle.merge_inputs.specs.declared.input.Input.{Input}
-use Rattle.mkv_merge.specs.Refused.{unless}
+use Rattle.mkv_io.specs.Results.{unless}
 use Rattle.mkv_merge.specs.declared.refusal.Refusal.{Refusal}
 use Rattle.mkv_merge.specs.declared.refusal.Refusal.TheVariants.{MissingChapters, Chapters}
 

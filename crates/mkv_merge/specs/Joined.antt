@@ -22,7 +22,7 @@ use Rattle.mkv_merge.specs.Bound.{contents_length, most_of}
 use Rattle.mkv_merge.specs.Merge.{has_damage, is_some_of, outputs_of, sources_with, warnings}
 use Rattle.mkv_merge.specs.Prepared.{IfAllTold, sources_from}
 use Rattle.mkv_merge.specs.Read.{contents_of, first_written}
-use Rattle.mkv_merge.specs.Refused.{and_then, unless}
+use Rattle.mkv_io.specs.Results.{and_then, unless}
 use Rattle.mkv_merge.specs.Told.{warnings_from}
 use Rattle.mkv_merge.specs.declared.joining.Merged.{Merged}
 use Rattle.mkv_merge.specs.declared.joining.Merged.TheVariants.{Written, Refused}

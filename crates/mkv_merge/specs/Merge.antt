@@ -34,7 +34,8 @@ use Rattle.mkv_lines.specs.Verdict.{Verdict, in_turn, refused}
 use Rattle.mkv_lines.specs.declared.status.Status.{Status}
 use Rattle.mkv_lines.specs.declared.status.Status.TheVariants.{Done, Warned}
 use Rattle.mkv_merge.specs.Read.{begun_refusal, contents_of, first_written, inputs_with, is_split}
-use Rattle.mkv_merge.specs.Refused.{and_then, line_of, unless}
+use Rattle.mkv_merge.specs.Refused.{line_of}
+use Rattle.mkv_io.specs.Results.{and_then, unless}
 use Rattle.mkv_merge.specs.declared.refusal.Refusal.{Refusal}
 use Rattle.mkv_merge.specs.declared.refusal.Refusal.TheVariants.{Differs, OutputIsInput, Plan}
 

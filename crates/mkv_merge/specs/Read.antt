@@ -17,7 +17,7 @@ use Rattle.merge_inputs.specs.Input.{InputRead, input_of}
 use Rattle.merge_inputs.specs.declared.input.InputRefusal.{InputRefusal}
 use Rattle.mkv_merge.specs.Chapters.{with_chapters, with_file}
 use Rattle.mkv_merge.specs.Texts.{missing_text, with_times}
-use Rattle.mkv_merge.specs.Refused.{and_then}
+use Rattle.mkv_io.specs.Results.{and_then}
 use Rattle.mkv_merge.specs.declared.refusal.Refusal.{Refusal}
 use Rattle.mkv_merge.specs.declared.refusal.Refusal.TheVariants.{Missing, PendingInput, PendingOutput, Input}
 

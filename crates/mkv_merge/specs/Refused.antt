@@ -14,18 +14,6 @@ use Rattle.mkv_lines.specs.Line.{append_differs_line, bad_text_line, missing_lin
 use Rattle.mkv_merge.specs.declared.refusal.Refusal.{Refusal}
 use Rattle.mkv_merge.specs.declared.refusal.Refusal.TheVariants.{OutputIsInput, Missing, MissingChapters, MissingTimes, PendingInput, PendingOutput, Input, Chapters, Times, Differs, Plan}
 
--- ---- one step after the other
-
--- what a step makes of what the one before it made
-abbrev pub and_then : {A B : Type 0} → Result A Refusal → (A → Result B Refusal) → Result B Refusal
-and_then (Ok x) more = more x
-and_then (Err why) more = Err why
-
--- what was made, unless something refuses it
-abbrev pub unless : {A : Type 0} → Option Refusal → A → Result A Refusal
-unless None x = Ok x
-unless (Some why) x = Err why
-
 -- ---- the lines
 
 -- the name of an input, by its number

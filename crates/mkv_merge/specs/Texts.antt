@@ -10,7 +10,7 @@ use Rattle.input_files.specs.declared.times_file.TimesGiven.TheVariants as given
 use Rattle.merge_inputs.specs.Input.{InputRead}
 use Rattle.merge_plan.specs.Records.{is_appended}
 use Rattle.mkv_merge.specs.Chapters.{missing_chapters}
-use Rattle.mkv_merge.specs.Refused.{unless}
+use Rattle.mkv_io.specs.Results.{unless}
 use Rattle.mkv_merge.specs.declared.refusal.Refusal.{Refusal}
 use Rattle.mkv_merge.specs.declared.refusal.Refusal.TheVariants.{MissingTimes, Times}
 

@@ -33,7 +33,7 @@ use Rattle.sidecar_edit.specs.Writes.{Write, applied}
 use Rattle.sidecar_edit.specs.Leaves.{IsEditing}
 use Rattle.sidecar_edit.proofs.GateLemmas.{both_image}
 use Rattle.edit_changes.specs.declared.refusal.Refusal.{Refusal}
-use Rattle.edit_changes.specs.Change.{and_then}
+use Rattle.mkv_io.specs.Results.{and_then}
 use Rattle.edit_changes.specs.Plan.{edited, recorded as record_for}
 use Rattle.edit_plan.proofs.RecordLemmas.{writes_of-recorded}
 use Rattle.mkv_propedit.specs.Left.{HasMadeCause, IsBeingEdited, IsEdit, IsUnderway, LeavesEdited, LeavesPlanned, StaysOpen}

@@ -8,7 +8,7 @@ use Rattle.mkv_lines.specs.Line.{reindexed_line}
 use Rattle.mkv_lines.specs.Verdict.{Verdict, done, nothing}
 use Rattle.sidecar_edit.specs.Gate.{state}
 use Rattle.sidecar_edit.specs.Writes.{Write}
-use Rattle.edit_changes.specs.Change.{and_then}
+use Rattle.mkv_io.specs.Results.{and_then}
 use Rattle.edit_changes.specs.Plan.{recorded}
 use Rattle.edit_changes.specs.declared.refusal.Refusal.{Refusal}
 use Rattle.reindex.specs.Plan.{Index, index_of, indexed, indexed_of}

@@ -5,7 +5,7 @@ use Rattle.mkv_lines.specs.Verdict.{Verdict, done, refused}
 use Rattle.sidecar_edit.specs.declared.place.TheConstants.{HEAD}
 use Rattle.sidecar_edit.specs.Fields.{Planned}
 use Rattle.sidecar_edit.specs.Writes.{Write}
-use Rattle.edit_changes.specs.Change.{and_then}
+use Rattle.mkv_io.specs.Results.{and_then}
 use Rattle.edit_changes.specs.Plan.{edited, recorded}
 use Rattle.edit_changes.specs.declared.refusal.Refusal.{Refusal}
 use Rattle.edit_plan.specs.declared.plan_end.PlanEnd.{PlanEnd}

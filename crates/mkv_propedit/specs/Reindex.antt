@@ -4,7 +4,7 @@ use Rattle.mkv_lines.specs.Line.{reindexed_line}
 use Rattle.mkv_lines.specs.Verdict.{Verdict, done, refused}
 use Rattle.sidecar_edit.specs.declared.place.TheConstants.{HEAD, KEPT}
 use Rattle.sidecar_edit.specs.Writes.{Write}
-use Rattle.edit_changes.specs.Change.{and_then}
+use Rattle.mkv_io.specs.Results.{and_then}
 use Rattle.edit_changes.specs.declared.refusal.Refusal.{Refusal}
 use Rattle.reindex.specs.Plan.{Index, index_of}
 use Rattle.mkv_propedit.specs.Propedit.{file_verdict, refusal_text}

@@ -7,7 +7,8 @@ use Rattle.sidecar_edit.specs.Writes.{Write, applied}
 use Rattle.word_values.specs.declared.edit.Edit.{Edit}
 use Rattle.edit_changes.specs.declared.refusal.Refusal.{Refusal}
 use Rattle.edit_changes.specs.declared.trees.Trees.{Trees}
-use Rattle.edit_changes.specs.Change.{and_then, edited_trees}
+use Rattle.edit_changes.specs.Change.{edited_trees}
+use Rattle.mkv_io.specs.Results.{and_then}
 use Rattle.edit_changes.specs.Plan.{edited, if_editable, plan_of}
 use Rattle.edit_changes.specs.Records.{EditableFile, editable}
 use Rattle.edit_laws.specs.Laws.{EditsChangeNothingElse}

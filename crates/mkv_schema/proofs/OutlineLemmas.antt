@@ -3,7 +3,8 @@ use Rattle.std.proofs.Common.{◌≡◌, ℕ, List, Option, Some, None, [], ◌�
 use Rattle.mkv_io.specs.declared.damage.Damage.{Damage}
 use Rattle.mkv_schema.specs.declared.element.Header.{Header}
 use Rattle.mkv_schema.specs.declared.limits.TheConstants.{MOST_OF_HEADER}
-use Rattle.mkv_schema.specs.Outline.{and_then, unless, first_damage, over, header_causes, children_causes, header_children, first_element, ebml_header, segment_of, segment_run, limits_from, outlined, within_limits, outline_of}
+use Rattle.mkv_schema.specs.Outline.{first_damage, over, header_causes, children_causes, header_children, first_element, ebml_header, segment_of, segment_run, limits_from, outlined, within_limits, outline_of}
+use Rattle.mkv_io.specs.Results.{and_then, unless}
 use Rattle.mkv_schema.specs.WithoutLimits.{header_without_limit, outline_without_limits, LimitsOnlyRefuse}
 
 -- what was made of a value was made of one that was found

@@ -12,6 +12,7 @@ use Rattle.mkv_schema.specs.declared.element.Header.{Header}
 use Rattle.mkv_schema.specs.Element.{at_level_0, in_tree, element_at, damage, known, is_unknown, stated_end, end_in}
 use Rattle.mkv_schema.specs.Elements.{Run, elements, children_in, level_1}
 use Rattle.mkv_schema.specs.Value.{body_of, is_known_value, first_of, uint_in, text_in}
+use Rattle.mkv_io.specs.Results.{unless, and_then}
 
 -- ---- refusals, the first that stands
 
@@ -20,16 +21,6 @@ abbrev pub first_damage : List (Option Damage) → Option Damage
 first_damage [] = None
 first_damage (None ∷ causes) = first_damage causes
 first_damage (Some d ∷ causes) = Some d
-
--- a value, unless something refuses it
-abbrev pub unless : {A : Type 0} → Option Damage → A → Result A Damage
-unless None x = Ok x
-unless (Some d) x = Err d
-
--- what is made of a value that was found
-abbrev pub and_then : {A B : Type 0} → Result A Damage → (A → Result B Damage) → Result B Damage
-and_then (Ok x) more = more x
-and_then (Err d) more = Err d
 
 -- a damage, where a test holds
 abbrev pub where_it : Bool → Damage → Option Damage

@@ -2,7 +2,8 @@
 use Rattle.std.specs.Prelude.{◌≡◌, ℕ, List, Result, Ok}
 use Rattle.mkv_io.specs.declared.damage.Damage.{Damage}
 use Rattle.mkv_schema.specs.declared.element.Header.{Header}
-use Rattle.mkv_schema.specs.Outline.{Outlined, and_then, unless, first_damage, first_element, header_children, children_causes, segment_of, segment_run, outlined, outline_of}
+use Rattle.mkv_schema.specs.Outline.{Outlined, first_damage, first_element, header_children, children_causes, segment_of, segment_run, outlined, outline_of}
+use Rattle.mkv_io.specs.Results.{and_then, unless}
 
 -- the EBML header, of any length, or what refuses the file there
 abbrev pub header_without_limit : List ℕ → Result Header Damage

@@ -11,7 +11,8 @@ use Rattle.mkv_schema.specs.declared.element.Header.{Header}
 use Rattle.mkv_schema.specs.Element.{in_master}
 use Rattle.mkv_schema.specs.Elements.{Run, children_in}
 use Rattle.mkv_schema.specs.Value.{first_of, is_known_value}
-use Rattle.mkv_schema.specs.Outline.{and_then, unless, first_damage, bad_value}
+use Rattle.mkv_schema.specs.Outline.{first_damage, bad_value}
+use Rattle.mkv_io.specs.Results.{and_then, unless}
 use Rattle.block_format.specs.Block.{nanoseconds, time_of, simple_block_with}
 use Rattle.block_format.specs.Content.{content_in, is_key, is_invisible, is_discardable, lace_of}
 use Rattle.block_format.specs.Elements.{without_limits, at_place, in_time, simple_block, group_run, group_refusal, group_children, block_or, references_among, duration_of, references_of, kept_of, is_kept, group_with, group_among, block_group}

@@ -16,7 +16,8 @@ use Rattle.mkv_schema.specs.declared.element.Header.{Header}
 use Rattle.mkv_schema.specs.Element.{at_level_0, in_tree, element_at, damage}
 use Rattle.mkv_schema.specs.Elements.{Run}
 use Rattle.mkv_schema.specs.Value.{body_of, is_known_value, first_of, uint_value, text_of}
-use Rattle.mkv_schema.specs.Outline.{first_damage, unless, and_then, where_it, bad_value, is_doc_type, ebml_mark, children_causes, header_children, first_element}
+use Rattle.mkv_schema.specs.Outline.{first_damage, where_it, bad_value, is_doc_type, ebml_mark, children_causes, header_children, first_element}
+use Rattle.mkv_io.specs.Results.{unless, and_then}
 use Rattle.mkv_schema.specs.WithoutLimits.{header_without_limit}
 use Rattle.output_model.specs.Element.{Element, IsElement, HoldsAt, element, uint_element, header_of, octets_of, joined, header_in_place, headers_in_place}
 use Rattle.output_model.proofs.HeldLemmas.{held-between}

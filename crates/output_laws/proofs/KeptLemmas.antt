@@ -10,7 +10,8 @@ use Rattle.mkv_schema.specs.declared.element.Header.{Header}
 use Rattle.mkv_schema.specs.Element.{stated_end}
 use Rattle.mkv_schema.specs.Elements.{Run}
 use Rattle.mkv_schema.specs.Value.{body_of, first_of, is_known_value}
-use Rattle.mkv_schema.specs.Outline.{first_damage, unless, and_then, bad_value}
+use Rattle.mkv_schema.specs.Outline.{first_damage, bad_value}
+use Rattle.mkv_io.specs.Results.{unless, and_then}
 use Rattle.block_format.specs.Block.{Block}
 use Rattle.block_format.specs.Content.{content_in}
 use Rattle.block_format.specs.Elements.{Rules, timestamp_for, at_place, in_time, group_run, group_refusal, group_children, block_or, too_many_references, is_kept, kept_of, group_with, group_among, block_group}

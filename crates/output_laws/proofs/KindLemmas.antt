@@ -8,7 +8,7 @@ use Rattle.mkv_schema.specs.declared.ids.TheConstants.{BLOCK}
 use Rattle.mkv_schema.specs.declared.element.Header.{Header}
 use Rattle.mkv_schema.specs.Element.{stated_end}
 use Rattle.mkv_schema.specs.Value.{body_of, first_of}
-use Rattle.mkv_schema.specs.Outline.{and_then, unless}
+use Rattle.mkv_io.specs.Results.{and_then, unless}
 use Rattle.mkv_schema.proofs.OutlineLemmas.{and_then-ok, unless-ok}
 use Rattle.block_format.specs.Block.{Block, nanoseconds, simple_block_with}
 use Rattle.block_format.specs.Content.{Content, content_in}

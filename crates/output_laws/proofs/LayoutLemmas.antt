@@ -10,7 +10,8 @@ use Rattle.mkv_schema.specs.declared.element.Header.{Header}
 use Rattle.mkv_schema.specs.Element.{at_level_0, element_at, end_in, stated_end, damage}
 use Rattle.mkv_schema.specs.Elements.{Run, ends_at, step, id_of, elements}
 use Rattle.mkv_schema.specs.Value.{first_of}
-use Rattle.mkv_schema.specs.Outline.{and_then, unless, segment_behind, before_segment, segment_of, segment_bound, segment_run, outlined}
+use Rattle.mkv_schema.specs.Outline.{segment_behind, before_segment, segment_of, segment_bound, segment_run, outlined}
+use Rattle.mkv_io.specs.Results.{and_then, unless}
 use Rattle.mkv_schema.specs.WithoutLimits.{outline_without_limits}
 use Rattle.mkv_schema.proofs.ElementsLemmas.{Advances-known, elements-more}
 use Rattle.tree_format.specs.Node.{Node}

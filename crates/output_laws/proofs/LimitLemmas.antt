@@ -5,7 +5,8 @@ use Rattle.mkv_io.specs.declared.damage.Damage.{Damage}
 use Rattle.mkv_schema.specs.declared.element.Header.{Header}
 use Rattle.mkv_schema.specs.Elements.{Run}
 use Rattle.mkv_schema.specs.Value.{body_of, first_of}
-use Rattle.mkv_schema.specs.Outline.{and_then, unless, segment_bound, segment_run}
+use Rattle.mkv_schema.specs.Outline.{segment_bound, segment_run}
+use Rattle.mkv_io.specs.Results.{and_then, unless}
 use Rattle.block_format.specs.Block.{Block, simple_block_with}
 use Rattle.block_format.specs.Content.{content_in}
 use Rattle.block_format.specs.Elements.{Rules, with_limits, without_limits, too_long, timestamp_or, timestamp_for, at_place, in_time, simple_block, group_children, block_or, too_many_references, group_with, group_among, block_group}

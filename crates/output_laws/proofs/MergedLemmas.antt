@@ -5,7 +5,8 @@ use Rattle.std.proofs.lemmas.Bool.{cond-false, le-ltb, ltb-true, eq-eqb, ne_eqb}
 use Rattle.std.proofs.lemmas.Bool.Decides.{nat_tests}
 use Rattle.std.proofs.lemmas.List.Elements.{All-nil, All-cons, All-head, All-tail, All-append, All-weaker, filter-append}
 use Rattle.output_model.specs.OutputBlock.{OutputBlock}
-use Rattle.merge_model.specs.Merged.{Ordered, ordered_from, ordered, in_lane, ordered_in, numbered, joined, put_in, sorted, blocks_in, merged}
+use Rattle.merge_model.specs.Merged.{Ordered, ordered_from, ordered, in_lane, ordered_in, numbered, joined, order_of, sorted, blocks_in, merged}
+use Rattle.mkv_io.specs.Sorted.{insert_by}
 use Rattle.output_laws.specs.Lanes.{lane_of, lanes_from, in_lanes}
 
 -- ---- lists whose order numbers rise
@@ -24,38 +25,38 @@ at_least-less m n [] less above = tt
 at_least-less m n (x ∷ xs) less above = let here = above.0 in (omega arith, at_least-less m n xs less above.1)
 
 -- a block that isn't above the others stands in front of them
-put_in-front : (x : Ordered) (xs : List Ordered) → AtLeast x.order xs → put_in x xs ≡ x ∷ xs
-put_in-front x [] above = refl
-put_in-front x (y ∷ ys) above = cond-false (nat_lt y.order x.order) (y ∷ put_in x ys) (x ∷ (y ∷ ys)) (le-ltb _ _ above.0)
+insert-front : (x : Ordered) (xs : List Ordered) → AtLeast x.order xs → insert_by order_of x xs ≡ x ∷ xs
+insert-front x [] above = refl
+insert-front x (y ∷ ys) above = cond-false (nat_lt y.order x.order) (y ∷ insert_by order_of x ys) (x ∷ (y ∷ ys)) (le-ltb _ _ above.0)
 
-put_in-at_least : (m : ℕ) (x : Ordered) (xs : List Ordered) → m ≤ x.order → AtLeast m xs → AtLeast m (put_in x xs)
-put_in-at_least m x [] own above = (own, tt)
-put_in-at_least m x (y ∷ ys) own above = split (put_in-at_least m x ys own above.1) (nat_lt y.order x.order)
+insert-at_least : (m : ℕ) (x : Ordered) (xs : List Ordered) → m ≤ x.order → AtLeast m xs → AtLeast m (insert_by order_of x xs)
+insert-at_least m x [] own above = (own, tt)
+insert-at_least m x (y ∷ ys) own above = split (insert-at_least m x ys own above.1) (nat_lt y.order x.order)
   where
-    split : AtLeast m (put_in x ys) → (t : Bool) → AtLeast m (if t then y ∷ put_in x ys else x ∷ (y ∷ ys))
+    split : AtLeast m (insert_by order_of x ys) → (t : Bool) → AtLeast m (if t then y ∷ insert_by order_of x ys else x ∷ (y ∷ ys))
     split rest true = (above.0, rest)
     split rest false = (own, above)
 
-put_in-rises : (x : Ordered) (xs : List Ordered) → Rises xs → Rises (put_in x xs)
-put_in-rises x [] rises = (tt, tt)
-put_in-rises x (y ∷ ys) rises = split (put_in-rises x ys rises.1) (nat_lt y.order x.order) refl
+insert-rises : (x : Ordered) (xs : List Ordered) → Rises xs → Rises (insert_by order_of x xs)
+insert-rises x [] rises = (tt, tt)
+insert-rises x (y ∷ ys) rises = split (insert-rises x ys rises.1) (nat_lt y.order x.order) refl
   where
-    split : Rises (put_in x ys) → (t : Bool) → nat_lt y.order x.order ≡ t → Rises (if t then y ∷ put_in x ys else x ∷ (y ∷ ys))
+    split : Rises (insert_by order_of x ys) → (t : Bool) → nat_lt y.order x.order ≡ t → Rises (if t then y ∷ insert_by order_of x ys else x ∷ (y ∷ ys))
     split rest true is =
         let less = ltb-true y.order x.order is in
-        (put_in-at_least y.order x ys (omega arith) rises.0, rest)
+        (insert-at_least y.order x ys (omega arith) rises.0, rest)
     split rest false is =
         let more : x.order ≤ y.order = grind (arith, nat_tests) in
         ((more, at_least-less x.order y.order ys more rises.0), rises)
 
 pub sorted-rises : (xs : List Ordered) → Rises (sorted xs)
 sorted-rises [] = tt
-sorted-rises (x ∷ xs) = put_in-rises x (sorted xs) (sorted-rises xs)
+sorted-rises (x ∷ xs) = insert-rises x (sorted xs) (sorted-rises xs)
 
 -- what rises is sorted
 pub sorted-same : (xs : List Ordered) → Rises xs → sorted xs ≡ xs
 sorted-same [] rises = refl
-sorted-same (x ∷ xs) rises = ap (put_in x) (sorted-same xs rises.1) ∙ put_in-front x xs rises.0
+sorted-same (x ∷ xs) rises = ap (insert_by order_of x) (sorted-same xs rises.1) ∙ insert-front x xs rises.0
 
 -- ---- a part of a sorted list
 
@@ -67,23 +68,23 @@ filter-at_least p m (x ∷ xs) above = split (filter-at_least p m xs above.1) (p
     split rest true = (above.0, rest)
     split rest false = rest
 
-filter-put_in : (p : Ordered → Bool) (x : Ordered) (xs : List Ordered) → Rises xs → filter p (put_in x xs) ≡ cond (p x) (put_in x (filter p xs)) (filter p xs)
-filter-put_in p x [] rises = refl
-filter-put_in p x (y ∷ ys) rises = split (filter-put_in p x ys rises.1) (nat_lt y.order x.order) refl
+filter-insert : (p : Ordered → Bool) (x : Ordered) (xs : List Ordered) → Rises xs → filter p (insert_by order_of x xs) ≡ cond (p x) (insert_by order_of x (filter p xs)) (filter p xs)
+filter-insert p x [] rises = refl
+filter-insert p x (y ∷ ys) rises = split (filter-insert p x ys rises.1) (nat_lt y.order x.order) refl
   where
     behind : (t : Bool) → nat_lt y.order x.order ≡ true → (q : Bool)
-        → cond q (y ∷ cond t (put_in x (filter p ys)) (filter p ys)) (cond t (put_in x (filter p ys)) (filter p ys)) ≡ cond t (put_in x (cond q (y ∷ filter p ys) (filter p ys))) (cond q (y ∷ filter p ys) (filter p ys))
-    behind true is true = sym (ap (λ (b : Bool). if b then y ∷ put_in x (filter p ys) else x ∷ (y ∷ filter p ys)) is)
+        → cond q (y ∷ cond t (insert_by order_of x (filter p ys)) (filter p ys)) (cond t (insert_by order_of x (filter p ys)) (filter p ys)) ≡ cond t (insert_by order_of x (cond q (y ∷ filter p ys) (filter p ys))) (cond q (y ∷ filter p ys) (filter p ys))
+    behind true is true = sym (ap (λ (b : Bool). if b then y ∷ insert_by order_of x (filter p ys) else x ∷ (y ∷ filter p ys)) is)
     behind true is false = refl
     behind false is true = refl
     behind false is false = refl
 
-    in_front : (t : Bool) → AtLeast x.order (y ∷ ys) → cond t (x ∷ filter p (y ∷ ys)) (filter p (y ∷ ys)) ≡ cond t (put_in x (filter p (y ∷ ys))) (filter p (y ∷ ys))
-    in_front true above = sym (put_in-front x (filter p (y ∷ ys)) (filter-at_least p x.order (y ∷ ys) above))
+    in_front : (t : Bool) → AtLeast x.order (y ∷ ys) → cond t (x ∷ filter p (y ∷ ys)) (filter p (y ∷ ys)) ≡ cond t (insert_by order_of x (filter p (y ∷ ys))) (filter p (y ∷ ys))
+    in_front true above = sym (insert-front x (filter p (y ∷ ys)) (filter-at_least p x.order (y ∷ ys) above))
     in_front false above = refl
 
-    split : filter p (put_in x ys) ≡ cond (p x) (put_in x (filter p ys)) (filter p ys)
-        → (t : Bool) → nat_lt y.order x.order ≡ t → filter p (if t then y ∷ put_in x ys else x ∷ (y ∷ ys)) ≡ cond (p x) (put_in x (filter p (y ∷ ys))) (filter p (y ∷ ys))
+    split : filter p (insert_by order_of x ys) ≡ cond (p x) (insert_by order_of x (filter p ys)) (filter p ys)
+        → (t : Bool) → nat_lt y.order x.order ≡ t → filter p (if t then y ∷ insert_by order_of x ys else x ∷ (y ∷ ys)) ≡ cond (p x) (insert_by order_of x (filter p (y ∷ ys))) (filter p (y ∷ ys))
     split rest true is = ap (λ (fs : List Ordered). cond (p y) (y ∷ fs) fs) rest ∙ behind (p x) is (p y)
     split rest false is =
         let more : x.order ≤ y.order = grind (arith, nat_tests) in
@@ -93,9 +94,9 @@ filter-put_in p x (y ∷ ys) rises = split (filter-put_in p x ys rises.1) (nat_l
 pub filter-sorted : (p : Ordered → Bool) (xs : List Ordered) → filter p (sorted xs) ≡ sorted (filter p xs)
 filter-sorted p [] = refl
 filter-sorted p (x ∷ xs) =
-    filter-put_in p x (sorted xs) (sorted-rises xs) ∙ ap (λ (fs : List Ordered). cond (p x) (put_in x fs) fs) (filter-sorted p xs) ∙ split (p x)
+    filter-insert p x (sorted xs) (sorted-rises xs) ∙ ap (λ (fs : List Ordered). cond (p x) (insert_by order_of x fs) fs) (filter-sorted p xs) ∙ split (p x)
   where
-    split : (t : Bool) → cond t (put_in x (sorted (filter p xs))) (sorted (filter p xs)) ≡ sorted (cond t (x ∷ filter p xs) (filter p xs))
+    split : (t : Bool) → cond t (insert_by order_of x (sorted (filter p xs))) (sorted (filter p xs)) ≡ sorted (cond t (x ∷ filter p xs) (filter p xs))
     split true = refl
     split false = refl
 
@@ -188,17 +189,17 @@ lanes-kept lanes = lanes-kept_behind 1 lanes [] (All-nil (λ (x : Ordered). x.bl
 
 -- ---- what holds of each block of each lane holds of each of the merged list
 
-pub put_in-all : (P : Ordered → Type 0) (x : Ordered) (xs : List Ordered) → P x → All P xs → All P (put_in x xs)
-put_in-all P x [] own are = All-cons P x [] own (All-nil P)
-put_in-all P x (y ∷ ys) own are = split (nat_lt y.order x.order) (put_in-all P x ys own (All-tail P y ys are))
+pub insert-all : (P : Ordered → Type 0) (x : Ordered) (xs : List Ordered) → P x → All P xs → All P (insert_by order_of x xs)
+insert-all P x [] own are = All-cons P x [] own (All-nil P)
+insert-all P x (y ∷ ys) own are = split (nat_lt y.order x.order) (insert-all P x ys own (All-tail P y ys are))
   where
-    split : (t : Bool) → All P (put_in x ys) → All P (if t then y ∷ put_in x ys else x ∷ (y ∷ ys))
-    split true rest = All-cons P y (put_in x ys) (All-head P y ys are) rest
+    split : (t : Bool) → All P (insert_by order_of x ys) → All P (if t then y ∷ insert_by order_of x ys else x ∷ (y ∷ ys))
+    split true rest = All-cons P y (insert_by order_of x ys) (All-head P y ys are) rest
     split false rest = All-cons P x (y ∷ ys) own are
 
 pub sorted-all : (P : Ordered → Type 0) (xs : List Ordered) → All P xs → All P (sorted xs)
 sorted-all P [] are = All-nil P
-sorted-all P (x ∷ xs) are = put_in-all P x (sorted xs) (All-head P x xs are) (sorted-all P xs (All-tail P x xs are))
+sorted-all P (x ∷ xs) are = insert-all P x (sorted xs) (All-head P x xs are) (sorted-all P xs (All-tail P x xs are))
 
 blocks-all : (P : OutputBlock → Type 0) (xs : List Ordered) → All (λ (x : Ordered). P x.block) xs → All P (blocks_in xs)
 blocks-all P [] are = All-nil P

@@ -6,12 +6,13 @@ use Rattle.std.proofs.lemmas.Bool.Decides.{nat_tests}
 use Rattle.std.proofs.lemmas.List.{map-append}
 use Rattle.std.proofs.lemmas.List.Elements.{All-nil, All-cons, All-head, All-tail, All-append, All-weaker, filter-append}
 use Rattle.output_model.specs.OutputBlock.{OutputBlock}
-use Rattle.merge_model.specs.Merged.{Ordered, ordered_from, ordered, in_lane, ordered_in, put_in, sorted, blocks_in}
+use Rattle.merge_model.specs.Merged.{Ordered, ordered_from, ordered, in_lane, ordered_in, order_of, sorted, blocks_in}
+use Rattle.mkv_io.specs.Sorted.{insert_by}
 use Rattle.output_laws.specs.Lanes.{lane_of}
 use Rattle.output_laws.specs.WholeLists.{IsBefore, greatest_tick, rank}
 use Rattle.output_laws.specs.Merges.{MergedIsInOrder}
 use Rattle.output_laws.proofs.CutLemmas.{none-within}
-use Rattle.output_laws.proofs.MergedLemmas.{AtLeast, Rises, all-above, all_in_order, at_least-less, filter-all, filter-blocks, filter-none, filter-sorted, in_order, in_order-lane, in_order-rises, put_in-all, sorted-all, sorted-rises, sorted-same}
+use Rattle.output_laws.proofs.MergedLemmas.{AtLeast, Rises, all-above, all_in_order, at_least-less, filter-all, filter-blocks, filter-none, filter-sorted, in_order, in_order-lane, in_order-rises, insert-all, sorted-all, sorted-rises, sorted-same}
 
 -- ---- by order number, and then by lane
 
@@ -45,20 +46,20 @@ lower-all x [] above under = All-nil (IsLower x)
 lower-all x (y ∷ ys) above under =
     All-cons (IsLower x) y ys (lower-of x y above.0 (All-head (IsUnder x) y ys under)) (lower-all x ys above.1 (All-tail (IsUnder x) y ys under))
 
-put_in-lower : (x : Ordered) (ys : List Ordered) → Rises ys → All (IsUnder x) ys → AllLower ys → AllLower (put_in x ys)
-put_in-lower x [] rises under lower = (All-nil (IsLower x), tt)
-put_in-lower x (y ∷ ys) rises under lower =
-    split (put_in-lower x ys rises.1 (All-tail (IsUnder x) y ys under) lower.1) (nat_lt y.order x.order) refl
+insert-lower : (x : Ordered) (ys : List Ordered) → Rises ys → All (IsUnder x) ys → AllLower ys → AllLower (insert_by order_of x ys)
+insert-lower x [] rises under lower = (All-nil (IsLower x), tt)
+insert-lower x (y ∷ ys) rises under lower =
+    split (insert-lower x ys rises.1 (All-tail (IsUnder x) y ys under) lower.1) (nat_lt y.order x.order) refl
   where
-    split : AllLower (put_in x ys) → (t : Bool) → nat_lt y.order x.order ≡ t → AllLower (if t then y ∷ put_in x ys else x ∷ (y ∷ ys))
-    split rest true is = (put_in-all (IsLower y) x ys (inl (ltb-true y.order x.order is)) lower.0, rest)
+    split : AllLower (insert_by order_of x ys) → (t : Bool) → nat_lt y.order x.order ≡ t → AllLower (if t then y ∷ insert_by order_of x ys else x ∷ (y ∷ ys))
+    split rest true is = (insert-all (IsLower y) x ys (inl (ltb-true y.order x.order is)) lower.0, rest)
     split rest false is =
         let more : x.order ≤ y.order = grind (arith, nat_tests) in
         (lower-all x (y ∷ ys) (more, at_least-less x.order y.order ys more rises.0) under, lower)
 
 sorted-lower : (xs : List Ordered) → AllUnder xs → AllLower (sorted xs)
 sorted-lower [] under = tt
-sorted-lower (x ∷ xs) under = put_in-lower x (sorted xs) (sorted-rises xs) (sorted-all (IsUnder x) xs under.0) (sorted-lower xs under.1)
+sorted-lower (x ∷ xs) under = insert-lower x (sorted xs) (sorted-rises xs) (sorted-all (IsUnder x) xs under.0) (sorted-lower xs under.1)
 
 -- a lane in front of higher ones
 append-under : (n : ℕ) (xs ys : List Ordered) → All (λ (x : Ordered). x.block.lane ≡ n) xs → All (λ (y : Ordered). n ≤ y.block.lane) ys → AllUnder ys → AllUnder (xs ++ ys)

@@ -14,7 +14,8 @@ use Rattle.mkv_io.specs.declared.damage.Kind.TheVariants.{TooMany}
 use Rattle.mkv_schema.specs.declared.element.Header.{Header}
 use Rattle.mkv_schema.specs.Element.{damage, known, stated_end}
 use Rattle.mkv_schema.specs.Value.{body_of, first_of}
-use Rattle.mkv_schema.specs.Outline.{and_then, unless, where_it}
+use Rattle.mkv_schema.specs.Outline.{where_it}
+use Rattle.mkv_io.specs.Results.{and_then, unless}
 use Rattle.mkv_schema.proofs.ElementLemmas.{length-octets_between}
 use Rattle.block_format.specs.declared.limits.TheConstants.{MOST_OF_BLOCK, MOST_REFERENCES, TOO_LARGE_TIME}
 use Rattle.block_format.specs.Block.{Block, nanoseconds, is_too_large, has_too_large_time, simple_block_with}

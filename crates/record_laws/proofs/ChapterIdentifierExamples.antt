@@ -7,7 +7,7 @@ use Rattle.ebml_numbers.specs.Number.{id_at, size_at, uint_width, least_size_wid
 use Rattle.mkv_schema.specs.Table.{table}
 use Rattle.mkv_schema.specs.Schema.{entry_of}
 use Rattle.mkv_schema.specs.Element.{element_in}
-use Rattle.mkv_schema.specs.Outline.{and_then}
+use Rattle.mkv_io.specs.Results.{and_then}
 use Rattle.mkv_io.specs.declared.damage.Damage.{Damage}
 use Rattle.tree_format.specs.Node.{Node}
 use Rattle.tree_format.specs.NormalForm.{content}

@@ -5,7 +5,7 @@ use lib.Utf8.{encode}
 use Rattle.mkv_io.specs.declared.entry.Entry.{Entry}
 use Rattle.srt_texts.specs.Fields.{cut, digits, sixtieth}
 use Rattle.srt_texts.specs.Times.{seconds, clock, times, is_number}
-use Rattle.srt_texts.specs.Srt.{head, before_head, trimmed, entries, has_arrow, first_bad, insert_by, sorted_by, srt}
+use Rattle.srt_texts.specs.Srt.{head, before_head, trimmed, entries, has_arrow, first_bad, srt}
 
 -- lines, each ended by LF
 abbrev pub text : List (List ℕ) → List ℕ
@@ -61,7 +61,7 @@ pub record AreEntries : Type 0 where
   pub latest : srt latest_of_all ≡ Ok (entry 35999999999000000 0 [] ∷ [])
 
 pub entries_read : AreEntries
-unfolding srt head before_head trimmed entries has_arrow first_bad insert_by sorted_by seconds clock times is_number cut digits sixtieth is_utf8 chars encode
+unfolding srt head before_head trimmed entries has_arrow first_bad seconds clock times is_number cut digits sixtieth is_utf8 chars encode
 entries_read = record { one = refl; between = refl; sorted = refl; with_mark = refl; number = refl; latest = refl }
 
 pub record AreBadLines : Type 0 where
@@ -79,5 +79,5 @@ pub record AreBadLines : Type 0 where
   pub not_utf8 : srt (hi ++ text ((0xFF ∷ []) ∷ codes "-->" ∷ [])) ≡ Err 6
 
 pub bad_lines : AreBadLines
-unfolding srt head before_head trimmed entries has_arrow first_bad insert_by sorted_by seconds clock times is_number cut digits sixtieth is_utf8 chars encode
+unfolding srt head before_head trimmed entries has_arrow first_bad seconds clock times is_number cut digits sixtieth is_utf8 chars encode
 bad_lines = record { front = refl; no_times = refl; backward = refl; arrow = refl; minutes = refl; not_utf8 = refl }

@@ -14,7 +14,8 @@ use Rattle.mkv_io.specs.declared.entry.Entry.{Entry}
 use Rattle.srt_texts.specs.Lines.{lines_of}
 use Rattle.srt_texts.specs.Pieces.{two_digits, three_digits, two_or_more, stamp}
 use Rattle.srt_texts.specs.Times.{is_number, times, span}
-use Rattle.srt_texts.specs.Srt.{has_arrow, head, before_head, entries, text_of, first_bad, insert_by, sorted_by, by_start, srt}
+use Rattle.srt_texts.specs.Srt.{has_arrow, head, before_head, entries, text_of, first_bad, by_start, srt}
+use Rattle.mkv_io.specs.Sorted.{insert_by}
 use Rattle.srt_texts.specs.Walk.{Place, Front, Behind, bad_from, is_bad_at}
 use Rattle.srt_texts.proofs.WalkLemmas.{bad_is}
 use Rattle.srt_texts.specs.Writing.{put_srt}
@@ -267,7 +268,6 @@ front_good (e ∷ es) k plain few =
 
 -- ---- what ascends is sorted
 sorted_back : (es : List Entry) → Ascend es → by_start es ≡ es
-unfolding sorted_by insert_by
 sorted_back [] asc = refl
 sorted_back (e ∷ []) asc = refl
 sorted_back (e ∷ f ∷ es) asc =

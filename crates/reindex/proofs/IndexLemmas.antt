@@ -6,7 +6,7 @@ use Rattle.std.proofs.lemmas.List.Sums.{AllPass-from_list_all}
 use Rattle.mkv_io.specs.declared.damage.Damage.{Damage}
 use Rattle.ebml_numbers.specs.Number.{is_id}
 use Rattle.mkv_schema.specs.declared.ids.TheConstants.{ATTACHMENTS, CHAPTERS, CLUSTER, CUES, INFO, TAGS, TRACKS}
-use Rattle.mkv_schema.specs.Outline.{and_then, unless}
+use Rattle.mkv_io.specs.Results.{and_then, unless, and_then as edits_then, unless as unless_refused}
 use Rattle.mkv_schema.specs.Value.{first_of}
 use Rattle.element_reader.specs.Outline.{FileOutline, outline_in}
 use Rattle.element_reader.specs.declared.outline_end.OutlineEnd.{OutlineEnd}
@@ -15,8 +15,7 @@ use Rattle.output_model.specs.declared.places.CuePoint.{CuePoint}
 use Rattle.sidecar_edit.specs.Fields.{Planned}
 use Rattle.sidecar_edit.specs.Writes.{Write}
 use Rattle.sidecar_edit.specs.declared.place.TheConstants.{KEPT}
-use Rattle.edit_changes.specs.Change.{and_then as edits_then}
-use Rattle.edit_changes.specs.Plan.{if_editable, recorded, twin_of, unless as unless_refused, writes_of_parts}
+use Rattle.edit_changes.specs.Plan.{if_editable, recorded, twin_of, writes_of_parts}
 use Rattle.edit_changes.specs.Records.{EditableFile, trees_of}
 use Rattle.edit_changes.specs.declared.refusal.Refusal.{Refusal}
 use Rattle.edit_changes.specs.declared.trees.Trees.{Trees}

@@ -8,7 +8,8 @@ use Rattle.mkv_io.specs.declared.damage.Kind.TheVariants.{BadValue}
 use Rattle.mkv_schema.specs.declared.element.Header.{Header}
 use Rattle.mkv_schema.specs.Element.{in_master, in_segment, element_at, end_in, is_unknown, known, damage}
 use Rattle.mkv_schema.specs.Elements.{Run, elements, ends_at, breaks_at, behind, step, id_of, never, ends_cluster, ends_segment, open_cluster, end_of_run, behind_in_segment, children_in, level_1}
-use Rattle.mkv_schema.specs.Outline.{and_then, unless, segment_bound, segment_run}
+use Rattle.mkv_schema.specs.Outline.{segment_bound, segment_run}
+use Rattle.mkv_io.specs.Results.{and_then, unless}
 use Rattle.mkv_schema.specs.Value.{body_of, first_of}
 use Rattle.mkv_schema.proofs.ElementLemmas.{element_at-placed}
 use Rattle.mkv_schema.proofs.ElementsLemmas.{Advances-known, Advances-segment, elements-end, elements-more}

@@ -18,7 +18,7 @@ use Rattle.block_format.specs.Elements.{block_group, simple_block}
 use Rattle.block_format.specs.Events.{events_of}
 use Rattle.sidecar_edit.specs.Writes.{applied}
 use Rattle.sidecar_edit.specs.declared.place.Place.{Place}
-use Rattle.edit_changes.specs.Change.{and_then}
+use Rattle.mkv_io.specs.Results.{and_then}
 use Rattle.edit_changes.specs.Plan.{place}
 use Rattle.edit_changes.specs.declared.refusal.Refusal.{Refusal}
 use Rattle.edit_changes.specs.declared.refusal.Refusal.TheVariants.{Damaged, NoRoom}

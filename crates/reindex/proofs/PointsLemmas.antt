@@ -9,7 +9,8 @@ use Rattle.std.proofs.lemmas.List.Concat.{flat_map-append}
 use Rattle.std.proofs.lemmas.List.Elements.{filter-append}
 use Rattle.mkv_io.specs.declared.damage.Damage.{Damage}
 use Rattle.mkv_schema.specs.declared.element.Header.{Header}
-use Rattle.mkv_schema.specs.Outline.{outline_of, segment_run, unless}
+use Rattle.mkv_schema.specs.Outline.{outline_of, segment_run}
+use Rattle.mkv_io.specs.Results.{unless}
 use Rattle.mkv_schema.proofs.OutlineLemmas.{and_then-ok}
 use Rattle.element_reader.specs.Outline.{FileOutline, outline_in, shown}
 use Rattle.tree_format.specs.Node.{Node}

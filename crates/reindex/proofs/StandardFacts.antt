@@ -10,7 +10,8 @@ use Rattle.mkv_schema.specs.Table.{table}
 use Rattle.mkv_schema.specs.Schema.{entry_of}
 use Rattle.mkv_schema.specs.Element.{damage, element_in}
 use Rattle.mkv_schema.specs.Elements.{elements, elements_within}
-use Rattle.mkv_schema.specs.Outline.{and_then, ebml_header, outline_of, segment_of}
+use Rattle.mkv_schema.specs.Outline.{ebml_header, outline_of, segment_of}
+use Rattle.mkv_io.specs.Results.{and_then}
 use Rattle.tree_format.specs.Reading.{grove, grove_within}
 use Rattle.file_format.specs.Info.{file_scale}
 use Rattle.lacing.specs.Reading.{lace_in, size_in, sizes_in}

@@ -1,7 +1,7 @@
 -- What a reading of a file that is to be indexed came to.
 use Rattle.std.specs.Prelude.{◌≡◌, ⊤, ℕ, List, Result, Ok, Err}
 use Rattle.mkv_io.specs.declared.damage.Damage.{Damage}
-use Rattle.mkv_schema.specs.Outline.{and_then}
+use Rattle.mkv_io.specs.Results.{and_then}
 use Rattle.element_reader.specs.Outline.{FileOutline, outline_in}
 use Rattle.element_reader.specs.declared.outline_end.OutlineEnd.{OutlineEnd}
 use Rattle.element_reader.specs.declared.outline_end.OutlineEnd.TheVariants as outline_end

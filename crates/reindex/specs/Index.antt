@@ -2,7 +2,7 @@
 use Rattle.std.specs.Prelude.{ℕ, true, List, slice_get, Option, Result}
 use Rattle.mkv_io.specs.declared.damage.Damage.{Damage}
 use Rattle.mkv_schema.specs.declared.element.Header.{Header}
-use Rattle.mkv_schema.specs.Outline.{and_then, unless}
+use Rattle.mkv_io.specs.Results.{and_then, unless}
 use Rattle.element_reader.specs.Outline.{outline_in}
 use Rattle.tree_format.specs.Node.{Node}
 use Rattle.file_format.specs.FileBlocks.{file_events}

@@ -9,8 +9,8 @@ use Rattle.output_model.specs.Element.{Element}
 use Rattle.output_model.specs.declared.places.CuePoint.{CuePoint}
 use Rattle.sidecar_edit.specs.Writes.{Write}
 use Rattle.edit_changes.specs.declared.refusal.Refusal.{Refusal}
-use Rattle.edit_changes.specs.Change.{and_then}
-use Rattle.edit_changes.specs.Plan.{Part, if_editable, recorded, twin_of, unless, writes_of_parts}
+use Rattle.mkv_io.specs.Results.{and_then, unless}
+use Rattle.edit_changes.specs.Plan.{Part, if_editable, recorded, twin_of, writes_of_parts}
 use Rattle.edit_changes.specs.Records.{EditableFile}
 use Rattle.edit_changes.specs.Span.{span_of}
 use Rattle.reindex.specs.declared.indexed.Indexed.{Indexed}

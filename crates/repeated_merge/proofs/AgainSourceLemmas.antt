@@ -26,7 +26,7 @@ use Rattle.mkv_merge.specs.Chapters.{with_chapters, with_file}
 use Rattle.mkv_merge.specs.Merge.{sources_beside, sources_of, sources_settled, sources_with, status_of, unless_refused, verdict_of}
 use Rattle.mkv_merge.specs.Plain.{plain_file}
 use Rattle.mkv_merge.specs.Read.{numbered}
-use Rattle.mkv_merge.specs.Refused.{and_then, unless}
+use Rattle.mkv_io.specs.Results.{and_then, unless}
 use Rattle.mkv_merge.specs.Texts.{missing_text, with_times}
 use Rattle.mkv_merge.specs.declared.refusal.Refusal.{Refusal}
 use Rattle.mkv_merge.specs.declared.refusal.Refusal.TheVariants.{Differs, OutputIsInput, Plan}

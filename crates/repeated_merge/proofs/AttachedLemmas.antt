@@ -13,7 +13,8 @@ use Rattle.mkv_schema.specs.declared.element.Header.{Header}
 use Rattle.mkv_io.specs.declared.damage.Kind.TheVariants.{BadValue, MissingChild}
 use Rattle.mkv_schema.specs.Element.{damage, in_master, known}
 use Rattle.mkv_schema.specs.Elements.{Run, children_in}
-use Rattle.mkv_schema.specs.Outline.{first_damage, first_refusal, unless, where_it}
+use Rattle.mkv_schema.specs.Outline.{first_damage, first_refusal, where_it}
+use Rattle.mkv_io.specs.Results.{unless}
 use Rattle.mkv_schema.specs.Schema.{uint_default}
 use Rattle.mkv_schema.specs.Value.{body_of, first_of, is_known_value}
 use Rattle.tree_format.specs.Node.{Node, Nodes, leaf, master, none, node, nodes_of, list_of, id_of, children, is_leaf}

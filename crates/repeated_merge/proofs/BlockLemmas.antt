@@ -12,7 +12,8 @@ use Rattle.mkv_schema.specs.declared.ids.TheConstants.{BLOCK, BLOCK_GROUP, CLUST
 use Rattle.mkv_schema.specs.declared.element.Header.{Header}
 use Rattle.mkv_schema.specs.Element.{damage, known}
 use Rattle.mkv_schema.specs.Elements.{Run}
-use Rattle.mkv_schema.specs.Outline.{and_then, segment_bound, segment_run, unless, where_it}
+use Rattle.mkv_schema.specs.Outline.{segment_bound, segment_run, where_it}
+use Rattle.mkv_io.specs.Results.{and_then, unless}
 use Rattle.mkv_schema.specs.Value.{body_of, first_of}
 use Rattle.mkv_schema.proofs.OutlineLemmas.{and_then-ok}
 use Rattle.tree_format.specs.Node.{Node}

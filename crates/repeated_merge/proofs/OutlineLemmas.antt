@@ -9,7 +9,8 @@ use Rattle.mkv_schema.specs.declared.ids.TheConstants.{CLUSTER}
 use Rattle.mkv_schema.specs.declared.element.Header.{Header}
 use Rattle.mkv_schema.specs.declared.limits.TheConstants.{MOST_OF_HEADER, MOST_OF_ONE, MOST_OF_ALL, MOST_ELEMENTS}
 use Rattle.mkv_schema.specs.Element.{known, damage}
-use Rattle.mkv_schema.specs.Outline.{Outlined, and_then, unless, first_damage, first_refusal, where_it, header_causes, children_causes, header_children, first_element, ebml_header, segment_of, segment_run, is_described, described, others, passes_size, passes_count, limits_from, outlined, within_limits, outline_of}
+use Rattle.mkv_schema.specs.Outline.{Outlined, first_damage, first_refusal, where_it, header_causes, children_causes, header_children, first_element, ebml_header, segment_of, segment_run, is_described, described, others, passes_size, passes_count, limits_from, outlined, within_limits, outline_of}
+use Rattle.mkv_io.specs.Results.{and_then, unless}
 use Rattle.mkv_schema.specs.WithoutLimits.{header_without_limit, outline_without_limits}
 use Rattle.mkv_schema.proofs.OutlineLemmas.{and_then-ok, unless-ok}
 

@@ -8,7 +8,7 @@ use Rattle.mkv_io.specs.declared.damage.Damage.{Damage}
 use Rattle.mkv_schema.specs.declared.ids.TheConstants.{TRACK_ENTRY, TRACK_NUMBER, TRACK_UID, TRACK_TYPE, CODEC_ID, LANGUAGE, LANGUAGE_BCP47, DEFAULT_DURATION}
 use Rattle.mkv_schema.specs.Schema.{uint_default, text_default}
 use Rattle.mkv_schema.specs.Value.{text_of}
-use Rattle.mkv_schema.specs.Outline.{unless}
+use Rattle.mkv_io.specs.Results.{unless}
 use Rattle.tree_format.specs.Node.{Node, leaf, master, body_of}
 use Rattle.tree_format.specs.NormalForm.{header_octets, is_filler, octets_all}
 use Rattle.tree_format.specs.Standing.{placed}

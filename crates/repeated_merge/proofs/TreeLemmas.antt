@@ -6,7 +6,8 @@ use Rattle.std.proofs.lemmas.List.Elements.{All-nil, All-cons, All-head, All-tai
 use Rattle.mkv_io.specs.declared.damage.Damage.{Damage}
 use Rattle.mkv_io.specs.declared.damage.Kind.TheVariants.{TooMany}
 use Rattle.mkv_schema.specs.Element.{damage}
-use Rattle.mkv_schema.specs.Outline.{first_damage, first_refusal, unless, where_it}
+use Rattle.mkv_schema.specs.Outline.{first_damage, first_refusal, where_it}
+use Rattle.mkv_io.specs.Results.{unless}
 use Rattle.mkv_schema.proofs.OutlineLemmas.{unless-ok}
 use Rattle.tree_format.specs.Node.{Node, Nodes, leaf, master, none, node, nodes_of, id_of, count, count_all, depth, depth_all, deepest}
 use Rattle.tree_format.specs.NormalForm.{is_filler, header_octets, octets, octets_all}

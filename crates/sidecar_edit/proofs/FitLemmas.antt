@@ -11,7 +11,7 @@ use Rattle.sidecar_edit.specs.declared.outcome.RecoverEnd.{RecoverEnd}
 use Rattle.sidecar_edit.specs.Writes.{Fits, Torn, Touches, extent}
 use Rattle.sidecar_edit.specs.Fields.{AreInOrder, cut_up, head_len, head_of, last_end, count_in, new_len_in, old_len_in, places_in, sum_of, total_in, used_in, version_in, writes_in}
 use Rattle.sidecar_edit.specs.Gate.{Rule, first_breach, gate_of, is_count, is_new_len, is_quiet, is_total, is_version, old_len_of, place_rules, rules_of, state, unless_broken}
-use Rattle.sidecar_edit.specs.Recovery.{differs, first_place, foreign_of, gap_of, if_live, is_disk_fault, is_touched, octet_mark, recovery, unfit, unless}
+use Rattle.sidecar_edit.specs.Recovery.{differs, first_place, foreign_of, gap_of, if_live, is_disk_fault, is_touched, octet_mark, recovery, unfit, applied_unless}
 use Rattle.sidecar_edit.proofs.RecordLemmas.{AreKept}
 
 -- ---- writes at places in order
@@ -208,7 +208,7 @@ pub record IsOwn (m s : List ℕ) : Type 0 where
 pub own-is : (m s : List ℕ) → recovery m s ≡ Ok Applied → IsOwn m s
 own-is m s is = by_gate (state s) refl is
   where
-    by_unfit : (u : Option RecoverEnd) → unless u ≡ Ok Applied → u ≡ None
+    by_unfit : (u : Option RecoverEnd) → applied_unless u ≡ Ok Applied → u ≡ None
     by_unfit None is = refl
     by_unfit (Some end) is = cc
 
@@ -218,7 +218,7 @@ own-is m s is = by_gate (state s) refl is
     by_gate Live at is = record { live = at; fit = by_unfit (unfit (head_of s) (length m) (take KEPT m)) is }
 
 pub own-applies : (m s : List ℕ) → IsOwn m s → recovery m s ≡ Ok Applied
-own-applies m s own = ap (λ g. if_live g (head_of s) (length m) (take KEPT m)) own.live ∙ ap unless own.fit
+own-applies m s own = ap (λ g. if_live g (head_of s) (length m) (take KEPT m)) own.live ∙ ap applied_unless own.fit
 
 module _ (m s : List ℕ) (own : IsOwn m s) where
   live : IsLive (head_of s) (length s)

@@ -9,7 +9,7 @@ use Rattle.mkv_io.specs.Writing.{UsesOnly}
 use Rattle.mkv_io.specs.declared.reads.Reads.{Ghosts}
 use Rattle.mkv_io.specs.declared.files.Files as writing
 use Rattle.mkv_io.proofs.AskedLemmas.{asks-both, asks-none}
-use Rattle.mkv_io.proofs.WritingLemmas.{IsSameFile-twice, UsesOnly-more, UsesOnly-none, UsesOnly-standing, UsesOnly-then}
+use Rattle.mkv_io.proofs.WritingLemmas.{IsSameFile-twice, UsesOnly-more, UsesOnly-standing, UsesOnly-then}
 use Rattle.sidecar_edit.specs.declared.held.Gate.{Gate}
 use Rattle.sidecar_edit.specs.Gate.{state}
 use Rattle.sidecar_edit.specs.Pending.{LooksOnly, holds_edit, is_begun}
@@ -20,9 +20,6 @@ holds-read None held there read = absurd (there refl)
 holds-read (Some bytes) held there read = ap is_begun (read bytes refl)
 
 -- ---- one call after the other
-
-pub LooksOnly-none : {S : Type 0} (r : Ghosts S) (f : writing.Ghosts S) (opened : List (List ℕ)) (files : S) → LooksOnly r f opened files files
-LooksOnly-none r f opened files = record { kept = UsesOnly-none r f opened [] files; names = refl; writing = refl }
 
 pub LooksOnly-then : {S : Type 0} (r : Ghosts S) (f : writing.Ghosts S) (opened : List (List ℕ)) (a b c : S) → LooksOnly r f opened a b → LooksOnly r f opened b c → LooksOnly r f opened a c
 LooksOnly-then r f opened a b c first next = record {

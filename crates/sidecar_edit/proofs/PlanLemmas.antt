@@ -1,17 +1,13 @@
 -- Octets that are appended one after the other, and the plan that is kept so.
 use Rattle.std.proofs.Common.{◌≡◌, ℕ, ◌-◌, List, ◌++◌, length, drop, ◌∙◌, ap, append_assoc, arith}
-use Rattle.std.proofs.lemmas.List.{drop_at, drop-replicate}
-use Rattle.sidecar_edit.specs.declared.place.TheConstants.{HEAD, KEPT}
-use Rattle.sidecar_edit.specs.Fields.{Head, IsPlan, IsSound, Planned, body_of, head_octets, zeros}
+use Rattle.std.proofs.lemmas.List.{drop_at}
+use Rattle.sidecar_edit.specs.declared.place.TheConstants.{HEAD}
+use Rattle.sidecar_edit.specs.Fields.{Head, IsPlan, IsSound, Planned, body_of, head_octets}
 use Rattle.sidecar_edit.proofs.RecordLemmas.{length-padded}
 
 -- what is appended to what was appended
 pub more : (a b x p q : List ℕ) → a ≡ x ++ p → b ≡ a ++ q → b ≡ x ++ (p ++ q)
 more a b x p q first second = second ∙ ap (λ l. l ++ q) first ∙ append_assoc x p q
-
--- the zeros behind the octets that are kept
-pub last_zeros : (first : List ℕ) → drop (length first) (zeros KEPT) ≡ zeros (KEPT - length first)
-last_zeros first = drop-replicate (length first) KEPT 0
 
 pub length-head_octets : (h : Head) → IsSound h → length (head_octets h) ≡ HEAD - 1
 length-head_octets h sound = let size = length-padded h sound in omega arith

@@ -16,7 +16,7 @@ use Rattle.sidecar_edit.specs.declared.held.Gate.{Gate}
 use Rattle.sidecar_edit.specs.declared.held.Gate.TheVariants.{Live}
 use Rattle.sidecar_edit.specs.Fields.{head_of, writes_in}
 use Rattle.sidecar_edit.specs.Gate.{IsLiveHead, gate_of, state}
-use Rattle.sidecar_edit.specs.Recovery.{if_live, recovery, unfit, unless}
+use Rattle.sidecar_edit.specs.Recovery.{if_live, recovery, unfit, applied_unless}
 use Rattle.sidecar_edit.specs.Writes.{Torn}
 use Rattle.sidecar_edit.specs.Leaves.{IsRedoing}
 use Rattle.sidecar_edit.specs.Recovering.{IsHeadOf, IsRecovered, IsRecovering, LeftBy}
@@ -44,10 +44,10 @@ state-read S head size gate its len is = sym (is ∙ ap (λ h. gate_of h size) i
 
 -- a live sidecar with these first octets, beside a medium
 module _ (M S head : List ℕ) (its : head ≡ head_of S) (live : state S ≡ Live) where
-  pub recovery-live : recovery M S ≡ unless (unfit head (length M) (take KEPT M))
+  pub recovery-live : recovery M S ≡ applied_unless (unfit head (length M) (take KEPT M))
   recovery-live =
       ap (λ g. if_live g (head_of S) (length M) (take KEPT M)) live
-      ∙ ap (λ h. unless (unfit h (length M) (take KEPT M))) (sym its)
+      ∙ ap (λ h. applied_unless (unfit h (length M) (take KEPT M))) (sym its)
 
 pub recovered-refused : (M S : List ℕ) (end : RecoverEnd) (p : Pair) → recovery M S ≡ Err end → IsRecovered M S (Err end) p
 recovered-refused M S (BadSidecar offset) p is = is

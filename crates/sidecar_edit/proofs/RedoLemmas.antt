@@ -21,15 +21,6 @@ pub extent_grows : (n : ℕ) (ws : List Write) → n ≤ extent n ws
 extent_grows n [] = omega arith
 extent_grows n (w ∷ ws) = omega (arith, extent_grows (max n (end_of w)) ws)
 
-pub extent_monotone : (m n : ℕ) (ws : List Write) → m ≤ n → extent m ws ≤ extent n ws
-extent_monotone m n [] le = le
-extent_monotone m n (w ∷ ws) le = extent_monotone (max m (end_of w)) (max n (end_of w)) ws (omega arith)
-
--- what fits a file fits a longer one
-pub fits_longer : (m n : ℕ) (ws : List Write) → m ≤ n → Fits m ws → Fits n ws
-fits_longer m n [] le fits = tt
-fits_longer m n (w ∷ ws) le fits = (omega (arith, fits.0), fits_longer (max m (end_of w)) (max n (end_of w)) ws (omega arith) fits.1)
-
 pub length-applied : (file : List ℕ) (ws : List Write) → Fits (length file) ws → length (applied file ws) ≡ extent (length file) ws
 length-applied file [] fits = refl
 length-applied file (w ∷ ws) fits =

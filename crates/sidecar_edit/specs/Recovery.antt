@@ -13,6 +13,7 @@ use Rattle.sidecar_edit.specs.declared.outcome.RecoverEnd.TheVariants.{BadSideca
 use Rattle.sidecar_edit.specs.Writes.{applied}
 use Rattle.sidecar_edit.specs.Fields.{version_in, new_len_in, used_in, old_len_in, head_of, writes_in}
 use Rattle.sidecar_edit.specs.Gate.{state}
+use Rattle.mkv_io.specs.Results.{unless}
 
 -- the first place from `at` on, of so many, that passes a test
 abbrev pub first_place : (ℕ → Bool) → ℕ → ℕ → Option ℕ
@@ -56,14 +57,14 @@ is_disk_fault (BadSidecar offset) = false
 is_disk_fault (Foreign mark kept found) = false
 is_disk_fault DiskFault = true
 
-abbrev pub unless : Option RecoverEnd → Result Recovered RecoverEnd
-unless None = Ok Applied
-unless (Some end) = Err end
+-- a live edit is applied, unless the file doesn't fit it
+abbrev pub applied_unless : Option RecoverEnd → Result Recovered RecoverEnd
+applied_unless why = unless why Applied
 
 abbrev pub if_live : Gate → List ℕ → ℕ → List ℕ → Result Recovered RecoverEnd
 if_live Quiet head size media = Ok Nothing
 if_live (Bad offset) head size media = Err (BadSidecar offset)
-if_live Live head size media = unless (unfit head size media)
+if_live Live head size media = applied_unless (unfit head size media)
 
 -- What recovering a file beside a sidecar answers: that the edit is applied, that there is nothing to do, or a refusal.
 abbrev pub recovery : List ℕ → List ℕ → Result Recovered RecoverEnd

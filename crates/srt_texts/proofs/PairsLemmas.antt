@@ -6,8 +6,9 @@ use Rattle.srt_texts.specs.declared.end.TextEnd.{TextEnd}
 use Rattle.srt_texts.specs.declared.end.TextEnd.TheVariants as text_end
 use Rattle.srt_texts.specs.Ends.{Reads}
 use Rattle.srt_texts.specs.declared.chapter_reading.Chapter.{Chapter}
-use Rattle.srt_texts.specs.Lines.{lines_of}
-use Rattle.srt_texts.specs.Pairs.{Timed, Line, numbered, two_by_two, chapter, chapters_of, and_then, simple, first_line, second_line}
+use Rattle.srt_texts.specs.Lines.{lines_of, Line, numbered}
+use Rattle.srt_texts.specs.Pairs.{Timed, two_by_two, chapter, chapters_of, simple, first_line, second_line}
+use Rattle.mkv_io.specs.Results.{and_then}
 use Rattle.srt_texts.specs.Turn.{joined, pairs, onto_chapters, after_first, after_second}
 
 pub pairs_empty : (l : List ℕ) (ls : List (List ℕ)) (n : ℕ) (due : Option Timed) → length l ≡ 0 → pairs (l ∷ ls) n due ≡ pairs ls (n + 1) due

@@ -6,7 +6,7 @@ use Rattle.std.specs.Prelude.{◌==◌}
 use Rattle.std.specs.List.{filter}
 use Rattle.std.specs.List.Sorted.{ties, IsStableByKey, IsNonDecreasingBy}
 use Rattle.std.specs.Ordering.{is_lt, nat_cmp}
-use Rattle.srt_texts.specs.Srt.{insert_by, sorted_by}
+use Rattle.mkv_io.specs.Sorted.{insert_by, sorted_by}
 
 -- each key is at least that
 abbrev pub Above : {X : Type 0} → (X → ℕ) → ℕ → List X → Type 0
@@ -64,7 +64,6 @@ module _ {X : Type 0} (key : X → ℕ) where
   -- ---- inserting keeps those with each key
   insert_cases : (x y : X) (ys : List X) (j : ℕ) (b t u : Bool) → nat_lt (key y) (key x) ≡ b → (j == key x) ≡ t → (j == key y) ≡ u →
       with_key j (insert_by key x ys) ≡ with_key j (x ∷ ys) → with_key j (insert_by key x (y ∷ ys)) ≡ with_key j (x ∷ y ∷ ys)
-  unfolding insert_by
   insert_cases x y ys j false t u e f g rest = rw e refl
   insert_cases x y ys j true true true e f g rest = absurd (grind (arith, nat_tests))
   insert_cases x y ys j true true false e f g rest = let r = rw f at rest in rw (e, g, f) r
@@ -72,7 +71,6 @@ module _ {X : Type 0} (key : X → ℕ) where
   insert_cases x y ys j true false false e f g rest = let r = rw f at rest in rw (e, g, f) r
 
   insert_with : (x : X) (ys : List X) (j : ℕ) → with_key j (insert_by key x ys) ≡ with_key j (x ∷ ys)
-  unfolding insert_by
   insert_with x [] j = refl
   insert_with x (y ∷ ys) j = insert_cases x y ys j (nat_lt (key y) (key x)) (j == key x) (j == key y) refl refl refl (insert_with x ys j)
 
@@ -80,7 +78,6 @@ module _ {X : Type 0} (key : X → ℕ) where
   more_with x ys zs j e = rw e refl
 
   sorted_with : (xs : List X) (j : ℕ) → with_key j (sorted_by key xs) ≡ with_key j xs
-  unfolding sorted_by
   sorted_with [] j = refl
   sorted_with (x ∷ xs) j =
       let a = insert_with x (sorted_by key xs) j in
@@ -90,12 +87,10 @@ module _ {X : Type 0} (key : X → ℕ) where
   -- ---- and the order
   insert_above_cases : (k : ℕ) (x y : X) (ys : List X) (b : Bool) → nat_lt (key y) (key x) ≡ b → k ≤ key x → Above key k (y ∷ ys) →
       Above key k (insert_by key x ys) → Above key k (insert_by key x (y ∷ ys))
-  unfolding insert_by
   insert_above_cases k x y ys true e le above rest = rw e (above.0, rest)
   insert_above_cases k x y ys false e le above rest = rw e (le, above)
 
   insert_above : (k : ℕ) (x : X) (ys : List X) → k ≤ key x → Above key k ys → Above key k (insert_by key x ys)
-  unfolding insert_by
   insert_above k x [] le above = (le, tt)
   insert_above k x (y ∷ ys) le above = insert_above_cases k x y ys (nat_lt (key y) (key x)) refl le above (insert_above k x ys le above.1)
 
@@ -105,7 +100,6 @@ module _ {X : Type 0} (key : X → ℕ) where
 
   insert_ascends_cases : (x y : X) (ys : List X) (b : Bool) → nat_lt (key y) (key x) ≡ b → Ascends key (y ∷ ys) →
       Ascends key (insert_by key x ys) → Ascends key (insert_by key x (y ∷ ys))
-  unfolding insert_by
   insert_ascends_cases x y ys true e asc rest =
       let le : key y ≤ key x = grind (arith, nat_tests) in
       rw e (insert_above (key y) x ys le asc.0, rest)
@@ -114,12 +108,10 @@ module _ {X : Type 0} (key : X → ℕ) where
       rw e ((le, lower (key x) (key y) ys le asc.0), asc)
 
   insert_ascends : (x : X) (ys : List X) → Ascends key ys → Ascends key (insert_by key x ys)
-  unfolding insert_by
   insert_ascends x [] asc = (tt, tt)
   insert_ascends x (y ∷ ys) asc = insert_ascends_cases x y ys (nat_lt (key y) (key x)) refl asc (insert_ascends x ys asc.1)
 
   sorted_ascends : (xs : List X) → Ascends key (sorted_by key xs)
-  unfolding sorted_by
   sorted_ascends [] = tt
   sorted_ascends (x ∷ xs) = insert_ascends x (sorted_by key xs) (sorted_ascends xs)
 

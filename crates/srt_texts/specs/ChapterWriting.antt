@@ -1,6 +1,6 @@
 -- How simple chapters are written, in this project's grammar.
 use Rattle.std.specs.Prelude.{ℕ, ◌/◌, List, [], ◌∷◌, ◌++◌, codes}
-use Rattle.srt_texts.specs.Characters.{EQUALS, LINE_FEED, POINT}
+use Rattle.mkv_io.specs.Characters.{EQUALS, LINE_FEED, POINT}
 use Rattle.srt_texts.specs.declared.pieces.Piece.{Piece}
 use Rattle.srt_texts.specs.declared.pieces.Piece.TheVariants.{Time}
 use Rattle.srt_texts.specs.Pieces.{two_or_more, stamp}

@@ -1,4 +1,3 @@
-pub mod Characters
 pub mod Times
 pub mod Srt
 pub mod Walk

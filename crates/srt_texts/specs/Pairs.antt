@@ -1,11 +1,12 @@
 -- Simple chapters, in this project's grammar: a line with a chapter's time and a line with its name, for each chapter.
 use Rattle.std.specs.Prelude.{ℕ, ◌+◌, ◌*◌, ◌==◌, not, if◌then◌else◌, List, [], ◌∷◌, ◌++◌, length, map, codes, Option, Some, None, ok_or, Result, Ok, Err}
-use Rattle.std.specs.List.{enumerate_from, filter}
+use Rattle.std.specs.List.{filter}
 use Rattle.std.specs.Str.{is_utf8}
-use Rattle.srt_texts.specs.Characters.{COLON, EQUALS, POINT}
-use Rattle.srt_texts.specs.Lines.{lines_of}
+use Rattle.mkv_io.specs.Characters.{COLON, EQUALS, POINT}
+use Rattle.srt_texts.specs.Lines.{Line, all_lines, lines_of, numbered}
 use Rattle.srt_texts.specs.Fields.{◌>>=◌, cut, behind, digits, sixtieth}
 use Rattle.srt_texts.specs.declared.chapter_reading.Chapter.{Chapter}
+use Rattle.mkv_io.specs.Results.{and_then}
 
 -- `HH:MM:SS.mmm`, in nanoseconds
 unfoldable pub time_of : List ℕ → Option ℕ
@@ -47,19 +48,6 @@ chapter start name = record { start = start; name = name }
 
 -- ---- the lines of a file
 
--- a line and its number
-pub record Line : Type 0 where
-  pub number : ℕ
-  pub words : List ℕ
-
--- the line of this number
-abbrev pub numbered : ℕ → List ℕ → Line
-numbered number words = record { number = number; words = words }
-
--- all lines, which count from 1
-abbrev pub all_lines : List (List ℕ) → List Line
-all_lines ls = map (λ (p : ℕ × List ℕ). numbered p.0 p.1) (enumerate_from 1 ls)
-
 -- those that aren't empty
 abbrev pub filled : List (List ℕ) → List Line
 filled ls = filter (λ (l : Line). not (length l.words == 0)) (all_lines ls)
@@ -75,11 +63,6 @@ two_by_two (x ∷ []) = []
 two_by_two (x ∷ y ∷ xs) = (x, y) ∷ two_by_two xs
 
 -- ---- chapters
-
--- what is made of an answer that is no refusal
-abbrev pub and_then : {X Y : Type 0} → Result X ℕ → (X → Result Y ℕ) → Result Y ℕ
-and_then (Ok x) then_ = then_ x
-and_then (Err n) then_ = Err n
 
 -- the chapter of two lines, or the number of the first that isn't what it has to be
 abbrev pub chapter_of : Line → Line → Result Chapter ℕ

@@ -1,7 +1,7 @@
 -- Octets, numbers and times as they are written.
 use Rattle.std.specs.Prelude.{ℕ, ◌+◌, ◌/◌, ◌%◌, nat_lt, if◌then◌else◌, List, [], ◌∷◌, ◌++◌}
 use Rattle.std.specs.Fmt.{decimal}
-use Rattle.srt_texts.specs.Characters.{COLON, DIGIT_0}
+use Rattle.mkv_io.specs.Characters.{COLON, DIGIT_0}
 use Rattle.srt_texts.specs.declared.pieces.Piece.{Piece}
 use Rattle.srt_texts.specs.declared.pieces.Piece.TheVariants.{Octets, Number, Padded, Time}
 

@@ -1,7 +1,7 @@
 -- What is known while a SubRip file is read.
 use Rattle.std.specs.Prelude.{◌≡◌, ◌<◌, ◌≤◌, ⊤, All, ℕ, zero, suc, ◌+◌, List, [], ◌∷◌, length, Option, Some, None, Result, Ok, Err}
 use Rattle.std.specs.Str.Lines.{lines}
-use Rattle.srt_texts.specs.Characters.{LINE_FEED}
+use Rattle.mkv_io.specs.Characters.{LINE_FEED}
 use Rattle.srt_texts.specs.declared.reading.Head.{Head}
 use Rattle.mkv_io.specs.declared.entry.Entry.{Entry}
 use Rattle.srt_texts.specs.declared.end.TextEnd.{TextEnd}

@@ -3,11 +3,12 @@ use Rattle.std.specs.Prelude.{ℕ, zero, suc, ◌+◌, ◌-◌, Bool, false, not
 use Rattle.std.specs.Option.{is_none, is_some, option_map_or}
 use Rattle.std.specs.List.{find, join_with_byte, range_with_len}
 use Rattle.std.specs.Str.{bytes_eq, is_utf8}
-use Rattle.srt_texts.specs.Characters.{LINE_FEED}
+use Rattle.mkv_io.specs.Characters.{LINE_FEED}
 use Rattle.srt_texts.specs.declared.times.Times.{Times}
 use Rattle.mkv_io.specs.declared.entry.Entry.{Entry}
 use Rattle.srt_texts.specs.Lines.{lines_of}
 use Rattle.srt_texts.specs.Times.{times, is_number}
+use Rattle.mkv_io.specs.Sorted.{sorted_by}
 
 -- the times of the head that begins these lines: a number line with a time line after it
 unfoldable pub head : List (List ℕ) → Option Times
@@ -85,16 +86,6 @@ unfoldable pub first_bad : List (List ℕ) → Option ℕ
 first_bad ls = option_map (λ k. k + 1) (find (is_bad ls) (range_with_len 0 (length ls)))
 
 -- ---- the order of entries
-
--- x among what is sorted by these keys: before the first whose key isn't below its own
-unfoldable pub insert_by : {X : Type 0} → (X → ℕ) → X → List X → List X
-insert_by key x [] = x ∷ []
-insert_by key x (y ∷ ys) = if nat_lt (key y) (key x) then y ∷ insert_by key x ys else x ∷ y ∷ ys
-
--- sorted by these keys, ties as they stand
-unfoldable pub sorted_by : {X : Type 0} → (X → ℕ) → List X → List X
-sorted_by key [] = []
-sorted_by key (x ∷ xs) = insert_by key x (sorted_by key xs)
 
 abbrev pub by_start : List Entry → List Entry
 by_start es = sorted_by (λ (e : Entry). e.start) es

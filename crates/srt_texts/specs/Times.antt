@@ -2,7 +2,7 @@
 use Rattle.std.specs.Prelude.{ℕ, ◌+◌, ◌*◌, Bool, ◌&&◌, ◌||◌, ◌==◌, nat_le, if◌then◌else◌, List, length, take, drop, slice_index, codes, Option, Some, None}
 use Rattle.std.specs.List.{list_all, prefix_len}
 use Rattle.std.specs.Char.{is_ascii_digit}
-use Rattle.srt_texts.specs.Characters.{COLON, COMMA, POINT, SPACE, TAB}
+use Rattle.mkv_io.specs.Characters.{COLON, COMMA, POINT, SPACE, TAB}
 use Rattle.srt_texts.specs.Fields.{◌>>=◌, cut, behind, digits, sixtieth}
 use Rattle.srt_texts.specs.declared.times.Times.{Times}
 

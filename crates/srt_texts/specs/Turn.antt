@@ -33,12 +33,12 @@ pairs ((b ∷ bs) ∷ ls) n None = after_first n (first_line (b ∷ bs)) (λ due
 pairs ((b ∷ bs) ∷ ls) n (Some due) = after_second n due.start (second_line due.number (b ∷ bs)) (pairs ls (n + 1) None)
 
 -- a first line that was read, as the definition has it
-abbrev pub due_of : FirstLine → Timed
-due_of f = record { number = f.number.now; start = f.start }
+abbrev pub timed_of : FirstLine → Timed
+timed_of f = record { number = f.number.now; start = f.start }
 
-abbrev pub due_in : Option FirstLine → Option Timed
-due_in None = None
-due_in (Some f) = Some (due_of f)
+abbrev pub timed_in : Option FirstLine → Option Timed
+timed_in None = None
+timed_in (Some f) = Some (timed_of f)
 
 -- chapters, and those behind them
 abbrev pub joined : List Chapter → Result (List Chapter) ℕ → Result (List Chapter) ℕ
@@ -49,5 +49,5 @@ joined xs (Err n) = Err n
 -- the chapters now and those behind the line; or the line is bad.
 abbrev pub Turns : List Chapter → List Chapter → List ℕ → ℕ → Option Timed → Result (Option FirstLine) TextEnd → Type 0
 Turns old new line n due (Ok next) =
-    (ls : List (List ℕ)) → joined old (pairs (line ∷ ls) n due) ≡ joined new (pairs ls (n + 1) (due_in next))
+    (ls : List (List ℕ)) → joined old (pairs (line ∷ ls) n due) ≡ joined new (pairs ls (n + 1) (timed_in next))
 Turns old new line n due (Err end) = (ls : List (List ℕ)) → Reads {A = List Chapter} (Err end) (pairs (line ∷ ls) n due)

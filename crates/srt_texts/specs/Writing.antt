@@ -1,7 +1,7 @@
 -- How an entry of SubRip is written, in this project's grammar.
 use Rattle.std.specs.Prelude.{ℕ, ℤ, pos, negsuc, ◌+ℤ◌, ◌/◌, List, [], ◌∷◌, ◌++◌, codes}
 use Rattle.std.specs.Fmt.{decimal}
-use Rattle.srt_texts.specs.Characters.{COMMA, LINE_FEED}
+use Rattle.mkv_io.specs.Characters.{COMMA, LINE_FEED}
 use Rattle.srt_texts.specs.declared.pieces.Piece.{Piece}
 use Rattle.srt_texts.specs.declared.pieces.Piece.TheVariants.{Time}
 use Rattle.srt_texts.specs.Pieces.{stamp}

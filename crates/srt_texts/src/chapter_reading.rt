@@ -3,7 +3,7 @@
 ghost use Rattle.std.specs.Prelude.{◌≡◌, ◌<◌, length, IfOk, option_map};
 ghost use Rattle.srt_texts.specs.Ends.{Reads};
 ghost use Rattle.srt_texts.specs.Pairs as spec;
-ghost use Rattle.srt_texts.specs.Turn.{Turns, due_in, due_of};
+ghost use Rattle.srt_texts.specs.Turn.{Turns, timed_in, timed_of};
 
 use crate::end::TextEnd;
 use crate::fields::{behind, cut, digits, sixtieth, text};
@@ -45,7 +45,7 @@ fn time_of(word: &[u8]) -> Option<u64>
 // `CHAPTERnn=` and a time.
 #[tactic(auto, unfolding(crate::specs::Pairs::first_line))]
 fn first_line(line: &[u8]) -> Option<FirstLine<'_>>
-    ensures { option_map due_of result ≡ spec.first_line line.now }
+    ensures { option_map timed_of result ≡ spec.first_line line.now }
 {
     let rest = behind(b"CHAPTER", line)?;
     let (number, time) = cut(rest, b'=')?;
@@ -82,7 +82,7 @@ fn take_line<'a>(
     number: u64,
 ) -> Result<Option<FirstLine<'a>>, TextEnd>
     requires { 0 < length line.now }
-    ensures { Turns list.old list.new line.now number (due_in due.entry) result }
+    ensures { Turns list.old list.new line.now number (timed_in due.entry) result }
 {
     let Some(due) = due else {
         return match first_line(line) {

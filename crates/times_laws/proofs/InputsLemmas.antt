@@ -20,7 +20,7 @@ use Rattle.merge_inputs.specs.declared.taken.TakenTrack.{TakenTrack}
 use Rattle.mkv_io.specs.declared.entry.Entry.{Entry}
 use Rattle.merge_plan.specs.Plan.{Source}
 use Rattle.mkv_merge.specs.Read.{inputs_from, numbered}
-use Rattle.mkv_merge.specs.Refused.{and_then}
+use Rattle.mkv_io.specs.Results.{and_then}
 use Rattle.mkv_merge.specs.declared.refusal.Refusal.{Refusal}
 use Rattle.times_laws.specs.GivenBack.{World, set_input, untold}
 use Rattle.times_laws.proofs.BothLemmas.{Both, both-same, both-then, both-weaker}

@@ -6,7 +6,8 @@ use Rattle.std.proofs.lemmas.Option.{get_or_from_slice_get, slice_get_within}
 use Rattle.mkv_io.specs.declared.damage.Damage.{Damage}
 use Rattle.mkv_schema.specs.declared.ids.TheConstants.{TRACKS}
 use Rattle.mkv_schema.specs.declared.element.Header.{Header}
-use Rattle.mkv_schema.specs.Outline.{Outlined, and_then, ebml_header, ebml_mark, first_element, limits_from, outline_of, outlined, segment_of, segment_run}
+use Rattle.mkv_schema.specs.Outline.{Outlined, ebml_header, ebml_mark, first_element, limits_from, outline_of, outlined, segment_of, segment_run}
+use Rattle.mkv_io.specs.Results.{and_then}
 use Rattle.mkv_schema.proofs.OutlineLemmas.{and_then-ok, unless-ok}
 use Rattle.tree_format.specs.Node.{Node}
 use Rattle.file_format.specs.Entry.{default_duration_of, entries_of, number_of}

@@ -32,7 +32,7 @@ use Rattle.mkv_merge.specs.Chapters.{chaptered, chapters_refusal, first_with, mi
 use Rattle.mkv_merge.specs.Merge as merge
 use Rattle.mkv_merge.specs.Merge.{sources_beside, sources_of, sources_read, sources_settled, sources_with}
 use Rattle.mkv_merge.specs.Read.{begun_refusal, contents_of, first_written, inputs_of, inputs_with, pending_refusal, unless_missing}
-use Rattle.mkv_merge.specs.Refused.{and_then, unless}
+use Rattle.mkv_io.specs.Results.{and_then, unless}
 use Rattle.mkv_merge.specs.Texts.{missing_times, times_refusal, timed_from, with_times}
 use Rattle.mkv_merge.specs.declared.refusal.Refusal.{Refusal}
 use Rattle.mkv_merge.specs.declared.refusal.Refusal.TheVariants.{Differs, OutputIsInput, Plan}

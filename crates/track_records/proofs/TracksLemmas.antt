@@ -4,7 +4,7 @@ use Rattle.std.proofs.lemmas.List.Elements.{All-map}
 use Rattle.mkv_io.specs.declared.damage.Damage.{Damage as Harm}
 use Rattle.ebml_tree.specs.declared.end.TreeEnd.{TreeEnd}
 use Rattle.ebml_tree.specs.declared.end.TreeEnd.TheVariants.{Damage, Memory}
-use Rattle.mkv_schema.specs.Outline.{unless}
+use Rattle.mkv_io.specs.Results.{unless}
 use Rattle.tree_format.specs.Node.{Node, HasRoom}
 use Rattle.tree_format.specs.Standing.{IsSound}
 use Rattle.file_format.specs.Entry.{entries_of}

@@ -1,7 +1,7 @@
 -- A Tracks Element's entries as tracks.
 use Rattle.std.specs.Prelude.{List, map, Result}
 use Rattle.mkv_io.specs.declared.damage.Damage.{Damage}
-use Rattle.mkv_schema.specs.Outline.{unless}
+use Rattle.mkv_io.specs.Results.{unless}
 use Rattle.tree_format.specs.Node.{Node, offset_of}
 use Rattle.file_format.specs.Entry.{entries_of, number_of, uid_of, type_of, codec_of, language_of, default_duration_of}
 use Rattle.file_format.specs.Refusal.{refusal_of}

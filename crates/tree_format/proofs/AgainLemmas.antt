@@ -20,7 +20,7 @@ use Rattle.mkv_io.specs.declared.damage.Damage.{Damage}
 use Rattle.mkv_io.specs.declared.damage.Kind.TheVariants.{TooLong}
 use Rattle.mkv_schema.specs.declared.element.Header.{Header}
 use Rattle.mkv_schema.specs.Element.{in_tree, element_in, id_in, with_id, with_size, with_body, body_damage, display_read, stated_end}
-use Rattle.mkv_schema.specs.Outline.{and_then}
+use Rattle.mkv_io.specs.Results.{and_then}
 use Rattle.tree_format.specs.Node.{Node, Nodes, leaf, master, none, node, list_of, IsMaster, count, count_all, depth_all, deepest}
 use Rattle.tree_format.specs.NormalForm.{is_filler, header_octets, element_octets, octets, octets_all, longest}
 use Rattle.tree_format.specs.Reading.{Grove, header_at, inside, behind, is_master_in, as_master, grown, with_first, first_then, grove, as_root}

@@ -5,7 +5,8 @@ use Rattle.mkv_io.specs.declared.damage.Damage.{Damage}
 use Rattle.mkv_io.specs.declared.damage.Kind.TheVariants.{BadValue, TooMany}
 use Rattle.mkv_schema.specs.declared.element.Header.{Header}
 use Rattle.mkv_schema.specs.Element.{stated_end, damage}
-use Rattle.mkv_schema.specs.Outline.{and_then, first_damage, first_refusal, unless, where_it}
+use Rattle.mkv_schema.specs.Outline.{first_damage, first_refusal, where_it}
+use Rattle.mkv_io.specs.Results.{and_then, unless}
 use Rattle.mkv_schema.specs.Value.{is_known_value}
 use Rattle.tree_format.specs.Node.{Node, Nodes, leaf, master, none, node, nodes_of, id_of, IsMaster, count, count_all, deepest}
 use Rattle.tree_format.specs.Reading.{Reader, Grove, Grown, header_at, inside, behind, is_master_in, as_master, grown, with_first, first_then, grove_within, grove, as_root, tree_of}

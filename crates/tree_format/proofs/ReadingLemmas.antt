@@ -17,7 +17,7 @@ use Rattle.mkv_schema.specs.declared.element.Header.{Header}
 use Rattle.mkv_schema.specs.Element.{in_tree, element_in, id_in, with_id, with_size, with_body, body_damage, display_read, is_unknown, known, stated_end}
 use Rattle.mkv_schema.specs.Value.{is_known_value}
 use Rattle.mkv_schema.proofs.ElementLemmas.{element_in-placed}
-use Rattle.mkv_schema.specs.Outline.{and_then}
+use Rattle.mkv_io.specs.Results.{and_then}
 use Rattle.tree_format.specs.Node.{Node, leaf, nodes_of, depth, depth_all}
 use Rattle.tree_format.proofs.NodeLemmas.{depth_all-append}
 use Rattle.tree_format.specs.Fits.{Fits}

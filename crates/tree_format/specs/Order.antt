@@ -6,7 +6,8 @@ use Rattle.mkv_io.specs.declared.damage.Kind.{Kind}
 use Rattle.mkv_io.specs.declared.damage.Kind.TheVariants.{BadValue, TooMany}
 use Rattle.mkv_schema.specs.declared.element.Header.{Header}
 use Rattle.mkv_schema.specs.Element.{stated_end, damage}
-use Rattle.mkv_schema.specs.Outline.{first_damage, first_refusal, unless, where_it}
+use Rattle.mkv_schema.specs.Outline.{first_damage, first_refusal, where_it}
+use Rattle.mkv_io.specs.Results.{unless}
 use Rattle.mkv_schema.specs.Value.{is_known_value}
 use Rattle.tree_format.specs.Node.{Node, Nodes, leaf, master, none, node, nodes_of, id_of, offset_of, is_leaf, body_of, deepest}
 use Rattle.tree_format.specs.Reading.{header_at, inside, behind, is_master_in}

@@ -7,7 +7,7 @@ use Rattle.mkv_io.specs.declared.damage.Kind.{Kind}
 use Rattle.mkv_io.specs.declared.damage.Kind.TheVariants.{BadValue, TooMany}
 use Rattle.mkv_schema.specs.declared.element.Header.{Header}
 use Rattle.mkv_schema.specs.Element.{in_tree, element_in, known, stated_end, damage}
-use Rattle.mkv_schema.specs.Outline.{and_then}
+use Rattle.mkv_io.specs.Results.{and_then}
 use Rattle.mkv_schema.specs.Value.{is_known_value}
 use Rattle.tree_format.specs.Node.{Node, leaf, master, nodes_of, deepest}
 

@@ -4,7 +4,7 @@ use Rattle.std.proofs.lemmas.List.{take_at}
 use Rattle.mkv_io.specs.Contents.{octets_from}
 use Rattle.mkv_io.specs.declared.damage.Damage.{Damage}
 use Rattle.mkv_schema.specs.Element.{known}
-use Rattle.mkv_schema.specs.Outline.{unless}
+use Rattle.mkv_io.specs.Results.{unless}
 use Rattle.element_reader.proofs.EbmlLemmas.{ebml_header-none, ebml_header-is, ebml_header-over, IsBody-read}
 use Rattle.element_reader.proofs.ebml.ebml_header.Goals as goal
 

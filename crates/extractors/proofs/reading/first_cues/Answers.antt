@@ -1,6 +1,6 @@
 use Rattle.std.proofs.Common.{Some, Result, Ok, Err, sym, ◌∙◌, ap}
 use Rattle.mkv_io.specs.declared.damage.Damage.{Damage}
-use Rattle.mkv_schema.specs.Outline.{and_then}
+use Rattle.mkv_io.specs.Results.{and_then}
 use Rattle.tree_format.specs.Node.{Node}
 use Rattle.extractors.proofs.ReadingLemmas.{IsFirstCues-shown, cues-master, first_cues-large, first_cues-none, first_cues-some}
 use Rattle.extractors.proofs.reading.first_cues.Goals as goal

@@ -1,6 +1,6 @@
 use Rattle.std.proofs.Common.{◌≡◌, Some, None, Result, Ok, Err, sym, ◌∙◌, ap}
 use Rattle.mkv_io.specs.declared.damage.Damage.{Damage}
-use Rattle.mkv_schema.specs.Outline.{and_then}
+use Rattle.mkv_io.specs.Results.{and_then}
 use Rattle.tree_format.specs.Node.{Node}
 use Rattle.meta_records.proofs.RecordsLemmas.{IsFirst-shown, first_tree-none, first_tree-some}
 use Rattle.meta_records.proofs.first.first_tree.Goals as goal

@@ -11,7 +11,8 @@ use Rattle.mkv_merge.specs.Merge.{sources_settled, sources_with, verdict_of}
 use Rattle.mkv_merge.specs.Prepared.{AreTold}
 use Rattle.mkv_merge.specs.Read.{begun_refusal}
 use Rattle.mkv_merge.specs.Records.{EndsReadable}
-use Rattle.mkv_merge.specs.Refused.{and_then, line_of, unless}
+use Rattle.mkv_merge.specs.Refused.{line_of}
+use Rattle.mkv_io.specs.Results.{and_then, unless}
 use Rattle.mkv_merge.specs.declared.refusal.Refusal.{Refusal}
 use Rattle.mkv_merge.proofs.MergingLemmas.{contents-kept, inputs-stand, reads-settled, sizes-kept}
 use Rattle.mkv_merge.proofs.WritingLemmas.{readable-none}

@@ -8,7 +8,7 @@ use Rattle.sidecar_edit.specs.declared.outcome.RecoverEnd.{RecoverEnd}
 use Rattle.sidecar_edit.specs.declared.place.TheConstants.{KEPT, MOST_OCTETS}
 use Rattle.sidecar_edit.specs.Fields.{head_of}
 use Rattle.sidecar_edit.specs.Gate.{state}
-use Rattle.sidecar_edit.specs.Recovery.{is_disk_fault, recovered, recovery, unfit, unless}
+use Rattle.sidecar_edit.specs.Recovery.{is_disk_fault, recovered, recovery, unfit, applied_unless}
 use Rattle.sidecar_edit.proofs.RecoverLemmas.{fault-told, left-head, recovered-refused, recovering-reads, recovery-live, redoing-after}
 use Rattle.sidecar_edit.proofs.recovery.redo_own.Given.{Over}
 use Rattle.sidecar_edit.proofs.recovery.redo_own.Goals as goal
@@ -43,7 +43,7 @@ returns-in-Some-clause-ok g c = λ told.
     let M = (g.D.Disk.pair c.args.disk.now).media.reads in let S = (g.D.Disk.pair c.args.disk.now).sidecar.reads in
     let is = c.in_ok-end.ensures.ok M (g.met.D.Disk.contents c.args.disk.now told).0 in
     recovered-refused M S c.in-Some.end (g.D.Disk.pair c.unfit_medium.new.src)
-    (recovery-live M S c.args.head.now (c.requires.head.its told).0 (c.requires.head.its told).1 ∙ ap unless (sym is ∙ c.in-Some.is))
+    (recovery-live M S c.args.head.now (c.requires.head.its told).0 (c.requires.head.its told).1 ∙ ap applied_unless (sym is ∙ c.in-Some.is))
 
 pub returns-in-Some-clause-any_moment : goal.returns-in-Some-clause-any_moment
 returns-in-Some-clause-any_moment g c = λ told.
@@ -69,7 +69,7 @@ returns-in-Some-clause-cause g c =
 applies : (old mid : Pair) → mid ≡ old → (head : List ℕ) (end : Option RecoverEnd) → (head ≡ head_of old.sidecar.reads) × (state old.sidecar.reads ≡ Live)
     → end ≡ unfit head (length old.media.reads) (take KEPT old.media.reads) → end ≡ None → recovery mid.media.reads mid.sidecar.reads ≡ Ok Applied
 applies old mid same head end its is none =
-    subst (λ (p : Pair). recovery p.media.reads p.sidecar.reads ≡ Ok Applied) (sym same) (recovery-live old.media.reads old.sidecar.reads head its.0 its.1 ∙ ap unless (sym is ∙ none))
+    subst (λ (p : Pair). recovery p.media.reads p.sidecar.reads ≡ Ok Applied) (sym same) (recovery-live old.media.reads old.sidecar.reads head its.0 its.1 ∙ ap applied_unless (sym is ∙ none))
 
 pub redo-requires-clause-ready : goal.redo-requires-clause-ready
 redo-requires-clause-ready g c =
@@ -108,7 +108,7 @@ returns-clause-ok g c = λ told.
     let a = c.args.disk.now in let b = c.unfit_medium.new.src in let left = stands g a b c.unfit_medium.ensures.only.standing in
     let M = (g.D.Disk.pair a).media.reads in let S = (g.D.Disk.pair a).sidecar.reads in
     let is = c.in_ok-end.ensures.ok M (g.met.D.Disk.contents a told).0 in (
-      recovery-live M S c.args.head.now (c.requires.head.its told).0 (c.requires.head.its told).1 ∙ ap unless (sym is ∙ c.in_default.is),
+      recovery-live M S c.args.head.now (c.requires.head.its told).0 (c.requires.head.its told).1 ∙ ap applied_unless (sym is ∙ c.in_default.is),
       c.in_ok-redo.ensures.ok told ∙ ap (λ (p : Pair). both (recovered p.media.reads p.sidecar.reads) (0 ∷ [])) left.pair,
     )
 

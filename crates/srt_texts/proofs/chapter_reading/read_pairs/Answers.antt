@@ -1,7 +1,7 @@
 use Rattle.std.proofs.Common.{◌≡◌, ◌+◌, length, arith, append-nil, sym}
 use Rattle.std.proofs.lemmas.Grind.{common_steps}
 use Rattle.std.specs.Str.Lines.{lines}
-use Rattle.srt_texts.specs.Turn.{due_in}
+use Rattle.srt_texts.specs.Turn.{timed_in}
 use Rattle.srt_texts.proofs.PairsLemmas.{pairs_empty, pairs_end, pairs_missing, bad_whole, simple_is}
 use Rattle.srt_texts.proofs.chapter_reading.read_pairs.Goals as goal
 
@@ -16,7 +16,7 @@ loop-line-preserved c =
     let empty : length l ≡ 0 = grind (arith, common_steps) in
     let same = rw c.in-Some.ensures.first at c.loop-line.invariant.same in
     let less = c.in-Some.ensures.less in let room = c.loop-line.invariant.room in
-    record { room = omega arith; same = cc (same, pairs_empty l ls (c.loop-line.number + 1) (due_in c.loop-line.due) empty) }
+    record { room = omega arith; same = cc (same, pairs_empty l ls (c.loop-line.number + 1) (timed_in c.loop-line.due) empty) }
 
 pub returns-in-None : goal.returns-in-None
 returns-in-None c =

@@ -2,7 +2,8 @@ use Rattle.std.proofs.Common.{arith, ◌≡◌, ℕ, List, [], Err, length, rule
 use Rattle.std.proofs.lemmas.List.Sorted.{answers_always, IsNonDecreasingBy-from_sort_by_key, All-permutation}
 use Rattle.mkv_io.specs.declared.entry.Entry.{Entry}
 use Rattle.srt_texts.specs.Lines.{lines_of}
-use Rattle.srt_texts.specs.Srt.{srt, first_bad, sorted_by}
+use Rattle.srt_texts.specs.Srt.{srt, first_bad}
+use Rattle.mkv_io.specs.Sorted.{sorted_by}
 use Rattle.srt_texts.specs.declared.end.TextEnd.{TextEnd}
 use Rattle.srt_texts.specs.declared.end.TextEnd.TheVariants as text_end
 use Rattle.srt_texts.specs.Ends.{Blames, Reads}

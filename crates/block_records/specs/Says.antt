@@ -5,7 +5,7 @@ use Rattle.mkv_io.specs.declared.damage.Damage.{Damage}
 use Rattle.mkv_schema.specs.declared.ids.TheConstants.{BLOCK}
 use Rattle.mkv_schema.specs.declared.element.Header.{Header}
 use Rattle.mkv_schema.specs.Element.{known}
-use Rattle.mkv_schema.specs.Outline.{and_then, unless}
+use Rattle.mkv_io.specs.Results.{and_then, unless}
 use Rattle.mkv_schema.specs.Value.{body_of}
 use Rattle.block_format.specs.Block.{Block, simple_block_with}
 use Rattle.block_format.specs.Content.{Content}

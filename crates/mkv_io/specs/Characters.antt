@@ -1,4 +1,4 @@
--- The characters that texts are made of beside words and digits, as octets.
+-- Characters of texts and of words, as octets: marks, and the first digit.
 use Rattle.std.specs.Prelude.{ℕ}
 
 abbrev pub TAB : ℕ
