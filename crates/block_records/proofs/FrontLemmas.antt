@@ -88,14 +88,6 @@ abbrev pub Heads : ℕ → ℕ → Header → BlockHeader → ℤ → Result Blo
 Heads scale timestamp h b z found =
     (frames : List (List ℕ)) → MakesHead frames [] [] (in_time (with_limits scale) h.id (simple_block_with scale timestamp h.offset (spelled b z frames))) found
 
--- no header stands in the front
-pub front_head-cut : (scale timestamp : ℕ) (h : Header) (front : List ℕ) → None ≡ header_in front → front_head scale timestamp h front ≡ None
-front_head-cut scale timestamp h front none = split (has_no_header front) refl none
-  where
-    split : (test : Bool) → has_no_header front ≡ test → None ≡ (if test then None else Some (header_of front)) → front_head scale timestamp h front ≡ None
-    split true test is = cond-true (has_no_header front) None _ test
-    split false test is = absurd (cc)
-
 -- one does, and behind it so many frames
 pub front_head-found : (scale timestamp : ℕ) (h : Header) (front : List ℕ) (b : BlockHeader) (z : ℤ) (count : Option ℕ) → Some b ≡ header_in front → z ≡ b.relative → frame_count (lace_of b.flags) (drop b.len front) (known h.size - b.len) ≡ count
     → front_head scale timestamp h front ≡ head_with (simple_block_with scale timestamp h.offset (spelled b z [])) count

@@ -1,5 +1,5 @@
 -- What is lent of a block is small, and can be written.
-use Rattle.std.proofs.Common.{◌≡◌, ◌≤◌, ◌<◌, ◌+◌, ◌-◌, ◌*◌, inl, inr, ℕ, ℤ, pos, Bool, true, false, ◌||◌, List, [], ◌∷◌, length, map, take, drop, sum, Option, Some, None, refl, sym, ◌∙◌, ap, ap₂, subst, arith}
+use Rattle.std.proofs.Common.{◌≡◌, ◌≤◌, ◌<◌, ◌+◌, ◌-◌, ◌*◌, ℕ, ℤ, pos, Bool, true, false, ◌||◌, List, [], ◌∷◌, length, map, take, drop, Option, Some, None, refl, sym, ◌∙◌, subst, arith}
 use Rattle.std.specs.List.{All, list_any}
 use Rattle.std.specs.Option.{IfSome, option_map, option_map_or}
 use Rattle.std.proofs.lemmas.Bool.Decides.{nat_tests}
@@ -7,7 +7,6 @@ use Rattle.std.proofs.lemmas.List.Elements.{All-nil, All-cons}
 use Rattle.std.proofs.lemmas.List.{length-take, length-drop, take_all}
 use Rattle.lacing.specs.declared.kind.Lace.{Lace}
 use Rattle.lacing.specs.declared.kind.Lace.TheVariants as lace
-use Rattle.lacing.specs.Lace.{IsHead}
 use Rattle.lacing.specs.Writing.{FitsKind}
 use Rattle.block_format.specs.declared.limits.TheConstants.{MOST_OF_BLOCK, TOO_LARGE_TIME}
 use Rattle.block_format.specs.Content.{lace_of}
@@ -15,8 +14,7 @@ use Rattle.block_format.specs.Block.{nanoseconds, is_too_large}
 use Rattle.block_records.specs.declared.block.Times.{Times}
 use Rattle.block_records.specs.declared.gathered.Gathered.{Gathered}
 use Rattle.block_records.specs.declared.parts.Parts.{Parts}
-use Rattle.block_records.specs.Buffered.{Buffered}
-use Rattle.block_records.specs.Lendable.{HasSmallTimes, LendsNothing, LendsFew, Lends, lent, IsEmpty, IsBlock, CanLead}
+use Rattle.block_records.specs.Lendable.{IsBlock, CanLead}
 use Rattle.block_records.specs.Made.{HasTimes}
 use Rattle.block_records.specs.Spelled.{AreFrames}
 use Rattle.block_records.specs.Time.{IsSmallTime, is_too_large_at}
@@ -60,15 +58,6 @@ times-small scale ticks old now t has =
       ),
     )
 
--- ---- sizes
-
--- the sizes of a lace are some that its kind can have
-pub IsHead-fits : (kind : Lace) (head sizes : List ℕ) → IsHead kind head sizes → FitsKind kind sizes
-IsHead-fits lace.None head sizes is = is.0
-IsHead-fits lace.Xiph head sizes is = tt
-IsHead-fits lace.Fixed head sizes is = is.0
-IsHead-fits lace.Ebml head sizes is = tt
-
 -- ---- parts
 
 -- frames that end with the octets
@@ -104,28 +93,3 @@ IsBlock-made o part base start flags p short start_is end_is inside count_is fra
         fits = subst (λ (l : Lace). FitsKind l p.sizes.items) (sym leads.lace) frames.fits;
       };
     }
-
--- ---- at every moment
-
--- where there is no block, nothing is lent
-pub LendsNothing-empty : (o : List ℕ) (p : Parts) → IsEmpty p → LendsNothing (lent o p)
-LendsNothing-empty o p empty = record {
-  body = ap₂ (λ (s e : ℕ). take (e - s) (drop s o)) empty.start empty.end;
-  sizes = empty.sizes;
-  references = empty.references;
-  kept = empty.kept;
-}
-
--- what is lent is small
-pub LendsFew-of : (b : Buffered) → HasSmallTimes b.head → b.frames ≤ 256 → Lends b → LendsFew b
-LendsFew-of b times frames (inr block) = block.few
-LendsFew-of b times frames (inl nothing) = record {
-  times = times;
-  frames = frames;
-  cut = ap sum nothing.sizes ∙ sym (ap length nothing.body);
-  body = omega (arith, ap length nothing.body);
-  sizes = omega (arith, ap length nothing.sizes);
-  references = subst (All IsSmallTime) (sym nothing.references) (All-nil IsSmallTime);
-  most_references = omega (arith, ap (λ (l : List ℤ). length l) nothing.references);
-  kept = omega (arith, ap length nothing.kept);
-}

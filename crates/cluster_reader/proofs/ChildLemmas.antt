@@ -1,9 +1,9 @@
 -- What a child of a Cluster gives, by its ID and what stands before it.
-use Rattle.std.proofs.Common.{◌≡◌, ℕ, ◌==◌, ◌≤◌, length, take, nat_lt, Bool, true, false, if◌then◌else◌, List, [], ◌∷◌, Option, Some, None, Result, Ok, Err, refl, sym, ◌∙◌, ap, arith}
+use Rattle.std.proofs.Common.{◌≡◌, ℕ, ◌==◌, ◌≤◌, length, take, nat_lt, Bool, true, false, if◌then◌else◌, List, [], ◌∷◌, Option, Some, None, Result, Ok, Err, refl, sym, ◌∙◌, arith}
 use Rattle.std.proofs.lemmas.Bool.{cond-true, cond-false}
 use Rattle.std.proofs.lemmas.Bool.Decides.{nat_tests}
 use Rattle.std.proofs.lemmas.List.{drop-take, length-drop, length-take}
-use Rattle.mkv_schema.specs.declared.ids.TheConstants.{TIMESTAMP, SIMPLE_BLOCK, BLOCK_GROUP}
+use Rattle.mkv_schema.specs.declared.ids.TheConstants.{TIMESTAMP, SIMPLE_BLOCK}
 use Rattle.mkv_io.specs.declared.damage.Damage.{Damage}
 use Rattle.mkv_io.specs.declared.damage.Kind.TheVariants.{BadValue}
 use Rattle.mkv_io.specs.Contents.{octets_from}
@@ -14,7 +14,7 @@ use Rattle.mkv_io.specs.Results.{unless, and_then}
 use Rattle.block_format.specs.declared.limits.TheConstants.{MOST_TIMESTAMP}
 use Rattle.block_format.specs.Block.{Block}
 use Rattle.block_format.specs.Elements.{Rules, too_long, timestamp_or, timestamp_for, simple_block, block_group}
-use Rattle.block_format.specs.Events.{found_at, timestamp_behind}
+use Rattle.block_format.specs.Events.{found_at}
 use Rattle.cluster_reader.specs.Walks.{block_found}
 
 -- ---- blocks
@@ -52,34 +52,6 @@ pub block_found-group : (r : Rules) (bytes : List ℕ) (timestamp : Option ℕ) 
 block_found-group r bytes timestamp h other = cond-false (h.id == SIMPLE_BLOCK) _ _ (grind (arith, nat_tests))
 
 -- ---- children by their IDs
-
--- a SimpleBlock gives one thing
-pub found_at-simple : (r : Rules) (bytes : List ℕ) (timestamp : Option ℕ) (h : Header) → h.id ≡ SIMPLE_BLOCK → found_at r bytes timestamp h ≡ block_found r bytes timestamp h ∷ []
-found_at-simple r bytes timestamp h is =
-    cond-false (h.id == TIMESTAMP) _ _ (grind (arith, nat_tests))
-    ∙ cond-true (h.id == SIMPLE_BLOCK) _ _ (grind (arith, nat_tests))
-    ∙ ap (λ found. found ∷ []) (sym (block_found-simple r bytes timestamp h is))
-
--- so does a BlockGroup
-pub found_at-group : (r : Rules) (bytes : List ℕ) (timestamp : Option ℕ) (h : Header) → h.id ≡ BLOCK_GROUP → found_at r bytes timestamp h ≡ block_found r bytes timestamp h ∷ []
-found_at-group r bytes timestamp h is =
-    let other : h.id ≡ SIMPLE_BLOCK → ⊥ = λ same. absurd (omega arith) in
-    cond-false (h.id == TIMESTAMP) _ _ (grind (arith, nat_tests))
-    ∙ cond-false (h.id == SIMPLE_BLOCK) _ _ (grind (arith, nat_tests))
-    ∙ cond-true (h.id == BLOCK_GROUP) _ _ (grind (arith, nat_tests))
-    ∙ ap (λ found. found ∷ []) (sym (block_found-group r bytes timestamp h other))
-
--- another child gives nothing
-pub found_at-other : (r : Rules) (bytes : List ℕ) (timestamp : Option ℕ) (h : Header) → (h.id ≡ TIMESTAMP → ⊥) → (h.id ≡ SIMPLE_BLOCK → ⊥) → (h.id ≡ BLOCK_GROUP → ⊥) → found_at r bytes timestamp h ≡ []
-found_at-other r bytes timestamp h stamp simple group =
-    cond-false (h.id == TIMESTAMP) _ _ (grind (arith, nat_tests))
-    ∙ cond-false (h.id == SIMPLE_BLOCK) _ _ (grind (arith, nat_tests))
-    ∙ cond-false (h.id == BLOCK_GROUP) _ _ (grind (arith, nat_tests))
-
--- and leaves the Timestamp
-pub timestamp_behind-other : (bytes : List ℕ) (timestamp : Option ℕ) (h : Header) → (h.id ≡ TIMESTAMP → ⊥) → timestamp_behind bytes timestamp h ≡ timestamp
-timestamp_behind-other bytes (Some ticks) h other = refl
-timestamp_behind-other bytes None h other = cond-false (h.id == TIMESTAMP) _ _ (grind (arith, nat_tests))
 
 -- what gives a block is no Timestamp
 pub block-no_timestamp : (r : Rules) (bytes : List ℕ) (timestamp : Option ℕ) (h : Header) (b : Block) → found_at r bytes timestamp h ≡ Ok b ∷ [] → h.id ≡ TIMESTAMP → ⊥

@@ -69,10 +69,6 @@ settled-held (Some f) scale ticks front h w few held settles = λ bytes whole ho
 
 -- ---- where a child is passed
 
--- it isn't a SimpleBlock
-pub settled_in-other : (takes : Takes) (scale ticks : ℕ) (h : Header) (w : ReadAhead) → (h.id ≡ SIMPLE_BLOCK → ⊥) → settled_in takes scale ticks h w ≡ None
-settled_in-other takes scale ticks h w other = cond-false (h.id == SIMPLE_BLOCK) _ None (grind (arith, nat_tests))
-
 pub settled_in-simple : (takes : Takes) (scale ticks : ℕ) (h : Header) (w : ReadAhead) → h.id ≡ SIMPLE_BLOCK → settled_in takes scale ticks h w ≡ settled_by takes scale ticks h (held_front w h)
 settled_in-simple takes scale ticks h w is = cond-true (h.id == SIMPLE_BLOCK) _ None (grind (arith, nat_tests))
 

@@ -4,7 +4,6 @@ use Rattle.std.proofs.lemmas.Bool.Decides.{nat_tests}
 use Rattle.std.proofs.lemmas.List.{take-take}
 use Rattle.mkv_io.specs.Contents.{octets_from}
 use Rattle.mkv_io.specs.declared.damage.Damage.{Damage}
-use Rattle.mkv_io.specs.declared.outside.ReadEnd.{ReadEnd}
 use Rattle.mkv_schema.specs.declared.element.Header.{Header}
 use Rattle.mkv_schema.specs.Element.{known}
 use Rattle.mkv_schema.specs.Value.{body_of}
@@ -15,10 +14,9 @@ use Rattle.block_records.specs.Lendable.{IsLendable, LendsNothing}
 use Rattle.block_records.specs.Spelled.{IsFront}
 use Rattle.block_records.specs.declared.front.FrontHead.{FrontHead}
 use Rattle.block_records.proofs.FrontLemmas.{length-frames_cut}
-use Rattle.cluster_reader.specs.Reading.{Gives, GivesWanted, LendsWanted, Reading}
+use Rattle.cluster_reader.specs.Reading.{LendsWanted}
 use Rattle.cluster_reader.specs.Takes.{IsKnown, MakesBlock, MakesWanted, wants}
-use Rattle.cluster_reader.specs.declared.step.Step.{Step}
-use Rattle.cluster_reader.specs.declared.step.Step.TheVariants.{Block, Damaged, End}
+use Rattle.cluster_reader.specs.declared.step.Step.TheVariants.{Block}
 use Rattle.cluster_reader.specs.declared.takes.Takes.{Takes}
 use Rattle.cluster_reader.specs.declared.takes.Takes.TheVariants.{All, Track, Heads}
 use Rattle.cluster_reader.proofs.ChildLemmas.{body_of-read}
@@ -34,19 +32,6 @@ known-whole Heads lent lends = record { head = refl; frames = length-frames_cut 
 pub makes-wanted : {T : Type 0} (takes : Takes) (answer : Result T Damage) (lent : Buffered) (found : Result AnyBlock Damage) → MatchResult answer (λ _. IsLendable lent) (λ _. LendsNothing lent) → Makes answer lent found → MakesWanted takes answer lent found
 makes-wanted takes (Ok done) lent found lends is = record { given = block_of lent; is = is; known = known-whole takes lent lends }
 makes-wanted takes (Err d) lent found lends is = is
-
--- it can be written
-pub lends-wanted : (takes : Takes) (lent : Buffered) → IsLendable lent → LendsWanted takes Block lent
-lends-wanted All lent lends = lends
-lends-wanted (Track track) lent lends = λ same. lends
-lends-wanted Heads lent lends = tt
-
--- where all are wanted, the block that is lent is given
-pub gives-whole : (bytes : List ℕ) (old new : Reading) (result : Result Step ReadEnd) → GivesWanted All bytes old new result → Gives bytes old new result
-gives-whole bytes old new (Ok Block) gives = rw gives.known at gives.left
-gives-whole bytes old new (Ok (Damaged d)) gives = gives
-gives-whole bytes old new (Ok End) gives = gives
-gives-whole bytes old new (Err end) gives = gives
 
 -- ---- a block that is passed
 

@@ -1,7 +1,7 @@
 -- The octets of a block, part by part.
 use Rattle.std.proofs.Common.{◌≡◌, ◌≤◌, ◌<◌, ℕ, ℤ, pos, ◌+◌, Bool, true, false, if◌then◌else◌, List, [], ◌++◌, length, map, drop, get_or, sym, ap, append_assoc, ◌∙◌, arith}
 use Rattle.std.specs.List.{concat}
-use Rattle.std.proofs.lemmas.List.{length-append, at_drop_more, at_drop_all}
+use Rattle.std.proofs.lemmas.List.{length-append, at_drop_more}
 use Rattle.block_format.specs.Content.{frames_cut}
 use Rattle.output_model.specs.Element.{Element, joined, octets_of}
 use Rattle.output_model.specs.OutputBlock.{IsLent, prefixed}
@@ -18,9 +18,6 @@ use Rattle.cluster_writer.proofs.LengthLemmas.{length-header, length-lent, sizes
 joined-more : {X : Type 0} (f : X → Element) (xs : List X) (i : ℕ) (d : X) → i < length xs
     → joined (map f (drop i xs)) ≡ octets_of (f (get_or xs i d)) ++ joined (map f (drop (i + 1) xs))
 joined-more f xs i d within = at_drop_more (λ ys. joined (map f ys)) xs i d within
-
-pub joined-end : {X : Type 0} (f : X → Element) (xs : List X) (i : ℕ) → length xs ≤ i → joined (map f (drop i xs)) ≡ []
-joined-end f xs i end = at_drop_all (λ ys. joined (map f ys)) xs i end
 
 -- ---- a block
 

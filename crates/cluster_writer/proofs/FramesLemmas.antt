@@ -1,7 +1,7 @@
 -- Frames, one after the other.
-use Rattle.std.proofs.Common.{◌≡◌, ◌≤◌, ◌<◌, ℕ, ◌+◌, List, [], ◌∷◌, ◌++◌, length, map, take, drop, sum, slice_index, refl, sym, ap, ap₂, ◌*◌, append_assoc, append-nil, ◌∙◌, nat_eq, true, arith}
+use Rattle.std.proofs.Common.{◌≡◌, ◌≤◌, ◌<◌, ℕ, ◌+◌, List, [], ◌∷◌, ◌++◌, length, map, take, drop, sum, slice_index, refl, sym, ap, ap₂, ◌*◌, ◌∙◌, nat_eq, true, arith}
 use Rattle.std.specs.List.{concat}
-use Rattle.std.proofs.lemmas.List.{length-append, length-take-le, length-drop, length-map, nil_from_length, take-append-drop, at_drop_more, at_drop_all}
+use Rattle.std.proofs.lemmas.List.{length-append, length-take-le, length-drop, length-map, nil_from_length, take-append-drop, at_drop_more}
 use Rattle.std.proofs.lemmas.List.Sums.{sum_by-drop_more, get_or-le-sum_by, sum_by-cons}
 use Rattle.std.proofs.lemmas.List.Elements.{All-map}
 use Rattle.std.proofs.lemmas.Bool.Decides.{nat_tests}
@@ -25,9 +25,6 @@ frames-more prefix sizes rest i size within is =
     at_drop_more (λ ss. concat (prefixed_frames prefix ss rest)) sizes i 0 within
     ∙ ap (λ s. (prefix ++ take s rest) ++ concat (prefixed_frames prefix (drop (i + 1) sizes) (drop s rest))) (sym is)
 
-pub frames-end : (prefix : List ℕ) (sizes rest : List ℕ) (i : ℕ) → length sizes ≤ i → concat (prefixed_frames prefix (drop i sizes) rest) ≡ []
-frames-end prefix sizes rest i end = at_drop_all (λ ss. concat (prefixed_frames prefix ss rest)) sizes i end
-
 pub sum-more : (sizes : List ℕ) (i size : ℕ) → i < length sizes → size ≡ slice_index sizes i → sum (drop i sizes) ≡ size + sum (drop (i + 1) sizes)
 sum-more sizes i size within is = sum_by-drop_more (λ x. x) sizes i 0 within ∙ ap (λ s. s + sum (drop (i + 1) sizes)) (sym is)
 
@@ -38,16 +35,6 @@ within-sum sizes i size within is = omega (arith, get_or-le-sum_by (λ x. x) siz
 pub record Goes (prefix body sizes rest written before : List ℕ) (i : ℕ) : Type 0 where
   pub same : written ++ concat (prefixed_frames prefix (drop i sizes) rest) ≡ before ++ concat (prefixed_frames prefix sizes body)
   pub whole : length rest ≡ sum (drop i sizes)
-
-pub Goes-next : (prefix body sizes rest written before now : List ℕ) (i size : ℕ) → Goes prefix body sizes rest written before i
-    → i < length sizes → size ≡ slice_index sizes i → now ≡ written ++ prefix ++ take size rest → Goes prefix body sizes (drop size rest) now before (i + 1)
-Goes-next prefix body sizes rest written before now i size goes within is added = record {
-  same =
-      ap (λ w. w ++ concat (prefixed_frames prefix (drop (i + 1) sizes) (drop size rest))) (added ∙ append_assoc written prefix (take size rest))
-      ∙ append_assoc written (prefix ++ take size rest) (concat (prefixed_frames prefix (drop (i + 1) sizes) (drop size rest)))
-      ∙ ap (λ w. written ++ w) (sym (frames-more prefix sizes rest i size within is)) ∙ goes.same;
-  whole = omega (arith, length-drop size rest, sum-more sizes i size within is, goes.whole);
-}
 
 -- a frame and its prefix are among what is left
 pub Goes-room : (prefix body sizes rest written before : List ℕ) (i size : ℕ) → Goes prefix body sizes rest written before i
@@ -65,11 +52,6 @@ Goes-room prefix body sizes rest written before i size goes within is =
       length-append prefix (take size rest),
       length-take-le size rest fits,
     )
-
-pub Goes-end : (prefix body sizes rest written before : List ℕ) (i : ℕ) → Goes prefix body sizes rest written before i → length sizes ≤ i
-    → written ≡ before ++ concat (prefixed_frames prefix sizes body)
-Goes-end prefix body sizes rest written before i goes end =
-    sym (append-nil written) ∙ ap (λ w. written ++ w) (sym (frames-end prefix sizes rest i end)) ∙ goes.same
 
 -- without a prefix frames are the octets that they are cut from
 frames-whole : (sizes body : List ℕ) → length body ≡ sum sizes → concat (prefixed_frames [] sizes body) ≡ body

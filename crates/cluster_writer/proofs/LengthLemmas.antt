@@ -1,24 +1,20 @@
 -- How long a block's Element is.
-use Rattle.std.proofs.Common.{◌≡◌, ℕ, ◌+◌, ◌*◌, ◌^◌, ◌≤◌, nat_lt, Bool, true, false, cond, if◌then◌else◌, ℤ, pos, negsuc, List, [], ◌∷◌, ◌++◌, length, map, sum, find, unwrap_or, All, Option, Some, None, refl, sym, ap, ◌∙◌, arith}
+use Rattle.std.proofs.Common.{◌≡◌, ℕ, ◌+◌, ◌*◌, ◌^◌, ◌≤◌, nat_lt, Bool, true, false, cond, if◌then◌else◌, ℤ, pos, negsuc, List, [], ◌∷◌, ◌++◌, length, map, sum, find, unwrap_or, All, Some, refl, sym, ap, ◌∙◌, arith}
 use Rattle.std.specs.List.{concat}
 use Rattle.std.proofs.lemmas.List.{length-append}
 use Rattle.std.proofs.lemmas.List.Concat.{flat_map-append}
 use Rattle.std.proofs.lemmas.List.Elements.{All-head, All-tail, All-from_recursion}
-use Rattle.ebml_numbers.specs.Number.{all_ones, int_fits, least_width, uint_width, int_width, uint_octets, int_octets, int_octets_in, least_size_width}
-use Rattle.ebml_numbers.proofs.NumberLemmas.{length-uint_octets, length-int_octets}
-use Rattle.lacing.specs.declared.kind.Lace.{Lace}
+use Rattle.ebml_numbers.specs.Number.{all_ones, int_fits, least_width, uint_width, int_width, int_octets_in, least_size_width}
 use Rattle.lacing.specs.declared.kind.Lace.TheVariants as lace
-use Rattle.lacing.specs.Writing.{CanLace}
-use Rattle.lacing.proofs.WritingLemmas.{length-lace_head}
-use Rattle.mkv_schema.specs.declared.ids.TheConstants.{SIMPLE_BLOCK, BLOCK_GROUP, BLOCK, BLOCK_DURATION, REFERENCE_BLOCK}
+use Rattle.mkv_schema.specs.declared.ids.TheConstants.{SIMPLE_BLOCK, BLOCK_GROUP, BLOCK}
 use Rattle.tree_format.specs.NormalForm.{header_octets}
 use Rattle.tree_format.proofs.WrittenLemmas.{length-header_octets}
 use Rattle.block_format.specs.Content.{frames_cut}
 use Rattle.output_model.specs.Element.{Element, element, octets_of, joined}
 use Rattle.output_model.specs.OutputBlock.{OutputBlock, Lent, IsLent, lent_block, prefixed}
 use Rattle.output_model.specs.Block.{lace_octets, frame_octets, relative_to, flags_of, block_header, block_octets, duration_elements, reference_element, group_octets, block_element}
-use Rattle.cluster_writer.specs.Lengths.{prefixed_sizes, block_len, duration_len, references_len, whole_len, group_len, taken_len}
-use Rattle.cluster_writer.proofs.FramesLemmas.{sizes-prefixed, length-concat, can-prefixed}
+use Rattle.cluster_writer.specs.Lengths.{prefixed_sizes, duration_len, references_len, whole_len, taken_len}
+use Rattle.cluster_writer.proofs.FramesLemmas.{sizes-prefixed, length-concat}
 
 -- ---- of an Element
 
@@ -146,51 +142,3 @@ size_width-most v = least_width-most (λ w. nat_lt v (all_ones w))
 
 pub whole-most : (id n : ℕ) → whole_len id n ≤ n + 16
 whole-most id n = omega (arith, length-header_octets id n, uint_width-most id, size_width-most n)
-
-duration-most : (duration : Option ℕ) → duration_len duration ≤ 24
-duration-most None = omega arith
-duration-most (Some ticks) =
-    omega (
-      arith,
-      length-append (octets_of (element BLOCK_DURATION (uint_octets ticks))) [],
-      length-element BLOCK_DURATION (uint_octets ticks) (uint_width ticks) (length-uint_octets ticks),
-      whole-most BLOCK_DURATION (uint_width ticks),
-      uint_width-most ticks,
-    )
-
-references-most : (zs : List ℤ) → references_len zs ≤ 24 * length zs
-references-most [] = omega arith
-references-most (z ∷ zs) =
-    omega (
-      arith,
-      length-append (octets_of (reference_element z)) (joined (map reference_element zs)),
-      length-element REFERENCE_BLOCK (int_octets z) (int_width z) (length-int_octets z),
-      whole-most REFERENCE_BLOCK (int_width z),
-      int_width-most z,
-      references-most zs,
-    )
-
-lace-most : (kind : Lace) (sizes : List ℕ) → CanLace kind sizes → length (lace_octets kind sizes) ≤ 2 ^ 20
-lace-most lace.None sizes can = omega arith
-lace-most lace.Xiph sizes can = omega (arith, length-lace_head lace.Xiph sizes can)
-lace-most lace.Fixed sizes can = omega (arith, length-lace_head lace.Fixed sizes can)
-lace-most lace.Ebml sizes can = omega (arith, length-lace_head lace.Ebml sizes can)
-
-pub taken-most : (l : Lent) → IsLent l → taken_len l.head (length l.prefix) l.sizes l.references (length l.kept) ≤ 2 ^ 27
-taken-most l is = split l.head.group
-  where
-    block : ℕ
-    block = block_len l.head.lace (prefixed_sizes (length l.prefix) l.sizes)
-
-    few : block ≤ 2 ^ 26 + 2 ^ 21
-    few =
-        let can = can-prefixed l.head.lace (length l.prefix) l.sizes (length l.references) (length l.kept) is.limits in
-        omega (arith, lace-most l.head.lace (prefixed_sizes (length l.prefix) l.sizes) can, can.total)
-
-    group : ℕ
-    group = group_len l.head block l.references (length l.kept)
-
-    split : (g : Bool) → (if g then whole_len BLOCK_GROUP group else whole_len SIMPLE_BLOCK block) ≤ 2 ^ 27
-    split true =
-        omega (arith, few, whole-most BLOCK_GROUP group, whole-most BLOCK block, duration-most l.head.duration, references-most l.references, is.limits.references_most, is.limits.kept_most)
-    split false = omega (arith, few, whole-most SIMPLE_BLOCK block)

@@ -1,6 +1,5 @@
 -- The Seeks of what stands behind the Clusters.
-use Rattle.std.proofs.Common.{◌≡◌, ◌≤◌, ℕ, suc, ◌+◌, List, [], ◌∷◌, ◌++◌, length, true, Option, Some, None, IfSome, refl, sym, ap, ◌∙◌, arith, subst}
-use Rattle.std.proofs.lemmas.List.{length-append}
+use Rattle.std.proofs.Common.{◌≡◌, ◌≤◌, ℕ, suc, ◌+◌, List, [], ◌∷◌, ◌++◌, length, true, Option, Some, None, IfSome, refl, sym, ap, ◌∙◌, subst}
 use Rattle.std.proofs.lemmas.List.Elements.{All-from_recursion, All-append}
 use Rattle.std.specs.List.{AllByRecursion}
 use Rattle.ebml_numbers.specs.Number.{is_id}
@@ -56,28 +55,3 @@ ids-behind at points chapters tags out out' seeks seeks' is_chapters is_tags add
 length-seeks : (p : ℕ) (es : List Element) → length (seeks_from p es) ≡ length es
 length-seeks p [] = refl
 length-seeks p (e ∷ es) = ap suc (length-seeks (p + length (octets_of e)) es)
-
-cues-few : (points : List CuePoint) → length (cues_elements points) ≤ 1
-cues-few [] = omega arith
-cues-few (p ∷ ps) = omega arith
-
-tree-few : (n : Option Node) → length (tree_elements n) ≤ 1
-tree-few None = omega arith
-tree-few (Some n) = omega arith
-
--- they are three at most
-pub few-behind : (at : ℕ) (points : List CuePoint) (chapters tags : Option Node) (out out' : List ℕ) (seeks seeks' : List Seek)
-    → Adds at (back_with points chapters tags) out out' seeks seeks' → length seeks' ≤ length seeks + 3
-few-behind at points chapters tags out out' seeks seeks' adds =
-    let es = back_with points chapters tags in
-    omega (
-      arith,
-      ap length adds.places,
-      length-append seeks (seeks_from (at + length out) es),
-      length-seeks (at + length out) es,
-      length-append (cues_elements points) (tree_elements chapters ++ tree_elements tags),
-      length-append (tree_elements chapters) (tree_elements tags),
-      cues-few points,
-      tree-few chapters,
-      tree-few tags,
-    )

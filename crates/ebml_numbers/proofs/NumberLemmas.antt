@@ -115,10 +115,6 @@ size_at-whole first rest some whole =
 
 -- ---- four octets settle an ID, and eight a size
 
--- a number reads no octet behind its own
-vint_data-take : (w n : ℕ) (o : List ℕ) → w ≤ n → vint_data w (take n o) ≡ vint_data w o
-vint_data-take w n o inside = ap (λ (x : ℕ). x % marker w) (big_from-take 0 w n o (omega arith))
-
 pub id_at-take : (n : ℕ) (o : List ℕ) → 4 ≤ n → id_at (take n o) ≡ id_at o
 id_at-take zero o four = absurd (omega arith)
 id_at-take (suc n) [] four = refl
@@ -368,10 +364,6 @@ size_at-front o p r is same =
       inside = length-front r.len o p reads.inside same;
       size = rw number reads.size;
     })
-
--- a number's own octets alone are read alike
-pub id_at-alone : (o : List ℕ) (r : IdRead) → id_at o ≡ Ok r → id_at (take r.len o) ≡ Ok r
-id_at-alone o r is = id_at-front o (take r.len o) r is (take-take r.len r.len o (omega arith))
 
 pub size_at-alone : (o : List ℕ) (r : SizeRead) → size_at o ≡ Ok r → size_at (take r.len o) ≡ Ok r
 size_at-alone o r is = size_at-front o (take r.len o) r is (take-take r.len r.len o (omega arith))
@@ -672,10 +664,6 @@ big_bytes-AreOctets zero x zero = omega arith
 big_bytes-AreOctets zero x (suc i) = omega arith
 big_bytes-AreOctets (suc n) x zero = rw (byte_at-div n x) (mod-lt (x / 256 ^ n) (omega arith))
 big_bytes-AreOctets (suc n) x (suc i) = big_bytes-AreOctets n x i
-
-pub int_octets-AreOctets : (z : ℤ) → AreOctets (int_octets z)
-int_octets-AreOctets (pos n) = big_bytes-AreOctets (int_width (pos n)) n
-int_octets-AreOctets (negsuc n) = big_bytes-AreOctets (int_width (negsuc n)) (256 ^ int_width (negsuc n) - suc n)
 
 -- ---- enough octets
 

@@ -1,6 +1,6 @@
 -- Trees of an ID are taken out of a list in one pass.
-use Rattle.std.proofs.Common.{◌≡◌, ◌≤◌, ◌<◌, ◌⊎◌, inl, inr, ℕ, ◌+◌, ◌==◌, not, cond, Bool, true, false, List, [], ◌∷◌, ◌++◌, length, position, None, take, drop, get_or, set, swap, refl, sym, ap, ap₂, ◌∙◌, arith, append-nil, append_assoc}
-use Rattle.std.proofs.lemmas.List.{take-set, take-set-le, take_more_set, drop-set-lt, length-set, drop_all}
+use Rattle.std.proofs.Common.{◌≡◌, ◌≤◌, ◌<◌, ◌⊎◌, inl, inr, ℕ, ◌+◌, ◌==◌, not, cond, Bool, true, false, List, [], ◌∷◌, ◌++◌, length, position, None, take, drop, get_or, set, swap, sym, ap, ap₂, ◌∙◌, arith, append_assoc}
+use Rattle.std.proofs.lemmas.List.{take-set, take-set-le, take_more_set, drop-set-lt, length-set}
 use Rattle.std.proofs.lemmas.List.Edits.{length-swap, swap_is}
 use Rattle.tree_format.specs.Node.{Node, id_of}
 use Rattle.tree_format.specs.Changes.{without, HasChild}
@@ -13,10 +13,6 @@ pub record Compacted (id from kept k : ℕ) (old now : List Node) : Type 0 where
   pub before : kept ≤ k
   pub long : length now ≡ length old
   pub same : take kept now ++ without id (drop k now) ≡ take from old ++ without id (drop from old)
-
--- nothing was looked at
-pub compact-start : (id from : ℕ) (old : List Node) → Compacted id from from from old old
-compact-start id from old = record { after = omega arith; before = omega arith; long = refl; same = refl }
 
 -- ---- one tree more
 
@@ -80,11 +76,6 @@ module _ (id from kept k : ℕ) (old now : List Node) (n : Node) (so_far : Compa
         long = so_far.long;
         same = ap (λ l. take kept now ++ l) (sym (without-next id k now n true inside is same)) ∙ so_far.same;
       }
-
--- all were looked at
-pub compact-end : (id from kept k : ℕ) (old now : List Node) → Compacted id from kept k old now → length now ≤ k → take kept now ≡ take from old ++ without id (drop from old)
-compact-end id from kept k old now so_far past =
-    sym (append-nil (take kept now)) ∙ ap (λ l. take kept now ++ without id l) (sym (drop_all k now past)) ∙ so_far.same
 
 -- ---- a child of an ID
 

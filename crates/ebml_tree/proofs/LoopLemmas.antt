@@ -1,5 +1,5 @@
 -- Trees, one after the other.
-use Rattle.std.proofs.Common.{◌≡◌, ◌≤◌, ◌<◌, ℕ, ◌+◌, max, List, [], ◌∷◌, ◌++◌, length, flat_map, filter, Bool, true, false, not, cond, ◌==◌, drop, get_or, refl, ap, ◌∙◌, arith, add-one, length-append}
+use Rattle.std.proofs.Common.{◌≡◌, ◌≤◌, ◌<◌, ℕ, ◌+◌, max, List, [], ◌∷◌, ◌++◌, length, flat_map, Bool, true, false, not, cond, ◌==◌, drop, get_or, refl, ap, ◌∙◌, arith, add-one, length-append}
 use Rattle.std.proofs.lemmas.List.{drop_all}
 use Rattle.std.proofs.Math.Seq.{drop-cons}
 use Rattle.tree_format.specs.Node.{Node, id_of, nodes_of, depth, depth_all}
@@ -46,11 +46,3 @@ pub others-none : (id i : ℕ) (ns : List Node) → length ns ≤ i → length (
 others-none id i ns past = ap (λ l. length (flat_map octets (without id l))) (drop_all i ns past)
 
 pub ruleset others = (others-next, others-none, long-without)
-
--- the items of an ID that are left
-pub of_id-next : (id i : ℕ) (ns : List Node) (n : Node) → i < length ns → n ≡ get_or ns i n
-    → filter (λ m. id_of m == id) (drop i ns) ≡ cond (id_of n == id) (n ∷ filter (λ m. id_of m == id) (drop (i + 1) ns)) (filter (λ m. id_of m == id) (drop (i + 1) ns))
-of_id-next id i ns n inside is = ap (filter (λ m. id_of m == id)) (next-is i ns n inside is)
-
-pub of_id-none : (id i : ℕ) (ns : List Node) → length ns ≤ i → filter (λ m. id_of m == id) (drop i ns) ≡ []
-of_id-none id i ns past = ap (filter (λ m. id_of m == id)) (drop_all i ns past)

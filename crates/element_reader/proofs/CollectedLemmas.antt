@@ -11,8 +11,8 @@ use Rattle.mkv_schema.specs.declared.element.Header.{Header}
 use Rattle.mkv_schema.specs.Element.{in_segment, known}
 use Rattle.mkv_schema.specs.Placed.{IsWhole}
 use Rattle.mkv_schema.specs.Value.{first_of}
-use Rattle.mkv_schema.specs.declared.limits.TheConstants.{MOST_OF_ONE, MOST_OF_ALL, MOST_ELEMENTS}
-use Rattle.mkv_schema.specs.Outline.{first_damage, where_it, is_described, described, others, passes_size, passes_count}
+use Rattle.mkv_schema.specs.declared.limits.TheConstants.{MOST_ELEMENTS}
+use Rattle.mkv_schema.specs.Outline.{first_damage, where_it, is_described, described, others, passes_count}
 use Rattle.element_reader.specs.Collected.{IsInFile, Keeps, kept_of, others_of, described_octets}
 use Rattle.element_reader.specs.declared.collected.Collected.{Collected}
 
@@ -66,17 +66,6 @@ option_or-first (Some x) later is = refl
 pub option_or-later : {X : Type 0} (first later : Option X) → is_some first ≡ false → later ≡ option_or first later
 option_or-later None later is = refl
 option_or-later (Some x) later is = absurd (cc)
-
--- the limits, by what is kept
-pub passes_size-kept : (held : ℕ) (list : List Header) (kept : Collected) (h : Header) → Keeps held list kept → passes_size held list h ≡ (is_described h.id && (nat_lt MOST_OF_ONE (known h.size) || nat_lt MOST_OF_ALL (kept.held + known h.size)))
-passes_size-kept held list kept h keeps = by_id (is_described h.id) refl
-  where
-    by_id : (test : Bool) → is_described h.id ≡ test → (test && (nat_lt MOST_OF_ONE (known h.size) || nat_lt MOST_OF_ALL (held + described (list ++ h ∷ [])))) ≡ (test && (nat_lt MOST_OF_ONE (known h.size) || nat_lt MOST_OF_ALL (kept.held + known h.size)))
-    by_id false is = refl
-    by_id true is =
-        let more : described (list ++ h ∷ []) ≡ described list + known h.size = described-more list h ∙ ap (λ test. described list + (if test then known h.size else 0)) is in
-        let sum : held + described (list ++ h ∷ []) ≡ kept.held + known h.size = omega (arith, more, keeps.octets) in
-        ap (λ n. nat_lt MOST_OF_ONE (known h.size) || nat_lt MOST_OF_ALL n) sum
 
 pub passes_count-kept : (held : ℕ) (list : List Header) (kept : Collected) (h : Header) → Keeps held list kept → passes_count list h ≡ (not (h.id == CLUSTER) && nat_lt MOST_ELEMENTS (length kept.others.items + 1))
 passes_count-kept held list kept h keeps = by_id (not (h.id == CLUSTER)) refl

@@ -1,6 +1,6 @@
 -- The values of an EBML header.
 use Rattle.std.proofs.Common.{◌≡◌, ℕ, ◌≤◌, ◌==◌, min, nat_le, nat_lt, Bool, true, false, not, cond, List, [], ◌∷◌, length, take, Option, Some, None, refl, ◌∙◌, ap, subst, arith}
-use Rattle.std.specs.Option.{option_map, option_map_or, option_or}
+use Rattle.std.specs.Option.{option_map, option_map_or}
 use Rattle.std.specs.List.{find}
 use Rattle.std.proofs.lemmas.Grind.{common_steps}
 use Rattle.std.proofs.lemmas.Bool.Decides.{nat_tests}
@@ -75,15 +75,6 @@ refused-by_value (Some x) bad found values few is = absurd (cc)
 refused-by_value None (Some x) found values few is = absurd (cc)
 refused-by_value None None (Some x) values few is = absurd (cc)
 refused-by_value None None None values few is = refl
-
--- the first of five
-pub first-of_five : (a b c d e : Option Damage) → option_or (option_or (option_or (option_or a b) c) d) e ≡ first_damage (a ∷ b ∷ c ∷ d ∷ e ∷ [])
-first-of_five (Some a) b c d e = refl
-first-of_five None (Some b) c d e = refl
-first-of_five None None (Some c) d e = refl
-first-of_five None None None (Some d) e = refl
-first-of_five None None None None (Some e) = refl
-first-of_five None None None None None = refl
 
 -- a header that isn't longer than the limit
 pub over-none : (h : Header) → known h.size ≤ MOST_OF_HEADER → over MOST_OF_HEADER h ≡ None

@@ -4,7 +4,7 @@ use Rattle.std.specs.Option.{option_map_or}
 use Rattle.mkv_io.specs.declared.damage.Damage.{Damage}
 use Rattle.mkv_schema.specs.declared.element.Header.{Header}
 use Rattle.mkv_schema.specs.Element.{is_unknown, end_in}
-use Rattle.mkv_schema.specs.Elements.{Run, in_front, level_1}
+use Rattle.mkv_schema.specs.Elements.{Run, in_front}
 use Rattle.mkv_schema.specs.Outline.{first_damage, first_refusal, limit_causes, limits_from, segment_run}
 use Rattle.element_reader.specs.Collected.{Keeps}
 use Rattle.element_reader.specs.Level.{HasLevel, IsOnWay, all_in_front, nothing_left}
@@ -52,13 +52,6 @@ IsOnWay-more held run left rest kept after h refusal way is refuses none keeps =
           ∙ ap (λ d. first_refusal d (limits_from held (way.given ++ h ∷ []) rest.list)) passes;
     }
 
--- the first Element that passes a limit refuses the file
-pub IsOnWay-refused : (held : ℕ) (run left rest : Run) (kept : Collected) (h : Header) (refusal : Option Damage) (d : Damage) → IsOnWay held run left kept → left ≡ in_front h rest → ((list : List Header) → Keeps held list kept → refusal ≡ first_damage (limit_causes held list h)) → refusal ≡ Some d → limits_from held [] run.list ≡ Some d
-IsOnWay-refused held run left rest kept h refusal d way is refuses some =
-    let passes : first_damage (limit_causes held way.given h) ≡ Some d = sym (refuses way.given way.keeps) ∙ some in
-    way.limits ∙ ap (λ (r : Run). limits_from held way.given r.list) is
-    ∙ ap (λ e. first_refusal e (limits_from held (way.given ++ h ∷ []) rest.list)) passes
-
 -- at the end of the way all are given
 pub HasLevel-ended : (held : ℕ) (bytes : List ℕ) (segment : Header) (at : ℕ) (found : Option Damage) (level : Level) → IsOnWay held (segment_run bytes segment) (nothing_left at found) level.kept → level.damage ≡ found → level.end ≡ (if is_unknown segment.size then option_map_or (λ (d : Damage). length bytes) found at else end_in (length bytes) segment) → HasLevel held bytes segment level
 HasLevel-ended held bytes segment at found level way damage end =
@@ -76,11 +69,6 @@ HasLevel-ended held bytes segment at found level way damage end =
           ∙ ap (λ p. if is_unknown segment.size then option_map_or (λ (d : Damage). length bytes) found p else end_in (length bytes) segment) run_end
           ∙ ap (λ f. if is_unknown segment.size then option_map_or (λ (d : Damage). length bytes) f run.end else end_in (length bytes) segment) run_damage;
     }
-
--- the place up to which a Segment may reach, in a file of so many octets
-pub segment_run-bound : (bytes : List ℕ) (segment : Header) (total bound : ℕ) → total ≡ length bytes → bound ≡ (if is_unknown segment.size then total else end_in total segment) → segment_run bytes segment ≡ level_1 bytes segment.size segment.body bound
-segment_run-bound bytes segment total bound is same =
-    ap (level_1 bytes segment.size segment.body) (sym (same ∙ ap (λ n. if is_unknown segment.size then n else end_in n segment) is))
 
 -- what isn't something is nothing
 pub none_where : (found : Option Damage) → ((d : Damage) → found ≡ Some d → ⊥) → found ≡ None

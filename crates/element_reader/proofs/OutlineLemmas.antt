@@ -121,11 +121,3 @@ Outlines-shown held bytes v found = by_outline (outline_of held bytes) refl foun
       list = outline_of-list held bytes o is;
     }
     by_outline (Err d) is same = absurd (cc)
-
--- what refuses a file is its outline's refusal
-pub outline_of-refused : (held : ℕ) (bytes : List ℕ) (d : Damage) → outline_in held bytes ≡ Err d → outline_of held bytes ≡ Err d
-outline_of-refused held bytes d found = by_outline (outline_of held bytes) found
-  where
-    by_outline : (made : Result Outlined Damage) → and_then made (λ o. Ok (shown bytes o)) ≡ Err d → made ≡ Err d
-    by_outline (Ok o) same = absurd (cc)
-    by_outline (Err e) same = cc

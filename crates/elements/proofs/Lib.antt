@@ -3,5 +3,4 @@ pub mod TextLemmas
 pub mod HeldLemmas
 pub mod WindowLemmas
 pub mod LevelOneLemmas
-pub mod MoveLemmas
 pub mod WalkLemmas

@@ -1,10 +1,8 @@
 -- The outputs of targets.
-use Rattle.std.proofs.Common.{◌≡◌, ℕ, zero, suc, ◌+◌, ◌<◌, ◌≤◌, ◌^◌, Bool, true, false, if◌then◌else◌, List, [], ◌∷◌, ◌++◌, length, take, drop, get_or, map, Option, Some, None, IfSome, slice_get, unwrap_or, Result, Ok, Err, refl, sym, ◌∙◌, ap, subst, arith, append-nil}
-use Rattle.std.specs.List.{All, find}
-use Rattle.std.specs.Option.{option_map, option_map_or, option_or}
-use Rattle.std.specs.Result.{result_err}
-use Rattle.std.proofs.Math.Seq.{drop-cons, take-suc}
-use Rattle.std.proofs.lemmas.List.{drop_all}
+use Rattle.std.proofs.Common.{◌≡◌, ℕ, zero, suc, ◌+◌, ◌<◌, ◌≤◌, ◌^◌, if◌then◌else◌, List, [], ◌∷◌, ◌++◌, length, take, drop, get_or, map, Option, Some, None, IfSome, slice_get, unwrap_or, Result, Ok, Err, refl, sym, ◌∙◌, ap, subst, arith, append-nil}
+use Rattle.std.specs.List.{All}
+use Rattle.std.specs.Option.{option_map, option_or}
+use Rattle.std.proofs.Math.Seq.{take-suc}
 use Rattle.std.proofs.lemmas.Grind.{flat_map-append}
 use Rattle.mkv_io.specs.Names.{AreApart, AreOthers}
 use Rattle.word_values.specs.declared.job.Job.{Job}
@@ -17,7 +15,7 @@ use Rattle.file_format.specs.Tracks.{IsTrack}
 use Rattle.track_records.specs.declared.track.Track.{Track}
 use Rattle.meta_records.specs.Records.{AreRead}
 use Rattle.extractors.specs.Content.{names_in}
-use Rattle.extractors.specs.Job.{first_unfit, is_unfit, job_outputs, names_for, names_unfit, output_with, names_of, output_for, outputs_for, outputs_taken, form_of, refusal_of, refusal_taken, targets_of, track_output, unfit_of}
+use Rattle.extractors.specs.Job.{first_unfit, job_outputs, names_for, output_with, names_of, output_for, outputs_for, outputs_taken, form_of, targets_of, track_output}
 use Rattle.extractors.specs.Codec.{coding_of}
 use Rattle.extractors.proofs.CodecLemmas.{coding_of-can}
 use Rattle.extractors.specs.declared.frame_form.Coding.{Coding}
@@ -68,103 +66,10 @@ usable-at targets tracks k t track usable below is found =
 
 -- ---- targets of whose tracks something can't be written
 
--- the next one is passed
-pub unfit-passed : (why : Unfit) (kind : Form) (entries : List Node) (targets : List Target) (k : ℕ) (t : Target) → k < length targets → t ≡ get_or targets k t → names_unfit why kind entries t ≡ false → first_unfit why kind (drop k targets) entries ≡ first_unfit why kind (drop (k + 1) targets) entries
-unfit-passed why kind entries targets k t below is fine =
-    ap (λ (ts : List Target). first_unfit why kind ts entries) (drop-cons targets k t below ∙ ap (λ (each : Target). each ∷ drop (suc k) targets) (sym is))
-    ∙ step (names_unfit why kind entries t) fine
-    ∙ ap (λ (n : ℕ). first_unfit why kind (drop n targets) entries) (one_more k)
-  where
-    step : (a : Bool) → a ≡ false → option_map (λ (each : Target). each.id) (if a then Some t else find (names_unfit why kind entries) (drop (suc k) targets)) ≡ first_unfit why kind (drop (suc k) targets) entries
-    step true same = absurd (cc)
-    step false same = refl
-
-    one_more : (n : ℕ) → suc n ≡ n + 1
-    one_more n = omega arith
-
--- or is the first
-pub unfit-found : (why : Unfit) (kind : Form) (entries : List Node) (targets : List Target) (k : ℕ) (t : Target) → k < length targets → t ≡ get_or targets k t → names_unfit why kind entries t ≡ true → first_unfit why kind (drop k targets) entries ≡ Some t.id
-unfit-found why kind entries targets k t below is unfit =
-    ap (λ (ts : List Target). first_unfit why kind ts entries) (drop-cons targets k t below ∙ ap (λ (each : Target). each ∷ drop (suc k) targets) (sym is))
-    ∙ step (names_unfit why kind entries t) unfit
-  where
-    step : (a : Bool) → a ≡ true → option_map (λ (each : Target). each.id) (if a then Some t else find (names_unfit why kind entries) (drop (suc k) targets)) ≡ Some t.id
-    step true same = refl
-    step false same = absurd (cc)
-
--- at last none is left
-pub unfit-none : (why : Unfit) (kind : Form) (entries : List Node) (targets : List Target) (k : ℕ) → length targets ≤ k → first_unfit why kind (drop k targets) entries ≡ None
-unfit-none why kind entries targets k all = ap (λ (ts : List Target). first_unfit why kind ts entries) (drop_all k targets all)
-
--- whether this is the reason, of one that there may be
-abbrev is_for : Unfit → Option Unfit → Bool
-is_for why None = false
-is_for NoExtractor (Some NoExtractor) = true
-is_for NoExtractor (Some BadConfig) = false
-is_for BadConfig (Some NoExtractor) = false
-is_for BadConfig (Some BadConfig) = true
-
-unfit-for : (why : Unfit) (kind : Form) (entries : List Node) (t : Target) → names_unfit why kind entries t ≡ is_for why (unfit_of kind entries t)
-unfit-for why kind entries t = named why (slice_get entries t.id)
-  where
-    same : (w : Unfit) (read : Result Coding Unfit) → is_unfit w read ≡ is_for w (result_err read)
-    same NoExtractor (Ok coding) = refl
-    same BadConfig (Ok coding) = refl
-    same NoExtractor (Err NoExtractor) = refl
-    same NoExtractor (Err BadConfig) = refl
-    same BadConfig (Err NoExtractor) = refl
-    same BadConfig (Err BadConfig) = refl
-
-    named : (w : Unfit) (found : Option Node) → option_map_or (λ (e : Node). is_unfit w (coding_of kind e)) found false ≡ is_for w (option_map_or (λ (e : Node). result_err (coding_of kind e)) found None)
-    named NoExtractor None = refl
-    named BadConfig None = refl
-    named w (Some e) = same w (coding_of kind e)
-
 -- What is left of targets to be looked at: no codec without a form was met, and this is the first bad configuration.
 pub record AreLeft (kind : Form) (targets : List Target) (entries : List Node) (k : ℕ) (bad_config : Option ℕ) : Type 0 where
   pub codec : first_unfit NoExtractor kind targets entries ≡ first_unfit NoExtractor kind (drop k targets) entries
   pub config : first_unfit BadConfig kind targets entries ≡ option_or bad_config (first_unfit BadConfig kind (drop k targets) entries)
-
-pub AreLeft-begins : (kind : Form) (targets : List Target) (entries : List Node) → AreLeft kind targets entries 0 None
-AreLeft-begins kind targets entries = record { codec = refl; config = refl }
-
--- the next one is taken so
-pub AreLeft-passed : (kind : Form) (targets : List Target) (entries : List Node) (k : ℕ) (bad_config : Option ℕ) (t : Target) → k < length targets → t ≡ get_or targets k t → unfit_of kind entries t ≡ None → AreLeft kind targets entries k bad_config → AreLeft kind targets entries (k + 1) bad_config
-AreLeft-passed kind targets entries k bad_config t below is fine left = record {
-  codec = left.codec ∙ unfit-passed NoExtractor kind entries targets k t below is (unfit-for NoExtractor kind entries t ∙ ap (is_for NoExtractor) fine);
-  config = left.config
-      ∙ ap (option_or bad_config) (unfit-passed BadConfig kind entries targets k t below is (unfit-for BadConfig kind entries t ∙ ap (is_for BadConfig) fine));
-}
-
--- or has a bad configuration
-pub AreLeft-config : (kind : Form) (targets : List Target) (entries : List Node) (k : ℕ) (bad_config : Option ℕ) (t : Target) → k < length targets → t ≡ get_or targets k t → unfit_of kind entries t ≡ Some BadConfig → AreLeft kind targets entries k bad_config → AreLeft kind targets entries (k + 1) (option_or bad_config (Some t.id))
-AreLeft-config kind targets entries k bad_config t below is bad left = record {
-  codec = left.codec ∙ unfit-passed NoExtractor kind entries targets k t below is (unfit-for NoExtractor kind entries t ∙ ap (is_for NoExtractor) bad);
-  config = left.config
-      ∙ ap (option_or bad_config) (unfit-found BadConfig kind entries targets k t below is (unfit-for BadConfig kind entries t ∙ ap (is_for BadConfig) bad))
-      ∙ first bad_config (first_unfit BadConfig kind (drop (k + 1) targets) entries);
-}
-  where
-    first : (o rest : Option ℕ) → option_or o (Some t.id) ≡ option_or (option_or o (Some t.id)) rest
-    first None rest = refl
-    first (Some n) rest = refl
-
--- or a codec without a form
-pub AreLeft-codec : (kind : Form) (targets : List Target) (entries : List Node) (k : ℕ) (bad_config : Option ℕ) (t : Target) → k < length targets → t ≡ get_or targets k t → unfit_of kind entries t ≡ Some NoExtractor → AreLeft kind targets entries k bad_config → refusal_of (Some t.id) None ≡ refusal_taken (Some kind) targets entries
-AreLeft-codec kind targets entries k bad_config t below is unknown left =
-    ap (λ (n : Option ℕ). refusal_of n (first_unfit BadConfig kind targets entries))
-    (sym (left.codec ∙ unfit-found NoExtractor kind entries targets k t below is (unfit-for NoExtractor kind entries t ∙ ap (is_for NoExtractor) unknown)))
-
--- at last none is left
-pub AreLeft-ends : (kind : Form) (targets : List Target) (entries : List Node) (k : ℕ) (bad_config : Option ℕ) → length targets ≤ k → AreLeft kind targets entries k bad_config → refusal_of None bad_config ≡ refusal_taken (Some kind) targets entries
-AreLeft-ends kind targets entries k bad_config all left =
-    ap (λ (n : Option ℕ). refusal_of n bad_config) (sym (left.codec ∙ unfit-none NoExtractor kind entries targets k all))
-    ∙ ap (refusal_of (first_unfit NoExtractor kind targets entries))
-    (sym (left.config ∙ ap (option_or bad_config) (unfit-none BadConfig kind entries targets k all) ∙ alone bad_config))
-  where
-    alone : (o : Option ℕ) → option_or o None ≡ o
-    alone None = refl
-    alone (Some n) = refl
 
 -- ---- their names
 

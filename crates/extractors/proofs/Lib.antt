@@ -2,7 +2,6 @@ pub mod BlocksLemmas
 pub mod BadFramesLemmas
 pub mod CodecLemmas
 pub mod StreamLemmas
-pub mod CuesLemmas
 pub mod FramesLemmas
 pub mod JobLemmas
 pub mod MakeLemmas

@@ -1,5 +1,5 @@
 -- A file that is made, written and closed.
-use Rattle.std.proofs.Common.{◌≡◌, ◌<◌, ℕ, List, [], ◌∷◌, true, Result, Ok, Err, ◌⊎◌, refl, sym, ◌∙◌, ap, subst, arith}
+use Rattle.std.proofs.Common.{◌≡◌, ◌<◌, ℕ, List, [], ◌∷◌, true, Result, Ok, Err, ◌⊎◌, sym, ◌∙◌, ap, subst, arith}
 use Rattle.mkv_io.specs.declared.outside.FileId.{FileId}
 use Rattle.mkv_io.specs.declared.outside.MakeFault.{MakeFault}
 use Rattle.mkv_io.specs.Contents.{with_appended}
@@ -15,8 +15,6 @@ use Rattle.mkv_io.specs.declared.remux_end.RemuxEnd.TheVariants as remux_end
 use Rattle.mkv_io.proofs.EndsLemmas.{HasRemuxCause-then}
 use Rattle.mkv_outputs.specs.Sinks.{EndsOnly}
 use Rattle.mkv_outputs.specs.Starts.{StandsInPart}
-use Rattle.mkv_outputs.proofs.StartsLemmas.{StandsInPart-none}
-use Rattle.mkv_io.proofs.WritingLemmas.{KeepsOthers-none}
 use Rattle.cues_seekhead.specs.Appending.{AppendsOnly, IsAppended}
 use Rattle.cues_seekhead.specs.Made.{MakesFile}
 use Rattle.cues_seekhead.proofs.AppendingLemmas.{cause-make}
@@ -55,13 +53,4 @@ WritesFile-unmade U r f name octets most old new fault names kept reading read c
   kept = kept;
   cause = cause-make U r f old new fault reading cause;
   reads = omega (arith, read);
-}
-
--- there was no memory before
-pub WritesFile-memory : {S T : Type 0} (r : Ghosts S) (f : writing.Ghosts S) (name octets : List ℕ) (most : ℕ) (files : S) → WritesFile {T = T} r f name octets most files files (Err remux_end.Memory)
-WritesFile-memory r f name octets most files = record {
-  writes = StandsInPart-none (f.names files) (output name octets ∷ []);
-  kept = KeepsOthers-none r f (name ∷ []) files;
-  cause = record { reading = refl; writing = refl };
-  reads = omega arith;
 }

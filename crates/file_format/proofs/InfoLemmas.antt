@@ -1,5 +1,5 @@
 -- Where the scale of an Info and that of its file come from.
-use Rattle.std.proofs.Common.{◌≡◌, ◌<◌, ℕ, ◌==◌, Bool, true, false, not, cond, eqb-true, List, [], ◌∷◌, Option, Some, None, IfSome, Result, Ok, Err, IsOk, refl, subst, ap, ◌∙◌, arith, unwrap_or}
+use Rattle.std.proofs.Common.{◌≡◌, ◌<◌, ℕ, ◌==◌, Bool, true, false, not, List, [], ◌∷◌, Option, Some, None, IfSome, Result, Ok, Err, IsOk, refl, ap, ◌∙◌, arith, unwrap_or}
 use Rattle.std.specs.Option.{option_map, option_and_then}
 use Rattle.std.proofs.lemmas.Bool.Decides.{nat_tests}
 use Rattle.mkv_schema.specs.declared.ids.TheConstants.{INFO, TIMESTAMP_SCALE}
@@ -10,7 +10,7 @@ use Rattle.mkv_io.specs.declared.damage.Kind.TheVariants.{BadValue}
 use Rattle.mkv_schema.specs.declared.element.Header.{Header}
 use Rattle.mkv_schema.specs.Element.{damage}
 use Rattle.mkv_schema.specs.Outline.{where_it}
-use Rattle.mkv_schema.specs.Value.{body_of, first_of}
+use Rattle.mkv_schema.specs.Value.{body_of}
 use Rattle.tree_format.specs.declared.limits.TheConstants.{MOST_NODES}
 use Rattle.tree_format.specs.Node.{Node, offset_of}
 use Rattle.tree_format.specs.Values.{first_child, integer_of, HasUint}
@@ -49,18 +49,6 @@ scale-some info none = split (first_child TIMESTAMP_SCALE info) none
         grind (arith, nat_tests)
 
 -- ---- a file
-
--- the first Element of an ID has that ID
-pub first_of-id : (id : ℕ) (list : List Header) (h : Header) → first_of id list ≡ Some h → h.id ≡ id
-first_of-id id [] h first = absurd (cc)
-first_of-id id (k ∷ ks) h first = split (k.id == id) refl first (first_of-id id ks h)
-  where
-    split : (same : Bool) → (k.id == id) ≡ same → cond same (Some k) (first_of id ks) ≡ Some h → (first_of id ks ≡ Some h → h.id ≡ id) → h.id ≡ id
-    split true is found rest =
-        let found_is : k ≡ h = cc in
-        let P : Header → Type 0 = λ x. x.id ≡ id in
-        subst P found_is (eqb-true k.id id is)
-    split false is found rest = rest found
 
 pub file_scale-none : (bytes : List ℕ) (segment : Header) → first_info bytes segment ≡ None → file_scale bytes segment ≡ DEFAULT_SCALE
 unfolding file_scale

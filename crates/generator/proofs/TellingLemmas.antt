@@ -1,12 +1,10 @@
 -- What the command comes to.
-use Rattle.std.proofs.Common.{◌≡◌, ℕ, List, [], ◌∷◌, ◌++◌, Option, Some, Result, Ok, Err, IfOk, inl, refl, sym, ◌∙◌, ap, subst, arith}
-use Rattle.std.specs.List.{slice_get}
+use Rattle.std.proofs.Common.{◌≡◌, ℕ, List, [], ◌∷◌, ◌++◌, Option, Result, Ok, Err, IfOk, inl, refl, sym, ◌∙◌, ap, subst, arith}
 use Rattle.mkv_io.specs.Faults.{HasRisen}
 use Rattle.mkv_io.specs.Lines.{with_lines}
 use Rattle.mkv_io.specs.declared.reads.Reads.{Ghosts}
 use Rattle.mkv_io.specs.declared.files.Files as writing
 use Rattle.mkv_io.specs.declared.report.Report.{Ghosts as ReportGhosts}
-use Rattle.remux_plan.specs.declared.summary.Written.{Written}
 use Rattle.mkv_lines.specs.Faults.{Counts, HasStopCause}
 use Rattle.mkv_lines.specs.Said.{HasSayCause, Says, SaysPart}
 use Rattle.mkv_lines.specs.Seen.{Seen, seen}
@@ -20,14 +18,9 @@ use Rattle.mkv_lines.specs.Command.{files_counts}
 use Rattle.mkv_merge.specs.declared.refusal.Refusal.{Refusal}
 use Rattle.generator.specs.declared.making.Outcome.{Outcome}
 use Rattle.generator.specs.declared.names.Names as own
-use Rattle.generator.specs.Generate.{MergeMade, both_words, first_written, merge_of, parts_words, two_files, verdict_of, with_both, with_parts}
+use Rattle.generator.specs.Generate.{MergeMade, both_words, merge_of, parts_words, two_files, verdict_of, with_both, with_parts}
 use Rattle.remux_plan.specs.Parts.{PlannedOutput}
 use Rattle.generator.specs.Outcome.{HasMade, lines_of, status_for}
-
--- the first of some outputs
-pub first-some : (outputs : List Written) (w : Written) → slice_get outputs 0 ≡ Some w → first_written outputs ≡ w
-first-some [] w is = absurd (cc)
-first-some (o ∷ os) w is = cc
 
 -- no line is said before the files
 parts-before : (n : ℕ) (names : own.Names) (files : List PlannedOutput) (both : MergeMade) (r : Result MergeMade Refusal) → (with_parts n names files both r).before ≡ []

@@ -25,18 +25,6 @@ AreNumbered {S} r f = (files : S) (file : ℕ) → (live_files r files).live fil
 
 -- ---- opened one after the other
 
--- none yet
-pub OpensInputs-none : {S : Type 0} (r : Ghosts S) (f : writing.Ghosts S) (files : S) → OpensInputs r f [] files files []
-OpensInputs-none r f files = record {
-  inputs = record { live = λ k d below. absurd (omega arith); rising = λ i j d low high. absurd (omega arith); under = refl };
-  newer = λ k d below. absurd (omega arith);
-  besides = λ file none. refl;
-  given = omega arith;
-  holders = λ file live. refl;
-  others = λ file live. record { alive = refl; size = λ is. refl; content = λ is. refl };
-  asks = λ name besides unasked. unasked;
-}
-
 -- A file was opened under a name.
 pub record OpensOne {S : Type 0} (r : Ghosts S) (f : writing.Ghosts S) (name : List ℕ) (old new : S) (file : FileId) : Type 0 where
   pub least : f.given old ≤ file.n

@@ -1,5 +1,5 @@
 -- The end of a file, one block at a time.
-use Rattle.std.proofs.Common.{◌≡◌, ◌≤◌, ℕ, zero, suc, ◌+◌, max, Bool, true, false, if◌then◌else◌, List, [], ◌∷◌, ◌++◌, ◌<◌, length, take, drop, get_or, filter, replicate, Option, Some, None, refl, sym, ◌∙◌, ap, ap₂, add-zero, append-nil, eq-eqb, ne_eqb, arith}
+use Rattle.std.proofs.Common.{◌≡◌, ◌≤◌, ℕ, zero, suc, ◌+◌, max, Bool, true, false, if◌then◌else◌, List, [], ◌∷◌, ◌++◌, ◌<◌, length, take, drop, get_or, filter, replicate, Option, Some, None, refl, sym, ◌∙◌, ap, ap₂, add-zero, append-nil, eq-eqb, arith}
 use Rattle.std.specs.List.{All}
 use Rattle.std.proofs.Math.ListN.{set}
 use Rattle.std.proofs.lemmas.List.{length-replicate, take_all}
@@ -187,12 +187,6 @@ by_head-count b = length-replicate b.frames []
 here : (t : TrackLink) (k : ℕ) (b : Buffered) → b.head.track ≡ t.number → track_end t k (by_head b) ≡ block_end (placing_of t) (at_time t k (by_head b))
 here t k b is = ap (λ (x : Bool). if x then block_end (placing_of t) (at_time t k (by_head b)) else 0) (eq-eqb b.head.track t.number is)
 
-pub end-other : (t : TrackLink) (k : ℕ) (b : Buffered) → (b.head.track ≡ t.number → ⊥) → track_end t k (by_head b) ≡ 0
-end-other t k b is = ap (λ (x : Bool). if x then block_end (placing_of t) (at_time t k (by_head b)) else 0) (ne_eqb b.head.track t.number is)
-
-pub end-dropped : (t : TrackLink) (k : ℕ) (b : Buffered) → b.head.track ≡ t.number → delayed (placing_of t) (at_time t k (by_head b)) ≡ None → track_end t k (by_head b) ≡ 0
-end-dropped t k b is none = here t k b is ∙ ap (end_at (placing_of t) (at_time t k (by_head b))) none
-
 pub end-taken : (t : TrackLink) (k : ℕ) (b : Buffered) (time n frames : ℕ) → b.head.track ≡ t.number → delayed (placing_of t) (at_time t k (by_head b)) ≡ Some time → n ≡ lasting_for b.head.duration t.default_duration frames → frames ≡ b.frames → track_end t k (by_head b) ≡ time + n
 end-taken t k b time n frames is at lasts long =
     here t k b is
@@ -203,9 +197,6 @@ end-taken t k b time n frames is at lasts long =
 -- how many frames a block of the code has of a track
 pub frames-here : (t : TrackLink) (b : Buffered) → b.head.track ≡ t.number → frames_of t (by_head b) ≡ b.frames
 frames-here t b is = ap (λ (x : Bool). if x then length (by_head b).frames else 0) (eq-eqb b.head.track t.number is) ∙ by_head-count b
-
-pub frames-other : (t : TrackLink) (b : Buffered) → (b.head.track ≡ t.number → ⊥) → frames_of t (by_head b) ≡ 0
-frames-other t b is = ap (λ (x : Bool). if x then length (by_head b).frames else 0) (ne_eqb b.head.track t.number is)
 
 -- ---- a block of a file, and what the code knows of it by its head
 

@@ -7,13 +7,11 @@ use Rattle.block_format.specs.Events.{Event, block, blocks_of}
 use Rattle.cluster_reader.specs.Reading.{damage_event}
 use Rattle.ext_times.specs.Listing.{Listing}
 use Rattle.merge_model.specs.Links.{Placing, given_blocks, placed}
-use Rattle.mkv_io.specs.declared.entry.Entry.{Entry}
-use Rattle.merge_model.specs.FileLinks.{listing_of, placing_of, text_with}
+use Rattle.merge_model.specs.FileLinks.{listing_of, placing_of}
 use Rattle.merge_model.specs.Timed.{time_for, timed}
 use Rattle.lanes.specs.Frames.{frames_of}
-use Rattle.lanes.specs.Placed.{at_time, entry_placed, track_placed}
+use Rattle.lanes.specs.Placed.{at_time, track_placed}
 use Rattle.merge_model.specs.declared.link.TrackLink.{TrackLink}
-use Rattle.merge_model.specs.declared.link.TextLink.{TextLink}
 use Rattle.lanes.specs.Walks.{track_behind}
 
 -- ---- a track
@@ -63,8 +61,3 @@ end-blocks scale t k st = none (listing_of t)
 pub end-stops : (t : TrackLink) (k : ℕ) (st : Bool) → (track_behind t k st []).stops ≡ st
 end-stops t k true = refl
 end-stops t k false = refl
-
--- ---- a text
-
-pub text-entry : (scale : ℕ) (t : TextLink) (e : Entry) (es : List Entry) → given_blocks scale (text_with t (e ∷ es)) ≡ entry_placed scale t e ++ given_blocks scale (text_with t es)
-text-entry scale t e es = refl

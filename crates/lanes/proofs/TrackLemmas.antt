@@ -1,5 +1,5 @@
 -- A turn at a link, one answer of its cursor after the other: what it gives, how far it goes, and what it reads.
-use Rattle.std.proofs.Common.{◌≡◌, ℕ, suc, zero, ◌+◌, ◌-◌, ◌*◌, ◌<◌, ◌≤◌, Bool, true, false, List, [], ◌∷◌, ◌++◌, length, drop, Option, Some, None, Result, Ok, Err, refl, sym, ◌∙◌, ap, subst, add-one, arith}
+use Rattle.std.proofs.Common.{◌≡◌, ℕ, suc, zero, ◌+◌, ◌-◌, ◌*◌, ◌<◌, ◌≤◌, Bool, true, false, List, [], ◌∷◌, ◌++◌, length, drop, Some, None, Result, Ok, Err, refl, sym, ◌∙◌, ap, subst, add-one, arith}
 use Rattle.std.specs.Prelude.{◌||◌, ◌==◌}
 use Rattle.std.specs.Result.{IsErr}
 use Rattle.std.specs.List.{All, slice_get}
@@ -65,14 +65,6 @@ pub at-track : (f : LiveFiles) (links : List Link) (w : Walk) (t : TrackLink) (c
 at-track f links w t c ready is cursor =
     let here : IsAt f (Some c) (slice_get links w.at) = subst (λ each. IsAt f each (slice_get links w.at)) cursor ready.here in
     subst (IsAt f (Some c)) is here
-
--- at a text there is none
-pub at-text : (f : LiveFiles) (links : List Link) (w : Walk) (e : TextLink) → IsReady f links w → slice_get links w.at ≡ Some (Entries e) → w.cursor ≡ None
-at-text f links w e ready is = step w.cursor (subst (IsAt f w.cursor) is ready.here)
-  where
-    step : (o : Option Reading) → IsAt f o (Some (Entries e)) → o ≡ None
-    step None here = refl
-    step (Some c) here = absurd here
 
 -- what the cursor gives, of the octets that are told
 pub cursor-gives : (f : LiveFiles) (links : List Link) (k : ℕ) (t : TrackLink) (c d : Reading) (result : Result Step ReadEnd) → All (IsToldLink f) links → slice_get links k ≡ Some (Track t) → c.file ≡ t.file → Told (f.content c.file.n) (λ bytes. GivesWanted (takes.Track t.number) bytes c d result) → GivesWanted (takes.Track t.number) (octets_in f t.file.n) c d result

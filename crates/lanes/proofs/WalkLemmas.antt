@@ -13,7 +13,7 @@ use Rattle.merge_model.specs.declared.link.Link.{Link}
 use Rattle.merge_model.specs.declared.link.Link.TheVariants.{Track, Entries}
 use Rattle.lanes.specs.Walks.{here_left, links_from, links_left, left, track_left}
 use Rattle.lanes.specs.declared.walk.Walk.{Walk}
-use Rattle.lanes.proofs.ListLemmas.{drop-at, drop-past}
+use Rattle.lanes.proofs.ListLemmas.{drop-at}
 
 -- ---- the links that are left
 
@@ -35,10 +35,6 @@ links_left-fresh f links w cursor next = step (drop w.at links)
     step : (ls : List Link) → links_from f w ls ≡ map (given_in f) ls
     step [] = refl
     step (link ∷ ls) = ap (λ each. each ∷ map (given_in f) ls) (here link)
-
--- where no link is left nothing is
-pub left-past : (f : LiveFiles) (scale : ℕ) (links : List Link) (w : Walk) → slice_get links w.at ≡ None → left f scale links w ≡ []
-left-past f scale links w is = ap (λ ls. ordered_from w.greatest (lane_blocks scale (links_from f w ls))) (drop-past links w.at is)
 
 -- ---- a turn that stays at its link
 

@@ -4,7 +4,7 @@ use Rattle.std.specs.List.{All}
 use Rattle.mkv_io.specs.declared.damage.Damage.{Damage}
 use Rattle.mkv_schema.specs.Outline.{Outlined}
 use Rattle.element_reader.specs.Outline.{FileOutline, outline_in}
-use Rattle.element_reader.proofs.OutlineLemmas.{Outlines-shown, outline_of-refused}
+use Rattle.element_reader.proofs.OutlineLemmas.{Outlines-shown}
 use Rattle.tree_format.specs.Node.{Node}
 use Rattle.output_model.specs.declared.attachment.Attachment.{Attachment}
 use Rattle.record_changes.specs.declared.uid_map.TagKeep.{TagKeep}
@@ -15,13 +15,11 @@ use Rattle.merge_words.specs.declared.files.FileWords.{FileWords}
 use Rattle.merge_inputs.specs.Input.{InputRead, Clusters, CanBeGiven, file_read, found_then, input_with, refusal_of, unless_refused}
 use Rattle.merge_inputs.specs.declared.input.Blocks.{Blocks}
 use Rattle.merge_inputs.specs.declared.input.Blocks.TheVariants as held_by
-use Rattle.merge_inputs.specs.Laws.{InputsStay}
 use Rattle.merge_inputs.specs.Select.{keep_of, keeps_attachments, keeps_chapters, keeps_tags, kept_list, kept_one, unmoved}
 use Rattle.merge_inputs.specs.Taken.{taken_from}
 use Rattle.merge_inputs.specs.Title.{title_of_info}
 use Rattle.merge_inputs.specs.declared.taken.TakenTrack.{TakenTrack}
 use Rattle.merge_inputs.specs.declared.input.InputRefusal.{InputRefusal}
-use Rattle.merge_inputs.specs.declared.input.InputRefusal.TheVariants.{Damaged}
 
 -- ---- what is read
 
@@ -56,18 +54,6 @@ abbrev behind : FileWords → Bool → List ℕ → Outlined → Result InputRea
 behind words webm bytes o =
     found_then (file_records bytes o.segment) (λ (r : FileRecords).
     unless_refused (refusal_as words r) (input_with words webm o r))
-
--- nothing, where the outline refuses the file
-pub file_read-outline : (words : FileWords) (webm : Bool) (held : ℕ) (bytes : List ℕ) (d : Damage) → outline_in held bytes ≡ Err d → file_read words webm held bytes ≡ Err (Damaged d)
-file_read-outline words webm held bytes d outline = ap (λ (found : Result Outlined Damage). found_then found (behind words webm bytes)) (outline_of-refused held bytes d outline)
-
--- nor where a record does
-pub file_read-records : (words : FileWords) (webm : Bool) (held : ℕ) (bytes : List ℕ) (v : FileOutline) (d : Damage) → outline_in held bytes ≡ Ok v → file_records bytes v.segment ≡ Err d → file_read words webm held bytes ≡ Err (Damaged d)
-file_read-records words webm held bytes v d outline records =
-    let of = Outlines-shown held bytes v outline in
-    ap (λ (found : Result Outlined Damage). found_then found (behind words webm bytes)) of.is
-    ∙ ap (λ (found : Result FileRecords Damage). found_then found (λ (r : FileRecords). unless_refused (refusal_as words r) (input_with words webm of.outlined r)))
-    (ap (λ (w : FileOutline). file_records bytes w.segment) (sym of.shows) ∙ records)
 
 -- what is taken of it, unless something refuses that
 file_read-unless : (words : FileWords) (webm : Bool) (held : ℕ) (bytes : List ℕ) (v : FileOutline) (r : FileRecords) → outline_in held bytes ≡ Ok v → file_records bytes v.segment ≡ Ok r → file_read words webm held bytes ≡ unless_refused (refusal_as words r) (read_as words webm v r)
@@ -120,14 +106,3 @@ kept-some P false one holds = tt
 given : {n m : ℕ} → n ≡ m → (blocks : Blocks) → CanBeGiven n blocks → CanBeGiven m blocks
 given same (held_by.Clusters outline scale) are = record { size = sym same ∙ are.size; scale = are.scale }
 given same (held_by.Entries entries) are = are
-
--- an input stands where its file is the same
-pub inputs-stay : InputsStay
-inputs-stay old new i same is = record {
-  live = same.alive ∙ is.live;
-  blocks = given (sym (same.size is.live)) i.blocks is.blocks;
-  taken = is.taken;
-  attachments = is.attachments;
-  chapters = is.chapters;
-  tags = is.tags;
-}

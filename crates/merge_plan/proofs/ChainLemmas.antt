@@ -19,10 +19,6 @@ while-map {X = X} {Y = Y} p f (x ∷ xs) =
     of true rest = ap (λ l. f x ∷ l) rest
     of false rest = refl
 
-while-none : {X : Type 0} (p : X → Bool) (xs : List X) → All (λ x. p x ≡ false) xs → take_while p xs ≡ []
-while-none p [] none = refl
-while-none p (x ∷ xs) none = take_while-cons p x xs ∙ ap (λ b. cond b (x ∷ take_while p xs) []) (All-head (λ y. p y ≡ false) x xs none)
-
 while-length : {X : Type 0} (p : X → Bool) (xs : List X) → length (take_while p xs) ≤ length xs
 while-length p xs = simp length-take (omega arith)
 
@@ -238,17 +234,6 @@ enumerate-sum {X = X} weight n xs = sym (sum-map (λ (e : ℕ × X). weight e.1)
 columns-alone : {B : Type 0} (place : ℕ) (own : List B) → columns_from place own [] ≡ map (λ b. b ∷ []) own
 columns-alone place [] = refl
 columns-alone place (x ∷ own) = ap (λ l. (x ∷ []) ∷ l) (columns-alone (place + 1) own)
-
--- Where no thing is appended, each lane has one link.
-pub lanes-alone : {A B : Type 0} (appended : A → Bool) (row : A → List B) (xs : List A) → All (λ x. appended x ≡ false) xs → lanes_by appended row xs ≡ flat_map (λ x. map (λ b. b ∷ []) (row x)) xs
-lanes-alone appended row [] none = refl
-lanes-alone {A = A} {B = B} appended row (x ∷ xs) none =
-    let own : appended x ≡ false = All-head (λ y. appended y ≡ false) x xs none in
-    let rest = All-tail (λ y. appended y ≡ false) x xs none in
-    ap₂ (λ a b. a ++ b)
-    (ap (λ (b : Bool). if b then [] else columns_from 0 (row x) (map row (take_while appended xs))) own
-    ∙ ap (λ (ys : List A). columns_from 0 (row x) (map row ys)) (while-none appended xs rest) ∙ columns-alone 0 (row x))
-    (lanes-alone appended row xs rest)
 
 -- ---- numbers
 

@@ -6,7 +6,6 @@ pub mod LaneLemmas
 pub mod RefusalLemmas
 pub mod PlanLemmas
 pub mod FileLemmas
-pub mod SplitLemmas
 mod LinkLemmas
 pub mod PlaceLemmas
 pub mod TimesLemmas

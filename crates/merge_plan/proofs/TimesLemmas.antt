@@ -1,7 +1,6 @@
 -- The times of a track among those that files give to an input.
-use Rattle.std.proofs.Common.{◌≡◌, ◌<◌, ℕ, suc, ◌+◌, Bool, true, false, if◌then◌else◌, List, [], ◌∷◌, length, drop, get_or, Option, Some, None, refl, sym, ◌∙◌, ap, ap₂, add-one, drop-cons, eq-eqb, ne_eqb}
+use Rattle.std.proofs.Common.{◌≡◌, ◌<◌, ℕ, ◌+◌, Bool, false, if◌then◌else◌, List, [], ◌∷◌, length, drop, get_or, Some, sym, ◌∙◌, ap, ap₂, add-one, drop-cons, ne_eqb}
 use Rattle.std.specs.Prelude.{◌==◌}
-use Rattle.ext_times.specs.Listing.{Listing}
 use Rattle.merge_inputs.specs.Input.{listings_in}
 use Rattle.merge_inputs.specs.Taken.{value_for}
 use Rattle.merge_inputs.specs.declared.input.TrackTimes.{TrackTimes}
@@ -17,8 +16,3 @@ first-value id t ts is same = ap (λ (b : Bool). if b then Some t.times.value el
 pub times-passed : (id : ℕ) (times : List TrackTimes) (k : ℕ) (t : TrackTimes) → k < length times → t ≡ get_or times k t → (t.id ≡ id → ⊥) → value_for id (listings_in (drop (k + 1) times)) ≡ value_for id (listings_in (drop k times))
 times-passed id times k t inside is other =
     sym (ap (λ (ts : List TrackTimes). value_for id (listings_in ts)) (from-one times k t inside is) ∙ first-value id t (drop (k + 1) times) false (ne_eqb t.id id other))
-
--- and its own
-pub times-found : (id : ℕ) (times : List TrackTimes) (k : ℕ) (t : TrackTimes) → k < length times → t ≡ get_or times k t → t.id ≡ id → value_for id (listings_in (drop k times)) ≡ Some t.times.value
-times-found id times k t inside is own =
-    ap (λ (ts : List TrackTimes). value_for id (listings_in ts)) (from-one times k t inside is) ∙ first-value id t (drop (k + 1) times) true (eq-eqb t.id id own)

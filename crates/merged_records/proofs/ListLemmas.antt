@@ -2,10 +2,10 @@
 use Rattle.std.proofs.Common.{◌≡◌, ◌≤◌, ◌<◌, ℕ, zero, suc, ◌+◌, List, [], ◌∷◌, ◌++◌, length, take, drop, flat_map, get_or, refl, sym, ap, subst, ◌∙◌, arith, add-one, drop-cons, append-nil, append_assoc, length-append}
 use Rattle.std.specs.Prelude.{All}
 use Rattle.std.proofs.lemmas.Grind.{flat_map-append}
-use Rattle.std.proofs.lemmas.List.{take_more, map-append}
+use Rattle.std.proofs.lemmas.List.{take_more}
 use Rattle.output_model.specs.declared.attachment.Attachment.{Attachment}
 use Rattle.merged_records.specs.declared.inputs.InputRecords.{InputRecords}
-use Rattle.merged_records.specs.Attachments.{files_of, file_uids, with_uid, with_uids}
+use Rattle.merged_records.specs.Attachments.{files_of, with_uid, with_uids}
 
 module _ {X : Type 0} (xs : List X) (i : ℕ) (x : X) (inside : i < length xs) (is : x ≡ get_or xs i x) where
   pub take-next : take (i + 1) xs ≡ take i xs ++ x ∷ []
@@ -29,9 +29,6 @@ flat-few f (y ∷ ys) (suc i) x inside is =
     omega (arith, length-append (f y) (flat_map f (take i ys)), length-append (f y) (flat_map f ys))
 
 -- ---- attached files with their FileUIDs
-
-pub uids-push : (files : List Attachment) (i : ℕ) (a : Attachment) → i < length files → a ≡ get_or files i a → file_uids (take (i + 1) files) ≡ file_uids (take i files) ++ a.uid ∷ []
-uids-push files i a inside is = ap file_uids (take-next files i a inside is) ∙ map-append (λ (b : Attachment). b.uid) (take i files) (a ∷ [])
 
 pub length-uids : (uids : List ℕ) (files : List Attachment) → length files ≤ length uids → length (with_uids uids files) ≡ length files
 length-uids [] [] few = refl

@@ -78,10 +78,6 @@ pub none-grown : (n : Node) → n ≡ with_children n (children n ++ [])
 none-grown (leaf id at body) = refl
 none-grown (master id at kids) = ap (master id at) (sym (nodes-list kids)) ∙ ap (λ l. master id at (nodes_of l)) (sym (append-nil (list_of kids)))
 
-pub built-grown : (own deep : ℕ) (old new : Node) (ns : List Node) → IsMaster old → id_of old ≡ own → IsBuilt own (offset_of old) deep ns new → new ≡ with_children old ns
-built-grown own deep (leaf id at body) new ns is same built = absurd (cc)
-built-grown own deep (master id at kids) new ns is same built = built.is ∙ ap (λ i. master i at (nodes_of ns)) (sym same)
-
 -- what holds of a record holds where it has children
 pub some-holds : (P : Node → Type 0) (n : Node) → P n → IfSome (with_some n) P
 some-holds P n holds = of (children n)

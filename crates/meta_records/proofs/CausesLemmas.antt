@@ -1,5 +1,5 @@
 -- The first of several causes, and what keeps the frames of a track from being used.
-use Rattle.std.proofs.Common.{◌≡◌, ℕ, List, [], ◌∷◌, ◌++◌, Option, Some, None, Ok, Err, refl, ap}
+use Rattle.std.proofs.Common.{◌≡◌, ℕ, List, [], ◌∷◌, ◌++◌, Option, Some, None, Err, refl, ap}
 use Rattle.mkv_io.specs.declared.damage.Damage.{Damage}
 use Rattle.mkv_schema.specs.Outline.{first_damage}
 use Rattle.mkv_io.specs.Results.{unless}
@@ -27,13 +27,6 @@ first_damage-some (None ∷ xs) ys d some = first_damage-some xs ys d some
 first_damage-some (Some e ∷ xs) ys d some = some
 
 -- ---- what a call answers of a track
-
-pub usable-none : (entry : Node) (prefix : List ℕ) → usable_prefix entry ≡ Ok prefix → first_damage (usable_causes entry) ≡ None
-usable-none entry prefix is = step (first_damage (usable_causes entry)) is
-  where
-    step : (refusal : Option Damage) → unless refusal (prefix_of entry) ≡ Ok prefix → refusal ≡ None
-    step None made = refl
-    step (Some d) made = absurd (cc)
 
 pub usable-some : (entry : Node) (d : Damage) → usable_prefix entry ≡ Err d → first_damage (usable_causes entry) ≡ Some d
 usable-some entry d is = step (first_damage (usable_causes entry)) is

@@ -17,44 +17,13 @@ use Rattle.mkv_schema.proofs.ElementsLemmas.{elements-end}
 use Rattle.tree_format.specs.Node.{offset_of}
 use Rattle.output_model.specs.declared.attachment.Attachment.{Attachment}
 use Rattle.meta_records.specs.Attachments.{at_child, attached_in, attachment_of, attachments_in, children_of, is_attached, met_in, missing_data, refused_from, refused_in, too_many_files}
-use Rattle.meta_records.specs.Walk.{Adds, HasAll, Meets, ReadsAs, ReadsChild, WalksAll, good_files, one_over}
+use Rattle.meta_records.specs.Walk.{HasAll, Meets, ReadsAs, ReadsChild, WalksAll, good_files, one_over}
 use Rattle.meta_records.specs.declared.attachments.Found.{Found}
 use Rattle.meta_records.specs.declared.counts.Counts.{Counts}
 use Rattle.meta_records.specs.declared.end.AttachmentsEnd.{AttachmentsEnd}
 use Rattle.meta_records.specs.declared.end.AttachmentsEnd.TheVariants.{Refused, ReadFault, Memory}
 use Rattle.meta_records.specs.declared.limits.TheConstants.{MOST_ATTACHED}
 use Rattle.meta_records.proofs.MetLemmas.{run_at, run_at-step}
-
--- ---- one child
-
--- another child adds nothing
-pub Adds-none : (bytes : List ℕ) (file : FileId) (h : Header) (found : Found) → is_attached h ≡ false → Adds bytes file (h ∷ []) found found
-Adds-none bytes file h found other = record {
-  attachments = sym (ap (λ (l : List Header). found.attachments ++ map (attachment_of bytes file) l) (none other) ∙ append-nil found.attachments);
-  missing = sym (ap (λ (l : List Header). option_or found.missing (first_damage (map (missing_data bytes) l))) (none other) ∙ same found.missing);
-}
-  where
-    none : is_attached h ≡ false → filter is_attached (h ∷ []) ≡ []
-    none is = ap (λ (b : Bool). if b then h ∷ [] else []) is
-
-    same : (d : Option Damage) → option_or d None ≡ d
-    same (Some e) = refl
-    same None = refl
-
--- an AttachedFile adds one
-pub Adds-one : (bytes : List ℕ) (file : FileId) (h : Header) (a : Attachment) (m : Option Damage) (old new : Found) → is_attached h ≡ true → a ≡ attachment_of bytes file h → m ≡ missing_data bytes h → new.attachments ≡ old.attachments ++ a ∷ [] → new.missing ≡ option_or old.missing m
-    → Adds bytes file (h ∷ []) old new
-Adds-one bytes file h a m old new is attachment missing grown told = record {
-  attachments = grown ∙ ap (λ (b : Attachment). old.attachments ++ b ∷ []) attachment ∙ ap (λ (l : List Header). old.attachments ++ map (attachment_of bytes file) l) (sym one);
-  missing = told ∙ ap (option_or old.missing) (missing ∙ sym (single (missing_data bytes h)) ∙ ap (λ (l : List Header). first_damage (map (missing_data bytes) l)) (sym one));
-}
-  where
-    one : filter is_attached (h ∷ []) ≡ h ∷ []
-    one = ap (λ (b : Bool). if b then h ∷ [] else []) is
-
-    single : (d : Option Damage) → first_damage (d ∷ []) ≡ d
-    single (Some e) = refl
-    single None = refl
 
 -- ---- on the way
 

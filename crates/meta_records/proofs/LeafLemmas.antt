@@ -1,5 +1,5 @@
 -- A child of an AttachedFile as a leaf.
-use Rattle.std.proofs.Common.{◌≡◌, ◌≤◌, ℕ, ◌+◌, ◌-◌, ◌==◌, Bool, true, false, not, if◌then◌else◌, List, [], Result, Ok, Err, sym, ◌∙◌, ap, arith}
+use Rattle.std.proofs.Common.{◌≡◌, ◌≤◌, ℕ, ◌+◌, ◌-◌, ◌==◌, Bool, true, false, not, if◌then◌else◌, List, [], Result, Ok, sym, ◌∙◌, ap, arith}
 use Rattle.std.proofs.lemmas.Bool.Decides.{nat_tests}
 use Rattle.mkv_schema.specs.declared.ids.TheConstants.{ATTACHED_FILE, FILE_DATA}
 use Rattle.mkv_io.specs.declared.damage.Damage.{Damage}
@@ -19,9 +19,6 @@ use Rattle.meta_records.proofs.TableFacts.{file_data-value}
 is-data : (h : Header) → h.id ≡ FILE_DATA → (h.id == FILE_DATA) ≡ true
 is-data h is = grind (arith, nat_tests)
 
-isnt-data : (h : Header) → (h.id ≡ FILE_DATA → ⊥) → (h.id == FILE_DATA) ≡ false
-isnt-data h other = grind (arith, nat_tests)
-
 pub leaf_in-data : (bytes : List ℕ) (h : Header) (n : Node) → h.id ≡ FILE_DATA → n ≡ leaf FILE_DATA 0 [] → leaf_in bytes h ≡ Ok n
 leaf_in-data bytes h n is made =
     let value : is_known_value ATTACHED_FILE h.id (body_of bytes h) ≡ true = ap (λ (i : ℕ). is_known_value ATTACHED_FILE i (body_of bytes h)) is ∙ file_data-value (body_of bytes h) in
@@ -30,26 +27,6 @@ leaf_in-data bytes h n is made =
     ∙ ap (λ (b : Bool). ok (leaf h.id 0 (if b then [] else body_of bytes h))) (is-data h is)
     ∙ ap (λ (i : ℕ). ok (leaf i 0 [])) is
     ∙ ap ok (sym made)
-
-pub octets_of-data : (h : Header) → h.id ≡ FILE_DATA → octets_of h ≡ 0
-octets_of-data h is = ap (λ (b : Bool). if b then 0 else known h.size) (is-data h is)
-
--- ---- of another child
-
-pub leaf_in-value : (bytes : List ℕ) (h : Header) (octets : List ℕ) (n : Node) → (h.id ≡ FILE_DATA → ⊥) → octets ≡ body_of bytes h → is_known_value ATTACHED_FILE h.id octets ≡ true → n ≡ leaf h.id 0 octets → leaf_in bytes h ≡ Ok n
-leaf_in-value bytes h octets n other read value made =
-    let ok : Node → Result Node Damage = λ m. Ok m in
-    ap (λ (v : Bool). unless (where_it (not v) (told_at BadValue h)) (leaf_of bytes h)) (ap (is_known_value ATTACHED_FILE h.id) (sym read) ∙ value)
-    ∙ ap (λ (b : Bool). ok (leaf h.id 0 (if b then [] else body_of bytes h))) (isnt-data h other)
-    ∙ ap (λ (o : List ℕ). ok (leaf h.id 0 o)) (sym read)
-    ∙ ap ok (sym made)
-
-pub leaf_in-bad : (bytes : List ℕ) (h : Header) (octets : List ℕ) → octets ≡ body_of bytes h → is_known_value ATTACHED_FILE h.id octets ≡ false → leaf_in bytes h ≡ Err (told_at BadValue h)
-leaf_in-bad bytes h octets read bad =
-    ap (λ (v : Bool). unless (where_it (not v) (told_at BadValue h)) (leaf_of bytes h)) (ap (is_known_value ATTACHED_FILE h.id) (sym read) ∙ bad)
-
-pub octets_of-value : (h : Header) → (h.id ≡ FILE_DATA → ⊥) → octets_of h ≡ known h.size
-octets_of-value h other = ap (λ (b : Bool). if b then 0 else known h.size) (isnt-data h other)
 
 -- ---- what is counted
 

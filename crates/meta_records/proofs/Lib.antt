@@ -1,5 +1,4 @@
 pub mod CountsLemmas
-pub mod EndLemmas
 pub mod FilesLemmas
 pub mod HeaderLemmas
 pub mod LeafLemmas

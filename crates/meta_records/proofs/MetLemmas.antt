@@ -1,5 +1,5 @@
 -- What is met of some Elements, one step at a time.
-use Rattle.std.proofs.Common.{◌≡◌, ℕ, ◌+◌, ◌<◌, ◌≤◌, Bool, true, false, if◌then◌else◌, List, [], ◌∷◌, ◌++◌, length, flat_map, Option, Some, None, Result, Ok, Err, refl, sym, ◌∙◌, ap, subst, arith, append_assoc}
+use Rattle.std.proofs.Common.{◌≡◌, ℕ, ◌+◌, ◌<◌, ◌≤◌, Bool, true, if◌then◌else◌, List, [], ◌∷◌, ◌++◌, length, flat_map, Option, Some, None, Result, Ok, Err, refl, sym, ◌∙◌, ap, subst, arith, append_assoc}
 use Rattle.mkv_io.specs.declared.damage.Damage.{Damage}
 use Rattle.mkv_schema.specs.declared.element.Header.{Header}
 use Rattle.mkv_schema.specs.Element.{in_master, element_at, octets_between, end_in, stated_end}
@@ -178,13 +178,6 @@ part-good bytes h old new made x within is counted one = λ more.
 
 pub child-over : (T : Type 0) (bytes : List ℕ) (h : Header) (old new : Counts) (d : Damage) → first_damage (limits_passed (old.octets + (child_of h).counted) old.nodes h) ≡ Some d → Meets {T = T} (at_child bytes h) old new (Err (Refused d))
 child-over T bytes h old new d over = λ more. refused_from-over old.octets old.nodes (child_of h) _ d over
-
--- inside another than an AttachedFile nothing is met
-pub child-other : {T : Type 0} (bytes : List ℕ) (h : Header) (old new : Counts) (x : T) → is_attached h ≡ false → first_damage (limits_passed (old.octets + (child_of h).counted) old.nodes h) ≡ None → new.octets ≡ old.octets + (child_of h).counted → new.nodes ≡ old.nodes + 1
-    → Meets (at_child bytes h) old new (Ok x)
-child-other bytes h old new x other within counted one = λ more.
-    refused_from-counted old.octets old.nodes (child_of h) new _ within refl counted one
-    ∙ ap (λ (b : Bool). refused_from new.octets new.nodes ((if b then met_in (at_part bytes) (children_of bytes h) else []) ++ more)) other
 
 -- inside an AttachedFile its children are
 module _ (bytes : List ℕ) (h : Header) (old mid : Counts) (file : is_attached h ≡ true) (within : first_damage (limits_passed (old.octets + (child_of h).counted) old.nodes h) ≡ None)

@@ -24,13 +24,6 @@ IsSpent-on from at end a b c x y z on further first second = record {
   way = omega (arith, first.reads, first.way, second.way);
 }
 
--- it ends without one
-pub IsSpent-paid : (way whole : ℕ) (a b : Counts) (x y : ℕ) → way ≤ whole → IsPaid way a b x y → IsSpent whole a b x y
-IsSpent-paid way whole a b x y within paid = record {
-  reads = omega (arith, paid.reads);
-  way = omega (arith, paid.reads, paid.way);
-}
-
 -- a longer way pays too
 pub IsPaid-longer : (way whole : ℕ) (a b : Counts) (x y : ℕ) → way ≤ whole → IsPaid way a b x y → IsPaid whole a b x y
 IsPaid-longer way whole a b x y within paid = record { reads = paid.reads; way = omega (arith, paid.way) }

@@ -180,9 +180,6 @@ pub uid-none : (entry : Node) → first_child FILE_UID entry ≡ None → uint_i
 unfolding entry_of table
 uid-none entry none = ap (λ (o : Option Node). unwrap_or (option_map integer_of o) (unwrap_or (uint_default FILE_UID) 0)) none
 
-pub uid-some : (entry uid : Node) → first_child FILE_UID entry ≡ Some uid → uint_in FILE_UID entry ≡ integer_of uid
-uid-some entry uid some = ap (λ (o : Option Node). unwrap_or (option_map integer_of o) (unwrap_or (uint_default FILE_UID) 0)) some
-
 -- ---- the attached file
 
 pub attachment-is : (bytes : List ℕ) (file : FileId) (h : Header) (parts : Parts) (uid at len : ℕ) → ArePartsOf bytes h parts → uid ≡ uint_in FILE_UID parts.entry → at ≡ option_map_or (λ (d : Header). d.body) parts.first 0 → len ≡ option_map_or (λ (d : Header). known d.size) parts.first 0

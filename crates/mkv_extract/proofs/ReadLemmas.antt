@@ -28,12 +28,6 @@ causes-next targets tracks k t below is =
     one_more : (n : ℕ) → suc n ≡ n + 1
     one_more n = omega arith
 
--- a track that isn't named or whose frames can be used is passed
-pub causes-passed : (targets : List Target) (tracks : List Track) (k : ℕ) (t : Track) → k < length tracks → t ≡ get_or tracks k t → first_damage (causes_of targets k t) ≡ None → first_damage (causes_from targets k (drop k tracks)) ≡ first_damage (causes_from targets (k + 1) (drop (k + 1) tracks))
-causes-passed targets tracks k t below is none =
-    ap first_damage (causes-next targets tracks k t below is)
-    ∙ first_damage-behind (causes_of targets k t) (causes_from targets (k + 1) (drop (k + 1) tracks)) none
-
 -- one whose frames can't be used refuses the file
 pub causes-bad : (targets : List Target) (tracks : List Track) (k : ℕ) (t : Track) (d : Damage) → k < length tracks → t ≡ get_or tracks k t → first_damage (causes_of targets k t) ≡ Some d → first_damage (causes_from targets k (drop k tracks)) ≡ Some d
 causes-bad targets tracks k t d below is some =

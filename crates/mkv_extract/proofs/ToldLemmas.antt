@@ -153,13 +153,6 @@ written-said old now all count targets k t below is there way =
     (ap (map wrote_line) (written-next count targets k t below is)
     ∙ ap (λ (a : Bool). map wrote_line ((if a then t.name ∷ [] else []) ++ written count (drop (k + 1) targets))) (lt-ltb _ _ there)) way
 
--- one whose track isn't there has none
-pub written-passed : (old now : ReportLines) (all : List (List ℕ)) (count : ℕ) (targets : List Target) (k : ℕ) (t : Target) → k < length targets → t ≡ get_or targets k t → count ≤ t.id → SaysUpTo old now all (map wrote_line (written count (drop k targets))) → SaysUpTo old now all (map wrote_line (written count (drop (k + 1) targets)))
-written-passed old now all count targets k t below is none way =
-    subst (SaysUpTo old now all)
-    (ap (map wrote_line) (written-next count targets k t below is)
-    ∙ ap (λ (a : Bool). map wrote_line ((if a then t.name ∷ [] else []) ++ written count (drop (k + 1) targets))) (le-ltb _ _ none)) way
-
 -- ---- what targets name
 
 -- something that isn't there stands behind all

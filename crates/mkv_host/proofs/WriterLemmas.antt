@@ -1,17 +1,13 @@
 -- Octets that are written at a place, some of them and then others behind them.
-use Rattle.std.proofs.Common.{◌≡◌, ◌≤◌, ℕ, ◌+◌, List, [], ◌++◌, length, take, drop, Option, Some, None, refl, sym, ◌∙◌, ap, append_assoc, length-append, arith}
+use Rattle.std.proofs.Common.{◌≡◌, ◌≤◌, ℕ, ◌+◌, List, [], ◌++◌, length, take, drop, sym, ◌∙◌, ap, append_assoc, length-append, arith}
 use Rattle.std.proofs.lemmas.Grind.{common_steps}
 use Rattle.std.proofs.lemmas.List.{drop-drop}
 use Rattle.std.proofs.Math.Seq.{drop-append-add, take-add, take-append_seam}
-use Rattle.mkv_io.specs.Contents.{overwritten, with_overwritten}
+use Rattle.mkv_io.specs.Contents.{overwritten}
 
 -- nothing is written
 pub overwritten-none : (was : List ℕ) (at : ℕ) → overwritten was at [] ≡ was
 overwritten-none was at = grind (arith, common_steps)
-
-pub with_overwritten-none : (at : ℕ) (content : Option (List ℕ)) → content ≡ with_overwritten at [] content
-with_overwritten-none at None = refl
-with_overwritten-none at (Some was) = ap Some (sym (overwritten-none was at))
 
 -- others are written behind the first
 pub overwritten-more : (was first next : List ℕ) (at : ℕ) → at ≤ length was → overwritten (overwritten was at first) (at + length first) next ≡ overwritten was at (first ++ next)

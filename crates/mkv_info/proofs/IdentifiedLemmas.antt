@@ -7,14 +7,10 @@ use Rattle.mkv_lines.specs.Said.{ReportLines, Says, SaysPart}
 use Rattle.mkv_lines.specs.Verdict.{SaysVerdict, nothing}
 use Rattle.mkv_lines.specs.declared.status.Status.{Status}
 use Rattle.mkv_lines.specs.declared.status.Stop.{Stop}
-use Rattle.mkv_lines.proofs.SaidLemmas.{SaysPart-before, SaysPart-none, Says-then}
+use Rattle.mkv_lines.proofs.SaidLemmas.{SaysPart-before, Says-then}
 use Rattle.mkv_info.specs.Listed.{status_with, warnings}
 use Rattle.mkv_info.specs.Identified.{identified}
 use Rattle.mkv_info.specs.Read.{Described}
-
--- nothing was said yet
-pub says-none : (old : ReportLines) (name : List ℕ) (read : Result Described Damage) (why : Stop) → SaysVerdict old old (Err why) (identified name read)
-says-none old name read why = SaysPart-none old (identified name read).lines
 
 -- the line couldn't be said
 pub says-part : (old new : ReportLines) (name line : List ℕ) (file : Described) (why : Stop) → line ≡ identification_line name file.records → SaysPart old new (line ∷ []) → SaysVerdict old new (Err why) (identified name (Ok file))

@@ -12,7 +12,7 @@ use Rattle.mkv_lines.specs.Said.{ReportLines, Says, SaysPart}
 use Rattle.mkv_lines.specs.Verdict.{SaysVerdict, Verdict, nothing, refused}
 use Rattle.mkv_lines.specs.declared.status.Status.{Status}
 use Rattle.mkv_lines.specs.declared.status.Stop.{Stop}
-use Rattle.mkv_lines.proofs.SaidLemmas.{SaysPart-before, SaysPart-behind, SaysPart-none, Says-then}
+use Rattle.mkv_lines.proofs.SaidLemmas.{SaysPart-before, SaysPart-behind, Says-then}
 use Rattle.track_records.specs.declared.track.Track.{Track}
 use Rattle.mkv_info.specs.Listed.{element_lines, listed, listed_or_refused, listed_verdict, shown_lines, status_with, warnings, with_tracks}
 use Rattle.mkv_info.specs.Tracks.{file_tracks, track_lines, tracks_at}
@@ -61,10 +61,6 @@ verdict-is : (name bytes : List ℕ) (v : FileOutline) (of : Outlines 0 bytes v)
 verdict-is name bytes v of found tracks =
     ap (listed_or_refused name bytes) of.is
     ∙ ap (with_tracks name of.outlined) (sym (tracks ∙ shown_tracks-are bytes v of))
-
--- nothing was said yet
-pub reaches-none : (old : ReportLines) (name bytes : List ℕ) (why : Stop) → SaysVerdict old old (Err why) (listed_verdict name bytes)
-reaches-none old name bytes why = SaysPart-none old (listed_verdict name bytes).lines
 
 -- the tracks refuse the file
 pub reaches-refused : (old new : ReportLines) (name bytes : List ℕ) (v : FileOutline) (found : Result (List Track) Damage) (d : Damage) (r : Result Status Stop) → outline_in 0 bytes ≡ Ok v → found ≡ tracks_at bytes (first_in TRACKS v) → found ≡ Err d → SaysVerdict old new r (refused (refusal_line name d)) → SaysVerdict old new r (listed_verdict name bytes)

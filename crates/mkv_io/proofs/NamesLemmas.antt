@@ -1,5 +1,5 @@
 -- What a change of one name's content makes of the names: laws for whoever writes files.
-use Rattle.std.proofs.Common.{◌≡◌, ◌≢◌, ◌<◌, ℕ, zero, suc, List, [], ◌∷◌, ◌++◌, length, get_or, arith, append_assoc, append-nil, Option, Some, None, option_map, Bool, true, false, if◌then◌else◌, refl, sym, ◌∙◌, ap, subst}
+use Rattle.std.proofs.Common.{◌≡◌, ◌≢◌, ◌<◌, ℕ, List, [], ◌∷◌, ◌++◌, append_assoc, append-nil, Option, Some, None, option_map, Bool, true, false, if◌then◌else◌, refl, sym, ◌∙◌, ap, subst}
 use Rattle.std.specs.Str.{bytes_eq}
 use Rattle.std.proofs.lemmas.Slice.Eq.{bytes_eq-Decides}
 use Rattle.mkv_io.specs.Contents.{overwritten, with_appended, with_overwritten}
@@ -16,12 +16,6 @@ others-front name (x ∷ xs) ys others = (others.0, others-front name xs ys othe
 pub others-behind : (name : List ℕ) (xs ys : List (List ℕ)) → AreOthers name (xs ++ ys) → AreOthers name ys
 others-behind name [] ys others = others
 others-behind name (x ∷ xs) ys others = others-behind name xs ys others.1
-
--- one of them is another name
-pub others-at : (name : List ℕ) (names : List (List ℕ)) (k : ℕ) (d : List ℕ) → AreOthers name names → k < length names → get_or names k d ≢ name
-others-at name [] k d others below = absurd (omega arith)
-others-at name (x ∷ xs) zero d others below = others.0
-others-at name (x ∷ xs) (suc k) d others below = others-at name xs k d others.1 (omega arith)
 
 -- ---- contents
 

@@ -71,6 +71,3 @@ SaysUpTo-stops old mid new all xs left way part = record {
       ∙ sym (append_assoc way.said part.said (part.left ++ left));
   added = part.added ∙ ap (λ (held : ReportLines). with_lines held part.said) way.added ∙ with_lines-both old way.said part.said;
 }
-
-pub SaysUpTo-part : (old new : ReportLines) (all left : List (List ℕ)) → SaysUpTo old new all left → SaysPart old new all
-SaysUpTo-part old new all left way = record { said = way.said; left = left; whole = way.whole; added = way.added }

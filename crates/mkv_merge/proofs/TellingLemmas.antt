@@ -50,18 +50,6 @@ kept-stops line kept old mid new all xs k x below is keeps way part =
     SaysUpTo-stops old mid new all (line x ∷ []) (map line (filter kept (drop (k + 1) xs)))
     (next-said line kept old mid all xs k x below is keeps way) part
 
--- one that isn't kept has none
-pub left-out : {A : Type 0} (line : A → List ℕ) (kept : A → Bool) (old now : ReportLines) (all : List (List ℕ)) (xs : List A) (k : ℕ) (x : A) → k < length xs → x ≡ get_or xs k x → kept x ≡ false → SaysUpTo old now all (map line (filter kept (drop k xs))) → SaysUpTo old now all (map line (filter kept (drop (k + 1) xs)))
-left-out {A = A} line kept old now all xs k x below is keeps way =
-    subst (SaysUpTo old now all)
-    (ap (λ (ys : List A). map line (filter kept ys)) (drop-at xs k x below is)
-    ∙ ap (λ (a : Bool). map line (if a then x ∷ filter kept (drop (k + 1) xs) else filter kept (drop (k + 1) xs))) keeps) way
-
--- at last all are said
-pub kept-ends : {A : Type 0} (line : A → List ℕ) (kept : A → Bool) (old new : ReportLines) (all : List (List ℕ)) (xs : List A) (k : ℕ) → length xs ≤ k → SaysUpTo old new all (map line (filter kept (drop k xs))) → new ≡ with_lines old all
-kept-ends {A = A} line kept old new all xs k past way =
-    SaysUpTo-ends old new all (subst (SaysUpTo old new all) (ap (λ (ys : List A). map line (filter kept ys)) (drop_all k xs past)) way)
-
 -- some item is kept
 pub is_some-kept : {A : Type 0} (kept : A → Bool) (xs : List A) → list_any kept xs ≡ is_some_of (filter kept xs)
 is_some-kept kept [] = refl

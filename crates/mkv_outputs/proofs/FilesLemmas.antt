@@ -75,10 +75,6 @@ pub OnErr-always : {T E A : Type 0} (result : Result T E) → A → OnErr result
 OnErr-always (Ok value) holds = tt
 OnErr-always (Err fault) holds = holds
 
-pub OnOk-always : {T E A : Type 0} (result : Result T E) → A → OnOk result A
-OnOk-always (Ok value) holds = holds
-OnOk-always (Err fault) holds = tt
-
 -- ---- files are closed one after the other
 
 pub closed-more : (old new : ℕ → Bool) (list : List FileId) (i : ℕ) (closed : FileId) → AllPairs (λ (a b : FileId). a.n < b.n) list → i < length list → ((d : FileId) → get_or list i d ≡ closed) → new closed.n ≡ false → ((file : ℕ) → file ≢ closed.n → new file ≡ old file) → AllWithin (λ (f : FileId). old f.n ≡ false) list 0 i → AllWithin (λ (f : FileId). old f.n ≡ true) list i (length list) → AllWithin (λ (f : FileId). new f.n ≡ false) list 0 (i + 1) × AllWithin (λ (f : FileId). new f.n ≡ true) list (i + 1) (length list)
@@ -180,17 +176,6 @@ WritesOutputs-then r f a b c sinks now later outputs first next = record {
 }
 
 -- ---- what became of the files since outputs were first made
-
--- no output was made yet
-pub MadeSince-none : {S : Type 0} (r : Ghosts S) (f : writing.Ghosts S) (names : List (List ℕ)) (files : S) → MadeSince r f names files files []
-MadeSince-none r f names files = record {
-  newer = λ k d below. absurd (omega arith);
-  besides = λ file none. refl;
-  given = omega arith;
-  holders = λ file live. refl;
-  others = λ file is. record { alive = refl; size = λ live. refl; content = λ live. refl };
-  asks = λ name besides unasked. unasked;
-}
 
 -- another output is made, or isn't
 pub MadeSince-added : {S : Type 0} (r : Ghosts S) (f : writing.Ghosts S) (names : List (List ℕ)) (name : List ℕ) (a b c : S) (sinks later : List Sink) → ((file : ℕ) → (live_files r a).live file ≡ true → file < f.given a) → ((other : List ℕ) → AreOthers other names → other ≢ name) → MadeSince r f names a b sinks → MakesOnly r f name b c sinks later → MadeSince r f names a c later

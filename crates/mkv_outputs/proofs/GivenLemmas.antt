@@ -9,7 +9,7 @@ use Rattle.mkv_io.specs.Names.{Names, with_change, with_content}
 use Rattle.mkv_io.specs.Names.{AreApart, AreOthers}
 use Rattle.mkv_outputs.specs.Outputs.{Output, empty, names_of, with_empty, with_end, with_more, with_outputs}
 use Rattle.mkv_outputs.specs.Starts.{AreBegun, StandsInPart}
-use Rattle.mkv_outputs.specs.Sinks.{AreLive, ArePassed, Finishes, Gives, HaveBeenGiven, ids_of, holders_of, with_waiting}
+use Rattle.mkv_outputs.specs.Sinks.{AreLive, ArePassed, Gives, HaveBeenGiven, ids_of, holders_of, with_waiting}
 use Rattle.mkv_outputs.specs.Written.{Passes, PassesOn}
 use Rattle.mkv_outputs.specs.declared.sink.Sink.{Sink}
 use Rattle.mkv_outputs.proofs.OutputsLemmas.{names_of-more, with_more-none, with_outputs-added, with_outputs-more}
@@ -214,10 +214,6 @@ Gives-refused f old new (Err fault) sinks later name is names = λ since given h
 
 -- ---- for callers
 
--- no output was made yet
-pub HaveBeenGiven-none : (since : Names) (holder : ℕ → List ℕ) → HaveBeenGiven since since holder [] []
-HaveBeenGiven-none since holder = record { stand = []; names = refl; whole = refl; holders = refl; apart = tt }
-
 -- what waits leaves the names
 names_of-waiting : (stand : List Output) (sinks : List Sink) → length stand ≡ length sinks → names_of (with_waiting stand sinks) ≡ names_of stand
 names_of-waiting [] sinks same = refl
@@ -238,12 +234,3 @@ HaveBeenGiven-count old new holder sinks given has =
 -- a name that none of these outputs has may be that of another one
 pub HaveBeenGiven-apart : (old new : Names) (holder : ℕ → List ℕ) (sinks : List Sink) (given : List Output) (name : List ℕ) → HaveBeenGiven old new holder sinks given → AreOthers name (names_of given) → AreOthers name (holders_of holder (ids_of sinks))
 HaveBeenGiven-apart old new holder sinks given name has others = subst (AreOthers name) (sym (HaveBeenGiven-names old new holder sinks given has)) others
-
--- after a flush all stands whole, or in part
-pub Finishes-ok : {S T E : Type 0} (f : Ghosts S) (old new : S) (sinks : List Sink) (result : Result T E) (since : Names) (given : List Output) → Finishes f old new sinks result → HaveBeenGiven since (f.names old) (f.holder old) sinks given → OnOk result (f.names new ≡ with_outputs since given)
-Finishes-ok f old new sinks (Ok done) since given finishes has = finishes since given has
-Finishes-ok f old new sinks (Err fault) since given finishes has = tt
-
-pub Finishes-err : {S T E : Type 0} (f : Ghosts S) (old new : S) (sinks : List Sink) (result : Result T E) (since : Names) (given : List Output) → Finishes f old new sinks result → HaveBeenGiven since (f.names old) (f.holder old) sinks given → OnErr result (StandsInPart since (f.names new) given)
-Finishes-err f old new sinks (Ok done) since given finishes has = tt
-Finishes-err f old new sinks (Err fault) since given finishes has = finishes since given has

@@ -33,11 +33,6 @@ names_of-more k more [] = refl
 names_of-more zero more (o ∷ os) = refl
 names_of-more (suc k) more (o ∷ os) = ap (λ (names : List (List ℕ)). o.name ∷ names) (names_of-more k more os)
 
-pub length-more : (k : ℕ) (more : List ℕ) (outputs : List Output) → length (with_more k more outputs) ≡ length outputs
-length-more k more [] = refl
-length-more zero more (o ∷ os) = refl
-length-more (suc k) more (o ∷ os) = ap suc (length-more k more os)
-
 -- nothing more is given
 pub with_more-none : (k : ℕ) (outputs : List Output) → with_more k [] outputs ≡ outputs
 with_more-none k [] = refl

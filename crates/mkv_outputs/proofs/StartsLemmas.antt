@@ -1,7 +1,7 @@
 -- First parts of outputs: laws for whoever stops in the middle.
 use Rattle.std.proofs.Common.{◌≡◌, ℕ, zero, suc, List, [], ◌∷◌, ◌++◌, refl, sym, ◌∙◌, ap, append_assoc, append-nil}
 use Rattle.mkv_io.specs.Names.{Names}
-use Rattle.mkv_outputs.specs.Outputs.{Output, with_more, with_outputs}
+use Rattle.mkv_outputs.specs.Outputs.{Output, with_more}
 use Rattle.mkv_outputs.specs.Starts.{AreBegun, IsBegun, IsStart, StandsInPart}
 
 -- a first part of a first part
@@ -51,11 +51,3 @@ AreBegun-before (o ∷ os) (whole ∷ all) more begun = (begun.0, AreBegun-befor
 -- further outputs, of which nothing stands
 pub StandsInPart-before : (old new : Names) (all more : List Output) → StandsInPart old new all → StandsInPart old new (all ++ more)
 StandsInPart-before old new all more stands = record { stand = stands.stand; begun = AreBegun-before stands.stand all more stands.begun; names = stands.names }
-
--- outputs that all stand whole
-pub StandsInPart-whole : (old new : Names) (outputs : List Output) → new ≡ with_outputs old outputs → StandsInPart old new outputs
-StandsInPart-whole old new outputs names = record { stand = outputs; begun = AreBegun-whole outputs; names = names }
-
--- no output has been begun
-pub StandsInPart-none : (names : Names) (outputs : List Output) → StandsInPart names names outputs
-StandsInPart-none names outputs = record { stand = []; begun = tt; names = refl }

@@ -11,7 +11,6 @@ use Rattle.mkv_disk.specs.Moments.{LeavesOnly}
 use Rattle.mkv_disk.specs.Pair.{IsPairImage}
 use Rattle.mkv_disk.proofs.MomentsLemmas.{stays}
 use Rattle.mkv_disk.specs.declared.disk.Disk as disks
-use Rattle.mkv_lines.specs.Faults.{HasStopCause}
 use Rattle.mkv_lines.specs.Said.{HasSayCause, ReportLines, Says, SaysLast, SaysPart, SaysUpTo}
 use Rattle.mkv_lines.specs.Verdict.{Reaches, StopsSaying, Verdict}
 use Rattle.mkv_lines.specs.Ordinary.{IsOrdinary}
@@ -98,14 +97,6 @@ ends-done old new status.NoMemory v ordinary reaches = absurd ordinary
 ends-done old new status.Outside v ordinary reaches = absurd ordinary
 
 -- ---- why a command stops
-
--- a command that reaches no file in place, of a run that leaves the disk
-pub files-stop : {T : Type 0} (reach : Reach) (old new : RunSeen) (r : Result T Stop) → IsSilent reach old.seen.lines new.seen.lines → new.disk ≡ old.disk → HasStopCause old.seen.counts new.seen.counts r → HasRunStop reach old new r
-files-stop reach old new (Ok x) silent disk cause = record { counts = cause; disk = disk }
-files-stop reach old new (Err stop.Memory) silent disk cause = (record { counts = cause; disk = disk }, silent)
-files-stop reach old new (Err stop.Files) silent disk cause = (cause.0, cause.1, disk)
-files-stop reach old new (Err stop.Disk) silent disk cause = absurd cause
-files-stop reach old new (Err stop.Report) silent disk cause = (cause.0, cause.1, disk)
 
 -- where no line was said, none was said of an edit in place
 pub silent-same : (reach : Reach) (old new : ReportLines) → new ≡ old → IsSilent reach old new

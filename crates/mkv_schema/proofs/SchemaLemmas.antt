@@ -213,14 +213,6 @@ kind_of-text_default id given =
     of_kind k (Some (number_value n)) fits given = (cc)
     of_kind k (Some (text_value t)) fits given = (cc)
 
--- What may stand under a parent is in the table.
-pub kind_of-may_stand : (id parent : ℕ) → IsTrue (may_stand id parent) → IsSome (kind_of id)
-kind_of-may_stand id parent stands =
-    of_entry (λ (o : Option Entry). IsTrue (may_stand_in id parent o) → IsSome (kind_in o)) id
-    (λ stands. (cc))
-    (λ e found stands. refl)
-    stands
-
 -- Every parent is a master of the table.
 pub is_master-may_stand : (id parent : ℕ) → IsTrue (may_stand id parent) → IsTrue (is_master parent)
 is_master-may_stand id parent stands =
@@ -245,30 +237,6 @@ is_master-may_stand id parent stands =
     at e found stands =
         let masters : has_master_parents e.id e.parents ≡ true = entry_of-passes stands_in_masters table-parents id e found in
         of_place e.parents (rw (entry_of-id id e found) at masters) stands
-
--- An Element of level 0 stands under no parent.
-pub may_stand-is_level0 : (id parent : ℕ) → IsTrue (is_level0 id) → may_stand id parent ≡ false
-may_stand-is_level0 id parent level =
-    of_entry (λ (o : Option Entry). IsTrue (is_level0_in o) → may_stand_in id parent o ≡ false) id
-    (λ level. refl)
-    (λ e found level. of_place e.parents level)
-    level
-  where
-    of_place : (p : Parents) → is_root p ≡ true → allows p id parent ≡ false
-    of_place Root root = refl
-    of_place _ root = (cc)
-
--- An Element of level 1 stands under Segment.
-pub may_stand-is_level1 : (id : ℕ) → IsTrue (is_level1 id) → IsTrue (may_stand id SEGMENT)
-may_stand-is_level1 id level =
-    of_entry (λ (o : Option Entry). IsTrue (is_level1_in o) → IsTrue (may_stand_in id SEGMENT o)) id
-    (λ level. (cc))
-    (λ e found level. of_place e.parents level)
-    level
-  where
-    of_place : (p : Parents) → is_child_of SEGMENT p ≡ true → allows p id SEGMENT ≡ true
-    of_place (ChildOf own) child = child
-    of_place _ child = (cc)
 
 -- An Element of level 0 is a master.
 pub is_master-is_level0 : (id : ℕ) → IsTrue (is_level0 id) → IsTrue (is_master id)

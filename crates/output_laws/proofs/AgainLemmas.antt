@@ -4,7 +4,7 @@ use Rattle.std.proofs.lemmas.List.Concat.{flat_map-append}
 use Rattle.std.proofs.lemmas.List.Elements.{All-head, All-tail, filter-append}
 use Rattle.file_format.specs.Info.{scale_of}
 use Rattle.block_format.specs.Block.{Block}
-use Rattle.block_format.specs.Events.{blocks_of, stop_in}
+use Rattle.block_format.specs.Events.{blocks_of}
 use Rattle.file_format.specs.FileBlocks.{file_events}
 use Rattle.output_model.specs.Element.{octets_of, joined}
 use Rattle.output_model.specs.declared.heads.ClusterLimits.{ClusterLimits}
@@ -29,10 +29,6 @@ use Rattle.output_laws.proofs.MergedClusterLemmas.{clusters-hold}
 pub blocks-all : (bs : List Block) → blocks_of (block_events bs) ≡ bs
 blocks-all [] = refl
 blocks-all (b ∷ bs) = ap (λ l. b ∷ l) (blocks-all bs)
-
-stops-none : (bs : List Block) → flat_map stop_in (block_events bs) ≡ []
-stops-none [] = refl
-stops-none (b ∷ bs) = stops-none bs
 
 -- ---- a lane
 

@@ -88,9 +88,6 @@ causes-none : (b : Option Damage) (t v w m n : Bool) (d₀ d₁ d₂ d₃ d₄ :
     → first_damage (b ∷ None ∷ where_it t d₀ ∷ where_it v d₁ ∷ where_it w d₂ ∷ where_it m d₃ ∷ where_it n d₄ ∷ []) ≡ None
 causes-none b t v w m n d₀ d₁ d₂ d₃ d₄ eb et ev ew em en = rw (eb, et, ev, ew, em, en) refl
 
-pub ebml-is : (webm : Bool) → IsElement (ebml_element webm)
-ebml-is webm = (computes webm).is_element
-
 -- What is written of an EBML header is read as that.
 pub ebml-read : (webm : Bool) (tail : List ℕ) → header_without_limit (octets_of (ebml_element webm) ++ tail) ≡ Ok (header_in_place 0 (ebml_element webm))
 ebml-read webm tail =

@@ -1,8 +1,7 @@
 -- Which numbers are taken.
-use Rattle.std.proofs.Common.{◌≡◌, ◌⊎◌, inl, inr, ◌<◌, ◌≤◌, ℕ, ◌+◌, ◌==◌, nat_eq, Bool, true, false, not, ◌&&◌, ◌||◌, if◌then◌else◌, List, [], ◌∷◌, ◌++◌, length, drop, get_or, refl, sym, ap, ◌∙◌, arith, length-append, append-nil, append_assoc, add-one, drop-cons}
+use Rattle.std.proofs.Common.{◌≡◌, ◌⊎◌, inl, inr, ◌<◌, ◌≤◌, ℕ, ◌+◌, ◌==◌, nat_eq, Bool, true, false, not, ◌&&◌, ◌||◌, if◌then◌else◌, List, [], ◌∷◌, ◌++◌, length, drop, get_or, refl, sym, ap, ◌∙◌, arith, length-append, append_assoc, add-one, drop-cons}
 use Rattle.std.specs.List.{list_any}
 use Rattle.std.proofs.lemmas.Bool.Decides.{nat_tests}
-use Rattle.std.proofs.lemmas.List.{drop_all}
 use Rattle.std.proofs.lemmas.List.Folds.{list_any-append}
 use Rattle.indexmap.specs.IndexSet.{IndexSet, contains, insert_key, IsFromIterResult}
 use Rattle.record_changes.specs.Identifiers.{is_free, smallest_free, number_for, renumbered_from, renumbered}
@@ -43,14 +42,6 @@ module _ {S : Type 0} (source given : IndexSet ℕ S) (n : ℕ) (next : IsNext (
 pub smallest-next : {S : Type 0} (source given : IndexSet ℕ S) (n : ℕ) → IsNext (is_taken source given) n → is_taken source given n ≡ false → smallest_free (source.keys ++ given.keys) ≡ n
 smallest-next source given n next free =
     smallest-is (source.keys ++ given.keys) n next.positive (free-of source given n ∙ ap not free) (λ k some below. free-of source given k ∙ ap not (next.below k some below))
-
--- an identifier that is positive and new keeps its number
-pub number-own : (source given : List ℕ) (id : ℕ) → (id ≡ 0 → ⊥) → list_any (λ m. id == m) given ≡ false → number_for source given id ≡ id
-number-own source given id some new = split (id == 0) refl
-  where
-    split : (b : Bool) → (id == 0) ≡ b → (if not b && is_free given id then id else smallest_free (source ++ given)) ≡ id
-    split true is = absurd (some (grind (arith, nat_tests)))
-    split false is = ap (λ t. if not t then id else smallest_free (source ++ given)) new
 
 pub number-zero : (source given : List ℕ) (id : ℕ) → id ≡ 0 → number_for source given id ≡ smallest_free (source ++ given)
 number-zero source given id none = ap (λ t. if not t && is_free given id then id else smallest_free (source ++ given)) (let e : (id == 0) ≡ true = grind (arith, nat_tests) in e)
@@ -121,8 +112,3 @@ module _ {S : Type 0} (source old new : IndexSet ℕ S) (n : ℕ) (pushed : new.
 -- no positive number stands below one
 pub first-next : (taken : ℕ → Bool) → IsNext taken 1
 first-next taken = record { positive = omega arith; below = λ k some less. absurd (omega arith) }
-
--- with no identifier left, the numbers so far are all
-pub all-done : (uids given all : List ℕ) (i : ℕ) → length uids ≤ i → given ++ renumbered_from uids given (drop i uids) ≡ all → given ≡ all
-all-done uids given all i past is =
-    sym (append-nil given) ∙ ap (λ l. given ++ renumbered_from uids given l) (sym (drop_all i uids past)) ∙ is

@@ -8,7 +8,7 @@ use Rattle.tree_format.specs.NormalForm.{is_filler, header_octets, kept_octets, 
 use Rattle.tree_format.specs.Changes.{without, with_child, part, HasNone}
 use Rattle.tree_format.specs.Standing.{placed, placed_all}
 use Rattle.tree_format.proofs.NodeLemmas.{list-nodes, nodes-list, octets_all-flat}
-use Rattle.tree_format.proofs.PartLemmas.{SplitAt, split-first, without-none, with_child-at, part-none, part-set}
+use Rattle.tree_format.proofs.PartLemmas.{SplitAt, split-first, without-none, with_child-at, part-none}
 use Rattle.tree_format.proofs.PlacedLemmas.{octets_all-placed}
 use Rattle.record_laws.specs.Again.{read_of}
 
@@ -24,9 +24,6 @@ none-part id (n ∷ ns) is = of (id_of n == id) refl is (none-part id ns)
     of : (t : Bool) → (id_of n == id) ≡ t → map octets (cond t (n ∷ part id ns) (part id ns)) ≡ [] → (map octets (part id ns) ≡ [] → HasNone id ns) → HasNone id (n ∷ ns)
     of true test none_left rest = absurd (cc)
     of false test none_left rest = All-cons (λ k. (id_of k == id) ≡ false) n ns test (rest none_left)
-
-pub only-set : (n : Node) (ns : List Node) → HasOnly n (with_child n ns)
-only-set n ns = ap (map octets) (part-set n ns)
 
 -- where it is the only one already, nothing changes that is written
 pub same-only : (n : Node) (ns : List Node) → HasOnly n ns → flat_map octets (with_child n ns) ≡ flat_map octets ns

@@ -8,7 +8,7 @@ use Rattle.mkv_schema.specs.Order.{AscendFrom}
 use Rattle.mkv_schema.proofs.ElementsLemmas.{AscendFrom-later}
 use Rattle.mkv_io.specs.LiveFiles.{LiveFiles}
 use Rattle.elements.specs.Window.{ReadAhead, HasNotPassed, MovesTo}
-use Rattle.element_reader.specs.LevelOne.{CanRead, GivesNext, Listing, left}
+use Rattle.element_reader.specs.LevelOne.{CanRead, Listing, left}
 use Rattle.reindex.specs.Points.{cluster_before}
 use Rattle.reindex.specs.Clusters.{HasComeTo, HasReached, IsReady, LooksAt, StaysReady, due, in_front}
 use Rattle.reindex.specs.declared.clusters.Clusters.{Clusters}
@@ -102,17 +102,6 @@ HasReached-here bytes list c h come next past =
           ∙ ap (λ hs. option_or (cluster_before c.reached hs) c.last) front
           ∙ ap (λ found. option_or found c.last) (before-none c.reached h.offset (h ∷ left bytes c.level) past (omega arith, ascends.1)));
     }
-
--- the Element that was looked at, if there is one, was the first of those that were left
-pub LooksAt-next : (bytes : List ℕ) (old new : Clusters) (found : Option Header) → old.next ≡ None → new.next ≡ found → GivesNext bytes old.level new.level found → LooksAt bytes old new found
-LooksAt-next bytes old new None was is gives = record {
-  same = ap (λ n. in_front n (left bytes new.level)) is ∙ gives.1 ∙ sym (ap (λ n. in_front n (left bytes old.level)) was ∙ gives.0);
-  none = λ _. ap (λ n. in_front n (left bytes new.level)) is ∙ gives.1;
-}
-LooksAt-next bytes old new (Some h) was is gives = record {
-  same = ap (λ n. in_front n (left bytes new.level)) is ∙ sym (ap (λ n. in_front n (left bytes old.level)) was ∙ gives);
-  none = λ none. absurd (cc);
-}
 
 -- the Elements that aren't passed are the same, where one was looked at
 pub HasComeTo-looked : (bytes : List ℕ) (list : List Header) (old new : Clusters) (found : Option Header) → HasComeTo bytes list old → LooksAt bytes old new found → (new.last ≡ old.last) × (new.reached ≡ old.reached) → HasComeTo bytes list new

@@ -41,17 +41,8 @@ behind_trees bytes o t = and_then (points_of bytes o.segment t.tracks) (behind_p
 abbrev behind_outline : List ℕ → FileOutline → Result Pointed Damage
 behind_outline bytes o = and_then (trees_of bytes o.segment) (behind_trees bytes o)
 
-pub found-outline_refused : (bytes : List ℕ) (d : Damage) → outline_in 0 bytes ≡ Err d → pointed bytes ≡ Err d
-found-outline_refused bytes d is = ap (λ x. and_then x (behind_outline bytes)) is
-
-pub found-trees_refused : (bytes : List ℕ) (o : FileOutline) (d : Damage) → outline_in 0 bytes ≡ Ok o → trees_of bytes o.segment ≡ Err d → pointed bytes ≡ Err d
-found-trees_refused bytes o d is refused = ap (λ x. and_then x (behind_outline bytes)) is ∙ ap (λ x. and_then x (behind_trees bytes o)) refused
-
 found-points : (bytes : List ℕ) (o : FileOutline) (t : Trees) → outline_in 0 bytes ≡ Ok o → trees_of bytes o.segment ≡ Ok t → pointed bytes ≡ behind_trees bytes o t
 found-points bytes o t is read = ap (λ x. and_then x (behind_outline bytes)) is ∙ ap (λ x. and_then x (behind_trees bytes o)) read
-
-pub found-points_refused : (bytes : List ℕ) (o : FileOutline) (t : Trees) (d : Damage) → outline_in 0 bytes ≡ Ok o → trees_of bytes o.segment ≡ Ok t → points_of bytes o.segment t.tracks ≡ Err d → pointed bytes ≡ Err d
-found-points_refused bytes o t d is read refused = found-points bytes o t is read ∙ ap (λ x. and_then x (behind_points o)) refused
 
 pub found-whole : (bytes : List ℕ) (o : FileOutline) (t : Trees) (points : List CuePoint) → outline_in 0 bytes ≡ Ok o → trees_of bytes o.segment ≡ Ok t → points_of bytes o.segment t.tracks ≡ Ok points → pointed bytes ≡ behind_points o points
 found-whole bytes o t points is read has = found-points bytes o t is read ∙ ap (λ x. and_then x (behind_points o)) has
@@ -108,10 +99,6 @@ index-pointed bytes = outline (outline_in 0 bytes)
 
 abbrev writes_behind : List ℕ → FileOutline → List CuePoint → Option Refusal → Result (List Write) Refusal
 writes_behind bytes o points refusal = edits_then (unless_refused refusal (cues_parts o.others (first_of CUES o.others) (new_cues points))) (writes_of_parts index_ids true bytes o)
-
--- a second Cues refuses it
-pub writes-refused : (bytes : List ℕ) (o : FileOutline) (points : List CuePoint) (r : Refusal) → Some r ≡ twin_of o.others CUES → index_writes bytes o points ≡ Err r
-writes-refused bytes o points r is = ap (writes_behind bytes o points) (sym is)
 
 pub writes-parts : (bytes : List ℕ) (o : FileOutline) (points : List CuePoint) → None ≡ twin_of o.others CUES → index_writes bytes o points ≡ writes_of_parts index_ids true bytes o (cues_parts o.others (first_of CUES o.others) (new_cues points))
 writes-parts bytes o points is = ap (writes_behind bytes o points) (sym is)

@@ -1,5 +1,5 @@
 -- The points of blocks, one after the other.
-use Rattle.std.proofs.Common.{◌≡◌, ◌≤◌, ◌<◌, ℕ, ◌+◌, Bool, true, false, if◌then◌else◌, List, [], ◌∷◌, ◌++◌, length, filter, take, Some, None, Ok, Err, refl, sym, ◌∙◌, ap, subst, append_assoc, append-nil, length-append, inl, inr, max, arith}
+use Rattle.std.proofs.Common.{◌≡◌, ◌≤◌, ◌<◌, ℕ, ◌+◌, Bool, true, false, if◌then◌else◌, List, [], ◌∷◌, ◌++◌, length, filter, take, Some, None, Ok, refl, sym, ◌∙◌, ap, subst, append_assoc, append-nil, length-append, inl, inr, max, arith}
 use Rattle.std.specs.Prelude.{slice_get}
 use Rattle.std.specs.List.{flat_map}
 use Rattle.std.specs.Option.{option_map_or}
@@ -24,7 +24,7 @@ use Rattle.block_records.specs.declared.head.BlockHead.{BlockHead}
 use Rattle.block_format.specs.Elements.{with_limits}
 use Rattle.block_format.specs.Events.{Event, block, blocks_of, damages_of, events_of}
 use Rattle.elements.specs.Window.{ReadAhead, HasNotPassed, MovesTo, end_ahead}
-use Rattle.cluster_reader.specs.Reading.{Reading, damage_event, read_to}
+use Rattle.cluster_reader.specs.Reading.{Reading, read_to}
 use Rattle.output_model.specs.declared.TheConstants.{MOST_CUES}
 use Rattle.output_model.specs.declared.places.CuePoint.{CuePoint}
 use Rattle.reindex.specs.Clusters.{HasComeTo}
@@ -131,15 +131,6 @@ HavePassed-more all rest next passed b so is = record {
   blocks = so.blocks ∙ ap (λ es. passed ++ blocks_of es) is ∙ sym (append_assoc passed (b ∷ []) (blocks_of next));
   damages = so.damages ∙ ap damages_of is;
 }
-
--- the first damage refuses the file
-pub points-damaged : (i : Indexing) (list : List Header) (all rest next : List Event) (passed : List Block) (ends : Bool) (d : Damage) → HavePassed all rest passed → rest ≡ damage_event ends d ∷ next → points_in i list all ≡ Err d
-points-damaged i list all rest next passed ends d so is =
-    ap (λ (ds : List Damage). unless (slice_get ds 0) (take MOST_CUES (points_among i.scale i.base list i.tracks (blocks_of all)))) (so.damages ∙ ap damages_of is ∙ first ends)
-  where
-    first : (t : Bool) → damages_of (damage_event t d ∷ next) ≡ d ∷ damages_of next
-    first true = refl
-    first false = refl
 
 -- without one the points are those of all blocks
 pub points-whole : (i : Indexing) (list : List Header) (all rest : List Event) (passed : List Block) → HavePassed all rest passed → rest ≡ [] → points_in i list all ≡ Ok (take MOST_CUES (points_among i.scale i.base list i.tracks passed))

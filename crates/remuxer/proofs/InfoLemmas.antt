@@ -25,10 +25,6 @@ more-then (leaf id at body) xs ys = refl
 more-then (master id at kids) xs ys =
     ap (λ (ns : List Node). master id at (nodes_of (ns ++ ys))) (list-nodes (list_of kids ++ xs)) ∙ ap (λ (ns : List Node). master id at (nodes_of ns)) (append_assoc (list_of kids) xs ys)
 
-pub more-master : (n : Node) (xs : List Node) → IsMaster n → IsMaster (with_more n xs)
-more-master (leaf id at body) xs is = is
-more-master (master id at kids) xs is = refl
-
 -- a copy of a child has room
 pub copy-room : (ns : List Node) (k : ℕ) (n copy : Node) → depth_all (nodes_of ns) < deepest → k < length ns → n ≡ get_or ns k n → copy ≡ n → HasRoom copy
 copy-room ns k n copy low inside is same = let deep = deep-get ns k n inside is in subst HasRoom (sym same) (omega arith)

@@ -26,7 +26,7 @@ use Rattle.output_model.specs.declared.places.CuePoint.{CuePoint}
 use Rattle.output_model.specs.Front.{front_with}
 use Rattle.output_model.specs.OutputBlock.{OutputBlock}
 use Rattle.output_model.specs.Cluster.{clusters}
-use Rattle.output_model.specs.Document.{Document, layout, back_elements, clusters_elements, cues_for, opened, opened_with}
+use Rattle.output_model.specs.Document.{Document, layout, back_elements, clusters_elements, opened, opened_with}
 use Rattle.cluster_writer.specs.Gathered.{Gathered, Holds}
 use Rattle.cues_seekhead.specs.Draft.{StandsDrafted, draft_of}
 use Rattle.cues_seekhead.specs.Finished.{Finishes, HoldsLayout, IsReady}
@@ -34,7 +34,6 @@ use Rattle.cues_seekhead.specs.OpenOutput.{IsOpen, OpenOutput, StandsOpen}
 use Rattle.cues_seekhead.proofs.LayoutLemmas.{opened-more}
 use Rattle.cues_seekhead.specs.Made.{MakesFile, WritesAndEnds}
 use Rattle.cues_seekhead.proofs.MadeLemmas.{MakesFile-ended, MakesFile-finished, MakesFile-kept}
-use Rattle.output_model.specs.Cued.{is_cue}
 use Rattle.remuxer.specs.Stands.{HasAll, Stands}
 use Rattle.remuxer.proofs.ShortLemmas.{HoldsOfFiles, ended-short}
 use Rattle.remuxer.specs.declared.counts.Counts.{Counts}
@@ -85,10 +84,6 @@ begun-in_turn before now name d stands = record { stand = stands.stand; drafted 
 -- of an output without blocks
 abbrev pub none_counted : Counts
 none_counted = record { clusters = 0; cues = 0 }
-
--- the cue points by the same rules
-pub cued-as : (rules same : List CueRule) (d : Document) → same ≡ rules → d.cues ≡ cues_for (is_cue rules) d.front d.clusters → d.cues ≡ cues_for (is_cue same) d.front d.clusters
-cued-as rules same d are cues = cues ∙ ap (λ rs. cues_for (is_cue rs) d.front d.clusters) (sym are)
 
 module _ {S : Type 0} (r : Ghosts S) (f : writing.Ghosts S) (before : Names) (name : List ℕ) (d : Document) where
   -- it was begun: all its blocks are left

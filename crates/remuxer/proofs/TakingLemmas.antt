@@ -328,10 +328,6 @@ rest-then r f rules s start a b c w v u l m p ahead first next = record {
   few = λ le. next.few (first.few le);
 }
 
--- none has been taken
-pub some-none : {S : Type 0} (r : Ghosts S) (f : writing.Ghosts S) (rules : List CueRule) (s : Split) (start : ℕ) (a : S) (w : BlockWriter) (p : PlacedBlocks) → TakesSome r f rules s start a a w w p p
-some-none r f rules s start a w p = record { stands = λ before name d stands. stands; behind = refl; count = refl; few = λ le. le }
-
 -- the first block of a part was taken, and then the rest of it
 pub part-taken : {S : Type 0} (r : Ghosts S) (f : writing.Ghosts S) (rules : List CueRule) (s : Split) (start : ℕ) (a b c : S) (w v u : BlockWriter) (m p : PlacedBlocks) (ahead : Option Ahead) (x : OutputBlock) (first : List OutputBlock) → first ≡ x ∷ []
     → left (live_files r b) m.merge ≡ left (live_files r a) m.merge → v.blocks ≡ counted w.blocks 1 → ((others : List OutputBlock) → StaysOnTheWay r f rules (in_part start x ∷ others) others a b w v)

@@ -1,5 +1,5 @@
 -- Atoms of a sound edition, one more behind the others.
-use Rattle.std.proofs.Common.{◌≡◌, ◌<◌, ℕ, suc, ◌+◌, ◌==◌, true, false, List, [], ◌∷◌, ◌++◌, length, take, get_or, refl, add-zero, sym, ◌∙◌, arith, append_assoc, append-nil}
+use Rattle.std.proofs.Common.{◌≡◌, ◌<◌, ℕ, suc, ◌+◌, ◌==◌, true, List, [], ◌∷◌, ◌++◌, length, take, get_or, refl, add-zero, sym, ◌∙◌, arith, append_assoc, append-nil}
 use Rattle.std.proofs.lemmas.List.Elements.{filter_more}
 use Rattle.mkv_schema.specs.Schema.{entry_of}
 use Rattle.mkv_schema.specs.Table.{table}
@@ -21,11 +21,6 @@ pub child_sound : (tree n : Node) (ns : List Node) (i : ℕ) → IsSound tree �
 child_sound tree n ns i sound are inside is atom = record { id = atom; sound = stands-sound (id_of tree) n (child-stands tree n ns i sound are inside is) }
 
 -- ---- one child more
-pub no_atom_more : (ns : List Node) (i : ℕ) (n : Node) → i < length ns → get_or ns i n ≡ n → (id_of n == CHAPTER_ATOM) ≡ false → atoms_in (take (i + 1) ns) ≡ atoms_in (take i ns)
-no_atom_more ns i n inside is other =
-    let more = filter_more (λ m. id_of m == CHAPTER_ATOM) ns i n inside in
-    let e = rw (is, other) at more in
-    e ∙ append-nil (atoms_in (take i ns))
 
 pub atom_more : (ns : List Node) (i : ℕ) (n : Node) → i < length ns → get_or ns i n ≡ n → (id_of n == CHAPTER_ATOM) ≡ true → atoms_in (take (i + 1) ns) ≡ atoms_in (take i ns) ++ n ∷ []
 atom_more ns i n inside is own =

@@ -1,7 +1,6 @@
 -- Digits that are read one by one.
 use Rattle.std.proofs.Common.{◌≡◌, ℕ, ◌+◌, ◌*◌, ◌^◌, ◌<◌, ◌≤◌, true, cond, nat_le, List, length, Option, Some, None, refl, arith}
 use Rattle.std.proofs.Math.Nat.{pow-le-pow_right}
-use Rattle.std.proofs.lemmas.Nat.{pow-add}
 use Rattle.std.proofs.lemmas.Bool.Decides.{nat_tests}
 use Rattle.std.proofs.lemmas.Str.{IsUtf8-from_is_utf8, is_utf8-from_IsUtf8}
 use Rattle.std.specs.List.{list_all}
@@ -21,10 +20,6 @@ digits_read least most word low high =
     let a : nat_le least (length word) ≡ true = grind (arith, nat_tests) in
     let b : nat_le (length word) most ≡ true = grind (arith, nat_tests) in
     rw (a, b) refl
-
--- one more digit stays below the power of ten of their number
-pub ten_more : (v i d : ℕ) → v < 10 ^ i → d < 10 → v * 10 + d < 10 ^ (i + 1)
-ten_more v i d small digit = let power : 10 ^ (i + 1) ≡ 10 ^ i * 10 ^ 1 = pow-add 10 i 1 in omega (arith, power)
 
 -- eighteen digits are below 10 ^ 18
 pub eighteen_digits : (v i : ℕ) → v < 10 ^ i → i ≤ 18 → v < 10 ^ 18

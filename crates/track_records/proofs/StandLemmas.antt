@@ -80,10 +80,6 @@ module _ (old new : Node) (whole : IsWholeEntry old) where
         room = subst HasRoom (sym is) (room-with old ns whole.master whole.room low);
       }
 
--- nothing is set
-pub whole-same : (e : Node) → IsWholeEntry e → SetsEach [] e e
-whole-same e whole = record { changed = refl; whole = whole }
-
 -- ---- one after the other
 
 pub set_each-append : (cs ds : List Node) (n : Node) → set_each (cs ++ ds) n ≡ set_each ds (set_each cs n)

@@ -185,9 +185,6 @@ master-reads parent id is = split (id == CHAPTER_DISPLAY) refl
 abbrev pub read_as : Nodes → ℕ → Result Grove Damage
 read_as ns left = Ok (record { trees = list_of ns; left = left })
 
-front-placed : (n : Node) (ns : Nodes) (left : ℕ) → and_then (read_as ns left) (with_first n) ≡ read_as (node n ns) left
-front-placed n ns left = refl
-
 -- what a reader finds of trees at the front of a body, with the trees behind them already known
 Follows : ℕ → ℕ → Nodes → Type 0
 Follows room parent ns = (left p : ℕ) → length (octets_all ns) ≤ longest → kept_all ns ≤ left → grove room left parent p (octets_all ns) ≡ read_as (placed_all p ns) (left - kept_all ns)

@@ -81,11 +81,6 @@ length-inside p octets h fits =
     let later = fits.later in let ends = fits.ends in
     simp (length-take, length-drop) (omega arith)
 
-pub length-inside_is : (p : ℕ) (octets : List ℕ) (h : Header) → Fits p (p + length octets) h → length (inside p h octets) ≡ known h.size
-length-inside_is p octets h fits =
-    let later = fits.later in let ends = fits.ends in
-    simp (length-take, length-drop) (omega arith)
-
 pub length-behind : (p : ℕ) (octets : List ℕ) (h : Header) → Fits p (p + length octets) h → length (behind p h octets) < length octets
 length-behind p octets h fits =
     let later = fits.later in let ends = fits.ends in
@@ -201,13 +196,6 @@ pub record ReadOn (room before left parent place at : ℕ) (body rest : List ℕ
   pub ends : at + length rest ≡ place + length body
   pub shallow : depth_all (nodes_of trees) ≤ room
   pub same : grove room before parent place body ≡ and_then (grove room left parent at rest) (all_in_front trees)
-
-front-none : (r : Result Grove Damage) → r ≡ and_then r (all_in_front [])
-front-none (Ok g) = refl
-front-none (Err d) = refl
-
-pub read-start : (room left parent place : ℕ) (body : List ℕ) → ReadOn room left left parent place place body body []
-read-start room left parent place body = record { ends = refl; shallow = omega arith; same = front-none (grove room left parent place body) }
 
 module _ (room before left parent place at : ℕ) (body rest : List ℕ) (trees : List Node) (on : ReadOn room before left parent place at body rest trees) where
   -- the end is the end of all

@@ -107,12 +107,6 @@ select_readable s taken none (select.AllBut ids) is excludes sel =
 select_readable s taken none select.Off is excludes sel =
     once_read s scope.File (said_select taken none select.Off) (flag_said none (means s scope.File form.Exclusion) (Tracks select.Off) excludes refl, refl)
 
--- what a selection gives back
-abbrev pub selected : Option Value → Select
-selected None = select.All
-selected (Some (Tracks s)) = s
-selected (Some other) = select.All
-
 pub select_silent : {Y : Type 0} (k : Value → Option Y) (taken none : List ℕ) (sel : Select) → ((s : Select) → k (Tracks s) ≡ None) → all_said k (said_select taken none sel) ≡ []
 select_silent k taken none select.All silent = refl
 select_silent k taken none (select.These ids) silent = rw (silent (select.These ids)) refl

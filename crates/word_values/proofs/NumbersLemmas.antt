@@ -27,9 +27,6 @@ le-digits n (d ∷ ds) =
 pub read_digit : (n d : ℕ) (ds : List ℕ) → is_ascii_digit d ≡ true → read_on n (d ∷ ds) ≡ read_on (n * 10 + digit_value d) ds
 read_digit n d ds is = rw is
 
-pub read_other : (n d : ℕ) (ds : List ℕ) → is_ascii_digit d ≡ false → read_on n (d ∷ ds) ≡ None
-read_other n d ds is = rw is
-
 large_below : (n : ℕ) → 2 ^ 64 ≤ n → (b : Bool) → below (2 ^ 64) (cond b (Some n) None) ≡ None
 large_below n large true = grind (arith, nat_tests)
 large_below n large false = refl

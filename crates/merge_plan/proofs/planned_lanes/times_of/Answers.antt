@@ -1,7 +1,5 @@
-use Rattle.std.proofs.Common.{sym, ◌∙◌, ap}
-use Rattle.merge_inputs.specs.Input.{listings_in}
-use Rattle.merge_inputs.specs.Taken.{value_for}
-use Rattle.merge_plan.proofs.TimesLemmas.{times-found, times-passed}
+use Rattle.std.proofs.Common.{◌∙◌}
+use Rattle.merge_plan.proofs.TimesLemmas.{times-passed}
 use Rattle.merge_plan.proofs.planned_lanes.times_of.Goals as goal
 
 -- those of another track
